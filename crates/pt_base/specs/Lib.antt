@@ -1,0 +1,6 @@
+pub mod DateText
+pub mod Day
+pub mod Fault
+pub mod Place
+pub mod Rule
+pub mod Weekday

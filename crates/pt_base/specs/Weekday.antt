@@ -1,0 +1,18 @@
+-- Weekdays and sets of them.
+use Rattle.std.specs.Prelude.{◌≡◌, ℕ, List, Bool, true, Some, slice_get}
+use Rattle.pt_base.specs.declared.weekday.Weekday.{Weekday}
+use Rattle.pt_base.specs.declared.weekday.Weekday.TheVariants.{Monday, Tuesday, Wednesday, Thursday, Friday, Saturday, Sunday}
+
+-- days since Monday
+abbrev pub number_of : Weekday → ℕ
+number_of Monday = 0
+number_of Tuesday = 1
+number_of Wednesday = 2
+number_of Thursday = 3
+number_of Friday = 4
+number_of Saturday = 5
+number_of Sunday = 6
+
+-- the set, seen as whether it has each weekday from Monday on, has the one that comes so many days after Monday
+abbrev pub Includes : List Bool → ℕ → Type 0
+Includes days number = slice_get days number ≡ Some true

@@ -1,0 +1,30 @@
+//! Days, minutes, numbers of records and the plain records of a paratransit desk.
+#![tactic(auto)]
+
+pub use day::{Day, FIRST_DAY, LAST_DAY, bookable};
+pub use fault::Fault;
+pub use id::{
+    CallerId, CallerKind, Id, PlaceId, PlaceKind, RiderId, RiderKind, RouteId, RouteKind, TripId,
+    TripKind, VehicleId, VehicleKind,
+};
+pub use minute::{LAST_MINUTE, Minute};
+pub use place::{Place, Point};
+pub use policy::Policy;
+pub use rider::{Residence, Rider};
+pub use rule::Rule;
+pub use vehicle::Vehicle;
+pub use weekday::{Weekday, Weekdays};
+
+mod date_text;
+mod day;
+pub mod fault;
+mod id;
+mod minute;
+mod place;
+mod policy;
+mod rider;
+mod rule;
+#[cfg(test)]
+mod tests;
+mod vehicle;
+mod weekday;

@@ -1,0 +1,19 @@
+use crate::RiderId;
+
+/// How a rider may use the service.
+#[derive(Clone, Copy, Debug, PartialEq, Eq)]
+pub enum Residence {
+    /// Lives in the agency's area, and has a case file.
+    Resident,
+    /// Comes from elsewhere, and may ride on a limited number of days.
+    Visitor,
+}
+
+/// A rider's record.
+#[derive(Clone, Copy, Debug, PartialEq, Eq)]
+pub struct Rider {
+    pub id: RiderId,
+    pub kind: Residence,
+    /// Whether the record names an attendant.
+    pub attendant: bool,
+}

@@ -1,0 +1,5 @@
+pub mod Bridge
+pub mod Decided
+pub mod Squares
+pub mod Whole
+pub mod Widths

@@ -1,0 +1,4 @@
+pub mod Corridor
+pub mod Near
+pub mod Route
+pub mod Way

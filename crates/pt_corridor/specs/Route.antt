@@ -1,0 +1,54 @@
+-- Fixed routes, and what refuses one.
+use Rattle.std.specs.Prelude.{◌≡◌, ℕ, ◌≤◌, Bool, List, [], ◌∷◌, length, ◌⊎◌, All}
+use Rattle.std.specs.Int.{IsInRange}
+use Rattle.pt_base.specs.Place.{IsOnPlane}
+use Rattle.pt_base.specs.declared.place.Point.{Point}
+use Rattle.pt_base.specs.declared.fault.TheConstants.{ROUTE_POINTS, ROUTE_WIDTH, ROUTE_COORDINATE, ROUTE_HOURS}
+
+-- a fixed route: how far its corridor reaches on each side in feet, the points of its line, the weekdays from Monday on, and its first and last minute of the day
+pub record Route : Type 0 where
+  pub id : ℕ
+  pub width : ℕ
+  pub points : List Point
+  pub accessible : Bool
+  pub days : List Bool
+  pub first : ℕ
+  pub last : ℕ
+
+-- the route of these arguments
+abbrev pub route_of : ℕ → ℕ → List Point → Bool → List Bool → ℕ → ℕ → Route
+route_of id width points accessible days first last =
+    record { id = id; width = width; points = points; accessible = accessible; days = days; first = first; last = last }
+
+-- a line has 2 to 200 points
+abbrev pub HasPoints : Route → Type 0
+HasPoints route = IsInRange 2 200 (length route.points)
+
+-- a corridor reaches three fourths of a mile to a mile and a half on each side (49 CFR 37.131(a)(1)(i), (iii))
+abbrev pub HasWidth : Route → Type 0
+HasWidth route = IsInRange 3_960 7_920 route.width
+
+-- the whole line lies on the plane
+abbrev pub IsRouteOnPlane : Route → Type 0
+IsRouteOnPlane route = All (λ p. IsOnPlane p.x p.y) route.points
+
+-- the route does not end its day before it begins it
+abbrev pub HasHours : Route → Type 0
+HasHours route = route.first ≤ route.last
+
+-- what every fixed route keeps
+pub record IsFixedRoute (route : Route) : Type 0 where
+  pub points : HasPoints route
+  pub width : HasWidth route
+  pub on_plane : IsRouteOnPlane route
+  pub hours : HasHours route
+
+-- the first in a list of codes, each with what makes it stand
+abbrev pub IsFirst : List (ℕ × Type 0) → ℕ → Type 0
+IsFirst [] code = ⊥
+IsFirst (f ∷ later) code = ((code ≡ f.0) × f.1) ⊎ (¬ f.1 × IsFirst later code)
+
+-- the faults of a fixed route in the order in which they are tried
+abbrev pub faults : Route → List (ℕ × Type 0)
+faults route =
+    (ROUTE_POINTS, ¬ HasPoints route) ∷ (ROUTE_WIDTH, ¬ HasWidth route) ∷ (ROUTE_COORDINATE, ¬ IsRouteOnPlane route) ∷ (ROUTE_HOURS, ¬ HasHours route) ∷ []

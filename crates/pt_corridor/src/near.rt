@@ -1,0 +1,80 @@
+ghost use Rattle.std.specs.Prelude.{◌≡◌, ◌↔◌, ◌-ℤ◌, IsTrue, All};
+ghost use Rattle.pt_base.specs.Place.{IsOnPlane};
+ghost use Rattle.pt_corridor.specs.Near.{IsNearSegment, IsNearLine, squared_length};
+ghost use Rattle.pt_corridor.specs.Way.{IsWay, dot_product, cross_product};
+
+use pt_base::Point;
+
+/// The way from one point to another, in feet east and north.
+#[derive(Clone, Copy)]
+struct Way {
+    east: i128,
+    north: i128,
+    ghost in_range: { IsWay east north },
+}
+
+impl Way {
+    fn between(from: Point, to: Point) -> Way
+        ensures east { result.east ≡ to.x -ℤ from.x }
+        ensures north { result.north ≡ to.y -ℤ from.y }
+    {
+        Way {
+            east: i128::from(to.x) - i128::from(from.x),
+            north: i128::from(to.y) - i128::from(from.y),
+        }
+    }
+
+    fn dot(self, other: Way) -> i128
+        ensures { result ≡ dot_product self.east self.north other.east other.north }
+    {
+        self.east * other.east + self.north * other.north
+    }
+
+    fn cross(self, other: Way) -> i128
+        ensures { result ≡ cross_product self.east self.north other.east other.north }
+    {
+        self.east * other.north - self.north * other.east
+    }
+
+    fn squared_length(self) -> i128
+        ensures { result ≡ squared_length self.east self.north }
+    {
+        self.dot(self)
+    }
+}
+
+/// Whether the point is within so many feet of the segment, ends included.
+///
+/// Nothing is rounded. The two products compared last are at most 2^108.
+fn is_near_segment(point: Point, start: Point, end: Point, feet: u32) -> bool
+    requires start_on_plane { IsOnPlane start.x start.y }
+    requires end_on_plane { IsOnPlane end.x end.y }
+    ensures { IsTrue result ↔ IsNearSegment feet point start end }
+{
+    let reach = i128::from(feet) * i128::from(feet);
+    let to_point = Way::between(start, point);
+    let to_end = Way::between(start, end);
+    let along = to_point.dot(to_end);
+    let length = to_end.squared_length();
+    if along <= 0 {
+        return to_point.squared_length() <= reach;
+    }
+    if along >= length {
+        return Way::between(end, point).squared_length() <= reach;
+    }
+    let across = to_point.cross(to_end);
+    across * across <= reach * length
+}
+
+/// Whether the point is within so many feet of one of the line's segments.
+pub(crate) fn is_near_line(line: &[Point], point: Point, feet: u32) -> bool
+    requires { All (λ p. IsOnPlane p.x p.y) line.now }
+    ensures { IsTrue result ↔ IsNearLine feet point line.now }
+{
+    for end in 1..line.len() {
+        if is_near_segment(point, line[end - 1], line[end], feet) {
+            return true;
+        }
+    }
+    false
+}

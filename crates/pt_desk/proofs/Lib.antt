@@ -1,0 +1,7 @@
+pub mod AnsweringLemmas
+pub mod FilingLemmas
+pub mod OrderLemmas
+pub mod RecordLemmas
+pub mod RunLemmas
+pub mod SoundLemmas
+pub mod StepLemmas

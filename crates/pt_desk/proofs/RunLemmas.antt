@@ -1,0 +1,49 @@
+-- One call more of a run.
+use Rattle.std.proofs.Common.{◌≡◌, ℕ, zero, suc, ◌<◌, ◌≤◌, List, [], ◌∷◌, Result, Ok, Err, length, drop, get_or, drop-cons, add-one, ◌+◌, arith, refl, sym, ap, ◌∙◌, subst}
+use Rattle.std.proofs.lemmas.List.{drop_all}
+use Rattle.pt_desk.specs.State.{State}
+use Rattle.pt_desk.specs.Outcome.{Fails}
+use Rattle.pt_desk.specs.declared.keeper.StoreFault.{StoreFault}
+use Rattle.pt_desk.specs.declared.keeper.StoreFault.TheVariants.{Memory, Store}
+use Rattle.pt_desk.specs.declared.request.Answer.{Answer}
+use Rattle.pt_desk.specs.declared.request.Call.{Call}
+use Rattle.pt_desk.specs.Run.{AnswersCall, Runs, AreRefused, GoesOn}
+
+abbrev Reply : Type 0
+Reply = Result Answer StoreFault
+
+-- an answer goes before a run
+answered : (call : Call) (calls : List Call) (reply : Reply) (replies : List Reply) (old mid new : State) → AnswersCall 0 call old mid reply → (◌≡◌ {A = Reply} reply (Err Store) → ⊥) → Runs mid calls replies new
+    → Runs old (call ∷ calls) (reply ∷ replies) new
+answered call calls (Err Store) replies old mid new told fine rest = absurd (fine refl)
+answered call calls (Err Memory) replies old mid new told fine rest = subst (λ s. Runs s calls replies new) (told refl) rest
+answered call calls (Ok answer) replies old mid new told fine rest = (told.0, subst (λ s. Runs s calls replies new) told.1 rest)
+
+refused : (call : Call) (calls : List Call) (reply : Reply) (replies : List Reply) (old new : State) → ◌≡◌ {A = Reply} reply (Err Store) → AreRefused calls replies → Runs old (call ∷ calls) (reply ∷ replies) new
+refused call calls reply replies old new is rest = subst (λ r. Runs old (call ∷ calls) (r ∷ replies) new) (sym is) rest
+
+-- one call more, with its answer
+pub goes_on : (call : Call) (calls : List Call) (reply : Reply) (replies : List Reply) (old mid new : State) (before now : ℕ) → Fails before now reply
+    → AnswersCall 0 call old mid reply → GoesOn now mid calls replies new → GoesOn before old (call ∷ calls) (reply ∷ replies) new
+goes_on call calls reply replies old mid new before zero fails told rest =
+    let grows = fails.grows in
+    record {
+      runs = λ none. answered call calls reply replies old mid new told (λ is. let lt = fails.told is in omega arith) (rest.runs refl);
+      failed = λ some. absurd (omega arith);
+    }
+goes_on call calls reply replies old mid new before (suc n) fails told rest =
+    let some : 0 < suc n = omega arith in
+    record {
+      runs = λ none. refused call calls reply replies old new (fails.stays some) (rest.failed some);
+      failed = λ _. (fails.stays some, rest.failed some);
+    }
+
+-- nothing is left to run
+pub ended : (failures : ℕ) (s : State) (calls : List Call) (i : ℕ) → length calls ≤ i → GoesOn failures s (drop i calls) [] s
+ended failures s calls i all = rw drop_all (record { runs = λ _. refl; failed = λ _. tt })
+
+pub goes_on_at : (calls : List Call) (i : ℕ) (call : Call) (reply : Reply) (replies : List Reply) (old mid new : State) (before now shut : ℕ) → i < length calls → call ≡ get_or calls i call → Fails before now reply
+    → AnswersCall shut call old mid reply → shut ≡ 0 → GoesOn now mid (drop (i + 1) calls) replies new → GoesOn before old (drop i calls) (reply ∷ replies) new
+goes_on_at calls i call reply replies old mid new before now shut lt here fails told whole rest =
+    let these : drop i calls ≡ call ∷ drop (i + 1) calls = rw add-one (drop-cons calls i call lt ∙ ap (λ c. c ∷ drop (suc i) calls) (sym here)) in
+    subst (λ cs. GoesOn before old cs (reply ∷ replies) new) (sym these) (goes_on call (drop (i + 1) calls) reply replies old mid new before now fails (subst (λ n. AnswersCall n call old mid reply) whole told) rest)

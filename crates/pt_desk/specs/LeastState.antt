@@ -1,0 +1,25 @@
+-- What the desk begins with.
+use Rattle.std.specs.Prelude.{◌≡◌, ℕ, List, [], ◌∷◌}
+use Rattle.sha2.specs.Sha256.{sha256}
+use Rattle.pt_base.specs.declared.policy.Policy.{Policy}
+use Rattle.pt_desk.specs.State.{State}
+use Rattle.pt_desk.specs.declared.caller.Role.TheVariants.{Admin}
+
+-- the policy of an agency that has settled nothing
+pub record IsLeastPolicy (policy : Policy) : Type 0 where
+  pub base : policy.base ≡ 0
+  pub transfer : policy.transfer ≡ 0
+  pub fare : policy.fare ≡ 0
+  pub service : policy.service ≡ 0
+  pub extra_ride : policy.extra_ride ≡ 0
+  pub min_missed : policy.min_missed ≡ 1
+  pub percent : policy.percent ≡ 100
+  pub span_days : policy.span_days ≡ 1
+
+-- caller 1 is the admin, who holds this key, and nothing else is there
+pub record IsLeastState (admin_key : List ℕ) (s : State) : Type 0 where
+  pub callers : s.callers ≡ record { id = 1; role = Admin; digest = sha256 admin_key } ∷ []
+  pub kept : s.kept ≡ []
+  pub policy : IsLeastPolicy s.policy
+  pub riders : s.riders ≡ []
+  pub files : s.files ≡ []

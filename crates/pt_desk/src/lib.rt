@@ -1,0 +1,20 @@
+//! The desk: what it keeps, who may ask what of it, and how each request is answered by the rules.
+#![tactic(auto)]
+
+pub use answering::{answer, run};
+pub use caller::{Caller, Digest, Kept, Role};
+pub use keeper::{Change, FileEntry, Keeper, MOST_CALLERS, MOST_RIDERS, RiderFile, StoreFault};
+pub use list_keeper::ListKeeper;
+pub use request::{Answer, Call, Reply, Request};
+
+mod answering;
+mod caller;
+mod callers;
+mod files;
+mod keeper;
+mod list_keeper;
+mod permission;
+mod request;
+mod riders;
+#[cfg(test)]
+mod tests;

@@ -1,0 +1,2 @@
+pub mod Fare
+pub mod Party

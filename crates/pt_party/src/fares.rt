@@ -1,0 +1,30 @@
+ghost use Rattle.std.specs.Prelude.{◌≡◌, ◌*◌, ◌≤◌};
+ghost use Rattle.pt_party.specs.Fare.{fixed_fare_of, fare_of, due_of};
+ghost use Rattle.pt_party.specs.declared.fares.TheConstants.{HIGHEST_FARE};
+
+use crate::Party;
+use pt_base::Policy;
+
+/// The highest fare that a policy may set, in cents.
+pub const HIGHEST_FARE: u32 = 100_000;
+
+/// The fare of one person, in cents.
+///
+/// `one_route` says whether a single fixed route that runs then serves both ends of the trip.
+pub fn fare(policy: &Policy, one_route: bool) -> u32
+    ensures value { result ≡ fare_of policy.now one_route }
+    ensures at_most_twice { result ≤ 2 * fixed_fare_of policy.now one_route }
+    ensures in_range { result ≤ HIGHEST_FARE }
+{
+    let transfer = if one_route { 0 } else { policy.transfer };
+    let fixed_fare = policy.base + transfer;
+    policy.fare.min(2 * fixed_fare)
+}
+
+/// What the party owes for a trip whose fare for one person is this, in cents.
+pub fn due(fare: u32, party: Party) -> u32
+    requires { fare ≤ HIGHEST_FARE }
+    ensures value { result ≡ due_of fare party }
+{
+    fare * (1 + u32::from(party.companions))
+}

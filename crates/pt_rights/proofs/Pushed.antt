@@ -1,0 +1,141 @@
+-- What one more entry at the end does to the definitions, and to the marks of a case file.
+use Rattle.std.specs.Prelude.{◌≡◌, ℕ, ◌+◌, ◌<◌, Bool, true, false, ◌&&◌, ◌||◌, not, List, [], ◌∷◌, ◌++◌, Option, Some, None, is_some, nat_le, min, length, refl}
+use Rattle.std.specs.List.{list_any, filter_map, last_or, cons_option}
+use Rattle.std.specs.Option.{option_map_or}
+use Rattle.std.proofs.Common.{arith, ap, ◌∙◌, length-append}
+use Rattle.std.proofs.lemmas.Bool.Decides.{nat_tests}
+use Rattle.std.proofs.lemmas.List.Folds.{list_any-append}
+use Rattle.pt_rights.specs.declared.entry.Grant.{Grant}
+use Rattle.pt_rights.specs.declared.entry.Entry.{Entry}
+use Rattle.pt_rights.specs.declared.entry.Entry.TheVariants as kind
+use Rattle.pt_rights.specs.declared.entry.Entered.{Entered}
+use Rattle.pt_rights.specs.declared.case_file.TheConstants.{MOST_ENTRIES}
+use Rattle.pt_rights.specs.Kinds.{is_complete, is_decision, grant_of}
+use Rattle.pt_rights.specs.Standing.{is_waiting, is_presumed, last_grant}
+use Rattle.pt_rights.specs.Marks.{AreMarks, waiting_with}
+
+-- the test of a place, of the later places and of the new one, before and after the new entry
+waiting_step : (completes decided decides rest new : Bool)
+    → ((completes && not (decided || (decides || false))) || ((rest && not decides) || new))
+    ≡ ((((completes && not decided) || rest) && not decides) || new)
+waiting_step false decided decides rest new = refl
+waiting_step true true decides rest new = refl
+waiting_step true false true true new = refl
+waiting_step true false true false new = refl
+waiting_step true false false rest new = refl
+
+-- an application waits after one more entry: one before that is not decided now, or the entry itself
+pub waiting-push : (file : List Entered) (last : Entered)
+    → is_waiting (file ++ last ∷ [])
+    ≡ ((is_waiting file && not (is_decision last.entry)) || is_complete last.entry)
+waiting-push [] last = waiting_new (is_complete last.entry) where
+  waiting_new : (new : Bool) → ((new && not false) || false) ≡ (false || new)
+  waiting_new true = refl
+  waiting_new false = refl
+waiting-push (first ∷ file) last =
+    let step = waiting_step (is_complete first.entry) (list_any (λ e. is_decision e.entry) file) (is_decision last.entry) (is_waiting file) (is_complete last.entry) in
+    rw (list_any-append (λ (e : Entered). is_decision e.entry) file (last ∷ []), waiting-push file last) step
+
+-- the same, where the places are also to pass a test of their own
+presumed_step : (old completes decided decides rest new : Bool)
+    → (((completes && not (decided || (decides || false))) && old) || ((rest && not decides) || new))
+    ≡ (((((completes && not decided) && old) || rest) && not decides) || new)
+presumed_step old false decided decides rest new = refl
+presumed_step old true true decides rest new = refl
+presumed_step true true false true true new = refl
+presumed_step true true false true false new = refl
+presumed_step false true false true true new = refl
+presumed_step false true false true false new = refl
+presumed_step true true false false rest new = refl
+presumed_step false true false false rest new = refl
+
+-- an application is presumed granted after one more entry
+pub presumed-push : (file : List Entered) (last : Entered) (today : ℕ)
+    → is_presumed (file ++ last ∷ []) today
+    ≡ ((is_presumed file today && not (is_decision last.entry)) || (is_complete last.entry && nat_le (last.day + 21) today))
+presumed-push [] last today = presumed_new (is_complete last.entry) (nat_le (last.day + 21) today) where
+  presumed_new : (new old : Bool) → (((new && not false) && old) || false) ≡ (false || (new && old))
+  presumed_new true true = refl
+  presumed_new true false = refl
+  presumed_new false old = refl
+presumed-push (first ∷ file) last today =
+    let step = presumed_step (nat_le (first.day + 21) today) (is_complete first.entry) (list_any (λ e. is_decision e.entry) file) (is_decision last.entry) (is_presumed file today) (is_complete last.entry && nat_le (last.day + 21) today) in
+    rw (list_any-append (λ (e : Entered). is_decision e.entry) file (last ∷ []), presumed-push file last today) step
+
+-- the newer grant, where there is one
+abbrev pub newer : Option Grant → Option Grant → Option Grant
+newer None old = old
+newer (Some grant) old = Some grant
+
+-- the last grant after one more entry, whichever was the last before the file
+last_grant_from : (before : Option Grant) (file : List Entered) (last : Entered)
+    → last_or before (filter_map (λ (e : Entered). grant_of e.entry) (file ++ last ∷ []))
+    ≡ newer (grant_of last.entry) (last_or before (filter_map (λ (e : Entered). grant_of e.entry) file))
+last_grant_from before [] last =
+    elim (grant_of last.entry) as (λ new. last_or before (cons_option new []) ≡ newer new before) [
+      | None ↦ refl
+      | Some grant ↦ refl
+    ]
+last_grant_from before (first ∷ file) last =
+    elim (grant_of first.entry) as
+    (λ given. last_or before (cons_option given (filter_map (λ (e : Entered). grant_of e.entry) (file ++ last ∷ [])))
+    ≡ newer (grant_of last.entry) (last_or before (cons_option given (filter_map (λ (e : Entered). grant_of e.entry) file)))) [
+      | None ↦ last_grant_from before file last
+      | Some grant ↦ last_grant_from (Some grant) file last
+    ]
+
+pub last_grant-push : (file : List Entered) (last : Entered)
+    → last_grant (file ++ last ∷ []) ≡ newer (grant_of last.entry) (last_grant file)
+last_grant-push file last = last_grant_from None file last
+
+-- the mark of a waiting application says whether one waits
+waits_with : (waiting : Option ℕ) (entry : Entry) (day : ℕ)
+    → ((is_some waiting && not (is_decision entry)) || is_complete entry) ≡ is_some (waiting_with waiting entry day)
+waits_with None kind.Complete day = refl
+waits_with (Some since) kind.Complete day = refl
+waits_with None (kind.Grant grant) day = refl
+waits_with (Some since) (kind.Grant grant) day = refl
+waits_with None (kind.Refuse reasons) day = refl
+waits_with (Some since) (kind.Refuse reasons) day = refl
+
+-- the earlier of two days has come to its 21st day when one of them has
+earlier_presumed : (since day today : ℕ)
+    → ((nat_le (since + 21) today && true) || nat_le (day + 21) today) ≡ nat_le (min since day + 21) today
+earlier_presumed since day today = grind (arith, nat_tests)
+
+decided : (old : Bool) → ((old && false) || false) ≡ false
+decided true = refl
+decided false = refl
+
+-- whether the application of the mark has waited for 21 days
+abbrev pub has_waited : Option ℕ → ℕ → Bool
+has_waited waiting today = option_map_or (λ since. nat_le (since + 21) today) waiting false
+
+-- the mark says whether an application is presumed granted
+presumes_with : (waiting : Option ℕ) (entry : Entry) (day today : ℕ)
+    → ((has_waited waiting today && not (is_decision entry)) || (is_complete entry && nat_le (day + 21) today))
+    ≡ has_waited (waiting_with waiting entry day) today
+presumes_with None kind.Complete day today = refl
+presumes_with (Some since) kind.Complete day today = earlier_presumed since day today
+presumes_with waiting (kind.Grant grant) day today = decided (has_waited waiting today)
+presumes_with waiting (kind.Refuse reasons) day today = decided (has_waited waiting today)
+
+-- the marks after one more entry are marks of the longer file
+pub AreMarks-push : (file : List Entered) (waiting : Option ℕ) (granted : Option Grant) (last : Entered)
+    → AreMarks file waiting granted → length file < MOST_ENTRIES
+    → AreMarks (file ++ last ∷ []) (waiting_with waiting last.entry last.day) (newer (grant_of last.entry) granted)
+AreMarks-push file waiting granted last marks room = record {
+  within = simp length-append (omega arith);
+  waits = waiting-push file last ∙ rw marks.waits (waits_with waiting last.entry last.day);
+  presumes = λ today. presumed-push file last today ∙ rw (marks.presumes today) (presumes_with waiting last.entry last.day today);
+  grants = last_grant-push file last ∙ ap (newer (grant_of last.entry)) marks.grants;
+}
+
+-- the newer grant is the new one where there is one, and else the old one
+pub newer-some : (new old : Option Grant) → is_some new ≡ true → newer new old ≡ new
+newer-some None old new_is = cc
+newer-some (Some grant) old new_is = refl
+
+pub newer-none : (new old : Option Grant) → is_some new ≡ false → newer new old ≡ old
+newer-none None old new_is = refl
+newer-none (Some grant) old new_is = cc

@@ -1,0 +1,10 @@
+pub mod Admission
+pub mod ByPlace
+pub mod Conditions
+pub mod Kinds
+pub mod Marks
+pub mod Places
+pub mod Reasons
+pub mod Rules
+pub mod Standing
+pub mod Suspension

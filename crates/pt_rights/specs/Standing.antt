@@ -1,0 +1,37 @@
+-- A rider's standing (49 CFR 37.125(c) and (e)), by the entries of the case file and what stands after each.
+use Rattle.std.specs.Prelude.{ℕ, ◌+◌, Bool, ◌&&◌, not, List, Option, Some, None, nat_le, if◌then◌else◌}
+use Rattle.std.specs.List.{list_any, filter_map, last_or}
+use Rattle.pt_rights.specs.declared.entry.Grant.{Grant}
+use Rattle.pt_rights.specs.declared.entry.Entered.{Entered}
+use Rattle.pt_rights.specs.declared.case_file.Standing.{Standing}
+use Rattle.pt_rights.specs.declared.case_file.Standing.TheVariants as standing
+use Rattle.pt_rights.specs.Kinds.{is_complete, is_decision, grant_of}
+use Rattle.pt_rights.specs.Places.{some_place}
+
+-- an application is unanswered when no decision stands after it
+abbrev pub is_unanswered : Entered → List Entered → Bool
+is_unanswered entered later =
+    is_complete entered.entry && not (list_any (λ e. is_decision e.entry) later)
+
+-- the file has an unanswered application
+abbrev pub is_waiting : List Entered → Bool
+is_waiting file = some_place is_unanswered file
+
+-- an application that was completed on day c and is unanswered on day c + 21 or later is presumed granted (37.125(c))
+abbrev pub is_presumed : List Entered → ℕ → Bool
+is_presumed file today =
+    some_place (λ entered later. is_unanswered entered later && nat_le (entered.day + 21) today) file
+
+-- the last grant of the file: a later grant replaces it, a refusal does not
+abbrev pub last_grant : List Entered → Option Grant
+last_grant file = last_or None (filter_map (λ entered. grant_of entered.entry) file)
+
+-- what the last grant gives: eligibility to its last day, that day included (37.125(e))
+abbrev pub standing_by : Option Grant → ℕ → Standing
+standing_by None day = standing.None
+standing_by (Some grant) day = if nat_le day grant.until then standing.Granted grant else standing.None
+
+-- the standing for a day as seen on the day today: the first of presumed, granted and none that holds
+abbrev pub standing_of : List Entered → ℕ → ℕ → Standing
+standing_of file today day =
+    if is_presumed file today then standing.Presumed else standing_by (last_grant file) day

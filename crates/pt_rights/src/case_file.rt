@@ -1,0 +1,230 @@
+ghost use Rattle.std.specs.Prelude.{◌≡◌, ◌<◌, ◌≤◌, ◌↔◌, [], ◌∷◌, ◌++◌, length, IsTrue, IfErr, OnOk, OnErr};
+ghost use Rattle.pt_base.specs.declared.fault.TheConstants.{MEMORY};
+ghost use Rattle.pt_rights.specs.Admission.{admission_rules};
+ghost use Rattle.pt_rights.specs.ByPlace.{IsWaiting, IsPresumed, IsGrantedFor};
+ghost use Rattle.pt_rights.specs.Kinds.{grant_of};
+ghost use Rattle.pt_rights.specs.Marks.{waiting_with};
+ghost use Rattle.pt_rights.specs.Rules.{first_failing};
+ghost use Rattle.pt_rights.specs.Standing.{is_waiting, standing_of};
+ghost use Rattle.pt_rights.specs.Suspension.{is_suspended};
+ghost use Rattle.pt_rights.specs.declared.entry.Grant.{Grant};
+ghost use Rattle.pt_rights.specs.declared.case_file.TheConstants.{MOST_ENTRIES};
+
+use crate::{Entered, Entry, Grant, Tally};
+use pt_base::fault::MEMORY;
+use pt_base::{CallerId, Day, Fault, Policy, Residence, Rider, Rule};
+use std::alloc::{AllocError, Global};
+use std::marker::Model;
+
+/// The most entries of a case file.
+pub const MOST_ENTRIES: usize = 200;
+
+/// How many days after it is complete an application that nobody answered is presumed granted.
+const PRESUMED_AFTER: u32 = 21;
+
+/// What a rider's case file entitles to.
+#[derive(Debug, Drop, PartialEq, Eq)]
+pub enum Standing {
+    /// An application went unanswered for 21 days.
+    Presumed,
+    /// The last grant has not run out.
+    Granted(Grant),
+    /// Neither.
+    None,
+}
+
+/// A resident's case file, seen as its entries in the order in which they were entered.
+#[derive(Debug, Drop)]
+pub struct CaseFile {
+    entries: Vec<Entered>,
+    /// The least day of an unanswered application.
+    waiting: Option<Day>,
+    /// The last grant.
+    granted: Option<Grant>,
+}
+
+impl Model for CaseFile {
+    ghost use Rattle.std.specs.Prelude.{List};
+    ghost use Rattle.pt_rights.specs.declared.entry.Entered.{Entered};
+
+    ghost Value = { List Entered };
+
+    ghost use Rattle.pt_rights.specs.Marks.{AreMarks};
+
+    ghost view = { λ file. file.entries.items };
+
+    ghost invariant = { λ file. AreMarks file.entries.items file.waiting file.granted };
+}
+
+impl CaseFile {
+    /// A file with no entry, which takes no memory until the first one is pushed.
+    pub fn new(alloc: Global) -> Self
+        ensures { result ≡ [] }
+    {
+        CaseFile {
+            entries: Vec::new(alloc),
+            waiting: None,
+            granted: None,
+        }
+    }
+
+    /// The entries, in the order in which they were entered.
+    pub fn entries(&self) -> &[Entered]
+        ensures value { result.now ≡ self.now }
+        ensures within { length result.now ≤ MOST_ENTRIES }
+    {
+        &self.entries
+    }
+
+    /// The number of entries.
+    pub fn len(&self) -> usize
+        ensures value { result ≡ length self.now }
+        ensures within { result ≤ MOST_ENTRIES }
+    {
+        self.entries.len()
+    }
+
+    /// Whether there is no entry.
+    pub fn is_empty(&self) -> bool
+        ensures { IsTrue result ↔ (self.now ≡ []) }
+    {
+        self.entries.is_empty()
+    }
+
+    /// Whether there is no room for one more entry.
+    pub fn is_full(&self) -> bool
+        ensures value { IsTrue result ↔ (length self.now ≡ MOST_ENTRIES) }
+        ensures within { length self.now ≤ MOST_ENTRIES }
+    {
+        self.len() == MOST_ENTRIES
+    }
+
+    /// Whether an application waits for its decision.
+    pub fn is_waiting(&self) -> bool
+        ensures value { result ≡ is_waiting self.now }
+        ensures by_place { IsTrue result ↔ IsWaiting self.now }
+    {
+        self.waiting.is_some()
+    }
+
+    /// The rule by which the rider's file turns the entry away on the day `today`; `None` where it is admitted.
+    ///
+    /// No kind of entry has a rule yet about its author, about missed trips or about the policy.
+    pub fn admits(
+        &self,
+        rider: &Rider,
+        entry: &Entry,
+        today: Day,
+        author: CallerId,
+        tallies: &[Tally],
+        policy: &Policy,
+    ) -> Option<Rule>
+        ensures { result ≡ first_failing (admission_rules self.now rider.now entry.now today) }
+    {
+        if rider.kind == Residence::Visitor {
+            return Some(Rule::Residents);
+        }
+        let waiting = self.is_waiting();
+        match entry {
+            Entry::Complete if waiting => Some(Rule::Application),
+            Entry::Complete => None,
+            Entry::Grant(_) | Entry::Refuse(_) if !waiting => Some(Rule::Application),
+            Entry::Grant(grant) if grant.until < today => Some(Rule::LastDay),
+            Entry::Grant(_) | Entry::Refuse(_) => None,
+        }
+    }
+
+    /// Adds an entry of this day and author at the end, admitted or not.
+    ///
+    /// The error is want of memory, and hands the entry back.
+    pub fn push(&mut self, entry: Entry, today: Day, author: CallerId) -> Result<(), (Entry, Fault)>
+        requires { length self.old < MOST_ENTRIES }
+        ensures ok { OnOk result (self.new
+            ≡ self.old ++ record { entry = entry; day = today; author = author } ∷ []) }
+        ensures unchanged { OnErr result (self.new ≡ self.old) }
+        ensures returned { IfErr result (λ refused. refused.0 ≡ entry) }
+        ensures fault { IfErr result (λ refused. refused.1 ≡ record { code = MEMORY; row = 0 }) }
+    {
+        let waiting = waiting_after(self.waiting, &entry, today);
+        let granted = granted_by(&entry);
+        let entered = Entered {
+            entry,
+            day: today,
+            author,
+        };
+        match self.entries.push(entered) {
+            Ok(()) => {
+                self.waiting = waiting;
+                if granted.is_some() {
+                    self.granted = granted;
+                }
+                Ok(())
+            }
+            Err(refused) => Err((refused.value.entry, Fault::of(MEMORY))),
+        }
+    }
+
+    /// The rider's standing for a trip on the day `day`, as it is seen on the day `today`.
+    pub fn standing(&self, today: Day, day: Day) -> Standing
+        ensures value { result ≡ standing_of self.now today day }
+        ensures presumed { (result ≡ Standing.Presumed) ↔ IsPresumed self.now today }
+        ensures granted { (grant : Grant) → (result ≡ Standing.Granted grant)
+            ↔ ((¬ IsPresumed self.now today) × IsGrantedFor self.now day grant) }
+    {
+        if let Some(since) = self.waiting
+            && since.number() + PRESUMED_AFTER <= today.number()
+        {
+            return Standing::Presumed;
+        }
+        match &self.granted {
+            Some(grant) if day <= grant.until => Standing::Granted(grant.copied()),
+            _ => Standing::None,
+        }
+    }
+
+    /// Whether the rider is suspended on the day: no kind of entry suspends yet.
+    pub fn suspended(&self, day: Day) -> bool
+        ensures { result ≡ is_suspended self.now day }
+    {
+        false
+    }
+}
+
+impl Clone for CaseFile {
+    ghost is_clone = { λ file copy. copy ≡ file };
+
+    fn clone(&self) -> Result<Self, AllocError> {
+        let granted = match &self.granted {
+            Some(grant) => Some(grant.copied()),
+            None => None,
+        };
+        Ok(CaseFile {
+            entries: self.entries.clone()?,
+            waiting: self.waiting,
+            granted,
+        })
+    }
+}
+
+/// The least day of an unanswered application, with one more entry of this day.
+fn waiting_after(waiting: Option<Day>, entry: &Entry, day: Day) -> Option<Day>
+    ensures { result ≡ waiting_with waiting entry.now day }
+{
+    match entry {
+        Entry::Complete => match waiting {
+            Some(since) if since <= day => Some(since),
+            _ => Some(day),
+        },
+        Entry::Grant(_) | Entry::Refuse(_) => None,
+    }
+}
+
+/// A copy of what the entry grants, if it is a grant.
+fn granted_by(entry: &Entry) -> Option<Grant>
+    ensures { result ≡ grant_of entry.now }
+{
+    match entry {
+        Entry::Grant(grant) => Some(grant.copied()),
+        Entry::Complete | Entry::Refuse(_) => None,
+    }
+}

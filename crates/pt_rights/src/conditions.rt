@@ -1,0 +1,98 @@
+ghost use Rattle.std.specs.Prelude.{⊤, ◌≡◌, ◌↔◌, IsSome, IfSome};
+ghost use Rattle.std.specs.Cmp.Lexicographic.{pointwise, lists_per, lists_equiv};
+ghost use Rattle.pt_rights.specs.Conditions.{IsConditions};
+
+use arrayvec::ArrayVec;
+use std::alloc::AllocError;
+use std::marker::Model;
+
+/// The most conditions that a grant lists.
+pub const MOST_CONDITIONS: usize = 4;
+
+/// A condition under which a trip qualifies. A grant's trips qualify where one of its conditions holds.
+#[derive(Clone, Copy, Debug, Default, PartialEq, Eq)]
+pub enum Condition {
+    /// Every trip qualifies.
+    #[default]
+    Always,
+}
+
+/// The conditions of a grant, in the order given: one to four, and one may stand twice.
+#[derive(Debug, Drop)]
+pub struct Conditions {
+    members: ArrayVec<Condition, MOST_CONDITIONS>,
+}
+
+impl Model for Conditions {
+    ghost use Rattle.std.specs.Prelude.{List};
+    ghost use Rattle.pt_rights.specs.declared.conditions.Condition.{Condition};
+
+    ghost Value = { List Condition };
+
+    ghost use Rattle.pt_rights.specs.Conditions.{IsConditions};
+
+    ghost view = { λ conditions. conditions.members.items };
+
+    ghost invariant = { λ conditions. IsConditions conditions.members.items };
+}
+
+impl Conditions {
+    /// These conditions; `None` where there are none or more than four.
+    pub fn of(members: &[Condition]) -> Option<Self>
+        ensures in_range { IsSome result ↔ IsConditions members.now }
+        ensures value { IfSome result (λ conditions. conditions ≡ members.now) }
+    {
+        if members.is_empty() {
+            return None;
+        }
+        let members = ArrayVec::try_from(members).ok()?;
+        Some(Conditions { members })
+    }
+
+    /// The conditions that `of` was given.
+    pub fn as_slice(&self) -> &[Condition]
+        ensures value { result.now ≡ self.now }
+        ensures in_range { IsConditions result.now }
+    {
+        self.members.as_slice()
+    }
+
+    /// A copy, which takes no memory.
+    pub fn copied(&self) -> Self
+        ensures { result ≡ self.now }
+    {
+        let mut members = ArrayVec::new();
+        for &condition in self.as_slice() {
+            members.push(condition);
+        }
+        Conditions { members }
+    }
+}
+
+impl Clone for Conditions {
+    ghost is_clone = { λ conditions copy. copy ≡ conditions };
+
+    ghost is_infallible = { λ _. ⊤ };
+
+    fn clone(&self) -> Result<Self, AllocError> {
+        Ok(self.copied())
+    }
+}
+
+impl PartialEq for Conditions {
+    ghost use Rattle.pt_rights.specs.contracts.conditions.ConditionPartialEq.TheImpl.Laws.{laws-law};
+
+    ghost eq = { pointwise ⟦<Condition as PartialEq>⟧.eq };
+
+    ghost laws = { lists_per laws-law };
+
+    fn eq(&self, other: &Conditions) -> bool {
+        self.members == other.members
+    }
+}
+
+impl Eq for Conditions {
+    ghost use Rattle.pt_rights.specs.contracts.conditions.ConditionEq.TheImpl.Laws.{laws-law};
+
+    ghost laws = { lists_equiv laws-law };
+}

@@ -1,0 +1,24 @@
+ghost use Rattle.std.specs.Prelude.{◌≡◌, ℕ, ◌+◌, ◌≤◌, Option, Some, IfSome, IsSomeAnd};
+
+use pt_base::PlaceId;
+
+/// Driving times between places, in minutes, with the laws that planning stands on.
+pub trait Times {
+    /// The minutes from one place to another, where there is a way within a day.
+    ghost minutes: { Self → ℕ → ℕ → Option ℕ };
+
+    /// The driving time in minutes; `None` where there is no way, or none within 1439 minutes.
+    fn minutes(&self, from: PlaceId, to: PlaceId) -> Option<u16>
+        ensures value { result ≡ minutes self.now from to };
+
+    /// It takes no time to stay.
+    ghost stays: { (times : Self) (a : ℕ) → minutes times a a ≡ Some 0 };
+
+    /// A driving time lies within a day.
+    ghost within_a_day: { (times : Self) (a b : ℕ) → IfSome (minutes times a b) (λ t. t ≤ 1439) };
+
+    /// A way over a third place is never shorter than the driving time.
+    ghost triangle: { (times : Self) (a b c m n : ℕ)
+        → minutes times a b ≡ Some m → minutes times b c ≡ Some n → m + n ≤ 1439
+        → IsSomeAnd (minutes times a c) (λ t. t ≤ m + n) };
+}
