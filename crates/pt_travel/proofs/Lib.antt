@@ -1,0 +1,5 @@
+pub mod ClosureLemmas
+pub mod PlaceLemmas
+pub mod MatrixLemmas
+pub mod SortedLemmas
+pub mod RecordLemmas

@@ -1,0 +1,9 @@
+pub mod Chain
+pub mod Closed
+pub mod Closure
+pub mod Laws
+pub mod Matrix
+pub mod Places
+pub mod Table
+pub mod Times
+pub mod Text

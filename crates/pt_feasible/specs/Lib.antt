@@ -1,0 +1,9 @@
+pub mod Limit
+pub mod Load
+pub mod Loads
+pub mod Pairing
+pub mod Plain
+pub mod Route
+pub mod ServiceTimes
+pub mod Stop
+pub mod Visit

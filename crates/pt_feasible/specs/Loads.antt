@@ -1,0 +1,20 @@
+-- The persons aboard never exceed the vehicle's capacity.
+use Rattle.std.specs.Prelude.{ℕ, ◌≤◌, List, [], ◌∷◌, length, take, filter}
+use Rattle.pt_base.specs.declared.vehicle.Vehicle.{Vehicle}
+use Rattle.pt_feasible.specs.declared.load.Load.{Load}
+use Rattle.pt_feasible.specs.declared.stop.Stop.{Stop}
+use Rattle.pt_feasible.specs.Load.{no_load, load_sum, load_difference, FitsWithin}
+use Rattle.pt_feasible.specs.Stop.{is_pickup, is_drop}
+
+-- the loads of all these stops together
+abbrev pub total_load : List Stop → Load
+total_load [] = no_load
+total_load (stop ∷ stops) = load_sum stop.load (total_load stops)
+
+-- who is aboard after these stops: those picked up without those dropped
+abbrev pub load_aboard : List Stop → Load
+load_aboard stops = load_difference (total_load (filter is_pickup stops)) (total_load (filter is_drop stops))
+
+-- after each stop those aboard fit within the vehicle
+abbrev pub LoadsFit : Vehicle → List Stop → Type 0
+LoadsFit vehicle stops = (k : ℕ) → k ≤ length stops → FitsWithin (load_aboard (take k stops)) vehicle

@@ -1,0 +1,11 @@
+pub mod ListLemmas
+pub mod InsertionLemmas
+pub mod InsertionPairing
+pub mod RemovalLemmas
+pub mod RemovalPairing
+pub mod RemovalTimes
+pub mod RemovalLoads
+pub mod DrivingLemmas
+pub mod BestLemmas
+pub mod DutiesLemmas
+pub mod AddedLemmas

@@ -1,0 +1,10 @@
+pub mod Asked
+pub mod Driving
+pub mod Insertion
+pub mod Possible
+pub mod Choice
+pub mod Removal
+pub mod TravelTimes
+pub mod Candidate
+pub mod CandidateStops
+pub mod BestAmong

@@ -1,0 +1,7 @@
+-- The laws of driving times that taking stops out of a route stands on.
+use Rattle.std.specs.Prelude.{◌≡◌, ℕ, ◌+◌, ◌≤◌, Option, Some, IsSomeAnd}
+
+-- a way over a third place is never shorter than the driving time, within a day
+abbrev pub KeepsTriangleLaw : (ℕ → ℕ → Option ℕ) → Type 0
+KeepsTriangleLaw minutes = (a b c m n : ℕ) → minutes a b ≡ Some m → minutes b c ≡ Some n → m + n ≤ 1_439 →
+    IsSomeAnd (minutes a c) (λ t. t ≤ m + n)

@@ -1,0 +1,59 @@
+ghost use Rattle.std.specs.Prelude.{◌≡◌};
+ghost use Rattle.pt_insertion.specs.Asked.{pickup_stop, drop_stop};
+
+use pt_base::{Minute, PlaceId, TripId};
+use pt_feasible::{Load, Stop, StopKind};
+
+/// A trip that is asked for.
+#[derive(Clone, Copy, Debug, PartialEq, Eq)]
+pub struct Asked {
+    pub trip: TripId,
+    pub origin: PlaceId,
+    pub goal: PlaceId,
+    /// The earliest minute of the day at which the pickup may begin.
+    pub lo: Minute,
+    /// The latest minute of the day at which the pickup may begin.
+    pub hi: Minute,
+    /// The latest minute of the day at which the drop may begin.
+    pub latest: Minute,
+    /// How many minutes each of its two stops takes.
+    pub service: u16,
+    /// The most minutes from the end of the pickup to the drop.
+    pub ride: u16,
+    /// The trip's party.
+    pub load: Load,
+}
+
+impl Asked {
+    /// The stop at which the party comes aboard.
+    pub fn pickup_stop(&self) -> Stop
+        ensures { result ≡ pickup_stop self.now }
+    {
+        Stop {
+            trip: self.trip,
+            kind: StopKind::Pickup,
+            place: self.origin,
+            lo: self.lo,
+            hi: self.hi,
+            service: self.service,
+            load: self.load,
+            ride: self.ride,
+        }
+    }
+
+    /// The stop at which the party leaves; it may begin from midnight on.
+    pub fn drop_stop(&self) -> Stop
+        ensures { result ≡ drop_stop self.now }
+    {
+        Stop {
+            trip: self.trip,
+            kind: StopKind::Drop,
+            place: self.goal,
+            lo: Minute::of(0).unwrap(),
+            hi: self.latest,
+            service: self.service,
+            load: self.load,
+            ride: self.ride,
+        }
+    }
+}

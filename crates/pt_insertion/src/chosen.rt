@@ -1,0 +1,16 @@
+use pt_base::VehicleId;
+use pt_feasible::Schedule;
+
+/// A place for a trip: in which vehicle's route, and where in it.
+#[derive(Clone, Debug, Drop)]
+pub struct Chosen {
+    pub vehicle: VehicleId,
+    /// After how many of the route's stops the pickup comes.
+    pub i: usize,
+    /// After how many of the route's stops, as it was, the drop comes.
+    pub j: usize,
+    /// The least service times of the route with the trip put in.
+    pub schedule: Schedule,
+    /// How many driving minutes the trip adds to the route.
+    pub added: u32,
+}

@@ -1,0 +1,69 @@
+ghost use Rattle.std.specs.Prelude.{◌≡◌, ◌+◌, ◌≤◌, ◌↔◌, length, IsTrue, IfOk, IfErr};
+ghost use Rattle.pt_base.specs.declared.fault.TheConstants.{MEMORY};
+ghost use Rattle.pt_feasible.specs.declared.schedule.TheConstants.{MAX_STOPS};
+ghost use Rattle.pt_feasible.specs.Route.{stops_of};
+ghost use Rattle.pt_insertion.specs.Insertion.{with_trip, IsWithout};
+ghost use Rattle.pt_insertion.specs.Removal.{without_trip, KeepsFittingTimes, KeepsFittingLoads};
+
+use crate::insertion::stop_at;
+use crate::{Asked, Chosen};
+use pt_base::{Fault, TripId};
+use pt_feasible::{Route, Stops};
+use std::alloc::Global;
+
+/// Routes with a trip put in or taken out.
+pub trait RouteEdits: Stops {
+    /// Whether none of the stops is one of this trip.
+    fn is_without(&self, trip: TripId) -> bool
+        ensures value { IsTrue result ↔ IsWithout trip (Self.stops self.now) };
+
+    /// The route with the trip put in at the chosen place; the fault is want of memory.
+    fn inserted(&self, alloc: Global, asked: &Asked, chosen: &Chosen) -> Result<Route, Fault>
+        requires drop_later { chosen.now.i ≤ chosen.now.j }
+        requires among { chosen.now.j ≤ length (Self.stops self.now) }
+        requires room { length (Self.stops self.now) + 2 ≤ MAX_STOPS }
+        requires new_trip { IsWithout asked.now.trip (Self.stops self.now) }
+        ensures value { IfOk result (λ route.
+            stops_of route ≡ with_trip asked.now chosen.now.i chosen.now.j (Self.stops self.now)) }
+        ensures memory { IfErr result (λ fault. fault ≡ record { code = MEMORY; row = 0 }) };
+
+    /// The route without the trip's stops; the fault is want of memory.
+    fn removed(&self, alloc: Global, trip: TripId) -> Result<Route, Fault>
+        ensures value { IfOk result (λ route. stops_of route ≡ without_trip trip (Self.stops self.now)) }
+        ensures times { IfOk result (λ route. KeepsFittingTimes trip (Self.stops self.now) (stops_of route)) }
+        ensures loads { IfOk result (λ route. KeepsFittingLoads (Self.stops self.now) (stops_of route)) }
+        ensures memory { IfErr result (λ fault. fault ≡ record { code = MEMORY; row = 0 }) };
+}
+
+impl RouteEdits for Route {
+    fn is_without(&self, trip: TripId) -> bool {
+        for k in 0..self.len() {
+            if self.stop(k).trip == trip {
+                return false;
+            }
+        }
+        true
+    }
+
+    fn inserted(&self, alloc: Global, asked: &Asked, chosen: &Chosen) -> Result<Route, Fault> {
+        let len = self.len() + 2;
+        let mut stops = Vec::with_capacity(alloc, len)?;
+        for k in 0..len {
+            stops
+                .push(stop_at(self, asked, chosen.i, chosen.j, k))
+                .unwrap();
+        }
+        Ok(Route::of(stops).unwrap())
+    }
+
+    fn removed(&self, alloc: Global, trip: TripId) -> Result<Route, Fault> {
+        let mut stops = Vec::with_capacity(alloc, self.len())?;
+        for k in 0..self.len() {
+            let stop = self.stop(k);
+            if stop.trip != trip {
+                stops.push(stop).unwrap();
+            }
+        }
+        Ok(Route::of(stops).unwrap())
+    }
+}

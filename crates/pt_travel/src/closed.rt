@@ -1,0 +1,65 @@
+ghost use Rattle.std.specs.Prelude.{◌≡◌, ℕ, length, vec_len};
+ghost use Rattle.pt_travel.specs.Matrix.{HasTriangles};
+ghost use Rattle.pt_travel.specs.Places.{list_of};
+
+use crate::Times;
+use crate::matrix::{self, Line};
+use crate::places::Places;
+use crate::raw::{MOST_MINUTES, Raw};
+use pt_base::{Fault, PlaceId};
+use std::alloc::Global;
+
+/// The driving times by the least chains of a table's rows.
+#[derive(Debug, Drop)]
+pub struct Closed {
+    places: Places,
+    lines: Vec<Line>,
+    ghost size: { vec_len lines ≡ length (list_of places) },
+    ghost triangles: { HasTriangles (length (list_of places)) lines.items },
+}
+
+impl Closed {
+    ghost use Rattle.std.specs.Prelude.{IfOk, IfErr};
+    ghost use Rattle.pt_base.specs.declared.fault.TheConstants.{MEMORY};
+    ghost use Rattle.pt_travel.specs.Chain.{IsTime};
+    ghost use Rattle.pt_travel.specs.Times.{time_in};
+
+    /// The closure of a table, whose memory is asked for at once.
+    pub fn of(alloc: Global, raw: &Raw) -> Result<Self, Fault>
+        ensures least { IfOk result (λ closed. (from to : ℕ) → IsTime raw.now from to (time_in closed from to)) }
+        ensures refused { IfErr result (λ fault. fault ≡ record { code = MEMORY; row = 0 }) }
+    {
+        let places = raw.places();
+        let mut lines = matrix::direct(alloc, raw.rows(), &places)?;
+        for k in 0..places.len() {
+            matrix::shorten(&mut lines, k);
+        }
+        Ok(Closed { places, lines })
+    }
+}
+
+impl Times for Closed {
+    ghost use Rattle.pt_travel.specs.Times.{time_in};
+    ghost use Rattle.pt_travel.specs.Laws.{stays_in, within_a_day_in, triangle_in};
+
+    ghost minutes = { time_in };
+
+    ghost stays = { stays_in };
+
+    ghost within_a_day = { within_a_day_in };
+
+    ghost triangle = { triangle_in };
+
+    fn minutes(&self, from: PlaceId, to: PlaceId) -> Option<u16> {
+        if from == to {
+            return Some(0);
+        }
+        let line = &self.lines[self.places.position(from)?];
+        let minutes = line[self.places.position(to)?];
+        if minutes <= MOST_MINUTES {
+            Some(minutes)
+        } else {
+            None
+        }
+    }
+}

@@ -1,0 +1,89 @@
+ghost use Rattle.std.specs.Prelude.{◌≡◌, ℕ, ◌+◌, ◌==◌, ◌<◌, ◌≤◌, [], length, min, All, IfOk, if◌then◌else◌, slice_index, slice_index_or};
+ghost use Rattle.pt_travel.specs.Matrix.{entry, IsCapped, PutsRow};
+ghost use Rattle.pt_travel.specs.Closure.{IsClosedOver};
+ghost use Rattle.pt_travel.specs.Places.{list_of};
+ghost use Rattle.pt_travel.specs.Table.{NamesOnly};
+
+use crate::places::Places;
+use crate::raw::{MOST_PLACES, Row};
+use std::alloc::{AllocError, Global};
+
+/// No way within a day.
+pub const NO_WAY: u16 = 1440;
+
+/// The minutes from one place to each place, by their positions; the rest of the line is not read.
+pub type Line = [u16; MOST_PLACES];
+
+/// The lines of a table's places, with its rows standing in them.
+pub fn direct(alloc: Global, rows: &[Row], places: &Places) -> Result<Vec<Line>, AllocError>
+    requires named { NamesOnly (list_of places.now) rows.now }
+    ensures { IfOk result (λ lines. IsClosedOver rows.now (list_of places.now) 0 lines.items) }
+{
+    let mut lines = apart(alloc, places.len())?;
+    for row in rows {
+        put(&mut lines, places, row);
+    }
+    Ok(lines)
+}
+
+// The lines of so many places before any row stands: 0 from each place to itself, and no way else.
+fn apart(alloc: Global, n: usize) -> Result<Vec<Line>, AllocError>
+    requires { n ≤ 100 }
+    ensures size { IfOk result (λ lines. length lines.items ≡ n) }
+    ensures entries { IfOk result (λ lines. (i j : ℕ) → i < n → j < 100
+        → entry lines.items i j ≡ (if i == j then 0 else 1440)) }
+{
+    let mut lines = Vec::with_capacity(alloc, n)?;
+    for i in 0..n {
+        lines.push_reserved(alone(i));
+    }
+    Ok(lines)
+}
+
+fn alone(i: usize) -> Line
+    requires { i < 100 }
+    ensures { (j : ℕ) → j < 100 → slice_index result j ≡ (if i == j then 0 else 1440) }
+{
+    let mut line = [NO_WAY; MOST_PLACES];
+    line[i] = 0;
+    line
+}
+
+fn put(lines: &mut Vec<Line>, places: &Places, row: &Row)
+    requires size { length lines.old.items ≡ length (list_of places.now) }
+    ensures { PutsRow (list_of places.now) row.now lines.old.items lines.new.items }
+{
+    let (from, to, minutes) = *row;
+    if let (Some(i), Some(j)) = (places.position(from), places.position(to)) {
+        let line = &mut lines[i];
+        line[j] = line[j].min(minutes);
+    }
+}
+
+/// Takes the way over the place at `k` wherever it is shorter.
+pub fn shorten(lines: &mut Vec<Line>, k: usize)
+    requires in_range { k < length lines.old.items }
+    requires few { length lines.old.items ≤ 100 }
+    requires capped { IsCapped lines.old.items }
+    ensures size { length lines.new.items ≡ length lines.old.items }
+    ensures entries { (i j : ℕ) → i < length lines.old.items → j < 100
+        → entry lines.new.items i j ≡ min (entry lines.old.items i j) (entry lines.old.items i k + entry lines.old.items k j) }
+{
+    let middle = lines[k];
+    for line in lines.iter_mut() {
+        shorten_line(line, &middle, k);
+    }
+}
+
+fn shorten_line(line: &mut Line, middle: &Line, k: usize)
+    requires in_range { k < 100 }
+    requires capped { (j : ℕ) → j < 100 → slice_index line.old j ≤ 1440 }
+    requires middle_capped { (j : ℕ) → j < 100 → slice_index middle.now j ≤ 1440 }
+    ensures size { length line.new ≡ 100 }
+    ensures entries { (j : ℕ) → j < 100 → slice_index line.new j ≡ min (slice_index line.old j) (slice_index line.old k + slice_index middle.now j) }
+{
+    let first = line[k];
+    for j in 0..MOST_PLACES {
+        line[j] = line[j].min(first + middle[j]);
+    }
+}

@@ -1,0 +1,80 @@
+ghost use Rattle.std.specs.Prelude.{◌≡◌, ℕ, ◌<◌, ◌≤◌, List, length, slice_index};
+
+use crate::raw::{MOST_PLACES, Row};
+use pt_base::PlaceId;
+
+/// Places, each once and at most 100.
+#[derive(Clone, Copy, Debug)]
+pub struct Places {
+    numbers: [u32; MOST_PLACES],
+    len: usize,
+    ghost within: { len ≤ 100 },
+    ghost distinct: { (i j : ℕ) → i < len → j < len → slice_index numbers i ≡ slice_index numbers j → i ≡ j },
+}
+
+impl Places {
+    ghost use Rattle.std.specs.Prelude.{◌==◌, ◌∷◌, ◌++◌, [], ◌⊎◌, Contains, IsTrue, MatchOption, IfSome, IsNone};
+    ghost use Rattle.std.specs.Bool.{OnTrue, OnFalse};
+    ghost use Rattle.std.specs.List.{position};
+    ghost use Rattle.pt_travel.specs.Places.{list_of};
+    ghost use Rattle.pt_travel.specs.Table.{NamesOnly};
+
+    fn none() -> Self
+        ensures { list_of result ≡ [] }
+    {
+        Places {
+            numbers: [0; MOST_PLACES],
+            len: 0,
+        }
+    }
+
+    /// The places that a table's rows name; `None` where they are more than 100.
+    pub fn of(rows: &[Row]) -> Option<Self>
+        ensures named { IfSome result (λ places. NamesOnly (list_of places) rows.now) }
+        ensures too_many { IsNone result → (list : List ℕ) → NamesOnly list rows.now → 100 < length list }
+    {
+        let mut places = Places::none();
+        for row in rows {
+            if !places.insert(row.0) || !places.insert(row.1) {
+                return None;
+            }
+        }
+        Some(places)
+    }
+
+    // Whether there was room, or the place was there already.
+    fn insert(&mut self, place: PlaceId) -> bool
+        ensures kept { OnTrue result (((list_of self.new ≡ list_of self.old) × Contains (list_of self.old) place)
+            ⊎ (list_of self.new ≡ list_of self.old ++ place ∷ [])) }
+        ensures full { OnFalse result ((length (list_of self.old) ≡ 100)
+            × (Contains (list_of self.old) place → ⊥)) }
+    {
+        if self.position(place).is_some() {
+            return true;
+        }
+        if self.len == MOST_PLACES {
+            return false;
+        }
+        self.numbers[self.len] = place.number();
+        self.len += 1;
+        true
+    }
+
+    /// How many places there are.
+    pub fn len(&self) -> usize
+        ensures value { result ≡ length (list_of self.now) }
+        ensures within { result ≤ 100 }
+    {
+        self.len
+    }
+
+    /// Where a place stands among them.
+    pub fn position(&self, place: PlaceId) -> Option<usize>
+        ensures value { result ≡ position (λ p. p == place) (list_of self.now) }
+        ensures there { MatchOption result (Contains (list_of self.now) place → ⊥)
+            (λ k. (k < length (list_of self.now)) × (slice_index (list_of self.now) k ≡ place)) }
+    {
+        let number = place.number();
+        self.numbers[..self.len].iter().position(|&n| n == number)
+    }
+}

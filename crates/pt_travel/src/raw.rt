@@ -1,0 +1,92 @@
+ghost use Rattle.std.specs.Prelude.{◌≡◌, ◌≤◌, ◌↔◌, All, IsSome, IfSome, IsTrue};
+ghost use Rattle.pt_travel.specs.Table.{ComesBefore, NamesOnly, Rises, IsTable};
+ghost use Rattle.pt_travel.specs.Places.{list_of};
+
+use crate::places::Places;
+use pt_base::PlaceId;
+use std::marker::Model;
+
+/// How many places a table may name.
+pub const MOST_PLACES: usize = 100;
+
+/// How many minutes a row may take.
+pub const MOST_MINUTES: u16 = 1439;
+
+/// A row of a travel table: from, to, and the minutes of the drive.
+pub type Row = (PlaceId, PlaceId, u16);
+
+/// The agency's table as it gave it: in order of its places, each pair of places once.
+#[derive(Debug, Drop)]
+pub struct Raw {
+    rows: Vec<Row>,
+    places: Places,
+}
+
+impl Model for Raw {
+    ghost use Rattle.std.specs.Prelude.{ℕ, List};
+    ghost use Rattle.pt_travel.specs.Table.{IsTable, NamesOnly};
+    ghost use Rattle.pt_travel.specs.Places.{list_of};
+
+    ghost Value = { List (ℕ × ℕ × ℕ) };
+
+    ghost view = { λ raw. raw.rows.items };
+
+    ghost invariant = { λ raw. IsTable raw.rows.items × NamesOnly (list_of raw.places) raw.rows.items };
+}
+
+impl Raw {
+    /// The table of these rows, which takes no memory.
+    ///
+    /// `None` where the rows do not rise strictly by their places, where one takes longer than
+    /// 1439 minutes, or where they name more than 100 places together.
+    pub fn of(rows: Vec<Row>) -> Option<Self>
+        ensures table { IsSome result ↔ IsTable rows.items }
+        ensures value { IfSome result (λ raw. raw ≡ rows.items) }
+    {
+        if !rises(&rows) || !within_a_day(&rows) {
+            return None;
+        }
+        let places = Places::of(&rows)?;
+        Some(Raw { rows, places })
+    }
+
+    /// The rows, in order of their places.
+    pub fn rows(&self) -> &[Row]
+        ensures value { result.now ≡ self.now }
+        ensures table { IsTable result.now }
+    {
+        &self.rows
+    }
+
+    // The places that the rows name.
+    pub(crate) fn places(&self) -> Places
+        ensures { NamesOnly (list_of result) self.now }
+    {
+        self.places
+    }
+}
+
+// Whether each row comes before the next.
+fn rises(rows: &[Row]) -> bool
+    ensures { IsTrue result ↔ Rises rows.now }
+{
+    for k in 1..rows.len() {
+        if !comes_before(&rows[k - 1], &rows[k]) {
+            return false;
+        }
+    }
+    true
+}
+
+/// Whether one row comes before another.
+pub(crate) fn comes_before(row: &Row, other: &Row) -> bool
+    ensures { IsTrue result ↔ ComesBefore row.now other.now }
+{
+    row.0 < other.0 || row.0 == other.0 && row.1 < other.1
+}
+
+fn within_a_day(rows: &[Row]) -> bool
+    ensures { IsTrue result ↔ All (λ row. row.2 ≤ 1439) rows.now }
+{
+    rows.iter().all(|row| row.2 <= MOST_MINUTES)
+}

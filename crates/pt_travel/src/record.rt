@@ -1,0 +1,90 @@
+ghost use Rattle.std.specs.Prelude.{◌≡◌, ℕ, ◌⊎◌, ◌↔◌, List, [], ◌∷◌, ◌++◌, length, slice_index_or, IsTrue, IfOk, OnOk, IfErr};
+ghost use Rattle.csv.specs.Records.{fields_of};
+ghost use Rattle.pt_base.specs.declared.fault.TheConstants.{MEMORY};
+ghost use Rattle.pt_travel.specs.Table.{Rises};
+ghost use Rattle.pt_travel.specs.Text.{HasFault, IsNextFault, IsReadSoFar, IsSound, Record, header, number_after, row_of};
+
+use crate::raw::Row;
+use crate::{fields, sorted};
+use csv::ByteRecord;
+use pt_base::fault::{TRAVEL_HEADER, TRAVEL_MINUTES, TRAVEL_PLACE, TRAVEL_RECORD};
+use pt_base::{Fault, PlaceId};
+
+/// Takes the record of this number: the header row, or a row to stand among the others in order.
+pub fn take(
+    rows: &mut Vec<Row>,
+    places: &[PlaceId],
+    given: &ByteRecord,
+    number: u32,
+) -> Result<(), Fault>
+    requires { Rises rows.old.items }
+    ensures taken { OnOk result ((seen : List Record) → number ≡ number_after (length seen)
+        → IsReadSoFar places.now seen rows.old.items → IsReadSoFar places.now (seen ++ fields_of given.now ∷ []) rows.new.items) }
+    ensures faulty { IfErr result (λ fault. (fault ≡ record { code = MEMORY; row = 0 })
+        ⊎ ((seen : List Record) → number ≡ number_after (length seen) → IsReadSoFar places.now seen rows.old.items
+        → IsNextFault places.now seen (fields_of given.now) fault)) }
+{
+    if number == 1 {
+        return header(given);
+    }
+    match row(given, places) {
+        Ok(row) => sorted::put(rows, row, number),
+        Err(code) => Err(Fault { code, row: number }),
+    }
+}
+
+// That a record is the header row.
+#[tactic(auto, using(crate::proofs::RecordLemmas::header_from))]
+fn header(given: &ByteRecord) -> Result<(), Fault>
+    ensures header { OnOk result (fields_of given.now ≡ header) }
+    ensures other { IfErr result (λ fault. (fault ≡ record { code = TRAVEL_HEADER; row = 1 })
+        × (fields_of given.now ≡ header → ⊥)) }
+{
+    if given.len() == 3
+        && has_field(given, 0, b"from")
+        && has_field(given, 1, b"to")
+        && has_field(given, 2, b"minutes")
+    {
+        return Ok(());
+    }
+    Err(Fault {
+        code: TRAVEL_HEADER,
+        row: 1,
+    })
+}
+
+// The row that a record reads as, or the code of what is wrong with it.
+fn row(given: &ByteRecord, places: &[PlaceId]) -> Result<Row, u16>
+    ensures sound { IfOk result (λ row. IsSound places.now (fields_of given.now) × (row ≡ row_of (fields_of given.now))) }
+    ensures faulty { IfErr result (λ code. (earlier : List Record) → HasFault places.now earlier (fields_of given.now) code) }
+{
+    if given.len() != 3 {
+        return Err(TRAVEL_RECORD);
+    }
+    let (Some(from), Some(to)) = (
+        fields::place(field(given, 0), places),
+        fields::place(field(given, 1), places),
+    ) else {
+        return Err(TRAVEL_PLACE);
+    };
+    match fields::minutes(field(given, 2)) {
+        Some(minutes) => Ok((from, to, minutes)),
+        None => Err(TRAVEL_MINUTES),
+    }
+}
+
+fn has_field(given: &ByteRecord, i: usize, name: &[u8]) -> bool
+    ensures { IsTrue result ↔ (slice_index_or (fields_of given.now) i [] ≡ name.now) }
+{
+    field(given, i) == name
+}
+
+// The bytes of a field, and none past the last.
+fn field(given: &ByteRecord, i: usize) -> &[u8]
+    ensures { result.now ≡ slice_index_or (fields_of given.now) i [] }
+{
+    match given.get(i) {
+        Some(field) => field,
+        None => &[],
+    }
+}

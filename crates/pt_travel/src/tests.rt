@@ -1,0 +1,220 @@
+use crate::{Closed, Raw, Row, Times};
+use pt_base::{Fault, PlaceId};
+use std::alloc::{AllocError, Global};
+use std::test::Fail;
+
+fn row(from: u32, to: u32, minutes: u16) -> Option<Row> {
+    Some((PlaceId::of(from)?, PlaceId::of(to)?, minutes))
+}
+
+fn rows(alloc: Global, given: &[(u32, u32, u16)]) -> Result<Vec<Row>, AllocError> {
+    let mut rows = Vec::new(alloc);
+    for &(from, to, minutes) in given {
+        if let Some(row) = row(from, to, minutes) {
+            rows.push(row)?;
+        }
+    }
+    Ok(rows)
+}
+
+// The places 1, 2 and so on.
+fn places(alloc: Global, count: u32) -> Result<Vec<PlaceId>, AllocError> {
+    let mut places = Vec::new(alloc);
+    for number in 0..count {
+        if let Some(place) = PlaceId::of(number.saturating_add(1)) {
+            places.push(place)?;
+        }
+    }
+    Ok(places)
+}
+
+// The driving time by a table of these rows.
+fn time(
+    alloc: Global,
+    given: &[(u32, u32, u16)],
+    from: u32,
+    to: u32,
+) -> Result<Option<u16>, Fault> {
+    let Some(raw) = Raw::of(rows(alloc, given)?) else {
+        return Ok(None);
+    };
+    let closed = Closed::of(alloc, &raw)?;
+    let (Some(from), Some(to)) = (PlaceId::of(from), PlaceId::of(to)) else {
+        return Ok(None);
+    };
+    Ok(closed.minutes(from, to))
+}
+
+// What is wrong with a text, for the places 1 to 3.
+fn fault(alloc: Global, text: &[u8]) -> Result<Option<(u16, u32)>, AllocError> {
+    let places = places(alloc, 3)?;
+    match Raw::read(alloc, text, &places) {
+        Ok(_) => Ok(None),
+        Err(fault) => Ok(Some((fault.code, fault.row))),
+    }
+}
+
+#[test]
+fn the_least_chain_is_the_time(rt: HostRuntime) -> Result<(), Fail> {
+    let given = [
+        (1, 2, 10),
+        (1, 3, 50),
+        (2, 1, 10),
+        (2, 3, 10),
+        (3, 1, 50),
+        (3, 2, 10),
+    ];
+    assert_eq!(rt; time(rt.alloc(), &given, 1, 3), Ok(Some(20)));
+    assert_eq!(rt; time(rt.alloc(), &given, 3, 1), Ok(Some(20)));
+    assert_eq!(rt; time(rt.alloc(), &given, 1, 2), Ok(Some(10)));
+    assert_eq!(rt; time(rt.alloc(), &given, 4, 4), Ok(Some(0)));
+    assert_eq!(rt; time(rt.alloc(), &given, 1, 4), Ok(None));
+    Ok(())
+}
+
+#[test]
+fn a_chain_of_more_than_1439_minutes_gives_no_time(rt: HostRuntime) -> Result<(), Fail> {
+    let alloc = rt.alloc();
+    assert_eq!(rt; time(alloc, &[(1, 2, 1000), (2, 3, 440)], 1, 3), Ok(None));
+    assert_eq!(rt;
+        time(alloc, &[(1, 2, 1000), (2, 3, 439)], 1, 3),
+        Ok(Some(1439))
+    );
+    Ok(())
+}
+
+#[test]
+fn a_chain_leads_over_three_middle_places(rt: HostRuntime) -> Result<(), Fail> {
+    let given = [(1, 5, 1), (3, 4, 4), (4, 2, 8), (5, 3, 2)];
+    assert_eq!(rt; time(rt.alloc(), &given, 1, 2), Ok(Some(15)));
+    assert_eq!(rt; time(rt.alloc(), &given, 2, 1), Ok(None));
+    Ok(())
+}
+
+#[test]
+fn staying_takes_no_time(rt: HostRuntime) -> Result<(), Fail> {
+    assert_eq!(rt; time(rt.alloc(), &[(1, 1, 5)], 1, 1), Ok(Some(0)));
+    Ok(())
+}
+
+#[test]
+fn rows_rise_and_lie_within_a_day(rt: HostRuntime) -> Result<(), Fail> {
+    let alloc = rt.alloc();
+    assert_eq!(rt;
+        Raw::of(rows(alloc, &[(1, 2, 10), (1, 2, 10)])?).is_some(),
+        false
+    );
+    assert_eq!(rt;
+        Raw::of(rows(alloc, &[(2, 1, 10), (1, 2, 10)])?).is_some(),
+        false
+    );
+    assert_eq!(rt; Raw::of(rows(alloc, &[(1, 2, 1440)])?).is_some(), false);
+    assert_eq!(rt; Raw::of(rows(alloc, &[(1, 2, 1439)])?).is_some(), true);
+    Ok(())
+}
+
+#[test]
+fn rows_name_at_most_100_places(rt: HostRuntime) -> Result<(), Fail> {
+    let alloc = rt.alloc();
+    let mut hundred = Vec::new(alloc);
+    for place in places(alloc, 100)? {
+        hundred.push((place, place, 1))?;
+    }
+    let mut more = rows(alloc, &[])?;
+    for place in places(alloc, 101)? {
+        more.push((place, place, 1))?;
+    }
+    assert_eq!(rt; Raw::of(hundred).is_some(), true);
+    assert_eq!(rt; Raw::of(more).is_some(), false);
+    Ok(())
+}
+
+#[test]
+fn a_text_reads_as_its_rows_in_order(rt: HostRuntime) -> Result<(), Fail> {
+    let alloc = rt.alloc();
+    let expected = rows(alloc, &[(1, 2, 10), (1, 3, 7), (2, 1, 0)])?;
+    let three = places(alloc, 3)?;
+    for text in [
+        b"from,to,minutes\n2,1,0\n1,3,7\n1,2,10\n1,2,10\n".as_slice(),
+        b"\xEF\xBB\xBFfrom,to,minutes\r\n2,1,0000\r\n1,3,07\r\n1,2,10".as_slice(),
+        b"\"from\",\"to\",\"minutes\"\n\n\"2\",\"1\",\"0\"\n1,\"3\",7\n0000000001,2,10\n".as_slice(),
+    ] {
+        let raw = Raw::read(alloc, text, &three)?;
+        assert_eq!(rt; raw.rows(), expected.as_slice());
+    }
+    Ok(())
+}
+
+#[test]
+fn the_first_fault_is_told(rt: HostRuntime) -> Result<(), Fail> {
+    let alloc = rt.alloc();
+    assert_eq!(rt;
+        fault(alloc, b"from,to,minutes\n1,2,10\n1,2,11\n"),
+        Ok(Some((24, 3)))
+    );
+    assert_eq!(rt;
+        fault(alloc, b"from,to,minutes\n1,2,1440\n"),
+        Ok(Some((23, 2)))
+    );
+    assert_eq!(rt;
+        fault(alloc, b"from,to,minutes\n1,2,-1\n"),
+        Ok(Some((23, 2)))
+    );
+    assert_eq!(rt;
+        fault(alloc, b"from,to,minutes\n1,2,00010\n"),
+        Ok(Some((23, 2)))
+    );
+    assert_eq!(rt; fault(alloc, b"from,to,minutes\n1,2\n"), Ok(Some((20, 2))));
+    assert_eq!(rt; fault(alloc, b"from,to,minutes\n1,4\n"), Ok(Some((20, 2))));
+    assert_eq!(rt;
+        fault(alloc, b"from,to,minutes\n1,2,3,4\n"),
+        Ok(Some((20, 2)))
+    );
+    assert_eq!(rt;
+        fault(alloc, b"from,to,minutes\n1,2,3\n1,4,x\n"),
+        Ok(Some((22, 3)))
+    );
+    assert_eq!(rt;
+        fault(alloc, b"from,to,minutes\n1,00000000002,3\n"),
+        Ok(Some((22, 2)))
+    );
+    assert_eq!(rt;
+        fault(alloc, b"from,to,minutes\n+1,2,3\n"),
+        Ok(Some((22, 2)))
+    );
+    assert_eq!(rt; fault(alloc, b""), Ok(Some((21, 1))));
+    assert_eq!(rt; fault(alloc, b"from,to,time\n1,2,3\n"), Ok(Some((21, 1))));
+    assert_eq!(rt; fault(alloc, b"1,2,3\n"), Ok(Some((21, 1))));
+    Ok(())
+}
+
+#[test]
+fn at_most_100_places_are_read_for(rt: HostRuntime) -> Result<(), Fail> {
+    let alloc = rt.alloc();
+    let hundred = places(alloc, 100)?;
+    let more = places(alloc, 101)?;
+    let text = b"from,to,minutes\n1,100,5\n";
+    assert_eq!(rt; Raw::read(alloc, text, &hundred)?.rows().len(), 1);
+    assert_eq!(rt;
+        Raw::read(alloc, b"", &more).err(),
+        Some(Fault { code: 25, row: 0 })
+    );
+    Ok(())
+}
+
+#[test]
+fn a_text_cut_at_any_byte_is_told(rt: HostRuntime) -> Result<(), Fail> {
+    let text = b"from,to,minutes\n1,2,10\n2,3,10\n".as_slice();
+    for len in 0..=text.len() {
+        let expected = match len {
+            0..=14 => Some((21, 1)),
+            17..=19 => Some((20, 2)),
+            20 => Some((23, 2)),
+            24..=26 => Some((20, 3)),
+            27 => Some((23, 3)),
+            _ => None,
+        };
+        assert_eq!(rt; fault(rt.alloc(), &text[..len]), Ok(expected));
+    }
+    Ok(())
+}

@@ -1,0 +1,15 @@
+//! Comparisons of the crates with plain second evaluations, over many cases from fixed seeds.
+#![tactic(auto)]
+
+#[cfg(test)]
+mod case_files;
+#[cfg(test)]
+mod corridor;
+#[cfg(test)]
+mod desk;
+#[cfg(test)]
+mod insertion;
+#[cfg(test)]
+mod service_times;
+#[cfg(test)]
+mod travel;
