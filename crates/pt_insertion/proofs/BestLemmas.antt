@@ -1,5 +1,5 @@
 -- The best of a set of places, one place, one more place, and one more set.
-use Rattle.std.proofs.Common.{◌≡◌, ℕ, ◌+◌, ◌<◌, ◌≤◌, Bool, true, false, cond, ◌⊎◌, List, Option, Some, None, length, nat_lt, IfSome, IfNone, inl, inr, refl, ap, sym, subst, ◌∙◌, arith}
+use Rattle.std.proofs.Common.{◌≡◌, ℕ, ◌+◌, ◌<◌, ◌≤◌, ◌⊎◌, List, Option, Some, None, length, nat_lt, inl, inr, refl, ap, sym, subst, ◌∙◌, arith}
 use Rattle.std.proofs.lemmas.Bool.{ltb-true, ltb-false, cases_Bool, cases_lt}
 use Rattle.std.specs.Prelude.{⊤}
 use Rattle.pt_feasible.specs.declared.schedule.TheConstants.{MAX_STOPS}
@@ -7,7 +7,7 @@ use Rattle.pt_base.specs.declared.vehicle.Vehicle.{Vehicle}
 use Rattle.pt_feasible.specs.declared.stop.Stop.{Stop}
 use Rattle.pt_insertion.specs.declared.asked.Asked.{Asked}
 use Rattle.pt_insertion.specs.declared.chosen.Chosen.{Chosen}
-use Rattle.pt_insertion.specs.Choice.{added_driving, IsChosenIn, IsNoWorseThan, IsBestIn}
+use Rattle.pt_insertion.specs.Choice.{added_driving, IsChosenIn, IsNoWorseThan}
 use Rattle.pt_insertion.specs.BestAmong.{IsBestAmong, better_of}
 use Rattle.pt_insertion.specs.Possible.{IsPossible}
 

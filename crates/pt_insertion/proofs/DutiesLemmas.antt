@@ -1,5 +1,5 @@
 -- The best in the routes of the vehicles so far, and of one more vehicle.
-use Rattle.std.proofs.Common.{◌≡◌, ℕ, ◌+◌, ◌<◌, ◌≤◌, Bool, true, false, cond, ◌⊎◌, List, Option, Some, None, length, nat_lt, get_or, IfSome, IfNone, inl, inr, refl, ap, sym, subst, ◌∙◌, arith}
+use Rattle.std.proofs.Common.{◌≡◌, ℕ, ◌+◌, ◌<◌, ◌≤◌, ◌⊎◌, List, Option, Some, None, length, nat_lt, get_or, IfSome, IfNone, inl, inr, refl, ap, sym, subst, ◌∙◌, arith}
 use Rattle.std.specs.Prelude.{⊤, All, AllPairs, Any}
 use Rattle.std.proofs.lemmas.Bool.{ltb-true, ltb-false, cases_Bool, cases_lt}
 use Rattle.std.proofs.lemmas.List.{get_or_read}
@@ -7,7 +7,7 @@ use Rattle.pt_feasible.specs.Route.{stops_of}
 use Rattle.pt_insertion.specs.declared.asked.Asked.{Asked}
 use Rattle.pt_insertion.specs.declared.chosen.Chosen.{Chosen}
 use Rattle.pt_insertion.specs.declared.duty.Duty.{Duty}
-use Rattle.pt_insertion.specs.Choice.{added_driving, IsChosenIn, IsNoWorseThan, IsBestIn}
+use Rattle.pt_insertion.specs.Choice.{IsChosenIn, IsNoWorseThan, IsBestIn}
 use Rattle.pt_insertion.specs.BestAmong.{IsBestAmong, better_of}
 use Rattle.pt_insertion.specs.Possible.{IsPossible}
 use Rattle.pt_insertion.proofs.BestLemmas.{less_driving}

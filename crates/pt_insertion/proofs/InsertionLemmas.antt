@@ -1,11 +1,10 @@
 -- The stops of a route with a trip put in, by their places; and that they are in pairs.
-use Rattle.std.proofs.Common.{◌≡◌, ◌≢◌, ℕ, zero, suc, ◌+◌, ◌-◌, ◌<◌, ◌≤◌, Bool, true, List, [], ◌∷◌, ◌++◌, Some, None, length, take, drop, slice_get, IsTrue, refl, ap, sym, subst, ◌∙◌, arith, length-append, length-drop}
+use Rattle.std.proofs.Common.{◌≡◌, ℕ, suc, ◌+◌, ◌-◌, ◌<◌, ◌≤◌, List, ◌∷◌, ◌++◌, Some, length, take, drop, slice_get, ◌∙◌, arith, length-append, length-drop}
 use Rattle.std.proofs.lemmas.List.{length-take-le}
-use Rattle.std.proofs.lemmas.Bool.{cases_lt}
 use Rattle.pt_feasible.specs.declared.stop.Stop.{Stop}
 use Rattle.pt_insertion.specs.declared.asked.Asked.{Asked}
 use Rattle.pt_insertion.specs.Asked.{pickup_stop, drop_stop}
-use Rattle.pt_insertion.specs.Insertion.{with_trip, IsWithout}
+use Rattle.pt_insertion.specs.Insertion.{with_trip}
 use Rattle.pt_insertion.proofs.ListLemmas.{slice_get-append_left, slice_get-append_right, slice_get-take, slice_get-drop}
 
 -- how many stops come before the drop

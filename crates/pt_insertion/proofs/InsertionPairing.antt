@@ -1,15 +1,14 @@
 -- A route in pairs stays in pairs when a new trip is put in.
-use Rattle.std.proofs.Common.{◌≡◌, ◌≢◌, ℕ, zero, suc, ◌+◌, ◌-◌, ◌<◌, ◌≤◌, Bool, true, ◌&&◌, ◌==◌, List, Some, length, slice_get, IsTrue, inl, inr, refl, ap, sym, subst, ◌∙◌, arith}
+use Rattle.std.proofs.Common.{◌≡◌, ℕ, ◌+◌, ◌-◌, ◌<◌, ◌≤◌, true, ◌==◌, List, Some, length, slice_get, IsTrue, inl, inr, refl, ap, sym, subst, ◌∙◌, arith}
 use Rattle.std.specs.List.{list_any}
-use Rattle.std.proofs.lemmas.Bool.{cases_lt, cases_eq, eq-eqb, eqb-true, and_from, and_parts}
+use Rattle.std.proofs.lemmas.Bool.{cases_lt, cases_eq, eq-eqb, and_from}
 use Rattle.pt_feasible.specs.declared.stop.Stop.{Stop}
 use Rattle.pt_feasible.specs.Pairing.{IsPickupThenDrop, is_partner, IsPaired}
 use Rattle.pt_insertion.specs.declared.asked.Asked.{Asked}
 use Rattle.pt_insertion.specs.Asked.{pickup_stop, drop_stop}
 use Rattle.pt_insertion.specs.Insertion.{with_trip, IsWithout}
 use Rattle.pt_insertion.proofs.ListLemmas.{list_any_from, list_any_to}
-use Rattle.pt_insertion.proofs.InsertionLemmas.{length-with_trip, with_trip_before, with_trip_pickup, with_trip_between, with_trip_drop, with_trip_after}
-use Rattle.std.proofs.lemmas.Option.{slice_get_within}
+use Rattle.pt_insertion.proofs.InsertionLemmas.{with_trip_before, with_trip_pickup, with_trip_between, with_trip_drop, with_trip_after}
 
 -- the place of an old stop after the trip is put in
 record IsMoved (i j old new : ℕ) : Type 0 where

@@ -1,8 +1,8 @@
 -- Where the stops that stay stood before: places in a filtered list, and of the times at them.
-use Rattle.std.proofs.Common.{◌≡◌, ℕ, zero, suc, ◌+◌, ◌-◌, ◌<◌, ◌≤◌, Bool, true, false, not, cond, List, [], ◌∷◌, ◌++◌, Some, None, length, take, map, filter, slice_get, slice_index, inl, inr, refl, ap, sym, ◌∙◌, arith}
+use Rattle.std.proofs.Common.{◌≡◌, ℕ, zero, suc, ◌+◌, ◌<◌, ◌≤◌, Bool, true, false, cond, List, [], ◌∷◌, ◌++◌, Some, length, take, map, filter, slice_get, slice_index, inl, inr, refl, ap, sym, ◌∙◌, arith}
 use Rattle.std.proofs.lemmas.Bool.{cases_Bool}
 use Rattle.pt_feasible.specs.declared.stop.Stop.{Stop}
-use Rattle.pt_insertion.specs.Removal.{is_of_another, without_trip, times_at_others, times_without_trip}
+use Rattle.pt_insertion.specs.Removal.{is_of_another, without_trip, times_at_others}
 
 -- the first place is kept, and each later one comes one after its place in the rest
 abbrev pub one_later : (ℕ → ℕ) → ℕ → ℕ

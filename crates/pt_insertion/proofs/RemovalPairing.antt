@@ -1,10 +1,8 @@
 -- A route in pairs stays in pairs when a trip is taken out.
-use Rattle.std.proofs.Common.{◌≡◌, ℕ, ◌<◌, Bool, true, false, not, ◌==◌, ◌&&◌, List, Some, length, filter, slice_get, IsTrue, refl, ap, sym, ◌∙◌, arith}
-use Rattle.std.specs.List.{list_any}
+use Rattle.std.proofs.Common.{◌≡◌, ℕ, true, not, ◌==◌, List, ap, sym, ◌∙◌}
 use Rattle.std.proofs.lemmas.Bool.{and_parts, eqb-true}
 use Rattle.pt_feasible.specs.declared.stop.Stop.{Stop}
-use Rattle.pt_feasible.specs.Pairing.{IsPickupThenDrop, is_partner, IsPaired}
-use Rattle.pt_feasible.specs.Stop.{is_pickup, is_drop}
+use Rattle.pt_feasible.specs.Pairing.{is_partner, IsPaired}
 use Rattle.pt_insertion.specs.Removal.{is_of_another, without_trip}
 use Rattle.pt_insertion.proofs.ListLemmas.{list_any_from, list_any_to}
 use Rattle.pt_insertion.proofs.RemovalLemmas.{old_place, slice_get-filter, filter_keeps, old_place-rises}

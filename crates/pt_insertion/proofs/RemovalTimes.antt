@@ -1,7 +1,7 @@
 -- Service times that fit a route still fit at the stops that stay when a trip is taken out.
-use Rattle.std.proofs.Common.{◌≡◌, ℕ, zero, suc, ◌+◌, ◌-◌, ◌<◌, ◌≤◌, Bool, true, List, [], ◌∷◌, ◌++◌, Option, Some, None, length, map, slice_get, slice_index, IsTrue, IsSomeAnd, refl, ap, sym, subst, ◌∙◌, arith, length-append, add-one}
+use Rattle.std.proofs.Common.{◌≡◌, ℕ, zero, suc, ◌+◌, ◌-◌, ◌<◌, ◌≤◌, List, [], ◌∷◌, ◌++◌, Option, Some, None, length, map, slice_get, slice_index, IsSomeAnd, refl, ap, sym, ◌∙◌, arith, length-append, add-one}
 use Rattle.std.proofs.lemmas.List.{length-map}
-use Rattle.std.proofs.lemmas.Option.{slice_get-get_or, slice_get_within, slice_get-map}
+use Rattle.std.proofs.lemmas.Option.{slice_get-get_or, slice_get_within}
 use Rattle.std.proofs.Math.ListN.{get_or}
 use Rattle.pt_base.specs.declared.minute.TheConstants.{LAST_MINUTE}
 use Rattle.pt_base.specs.declared.vehicle.Vehicle.{Vehicle}
@@ -10,7 +10,7 @@ use Rattle.pt_feasible.specs.declared.visit.Visit.{Visit}
 use Rattle.pt_feasible.specs.Visit.{visits, depot_visit, stop_visit}
 use Rattle.pt_feasible.specs.ServiceTimes.{KeepsTimeWindows, KeepsDrivingTimes, KeepsRideLimits, KeepsRouteDuration, TimesFit}
 use Rattle.pt_insertion.specs.TravelTimes.{KeepsTriangleLaw}
-use Rattle.pt_insertion.specs.Removal.{is_of_another, without_trip, times_at_others, times_without_trip, KeepsFittingTimes}
+use Rattle.pt_insertion.specs.Removal.{is_of_another, without_trip, times_without_trip, KeepsFittingTimes}
 use Rattle.pt_insertion.proofs.ListLemmas.{slice_get-append_right}
 use Rattle.pt_insertion.proofs.RemovalLemmas.{one_later, old_place, slice_get-kept, slice_get-filter, old_place-rises, old_place-end, slice_index-times_at_others, length-times_at_others}
 

@@ -70,16 +70,20 @@ fn place(dice: &mut Dice) -> Result<PlaceId, Fail> {
 }
 
 fn vehicle(dice: &mut Dice, id: u32) -> Result<Vehicle, Fail> {
-    let opens = 300 + dice.throw(100);
-    let closes = opens + 300 + dice.throw(500);
+    let open = 300 + dice.throw(100);
+    let opens = minute(open)?;
+    let closes = minute(open + 300 + dice.throw(500))?;
+    if closes < opens {
+        return Err(Fail::new("closed before it opens"));
+    }
     Ok(Vehicle {
         id: VehicleId::of(id).ok_or("id")?,
         from_day: Day::of(20_000).ok_or("day")?,
         days: Weekdays::all(),
         depot: PlaceId::of(DEPOT).ok_or("depot")?,
         capacity: 3,
-        opens: minute(opens)?,
-        closes: minute(closes.min(1439).max(opens))?,
+        opens,
+        closes,
         duration: (250 + dice.throw(500)) as u16,
     })
 }
@@ -105,10 +109,11 @@ fn route(alloc: Global, dice: &mut Dice, first: u32) -> Result<Route, Fail> {
     let mut stops = Vec::new(alloc);
     let mut riding: Option<Asked> = None;
     let mut about = 330;
-    for trip in first..first + dice.throw(5) {
+    let last = first.saturating_add(dice.throw(5));
+    for trip in first..last {
         let next = asked(dice, trip, about)?;
         stops.push(next.pickup_stop())?;
-        about = (about + 60).min(900);
+        about = about.saturating_add(60).min(900);
         if let Some(other) = riding {
             stops.push(other.drop_stop())?;
         }

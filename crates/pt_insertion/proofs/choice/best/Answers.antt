@@ -31,5 +31,5 @@ returns-clause-least g c =
 pub returns-clause-added : goal.returns-clause-added
 returns-clause-added g c =
     λ k d h i j possible.
-      driving_no_less (g.T.Times.minutes c.args.times.now) _ _ c.args.asked.now i j
-        (g.met.T.Times.triangle c.args.times.now) (g.met.T.Times.within_a_day c.args.times.now) possible
+    driving_no_less (g.T.Times.minutes c.args.times.now) _ _ c.args.asked.now i j
+    (g.met.T.Times.triangle c.args.times.now) (g.met.T.Times.within_a_day c.args.times.now) possible

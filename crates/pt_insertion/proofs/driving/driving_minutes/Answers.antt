@@ -1,5 +1,5 @@
 -- Each step takes the drive to the next stop from what is still to drive.
-use Rattle.std.proofs.Common.{◌≡◌, arith, ap}
+use Rattle.std.proofs.Common.{◌≡◌, arith}
 use Rattle.std.specs.Prelude.{unwrap_or}
 use Rattle.pt_insertion.proofs.DrivingLemmas.{driving_more, driving_home}
 use Rattle.pt_insertion.proofs.driving.driving_minutes.Goals as goal

@@ -1,5 +1,5 @@
 -- The loop has the best of the drops so far.
-use Rattle.std.proofs.Common.{◌<◌, length, arith}
+use Rattle.std.proofs.Common.{arith}
 use Rattle.pt_feasible.specs.Route.{stops_of}
 use Rattle.pt_insertion.proofs.BestLemmas.{no_drops_yet, one_more_drop, all_drops}
 use Rattle.pt_insertion.proofs.places.best_after_pickup.Goals as goal

@@ -1,5 +1,5 @@
 -- The loop has the best of the pickups so far; a route with no room has none.
-use Rattle.std.proofs.Common.{◌<◌, length, arith}
+use Rattle.std.proofs.Common.{arith}
 use Rattle.pt_feasible.specs.Route.{stops_of}
 use Rattle.pt_insertion.proofs.BestLemmas.{no_pickups_yet, one_more_pickup, all_pickups}
 use Rattle.pt_insertion.proofs.places.best_in_route.Goals as goal

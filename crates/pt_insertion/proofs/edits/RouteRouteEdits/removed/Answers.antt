@@ -1,5 +1,5 @@
 -- The loop copies the stops of other trips, which are a route since they are in pairs and no more than there were.
-use Rattle.std.proofs.Common.{◌≡◌, ℕ, ◌+◌, ◌<◌, ◌≤◌, Bool, true, false, not, ◌==◌, ◌&&◌, refl, List, [], ◌∷◌, ◌++◌, Some, length, take, slice_get, vec_len, ap, sym, subst, ◌∙◌, arith, rules, filter, cond}
+use Rattle.std.proofs.Common.{◌≡◌, ℕ, ◌+◌, ◌≤◌, Bool, true, false, not, ◌==◌, ◌&&◌, refl, List, [], ◌∷◌, ◌++◌, Some, length, take, slice_get, ap, sym, subst, ◌∙◌, arith, rules}
 use Rattle.std.proofs.lemmas.List.{take_all}
 use Rattle.std.proofs.lemmas.List.Elements.{filter_more}
 use Rattle.std.proofs.lemmas.Option.{get_or_from_slice_get, slice_get_within}

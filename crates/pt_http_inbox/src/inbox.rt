@@ -1,0 +1,153 @@
+ghost use Rattle.std.specs.Prelude.{◌≡◌, ◌≤◌, ◌<◌, ◌+◌, ◌++◌, ℕ, List, [], Some, None, Ok, true, false, length, drop, IfOk, IfErr, OnErr, IfSome};
+ghost use Rattle.std.specs.Io.KnownBytes.{IsAtEnd, ReadConsumes};
+ghost use Rattle.pt_base.specs.Fault.{fault};
+ghost use Rattle.pt_base.specs.declared.fault.TheConstants.{MEMORY, READ_FAILED};
+ghost use Rattle.pt_http_inbox.specs.Head.{IsHead, HasNoHead};
+ghost use Rattle.pt_http_inbox.specs.Inbox.{held, reader_of, ReadsOn};
+
+use crate::LONGEST_HEAD;
+use crate::head::{Front, front_of};
+use arrayvec::ArrayVec;
+use pt_base::Fault;
+use pt_base::fault::READ_FAILED;
+use std::alloc::{AllocError, Global};
+use std::io::{ErrorKind, Read};
+
+/// How many bytes a body has at most.
+pub const LONGEST_BODY: usize = 16_384;
+
+/// How many reads a request may take.
+pub const MOST_READS: u32 = 65_536;
+
+/// The room for a request.
+const ROOM: usize = LONGEST_HEAD + LONGEST_BODY;
+
+/// How many bytes a read asks for at most.
+const PIECE: usize = 4_096;
+
+/// A reader, and what has come from it and was not yet consumed. It takes memory once, for one whole request.
+#[derive(Drop)]
+pub struct Inbox<R> {
+    reader: R,
+    bytes: Box<ArrayVec<u8, ROOM>>,
+    /// The reads since bytes were last consumed.
+    reads: u32,
+}
+
+impl<R: Read + Drop> Inbox<R> {
+    /// An inbox that holds nothing yet. The error is want of memory.
+    pub fn new(alloc: Global, reader: R) -> Result<Self, Fault>
+        ensures empty { IfOk result (λ inbox. held inbox ≡ []) }
+        ensures reader { IfOk result (λ inbox. reader_of inbox ≡ reader) }
+        ensures memory { IfErr result (λ error. error ≡ fault MEMORY) }
+    {
+        let bytes = Box::new(alloc, ArrayVec::new()).map_err(AllocError::from)?;
+        Ok(Inbox {
+            reader,
+            bytes,
+            reads: 0,
+        })
+    }
+
+    /// The bytes that have come and were not yet consumed.
+    pub fn held(&self) -> &[u8]
+        ensures value { result.now ≡ held self.now }
+        ensures within { length result.now ≤ ROOM }
+    {
+        self.bytes.as_slice()
+    }
+
+    /// Reads once; `false` at the end of the input. The error is a read that failed or was one too many.
+    pub fn read_more(&mut self) -> Result<bool, Fault>
+        requires { length (held self.old) < ROOM }
+        ensures reads { ReadsOn R.remaining self.old self.new }
+        ensures more { result ≡ Ok true → length (held self.old) < length (held self.new) }
+        ensures end { result ≡ Ok false → IsAtEnd (R.remaining (reader_of self.new)) }
+        ensures nothing { result ≡ Ok false → held self.new ≡ held self.old }
+        ensures err { OnErr result (held self.new ≡ held self.old) }
+        ensures fault { IfErr result (λ error. error ≡ fault READ_FAILED) }
+    {
+        let mut piece = [0; PIECE];
+        let room = self.bytes.remaining_capacity().min(PIECE);
+        let count = self.read_piece(&mut piece[..room])?;
+        let _fits = self.bytes.try_extend_from_slice(&piece[..count]);
+        Ok(count > 0)
+    }
+
+    /// Reads once, and again for as long as reads are interrupted.
+    fn read_piece(&mut self, piece: &mut [u8]) -> Result<usize, Fault>
+        ensures bytes { ReadConsumes (R.remaining (reader_of self.old)) (R.remaining (reader_of self.new)) result piece.new }
+        ensures within { IfOk result (λ count. count ≤ length piece.new) }
+        ensures held { held self.new ≡ held self.old }
+        ensures fault { IfErr result (λ error. error ≡ fault READ_FAILED) }
+    {
+        for _ in 0..MOST_READS {
+            if self.reads >= MOST_READS {
+                break;
+            }
+            self.reads += 1;
+            match self.reader.read(piece) {
+                Ok(count) => return Ok(count),
+                Err(error) if error.kind() == ErrorKind::Interrupted => {}
+                Err(_) => break,
+            }
+        }
+        Err(Fault::of(READ_FAILED))
+    }
+
+    /// Reads until a head stands at the front, and tells how many bytes it has; `None` where what comes begins
+    /// with no head. The error is a read that failed or was one too many.
+    pub fn read_head(&mut self) -> Result<Option<usize>, Fault>
+        ensures reads { ReadsOn R.remaining self.old self.new }
+        ensures head { IfOk result (λ found. IfSome found (IsHead (held self.new))) }
+        ensures none { result ≡ Ok None → (more : List ℕ) → R.remaining (reader_of self.new) ≡ Some more
+            → HasNoHead (held self.new ++ more) }
+        ensures fault { IfErr result (λ error. error ≡ fault READ_FAILED) }
+    {
+        for _ in 0..=MOST_READS {
+            match front_of(self.held()) {
+                Front::Head(count) => return Ok(Some(count)),
+                Front::Never => return Ok(None),
+                Front::Open => {
+                    if !self.read_more()? {
+                        return Ok(None);
+                    }
+                }
+            }
+        }
+        Err(Fault::of(READ_FAILED))
+    }
+
+    /// Reads until so many bytes are held; `false` where the input ends before. The error is a read that failed
+    /// or was one too many.
+    pub fn read_up_to(&mut self, count: usize) -> Result<bool, Fault>
+        requires { count ≤ ROOM }
+        ensures reads { ReadsOn R.remaining self.old self.new }
+        ensures enough { result ≡ Ok true → count ≤ length (held self.new) }
+        ensures short { result ≡ Ok false → length (held self.new) < count }
+        ensures end { result ≡ Ok false → IsAtEnd (R.remaining (reader_of self.new)) }
+        ensures fault { IfErr result (λ error. error ≡ fault READ_FAILED) }
+    {
+        for _ in 0..=MOST_READS {
+            if self.bytes.len() >= count {
+                return Ok(true);
+            }
+            if !self.read_more()? {
+                return Ok(false);
+            }
+        }
+        Err(Fault::of(READ_FAILED))
+    }
+
+    /// Lets go of the first so many bytes, and counts reads anew.
+    pub fn consume(&mut self, count: usize)
+        requires { count ≤ length (held self.old) }
+        ensures rest { held self.new ≡ drop count (held self.old) }
+        ensures reader { reader_of self.new ≡ reader_of self.old }
+    {
+        let rest = self.bytes.len() - count;
+        self.bytes.as_mut_slice().rotate_left(count);
+        self.bytes.truncate(rest);
+        self.reads = 0;
+    }
+}

@@ -1,0 +1,3 @@
+pub mod ConditionsLemmas
+pub mod DayLemmas
+pub mod ReplyLemmas

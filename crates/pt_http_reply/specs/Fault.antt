@@ -1,0 +1,48 @@
+-- Bytes that are no request.
+use Rattle.std.specs.Prelude.{ℕ, List, codes}
+use Rattle.pt_http_reply.specs.declared.fault.AllowedMethod.{AllowedMethod}
+use Rattle.pt_http_reply.specs.declared.fault.AllowedMethod.TheVariants.{Get, Post}
+use Rattle.pt_http_reply.specs.declared.fault.FieldName.{FieldName}
+use Rattle.pt_http_reply.specs.declared.fault.FieldName.TheVariants as field
+use Rattle.pt_http_reply.specs.declared.fault.RequestFault.{RequestFault}
+use Rattle.pt_http_reply.specs.declared.fault.RequestFault.TheVariants as fault
+use Rattle.pt_http_reply.specs.declared.status.Status.{Status}
+use Rattle.pt_http_reply.specs.declared.status.Status.TheVariants as status
+
+-- a method as HTTP spells it
+abbrev pub method_name : AllowedMethod → List ℕ
+method_name Get = codes "GET"
+method_name Post = codes "POST"
+
+-- a header or a field of a body as a request spells it
+abbrev pub field_name : FieldName → List ℕ
+field_name field.DeskKey = codes "Desk-Key"
+field_name field.DeskNumber = codes "Desk-Number"
+field_name field.Id = codes "id"
+field_name field.Role = codes "role"
+field_name field.Subject = codes "subject"
+field_name field.Digest = codes "digest"
+field_name field.Kind = codes "kind"
+field_name field.Attendant = codes "attendant"
+field_name field.Entry = codes "entry"
+field_name field.Until = codes "until"
+field_name field.Conditions = codes "conditions"
+field_name field.Reasons = codes "reasons"
+
+-- the name of a fault
+abbrev pub fault_name : RequestFault → List ℕ
+fault_name fault.Head = codes "http.head"
+fault_name fault.Length = codes "http.length"
+fault_name fault.Path = codes "http.path"
+fault_name (fault.Method allowed) = codes "http.method"
+fault_name fault.Json = codes "http.json"
+fault_name (fault.Field name) = codes "http.field"
+
+-- the status of a fault
+abbrev pub status_of_fault : RequestFault → Status
+status_of_fault fault.Head = status.BadRequest
+status_of_fault fault.Length = status.BadRequest
+status_of_fault fault.Path = status.NotFound
+status_of_fault (fault.Method allowed) = status.MethodNotAllowed
+status_of_fault fault.Json = status.BadRequest
+status_of_fault (fault.Field name) = status.BadRequest

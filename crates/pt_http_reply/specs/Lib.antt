@@ -1,0 +1,4 @@
+pub mod Status
+pub mod Fault
+pub mod Body
+pub mod Response

@@ -1,0 +1,49 @@
+-- Replies in bytes, as HTTP/1.1 messages (RFC 9112).
+use Rattle.std.specs.Prelude.{◌≡◌, ℕ, List, [], ◌++◌, length, codes, decimal, Ok, Err}
+use Rattle.pt_base.specs.declared.rule.Rule.TheVariants.{Key}
+use Rattle.pt_desk.specs.declared.request.Answer.TheVariants as answer
+use Rattle.pt_http_reply.specs.Body.{body_of, IsUntil}
+use Rattle.pt_http_reply.specs.Fault.{method_name, status_of_fault}
+use Rattle.pt_http_reply.specs.Status.{status_text, status_of_rule}
+use Rattle.pt_http_reply.specs.declared.fault.RequestFault.TheVariants as fault
+use Rattle.pt_http_reply.specs.declared.response.Response.{Response}
+use Rattle.pt_http_reply.specs.declared.response.Response.TheVariants as response
+use Rattle.pt_http_reply.specs.declared.status.Status.{Status}
+use Rattle.pt_http_reply.specs.declared.status.Status.TheVariants as status
+
+-- the status of a reply
+abbrev pub status_of : Response → Status
+status_of (response.Answered (Ok (answer.Denied rule))) = status_of_rule rule
+status_of (response.Answered (Ok told)) = status.Ok
+status_of (response.Answered (Err failed)) = status.ServiceUnavailable
+status_of (response.Refused refused) = status_of_fault refused
+
+-- a line of a head
+abbrev pub line : List ℕ → List ℕ
+line text = text ++ codes "\r\n"
+
+-- the lines that some replies have: 401 says which key is wanted, 405 which method
+abbrev pub own_lines : Response → List ℕ
+own_lines (response.Answered (Ok (answer.Denied Key))) = line (codes "WWW-Authenticate: Desk-Key")
+own_lines (response.Refused (fault.Method allowed)) = line (codes "Allow: " ++ method_name allowed)
+own_lines _ = []
+
+-- the lines of a head, the empty one last, before a body of so many bytes
+abbrev pub head_text : Response → ℕ → List ℕ
+head_text reply body_length =
+    line (codes "HTTP/1.1 " ++ status_text (status_of reply))
+    ++ line (codes "Content-Type: application/json")
+    ++ line (codes "Content-Length: " ++ decimal body_length)
+    ++ own_lines reply
+    ++ line (codes "Connection: close")
+    ++ line []
+
+-- a reply in bytes, where `until` is the text of a grant's last day
+abbrev pub reply_text : Response → List ℕ → List ℕ
+reply_text reply until = head_text reply (length (body_of reply until)) ++ body_of reply until
+
+-- the bytes are the reply's
+pub record IsReplyText (reply : Response) (bytes : List ℕ) : Type 0 where
+  pub until : List ℕ
+  pub last_day : IsUntil reply until
+  pub text : bytes ≡ reply_text reply until

@@ -1,0 +1,114 @@
+ghost use Rattle.std.specs.Prelude.{◌≡◌, ◌≤◌, length};
+ghost use Rattle.pt_http_reply.specs.Fault.{fault_name, field_name, method_name, status_of_fault};
+
+use crate::Status;
+
+/// A method that a path takes.
+#[derive(Clone, Copy, Debug, PartialEq, Eq)]
+pub enum AllowedMethod {
+    Get,
+    Post,
+}
+
+impl AllowedMethod {
+    /// The method as HTTP spells it.
+    pub fn name(self) -> &'static str
+        ensures value { result.now ≡ method_name self }
+        ensures short { length result.now ≤ 4 }
+    {
+        match self {
+            AllowedMethod::Get => "GET",
+            AllowedMethod::Post => "POST",
+        }
+    }
+}
+
+/// A header, or a field of a body, that a request must have in a given form.
+#[derive(Clone, Copy, Debug, PartialEq, Eq)]
+pub enum FieldName {
+    /// The header with the caller's key.
+    DeskKey,
+    /// The header with the caller's number for the request.
+    DeskNumber,
+    Id,
+    Role,
+    Subject,
+    Digest,
+    Kind,
+    Attendant,
+    Entry,
+    Until,
+    Conditions,
+    Reasons,
+}
+
+impl FieldName {
+    /// The name as a request spells it.
+    pub fn text(self) -> &'static str
+        ensures value { result.now ≡ field_name self }
+        ensures short { length result.now ≤ 11 }
+    {
+        match self {
+            FieldName::DeskKey => "Desk-Key",
+            FieldName::DeskNumber => "Desk-Number",
+            FieldName::Id => "id",
+            FieldName::Role => "role",
+            FieldName::Subject => "subject",
+            FieldName::Digest => "digest",
+            FieldName::Kind => "kind",
+            FieldName::Attendant => "attendant",
+            FieldName::Entry => "entry",
+            FieldName::Until => "until",
+            FieldName::Conditions => "conditions",
+            FieldName::Reasons => "reasons",
+        }
+    }
+}
+
+/// Why bytes are no request that the desk could answer.
+#[derive(Clone, Copy, Debug, PartialEq, Eq)]
+pub enum RequestFault {
+    /// The head cannot be read.
+    Head,
+    /// The body is not of a length that is taken.
+    Length,
+    /// The path is none of the desk's.
+    Path,
+    /// The path takes this method alone.
+    Method(AllowedMethod),
+    /// The body is no JSON object.
+    Json,
+    /// This header or field is missing, of another kind or out of range.
+    Field(FieldName),
+}
+
+impl RequestFault {
+    /// The name that a reply gives.
+    pub fn name(self) -> &'static str
+        ensures value { result.now ≡ fault_name self }
+        ensures short { length result.now ≤ 11 }
+    {
+        match self {
+            RequestFault::Head => "http.head",
+            RequestFault::Length => "http.length",
+            RequestFault::Path => "http.path",
+            RequestFault::Method(_) => "http.method",
+            RequestFault::Json => "http.json",
+            RequestFault::Field(_) => "http.field",
+        }
+    }
+
+    /// The status of the reply that names it.
+    pub fn status(self) -> Status
+        ensures { result ≡ status_of_fault self }
+    {
+        match self {
+            RequestFault::Path => Status::NotFound,
+            RequestFault::Method(_) => Status::MethodNotAllowed,
+            RequestFault::Head
+            | RequestFault::Length
+            | RequestFault::Json
+            | RequestFault::Field(_) => Status::BadRequest,
+        }
+    }
+}

@@ -1,0 +1,104 @@
+ghost use Rattle.std.specs.Prelude.{◌≡◌, ◌≤◌, ◌+◌, ◌++◌, ℕ, List, [], length, codes, decimal};
+ghost use Rattle.pt_http_reply.specs.Body.{body_of, IsUntil};
+ghost use Rattle.pt_http_reply.specs.Response.{IsReplyText, status_of, line, own_lines, head_text};
+ghost use Rattle.pt_http_reply.specs.Status.{status_text};
+ghost use Rattle.pt_http_reply.specs.declared.buffer.TheConstants.{LONGEST_REPLY};
+
+use crate::body::write_body;
+use crate::{ReplyBuffer, RequestFault, Status};
+use itoa::Buffer;
+use pt_base::Rule;
+use pt_desk::{Answer, Reply};
+
+/// What goes out in reply to the bytes that came in.
+#[derive(Debug, Drop)]
+pub enum Response {
+    /// They were a request, which the desk answered.
+    Answered(Reply),
+    /// They were no request.
+    Refused(RequestFault),
+}
+
+impl Response {
+    /// The status that the reply has.
+    pub fn status(&self) -> Status
+        ensures { result ≡ status_of self.now }
+    {
+        match self {
+            Response::Answered(Ok(Answer::Denied(rule))) => Status::of_rule(*rule),
+            Response::Answered(Ok(_)) => Status::Ok,
+            Response::Answered(Err(_)) => Status::ServiceUnavailable,
+            Response::Refused(fault) => fault.status(),
+        }
+    }
+}
+
+/// Puts the bytes of the reply into the buffer, in place of what it had.
+pub fn write_response(response: &Response, out: &mut ReplyBuffer)
+    ensures text { IsReplyText response.now out.new }
+    // No other bytes are the reply.
+    ensures only { (bytes : List ℕ) → IsReplyText response.now bytes → out.new ≡ bytes }
+    ensures within { length out.new ≤ LONGEST_REPLY }
+{
+    let mut body = ReplyBuffer::new();
+    write_body(response, &mut body);
+    out.clear();
+    write_head(response, body.as_slice().len(), out);
+    out.push(body.as_slice());
+}
+
+/// The lines of the head before a body of so many bytes.
+fn write_head(response: &Response, body_length: usize, out: &mut ReplyBuffer)
+    requires empty { out.old ≡ [] }
+    requires short { body_length ≤ 200 }
+    ensures text { out.new ≡ head_text response.now body_length }
+    ensures short { length out.new ≤ 200 }
+{
+    write_status_line(response.status(), out);
+    out.push(b"Content-Type: application/json\r\n");
+    write_length_line(body_length, out);
+    write_own_lines(response, out);
+    out.push(b"Connection: close\r\n");
+    out.push(b"\r\n");
+}
+
+/// The line that begins a reply.
+fn write_status_line(status: Status, out: &mut ReplyBuffer)
+    requires { length out.old ≤ 400 }
+    ensures text { out.new ≡ out.old ++ line (codes "HTTP/1.1 " ++ status_text status) }
+    ensures short { length out.new ≤ length out.old + 35 }
+{
+    out.push(b"HTTP/1.1 ");
+    out.push(status.text().as_bytes());
+    out.push(b"\r\n");
+}
+
+/// The line that tells how long the body is.
+fn write_length_line(body_length: usize, out: &mut ReplyBuffer)
+    requires { length out.old ≤ 400 }
+    ensures text { out.new ≡ out.old ++ line (codes "Content-Length: " ++ decimal body_length) }
+    ensures short { length out.new ≤ length out.old + 58 }
+{
+    out.push(b"Content-Length: ");
+    out.push(Buffer::new().format(body_length).as_bytes());
+    out.push(b"\r\n");
+}
+
+/// The lines that this reply has and others do not.
+fn write_own_lines(response: &Response, out: &mut ReplyBuffer)
+    requires { length out.old ≤ 400 }
+    ensures text { out.new ≡ out.old ++ own_lines response.now }
+    ensures short { length out.new ≤ length out.old + 28 }
+{
+    match response {
+        Response::Answered(Ok(Answer::Denied(Rule::Key))) => {
+            out.push(b"WWW-Authenticate: Desk-Key\r\n");
+        }
+        Response::Refused(RequestFault::Method(allowed)) => {
+            out.push(b"Allow: ");
+            out.push(allowed.name().as_bytes());
+            out.push(b"\r\n");
+        }
+        _ => {}
+    }
+}
