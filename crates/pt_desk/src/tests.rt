@@ -337,3 +337,26 @@ fn a_run_answers_each_call_in_turn(rt: HostRuntime) -> Result<(), Fail> {
     assert_eq!(rt; keeper.failures(), 0);
     Ok(())
 }
+
+#[test]
+fn a_case_file_of_two_hundred_entries_is_full(rt: HostRuntime) -> Result<(), Fail> {
+    let alloc = rt.alloc();
+    let mut keeper = desk_with_an_application(alloc)?;
+    let desk = &mut keeper;
+    let today = "2025-03-10";
+    let complete = enter(7, Entry::Complete)?;
+    let reasons = Reasons::of(b"no reasons".to_vec(alloc)?).ok_or("reasons")?;
+    let refuse = enter(7, Entry::Refuse(reasons))?;
+    for turn in 0..100u32 {
+        let refused = ask(alloc, desk, today, "judge", turn + 1, &refuse)?;
+        assert_eq!(rt; refused, Ok(Answer::Entered(2 * turn + 1)));
+        let completed = ask(alloc, desk, today, "hello", turn + 3, &complete)?;
+        let place = 2 * turn + 2;
+        if place < 200 {
+            assert_eq!(rt; completed, Ok(Answer::Entered(place)));
+        } else {
+            assert_eq!(rt; completed, Ok(Answer::Denied(Rule::Full)));
+        }
+    }
+    Ok(())
+}
