@@ -13,6 +13,8 @@ mod callers;
 mod files;
 mod keeper;
 mod list_keeper;
+#[cfg(test)]
+mod memory_tests;
 mod permission;
 mod request;
 mod riders;

@@ -1,0 +1,28 @@
+-- What was received from some bytes.
+use Rattle.std.specs.Prelude.{◌≡◌, ℕ, List}
+use Rattle.pt_http_reply.specs.declared.response.Response.{Response}
+use Rattle.pt_http_reply.specs.declared.response.Response.TheVariants as response
+use Rattle.pt_http.specs.Exchange.{Desk, AnswersMessage}
+use Rattle.httparse.specs.Grammar.{RequestHead}
+use Rattle.pt_http_request.specs.Messages.{SpellsMessage, IsMessageFault}
+use Rattle.pt_http_request.specs.Targets.{desk_routes}
+use Rattle.pt_http.specs.Message.{BeginsWithMessage, BeginsWithFault}
+use Rattle.pt_http.specs.Parts.{lines_of}
+use Rattle.pt_http.specs.declared.received.Received.{Received}
+use Rattle.pt_http.specs.declared.received.Received.TheVariants as received
+
+-- a head and a body spell this message, or are refused for this fault
+abbrev pub IsSpelledBy : RequestHead → List ℕ → Received → Type 0
+IsSpelledBy head body (received.Message message) = SpellsMessage desk_routes head.method head.target (lines_of head) body message
+IsSpelledBy head body (received.Refused why) = IsMessageFault desk_routes head.method head.target (lines_of head) body why
+
+-- the bytes begin with this message, or what begins them is refused for this fault
+abbrev pub BeginsWith : List ℕ → Received → List ℕ → Type 0
+BeginsWith bytes (received.Message message) rest = BeginsWithMessage bytes message rest
+BeginsWith bytes (received.Refused why) rest = BeginsWithFault bytes why rest
+
+-- the desk's response to what was received: an answer, or the fault, which changes nothing
+abbrev pub Responds : ℕ → ℕ → Received → Desk → Desk → Response → Type 0
+Responds shut today (received.Message message) old new (response.Answered told) = AnswersMessage shut today message old new told
+Responds shut today (received.Refused why) old new (response.Refused named) = (named ≡ why) × (new ≡ old)
+Responds shut today _ old new _ = ⊥

@@ -1,0 +1,53 @@
+-- Rehearsals: messages one after another, each led by a line that gives its moment.
+use Rattle.std.specs.Prelude.{◌≡◌, ◌⊎◌, ℕ, Bool, true, false, List, [], ◌∷◌, ◌++◌}
+use Rattle.pt_base.specs.Fault.{fault}
+use Rattle.pt_base.specs.declared.fault.Fault.{Fault}
+use Rattle.pt_base.specs.declared.fault.TheConstants.{READ_FAILED, WRITE_FAILED, MOMENT_LINE}
+use Rattle.pt_http_inbox.specs.declared.inbox.Inbox.{Inbox}
+use Rattle.pt_http_moment.specs.Moment.{BeginsWithMoment}
+use Rattle.pt_http_reply.specs.Response.{IsReplyText}
+use Rattle.pt_http_reply.specs.declared.fault.RequestFault.TheVariants.{Head, Length}
+use Rattle.pt_http_reply.specs.declared.response.Response.{Response}
+use Rattle.pt_http_reply.specs.declared.response.Response.TheVariants.{Refused}
+use Rattle.pt_http.specs.Exchange.{Desk, Exchanges, IsUnanswered}
+use Rattle.pt_http.specs.Input.{HasInput}
+
+-- a message of a rehearsal: the moment at which it came, the reply, and the reply's bytes
+pub record Exchanged : Type 0 where
+  pub day : ℕ
+  pub minute : ℕ
+  pub reply : Response
+  pub text : List ℕ
+
+-- a rehearsal ends with a head or a length that is not taken: where the next message begins is not known
+abbrev pub is_last : Response → Bool
+is_last (Refused Head) = true
+is_last (Refused Length) = true
+is_last _ = false
+
+-- the bytes begin with this message's moment and then with what it answers, and leave this rest and this state
+pub record IsStep (one : Exchanged) (bytes : List ℕ) (old : Desk) (rest : List ℕ) (new : Desk) : Type 0 where
+  pub after : List ℕ
+  pub moment : BeginsWithMoment bytes one.day one.minute after
+  pub exchanged : Exchanges 0 one.day after old new one.reply rest
+  pub replied : IsReplyText one.reply one.text
+
+-- the desk goes through these messages at the front of the bytes, writes these bytes in reply, and comes to this rest and this state
+abbrev pub Rehearses : List Exchanged → List ℕ → Desk → List ℕ → List ℕ → Desk → Type 0
+Rehearses [] bytes old written rest new = (rest ≡ bytes) × (new ≡ old) × (written ≡ [])
+Rehearses (one ∷ later) bytes old written rest new =
+    (left : List ℕ) × (mid : Desk) × (more : List ℕ) × IsStep one bytes old left mid
+    × (is_last one.reply ≡ true → later ≡ []) × Rehearses later left mid more rest new × (written ≡ one.text ++ more)
+
+-- the input is used up, or the last message ended it
+abbrev pub IsFinished : List Exchanged → List ℕ → Type 0
+IsFinished messages rest =
+    (rest ≡ []) ⊎ ((front : List Exchanged) × (one : Exchanged) × (messages ≡ front ++ one ∷ []) × (is_last one.reply ≡ true))
+
+-- no line with a moment begins the bytes
+abbrev pub HasNoMoment : List ℕ → Type 0
+HasNoMoment bytes = (day minute : ℕ) (rest : List ℕ) → ¬ (BeginsWithMoment bytes day minute rest)
+
+-- what ends a rehearsal before its end: no memory, a read or a write that failed, a bad line, or too many messages
+abbrev pub IsRehearsalFault : Fault → Type 0
+IsRehearsalFault error = IsUnanswered error ⊎ (error ≡ fault WRITE_FAILED) ⊎ (error ≡ fault MOMENT_LINE)

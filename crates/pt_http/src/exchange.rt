@@ -1,0 +1,113 @@
+ghost use Rattle.std.specs.Prelude.{◌≡◌, ◌⊎◌, ℕ, ◌≤◌, List, Err, IfOk, IfErr, OnOk};
+ghost use Rattle.pt_base.specs.Fault.{fault};
+ghost use Rattle.pt_base.specs.declared.fault.TheConstants.{WRITE_FAILED};
+ghost use Rattle.pt_http.specs.Exchange.{Desk, IsExchanged, IsWritten, IsUnanswered};
+ghost use Rattle.pt_http.specs.Input.{HasInput};
+ghost use Rattle.pt_http.specs.Received.{Responds};
+ghost use Rattle.pt_http_reply.specs.Response.{IsReplyText};
+ghost use Rattle.pt_http_reply.specs.declared.response.Response.{Response};
+ghost use Rattle.pt_http_request.specs.Targets.{desk_routes};
+
+use crate::received::{Received, receive};
+use matchit::Router;
+use pt_base::fault::{MEMORY, WRITE_FAILED};
+use pt_base::{Day, Fault, Minute, Rule};
+use pt_desk::{Answer, Keeper, answer};
+use pt_http_inbox::Inbox;
+use pt_http_reply::{ReplyBuffer, Response, write_response};
+use pt_http_request::{Path, desk_router};
+use std::alloc::Global;
+use std::io::{Read, Write};
+
+/// The desk's response to what was received.
+fn respond<K: Keeper>(
+    alloc: Global,
+    keeper: &mut K,
+    now: (Day, Minute),
+    received: &Received,
+) -> Response
+    ensures responds { K.doubt keeper.new ≡ 0
+        → Responds (K.shut keeper.new) now.0 received.now (record { content = K.content keeper.old; failures = K.failures keeper.old }) (record { content = K.content keeper.new; failures = K.failures keeper.new }) result }
+    ensures clean { K.doubt keeper.old ≤ K.doubt keeper.new }
+    ensures serves { K.shut keeper.old ≤ K.shut keeper.new }
+{
+    match received {
+        Received::Refused(fault) => Response::Refused(*fault),
+        Received::Message(message) => match &message.key {
+            Some(key) => {
+                let number = message.number;
+                Response::Answered(answer(alloc, keeper, now, key, number, &message.request))
+            }
+            None => Response::Answered(Ok(Answer::Denied(Rule::Key))),
+        },
+    }
+}
+
+/// Writes a reply, and sees it off. The error is a write that failed.
+fn write_reply<W: Write>(response: &Response, out: &mut W) -> Result<(), Fault>
+    ensures written { OnOk result (IsWritten response.now (W.contents out.old) (W.contents out.new)) }
+    ensures text { (text : List ℕ) × IsReplyText response.now text }
+    ensures fault { IfErr result (λ error. error ≡ fault WRITE_FAILED) }
+{
+    let mut reply = ReplyBuffer::new();
+    write_response(response, &mut reply);
+    if out.write_all(reply.as_slice()).is_err() || out.flush().is_err() {
+        return Err(Fault::of(WRITE_FAILED));
+    }
+    Ok(())
+}
+
+/// Reads one request, answers it and writes the reply, which it tells.
+pub(crate) fn exchange<K: Keeper, R: Read + Drop, W: Write>(
+    alloc: Global,
+    router: &Router<Path>,
+    keeper: &mut K,
+    now: (Day, Minute),
+    inbox: &mut Inbox<R>,
+    out: &mut W,
+) -> Result<Response, Fault>
+    requires { router.now ≡ desk_routes }
+    ensures answered { K.doubt keeper.new ≡ 0 → (input : List ℕ) → HasInput R.remaining inbox.old input
+        → IfOk result (λ reply. IsExchanged R.remaining (K.shut keeper.new) now.0 input (record { content = K.content keeper.old; failures = K.failures keeper.old }) (record { content = K.content keeper.new; failures = K.failures keeper.new }) inbox.new reply) }
+    ensures written { IfOk result (λ reply. IsWritten reply (W.contents out.old) (W.contents out.new)) }
+    ensures unheard { K.doubt keeper.new ≡ 0 → (input : List ℕ) → HasInput R.remaining inbox.old input → result ≡ Err (fault WRITE_FAILED)
+        → (reply : Response) × IsExchanged R.remaining (K.shut keeper.new) now.0 input (record { content = K.content keeper.old; failures = K.failures keeper.old }) (record { content = K.content keeper.new; failures = K.failures keeper.new }) inbox.new reply × ((text : List ℕ) × IsReplyText reply text) }
+    ensures unanswered { IfErr result (λ error. IsUnanswered error → (keeper.new ≡ keeper.old) × (out.new ≡ out.old)) }
+    ensures fault { IfErr result (λ error. IsUnanswered error ⊎ (error ≡ fault WRITE_FAILED)) }
+    ensures clean { K.doubt keeper.old ≤ K.doubt keeper.new }
+    ensures serves { K.shut keeper.old ≤ K.shut keeper.new }
+{
+    let received = receive(alloc, router, inbox)?;
+    let response = respond(alloc, keeper, now, &received);
+    write_reply(&response, out)?;
+    Ok(response)
+}
+
+/// Reads one request, answers it by the rules as of this moment, and writes the reply.
+///
+/// Later bytes stay in the inbox. The error is want of memory, a read that failed or was one too many (then nothing is
+/// changed), or a write that failed (then the request is answered all the same).
+pub fn answer_bytes<K: Keeper, R: Read + Drop, W: Write>(
+    alloc: Global,
+    keeper: &mut K,
+    now: (Day, Minute),
+    inbox: &mut Inbox<R>,
+    out: &mut W,
+) -> Result<(), Fault>
+    ensures answered { K.doubt keeper.new ≡ 0 → (input : List ℕ) → HasInput R.remaining inbox.old input
+        → OnOk result ((reply : Response) × IsExchanged R.remaining (K.shut keeper.new) now.0 input (record { content = K.content keeper.old; failures = K.failures keeper.old }) (record { content = K.content keeper.new; failures = K.failures keeper.new }) inbox.new reply
+        × IsWritten reply (W.contents out.old) (W.contents out.new)) }
+    // The reply was not wholly written, but the request is answered.
+    ensures unheard { K.doubt keeper.new ≡ 0 → (input : List ℕ) → HasInput R.remaining inbox.old input → result ≡ Err (fault WRITE_FAILED)
+        → (reply : Response) × IsExchanged R.remaining (K.shut keeper.new) now.0 input (record { content = K.content keeper.old; failures = K.failures keeper.old }) (record { content = K.content keeper.new; failures = K.failures keeper.new }) inbox.new reply }
+    ensures unanswered { IfErr result (λ error. IsUnanswered error → (keeper.new ≡ keeper.old) × (out.new ≡ out.old)) }
+    ensures fault { IfErr result (λ error. IsUnanswered error ⊎ (error ≡ fault WRITE_FAILED)) }
+    ensures clean { K.doubt keeper.old ≤ K.doubt keeper.new }
+    ensures serves { K.shut keeper.old ≤ K.shut keeper.new }
+{
+    let Ok(router) = desk_router(alloc) else {
+        return Err(Fault::of(MEMORY));
+    };
+    exchange(alloc, &router, keeper, now, inbox, out)?;
+    Ok(())
+}

@@ -1,0 +1,75 @@
+ghost use Rattle.std.specs.Prelude.{◌≡◌, ℕ, List, IfOk, IfErr};
+ghost use Rattle.pt_http.specs.Exchange.{IsUnanswered};
+ghost use Rattle.pt_http.specs.Input.{HasInput};
+ghost use Rattle.httparse.specs.Grammar.{RequestHead};
+ghost use Rattle.pt_base.specs.Fault.{fault};
+ghost use Rattle.pt_base.specs.declared.fault.TheConstants.{MEMORY};
+ghost use Rattle.pt_http.specs.Parts.{IsWholeHead};
+ghost use Rattle.pt_http.specs.Received.{IsSpelledBy, BeginsWith};
+ghost use Rattle.pt_http_request.specs.Targets.{desk_routes};
+
+use crate::parts::{body_length_after, message_in};
+use matchit::Router;
+use pt_base::Fault;
+use pt_base::fault::MEMORY;
+use pt_http_inbox::Inbox;
+use pt_http_reply::RequestFault;
+use pt_http_request::{Message, MessageFault, Path};
+use std::alloc::Global;
+use std::io::Read;
+
+/// What came in.
+#[derive(Debug, Drop)]
+pub(crate) enum Received {
+    /// A message to be answered.
+    Message(Message),
+    /// Bytes that are none.
+    Refused(RequestFault),
+}
+
+/// What a head and its body spell. The error is want of memory.
+fn received_from(
+    alloc: Global,
+    router: &Router<Path>,
+    head: &[u8],
+    body: &[u8],
+) -> Result<Received, Fault>
+    requires { router.now ≡ desk_routes }
+    ensures spelled { (whole : RequestHead) → IsWholeHead head.now whole → IfOk result (IsSpelledBy whole body.now) }
+    ensures memory { IfErr result (λ error. error ≡ fault MEMORY) }
+{
+    match message_in(alloc, router, head, body) {
+        Ok(message) => Ok(Received::Message(message)),
+        Err(MessageFault::Refused(fault)) => Ok(Received::Refused(fault)),
+        Err(MessageFault::Memory) => Err(Fault::of(MEMORY)),
+    }
+}
+
+/// Reads one request and lets go of its bytes. Where its head or its length is not taken, they stay.
+///
+/// The error is want of memory, or a read that failed or was one too many.
+pub(crate) fn receive<R: Read + Drop>(
+    alloc: Global,
+    router: &Router<Path>,
+    inbox: &mut Inbox<R>,
+) -> Result<Received, Fault>
+    requires { router.now ≡ desk_routes }
+    ensures received { (input : List ℕ) → HasInput R.remaining inbox.old input
+        → IfOk result (λ received. (rest : List ℕ) × HasInput R.remaining inbox.new rest × BeginsWith input received rest) }
+    ensures fault { IfErr result IsUnanswered }
+{
+    let Some(head) = inbox.read_head()? else {
+        return Ok(Received::Refused(RequestFault::Head));
+    };
+    let Some(length) = body_length_after(&inbox.held()[..head]) else {
+        return Ok(Received::Refused(RequestFault::Length));
+    };
+    let end = head + length as usize;
+    if !inbox.read_up_to(end)? {
+        return Ok(Received::Refused(RequestFault::Length));
+    }
+    let held = inbox.held();
+    let received = received_from(alloc, router, &held[..head], &held[head..end])?;
+    inbox.consume(end);
+    Ok(received)
+}

@@ -1,0 +1,5 @@
+pub mod ListLemmas
+pub mod NumberLemmas
+pub mod TargetLemmas
+pub mod EntryLemmas
+pub mod MessageLemmas

@@ -1,0 +1,236 @@
+-- The parts of a message spell one message, or have one first fault, and not both.
+use Rattle.std.proofs.Common.{◌≡◌, ℕ, List, Option, Some, refl, ap, sym, subst, inl, inr, ◌∙◌}
+use Rattle.std.specs.Prelude.{codes, Result, Ok, Err, IfOk, IfErr}
+use Rattle.matchit.specs.Router.{RouteOf}
+use Rattle.matchit.specs.Rows.{RowsOf}
+use Rattle.pt_desk.specs.declared.request.Request.{Request}
+use Rattle.pt_desk.specs.declared.request.Request.TheVariants as request
+use Rattle.pt_http_reply.specs.declared.fault.FieldName.{FieldName}
+use Rattle.pt_http_reply.specs.declared.fault.RequestFault.{RequestFault}
+use Rattle.pt_http_reply.specs.declared.fault.RequestFault.TheVariants as fault
+use Rattle.serde_json.specs.Data.{Data}
+use Rattle.pt_http_request.specs.Faults.{OnRefused}
+use Rattle.pt_http_request.specs.Headers.{values_named, IsLengthIn, IsBodyLength, IsNumberIn}
+use Rattle.pt_http_request.specs.Messages.{SpellsObject, SpellsFields, IsFieldFault, SpellsWrite, IsWriteFieldFault, IsWriteFault, SpellsRead, SpellsRequest, IsReadFault, IsPostFault, IsRequestFault, SpellsMessage, IsMessageFault, IsSameMessage, IsMessageRead, IsRefusedFor}
+use Rattle.pt_http_request.specs.Numbers.{SpellsNumber}
+use Rattle.pt_http_request.specs.Targets.{IsTarget, SpellsTarget, path_of}
+use Rattle.pt_http_request.specs.declared.fault.MessageFault.{MessageFault}
+use Rattle.pt_http_request.specs.declared.fault.MessageFault.TheVariants.{Refused, Memory}
+use Rattle.pt_http_request.specs.declared.message.Message.{Message}
+use Rattle.pt_http_request.specs.declared.targets.Path.{Path}
+use Rattle.pt_http_request.specs.declared.targets.Path.TheVariants as path
+use Rattle.pt_http_request.specs.declared.targets.Target.{Target}
+use Rattle.pt_http_request.specs.declared.targets.Target.TheVariants as target
+use Rattle.pt_http_request.proofs.EntryLemmas.{SpellsNumber-unique, SpellsDay-unique, SpellsEntry-unique, entry_or_fault, entry_fault-unique}
+use Rattle.pt_http_request.proofs.ListLemmas.{some-same, value-unique, error-unique, value-or-error}
+use Rattle.pt_http_request.proofs.TargetLemmas.{IsTarget-route}
+
+-- ---- targets
+
+IsTarget-unique : (route : Path) (one two : Option (List ℕ)) (a b : Target) → IsTarget route one two a → IsTarget route one two b → a ≡ b
+IsTarget-unique path.Callers one two target.Callers target.Callers x y = refl
+IsTarget-unique path.Callers one two target.Callers b x y = absurd y
+IsTarget-unique path.Callers one two a b x y = absurd x
+IsTarget-unique path.Riders one two target.Riders target.Riders x y = refl
+IsTarget-unique path.Riders one two target.Riders b x y = absurd y
+IsTarget-unique path.Riders one two a b x y = absurd x
+IsTarget-unique path.Entries (Some rider) two (target.Entries id) (target.Entries other) x y = ap target.Entries (SpellsNumber-unique _ _ rider id other x.0 y.0)
+IsTarget-unique path.Entries (Some rider) two (target.Entries id) b x y = absurd y
+IsTarget-unique path.Entries one two a b x y = absurd x
+IsTarget-unique path.Standing (Some rider) (Some day) (target.Standing id number) (target.Standing other other_number) x y =
+    ap (λ (i : ℕ). target.Standing i number) (SpellsNumber-unique _ _ rider id other x.0.0 y.0.0)
+    ∙ ap (λ (d : ℕ). target.Standing other d) (SpellsDay-unique day number other_number x.1 y.1)
+IsTarget-unique path.Standing (Some rider) (Some day) (target.Standing id number) b x y = absurd y
+IsTarget-unique path.Standing one two a b x y = absurd x
+
+pub SpellsTarget-unique : (routes : RowsOf (RouteOf Path)) (text : List ℕ) (one other : Target) → SpellsTarget routes text one → SpellsTarget routes text other → one ≡ other
+SpellsTarget-unique routes text one other a b =
+    let same : a.route ≡ b.route = some-same _ _ _ a.found b.found in
+    IsTarget-unique b.route.value _ _ one other (IsTarget-route a.route b.route text one same a.names) b.names
+
+-- ---- parts
+
+SpellsObject-unique : (body : List ℕ) (one other : Data) → SpellsObject body one → SpellsObject body other → one ≡ other
+SpellsObject-unique body one other a b = some-same _ _ _ a.1 b.1
+
+IsNumberIn-unique : (lines : List (List ℕ × List ℕ)) (one other : ℕ) → IsNumberIn lines one → IsNumberIn lines other → one ≡ other
+IsNumberIn-unique lines one other a b =
+    let same : a.value ≡ b.value = cc (a.once, b.once) in
+    SpellsNumber-unique _ _ b.value one other (subst (λ (text : List ℕ). SpellsNumber 10 4_294_967_295 text one) same a.spelled) b.spelled
+
+length-unique : (values : List (List ℕ)) (one other : ℕ) → IsLengthIn values one → IsLengthIn values other → one ≡ other
+length-unique values one other (inl a) (inl b) = a.1 ∙ sym b.1
+length-unique values one other (inl a) (inr b) = cc (a.0, b.1)
+length-unique values one other (inr a) (inl b) = cc (a.1, b.0)
+length-unique values one other (inr a) (inr b) =
+    let same : a.0 ≡ b.0 = cc (a.1, b.1) in
+    SpellsNumber-unique _ _ b.0 one other (subst (λ (text : List ℕ). SpellsNumber 16 16_384 text one) same a.2) b.2
+
+-- header lines give one length of the body
+pub body_length_unique : (lines : List (List ℕ × List ℕ)) (one other : ℕ) → IsBodyLength lines one → IsBodyLength lines other → one ≡ other
+body_length_unique lines one other a b = length-unique (values_named (codes "content-length") lines) one other a.1 b.1
+
+SpellsFields-unique : (asked : Target) (body : Data) (one other : Request) → SpellsFields asked body one → SpellsFields asked body other → one ≡ other
+SpellsFields-unique target.Callers body (request.PutCaller one) (request.PutCaller other) a b = ap request.PutCaller (value-unique _ _ _ a b)
+SpellsFields-unique target.Callers body (request.PutCaller one) other a b = absurd b
+SpellsFields-unique target.Callers body one other a b = absurd a
+SpellsFields-unique target.Riders body one other a b = value-unique _ _ _ a b
+SpellsFields-unique (target.Entries id) body (request.Enter rider one) (request.Enter other_rider other) a b =
+    ap (λ (i : ℕ). request.Enter i one) (a.0 ∙ sym b.0) ∙ ap (λ e. request.Enter other_rider e) (SpellsEntry-unique body one other a.1 b.1)
+SpellsFields-unique (target.Entries id) body (request.Enter rider one) other a b = absurd b
+SpellsFields-unique (target.Entries id) body one other a b = absurd a
+SpellsFields-unique (target.Standing id number) body one other a b = a ∙ sym b
+
+fields_or_fault : (asked : Target) (body : Data) (one : Request) (name : FieldName) → SpellsFields asked body one → IsFieldFault asked body name → ⊥
+fields_or_fault target.Callers body (request.PutCaller caller) name a wrong = value-or-error _ _ _ a wrong
+fields_or_fault target.Callers body one name a wrong = absurd a
+fields_or_fault target.Riders body one name a wrong = value-or-error _ _ _ a wrong
+fields_or_fault (target.Entries id) body (request.Enter rider one) name a wrong = entry_or_fault body one name a.1 wrong
+fields_or_fault (target.Entries id) body one name a wrong = absurd a
+fields_or_fault (target.Standing id number) body one name a wrong = absurd wrong
+
+field_fault-unique : (asked : Target) (body : Data) (one other : FieldName) → IsFieldFault asked body one → IsFieldFault asked body other → one ≡ other
+field_fault-unique target.Callers body one other a b = error-unique _ _ _ a b
+field_fault-unique target.Riders body one other a b = error-unique _ _ _ a b
+field_fault-unique (target.Entries id) body one other a b = entry_fault-unique body one other a b
+field_fault-unique (target.Standing id number) body one other a b = absurd a
+
+-- ---- writes
+
+write-unique : (asked : Target) (lines : List (List ℕ × List ℕ)) (body : List ℕ) (one other : Message) → SpellsWrite asked lines body one → SpellsWrite asked lines body other → IsSameMessage one other
+write-unique asked lines body one other a b =
+    let same : a.found ≡ b.found = SpellsObject-unique body _ _ a.json b.json in
+    record {
+      key = value-unique _ _ _ a.key b.key;
+      number = IsNumberIn-unique lines _ _ a.number b.number;
+      request = SpellsFields-unique asked b.found _ _ (subst (λ (found : Data). SpellsFields asked found one.request) same a.request) b.request;
+    }
+
+write_field_or_fault : (asked : Target) (lines : List (List ℕ × List ℕ)) (body : List ℕ) (one : Message) (name : FieldName) → (a : SpellsWrite asked lines body one) → IsWriteFieldFault asked lines a.found name → ⊥
+write_field_or_fault asked lines body one name a (inl key) = value-or-error _ _ _ a.key key
+write_field_or_fault asked lines body one name a (inr (inl number)) = number.2 one.number a.number
+write_field_or_fault asked lines body one name a (inr (inr wrong)) = fields_or_fault asked a.found one.request name a.request wrong.2
+
+write_or_fault : (asked : Target) (lines : List (List ℕ × List ℕ)) (body : List ℕ) (one : Message) (why : RequestFault) → SpellsWrite asked lines body one → IsWriteFault asked lines body why → ⊥
+write_or_fault asked lines body one fault.Json a wrong = wrong a.found a.json
+write_or_fault asked lines body one (fault.Field name) a wrong =
+    let same : wrong.0 ≡ a.found = SpellsObject-unique body _ _ wrong.1 a.json in
+    write_field_or_fault asked lines body one name a (subst (λ (found : Data). IsWriteFieldFault asked lines found name) same wrong.2)
+write_or_fault asked lines body one why a wrong = absurd wrong
+
+write_field_fault-unique : (asked : Target) (lines : List (List ℕ × List ℕ)) (found : Data) (one other : FieldName) → IsWriteFieldFault asked lines found one → IsWriteFieldFault asked lines found other → one ≡ other
+write_field_fault-unique asked lines found one other (inl a) (inl b) = error-unique _ _ _ a b
+write_field_fault-unique asked lines found one other (inl a) (inr (inl b)) = absurd (value-or-error _ _ _ b.0.1 a)
+write_field_fault-unique asked lines found one other (inl a) (inr (inr b)) = absurd (value-or-error _ _ _ b.0.1 a)
+write_field_fault-unique asked lines found one other (inr (inl a)) (inl b) = absurd (value-or-error _ _ _ a.0.1 b)
+write_field_fault-unique asked lines found one other (inr (inl a)) (inr (inl b)) = a.1 ∙ sym b.1
+write_field_fault-unique asked lines found one other (inr (inl a)) (inr (inr b)) = absurd (a.2 b.1.0 b.1.1)
+write_field_fault-unique asked lines found one other (inr (inr a)) (inl b) = absurd (value-or-error _ _ _ a.0.1 b)
+write_field_fault-unique asked lines found one other (inr (inr a)) (inr (inl b)) = absurd (b.2 a.1.0 a.1.1)
+write_field_fault-unique asked lines found one other (inr (inr a)) (inr (inr b)) = field_fault-unique asked found one other a.2 b.2
+
+write_fault-unique : (asked : Target) (lines : List (List ℕ × List ℕ)) (body : List ℕ) (one other : RequestFault) → IsWriteFault asked lines body one → IsWriteFault asked lines body other → one ≡ other
+write_fault-unique asked lines body fault.Json fault.Json a b = refl
+write_fault-unique asked lines body fault.Json (fault.Field other) a b = absurd (a b.0 b.1)
+write_fault-unique asked lines body fault.Json other a b = absurd b
+write_fault-unique asked lines body (fault.Field one) fault.Json a b = absurd (b a.0 a.1)
+write_fault-unique asked lines body (fault.Field one) (fault.Field other) a b =
+    let same : a.0 ≡ b.0 = SpellsObject-unique body _ _ a.1 b.1 in
+    ap fault.Field (write_field_fault-unique asked lines b.0 one other (subst (λ (found : Data). IsWriteFieldFault asked lines found one) same a.2) b.2)
+write_fault-unique asked lines body (fault.Field one) other a b = absurd b
+write_fault-unique asked lines body one other a b = absurd a
+
+post_or_fault : (asked : Target) (method : List ℕ) (lines : List (List ℕ × List ℕ)) (body : List ℕ) (one : Message) (why : RequestFault) → (method ≡ codes "POST") × SpellsWrite asked lines body one → IsPostFault asked method lines body why → ⊥
+post_or_fault asked method lines body one why a (inl wrong) = wrong.1 a.0
+post_or_fault asked method lines body one why a (inr wrong) = write_or_fault asked lines body one why a.1 wrong.1
+
+post_fault-unique : (asked : Target) (method : List ℕ) (lines : List (List ℕ × List ℕ)) (body : List ℕ) (one other : RequestFault) → IsPostFault asked method lines body one → IsPostFault asked method lines body other → one ≡ other
+post_fault-unique asked method lines body one other (inl a) (inl b) = a.0 ∙ sym b.0
+post_fault-unique asked method lines body one other (inl a) (inr b) = absurd (a.1 b.0)
+post_fault-unique asked method lines body one other (inr a) (inl b) = absurd (b.1 a.0)
+post_fault-unique asked method lines body one other (inr a) (inr b) = write_fault-unique asked lines body one other a.1 b.1
+
+-- ---- reads
+
+read-unique : (method : List ℕ) (lines : List (List ℕ × List ℕ)) (asked : Request) (one other : Message) → SpellsRead method lines asked one → SpellsRead method lines asked other → IsSameMessage one other
+read-unique method lines asked one other a b = record {
+  key = value-unique _ _ _ a.key b.key;
+  number = a.number ∙ sym b.number;
+  request = a.request ∙ sym b.request;
+}
+
+read_or_fault : (method : List ℕ) (lines : List (List ℕ × List ℕ)) (asked : Request) (one : Message) (why : RequestFault) → SpellsRead method lines asked one → IsReadFault method lines why → ⊥
+read_or_fault method lines asked one (fault.Method needed) a wrong = wrong.1 a.get
+read_or_fault method lines asked one (fault.Field name) a wrong = value-or-error _ _ _ a.key wrong.1
+read_or_fault method lines asked one why a wrong = absurd wrong
+
+read_fault-unique : (method : List ℕ) (lines : List (List ℕ × List ℕ)) (one other : RequestFault) → IsReadFault method lines one → IsReadFault method lines other → one ≡ other
+read_fault-unique method lines (fault.Method one) (fault.Method other) a b = ap fault.Method (a.0 ∙ sym b.0)
+read_fault-unique method lines (fault.Method one) (fault.Field other) a b = absurd (a.1 b.0)
+read_fault-unique method lines (fault.Method one) other a b = absurd b
+read_fault-unique method lines (fault.Field one) (fault.Method other) a b = absurd (b.1 a.0)
+read_fault-unique method lines (fault.Field one) (fault.Field other) a b = ap fault.Field (error-unique _ _ _ a.1 b.1)
+read_fault-unique method lines (fault.Field one) other a b = absurd b
+read_fault-unique method lines one other a b = absurd a
+
+-- ---- requests
+
+request-unique : (asked : Target) (method : List ℕ) (lines : List (List ℕ × List ℕ)) (body : List ℕ) (one other : Message) → SpellsRequest asked method lines body one → SpellsRequest asked method lines body other → IsSameMessage one other
+request-unique target.Callers method lines body one other a b = write-unique _ lines body one other a.1 b.1
+request-unique target.Riders method lines body one other a b = write-unique _ lines body one other a.1 b.1
+request-unique (target.Entries id) method lines body one other a b = write-unique _ lines body one other a.1 b.1
+request-unique (target.Standing id number) method lines body one other a b = read-unique method lines _ one other a b
+
+request_or_fault : (asked : Target) (method : List ℕ) (lines : List (List ℕ × List ℕ)) (body : List ℕ) (one : Message) (why : RequestFault) → SpellsRequest asked method lines body one → IsRequestFault asked method lines body why → ⊥
+request_or_fault target.Callers method lines body one why a wrong = post_or_fault target.Callers method lines body one why a wrong
+request_or_fault target.Riders method lines body one why a wrong = post_or_fault target.Riders method lines body one why a wrong
+request_or_fault (target.Entries id) method lines body one why a wrong = post_or_fault (target.Entries id) method lines body one why a wrong
+request_or_fault (target.Standing id number) method lines body one why a wrong = read_or_fault method lines _ one why a wrong
+
+request_fault-unique : (asked : Target) (method : List ℕ) (lines : List (List ℕ × List ℕ)) (body : List ℕ) (one other : RequestFault) → IsRequestFault asked method lines body one → IsRequestFault asked method lines body other → one ≡ other
+request_fault-unique target.Callers method lines body one other a b = post_fault-unique target.Callers method lines body one other a b
+request_fault-unique target.Riders method lines body one other a b = post_fault-unique target.Riders method lines body one other a b
+request_fault-unique (target.Entries id) method lines body one other a b = post_fault-unique (target.Entries id) method lines body one other a b
+request_fault-unique (target.Standing id number) method lines body one other a b = read_fault-unique method lines one other a b
+
+-- ---- messages
+
+-- the parts of a message spell one message
+pub message_unique : (routes : RowsOf (RouteOf Path)) (method whole : List ℕ) (lines : List (List ℕ × List ℕ)) (body : List ℕ) (one other : Message) → SpellsMessage routes method whole lines body one → SpellsMessage routes method whole lines body other → IsSameMessage one other
+message_unique routes method whole lines body one other a b =
+    let same : a.asked ≡ b.asked = SpellsTarget-unique routes (path_of whole) _ _ a.path b.path in
+    request-unique b.asked method lines body one other (subst (λ (asked : Target). SpellsRequest asked method lines body one) same a.request) b.request
+
+-- and where they do they have no fault
+pub message_or_fault : (routes : RowsOf (RouteOf Path)) (method whole : List ℕ) (lines : List (List ℕ × List ℕ)) (body : List ℕ) (one : Message) (why : RequestFault) → SpellsMessage routes method whole lines body one → IsMessageFault routes method whole lines body why → ⊥
+message_or_fault routes method whole lines body one why a (inl wrong) = wrong.1 a.asked a.path
+message_or_fault routes method whole lines body one why a (inr wrong) =
+    let same : a.asked ≡ wrong.0 = SpellsTarget-unique routes (path_of whole) _ _ a.path wrong.1 in
+    request_or_fault wrong.0 method lines body one why (subst (λ (asked : Target). SpellsRequest asked method lines body one) same a.request) wrong.2
+
+-- they have one first fault
+pub fault_unique : (routes : RowsOf (RouteOf Path)) (method whole : List ℕ) (lines : List (List ℕ × List ℕ)) (body : List ℕ) (one other : RequestFault) → IsMessageFault routes method whole lines body one → IsMessageFault routes method whole lines body other → one ≡ other
+fault_unique routes method whole lines body one other (inl a) (inl b) = a.0 ∙ sym b.0
+fault_unique routes method whole lines body one other (inl a) (inr b) = absurd (a.1 b.0 b.1)
+fault_unique routes method whole lines body one other (inr a) (inl b) = absurd (b.1 a.0 a.1)
+fault_unique routes method whole lines body one other (inr a) (inr b) =
+    let same : a.0 ≡ b.0 = SpellsTarget-unique routes (path_of whole) _ _ a.1 b.1 in
+    request_fault-unique b.0 method lines body one other (subst (λ (asked : Target). IsRequestFault asked method lines body one) same a.2) b.2
+
+-- ---- what is read
+
+-- a result that says what stands of what the path names says all that stands: the message
+pub message-read : (routes : RowsOf (RouteOf Path)) (method whole : List ℕ) (lines : List (List ℕ × List ℕ)) (body : List ℕ) (asked : Target) (result : Result Message MessageFault) → SpellsTarget routes (path_of whole) asked → IfOk result (SpellsRequest asked method lines body) → IfErr result (OnRefused (IsRequestFault asked method lines body)) → (message : Message) → SpellsMessage routes method whole lines body message → IsMessageRead message result
+message-read routes method whole lines body asked (Ok read) there ok err message spelled =
+    message_unique routes method whole lines body read message (record { asked = asked; path = there; request = ok }) spelled
+message-read routes method whole lines body asked (Err (Refused why)) there ok err message spelled =
+    message_or_fault routes method whole lines body message why spelled (inr (asked, there, err))
+message-read routes method whole lines body asked (Err Memory) there ok err message spelled = tt
+
+-- and the fault
+pub message-refused : (routes : RowsOf (RouteOf Path)) (method whole : List ℕ) (lines : List (List ℕ × List ℕ)) (body : List ℕ) (asked : Target) (result : Result Message MessageFault) → SpellsTarget routes (path_of whole) asked → IfOk result (SpellsRequest asked method lines body) → IfErr result (OnRefused (IsRequestFault asked method lines body)) → (why : RequestFault) → IsMessageFault routes method whole lines body why → IsRefusedFor why result
+message-refused routes method whole lines body asked (Ok read) there ok err why wrong =
+    message_or_fault routes method whole lines body read why (record { asked = asked; path = there; request = ok }) wrong
+message-refused routes method whole lines body asked (Err (Refused given)) there ok err why wrong =
+    fault_unique routes method whole lines body given why (inr (asked, there, err)) wrong
+message-refused routes method whole lines body asked (Err Memory) there ok err why wrong = tt

@@ -1,0 +1,7 @@
+use Rattle.std.proofs.Common.{◌≡◌, map, take}
+use Rattle.serde_json.specs.View.{view}
+use Rattle.pt_http_request.specs.Bodies.{spelling_of}
+use Rattle.pt_http_request.proofs.conditions.conditions_from.Given as goal
+
+abbrev pub invariant-loop-value : goal.invariant-loop-value
+invariant-loop-value l = map view (take l.value-index l.list) ≡ map spelling_of l.members.items

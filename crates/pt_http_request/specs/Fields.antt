@@ -1,0 +1,64 @@
+-- The fields of a JSON object by their names, and what each may hold.
+use Rattle.std.specs.Prelude.{◌≡◌, ℕ, ◌^◌, ◌&&◌, List, Bool, Option, Some, None, Result, Ok, Err, nat_lt, if◌then◌else◌, option_and_then, pos}
+use Rattle.hex.specs.Hex.{decode_sized}
+use Rattle.hex.specs.declared.error.FromHexError.{FromHexError}
+use Rattle.pt_base.specs.DateText.{IsDateText}
+use Rattle.pt_base.specs.Day.{IsDay}
+use Rattle.pt_rights.specs.Reasons.{IsReasons}
+use Rattle.serde_json.specs.Data.{Data}
+use Rattle.serde_json.specs.Find.{get, as_bool, as_number, as_u64, as_str}
+use Rattle.pt_http_reply.specs.declared.fault.FieldName.{FieldName}
+
+-- the whole number that a field holds: an integer that is not negative, written without fraction or exponent
+abbrev pub whole_at : List ℕ → Data → Option ℕ
+whole_at name body = option_and_then as_u64 (option_and_then as_number (get name body))
+
+-- the text that a field holds
+abbrev pub text_at : List ℕ → Data → Option (List ℕ)
+text_at name body = option_and_then as_str (get name body)
+
+-- the truth value that a field holds
+abbrev pub truth_at : List ℕ → Data → Option Bool
+truth_at name body = option_and_then as_bool (get name body)
+
+-- the number, where it may number a record: 1 to 4,294,967,295
+abbrev pub id_from : ℕ → Option ℕ
+id_from number = if nat_lt 0 number && nat_lt number (2 ^ 32) then Some number else None
+
+-- the number of a record that a field holds
+abbrev pub id_at : List ℕ → Data → Option ℕ
+id_at name body = option_and_then id_from (whole_at name body)
+
+-- the value of a result, if there is one
+abbrev pub value_of : {A : Type 0} → Result A FromHexError → Option A
+value_of (Ok value) = Some value
+value_of (Err fault) = None
+
+-- the 32 bytes of a digest, spelled as 64 hexadecimal digits of either case
+abbrev pub digest_from : List ℕ → Option (List ℕ)
+digest_from text = value_of (decode_sized text 32)
+
+-- the text is the day with this number, of the years 2000 to 2099, as `YYYY-MM-DD`
+abbrev pub SpellsDay : List ℕ → ℕ → Type 0
+SpellsDay text day = IsDay day × IsDateText (pos day) text
+
+-- the field holds this day
+pub record IsDayAt (name : List ℕ) (body : Data) (day : ℕ) : Type 0 where
+  pub text : List ℕ
+  pub holds : text_at name body ≡ Some text
+  pub day_of_text : SpellsDay text day
+
+-- the field holds this text of reasons
+abbrev pub AreReasonsAt : List ℕ → Data → List ℕ → Type 0
+AreReasonsAt name body reasons = (text_at name body ≡ Some reasons) × IsReasons reasons
+
+infixl 10 ◌>>=◌
+-- the next field, where the ones before it are as they should be
+abbrev pub ◌>>=◌ : {A B : Type 0} → Result A FieldName → (A → Result B FieldName) → Result B FieldName
+Ok value >>= next = next value
+Err fault >>= next = Err fault
+
+-- the value of a field, or the field as a fault
+abbrev pub needed : {A : Type 0} → Option A → FieldName → Result A FieldName
+needed (Some value) name = Ok value
+needed None name = Err name

@@ -1,0 +1,47 @@
+-- The headers that the desk reads, from the names and values of a message's header lines.
+use Rattle.std.specs.Prelude.{◌≡◌, ◌⊎◌, ◌<◌, ℕ, List, [], ◌∷◌, codes, map, filter, length, bytes_eq, Bool, Option, Some, None, Result, Ok, Err}
+use Rattle.std.specs.Char.{to_ascii_lowercase}
+use Rattle.pt_http_request.specs.Numbers.{SpellsNumber}
+use Rattle.pt_http_reply.specs.declared.fault.FieldName.{FieldName}
+use Rattle.pt_http_reply.specs.declared.fault.FieldName.TheVariants as field
+use Rattle.pt_http_request.specs.declared.headers.Given.{Given}
+use Rattle.pt_http_request.specs.declared.headers.Given.TheVariants as given
+
+-- two names are the same but for the case of letters
+abbrev pub same_name : List ℕ → List ℕ → Bool
+same_name one other = bytes_eq (map to_ascii_lowercase one) (map to_ascii_lowercase other)
+
+-- the values of the lines with this name, in order
+abbrev pub values_named : List ℕ → List (List ℕ × List ℕ) → List (List ℕ)
+values_named name lines = map (λ line. line.1) (filter (λ line. same_name name line.0) lines)
+
+-- what the values of a name come to
+abbrev pub IsGiven : Given → List (List ℕ) → Type 0
+IsGiven given.Missing values = values ≡ []
+IsGiven (given.Once value) values = values ≡ value.now ∷ []
+IsGiven given.Repeated values = 1 < length values
+
+-- the length that the values of Content-Length give: none, for 0, or one of 1 to 16 digits up to 16,384
+abbrev pub IsLengthIn : List (List ℕ) → ℕ → Type 0
+IsLengthIn values number =
+    ((values ≡ []) × (number ≡ 0)) ⊎ ((value : List ℕ) × (values ≡ value ∷ []) × SpellsNumber 16 16_384 value number)
+
+-- the body's length: no Transfer-Encoding, and Content-Length gives it
+abbrev pub IsBodyLength : List (List ℕ × List ℕ) → ℕ → Type 0
+IsBodyLength lines number =
+    (values_named (codes "transfer-encoding") lines ≡ []) × IsLengthIn (values_named (codes "content-length") lines) number
+
+-- the caller's key as the values of its header give it: none, or the bytes of one; two are a fault
+abbrev pub key_from : List (List ℕ) → Result (Option (List ℕ)) FieldName
+key_from [] = Ok None
+key_from (value ∷ []) = Ok (Some value)
+key_from (value ∷ other ∷ values) = Err field.DeskKey
+
+abbrev pub key_in : List (List ℕ × List ℕ) → Result (Option (List ℕ)) FieldName
+key_in lines = key_from (values_named (codes "desk-key") lines)
+
+-- the caller's number for a write: one header of 1 to 10 digits up to 4,294,967,295
+pub record IsNumberIn (lines : List (List ℕ × List ℕ)) (number : ℕ) : Type 0 where
+  pub value : List ℕ
+  pub once : values_named (codes "desk-number") lines ≡ value ∷ []
+  pub spelled : SpellsNumber 10 4_294_967_295 value number

@@ -1,0 +1,7 @@
+pub mod Fields
+pub mod Numbers
+pub mod Faults
+pub mod Bodies
+pub mod Targets
+pub mod Headers
+pub mod Messages

@@ -1,0 +1,141 @@
+-- What a message asks, from the parts of its head and its body.
+use Rattle.std.specs.Prelude.{◌≡◌, ◌≢◌, ◌⊎◌, ℕ, List, [], ◌∷◌, codes, Option, Some, Result, Ok, Err, IsUtf8, IsSome, option_map}
+use Rattle.matchit.specs.Router.{RouteOf}
+use Rattle.matchit.specs.Rows.{RowsOf}
+use Rattle.pt_desk.specs.declared.request.Request.{Request}
+use Rattle.pt_desk.specs.declared.request.Request.TheVariants as request
+use Rattle.pt_http_reply.specs.declared.fault.AllowedMethod.TheVariants as way
+use Rattle.pt_http_reply.specs.declared.fault.FieldName.{FieldName}
+use Rattle.pt_http_reply.specs.declared.fault.FieldName.TheVariants as field
+use Rattle.pt_http_reply.specs.declared.fault.RequestFault.{RequestFault}
+use Rattle.pt_http_reply.specs.declared.fault.RequestFault.TheVariants as fault
+use Rattle.serde_json.specs.Data.{Data}
+use Rattle.serde_json.specs.Find.{as_object}
+use Rattle.serde_json.specs.Read.{read}
+use Rattle.pt_http_request.specs.Bodies.{caller_in, rider_in, SpellsEntry, IsEntryFault}
+use Rattle.pt_http_request.specs.Headers.{key_in, IsNumberIn}
+use Rattle.pt_http_request.specs.declared.fault.MessageFault.{MessageFault}
+use Rattle.pt_http_request.specs.declared.fault.MessageFault.TheVariants.{Refused, Memory}
+use Rattle.pt_http_request.specs.declared.message.Message.{Message}
+use Rattle.pt_http_request.specs.Targets.{SpellsTarget, path_of}
+use Rattle.pt_http_request.specs.declared.targets.Path.{Path}
+use Rattle.pt_http_request.specs.declared.targets.Target.{Target}
+use Rattle.pt_http_request.specs.declared.targets.Target.TheVariants as target
+
+-- the text of a body: an empty body stands for an object without members
+abbrev pub body_text : List ℕ → List ℕ
+body_text [] = codes "{}"
+body_text (byte ∷ bytes) = byte ∷ bytes
+
+-- the body spells this JSON object
+abbrev pub SpellsObject : List ℕ → Data → Type 0
+SpellsObject body found = IsUtf8 (body_text body) × (read (body_text body) ≡ Some found) × IsSome (as_object found)
+
+-- the body spells none
+abbrev pub IsObjectFault : List ℕ → RequestFault → Type 0
+IsObjectFault body fault.Json = (found : Data) → ¬ (SpellsObject body found)
+IsObjectFault body _ = ⊥
+
+-- the fields of the body spell this request to what the path names
+abbrev pub SpellsFields : Target → Data → Request → Type 0
+SpellsFields target.Callers body (request.PutCaller caller) = caller_in body ≡ Ok caller
+SpellsFields target.Riders body asked = rider_in body ≡ Ok asked
+SpellsFields (target.Entries id) body (request.Enter rider entry) = (rider ≡ id) × SpellsEntry body entry
+SpellsFields (target.Standing id number) body asked = asked ≡ request.Standing id number
+SpellsFields _ _ _ = ⊥
+
+-- the field is the first of the body that keeps it from spelling one
+abbrev pub IsFieldFault : Target → Data → FieldName → Type 0
+IsFieldFault target.Callers body name = caller_in body ≡ Err name
+IsFieldFault target.Riders body name = rider_in body ≡ Err name
+IsFieldFault (target.Entries id) body name = IsEntryFault body name
+IsFieldFault (target.Standing id number) body name = ⊥
+
+-- a write as its header lines and its body give it: JSON, key, number, fields
+pub record SpellsWrite (asked : Target) (lines : List (List ℕ × List ℕ)) (body : List ℕ) (message : Message) : Type 0 where
+  pub found : Data
+  pub json : SpellsObject body found
+  pub key : key_in lines ≡ Ok (option_map (λ key. key.items) message.key)
+  pub number : IsNumberIn lines message.number
+  pub request : SpellsFields asked found message.request
+
+-- the field, of the headers or the body, is the first that keeps a write from being one
+abbrev pub IsWriteFieldFault : Target → List (List ℕ × List ℕ) → Data → FieldName → Type 0
+IsWriteFieldFault asked lines found name =
+    (key_in lines ≡ Err name)
+    ⊎ (((key : Option (List ℕ)) × (key_in lines ≡ Ok key)) × (name ≡ field.DeskNumber) × ((number : ℕ) → ¬ (IsNumberIn lines number)))
+    ⊎ (((key : Option (List ℕ)) × (key_in lines ≡ Ok key)) × ((number : ℕ) × IsNumberIn lines number) × IsFieldFault asked found name)
+
+-- the fault is the first that keeps a write from being one
+abbrev pub IsWriteFault : Target → List (List ℕ × List ℕ) → List ℕ → RequestFault → Type 0
+IsWriteFault asked lines body fault.Json = (found : Data) → ¬ (SpellsObject body found)
+IsWriteFault asked lines body (fault.Field name) =
+    (found : Data) × SpellsObject body found × IsWriteFieldFault asked lines found name
+IsWriteFault asked lines body _ = ⊥
+
+-- ---- whole messages
+
+-- a read as its method and header lines give it: key
+pub record SpellsRead (method : List ℕ) (lines : List (List ℕ × List ℕ)) (asked : Request) (message : Message) : Type 0 where
+  pub get : method ≡ codes "GET"
+  pub key : key_in lines ≡ Ok (option_map (λ key. key.items) message.key)
+  pub number : message.number ≡ 0
+  pub request : message.request ≡ asked
+
+-- the message to what its path names
+abbrev pub SpellsRequest : Target → List ℕ → List (List ℕ × List ℕ) → List ℕ → Message → Type 0
+SpellsRequest (target.Standing id number) method lines body message = SpellsRead method lines (request.Standing id number) message
+SpellsRequest target.Callers method lines body message = (method ≡ codes "POST") × SpellsWrite target.Callers lines body message
+SpellsRequest target.Riders method lines body message = (method ≡ codes "POST") × SpellsWrite target.Riders lines body message
+SpellsRequest (target.Entries id) method lines body message = (method ≡ codes "POST") × SpellsWrite (target.Entries id) lines body message
+
+-- the fault is the first that keeps a read from being one
+abbrev pub IsReadFault : List ℕ → List (List ℕ × List ℕ) → RequestFault → Type 0
+IsReadFault method lines (fault.Method needed) = (needed ≡ way.Get) × (method ≢ codes "GET")
+IsReadFault method lines (fault.Field name) = (method ≡ codes "GET") × (key_in lines ≡ Err name)
+IsReadFault method lines _ = ⊥
+
+-- the same of a write, its method included
+abbrev pub IsPostFault : Target → List ℕ → List (List ℕ × List ℕ) → List ℕ → RequestFault → Type 0
+IsPostFault asked method lines body why =
+    ((why ≡ fault.Method way.Post) × (method ≢ codes "POST"))
+    ⊎ ((method ≡ codes "POST") × IsWriteFault asked lines body why)
+
+-- the fault is the first that keeps a message to what its path names from being a request
+abbrev pub IsRequestFault : Target → List ℕ → List (List ℕ × List ℕ) → List ℕ → RequestFault → Type 0
+IsRequestFault (target.Standing id number) method lines body why = IsReadFault method lines why
+IsRequestFault target.Callers method lines body why = IsPostFault target.Callers method lines body why
+IsRequestFault target.Riders method lines body why = IsPostFault target.Riders method lines body why
+IsRequestFault (target.Entries id) method lines body why = IsPostFault (target.Entries id) method lines body why
+
+-- the parts of a message spell this message
+pub record SpellsMessage (routes : RowsOf (RouteOf Path)) (method whole : List ℕ) (lines : List (List ℕ × List ℕ)) (body : List ℕ) (message : Message) : Type 0 where
+  pub asked : Target
+  pub path : SpellsTarget routes (path_of whole) asked
+  pub request : SpellsRequest asked method lines body message
+
+-- the fault is the first that keeps the parts of a message from spelling one
+abbrev pub IsMessageFault : RowsOf (RouteOf Path) → List ℕ → List ℕ → List (List ℕ × List ℕ) → List ℕ → RequestFault → Type 0
+IsMessageFault routes method whole lines body why =
+    ((why ≡ fault.Path) × ((asked : Target) → ¬ (SpellsTarget routes (path_of whole) asked)))
+    ⊎ ((asked : Target) × SpellsTarget routes (path_of whole) asked × IsRequestFault asked method lines body why)
+
+-- ---- what is read
+
+-- the same key, number and request
+pub record IsSameMessage (one other : Message) : Type 0 where
+  pub key : option_map (λ key. key.items) one.key ≡ option_map (λ key. key.items) other.key
+  pub number : one.number ≡ other.number
+  pub request : one.request ≡ other.request
+
+-- what is read is this message, where memory was not wanting
+abbrev pub IsMessageRead : Message → Result Message MessageFault → Type 0
+IsMessageRead message (Ok read) = IsSameMessage read message
+IsMessageRead message (Err (Refused why)) = ⊥
+IsMessageRead message (Err Memory) = Unit {0}
+
+-- it is refused for this fault, where memory was not wanting
+abbrev pub IsRefusedFor : RequestFault → Result Message MessageFault → Type 0
+IsRefusedFor fault (Ok read) = ⊥
+IsRefusedFor fault (Err (Refused why)) = why ≡ fault
+IsRefusedFor fault (Err Memory) = Unit {0}

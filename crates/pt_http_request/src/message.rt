@@ -1,0 +1,179 @@
+ghost use Rattle.std.specs.Prelude.{◌≡◌, codes, map, length, All, IsUtf8, IfOk, IfErr};
+ghost use Rattle.httparse.specs.Spans.{IsHeaderWithin, header_bytes};
+ghost use Rattle.serde_json.specs.View.{view};
+ghost use Rattle.pt_http_request.specs.Faults.{OnField, OnRefused};
+ghost use Rattle.pt_http_request.specs.Messages.{SpellsObject, SpellsFields, IsFieldFault, SpellsWrite, IsWriteFault, IsObjectFault, SpellsRead, IsReadFault, IsPostFault, SpellsRequest, IsRequestFault, SpellsMessage, IsMessageFault, IsMessageRead, IsRefusedFor};
+ghost use Rattle.pt_http_reply.specs.declared.fault.RequestFault.{RequestFault};
+ghost use Rattle.pt_http_request.specs.declared.message.Message.{Message};
+
+use crate::bodies::{caller_of, entry_of, rider_of};
+use crate::fault::MessageFault;
+use crate::headers::{key_of, number_of};
+use crate::targets::{Path, Target, target_at};
+use httparse::spans::HeaderSpan;
+use matchit::Router;
+use pt_desk::Request;
+use pt_http_reply::{AllowedMethod, FieldName, RequestFault};
+use serde_json::Value;
+use std::alloc::Global;
+use std::str;
+
+/// A request with what its headers give.
+#[derive(Debug, Drop)]
+pub struct Message {
+    /// The caller's key, where a header gives one.
+    pub key: Option<Vec<u8>>,
+    /// The caller's number for a write; 0 for a read, which has none.
+    pub number: u32,
+    pub request: Request,
+}
+
+/// The JSON object that a body spells.
+fn object_from(alloc: Global, body: &[u8]) -> Result<Value, MessageFault>
+    ensures found { IfOk result (λ value. SpellsObject body.now (view value)) }
+    ensures fault { IfErr result (OnRefused (IsObjectFault body.now)) }
+{
+    let bytes = if body.is_empty() { b"{}" } else { body };
+    let Ok(text) = str::from_utf8(bytes) else {
+        return Err(MessageFault::Refused(RequestFault::Json));
+    };
+    match Value::from_str(alloc, text) {
+        Ok(value) if value.is_object() => Ok(value),
+        Ok(_) => Err(MessageFault::Refused(RequestFault::Json)),
+        Err(error) if error.is_memory() => Err(MessageFault::Memory),
+        Err(_) => Err(MessageFault::Refused(RequestFault::Json)),
+    }
+}
+
+/// The request to what a path names that the fields of a body spell.
+fn request_from(alloc: Global, target: Target, body: &Value) -> Result<Request, MessageFault>
+    ensures request { IfOk result (SpellsFields target (view body.now)) }
+    ensures fault { IfErr result (OnRefused (OnField (IsFieldFault target (view body.now)))) }
+{
+    match target {
+        Target::Callers => Ok(Request::PutCaller(caller_of(body)?)),
+        Target::Riders => Ok(rider_of(body)?),
+        Target::Entries(rider) => {
+            let entry = entry_of(alloc, body)?;
+            Ok(Request::Enter { rider, entry })
+        }
+        Target::Standing { rider, day } => Ok(Request::Standing { rider, day }),
+    }
+}
+
+/// The write that header lines and a body spell.
+fn write_from(
+    alloc: Global,
+    target: Target,
+    headers: &[HeaderSpan],
+    bytes: &[u8],
+    body: &[u8],
+) -> Result<Message, MessageFault>
+    requires { All (IsHeaderWithin (length bytes.now)) headers.now }
+    ensures write { IfOk result (SpellsWrite target (map (header_bytes bytes.now) headers.now) body.now) }
+    ensures fault { IfErr result (OnRefused (IsWriteFault target (map (header_bytes bytes.now) headers.now) body.now)) }
+{
+    let body = object_from(alloc, body)?;
+    let key = key_of(alloc, headers, bytes)?;
+    let Some(number) = number_of(headers, bytes) else {
+        return Err(MessageFault::Refused(RequestFault::Field(FieldName::DeskNumber)));
+    };
+    let request = request_from(alloc, target, &body)?;
+    Ok(Message {
+        key,
+        number: number as u32,
+        request,
+    })
+}
+
+/// The read that a method and header lines spell.
+fn read_from(
+    alloc: Global,
+    asked: Request,
+    method: &[u8],
+    headers: &[HeaderSpan],
+    bytes: &[u8],
+) -> Result<Message, MessageFault>
+    requires { All (IsHeaderWithin (length bytes.now)) headers.now }
+    ensures read { IfOk result (SpellsRead method.now (map (header_bytes bytes.now) headers.now) asked) }
+    ensures fault { IfErr result (OnRefused (IsReadFault method.now (map (header_bytes bytes.now) headers.now))) }
+{
+    if method != b"GET".as_slice() {
+        return Err(MessageFault::Refused(RequestFault::Method(AllowedMethod::Get)));
+    }
+    let key = key_of(alloc, headers, bytes)?;
+    Ok(Message {
+        key,
+        number: 0,
+        request: asked,
+    })
+}
+
+/// The write that a method, header lines and a body spell.
+fn post_from(
+    alloc: Global,
+    target: Target,
+    method: &[u8],
+    headers: &[HeaderSpan],
+    bytes: &[u8],
+    body: &[u8],
+) -> Result<Message, MessageFault>
+    requires { All (IsHeaderWithin (length bytes.now)) headers.now }
+    ensures write { IfOk result (λ message. (method.now ≡ codes "POST") × SpellsWrite target (map (header_bytes bytes.now) headers.now) body.now message) }
+    ensures fault { IfErr result (OnRefused (IsPostFault target method.now (map (header_bytes bytes.now) headers.now) body.now)) }
+{
+    if method != b"POST".as_slice() {
+        return Err(MessageFault::Refused(RequestFault::Method(AllowedMethod::Post)));
+    }
+    write_from(alloc, target, headers, bytes, body)
+}
+
+/// The message to what a path names that a method, header lines and a body spell.
+fn message_to(
+    alloc: Global,
+    target: Target,
+    method: &[u8],
+    headers: &[HeaderSpan],
+    bytes: &[u8],
+    body: &[u8],
+) -> Result<Message, MessageFault>
+    requires { All (IsHeaderWithin (length bytes.now)) headers.now }
+    ensures message { IfOk result (SpellsRequest target method.now (map (header_bytes bytes.now) headers.now) body.now) }
+    ensures fault { IfErr result (OnRefused (IsRequestFault target method.now (map (header_bytes bytes.now) headers.now) body.now)) }
+{
+    match target {
+        Target::Standing { rider, day } => {
+            let asked = Request::Standing { rider, day };
+            read_from(alloc, asked, method, headers, bytes)
+        }
+        Target::Callers | Target::Riders | Target::Entries(_) => {
+            post_from(alloc, target, method, headers, bytes, body)
+        }
+    }
+}
+
+/// The request that the parts of a message spell: the method and the target of its head, the header lines as spans of
+/// `bytes`, and its body.
+pub fn message_from(
+    alloc: Global,
+    router: &Router<Path>,
+    method: &[u8],
+    target: &[u8],
+    headers: &[HeaderSpan],
+    bytes: &[u8],
+    body: &[u8],
+) -> Result<Message, MessageFault>
+    requires within { All (IsHeaderWithin (length bytes.now)) headers.now }
+    requires text { IsUtf8 target.now }
+    ensures message { IfOk result (SpellsMessage router.now method.now target.now (map (header_bytes bytes.now) headers.now) body.now) }
+    ensures fault { IfErr result (OnRefused (IsMessageFault router.now method.now target.now (map (header_bytes bytes.now) headers.now) body.now)) }
+    ensures spelled { (message : Message) → SpellsMessage router.now method.now target.now (map (header_bytes bytes.now) headers.now) body.now message
+        → IsMessageRead message result }
+    ensures refused { (why : RequestFault) → IsMessageFault router.now method.now target.now (map (header_bytes bytes.now) headers.now) body.now why
+        → IsRefusedFor why result }
+{
+    let Some(asked) = target_at(router, target) else {
+        return Err(MessageFault::Refused(RequestFault::Path));
+    };
+    message_to(alloc, asked, method, headers, bytes, body)
+}

@@ -1,0 +1,30 @@
+ghost use Rattle.std.specs.Prelude.{◌≡◌, ◌≤◌, ℕ, IfSome, IsNone};
+ghost use Rattle.pt_http_request.specs.Numbers.{SpellsNumber, SpellsId};
+
+use pt_base::Id;
+use std::str;
+
+/// The number that one to so many digits spell, where it is at most this.
+pub fn number_from(bytes: &[u8], digits: usize, most: u64) -> Option<u64>
+    ensures spelled { IfSome result (SpellsNumber digits most bytes.now) }
+    ensures none { IsNone result → (number : ℕ) → ¬ (SpellsNumber digits most bytes.now number) }
+{
+    if bytes.is_empty() || bytes.len() > digits || bytes[0] == b'+' {
+        return None;
+    }
+    let text = str::from_utf8(bytes).ok()?;
+    let number = u64::from_str_radix(text, 10).ok()?;
+    if number > most {
+        return None;
+    }
+    Some(number)
+}
+
+/// The number of a record that one to ten digits spell.
+pub(crate) fn id_from<Kind>(text: &str) -> Option<Id<Kind>>
+    ensures spelled { IfSome result (λ id. SpellsId text.now id) }
+    ensures none { IsNone result → (id : ℕ) → ¬ (SpellsId text.now id) }
+{
+    let number = number_from(text.as_bytes(), 10, 4_294_967_295)?;
+    Id::of(number as u32)
+}

@@ -1,0 +1,114 @@
+ghost use Rattle.std.specs.Prelude.{◌≡◌, map, slice_get, IsUtf8, IfOk, IfSome, IsNone};
+ghost use Rattle.std.specs.Option.{option_copied};
+ghost use Rattle.pt_http_request.specs.Targets.{desk_routes, AreTexts, IsTarget, SpellsTarget, path_of};
+ghost use Rattle.pt_http_request.specs.declared.targets.Target.{Target};
+
+use crate::fields::day_from;
+use crate::numbers::id_from;
+use matchit::{InsertError, ParamsIter, Router};
+use pt_base::{Day, RiderId};
+use std::alloc::Global;
+use std::str;
+
+/// A route of the desk.
+#[derive(Clone, Copy, Debug, PartialEq, Eq)]
+pub enum Path {
+    Callers,
+    Riders,
+    Entries,
+    Standing,
+}
+
+/// What the path of a request names.
+#[derive(Clone, Copy, Debug, PartialEq, Eq)]
+pub enum Target {
+    /// The callers of the desk.
+    Callers,
+    /// The records of riders.
+    Riders,
+    /// A rider's case file.
+    Entries(RiderId),
+    /// A rider's standing on a day.
+    Standing { rider: RiderId, day: Day },
+}
+
+/// A router over the paths of the desk.
+pub fn desk_router(alloc: Global) -> Result<Router<Path>, InsertError>
+    ensures { IfOk result (λ router. router ≡ desk_routes) }
+{
+    let mut router = Router::new(alloc);
+    router.insert("/callers", Path::Callers)?;
+    router.insert("/riders", Path::Riders)?;
+    router.insert("/riders/{rider}/entries", Path::Entries)?;
+    router.insert("/riders/{rider}/standing/{day}", Path::Standing)?;
+    Ok(router)
+}
+
+/// The first two parts of a path that parameters took.
+fn first_two<'v>(mut params: ParamsIter<'_, '_, 'v>) -> (Option<&'v str>, Option<&'v str>)
+    ensures one { AreTexts params.entry → option_copied result.0 ≡ slice_get (map (λ part. part.1) params.entry) 0 }
+    ensures two { AreTexts params.entry → option_copied result.1 ≡ slice_get (map (λ part. part.1) params.entry) 1 }
+{
+    let Some((_, one)) = params.next() else {
+        return (None, None);
+    };
+    let Some((_, two)) = params.next() else {
+        return (Some(one), None);
+    };
+    (Some(one), Some(two))
+}
+
+/// What a route names by the first two parts of its path.
+fn target_from(path: Path, one: Option<&str>, two: Option<&str>) -> Option<Target>
+    ensures target { IfSome result (IsTarget path (option_copied one.entry) (option_copied two.entry)) }
+    ensures none { IsNone result → (asked : Target)
+        → ¬ (IsTarget path (option_copied one.entry) (option_copied two.entry) asked) }
+{
+    match path {
+        Path::Callers => Some(Target::Callers),
+        Path::Riders => Some(Target::Riders),
+        Path::Entries => Some(Target::Entries(id_from(one?)?)),
+        Path::Standing => {
+            let rider = id_from(one?)?;
+            let day = day_from(two?)?;
+            Some(Target::Standing { rider, day })
+        }
+    }
+}
+
+/// What a path names by these routes.
+fn target_of(router: &Router<Path>, path: &str) -> Option<Target>
+    ensures target { IfSome result (SpellsTarget router.now path.now) }
+    ensures none { IsNone result → (asked : Target) → ¬ (SpellsTarget router.now path.now asked) }
+{
+    if !path.is_ascii() {
+        return None;
+    }
+    let Ok(found) = router.at(path) else {
+        return None;
+    };
+    let (one, two) = first_two(found.params.iter());
+    target_from(*found.value, one, two)
+}
+
+/// What stands before the first `?`.
+fn path_from(whole: &str) -> &str
+    ensures { result.now ≡ path_of whole.now }
+{
+    match whole.split_once('?') {
+        Some((path, _)) => path,
+        None => whole,
+    }
+}
+
+/// What the target of a request names by these routes, by what stands before its first `?`.
+pub(crate) fn target_at(router: &Router<Path>, whole: &[u8]) -> Option<Target>
+    requires { IsUtf8 whole.now }
+    ensures target { IfSome result (SpellsTarget router.now (path_of whole.now)) }
+    ensures none { IsNone result → (asked : Target) → ¬ (SpellsTarget router.now (path_of whole.now) asked) }
+{
+    match str::from_utf8(whole) {
+        Ok(text) => target_of(router, path_from(text)),
+        Err(_) => None,
+    }
+}
