@@ -7,7 +7,7 @@ use Rattle.jiff_core.specs.declared.civil.date.Date.{Date}
 use Rattle.jiff_core.proofs.CalendarLemmas.{days_from_civil-day_count, day_count-lt_year, day_count-epoch}
 use Rattle.jiff_core.proofs.DateLemmas.{civil, epoch_day_injective, epoch_day_same}
 use Rattle.jiff_fmt.specs.Text.{pad2, year_text, date_text}
-use Rattle.pt_base.specs.DateText.{IsDateText, text_of}
+use Rattle.pt_base.specs.DateText.{IsDateText, IsInMonth, text_of}
 use Rattle.pt_base.proofs.DateTextLemmas.{date_text-text_of, pos-unsigned_abs}
 
 year_from : (y : ℤ) (m d n : ℕ) → IsCivilDate y m d → days_from_civil y m d ≡ pos n → pos 0 ≤ℤ y
@@ -56,3 +56,7 @@ IsDateText-day date text number spelled four is =
     let numbers = text_of_injective _ _ _ _ _ _ texts in
     let years : date.year ≡ is.date.year = sym (pos-unsigned_abs date.year four) ∙ ap pos numbers.0 ∙ pos-unsigned_abs is.date.year is.four_digits in
     epoch_day_same date is.date years numbers.1 numbers.2 ∙ is.day
+
+-- a day is in one month
+pub IsInMonth-month : (number : ℤ) (a b : ℕ) → IsInMonth number a → IsInMonth number b → a ≡ b
+IsInMonth-month number a b p q = sym p.has_month ∙ (epoch_day_injective p.date q.date (p.day ∙ sym q.day)).1 ∙ q.has_month

@@ -1,4 +1,4 @@
-ghost use Rattle.std.specs.Prelude.{◌≡◌, ◌≤◌, ◌↔◌, IsTrue, IsOk, IfOk, All};
+ghost use Rattle.std.specs.Prelude.{◌≡◌, ◌≤◌, ◌↔◌, IsTrue, IsOk, IfOk, MatchResult, All};
 ghost use Rattle.pt_base.specs.Place.{IsCoordinate, IsOnPlane};
 ghost use Rattle.pt_base.specs.declared.fault.Fault.{Fault};
 ghost use Rattle.pt_corridor.specs.Route.{route_of, IsFixedRoute, IsFirst, faults, HasPoints, HasWidth, IsRouteOnPlane};
@@ -150,7 +150,10 @@ impl FixedRoute {
 impl Clone for FixedRoute {
     ghost is_clone = { λ route copy. copy ≡ route };
 
-    fn clone(&self) -> Result<Self, AllocError> {
+    fn clone(&self) -> Result<Self, AllocError>
+        ensures cases { MatchResult result (λ copy. copy ≡ self.now) (λ _. ¬ ⊥) }
+        ensures made { IsFixedRoute self.now }
+    {
         Ok(FixedRoute {
             points: self.points.clone()?,
             ..*self

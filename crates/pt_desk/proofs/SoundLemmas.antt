@@ -4,14 +4,17 @@ use Rattle.std.specs.Prelude.{find, bytes_eq}
 use Rattle.std.proofs.lemmas.Bool.{cases_order}
 use Rattle.std.proofs.lemmas.Bool.Decides.{nat_tests}
 use Rattle.std.proofs.lemmas.Slice.Eq.{bytes_eq-Decides}
+use Rattle.pt_base.specs.declared.place.Place.{Place}
+use Rattle.pt_base.specs.declared.policy.Policy.{Policy}
 use Rattle.pt_base.specs.declared.rule.Rule.{Rule}
 use Rattle.pt_base.specs.declared.rider.Rider.{Rider}
+use Rattle.pt_corridor.specs.Route.{Route}
 use Rattle.pt_rights.specs.Rules.{first_failing}
 use Rattle.pt_rights.specs.Admission.{is_resident}
 use Rattle.pt_rights.specs.declared.case_file.TheConstants.{MOST_ENTRIES}
-use Rattle.pt_desk.specs.Records.{put, record_at, Each, IsInOrder}
+use Rattle.pt_desk.specs.Records.{put, record_at, Each, IsInOrder, IsTable}
 use Rattle.pt_desk.specs.State.{State, caller_with, file_of, file_in, caller_key, kept_key, rider_key, file_key, put_entry}
-use Rattle.pt_desk.specs.Sound.{IsSound, HasOneHolder, IsResidentIn, IsSoundFile}
+use Rattle.pt_desk.specs.Sound.{IsSound, AreSoundSettings, HasOneHolder, IsResidentIn, IsSoundFile}
 use Rattle.pt_desk.specs.Denial.{subject_is_there, is_nobody_else}
 use Rattle.pt_desk.specs.Step.{numbered}
 use Rattle.pt_desk.specs.declared.caller.Caller.{Caller}
@@ -57,6 +60,16 @@ within_limit key new xs most order within room = elim (or_cases (is_some (record
   | inl there ↦ omega (arith, length-put_there key new xs order there)
   | inr below ↦ omega (arith, length-put key new xs, below_is (length xs) most below)
 ]
+
+-- a table stays one where there is room
+pub IsTable-put : {A : Type 0} (key : A → ℕ) (new : A) (xs : List A) (most : ℕ) → IsTable key most xs → IsTrue (is_some (record_at key (key new) xs) || nat_lt (length xs) most) → IsTable key most (put key new xs)
+IsTable-put key new xs most table room =
+    record { in_order = IsInOrder-put key new xs table.in_order; within = within_limit key new xs most table.in_order table.within room }
+
+-- the same of a record that is new
+pub IsTable-add : {A : Type 0} (key : A → ℕ) (new : A) (xs : List A) (most : ℕ) → IsTable key most xs → IsTrue (nat_lt (length xs) most) → IsTable key most (put key new xs)
+IsTable-add key new xs most table room =
+    record { in_order = IsInOrder-put key new xs table.in_order; within = omega (arith, length-put key new xs, below_is (length xs) most room, table.within) }
 
 found_cases : {A : Type 0} (b : Bool) (y x : A) (rest : Option A) → cond b (Some y) rest ≡ Some x → (y ≡ x) ⊎ (rest ≡ Some x)
 found_cases true y x rest is = inl (cc)
@@ -125,16 +138,31 @@ pub put_caller_sound : (s : State) (new : Caller) → IsSound s → IsTrue (subj
 put_caller_sound s new sound subject free room =
     let s' : State = record s { callers = put caller_key new s.callers } in
     record {
-      callers_in_order = IsInOrder-put caller_key new s.callers sound.callers_in_order;
-      callers_within = within_limit caller_key new s.callers MOST_CALLERS sound.callers_in_order sound.callers_within room;
+      callers = IsTable-put caller_key new s.callers MOST_CALLERS sound.callers room;
       one_holder_each = one_holder-put new s.callers sound.one_holder_each (holders_are new s.callers sound.one_holder_each free);
       subjects_there = Each-put (λ caller. IsTrue (subject_is_there caller.role s')) caller_key new s.callers
           (Each-weaker (λ caller. IsTrue (subject_is_there caller.role s)) (λ caller. IsTrue (subject_is_there caller.role s')) (λ caller there. subject_by_riders caller.role s s' refl there) s.callers sound.subjects_there)
           (subject_by_riders new.role s s' refl subject);
       kept_in_order = sound.kept_in_order;
       kept_of_callers = Each-weaker (λ kept. IsTrue (is_some (record_at caller_key kept.caller s.callers))) (λ kept. IsTrue (is_some (record_at caller_key kept.caller (put caller_key new s.callers)))) (λ kept there. stays_there caller_key kept.caller new s.callers there) s.kept sound.kept_of_callers;
-      riders_in_order = sound.riders_in_order;
-      riders_within = sound.riders_within;
+      settings = sound.settings;
+      riders = sound.riders;
+      files_in_order = sound.files_in_order;
+      files_sound = sound.files_sound;
+    }
+
+-- replacing the settings
+pub settings_sound : (s : State) (policy : Policy) (places : List Place) (routes : List Route) → IsSound s → AreSoundSettings places routes → IsSound (record s { policy = policy; places = places; routes = routes })
+settings_sound s policy places routes sound settings =
+    let s' : State = record s { policy = policy; places = places; routes = routes } in
+    record {
+      callers = sound.callers;
+      one_holder_each = sound.one_holder_each;
+      subjects_there = Each-weaker (λ caller. IsTrue (subject_is_there caller.role s)) (λ caller. IsTrue (subject_is_there caller.role s')) (λ caller there. subject_by_riders caller.role s s' refl there) s.callers sound.subjects_there;
+      kept_in_order = sound.kept_in_order;
+      kept_of_callers = sound.kept_of_callers;
+      settings = settings;
+      riders = sound.riders;
       files_in_order = sound.files_in_order;
       files_sound = sound.files_sound;
     }
@@ -144,14 +172,13 @@ pub numbered_sound : (me : Caller) (number : ℕ) (s : State) → IsSound s → 
 numbered_sound me number s sound there =
     let s' : State = numbered me number s in
     record {
-      callers_in_order = sound.callers_in_order;
-      callers_within = sound.callers_within;
+      callers = sound.callers;
       one_holder_each = sound.one_holder_each;
       subjects_there = Each-weaker (λ caller. IsTrue (subject_is_there caller.role s)) (λ caller. IsTrue (subject_is_there caller.role s')) (λ caller there. subject_by_riders caller.role s s' refl there) s.callers sound.subjects_there;
       kept_in_order = IsInOrder-put kept_key (record { caller = me.id; number = number }) s.kept sound.kept_in_order;
       kept_of_callers = Each-put (λ kept. IsTrue (is_some (record_at caller_key kept.caller s.callers))) kept_key (record { caller = me.id; number = number }) s.kept sound.kept_of_callers there;
-      riders_in_order = sound.riders_in_order;
-      riders_within = sound.riders_within;
+      settings = sound.settings;
+      riders = sound.riders;
       files_in_order = sound.files_in_order;
       files_sound = sound.files_sound;
     }
@@ -169,14 +196,13 @@ pub put_rider_sound : (s : State) (new : Rider) → IsSound s → IsTrue (is_res
 put_rider_sound s new sound resident room =
     let s' : State = record s { riders = put rider_key new s.riders } in
     record {
-      callers_in_order = sound.callers_in_order;
-      callers_within = sound.callers_within;
+      callers = sound.callers;
       one_holder_each = sound.one_holder_each;
       subjects_there = Each-weaker (λ caller. IsTrue (subject_is_there caller.role s)) (λ caller. IsTrue (subject_is_there caller.role s')) (λ caller there. subject_stays caller.role s new there) s.callers sound.subjects_there;
       kept_in_order = sound.kept_in_order;
       kept_of_callers = sound.kept_of_callers;
-      riders_in_order = IsInOrder-put rider_key new s.riders sound.riders_in_order;
-      riders_within = within_limit rider_key new s.riders MOST_RIDERS sound.riders_in_order sound.riders_within room;
+      settings = sound.settings;
+      riders = IsTable-put rider_key new s.riders MOST_RIDERS sound.riders room;
       files_in_order = sound.files_in_order;
       files_sound = Each-weaker (IsSoundFile s.riders) (IsSoundFile (put rider_key new s.riders)) (λ kept is. record { resident = resident_stays s.riders new kept.rider resident is.resident; begun = is.begun; within = is.within }) s.files sound.files_sound;
     }
@@ -188,14 +214,13 @@ put_entry_sound s new sound resident room =
     let filed : RiderFile = record { rider = new.rider; file = file_in new.rider s.files ++ new.entered ∷ [] } in
     let longer : length (file_in new.rider s.files ++ new.entered ∷ []) ≡ length (file_in new.rider s.files) + 1 = length-append (file_in new.rider s.files) (new.entered ∷ []) in
     record {
-      callers_in_order = sound.callers_in_order;
-      callers_within = sound.callers_within;
+      callers = sound.callers;
       one_holder_each = sound.one_holder_each;
       subjects_there = Each-weaker (λ caller. IsTrue (subject_is_there caller.role s)) (λ caller. IsTrue (subject_is_there caller.role s')) (λ caller there. subject_by_riders caller.role s s' refl there) s.callers sound.subjects_there;
       kept_in_order = sound.kept_in_order;
       kept_of_callers = sound.kept_of_callers;
-      riders_in_order = sound.riders_in_order;
-      riders_within = sound.riders_within;
+      settings = sound.settings;
+      riders = sound.riders;
       files_in_order = IsInOrder-put file_key filed s.files sound.files_in_order;
       files_sound = Each-put (IsSoundFile s.riders) file_key filed s.files sound.files_sound (record { resident = resident; begun = omega arith; within = omega arith });
     }

@@ -1,18 +1,18 @@
 -- The rules by which a request is denied, in the order in which they are tried.
-use Rattle.std.specs.Prelude.{ℕ, Bool, true, false, ◌==◌, ◌||◌, nat_lt, List, [], ◌∷◌, length, Option, Some, None, is_some}
+use Rattle.std.specs.Prelude.{ℕ, Bool, true, false, ◌==◌, ◌||◌, nat_lt, List, [], ◌∷◌, length, Option, Some, None, is_some, is_none}
 use Rattle.pt_base.specs.declared.rule.Rule.{Rule}
 use Rattle.pt_base.specs.declared.rule.Rule.TheVariants as rule
 use Rattle.pt_base.specs.declared.rider.Rider.{Rider}
 use Rattle.pt_rights.specs.Admission.{admission_rules}
 use Rattle.pt_rights.specs.declared.case_file.TheConstants.{MOST_ENTRIES}
 use Rattle.pt_rights.specs.declared.entry.Entry.{Entry}
-use Rattle.pt_desk.specs.State.{State, caller_with, caller_of, kept_of, rider_of, file_of}
+use Rattle.pt_desk.specs.State.{State, caller_with, caller_of, kept_of, place_of, route_of, rider_of, file_of}
 use Rattle.pt_desk.specs.Permission.{is_allowed}
 use Rattle.pt_desk.specs.declared.caller.Caller.{Caller}
 use Rattle.pt_desk.specs.declared.caller.Kept.{Kept}
 use Rattle.pt_desk.specs.declared.caller.Role.{Role}
 use Rattle.pt_desk.specs.declared.caller.Role.TheVariants as role
-use Rattle.pt_desk.specs.declared.keeper.TheConstants.{MOST_CALLERS, MOST_RIDERS}
+use Rattle.pt_desk.specs.declared.keeper.TheConstants.{MOST_CALLERS, MOST_PLACES, MOST_ROUTES, MOST_RIDERS}
 use Rattle.pt_desk.specs.declared.request.Request.{Request}
 use Rattle.pt_desk.specs.declared.request.Request.TheVariants as request
 
@@ -35,6 +35,9 @@ subject_is_there _ s = true
 -- desk.unknown: each record that the request names is there
 abbrev pub names_what_is_there : Request → State → Bool
 names_what_is_there (request.PutCaller new) s = subject_is_there new.role s
+names_what_is_there (request.PutPolicy new) s = true
+names_what_is_there (request.PutPlace new) s = true
+names_what_is_there (request.PutRoute new) s = true
 names_what_is_there (request.PutRider rider attendant) s = true
 names_what_is_there (request.Enter rider entry) s = is_some (rider_of rider s)
 names_what_is_there (request.Standing rider day) s = is_some (rider_of rider s)
@@ -44,14 +47,18 @@ abbrev pub is_nobody_else : ℕ → Option Caller → Bool
 is_nobody_else id None = true
 is_nobody_else id (Some there) = there.id == id
 
--- desk.exists: no other caller has the digest
+-- desk.exists: no other caller has the digest, and no place has the number
 abbrev pub is_free : Request → State → Bool
 is_free (request.PutCaller new) s = is_nobody_else new.id (caller_with new.digest s)
+is_free (request.PutPlace new) s = is_none (place_of new.id s)
 is_free _ s = true
 
 -- desk.full: the record is there already, or its table has room for one more
 abbrev pub has_room : Request → State → Bool
 has_room (request.PutCaller new) s = is_some (caller_of new.id s) || nat_lt (length s.callers) MOST_CALLERS
+has_room (request.PutPolicy new) s = true
+has_room (request.PutPlace new) s = nat_lt (length s.places) MOST_PLACES
+has_room (request.PutRoute new) s = is_some (route_of new.id s) || nat_lt (length s.routes) MOST_ROUTES
 has_room (request.PutRider rider attendant) s = is_some (rider_of rider s) || nat_lt (length s.riders) MOST_RIDERS
 has_room (request.Enter rider entry) s = nat_lt (length (file_of rider s)) MOST_ENTRIES
 has_room (request.Standing rider day) s = true

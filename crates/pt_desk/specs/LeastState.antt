@@ -21,5 +21,7 @@ pub record IsLeastState (admin_key : List ℕ) (s : State) : Type 0 where
   pub callers : s.callers ≡ record { id = 1; role = Admin; digest = sha256 admin_key } ∷ []
   pub kept : s.kept ≡ []
   pub policy : IsLeastPolicy s.policy
+  pub places : s.places ≡ []
+  pub routes : s.routes ≡ []
   pub riders : s.riders ≡ []
   pub files : s.files ≡ []

@@ -1,5 +1,5 @@
 -- What the calls of a keeper leave.
-use Rattle.std.specs.Prelude.{◌≡◌, ◌≤◌, ◌<◌, ℕ, Result, Ok, Err}
+use Rattle.std.specs.Prelude.{◌≡◌, ◌≤◌, ◌<◌, ℕ, List, Vec, Result, Ok, Err}
 use Rattle.pt_desk.specs.State.{State}
 use Rattle.pt_desk.specs.declared.keeper.StoreFault.{StoreFault}
 use Rattle.pt_desk.specs.declared.keeper.StoreFault.TheVariants.{Memory, Store}
@@ -27,3 +27,8 @@ abbrev pub Writes : ℕ → State → State → State → Result (Unit {0}) Stor
 Writes shut old new changed (Ok x) = new ≡ changed
 Writes shut old new changed (Err Memory) = shut ≡ 0 → new ≡ old
 Writes shut old new changed (Err Store) = Unit {0}
+
+-- what was read, as a list
+abbrev pub items_of : {X A : Type 0} → Result (Vec X A) StoreFault → Result (List X) StoreFault
+items_of (Ok read) = Ok read.items
+items_of (Err fault) = Err fault

@@ -40,6 +40,9 @@ may_enter (entry.Refuse reasons) = is_examiner
 -- a caller of this role may make this request
 abbrev pub is_allowed : Request → State → Role → Bool
 is_allowed (request.PutCaller new) s = is_admin
+is_allowed (request.PutPolicy new) s = is_admin
+is_allowed (request.PutPlace new) s = is_admin
+is_allowed (request.PutRoute new) s = is_admin
 is_allowed (request.PutRider rider attendant) s = is_clerk
 is_allowed (request.Enter rider entry) s = may_enter entry
 is_allowed (request.Standing rider day) s = may_see_standing rider s

@@ -1,5 +1,5 @@
 -- Lists of records in order of a number, their key.
-use Rattle.std.specs.Prelude.{ℕ, ◌<◌, ◌==◌, List, [], ◌∷◌, find, Option, Some, None}
+use Rattle.std.specs.Prelude.{ℕ, ◌<◌, ◌≤◌, ◌==◌, List, [], ◌∷◌, length, find, Option, Some, None}
 use Rattle.std.specs.Ordering.{nat_cmp, match_ordering}
 
 -- the record in its place, in place of the one that has its key
@@ -25,3 +25,8 @@ Each P (x ∷ xs) = P x × Each P xs
 abbrev pub IsInOrder : {A : Type 0} → (A → ℕ) → List A → Type 0
 IsInOrder key [] = Unit {0}
 IsInOrder key (x ∷ xs) = Each (λ y. key x < key y) xs × IsInOrder key xs
+
+-- records in order of key, no more than so many
+pub record IsTable {A : Type 0} (key : A → ℕ) (most : ℕ) (xs : List A) : Type 0 where
+  pub in_order : IsInOrder key xs
+  pub within : length xs ≤ most

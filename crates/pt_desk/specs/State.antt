@@ -1,7 +1,10 @@
 -- What the desk keeps, and what a change makes of it.
 use Rattle.std.specs.Prelude.{ℕ, List, [], ◌∷◌, ◌++◌, Option, Some, None, bytes_eq, find}
+use Rattle.std.specs.Option.{unwrap_or}
+use Rattle.pt_base.specs.declared.place.Place.{Place}
 use Rattle.pt_base.specs.declared.policy.Policy.{Policy}
 use Rattle.pt_base.specs.declared.rider.Rider.{Rider}
+use Rattle.pt_corridor.specs.Route.{Route}
 use Rattle.pt_rights.specs.declared.entry.Entered.{Entered}
 use Rattle.pt_desk.specs.Records.{put, put_some, record_at}
 use Rattle.pt_desk.specs.declared.caller.Caller.{Caller}
@@ -17,6 +20,10 @@ pub record State : Type 0 where
   pub kept : List Kept
   pub policy : Policy
   -- in order of their numbers
+  pub places : List Place
+  -- in order of their numbers
+  pub routes : List Route
+  -- in order of their numbers
   pub riders : List Rider
   -- the case file of each rider who has an entry, in order of the riders' numbers
   pub files : List RiderFile
@@ -27,6 +34,12 @@ caller_key caller = caller.id
 
 abbrev pub kept_key : Kept → ℕ
 kept_key kept = kept.caller
+
+abbrev pub place_key : Place → ℕ
+place_key place = place.id
+
+abbrev pub route_key : Route → ℕ
+route_key route = route.id
 
 abbrev pub rider_key : Rider → ℕ
 rider_key rider = rider.id
@@ -45,6 +58,14 @@ caller_of id s = record_at caller_key id s.callers
 -- the last accepted write of a caller
 abbrev pub kept_of : ℕ → State → Option Kept
 kept_of caller s = record_at kept_key caller s.kept
+
+-- the place of this number
+abbrev pub place_of : ℕ → State → Option Place
+place_of id s = record_at place_key id s.places
+
+-- the fixed route of this number
+abbrev pub route_of : ℕ → State → Option Route
+route_of id s = record_at route_key id s.routes
 
 -- the rider of this number
 abbrev pub rider_of : ℕ → State → Option Rider
@@ -76,7 +97,9 @@ abbrev pub applied : Change → State → State
 applied change s = record {
   callers = put_some caller_key change.caller s.callers;
   kept = put kept_key change.kept s.kept;
-  policy = s.policy;
+  policy = unwrap_or change.policy s.policy;
+  places = put_some place_key change.place s.places;
+  routes = put_some route_key change.route s.routes;
   riders = put_some rider_key change.rider s.riders;
   files = put_some_entry change.entry s.files;
 }

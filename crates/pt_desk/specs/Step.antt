@@ -3,11 +3,12 @@ use Rattle.std.specs.Prelude.{ℕ, List, length, Option, Some, None}
 use Rattle.sha2.specs.Sha256.{sha256}
 use Rattle.pt_base.specs.declared.rule.Rule.{Rule}
 use Rattle.pt_base.specs.declared.rider.Residence.TheVariants.{Resident}
+use Rattle.pt_corridor.specs.Route.{IsFixedRoute}
 use Rattle.pt_rights.specs.Rules.{first_failing}
 use Rattle.pt_rights.specs.Standing.{standing_of}
 use Rattle.pt_rights.specs.Suspension.{is_suspended}
 use Rattle.pt_desk.specs.Records.{put}
-use Rattle.pt_desk.specs.State.{State, caller_with, file_of, caller_key, kept_key, rider_key, put_entry}
+use Rattle.pt_desk.specs.State.{State, caller_with, file_of, caller_key, kept_key, place_key, route_key, rider_key, put_entry}
 use Rattle.pt_desk.specs.Denial.{rules_of}
 use Rattle.pt_desk.specs.declared.caller.Caller.{Caller}
 use Rattle.pt_desk.specs.declared.request.Request.{Request}
@@ -18,6 +19,9 @@ use Rattle.pt_desk.specs.declared.request.Answer.TheVariants as answer
 -- what an accepted request is told
 abbrev pub accepted_answer : Request → ℕ → State → Answer
 accepted_answer (request.PutCaller new) today s = answer.Done
+accepted_answer (request.PutPolicy new) today s = answer.Done
+accepted_answer (request.PutPlace new) today s = answer.Done
+accepted_answer (request.PutRoute new) today s = answer.Done
 accepted_answer (request.PutRider rider attendant) today s = answer.Done
 accepted_answer (request.Enter rider entry) today s = answer.Entered (length (file_of rider s))
 accepted_answer (request.Standing rider day) today s =
@@ -26,11 +30,19 @@ accepted_answer (request.Standing rider day) today s =
 -- what an accepted request of this caller makes of the records, its number apart
 abbrev pub effect : Request → Caller → ℕ → State → State
 effect (request.PutCaller new) me today s = record s { callers = put caller_key new s.callers }
+effect (request.PutPolicy new) me today s = record s { policy = new }
+effect (request.PutPlace new) me today s = record s { places = put place_key new s.places }
+effect (request.PutRoute new) me today s = record s { routes = put route_key new s.routes }
 effect (request.PutRider rider attendant) me today s =
     record s { riders = put rider_key (record { id = rider; kind = Resident; attendant = attendant }) s.riders }
 effect (request.Enter rider entry) me today s =
     record s { files = put_entry (record { rider = rider; entered = record { entry = entry; day = today; author = me.id } }) s.files }
 effect (request.Standing rider day) me today s = s
+
+-- a fixed route that is put is one
+abbrev pub IsMade : Request → Type 0
+IsMade (request.PutRoute new) = IsFixedRoute new
+IsMade _ = Unit {0}
 
 -- the state with the number of this caller's last accepted write
 abbrev pub numbered : Caller → ℕ → State → State

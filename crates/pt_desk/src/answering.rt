@@ -3,12 +3,12 @@ ghost use Rattle.pt_base.specs.Fault.{fault};
 ghost use Rattle.pt_base.specs.declared.fault.TheConstants.{MEMORY};
 ghost use Rattle.pt_desk.specs.State.{State};
 ghost use Rattle.pt_desk.specs.Outcome.{Fails};
-ghost use Rattle.pt_desk.specs.Step.{after};
+ghost use Rattle.pt_desk.specs.Step.{after, IsMade};
 ghost use Rattle.pt_desk.specs.Answering.{Answers, IsAcceptedWrite};
 ghost use Rattle.pt_desk.specs.Sound.{IsSound};
 ghost use Rattle.pt_desk.specs.Run.{AnswersCall, GoesOn};
 
-use crate::{Answer, Call, Digest, Keeper, Reply, Request, callers, files, riders};
+use crate::{Answer, Call, Digest, Keeper, Reply, Request, callers, files, riders, settings};
 use pt_base::{Day, Fault, Minute, Rule};
 use std::alloc::Global;
 
@@ -60,12 +60,16 @@ fn answer_by_rules<K: Keeper>(
         → K.found keeper.old s ⊎ (s ≡ Some (after key.now today number request.now (K.content keeper.old))) }
     ensures durable { IsAcceptedWrite result
         → (s : Option State) → K.found keeper.new s → s ≡ Some (K.content keeper.new) }
+    ensures made { IsAcceptedWrite result → IsMade request.now }
 {
     let Some(me) = keeper.caller_with(&Digest::of_key(key))? else {
         return Ok(Answer::Denied(Rule::Key));
     };
     match request {
         Request::PutCaller(new) => callers::put_caller(keeper, &me, number, new),
+        Request::PutPolicy(new) => settings::put_policy(keeper, &me, number, new),
+        Request::PutPlace(new) => settings::put_place(keeper, &me, number, new),
+        Request::PutRoute(new) => settings::put_route(alloc, keeper, &me, number, new),
         Request::PutRider { rider, attendant } => {
             riders::put_rider(keeper, &me, number, *rider, *attendant)
         }

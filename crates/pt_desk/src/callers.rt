@@ -8,7 +8,7 @@ ghost use Rattle.pt_desk.specs.declared.keeper.TheConstants.{MOST_CALLERS};
 ghost use Rattle.pt_desk.specs.declared.request.Request.TheVariants.{PutCaller};
 ghost use Rattle.pt_rights.specs.Rules.{first_failing};
 
-use crate::{Answer, Caller, Change, Keeper, Kept, MOST_CALLERS, Reply, Role, StoreFault};
+use crate::{Answer, Caller, Change, Keeper, MOST_CALLERS, Reply, Role, StoreFault};
 use pt_base::{CallerId, Rule};
 
 /// Whether a write's number is above the number of the caller's last accepted write.
@@ -116,13 +116,8 @@ pub(crate) fn put_caller<K: Keeper>(keeper: &mut K, me: &Caller, number: u32, ne
         return Ok(Answer::Denied(rule));
     }
     keeper.commit(&Change {
-        kept: Kept {
-            caller: me.id,
-            number,
-        },
         caller: Some(*new),
-        rider: None,
-        entry: None,
+        ..Change::numbered(me.id, number)
     })?;
     Ok(Answer::Done)
 }

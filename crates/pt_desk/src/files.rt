@@ -11,7 +11,7 @@ ghost use Rattle.pt_rights.specs.declared.case_file.TheConstants.{MOST_ENTRIES};
 ghost use Rattle.pt_desk.specs.declared.request.Request.TheVariants.{Enter, Standing};
 
 use crate::callers::number_is_new;
-use crate::{Answer, Caller, Change, FileEntry, Keeper, Kept, Reply, Role, StoreFault};
+use crate::{Answer, Caller, Change, FileEntry, Keeper, Reply, Role, StoreFault};
 use pt_base::{CallerId, Day, RiderId, Rule};
 use pt_rights::{Entered, Entry};
 use std::alloc::Global;
@@ -84,13 +84,8 @@ pub(crate) fn enter<K: Keeper>(
         author: me.id,
     };
     keeper.commit(&Change {
-        kept: Kept {
-            caller: me.id,
-            number,
-        },
-        caller: None,
-        rider: None,
         entry: Some(FileEntry { rider, entered }),
+        ..Change::numbered(me.id, number)
     })?;
     Ok(Answer::Entered(place))
 }

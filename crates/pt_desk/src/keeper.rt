@@ -1,15 +1,22 @@
 ghost use Rattle.std.specs.Prelude.{◌≡◌, ◌⊎◌, ℕ, ◌≤◌, length, Option, Some, OnOk};
-ghost use Rattle.pt_desk.specs.State.{State, caller_with, caller_of, kept_of, rider_of, file_of, applied};
-ghost use Rattle.pt_desk.specs.Outcome.{Fails, Reads, Writes};
+ghost use Rattle.pt_desk.specs.State.{State, caller_with, caller_of, kept_of, place_of, route_of, rider_of, file_of, applied};
+ghost use Rattle.pt_desk.specs.Outcome.{Fails, Reads, Writes, items_of};
 ghost use Rattle.pt_desk.specs.Room.{HasRoomFor};
 
 use crate::{Caller, Digest, Kept};
-use pt_base::{CallerId, Policy, Rider, RiderId};
+use pt_base::{CallerId, Place, PlaceId, Policy, Rider, RiderId, RouteId};
+use pt_corridor::FixedRoute;
 use pt_rights::{CaseFile, Entered};
 use std::alloc::{AllocError, Global};
 
 /// The most callers that the desk keeps.
 pub const MOST_CALLERS: usize = 1_000;
+
+/// The most places that the desk keeps.
+pub const MOST_PLACES: usize = 100;
+
+/// The most fixed routes that the desk keeps.
+pub const MOST_ROUTES: usize = 50;
 
 /// The most riders that the desk keeps.
 pub const MOST_RIDERS: usize = 100_000;
@@ -34,8 +41,37 @@ pub struct Change {
     /// The number of the write itself.
     pub kept: Kept,
     pub caller: Option<Caller>,
+    /// The policy is replaced whole.
+    pub policy: Option<Policy>,
+    pub place: Option<Place>,
+    pub route: Option<FixedRoute>,
     pub rider: Option<Rider>,
     pub entry: Option<FileEntry>,
+}
+
+impl Change {
+    /// A change of a caller's last number alone.
+    pub(crate) fn numbered(caller: CallerId, number: u32) -> Self
+        ensures value { result ≡ record {
+          kept = record { caller = caller; number = number };
+          caller = None;
+          policy = None;
+          place = None;
+          route = None;
+          rider = None;
+          entry = None;
+        } }
+    {
+        Change {
+            kept: Kept { caller, number },
+            caller: None,
+            policy: None,
+            place: None,
+            route: None,
+            rider: None,
+            entry: None,
+        }
+    }
 }
 
 /// Why a store did not serve.
@@ -112,6 +148,54 @@ pub trait Keeper {
     /// The agency's policy.
     fn policy(&mut self) -> Result<Policy, StoreFault>
         ensures reads { doubt self.new ≡ 0 → Reads (shut self.new) (content self.old) (content self.new) (content self.old).policy result }
+        ensures clean { doubt self.old ≤ doubt self.new }
+        ensures serves { shut self.old ≤ shut self.new }
+        ensures fails { Fails (failures self.old) (failures self.new) result }
+        ensures crash { (s : Option State) → found self.new s → found self.old s };
+
+    /// The place of this number.
+    fn place(&mut self, id: PlaceId) -> Result<Option<Place>, StoreFault>
+        ensures reads { doubt self.new ≡ 0 → Reads (shut self.new) (content self.old) (content self.new) (place_of id (content self.old)) result }
+        ensures clean { doubt self.old ≤ doubt self.new }
+        ensures serves { shut self.old ≤ shut self.new }
+        ensures fails { Fails (failures self.old) (failures self.new) result }
+        ensures crash { (s : Option State) → found self.new s → found self.old s };
+
+    /// How many places there are.
+    fn place_count(&mut self) -> Result<usize, StoreFault>
+        ensures reads { doubt self.new ≡ 0 → Reads (shut self.new) (content self.old) (content self.new) (length (content self.old).places) result }
+        ensures clean { doubt self.old ≤ doubt self.new }
+        ensures serves { shut self.old ≤ shut self.new }
+        ensures fails { Fails (failures self.old) (failures self.new) result }
+        ensures crash { (s : Option State) → found self.new s → found self.old s };
+
+    /// All places in order of their numbers.
+    fn places(&mut self, alloc: Global) -> Result<Vec<Place>, StoreFault>
+        ensures reads { doubt self.new ≡ 0 → Reads (shut self.new) (content self.old) (content self.new) (content self.old).places (items_of result) }
+        ensures clean { doubt self.old ≤ doubt self.new }
+        ensures serves { shut self.old ≤ shut self.new }
+        ensures fails { Fails (failures self.old) (failures self.new) result }
+        ensures crash { (s : Option State) → found self.new s → found self.old s };
+
+    /// The fixed route of this number.
+    fn route(&mut self, alloc: Global, id: RouteId) -> Result<Option<FixedRoute>, StoreFault>
+        ensures reads { doubt self.new ≡ 0 → Reads (shut self.new) (content self.old) (content self.new) (route_of id (content self.old)) result }
+        ensures clean { doubt self.old ≤ doubt self.new }
+        ensures serves { shut self.old ≤ shut self.new }
+        ensures fails { Fails (failures self.old) (failures self.new) result }
+        ensures crash { (s : Option State) → found self.new s → found self.old s };
+
+    /// How many fixed routes there are.
+    fn route_count(&mut self) -> Result<usize, StoreFault>
+        ensures reads { doubt self.new ≡ 0 → Reads (shut self.new) (content self.old) (content self.new) (length (content self.old).routes) result }
+        ensures clean { doubt self.old ≤ doubt self.new }
+        ensures serves { shut self.old ≤ shut self.new }
+        ensures fails { Fails (failures self.old) (failures self.new) result }
+        ensures crash { (s : Option State) → found self.new s → found self.old s };
+
+    /// All fixed routes in order of their numbers.
+    fn routes(&mut self, alloc: Global) -> Result<Vec<FixedRoute>, StoreFault>
+        ensures reads { doubt self.new ≡ 0 → Reads (shut self.new) (content self.old) (content self.new) (content self.old).routes (items_of result) }
         ensures clean { doubt self.old ≤ doubt self.new }
         ensures serves { shut self.old ≤ shut self.new }
         ensures fails { Fails (failures self.old) (failures self.new) result }

@@ -3,7 +3,10 @@
 
 pub use answering::{answer, run};
 pub use caller::{Caller, Digest, Kept, Role};
-pub use keeper::{Change, FileEntry, Keeper, MOST_CALLERS, MOST_RIDERS, RiderFile, StoreFault};
+pub use keeper::{
+    Change, FileEntry, Keeper, MOST_CALLERS, MOST_PLACES, MOST_RIDERS, MOST_ROUTES, RiderFile,
+    StoreFault,
+};
 pub use list_keeper::ListKeeper;
 pub use request::{Answer, Call, Reply, Request};
 
@@ -18,5 +21,8 @@ mod memory_tests;
 mod permission;
 mod request;
 mod riders;
+mod settings;
+#[cfg(test)]
+mod settings_tests;
 #[cfg(test)]
 mod tests;

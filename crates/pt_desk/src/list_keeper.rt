@@ -7,7 +7,8 @@ ghost use Rattle.pt_desk.specs.Records.{put, put_some, record_at};
 ghost use Rattle.pt_desk.specs.State.{file_key};
 
 use crate::{Caller, Change, Digest, FileEntry, Keeper, Kept, RiderFile, Role, StoreFault};
-use pt_base::{CallerId, Fault, Policy, Rider, RiderId};
+use pt_base::{CallerId, Fault, Place, PlaceId, Policy, Rider, RiderId, RouteId};
+use pt_corridor::FixedRoute;
 use pt_rights::CaseFile;
 use std::alloc::{AllocError, Global};
 use std::marker::Model;
@@ -48,6 +49,22 @@ impl Keyed for Kept {
 
     fn key(&self) -> u32 {
         self.caller.number()
+    }
+}
+
+impl Keyed for Place {
+    ghost key = { λ place. place.id };
+
+    fn key(&self) -> u32 {
+        self.id.number()
+    }
+}
+
+impl Keyed for FixedRoute {
+    ghost key = { λ route. route.id };
+
+    fn key(&self) -> u32 {
+        self.id().number()
     }
 }
 
@@ -109,13 +126,13 @@ fn put_copy<T: Keyed + Copy>(records: &mut Vec<T>, added: &Option<T>)
     }
 }
 
-/// Puts the case file, if there is one, in its place, where there is room for one more.
-fn put_file(files: &mut Vec<RiderFile>, filed: Option<RiderFile>)
-    requires { vec_len files.old < vec_capacity files.old }
-    ensures { files.new.items ≡ put_some file_key filed files.old.items }
+/// Puts the record, if there is one, in its place, where there is room for one more.
+fn put_if_some<T: Keyed>(records: &mut Vec<T>, added: Option<T>)
+    requires { vec_len records.old < vec_capacity records.old }
+    ensures { records.new.items ≡ put_some T.key added records.old.items }
 {
-    if let Some(filed) = filed {
-        put_record(files, filed);
+    if let Some(added) = added {
+        put_record(records, added);
     }
 }
 
@@ -149,6 +166,8 @@ pub struct ListKeeper {
     callers: Vec<Caller>,
     kept: Vec<Kept>,
     policy: Policy,
+    places: Vec<Place>,
+    routes: Vec<FixedRoute>,
     riders: Vec<Rider>,
     files: Vec<RiderFile>,
 }
@@ -162,6 +181,8 @@ impl Model for ListKeeper {
       callers = k.callers.items;
       kept = k.kept.items;
       policy = k.policy;
+      places = k.places.items;
+      routes = k.routes.items;
       riders = k.riders.items;
       files = k.files.items;
     } };
@@ -190,6 +211,8 @@ impl ListKeeper {
             callers,
             kept: Vec::new(alloc),
             policy: LEAST_POLICY,
+            places: Vec::new(alloc),
+            routes: Vec::new(alloc),
             riders: Vec::new(alloc),
             files: Vec::new(alloc),
         })
@@ -274,6 +297,33 @@ impl Keeper for ListKeeper {
         Ok(self.policy)
     }
 
+    fn place(&mut self, id: PlaceId) -> Result<Option<Place>, StoreFault> {
+        Ok(find_record(&self.places, id.number()).copied())
+    }
+
+    fn place_count(&mut self) -> Result<usize, StoreFault> {
+        Ok(self.places.len())
+    }
+
+    fn places(&mut self, alloc: Global) -> Result<Vec<Place>, StoreFault> {
+        Ok(self.places.to_vec(alloc)?)
+    }
+
+    fn route(&mut self, _alloc: Global, id: RouteId) -> Result<Option<FixedRoute>, StoreFault> {
+        match find_record(&self.routes, id.number()) {
+            Some(there) => Ok(Some(there.clone()?)),
+            None => Ok(None),
+        }
+    }
+
+    fn route_count(&mut self) -> Result<usize, StoreFault> {
+        Ok(self.routes.len())
+    }
+
+    fn routes(&mut self, alloc: Global) -> Result<Vec<FixedRoute>, StoreFault> {
+        Ok(self.routes.to_vec(alloc)?)
+    }
+
     fn rider(&mut self, id: RiderId) -> Result<Option<Rider>, StoreFault> {
         Ok(find_record(&self.riders, id.number()).copied())
     }
@@ -288,14 +338,20 @@ impl Keeper for ListKeeper {
 
     fn commit(&mut self, change: &Change) -> Result<(), StoreFault> {
         let filed = self.filed_if_some(*self.files.allocator(), &change.entry)?;
+        let route = change.route.clone()?;
         self.callers.reserve(1)?;
         self.kept.reserve(1)?;
+        self.places.reserve(1)?;
+        self.routes.reserve(1)?;
         self.riders.reserve(1)?;
         self.files.reserve(1)?;
         put_copy(&mut self.callers, &change.caller);
         put_record(&mut self.kept, change.kept);
+        self.policy = change.policy.unwrap_or(self.policy);
+        put_copy(&mut self.places, &change.place);
+        put_if_some(&mut self.routes, route);
         put_copy(&mut self.riders, &change.rider);
-        put_file(&mut self.files, filed);
+        put_if_some(&mut self.files, filed);
         Ok(())
     }
 

@@ -1,5 +1,6 @@
 use crate::{Caller, StoreFault};
-use pt_base::{Day, Minute, RiderId, Rule};
+use pt_base::{Day, Minute, Place, Policy, RiderId, Rule};
+use pt_corridor::FixedRoute;
 use pt_rights::{Entry, Standing};
 
 /// What a caller asks of the desk.
@@ -7,6 +8,12 @@ use pt_rights::{Entry, Standing};
 pub enum Request {
     /// Makes a caller, or replaces the one of that number.
     PutCaller(Caller),
+    /// Replaces the agency's policy.
+    PutPolicy(Policy),
+    /// Makes a place.
+    PutPlace(Place),
+    /// Makes a fixed route, or replaces the one of that number.
+    PutRoute(FixedRoute),
     /// Makes a resident's record, or changes whether it names an attendant.
     PutRider { rider: RiderId, attendant: bool },
     /// Enters something in a resident's case file.

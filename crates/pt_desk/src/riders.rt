@@ -7,7 +7,7 @@ ghost use Rattle.pt_desk.specs.declared.keeper.TheConstants.{MOST_RIDERS};
 ghost use Rattle.pt_desk.specs.declared.request.Request.TheVariants.{PutRider};
 
 use crate::callers::number_is_new;
-use crate::{Answer, Caller, Change, Keeper, Kept, MOST_RIDERS, Reply, StoreFault};
+use crate::{Answer, Caller, Change, Keeper, MOST_RIDERS, Reply, StoreFault};
 use pt_base::{Residence, Rider, RiderId, Rule};
 
 /// Whether the rider is there already, or there is room for one more.
@@ -52,17 +52,12 @@ pub(crate) fn put_rider<K: Keeper>(
         return Ok(Answer::Denied(Rule::Full));
     }
     keeper.commit(&Change {
-        kept: Kept {
-            caller: me.id,
-            number,
-        },
-        caller: None,
         rider: Some(Rider {
             id,
             kind: Residence::Resident,
             attendant,
         }),
-        entry: None,
+        ..Change::numbered(me.id, number)
     })?;
     Ok(Answer::Done)
 }

@@ -17,7 +17,7 @@ fn rider_id(number: u32) -> Result<RiderId, Fail> {
 }
 
 /// Makes the caller of this number, whose key is the text.
-fn put_caller(number: u32, role: Role, key: &str) -> Result<Request, Fail> {
+pub(crate) fn put_caller(number: u32, role: Role, key: &str) -> Result<Request, Fail> {
     Ok(Request::PutCaller(Caller {
         id: caller_id(number)?,
         role,
@@ -54,7 +54,7 @@ fn standing(rider: u32, on: &str) -> Result<Request, Fail> {
 }
 
 /// Asks at eight in the morning of the day.
-fn ask(
+pub(crate) fn ask(
     alloc: Global,
     keeper: &mut ListKeeper,
     today: &str,

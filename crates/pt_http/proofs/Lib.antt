@@ -3,3 +3,4 @@ pub mod ReceivedLemmas
 pub mod ExchangeLemmas
 pub mod MomentLemmas
 pub mod RehearsalLemmas
+pub mod UniqueLemmas

@@ -143,12 +143,18 @@ no_asked_head : (asked : Target) (method : List ℕ) (lines : List (List ℕ × 
 no_asked_head (target.Standing id number) method lines body refused = refused
 no_asked_head target.Callers method lines body refused = no_post_head target.Callers method lines body refused
 no_asked_head target.Riders method lines body refused = no_post_head target.Riders method lines body refused
+no_asked_head target.Policy method lines body refused = no_post_head target.Policy method lines body refused
+no_asked_head target.Places method lines body refused = no_post_head target.Places method lines body refused
+no_asked_head target.Routes method lines body refused = no_post_head target.Routes method lines body refused
 no_asked_head (target.Entries id) method lines body refused = no_post_head (target.Entries id) method lines body refused
 
 no_asked_length : (asked : Target) (method : List ℕ) (lines : List (List ℕ × List ℕ)) (body : List ℕ) → ¬ (IsRequestFault asked method lines body fault.Length)
 no_asked_length (target.Standing id number) method lines body refused = refused
 no_asked_length target.Callers method lines body refused = no_post_length target.Callers method lines body refused
 no_asked_length target.Riders method lines body refused = no_post_length target.Riders method lines body refused
+no_asked_length target.Policy method lines body refused = no_post_length target.Policy method lines body refused
+no_asked_length target.Places method lines body refused = no_post_length target.Places method lines body refused
+no_asked_length target.Routes method lines body refused = no_post_length target.Routes method lines body refused
 no_asked_length (target.Entries id) method lines body refused = no_post_length (target.Entries id) method lines body refused
 
 head_is_no_fault : (method whole : List ℕ) (lines : List (List ℕ × List ℕ)) (body : List ℕ) → ¬ (IsMessageFault desk_routes method whole lines body fault.Head)

@@ -2,4 +2,5 @@ pub mod ListLemmas
 pub mod NumberLemmas
 pub mod TargetLemmas
 pub mod EntryLemmas
+pub mod SettingsLemmas
 pub mod MessageLemmas

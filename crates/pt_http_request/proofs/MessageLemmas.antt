@@ -22,6 +22,7 @@ use Rattle.pt_http_request.specs.declared.targets.Path.TheVariants as path
 use Rattle.pt_http_request.specs.declared.targets.Target.{Target}
 use Rattle.pt_http_request.specs.declared.targets.Target.TheVariants as target
 use Rattle.pt_http_request.proofs.EntryLemmas.{SpellsNumber-unique, SpellsDay-unique, SpellsEntry-unique, entry_or_fault, entry_fault-unique}
+use Rattle.pt_http_request.proofs.SettingsLemmas.{policy-same, place-same}
 use Rattle.pt_http_request.proofs.ListLemmas.{some-same, value-unique, error-unique, value-or-error}
 use Rattle.pt_http_request.proofs.TargetLemmas.{IsTarget-route}
 
@@ -31,6 +32,15 @@ IsTarget-unique : (route : Path) (one two : Option (List ℕ)) (a b : Target) �
 IsTarget-unique path.Callers one two target.Callers target.Callers x y = refl
 IsTarget-unique path.Callers one two target.Callers b x y = absurd y
 IsTarget-unique path.Callers one two a b x y = absurd x
+IsTarget-unique path.Policy one two target.Policy target.Policy x y = refl
+IsTarget-unique path.Policy one two target.Policy b x y = absurd y
+IsTarget-unique path.Policy one two a b x y = absurd x
+IsTarget-unique path.Places one two target.Places target.Places x y = refl
+IsTarget-unique path.Places one two target.Places b x y = absurd y
+IsTarget-unique path.Places one two a b x y = absurd x
+IsTarget-unique path.Routes one two target.Routes target.Routes x y = refl
+IsTarget-unique path.Routes one two target.Routes b x y = absurd y
+IsTarget-unique path.Routes one two a b x y = absurd x
 IsTarget-unique path.Riders one two target.Riders target.Riders x y = refl
 IsTarget-unique path.Riders one two target.Riders b x y = absurd y
 IsTarget-unique path.Riders one two a b x y = absurd x
@@ -74,6 +84,15 @@ SpellsFields-unique : (asked : Target) (body : Data) (one other : Request) → S
 SpellsFields-unique target.Callers body (request.PutCaller one) (request.PutCaller other) a b = ap request.PutCaller (value-unique _ _ _ a b)
 SpellsFields-unique target.Callers body (request.PutCaller one) other a b = absurd b
 SpellsFields-unique target.Callers body one other a b = absurd a
+SpellsFields-unique target.Policy body (request.PutPolicy one) (request.PutPolicy other) a b = ap request.PutPolicy (policy-same one other (value-unique _ _ _ a b))
+SpellsFields-unique target.Policy body (request.PutPolicy one) other a b = absurd b
+SpellsFields-unique target.Policy body one other a b = absurd a
+SpellsFields-unique target.Places body (request.PutPlace one) (request.PutPlace other) a b = ap request.PutPlace (place-same one other (value-unique _ _ _ a b))
+SpellsFields-unique target.Places body (request.PutPlace one) other a b = absurd b
+SpellsFields-unique target.Places body one other a b = absurd a
+SpellsFields-unique target.Routes body (request.PutRoute one) (request.PutRoute other) a b = ap request.PutRoute (value-unique _ _ _ a b)
+SpellsFields-unique target.Routes body (request.PutRoute one) other a b = absurd b
+SpellsFields-unique target.Routes body one other a b = absurd a
 SpellsFields-unique target.Riders body one other a b = value-unique _ _ _ a b
 SpellsFields-unique (target.Entries id) body (request.Enter rider one) (request.Enter other_rider other) a b =
     ap (λ (i : ℕ). request.Enter i one) (a.0 ∙ sym b.0) ∙ ap (λ e. request.Enter other_rider e) (SpellsEntry-unique body one other a.1 b.1)
@@ -84,6 +103,12 @@ SpellsFields-unique (target.Standing id number) body one other a b = a ∙ sym b
 fields_or_fault : (asked : Target) (body : Data) (one : Request) (name : FieldName) → SpellsFields asked body one → IsFieldFault asked body name → ⊥
 fields_or_fault target.Callers body (request.PutCaller caller) name a wrong = value-or-error _ _ _ a wrong
 fields_or_fault target.Callers body one name a wrong = absurd a
+fields_or_fault target.Policy body (request.PutPolicy policy) name a wrong = value-or-error _ _ _ a wrong
+fields_or_fault target.Policy body one name a wrong = absurd a
+fields_or_fault target.Places body (request.PutPlace place) name a wrong = value-or-error _ _ _ a wrong
+fields_or_fault target.Places body one name a wrong = absurd a
+fields_or_fault target.Routes body (request.PutRoute route) name a wrong = value-or-error _ _ _ a wrong
+fields_or_fault target.Routes body one name a wrong = absurd a
 fields_or_fault target.Riders body one name a wrong = value-or-error _ _ _ a wrong
 fields_or_fault (target.Entries id) body (request.Enter rider one) name a wrong = entry_or_fault body one name a.1 wrong
 fields_or_fault (target.Entries id) body one name a wrong = absurd a
@@ -91,6 +116,9 @@ fields_or_fault (target.Standing id number) body one name a wrong = absurd wrong
 
 field_fault-unique : (asked : Target) (body : Data) (one other : FieldName) → IsFieldFault asked body one → IsFieldFault asked body other → one ≡ other
 field_fault-unique target.Callers body one other a b = error-unique _ _ _ a b
+field_fault-unique target.Policy body one other a b = error-unique _ _ _ a b
+field_fault-unique target.Places body one other a b = error-unique _ _ _ a b
+field_fault-unique target.Routes body one other a b = error-unique _ _ _ a b
 field_fault-unique target.Riders body one other a b = error-unique _ _ _ a b
 field_fault-unique (target.Entries id) body one other a b = entry_fault-unique body one other a b
 field_fault-unique (target.Standing id number) body one other a b = absurd a
@@ -177,18 +205,27 @@ read_fault-unique method lines one other a b = absurd a
 
 request-unique : (asked : Target) (method : List ℕ) (lines : List (List ℕ × List ℕ)) (body : List ℕ) (one other : Message) → SpellsRequest asked method lines body one → SpellsRequest asked method lines body other → IsSameMessage one other
 request-unique target.Callers method lines body one other a b = write-unique _ lines body one other a.1 b.1
+request-unique target.Policy method lines body one other a b = write-unique _ lines body one other a.1 b.1
+request-unique target.Places method lines body one other a b = write-unique _ lines body one other a.1 b.1
+request-unique target.Routes method lines body one other a b = write-unique _ lines body one other a.1 b.1
 request-unique target.Riders method lines body one other a b = write-unique _ lines body one other a.1 b.1
 request-unique (target.Entries id) method lines body one other a b = write-unique _ lines body one other a.1 b.1
 request-unique (target.Standing id number) method lines body one other a b = read-unique method lines _ one other a b
 
 request_or_fault : (asked : Target) (method : List ℕ) (lines : List (List ℕ × List ℕ)) (body : List ℕ) (one : Message) (why : RequestFault) → SpellsRequest asked method lines body one → IsRequestFault asked method lines body why → ⊥
 request_or_fault target.Callers method lines body one why a wrong = post_or_fault target.Callers method lines body one why a wrong
+request_or_fault target.Policy method lines body one why a wrong = post_or_fault target.Policy method lines body one why a wrong
+request_or_fault target.Places method lines body one why a wrong = post_or_fault target.Places method lines body one why a wrong
+request_or_fault target.Routes method lines body one why a wrong = post_or_fault target.Routes method lines body one why a wrong
 request_or_fault target.Riders method lines body one why a wrong = post_or_fault target.Riders method lines body one why a wrong
 request_or_fault (target.Entries id) method lines body one why a wrong = post_or_fault (target.Entries id) method lines body one why a wrong
 request_or_fault (target.Standing id number) method lines body one why a wrong = read_or_fault method lines _ one why a wrong
 
 request_fault-unique : (asked : Target) (method : List ℕ) (lines : List (List ℕ × List ℕ)) (body : List ℕ) (one other : RequestFault) → IsRequestFault asked method lines body one → IsRequestFault asked method lines body other → one ≡ other
 request_fault-unique target.Callers method lines body one other a b = post_fault-unique target.Callers method lines body one other a b
+request_fault-unique target.Policy method lines body one other a b = post_fault-unique target.Policy method lines body one other a b
+request_fault-unique target.Places method lines body one other a b = post_fault-unique target.Places method lines body one other a b
+request_fault-unique target.Routes method lines body one other a b = post_fault-unique target.Routes method lines body one other a b
 request_fault-unique target.Riders method lines body one other a b = post_fault-unique target.Riders method lines body one other a b
 request_fault-unique (target.Entries id) method lines body one other a b = post_fault-unique (target.Entries id) method lines body one other a b
 request_fault-unique (target.Standing id number) method lines body one other a b = read_fault-unique method lines one other a b

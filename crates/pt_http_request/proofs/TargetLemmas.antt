@@ -15,12 +15,15 @@ use Rattle.pt_http_request.specs.declared.targets.Target.TheVariants as target
 -- a route to a standing takes a day as its second part
 day_of_two : (rider day : List ℕ) (asked : Target) → IsTarget path.Standing (Some rider) (Some day) asked → (number : ℕ) × SpellsDay day number
 day_of_two rider day target.Callers named = absurd named
+day_of_two rider day target.Policy named = absurd named
+day_of_two rider day target.Places named = absurd named
+day_of_two rider day target.Routes named = absurd named
 day_of_two rider day target.Riders named = absurd named
 day_of_two rider day (target.Entries id) named = absurd named
 day_of_two rider day (target.Standing id number) named = (number, named.1)
 
-pub day_of_standing : (route : Path) (one two : Option (List ℕ)) (rider day : List ℕ) (asked : Target) → route ≡ path.Standing → one ≡ Some rider → two ≡ Some day → IsTarget route one two asked → (number : ℕ) × SpellsDay day number
-day_of_standing route one two rider day asked is_standing is_one is_two named =
+pub day_of_standing : (which : Path) (one two : Option (List ℕ)) (rider day : List ℕ) (asked : Target) → which ≡ path.Standing → one ≡ Some rider → two ≡ Some day → IsTarget which one two asked → (number : ℕ) × SpellsDay day number
+day_of_standing which one two rider day asked is_standing is_one is_two named =
     day_of_two rider day asked (rw (is_standing, is_one, is_two) at named)
 
 -- a part of a text of ASCII is text
@@ -47,8 +50,8 @@ two_parts pattern text asked taken names parts one two ascii is_taken is_parts i
     )
 
 -- what a route names goes by its parts alone
-pub IsTarget-same : (route : Path) (one two one' two' : Option (List ℕ)) (asked : Target) → one ≡ one' → two ≡ two' → IsTarget route one two asked → IsTarget route one' two' asked
-IsTarget-same route one two one' two' asked is_one is_two named = rw (is_one, is_two) at named
+pub IsTarget-same : (which : Path) (one two one' two' : Option (List ℕ)) (asked : Target) → one ≡ one' → two ≡ two' → IsTarget which one two asked → IsTarget which one' two' asked
+IsTarget-same which one two one' two' asked is_one is_two named = rw (is_one, is_two) at named
 
 -- what the same route names
 pub IsTarget-route : (route same : RouteOf Path) (text : List ℕ) (asked : Target) → route ≡ same → IsTarget route.value (slice_get (parts_of route text) 0) (slice_get (parts_of route text) 1) asked → IsTarget same.value (slice_get (parts_of same text) 0) (slice_get (parts_of same text) 1) asked

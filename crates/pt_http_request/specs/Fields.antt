@@ -1,5 +1,5 @@
 -- The fields of a JSON object by their names, and what each may hold.
-use Rattle.std.specs.Prelude.{◌≡◌, ℕ, ◌^◌, ◌&&◌, List, Bool, Option, Some, None, Result, Ok, Err, nat_lt, if◌then◌else◌, option_and_then, pos}
+use Rattle.std.specs.Prelude.{◌≡◌, ℕ, ◌^◌, ◌&&◌, List, Bool, Option, Some, None, Result, Ok, Err, nat_lt, nat_le, if◌then◌else◌, option_and_then, pos}
 use Rattle.hex.specs.Hex.{decode_sized}
 use Rattle.hex.specs.declared.error.FromHexError.{FromHexError}
 use Rattle.pt_base.specs.DateText.{IsDateText}
@@ -7,6 +7,7 @@ use Rattle.pt_base.specs.Day.{IsDay}
 use Rattle.pt_rights.specs.Reasons.{IsReasons}
 use Rattle.serde_json.specs.Data.{Data}
 use Rattle.serde_json.specs.Find.{get, as_bool, as_number, as_u64, as_str}
+use Rattle.pt_http_reply.specs.Fault.{field_name}
 use Rattle.pt_http_reply.specs.declared.fault.FieldName.{FieldName}
 
 -- the whole number that a field holds: an integer that is not negative, written without fraction or exponent
@@ -62,3 +63,11 @@ Err fault >>= next = Err fault
 abbrev pub needed : {A : Type 0} → Option A → FieldName → Result A FieldName
 needed (Some value) name = Ok value
 needed None name = Err name
+
+-- the number, where it lies in this range
+abbrev pub within : ℕ → ℕ → ℕ → Option ℕ
+within least most number = if nat_le least number && nat_le number most then Some number else None
+
+-- the whole number of this range that a field holds, or the field as a fault
+abbrev pub number_within : FieldName → ℕ → ℕ → Data → Result ℕ FieldName
+number_within name least most body = needed (option_and_then (within least most) (whole_at (field_name name) body)) name

@@ -13,6 +13,7 @@ use Rattle.serde_json.specs.Data.{Data}
 use Rattle.serde_json.specs.Find.{as_object}
 use Rattle.serde_json.specs.Read.{read}
 use Rattle.pt_http_request.specs.Bodies.{caller_in, rider_in, SpellsEntry, IsEntryFault}
+use Rattle.pt_http_request.specs.Settings.{policy_in, settled, place_in, fields_of, route_in}
 use Rattle.pt_http_request.specs.Headers.{key_in, IsNumberIn}
 use Rattle.pt_http_request.specs.declared.fault.MessageFault.{MessageFault}
 use Rattle.pt_http_request.specs.declared.fault.MessageFault.TheVariants.{Refused, Memory}
@@ -39,6 +40,9 @@ IsObjectFault body _ = ⊥
 -- the fields of the body spell this request to what the path names
 abbrev pub SpellsFields : Target → Data → Request → Type 0
 SpellsFields target.Callers body (request.PutCaller caller) = caller_in body ≡ Ok caller
+SpellsFields target.Policy body (request.PutPolicy policy) = policy_in body ≡ Ok (settled policy)
+SpellsFields target.Places body (request.PutPlace place) = place_in body ≡ Ok (fields_of place)
+SpellsFields target.Routes body (request.PutRoute route) = route_in body ≡ Ok route
 SpellsFields target.Riders body asked = rider_in body ≡ Ok asked
 SpellsFields (target.Entries id) body (request.Enter rider entry) = (rider ≡ id) × SpellsEntry body entry
 SpellsFields (target.Standing id number) body asked = asked ≡ request.Standing id number
@@ -47,6 +51,9 @@ SpellsFields _ _ _ = ⊥
 -- the field is the first of the body that keeps it from spelling one
 abbrev pub IsFieldFault : Target → Data → FieldName → Type 0
 IsFieldFault target.Callers body name = caller_in body ≡ Err name
+IsFieldFault target.Policy body name = policy_in body ≡ Err name
+IsFieldFault target.Places body name = place_in body ≡ Err name
+IsFieldFault target.Routes body name = route_in body ≡ Err name
 IsFieldFault target.Riders body name = rider_in body ≡ Err name
 IsFieldFault (target.Entries id) body name = IsEntryFault body name
 IsFieldFault (target.Standing id number) body name = ⊥
@@ -86,6 +93,9 @@ pub record SpellsRead (method : List ℕ) (lines : List (List ℕ × List ℕ)) 
 abbrev pub SpellsRequest : Target → List ℕ → List (List ℕ × List ℕ) → List ℕ → Message → Type 0
 SpellsRequest (target.Standing id number) method lines body message = SpellsRead method lines (request.Standing id number) message
 SpellsRequest target.Callers method lines body message = (method ≡ codes "POST") × SpellsWrite target.Callers lines body message
+SpellsRequest target.Policy method lines body message = (method ≡ codes "POST") × SpellsWrite target.Policy lines body message
+SpellsRequest target.Places method lines body message = (method ≡ codes "POST") × SpellsWrite target.Places lines body message
+SpellsRequest target.Routes method lines body message = (method ≡ codes "POST") × SpellsWrite target.Routes lines body message
 SpellsRequest target.Riders method lines body message = (method ≡ codes "POST") × SpellsWrite target.Riders lines body message
 SpellsRequest (target.Entries id) method lines body message = (method ≡ codes "POST") × SpellsWrite (target.Entries id) lines body message
 
@@ -105,6 +115,9 @@ IsPostFault asked method lines body why =
 abbrev pub IsRequestFault : Target → List ℕ → List (List ℕ × List ℕ) → List ℕ → RequestFault → Type 0
 IsRequestFault (target.Standing id number) method lines body why = IsReadFault method lines why
 IsRequestFault target.Callers method lines body why = IsPostFault target.Callers method lines body why
+IsRequestFault target.Policy method lines body why = IsPostFault target.Policy method lines body why
+IsRequestFault target.Places method lines body why = IsPostFault target.Places method lines body why
+IsRequestFault target.Routes method lines body why = IsPostFault target.Routes method lines body why
 IsRequestFault target.Riders method lines body why = IsPostFault target.Riders method lines body why
 IsRequestFault (target.Entries id) method lines body why = IsPostFault (target.Entries id) method lines body why
 

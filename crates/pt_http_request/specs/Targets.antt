@@ -26,7 +26,10 @@ desk_routes =
     with_route (parse_route (codes "/riders/{rider}/standing/{day}")) path.Standing
     (with_route (parse_route (codes "/riders/{rider}/entries")) path.Entries
     (with_route (parse_route (codes "/riders")) path.Riders
-    (with_route (parse_route (codes "/callers")) path.Callers [])))
+    (with_route (parse_route (codes "/routes")) path.Routes
+    (with_route (parse_route (codes "/places")) path.Places
+    (with_route (parse_route (codes "/policy")) path.Policy
+    (with_route (parse_route (codes "/callers")) path.Callers []))))))
 
 -- the parts of a path that the parameters of its route took, in order
 abbrev pub parts_of : RouteOf Path → List ℕ → List (List ℕ)
@@ -40,6 +43,9 @@ AreTexts (part ∷ parts) = IsUtf8 part.1 × AreTexts parts
 -- what a route names by the first two of its parts
 abbrev pub IsTarget : Path → Option (List ℕ) → Option (List ℕ) → Target → Type 0
 IsTarget path.Callers one two target.Callers = Unit {0}
+IsTarget path.Policy one two target.Policy = Unit {0}
+IsTarget path.Places one two target.Places = Unit {0}
+IsTarget path.Routes one two target.Routes = Unit {0}
 IsTarget path.Riders one two target.Riders = Unit {0}
 IsTarget path.Entries (Some rider) two (target.Entries id) = SpellsId rider id
 IsTarget path.Standing (Some rider) (Some day) (target.Standing id number) = SpellsId rider id × SpellsDay day number

@@ -1,10 +1,12 @@
-ghost use Rattle.std.specs.Prelude.{◌≡◌, ℕ, option_map, option_and_then, IfSome, IsNone};
+ghost use Rattle.std.specs.Prelude.{◌≡◌, ℕ, option_map, option_and_then, IfSome, IsNone, IfOk};
+ghost use Rattle.std.specs.Int.{IsInRange};
 ghost use Rattle.serde_json.specs.View.{view};
-ghost use Rattle.pt_http_request.specs.Fields.{whole_at, text_at, truth_at, id_at, digest_from, SpellsDay, IsDayAt};
+ghost use Rattle.pt_http_request.specs.Fields.{number_within, whole_at, text_at, truth_at, id_at, digest_from, SpellsDay, IsDayAt};
 
 use hex::FromHex;
 use pt_base::{Day, Id};
 use pt_desk::Digest;
+use pt_http_reply::FieldName;
 use serde_json::Value;
 
 /// The whole number at a field of an object.
@@ -57,4 +59,21 @@ pub(crate) fn day_at(object: &Value, name: &str) -> Option<Day>
     ensures none { IsNone result → (day : ℕ) → ¬ (IsDayAt name.now (view object.now) day) }
 {
     day_from(text_at(object, name)?)
+}
+
+/// The whole number of this range at a field of an object, or the field as a fault.
+pub(crate) fn number_within(
+    object: &Value,
+    name: FieldName,
+    least: u32,
+    most: u32,
+) -> Result<u32, FieldName>
+    ensures value { result ≡ number_within name least most (view object.now) }
+    ensures in_range { IfOk result (IsInRange least most) }
+{
+    let number = whole_at(object, name.text()).ok_or(name)?;
+    if number < u64::from(least) || number > u64::from(most) {
+        return Err(name);
+    }
+    Ok(number as u32)
 }

@@ -15,6 +15,9 @@ mod fields;
 mod headers;
 mod message;
 mod numbers;
+mod settings;
+#[cfg(test)]
+mod settings_tests;
 mod targets;
 #[cfg(test)]
 mod tests;

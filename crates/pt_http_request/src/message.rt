@@ -9,6 +9,7 @@ ghost use Rattle.pt_http_request.specs.declared.message.Message.{Message};
 use crate::bodies::{caller_of, entry_of, rider_of};
 use crate::fault::MessageFault;
 use crate::headers::{key_of, number_of};
+use crate::settings::{place_of, policy_of, route_of};
 use crate::targets::{Path, Target, target_at};
 use httparse::spans::HeaderSpan;
 use matchit::Router;
@@ -52,6 +53,9 @@ fn request_from(alloc: Global, target: Target, body: &Value) -> Result<Request, 
 {
     match target {
         Target::Callers => Ok(Request::PutCaller(caller_of(body)?)),
+        Target::Policy => Ok(Request::PutPolicy(policy_of(body)?)),
+        Target::Places => Ok(Request::PutPlace(place_of(body)?)),
+        Target::Routes => Ok(Request::PutRoute(route_of(alloc, body)?)),
         Target::Riders => Ok(rider_of(body)?),
         Target::Entries(rider) => {
             let entry = entry_of(alloc, body)?;
@@ -146,9 +150,12 @@ fn message_to(
             let asked = Request::Standing { rider, day };
             read_from(alloc, asked, method, headers, bytes)
         }
-        Target::Callers | Target::Riders | Target::Entries(_) => {
-            post_from(alloc, target, method, headers, bytes, body)
-        }
+        Target::Callers
+        | Target::Policy
+        | Target::Places
+        | Target::Routes
+        | Target::Riders
+        | Target::Entries(_) => { post_from(alloc, target, method, headers, bytes, body) }
     }
 }
 

@@ -14,6 +14,9 @@ use std::str;
 #[derive(Clone, Copy, Debug, PartialEq, Eq)]
 pub enum Path {
     Callers,
+    Policy,
+    Places,
+    Routes,
     Riders,
     Entries,
     Standing,
@@ -24,6 +27,12 @@ pub enum Path {
 pub enum Target {
     /// The callers of the desk.
     Callers,
+    /// The agency's policy.
+    Policy,
+    /// The places of the service area.
+    Places,
+    /// The agency's fixed routes.
+    Routes,
     /// The records of riders.
     Riders,
     /// A rider's case file.
@@ -38,6 +47,9 @@ pub fn desk_router(alloc: Global) -> Result<Router<Path>, InsertError>
 {
     let mut router = Router::new(alloc);
     router.insert("/callers", Path::Callers)?;
+    router.insert("/policy", Path::Policy)?;
+    router.insert("/places", Path::Places)?;
+    router.insert("/routes", Path::Routes)?;
     router.insert("/riders", Path::Riders)?;
     router.insert("/riders/{rider}/entries", Path::Entries)?;
     router.insert("/riders/{rider}/standing/{day}", Path::Standing)?;
@@ -66,6 +78,9 @@ fn target_from(path: Path, one: Option<&str>, two: Option<&str>) -> Option<Targe
 {
     match path {
         Path::Callers => Some(Target::Callers),
+        Path::Policy => Some(Target::Policy),
+        Path::Places => Some(Target::Places),
+        Path::Routes => Some(Target::Routes),
         Path::Riders => Some(Target::Riders),
         Path::Entries => Some(Target::Entries(id_from(one?)?)),
         Path::Standing => {

@@ -15,7 +15,7 @@ use pt_rights::Entry;
 use std::alloc::Global;
 use std::test::Fail;
 
-const KEYED: &str = "Desk-Key: abc\r\nDesk-Number: 1\r\n";
+pub(crate) const KEYED: &str = "Desk-Key: abc\r\nDesk-Number: 1\r\n";
 
 const CALLER: &str =
     "{\"id\":2,\"role\":\"clerk\",\"subject\":0,\"digest\":\"2cf24dba5fb0a30e26e83b2ac5b9e29e1b161e5c1fa7425e73043362938b9824\"}";
@@ -54,7 +54,7 @@ fn read_at(
 }
 
 /// What a head of this first line and these header lines asks with this body.
-fn ask(
+pub(crate) fn ask(
     alloc: Global,
     line: &str,
     lines: &str,
@@ -68,7 +68,12 @@ fn ask(
 }
 
 /// Why this is refused.
-fn fault(alloc: Global, line: &str, lines: &str, body: &str) -> Result<Option<RequestFault>, Fail> {
+pub(crate) fn fault(
+    alloc: Global,
+    line: &str,
+    lines: &str,
+    body: &str,
+) -> Result<Option<RequestFault>, Fail> {
     match ask(alloc, line, lines, body)? {
         Err(MessageFault::Refused(why)) => Ok(Some(why)),
         _ => Ok(None),
@@ -79,6 +84,9 @@ fn fault(alloc: Global, line: &str, lines: &str, body: &str) -> Result<Option<Re
 fn named(request: &Request) -> (&'static str, u32) {
     match request {
         Request::PutCaller(caller) => ("caller", caller.id.number()),
+        Request::PutPolicy(policy) => ("policy", policy.fare),
+        Request::PutPlace(place) => ("place", place.id.number()),
+        Request::PutRoute(route) => ("route", route.id().number()),
         Request::PutRider { rider, .. } => ("rider", rider.number()),
         Request::Enter { rider, entry } => (kind_of(entry), rider.number()),
         Request::Standing { day, .. } => ("standing", day.number()),

@@ -6,4 +6,4 @@ pub returns-clause-sound : goal.returns-clause-sound
 returns-clause-sound g c clean serves none sound =
     let k = g.K.Keeper in
     let fails = c.answer_by_rules.ensures.fails in
-    answered_sound _ _ _ _ _ _ _ c.answer_by_rules.result (c.answer_by_rules.ensures.answers clean) serves (λ failed. let lt = fails.told failed in absurd (omega arith)) sound
+    answered_sound _ _ _ _ _ _ _ c.answer_by_rules.result (c.answer_by_rules.ensures.answers clean) c.answer_by_rules.ensures.made serves (λ failed. let lt = fails.told failed in absurd (omega arith)) sound

@@ -4,8 +4,7 @@ use Rattle.pt_http.proofs.exchange.exchange.Goals as goal
 pub returns-in_err-write_reply-clause-unheard : goal.returns-in_err-write_reply-clause-unheard
 returns-in_err-write_reply-clause-unheard g c = λ clean input has is.
     let came = c.in_ok-received.ensures.received input has in
-    let reply = c.respond-response.result in
-    (
+    let reply = c.respond-response.result in (
       reply,
       (came.0, came.1, exchanged _ _ input c.in_ok-received.received _ _ reply came.0 came.2 (c.respond-response.ensures.responds clean)),
       c.write_reply.ensures.text,

@@ -56,8 +56,7 @@ returns-clause-received g c = λ input has.
     let is_body : body ≡ take size (drop count longer)
     = body_between c.held-held.result.now count size ∙ ap (λ b. take size (drop count b)) c.held-held.ensures.value in
     let rest = drop (count + size) longer ++ now.left in
-    let parts = whole_parts longer now.left input body count size head.0 now.whole (c.read_up_to.ensures.enough came) later taken is_body in
-    (
+    let parts = whole_parts longer now.left input body count size head.0 now.whole (c.read_up_to.ensures.enough came) later taken is_body in (
       rest,
       record {
         left = now.left;

@@ -37,15 +37,15 @@ returns-in_err-response-clause-stopped g c = λ clean whole input has.
     let p = err_from_is_err_and c.from_residual-in_err-response.result c.from_residual-in_err-response.ensures.1 in
     rw (p.1, p.2) (either c.in_err-response.ensures.fault
     (λ unanswered.
-        let kept = c.in_err-response.ensures.unanswered unanswered in
-        stopped_unanswered _ input _ _ _ _ _ _ _ error st unanswered
-        (ap (λ keeper. record { content = k.content keeper; failures = k.failures keeper }) kept.0) (ap contents kept.1))
+    let kept = c.in_err-response.ensures.unanswered unanswered in
+    stopped_unanswered _ input _ _ _ _ _ _ _ error st unanswered
+    (ap (λ keeper. record { content = k.content keeper; failures = k.failures keeper }) kept.0) (ap contents kept.1))
     (λ write.
-        let unheard = c.exchange.ensures.unheard clean next.0 next.1 (c.in_err-response.was ∙ ap Err write) in
-        let text = unheard.2 in
-        let one = one_more c.in-Some.now.0 c.in-Some.now.1 unheard.0 text.0 in
-        let step = step_of _ c.in-Some.now.0 c.in-Some.now.1 st.left next.0 unheard.1.0 text.0 _ _ unheard.0 whole next.2 unheard.1.2 text.1 in
-        stopped_unheard _ input unheard.1.0 _ _ _ _ _ _ _ one error st write step))
+    let unheard = c.exchange.ensures.unheard clean next.0 next.1 (c.in_err-response.was ∙ ap Err write) in
+    let text = unheard.2 in
+    let one = one_more c.in-Some.now.0 c.in-Some.now.1 unheard.0 text.0 in
+    let step = step_of _ c.in-Some.now.0 c.in-Some.now.1 st.left next.0 unheard.1.0 text.0 _ _ unheard.0 whole next.2 unheard.1.2 text.1 in
+    stopped_unheard _ input unheard.1.0 _ _ _ _ _ _ _ one error st write step))
 
 pub returns-then-is_last-clause-finished : goal.returns-then-is_last-clause-finished
 returns-then-is_last-clause-finished g c = λ clean whole input has.
@@ -58,8 +58,7 @@ returns-then-is_last-clause-finished g c = λ clean whole input has.
     let written = c.in_ok-response.ensures.written in
     let reply = c.in_ok-response.response in
     let one = one_more c.in-Some.now.0 c.in-Some.now.1 reply written.0 in
-    let step = step_of _ c.in-Some.now.0 c.in-Some.now.1 st.left next.0 answered.0 written.0 _ _ reply whole next.2 answered.2 written.1 in
-    (
+    let step = step_of _ c.in-Some.now.0 c.in-Some.now.1 st.left next.0 answered.0 written.0 _ _ reply whole next.2 answered.2 written.1 in (
       st.messages ++ one ∷ [],
       st.written ++ written.0,
       answered.0,

@@ -12,5 +12,5 @@ invariant-loop g l =
       serves : k.shut l.fn.keeper ≤ k.shut l.keeper;
       stands : k.doubt l.keeper ≡ 0 → k.shut l.keeper ≡ 0 → (input : List ℕ) → HasInput g.R.Read.remaining l.fn.inbox input
           → StandsAt g.R.Read.remaining input (record { content = k.content l.fn.keeper; failures = k.failures l.fn.keeper }) (g.W.Write.contents l.fn.out)
-            l.inbox (record { content = k.content l.keeper; failures = k.failures l.keeper }) (g.W.Write.contents l.out);
+          l.inbox (record { content = k.content l.keeper; failures = k.failures l.keeper }) (g.W.Write.contents l.out);
     }

@@ -27,8 +27,7 @@ returns-clause-next g c = λ input has.
     let now = reads_input g.R.Read.remaining c.read_up_to.new.self c.read_up_to-2.new.self input c.read_up_to-2.ensures.reads first in
     let here : BeginsWithMoment bytes day minute (drop end bytes)
     = subst (λ (b : List ℕ). BeginsWithMoment b day minute (drop end b)) c.held.ensures.value c.in-Some.ensures.moment in
-    let rest = drop end bytes ++ now.left in
-    (
+    let rest = drop end bytes ++ now.left in (
       rest,
       record {
         left = now.left;

@@ -1,0 +1,133 @@
+-- Policies, places and what lists spell.
+use mathlib.Core.HLevel.{is_prop→PathP}
+use Rattle.std.proofs.Common.{◌≡◌, ◌∙◌, ℕ, zero, suc, ◌+◌, ◌<◌, List, [], ◌∷◌, ◌++◌, Option, Some, None, Bool, true, false, length, get_or, map, take, ap, sym, refl, arith}
+use Rattle.std.proofs.lemmas.List.{map-append, take_more, take_all}
+use Rattle.std.proofs.Props.{props}
+use Rattle.std.specs.Prelude.{◌≤◌, ◌==◌, ◌||◌, ℤ, option_map, option_and_then, slice_set}
+use Rattle.std.specs.Int.{IsInRange}
+use Rattle.pt_base.specs.Place.{IsOnPlane}
+use Rattle.pt_base.specs.declared.place.Place.{Place}
+use Rattle.pt_base.specs.declared.policy.Policy.{Policy}
+use Rattle.pt_base.specs.Weekday.{number_of}
+use Rattle.pt_base.specs.declared.weekday.Weekday.{Weekday}
+use Rattle.pt_base.specs.declared.weekday.Weekday.TheVariants.{Monday, Tuesday, Wednesday, Thursday, Friday, Saturday, Sunday}
+use Rattle.serde_json.specs.Data.{Data}
+use Rattle.serde_json.specs.View.{items_of}
+use Rattle.pt_http_request.specs.Settings.{settled, fields_of, values_in, each, point_of, is_among, set_of}
+
+at_most-prop : (most n : ℕ) → IsProp (n ≤ most)
+at_most-prop most n = hlevel props
+
+IsInRange-prop : (least most n : ℕ) → IsProp (IsInRange least most n)
+IsInRange-prop least most n = hlevel props
+
+IsOnPlane-prop : (x y : ℤ) → IsProp (IsOnPlane x y)
+IsOnPlane-prop x y = hlevel props
+
+-- policies that settle on the same are one
+pub policy-same : (a b : Policy) → settled a ≡ settled b → a ≡ b
+policy-same a b same = λ i. record {
+  base = (same i).base;
+  transfer = (same i).transfer;
+  fare = (same i).fare;
+  service = (same i).service;
+  extra_ride = (same i).extra_ride;
+  min_missed = (same i).min_missed;
+  percent = (same i).percent;
+  span_days = (same i).span_days;
+  base_in_range = is_prop→PathP (λ j. (same j).base ≤ 100_000) (λ j. at_most-prop _ _) a.base_in_range b.base_in_range i;
+  transfer_in_range = is_prop→PathP (λ j. (same j).transfer ≤ 100_000) (λ j. at_most-prop _ _) a.transfer_in_range b.transfer_in_range i;
+  fare_in_range = is_prop→PathP (λ j. (same j).fare ≤ 100_000) (λ j. at_most-prop _ _) a.fare_in_range b.fare_in_range i;
+  service_in_range = is_prop→PathP (λ j. (same j).service ≤ 30) (λ j. at_most-prop _ _) a.service_in_range b.service_in_range i;
+  extra_ride_in_range = is_prop→PathP (λ j. (same j).extra_ride ≤ 240) (λ j. at_most-prop _ _) a.extra_ride_in_range b.extra_ride_in_range i;
+  min_missed_in_range = is_prop→PathP (λ j. IsInRange 1 1_000 (same j).min_missed) (λ j. IsInRange-prop _ _ _) a.min_missed_in_range b.min_missed_in_range i;
+  percent_in_range = is_prop→PathP (λ j. IsInRange 1 100 (same j).percent) (λ j. IsInRange-prop _ _ _) a.percent_in_range b.percent_in_range i;
+  span_days_in_range = is_prop→PathP (λ j. IsInRange 1 366 (same j).span_days) (λ j. IsInRange-prop _ _ _) a.span_days_in_range b.span_days_in_range i;
+}
+
+-- places with the same fields are one
+pub place-same : (a b : Place) → fields_of a ≡ fields_of b → a ≡ b
+place-same a b same = λ i. record {
+  id = (same i).0;
+  at = (same i).1;
+  core = (same i).2;
+  on_plane = is_prop→PathP (λ j. IsOnPlane (same j).1.x (same j).1.y) (λ j. IsOnPlane-prop _ _) a.on_plane b.on_plane i;
+}
+
+-- ---- lists
+
+-- the values of a list are its values
+pub values_in-items : (values : List Data) → values_in (items_of values) ≡ values
+values_in-items [] = refl
+values_in-items (value ∷ values) = let rest = values_in-items values in cc
+
+-- where each value spells one of these
+pub each-some : {A : Type 0} (from : Data → Option A) (values : List Data) (spelled : List A) → map from values ≡ map Some spelled → each from values ≡ Some spelled
+each-some from [] [] e = refl
+each-some from [] (s ∷ spelled) e = cc
+each-some from (value ∷ values) [] e = cc
+each-some from (value ∷ values) (s ∷ spelled) e =
+    let first : from value ≡ Some s = cc in
+    let tail : map from values ≡ map Some spelled = cc in
+    let rest : each from values ≡ Some spelled = each-some from values spelled tail in
+    rw (first, rest) refl
+
+-- where one spells nothing
+pub each-none : {A V : Type 0} (from : Data → Option A) (f : V → Data) (values : List V) (i : ℕ) (value : V) → i < length values → value ≡ get_or values i value → from (f value) ≡ None → each from (map f values) ≡ None
+each-none from f [] i value below there none = absurd (omega arith)
+each-none from f (v ∷ values) zero value below there none =
+    let first : from (f v) ≡ None = cc in
+    rw first refl
+each-none {A} from f (v ∷ values) (suc i) value below there none =
+    let rest : each from (map f values) ≡ None = each-none from f values i value (omega arith) there none in
+    elim (from (f v)) as (λ (o : Option A). option_and_then (λ first. option_map (λ rest. first ∷ rest) (each from (map f values))) o ≡ None) [
+      | None ↦ refl
+      | Some first ↦ rw rest refl
+    ]
+
+-- one value more, read to the end
+pub read-more : {A V : Type 0} (from : Data → Option A) (f : V → Data) (values : List V) (i : ℕ) (value : V) (spelled : List A) (last : A) → i < length values → value ≡ get_or values i value → map from (map f (take i values)) ≡ map Some spelled → from (f value) ≡ Some last → map from (map f (take (i + 1) values)) ≡ map Some (spelled ++ last ∷ [])
+read-more from f values i value spelled last below there read here =
+    let more : take (i + 1) values ≡ take i values ++ value ∷ [] = take_more values i value below ∙ ap (λ v. take i values ++ v ∷ []) (sym there) in
+    rw more (simp (map-append, read, here))
+
+pub read-all : {A V : Type 0} (from : Data → Option A) (f : V → Data) (values : List V) (i : ℕ) (spelled : List A) → length values ≤ i → map from (map f (take i values)) ≡ map Some spelled → each from (map f values) ≡ Some spelled
+read-all from f values i spelled past read =
+    let all : take i values ≡ values = take_all i values past in
+    each-some from (map f values) spelled (rw all at read)
+
+-- a list of another length than two is no point
+pub not-pair : (values : List Data) → (length values ≡ 2 → ⊥) → point_of values ≡ None
+not-pair [] other = refl
+not-pair (a ∷ []) other = refl
+not-pair (a ∷ b ∷ []) other = absurd (other refl)
+not-pair (a ∷ b ∷ c ∷ values) other = refl
+
+-- ---- sets of weekdays
+
+is_among-more : (days : List ℕ) (last day : ℕ) → is_among (days ++ last ∷ []) day ≡ (is_among days day || last == day)
+is_among-more [] last day = elim (last == day) as (λ b. (b || false) ≡ b) [ true ↦ refl | false ↦ refl ]
+is_among-more (first ∷ days) last day =
+    let rest = is_among-more days last day in
+    elim (first == day) as (λ b. (b || is_among (days ++ last ∷ []) day) ≡ ((b || is_among days day) || last == day)) [
+      | true ↦ refl
+      | false ↦ rest
+    ]
+
+same-or : (b : Bool) → (b || false) ≡ b
+same-or true = refl
+same-or false = refl
+
+always-or : (b : Bool) → (b || true) ≡ true
+always-or true = refl
+always-or false = refl
+
+-- the set of these days and one more
+pub set_of-more : (days : List ℕ) (weekday : Weekday) → set_of (days ++ number_of weekday ∷ []) ≡ slice_set (set_of days) (number_of weekday) true
+set_of-more days Monday = simp (is_among-more, same-or, always-or)
+set_of-more days Tuesday = simp (is_among-more, same-or, always-or)
+set_of-more days Wednesday = simp (is_among-more, same-or, always-or)
+set_of-more days Thursday = simp (is_among-more, same-or, always-or)
+set_of-more days Friday = simp (is_among-more, same-or, always-or)
+set_of-more days Saturday = simp (is_among-more, same-or, always-or)
+set_of-more days Sunday = simp (is_among-more, same-or, always-or)

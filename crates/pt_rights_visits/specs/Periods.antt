@@ -1,0 +1,37 @@
+-- The days of a visitor's trips and their periods of 365 days (49 CFR 37.127(e)).
+use Rattle.std.specs.Prelude.{ℕ, ◌+◌, ◌≤◌, Bool, not, ◌&&◌, List, ◌∷◌, nat_eq, nat_le, nat_lt}
+use Rattle.std.specs.List.{Contains, count_by, filter}
+
+-- the set of the uses with one more day in it, each day once
+abbrev pub days_with : List ℕ → ℕ → List ℕ
+days_with uses day = day ∷ filter (λ used. not (nat_eq used day)) uses
+
+-- the day is the least of the days that are not below the bound
+pub record IsLeastFrom (days : List ℕ) (bound day : ℕ) : Type 0 where
+  pub member : Contains days day
+  pub from : bound ≤ day
+  pub least : (other : ℕ) → Contains days other → bound ≤ other → day ≤ other
+
+-- the opening days are a chain: the least of all the days, and each time the least that is not below the former plus 365
+pub data IsOpening (days : List ℕ) : ℕ → Type 0 where
+  first : (opening : ℕ) → IsLeastFrom days 0 opening → IsOpening days opening
+  next : (former opening : ℕ) → IsOpening days former → IsLeastFrom days (former + 365) opening → IsOpening days opening
+
+-- the period of the day is opened by the greatest opening day that is not above it
+pub record OpensPeriodOf (days : List ℕ) (day opening : ℕ) : Type 0 where
+  pub opens : IsOpening days opening
+  pub begun : opening ≤ day
+  pub greatest : (other : ℕ) → IsOpening days other → other ≤ day → other ≤ opening
+
+-- the day is one of the 365 days from the opening day on
+abbrev pub is_in_period : ℕ → ℕ → Bool
+is_in_period opening day = nat_le opening day && nat_lt day (opening + 365)
+
+-- how many of the days lie in the period
+abbrev pub days_of_period : ℕ → List ℕ → ℕ
+days_of_period opening days = count_by (is_in_period opening) days
+
+-- a visitor may use the day when its period, the day among the uses, has at most 21 days of use
+abbrev pub MayUse : List ℕ → ℕ → Type 0
+MayUse uses day =
+    (opening : ℕ) × OpensPeriodOf (days_with uses day) day opening × (days_of_period opening (days_with uses day) ≤ 21)

@@ -1,0 +1,8 @@
+//! The days on which visitors may ride, under 49 CFR 37.127(e).
+#![tactic(auto)]
+
+pub use visits::visitor_may;
+
+#[cfg(test)]
+mod tests;
+mod visits;
