@@ -15,4 +15,6 @@ mod reading;
 mod received;
 mod rehearsal;
 #[cfg(test)]
+mod settings_tests;
+#[cfg(test)]
 mod tests;
