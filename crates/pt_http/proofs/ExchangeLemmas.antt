@@ -1,5 +1,5 @@
 -- Exchanges, from what was received and what the desk responds.
-use Rattle.std.proofs.Common.{◌≡◌, ℕ, List, sym, subst}
+use Rattle.std.proofs.Common.{ℕ, List, sym, subst}
 use Rattle.pt_http_reply.specs.declared.response.Response.{Response}
 use Rattle.pt_http_reply.specs.declared.response.Response.TheVariants as response
 use Rattle.pt_http.specs.Exchange.{Desk, Exchanges}

@@ -1,5 +1,5 @@
 -- Heads as the parser answers them.
-use Rattle.std.proofs.Common.{◌≡◌, ℕ, List, Result, Ok, subst}
+use Rattle.std.proofs.Common.{◌≡◌, ℕ, List, Result, Ok}
 use Rattle.httparse.specs.Grammar.{RequestHead}
 use Rattle.httparse.specs.Outcome.{IsCompleteAnd}
 use Rattle.httparse.specs.Spans.{IsRequestAt}

@@ -6,7 +6,7 @@ use Rattle.std.specs.Io.KnownBytes.{IsAtEnd}
 use Rattle.std.specs.Prelude.{IfSome}
 use Rattle.httparse.specs.Grammar.{RequestHead, print_request}
 use Rattle.pt_http_inbox.specs.Head.{BeginsWithHead, IsHead}
-use Rattle.pt_http_inbox.specs.Inbox.{held, reader_of, ReadsOn}
+use Rattle.pt_http_inbox.specs.Inbox.{ReadsOn}
 use Rattle.pt_http_inbox.specs.declared.inbox.Inbox.{Inbox}
 use Rattle.pt_http_inbox.proofs.ReadsLemmas.{reads_known}
 use Rattle.pt_http_reply.specs.declared.fault.RequestFault.{RequestFault}
@@ -16,7 +16,7 @@ use Rattle.pt_http_request.specs.Messages.{IsMessageFault}
 use Rattle.pt_http_request.specs.Targets.{desk_routes}
 use Rattle.pt_http_request.proofs.MessageLemmas.{body_length_unique}
 use Rattle.pt_http.specs.Input.{HasInput}
-use Rattle.pt_http.specs.Message.{HasNoBody, BeginsWithRefused, BeginsWithFault}
+use Rattle.pt_http.specs.Message.{HasNoBody, BeginsWithFault}
 use Rattle.pt_http.specs.Parts.{lines_of, IsWholeHead, BeginsWithParts}
 use Rattle.matchit.specs.Router.{RouteOf}
 use Rattle.matchit.specs.Rows.{RowsOf}

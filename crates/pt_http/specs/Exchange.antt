@@ -1,8 +1,8 @@
 -- How the desk answers what begins some bytes.
-use Rattle.std.specs.Prelude.{◌≡◌, ◌⊎◌, ℕ, List, Option, Some, None, Result, Ok, Err, option_map}
+use Rattle.std.specs.Prelude.{◌≡◌, ◌⊎◌, ℕ, List, Option, Some, None, Result, Ok, option_map}
 use Rattle.pt_base.specs.Fault.{fault}
 use Rattle.pt_base.specs.declared.fault.Fault.{Fault}
-use Rattle.pt_base.specs.declared.fault.TheConstants.{MEMORY, READ_FAILED, WRITE_FAILED}
+use Rattle.pt_base.specs.declared.fault.TheConstants.{MEMORY, READ_FAILED}
 use Rattle.pt_base.specs.declared.rule.Rule.TheVariants.{Key}
 use Rattle.pt_desk.specs.Answering.{Answers}
 use Rattle.pt_desk.specs.Outcome.{Fails}
@@ -44,11 +44,6 @@ Exchanges shut today bytes old new (response.Refused why) rest = BeginsWithFault
 -- memory was refused, or a read failed or was one too many: nothing was answered
 abbrev pub IsUnanswered : Fault → Type 0
 IsUnanswered error = (error ≡ fault MEMORY) ⊎ (error ≡ fault READ_FAILED)
-
--- the request was answered, though its reply may not have been written
-abbrev pub IsAnswered : {X : Type 0} → Result X Fault → Type 0
-IsAnswered (Ok x) = Unit {0}
-IsAnswered (Err error) = error ≡ fault WRITE_FAILED
 
 -- what begins the input is answered so, and the inbox has what comes after it
 abbrev pub IsExchanged : {R : Type 0} → (R → Option (List ℕ)) → ℕ → ℕ → List ℕ → Desk → Desk → Inbox R → Response → Type 0

@@ -1,5 +1,5 @@
 -- What begins some bytes: a message, or the first fault that keeps them from beginning with one.
-use Rattle.std.specs.Prelude.{◌≡◌, ℕ, ◌<◌, List, length}
+use Rattle.std.specs.Prelude.{ℕ, ◌<◌, List, length}
 use Rattle.httparse.specs.Grammar.{RequestHead}
 use Rattle.pt_http_inbox.specs.Head.{BeginsWithHead, HasNoHead}
 use Rattle.pt_http_reply.specs.declared.fault.RequestFault.{RequestFault}

@@ -1,5 +1,5 @@
 -- The parts of a request in bytes (RFC 9112): a head, and a body of the length that the head's fields give.
-use Rattle.std.specs.Prelude.{◌≡◌, ℕ, ◌≤◌, List, [], ◌++◌, length, map}
+use Rattle.std.specs.Prelude.{ℕ, ◌≤◌, List, [], ◌++◌, length, map}
 use Rattle.httparse.specs.Grammar.{RequestHead, ReadsRequest}
 use Rattle.httparse.specs.Spans.{name_and_value}
 use Rattle.pt_http_inbox.specs.Head.{BeginsWithHead}

@@ -2,15 +2,13 @@
 use Rattle.std.specs.Prelude.{◌≡◌, ◌⊎◌, ℕ, Bool, true, false, List, [], ◌∷◌, ◌++◌}
 use Rattle.pt_base.specs.Fault.{fault}
 use Rattle.pt_base.specs.declared.fault.Fault.{Fault}
-use Rattle.pt_base.specs.declared.fault.TheConstants.{READ_FAILED, WRITE_FAILED, MOMENT_LINE}
-use Rattle.pt_http_inbox.specs.declared.inbox.Inbox.{Inbox}
+use Rattle.pt_base.specs.declared.fault.TheConstants.{WRITE_FAILED, MOMENT_LINE}
 use Rattle.pt_http_moment.specs.Moment.{BeginsWithMoment}
 use Rattle.pt_http_reply.specs.Response.{IsReplyText}
 use Rattle.pt_http_reply.specs.declared.fault.RequestFault.TheVariants.{Head, Length}
 use Rattle.pt_http_reply.specs.declared.response.Response.{Response}
 use Rattle.pt_http_reply.specs.declared.response.Response.TheVariants.{Refused}
 use Rattle.pt_http.specs.Exchange.{Desk, Exchanges, IsUnanswered}
-use Rattle.pt_http.specs.Input.{HasInput}
 
 -- a message of a rehearsal: the moment at which it came, the reply, and the reply's bytes
 pub record Exchanged : Type 0 where

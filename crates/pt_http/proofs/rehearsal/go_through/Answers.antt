@@ -1,9 +1,9 @@
-use Rattle.std.proofs.Common.{◌≡◌, ℕ, List, ◌∷◌, [], ◌++◌, Ok, Err, true, false, refl, sym, ap, ◌∙◌, arith, inl, inr}
+use Rattle.std.proofs.Common.{◌≡◌, ◌∷◌, [], ◌++◌, Ok, Err, false, refl, sym, ap, ◌∙◌, arith, inl, inr}
 use Rattle.std.proofs.KnownBytes.{Appends-trans}
 use Rattle.std.proofs.lemmas.Result.{err_from_is_err_and}
 use Rattle.pt_http.proofs.MomentLemmas.{next_some, next_none, nothing_left}
 use Rattle.pt_http.proofs.ReceivedLemmas.{reads_input, none_left}
-use Rattle.pt_http.proofs.RehearsalLemmas.{StandsAt, begun, stops, ends, step_of, one_more, went_on, stopped_here, stopped_unanswered, stopped_unheard, either, read_no_line, read_code_no_line}
+use Rattle.pt_http.proofs.RehearsalLemmas.{begun, stops, ends, step_of, one_more, went_on, stopped_here, stopped_unanswered, stopped_unheard, either, read_no_line, read_code_no_line}
 use Rattle.pt_http.proofs.rehearsal.go_through.Goals as goal
 
 pub loop-init : goal.loop-init

@@ -1,4 +1,4 @@
-use Rattle.std.proofs.Common.{◌≡◌, ◌++◌, refl, subst, sym, ap, ◌∙◌, drop, List, ℕ}
+use Rattle.std.proofs.Common.{◌++◌, refl, subst, sym, ap, ◌∙◌, drop, List, ℕ}
 use Rattle.pt_http_inbox.specs.Inbox.{held}
 use Rattle.pt_http_moment.specs.Moment.{BeginsWithMoment}
 use Rattle.pt_http_moment.proofs.MomentLemmas.{moment_before, no_moment_after}
