@@ -1,3 +1,4 @@
+pub mod AnyDecided
 pub mod Bridge
 pub mod Decided
 pub mod Squares

@@ -43,7 +43,7 @@ pub fn runs(routes: &[FixedRoute], place: &Place, day: Day, minute: Minute) -> b
 }
 
 /// Whether the route runs at that time and has both places in its corridor.
-fn joins(route: &FixedRoute, from: &Place, to: &Place, day: Day, minute: Minute) -> bool
+pub fn joins(route: &FixedRoute, from: &Place, to: &Place, day: Day, minute: Minute) -> bool
     ensures { IsTrue result ↔ Joins from.now to.now day minute route.now }
 {
     is_running(route, day, minute) && lies_in_corridor(route, from) && lies_in_corridor(route, to)

@@ -1,5 +1,6 @@
 pub mod AnsweringLemmas
 pub mod FilingLemmas
+pub mod VisitLemmas
 pub mod OrderLemmas
 pub mod RecordLemmas
 pub mod RunLemmas

@@ -7,15 +7,17 @@ use Rattle.std.proofs.lemmas.Slice.Eq.{bytes_eq-Decides}
 use Rattle.pt_base.specs.declared.place.Place.{Place}
 use Rattle.pt_base.specs.declared.policy.Policy.{Policy}
 use Rattle.pt_base.specs.declared.rule.Rule.{Rule}
+use Rattle.pt_base.specs.declared.rider.Residence.{Residence}
+use Rattle.pt_base.specs.declared.rider.Residence.TheVariants.{Resident, Visitor}
 use Rattle.pt_base.specs.declared.rider.Rider.{Rider}
 use Rattle.pt_corridor.specs.Route.{Route}
 use Rattle.pt_rights.specs.Rules.{first_failing}
 use Rattle.pt_rights.specs.Admission.{is_resident}
 use Rattle.pt_rights.specs.declared.case_file.TheConstants.{MOST_ENTRIES}
 use Rattle.pt_desk.specs.Records.{put, record_at, Each, IsInOrder, IsTable}
-use Rattle.pt_desk.specs.State.{State, caller_with, file_of, file_in, caller_key, kept_key, rider_key, file_key, put_entry}
+use Rattle.pt_desk.specs.State.{State, caller_with, rider_of, file_of, file_in, caller_key, kept_key, rider_key, file_key, put_entry}
 use Rattle.pt_desk.specs.Sound.{IsSound, AreSoundSettings, HasOneHolder, IsResidentIn, IsSoundFile}
-use Rattle.pt_desk.specs.Denial.{subject_is_there, is_nobody_else}
+use Rattle.pt_desk.specs.Denial.{subject_is_there, is_nobody_else, is_of_kind, is_nobody_of_another_kind}
 use Rattle.pt_desk.specs.Step.{numbered}
 use Rattle.pt_desk.specs.declared.caller.Caller.{Caller}
 use Rattle.pt_desk.specs.declared.caller.Role.{Role}
@@ -183,17 +185,25 @@ numbered_sound me number s sound there =
       files_sound = sound.files_sound;
     }
 
--- a resident's record stays a resident's while residents are put
-resident_stays : (riders : List Rider) (new : Rider) (id : ℕ) → IsTrue (is_resident new.kind) → IsResidentIn riders id → IsResidentIn (put rider_key new riders) id
-resident_stays riders new id resident is = elim (same_or_other new.id id) [
-  | inl same ↦ (new, ap (λ n. record_at rider_key n (put rider_key new riders)) (sym same) ∙ record_at-put_same rider_key new riders, resident)
+-- a record that takes the place of a resident's is a resident's
+resident_by_kind : (kind : Residence) (there : Rider) → IsTrue (is_of_kind kind there) → IsTrue (is_resident there.kind) → IsTrue (is_resident kind)
+resident_by_kind Resident there same resident = refl
+resident_by_kind Visitor there same resident = absurd (cc)
+
+-- a resident's record stays a resident's while no record of another kind is put in its place
+resident_stays : (riders : List Rider) (new : Rider) (id : ℕ) → IsTrue (is_nobody_of_another_kind new.kind (record_at rider_key new.id riders)) → IsResidentIn riders id → IsResidentIn (put rider_key new riders) id
+resident_stays riders new id free is = elim (same_or_other new.id id) [
+  | inl same ↦
+      let there : record_at rider_key new.id riders ≡ Some is.0 = ap (λ n. record_at rider_key n riders) same ∙ is.1 in
+      let resident : IsTrue (is_resident new.kind) = resident_by_kind new.kind is.0 (subst (λ found. IsTrue (is_nobody_of_another_kind new.kind found)) there free) is.2 in
+      (new, ap (λ n. record_at rider_key n (put rider_key new riders)) (sym same) ∙ record_at-put_same rider_key new riders, resident)
   | inr other ↦ (is.0, record_at-put_other rider_key id new riders other ∙ is.1, is.2)
 ]
 
--- putting a resident
-pub put_rider_sound : (s : State) (new : Rider) → IsSound s → IsTrue (is_resident new.kind)
+-- putting a rider
+pub put_rider_sound : (s : State) (new : Rider) → IsSound s → IsTrue (is_nobody_of_another_kind new.kind (rider_of new.id s))
     → IsTrue (is_some (record_at rider_key new.id s.riders) || nat_lt (length s.riders) MOST_RIDERS) → IsSound (record s { riders = put rider_key new s.riders })
-put_rider_sound s new sound resident room =
+put_rider_sound s new sound free room =
     let s' : State = record s { riders = put rider_key new s.riders } in
     record {
       callers = sound.callers;
@@ -204,7 +214,7 @@ put_rider_sound s new sound resident room =
       settings = sound.settings;
       riders = IsTable-put rider_key new s.riders MOST_RIDERS sound.riders room;
       files_in_order = sound.files_in_order;
-      files_sound = Each-weaker (IsSoundFile s.riders) (IsSoundFile (put rider_key new s.riders)) (λ kept is. record { resident = resident_stays s.riders new kept.rider resident is.resident; begun = is.begun; within = is.within }) s.files sound.files_sound;
+      files_sound = Each-weaker (IsSoundFile s.riders) (IsSoundFile (put rider_key new s.riders)) (λ kept is. record { resident = resident_stays s.riders new kept.rider free is.resident; begun = is.begun; within = is.within }) s.files sound.files_sound;
     }
 
 -- putting an entry into a resident's file that has room

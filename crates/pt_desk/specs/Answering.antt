@@ -29,5 +29,6 @@ abbrev pub IsAcceptedWrite : Result Answer StoreFault → Type 0
 IsAcceptedWrite (Ok answer.Done) = Unit {0}
 IsAcceptedWrite (Ok (answer.Entered place)) = Unit {0}
 IsAcceptedWrite (Ok (answer.Standing standing suspended)) = ⊥
+IsAcceptedWrite (Ok (answer.Visitor may_use)) = ⊥
 IsAcceptedWrite (Ok (answer.Denied rule)) = ⊥
 IsAcceptedWrite (Err fault) = ⊥

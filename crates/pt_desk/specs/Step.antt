@@ -1,14 +1,18 @@
 -- What one request makes of the state, and what it is told.
-use Rattle.std.specs.Prelude.{ℕ, List, length, Option, Some, None}
+use Rattle.std.specs.Prelude.{ℕ, true, List, length, Option, Some, None}
 use Rattle.sha2.specs.Sha256.{sha256}
 use Rattle.pt_base.specs.declared.rule.Rule.{Rule}
-use Rattle.pt_base.specs.declared.rider.Residence.TheVariants.{Resident}
+use Rattle.pt_base.specs.declared.rule.Rule.TheVariants as rule
+use Rattle.pt_base.specs.declared.rider.Residence.{Residence}
+use Rattle.pt_base.specs.declared.rider.Residence.TheVariants.{Resident, Visitor}
+use Rattle.pt_base.specs.declared.rider.Rider.{Rider}
 use Rattle.pt_corridor.specs.Route.{IsFixedRoute}
 use Rattle.pt_rights.specs.Rules.{first_failing}
 use Rattle.pt_rights.specs.Standing.{standing_of}
 use Rattle.pt_rights.specs.Suspension.{is_suspended}
+use Rattle.pt_rights.specs.declared.entry.Entered.{Entered}
 use Rattle.pt_desk.specs.Records.{put}
-use Rattle.pt_desk.specs.State.{State, caller_with, file_of, caller_key, kept_key, place_key, route_key, rider_key, put_entry}
+use Rattle.pt_desk.specs.State.{State, caller_with, rider_of, file_of, caller_key, kept_key, place_key, route_key, rider_key, put_entry}
 use Rattle.pt_desk.specs.Denial.{rules_of}
 use Rattle.pt_desk.specs.declared.caller.Caller.{Caller}
 use Rattle.pt_desk.specs.declared.request.Request.{Request}
@@ -16,16 +20,26 @@ use Rattle.pt_desk.specs.declared.request.Request.TheVariants as request
 use Rattle.pt_desk.specs.declared.request.Answer.{Answer}
 use Rattle.pt_desk.specs.declared.request.Answer.TheVariants as answer
 
+-- what is told of a rider of this kind on a day: of a visitor, whether the day may be used (37.127(e)), and any day
+-- may, so long as no trips are booked; of a resident, what the case file gives
+abbrev pub told_of_kind : Residence → List Entered → ℕ → ℕ → Answer
+told_of_kind Visitor file today day = answer.Visitor true
+told_of_kind Resident file today day = answer.Standing (standing_of file today day) (is_suspended file day)
+
+-- what is told of the standing of a rider, if there is one
+abbrev pub told_standing : Option Rider → List Entered → ℕ → ℕ → Answer
+told_standing None file today day = answer.Denied rule.Unknown
+told_standing (Some there) file today day = told_of_kind there.kind file today day
+
 -- what an accepted request is told
 abbrev pub accepted_answer : Request → ℕ → State → Answer
 accepted_answer (request.PutCaller new) today s = answer.Done
 accepted_answer (request.PutPolicy new) today s = answer.Done
 accepted_answer (request.PutPlace new) today s = answer.Done
 accepted_answer (request.PutRoute new) today s = answer.Done
-accepted_answer (request.PutRider rider attendant) today s = answer.Done
+accepted_answer (request.PutRider new) today s = answer.Done
 accepted_answer (request.Enter rider entry) today s = answer.Entered (length (file_of rider s))
-accepted_answer (request.Standing rider day) today s =
-    answer.Standing (standing_of (file_of rider s) today day) (is_suspended (file_of rider s) day)
+accepted_answer (request.Standing rider day) today s = told_standing (rider_of rider s) (file_of rider s) today day
 
 -- what an accepted request of this caller makes of the records, its number apart
 abbrev pub effect : Request → Caller → ℕ → State → State
@@ -33,8 +47,7 @@ effect (request.PutCaller new) me today s = record s { callers = put caller_key 
 effect (request.PutPolicy new) me today s = record s { policy = new }
 effect (request.PutPlace new) me today s = record s { places = put place_key new s.places }
 effect (request.PutRoute new) me today s = record s { routes = put route_key new s.routes }
-effect (request.PutRider rider attendant) me today s =
-    record s { riders = put rider_key (record { id = rider; kind = Resident; attendant = attendant }) s.riders }
+effect (request.PutRider new) me today s = record s { riders = put rider_key new s.riders }
 effect (request.Enter rider entry) me today s =
     record s { files = put_entry (record { rider = rider; entered = record { entry = entry; day = today; author = me.id } }) s.files }
 effect (request.Standing rider day) me today s = s

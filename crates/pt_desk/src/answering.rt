@@ -70,9 +70,7 @@ fn answer_by_rules<K: Keeper>(
         Request::PutPolicy(new) => settings::put_policy(keeper, &me, number, new),
         Request::PutPlace(new) => settings::put_place(keeper, &me, number, new),
         Request::PutRoute(new) => settings::put_route(alloc, keeper, &me, number, new),
-        Request::PutRider { rider, attendant } => {
-            riders::put_rider(keeper, &me, number, *rider, *attendant)
-        }
+        Request::PutRider(new) => riders::put_rider(keeper, &me, number, new),
         Request::Enter { rider, entry } => {
             files::enter(alloc, keeper, &me, today, number, *rider, entry)
         }

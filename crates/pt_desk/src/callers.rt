@@ -76,7 +76,7 @@ fn caller_has_room<K: Keeper>(keeper: &mut K, id: CallerId) -> Result<bool, Stor
 /// The rule by which the records deny a new caller.
 fn caller_denial<K: Keeper>(keeper: &mut K, new: &Caller) -> Result<Option<Rule>, StoreFault>
     ensures reads { K.doubt keeper.new ≡ 0
-        → Reads (K.shut keeper.new) (K.content keeper.old) (K.content keeper.new) (first_failing (record_rules (PutCaller new.now) 0 (K.content keeper.old))) result }
+        → Reads (K.shut keeper.new) (K.content keeper.old) (K.content keeper.new) (first_failing (record_rules (PutCaller new.now) 0 0 (K.content keeper.old))) result }
     ensures clean { K.doubt keeper.old ≤ K.doubt keeper.new }
     ensures serves { K.shut keeper.old ≤ K.shut keeper.new }
     ensures fails { MayFail (K.failures keeper.old) (K.failures keeper.new) result }

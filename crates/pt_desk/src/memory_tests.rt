@@ -1,7 +1,7 @@
 use crate::{
     Answer, Caller, Digest, Keeper, Kept, ListKeeper, Reply, Request, Role, StoreFault, answer,
 };
-use pt_base::{CallerId, Day, Minute, Rider, RiderId};
+use pt_base::{CallerId, Day, Minute, Residence, Rider, RiderId};
 use pt_rights::{CaseFile, Entry, Reasons, Standing};
 use std::alloc::Global;
 use std::test::Fail;
@@ -40,16 +40,16 @@ fn ask(
     now: (Day, Minute),
     caller: u32,
     number: u32,
-    request: &Request,
+    request: Request,
 ) -> Result<Reply, Fail> {
     let key = if caller == 1 { b"abc" } else { b"def" };
     let caller = CallerId::of(caller).ok_or("a number")?;
     let before = seen(keeper, alloc, caller)?;
-    match answer(alloc, keeper, now, key, number, request) {
+    match answer(alloc, keeper, now, key, number, &request) {
         Err(StoreFault::Memory) => {
             let same = seen(keeper, alloc, caller)? == before;
             same.then_some(()).ok_or("a refusal that changes nothing")?;
-            Ok(answer(alloc, keeper, now, key, number, request))
+            Ok(answer(alloc, keeper, now, key, number, &request))
         }
         reply => Ok(reply),
     }
@@ -70,6 +70,18 @@ fn least_desk(alloc: Global) -> Result<ListKeeper, Fail> {
     }
 }
 
+fn caller(number: u32, role: Role, key: &[u8]) -> Result<Request, Fail> {
+    Ok(Request::PutCaller(Caller {
+        id: CallerId::of(number).ok_or("a number")?,
+        role,
+        digest: Digest::of_key(key),
+    }))
+}
+
+fn enter(rider: RiderId, entry: Entry) -> Request {
+    Request::Enter { rider, entry }
+}
+
 /// Passes with any one allocation refused: `rt try --test --fail-alloc N`.
 #[test]
 fn a_refusal_of_memory_is_named_and_changes_nothing(rt: HostRuntime) -> Result<(), Fail> {
@@ -81,44 +93,29 @@ fn a_refusal_of_memory_is_named_and_changes_nothing(rt: HostRuntime) -> Result<(
         Minute::of(480).ok_or("a minute")?,
     );
     let rider = RiderId::of(7).ok_or("a number")?;
-    let examiner = Request::PutCaller(Caller {
-        id: CallerId::of(2).ok_or("a number")?,
-        role: Role::Examiner,
-        digest: Digest::of_key(b"def"),
-    });
-    let clerk = Request::PutCaller(Caller {
-        id: CallerId::of(1).ok_or("a number")?,
-        role: Role::Clerk,
-        digest: Digest::of_key(b"abc"),
-    });
-    let resident = Request::PutRider {
-        rider,
+    let (done, second): (Reply, Reply) = (Ok(Answer::Done), Ok(Answer::Entered(1)));
+    let examiner = caller(2, Role::Examiner, b"def")?;
+    assert_eq!(rt; ask(alloc, desk, now, 1, 1, examiner)?, done);
+    let clerk = caller(1, Role::Clerk, b"abc")?;
+    assert_eq!(rt; ask(alloc, desk, now, 1, 2, clerk)?, done);
+    let resident = Request::PutRider(Rider {
+        id: rider,
+        kind: Residence::Resident,
         attendant: false,
-    };
-    let complete = Request::Enter {
-        rider,
-        entry: Entry::Complete,
-    };
-    let refuse = Request::Enter {
-        rider,
-        entry: Entry::Refuse(reasons(alloc)?),
-    };
-    let standing = Request::Standing { rider, day: now.0 };
-    assert_eq!(rt; ask(alloc, desk, now, 1, 1, &examiner)?, Ok(Answer::Done));
-    assert_eq!(rt; ask(alloc, desk, now, 1, 2, &clerk)?, Ok(Answer::Done));
-    assert_eq!(rt; ask(alloc, desk, now, 1, 3, &resident)?, Ok(Answer::Done));
+    });
+    assert_eq!(rt; ask(alloc, desk, now, 1, 3, resident)?, done);
+    let complete = enter(rider, Entry::Complete);
     assert_eq!(rt;
-        ask(alloc, desk, now, 1, 4, &complete)?,
+        ask(alloc, desk, now, 1, 4, complete)?,
         Ok(Answer::Entered(0))
     );
-    assert_eq!(rt;
-        ask(alloc, desk, now, 2, 1, &refuse)?,
-        Ok(Answer::Entered(1))
-    );
+    let refuse = enter(rider, Entry::Refuse(reasons(alloc)?));
+    assert_eq!(rt; ask(alloc, desk, now, 2, 1, refuse)?, second);
     let none: Reply = Ok(Answer::Standing {
         standing: Standing::None,
         suspended: false,
     });
-    assert_eq!(rt; ask(alloc, desk, now, 2, 0, &standing)?, none);
+    let standing = Request::Standing { rider, day: now.0 };
+    assert_eq!(rt; ask(alloc, desk, now, 2, 0, standing)?, none);
     Ok(())
 }

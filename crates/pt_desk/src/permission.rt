@@ -1,8 +1,7 @@
 ghost use Rattle.std.specs.Prelude.{◌≡◌};
-ghost use Rattle.pt_desk.specs.Permission.{is_admin, is_clerk, is_examiner, may_enter};
+ghost use Rattle.pt_desk.specs.Permission.{is_admin, is_clerk, is_examiner, is_officer};
 
 use crate::Role;
-use pt_rights::Entry;
 
 impl Role {
     /// Whether it is the admin's.
@@ -36,7 +35,7 @@ impl Role {
     }
 
     /// Whether it is an examiner's.
-    fn is_examiner(self) -> bool
+    pub(crate) fn is_examiner(self) -> bool
         ensures { result ≡ is_examiner self }
     {
         match self {
@@ -50,13 +49,18 @@ impl Role {
         }
     }
 
-    /// Whether it enters such entries.
-    pub(crate) fn may_enter(self, entry: &Entry) -> bool
-        ensures { result ≡ may_enter entry.now self }
+    /// Whether it is an officer's.
+    pub(crate) fn is_officer(self) -> bool
+        ensures { result ≡ is_officer self }
     {
-        match entry {
-            Entry::Complete => self.is_clerk(),
-            Entry::Grant(_) | Entry::Refuse(_) => self.is_examiner(),
+        match self {
+            Role::Officer => true,
+            Role::Rider(_)
+            | Role::Clerk
+            | Role::Examiner
+            | Role::Dispatcher
+            | Role::Driver(_)
+            | Role::Admin => false,
         }
     }
 }

@@ -1,5 +1,5 @@
 use crate::{Caller, StoreFault};
-use pt_base::{Day, Minute, Place, Policy, RiderId, Rule};
+use pt_base::{Day, Minute, Place, Policy, Rider, RiderId, Rule};
 use pt_corridor::FixedRoute;
 use pt_rights::{Entry, Standing};
 
@@ -14,8 +14,8 @@ pub enum Request {
     PutPlace(Place),
     /// Makes a fixed route, or replaces the one of that number.
     PutRoute(FixedRoute),
-    /// Makes a resident's record, or changes whether it names an attendant.
-    PutRider { rider: RiderId, attendant: bool },
+    /// Makes a rider's record, or changes whether it names an attendant.
+    PutRider(Rider),
     /// Enters something in a resident's case file.
     Enter { rider: RiderId, entry: Entry },
     /// Asks for a rider's standing on a day.
@@ -29,8 +29,10 @@ pub enum Answer {
     Done,
     /// It stands in the case file at this place, counted from 0.
     Entered(u32),
-    /// The rider's standing on the day, and whether the rider is suspended on it.
+    /// The resident's standing on the day, and whether the rider is suspended on it.
     Standing { standing: Standing, suspended: bool },
+    /// Whether the visitor may use the day.
+    Visitor { may_use: bool },
     /// The first rule that it breaks. Nothing is changed.
     Denied(Rule),
 }

@@ -43,7 +43,7 @@ pub(crate) fn put_policy<K: Keeper>(keeper: &mut K, me: &Caller, number: u32, ne
 /// The rule by which the records deny a new place.
 fn place_denial<K: Keeper>(keeper: &mut K, new: &Place) -> Result<Option<Rule>, StoreFault>
     ensures reads { K.doubt keeper.new ≡ 0
-        → Reads (K.shut keeper.new) (K.content keeper.old) (K.content keeper.new) (first_failing (record_rules (PutPlace new.now) 0 (K.content keeper.old))) result }
+        → Reads (K.shut keeper.new) (K.content keeper.old) (K.content keeper.new) (first_failing (record_rules (PutPlace new.now) 0 0 (K.content keeper.old))) result }
     ensures clean { K.doubt keeper.old ≤ K.doubt keeper.new }
     ensures serves { K.shut keeper.old ≤ K.shut keeper.new }
     ensures fails { MayFail (K.failures keeper.old) (K.failures keeper.new) result }

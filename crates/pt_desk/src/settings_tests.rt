@@ -47,7 +47,7 @@ fn the_admin_replaces_the_policy_whole(rt: HostRuntime) -> Result<(), Fail> {
     let desk = &mut keeper;
     let policy = Request::PutPolicy(POLICY);
     assert_eq!(rt;
-        ask(alloc, desk, TODAY, "abc", 1, &policy)?,
+        ask(alloc, desk, TODAY, "abc", 1, policy)?,
         Ok(Answer::Done)
     );
     assert_eq!(rt; keeper.policy()?, POLICY);
@@ -60,17 +60,14 @@ fn a_clerk_puts_no_settings(rt: HostRuntime) -> Result<(), Fail> {
     let mut keeper = ListKeeper::new(alloc, b"abc")?;
     let desk = &mut keeper;
     let clerk = put_caller(2, Role::Clerk, "hello")?;
-    assert_eq!(rt;
-        ask(alloc, desk, TODAY, "abc", 1, &clerk)?,
-        Ok(Answer::Done)
-    );
+    assert_eq!(rt; ask(alloc, desk, TODAY, "abc", 1, clerk)?, Ok(Answer::Done));
     let denied: Reply = Ok(Answer::Denied(Rule::Caller));
     let policy = Request::PutPolicy(POLICY);
-    assert_eq!(rt; ask(alloc, desk, TODAY, "hello", 1, &policy)?, denied);
+    assert_eq!(rt; ask(alloc, desk, TODAY, "hello", 1, policy)?, denied);
     let place = Request::PutPlace(place(1, false)?);
-    assert_eq!(rt; ask(alloc, desk, TODAY, "hello", 1, &place)?, denied);
+    assert_eq!(rt; ask(alloc, desk, TODAY, "hello", 1, place)?, denied);
     let route = put_route(alloc, 1, 3_960)?;
-    assert_eq!(rt; ask(alloc, desk, TODAY, "hello", 1, &route)?, denied);
+    assert_eq!(rt; ask(alloc, desk, TODAY, "hello", 1, route)?, denied);
     Ok(())
 }
 
@@ -82,18 +79,18 @@ fn a_place_is_made_once_and_a_hundred_are_all(rt: HostRuntime) -> Result<(), Fai
     for number in 1..101u32 {
         let put = Request::PutPlace(place(number, false)?);
         assert_eq!(rt;
-            ask(alloc, desk, TODAY, "abc", number, &put)?,
+            ask(alloc, desk, TODAY, "abc", number, put)?,
             Ok(Answer::Done)
         );
     }
     let again = Request::PutPlace(place(100, true)?);
     assert_eq!(rt;
-        ask(alloc, desk, TODAY, "abc", 101, &again)?,
+        ask(alloc, desk, TODAY, "abc", 101, again)?,
         Ok(Answer::Denied(Rule::Exists))
     );
     let more = Request::PutPlace(place(101, false)?);
     assert_eq!(rt;
-        ask(alloc, desk, TODAY, "abc", 101, &more)?,
+        ask(alloc, desk, TODAY, "abc", 101, more)?,
         Ok(Answer::Denied(Rule::Full))
     );
     let last = place(100, false)?;
@@ -116,19 +113,19 @@ fn a_route_is_replaced_and_fifty_are_all(rt: HostRuntime) -> Result<(), Fail> {
                 TODAY,
                 "abc",
                 number,
-                &put_route(alloc, number, 3_960)?
+                put_route(alloc, number, 3_960)?
             )?,
             Ok(Answer::Done)
         );
     }
     let more = put_route(alloc, 51, 3_960)?;
     assert_eq!(rt;
-        ask(alloc, desk, TODAY, "abc", 51, &more)?,
+        ask(alloc, desk, TODAY, "abc", 51, more)?,
         Ok(Answer::Denied(Rule::Full))
     );
     let wider = put_route(alloc, 50, 7_920)?;
     assert_eq!(rt;
-        ask(alloc, desk, TODAY, "abc", 51, &wider)?,
+        ask(alloc, desk, TODAY, "abc", 51, wider)?,
         Ok(Answer::Done)
     );
     assert_eq!(rt; keeper.route_count()?, 50);

@@ -1,5 +1,5 @@
 use crate::{Answer, Call, Caller, Digest, Keeper, ListKeeper, Reply, Request, Role, answer, run};
-use pt_base::{CallerId, Day, Minute, RiderId, Rule, VehicleId};
+use pt_base::{CallerId, Day, Minute, Residence, Rider, RiderId, Rule, VehicleId};
 use pt_rights::{Condition, Conditions, Entry, Grant, Reasons, Standing};
 use std::alloc::Global;
 use std::test::Fail;
@@ -25,11 +25,16 @@ pub(crate) fn put_caller(number: u32, role: Role, key: &str) -> Result<Request, 
     }))
 }
 
-fn put_rider(number: u32) -> Result<Request, Fail> {
-    Ok(Request::PutRider {
-        rider: rider_id(number)?,
+fn put_rider_of_kind(number: u32, kind: Residence) -> Result<Request, Fail> {
+    Ok(Request::PutRider(Rider {
+        id: rider_id(number)?,
+        kind,
         attendant: false,
-    })
+    }))
+}
+
+fn put_rider(number: u32) -> Result<Request, Fail> {
+    put_rider_of_kind(number, Residence::Resident)
 }
 
 fn enter(rider: u32, entry: Entry) -> Result<Request, Fail> {
@@ -60,10 +65,10 @@ pub(crate) fn ask(
     today: &str,
     key: &str,
     number: u32,
-    request: &Request,
+    request: Request,
 ) -> Result<Reply, Fail> {
     let now = (day(today)?, Minute::of(480).ok_or("a minute")?);
-    Ok(answer(alloc, keeper, now, key.as_bytes(), number, request))
+    Ok(answer(alloc, keeper, now, key.as_bytes(), number, &request))
 }
 
 fn without_standing() -> Reply {
@@ -79,17 +84,17 @@ fn desk_with_an_application(alloc: Global) -> Result<ListKeeper, Fail> {
     let clerk = put_caller(2, Role::Clerk, "hello")?;
     let examiner = put_caller(3, Role::Examiner, "judge")?;
     let today = "2025-02-17";
-    ask(alloc, &mut keeper, today, "abc", 1, &clerk)?
+    ask(alloc, &mut keeper, today, "abc", 1, clerk)?
         .ok()
         .ok_or("a clerk")?;
-    ask(alloc, &mut keeper, today, "abc", 2, &examiner)?
+    ask(alloc, &mut keeper, today, "abc", 2, examiner)?
         .ok()
         .ok_or("an examiner")?;
-    ask(alloc, &mut keeper, today, "hello", 1, &put_rider(7)?)?
+    ask(alloc, &mut keeper, today, "hello", 1, put_rider(7)?)?
         .ok()
         .ok_or("a rider")?;
     let complete = enter(7, Entry::Complete)?;
-    ask(alloc, &mut keeper, today, "hello", 2, &complete)?
+    ask(alloc, &mut keeper, today, "hello", 2, complete)?
         .ok()
         .ok_or("an entry")?;
     Ok(keeper)
@@ -102,26 +107,23 @@ fn an_unanswered_application_is_presumed_granted(rt: HostRuntime) -> Result<(), 
     let desk = &mut keeper;
     let today = "2025-02-17";
     let clerk = put_caller(2, Role::Clerk, "hello")?;
+    assert_eq!(rt; ask(alloc, desk, today, "abc", 1, clerk)?, Ok(Answer::Done));
     assert_eq!(rt;
-        ask(alloc, desk, today, "abc", 1, &clerk)?,
-        Ok(Answer::Done)
-    );
-    assert_eq!(rt;
-        ask(alloc, desk, today, "hello", 1, &put_rider(7)?)?,
+        ask(alloc, desk, today, "hello", 1, put_rider(7)?)?,
         Ok(Answer::Done)
     );
     let complete = enter(7, Entry::Complete)?;
     assert_eq!(rt;
-        ask(alloc, desk, today, "hello", 2, &complete)?,
+        ask(alloc, desk, today, "hello", 2, complete)?,
         Ok(Answer::Entered(0))
     );
-    let asked = standing(7, "2025-03-14")?;
+    let trip = "2025-03-14";
     assert_eq!(rt;
-        ask(alloc, desk, "2025-03-09", "hello", 0, &asked)?,
+        ask(alloc, desk, "2025-03-09", "hello", 0, standing(7, trip)?)?,
         without_standing()
     );
     assert_eq!(rt;
-        ask(alloc, desk, "2025-03-10", "hello", 0, &asked)?,
+        ask(alloc, desk, "2025-03-10", "hello", 0, standing(7, trip)?)?,
         Ok(Answer::Standing {
             standing: Standing::Presumed,
             suspended: false,
@@ -144,17 +146,17 @@ fn nobody_without_a_key_is_answered(rt: HostRuntime) -> Result<(), Fail> {
             today,
             "xyz",
             1,
-            &put_caller(4, Role::Clerk, "k")?
+            put_caller(4, Role::Clerk, "k")?
         )?,
         denied
     );
-    assert_eq!(rt; ask(alloc, desk, today, "xyz", 1, &put_rider(8)?)?, denied);
+    assert_eq!(rt; ask(alloc, desk, today, "xyz", 1, put_rider(8)?)?, denied);
     assert_eq!(rt;
-        ask(alloc, desk, today, "xyz", 1, &enter(7, Entry::Complete)?)?,
+        ask(alloc, desk, today, "xyz", 1, enter(7, Entry::Complete)?)?,
         denied
     );
     assert_eq!(rt;
-        ask(alloc, desk, today, "", 1, &standing(7, today)?)?,
+        ask(alloc, desk, today, "", 1, standing(7, today)?)?,
         denied
     );
     Ok(())
@@ -167,23 +169,23 @@ fn numbers_rise_and_a_denial_spends_none(rt: HostRuntime) -> Result<(), Fail> {
     let desk = &mut keeper;
     let today = "2025-03-10";
     let old: Reply = Ok(Answer::Denied(Rule::Number));
-    assert_eq!(rt; ask(alloc, desk, today, "hello", 0, &put_rider(8)?)?, old);
-    assert_eq!(rt; ask(alloc, desk, today, "hello", 2, &put_rider(8)?)?, old);
+    assert_eq!(rt; ask(alloc, desk, today, "hello", 0, put_rider(8)?)?, old);
+    assert_eq!(rt; ask(alloc, desk, today, "hello", 2, put_rider(8)?)?, old);
     let again = enter(7, Entry::Complete)?;
     let waits: Reply = Ok(Answer::Denied(Rule::Application));
-    assert_eq!(rt; ask(alloc, desk, today, "hello", 3, &again)?, waits);
+    assert_eq!(rt; ask(alloc, desk, today, "hello", 3, again)?, waits);
     assert_eq!(rt;
-        ask(alloc, desk, today, "hello", 3, &put_rider(8)?)?,
+        ask(alloc, desk, today, "hello", 3, put_rider(8)?)?,
         Ok(Answer::Done)
     );
     let replaced = put_caller(2, Role::Clerk, "new key")?;
     assert_eq!(rt;
-        ask(alloc, desk, today, "abc", 3, &replaced)?,
+        ask(alloc, desk, today, "abc", 3, replaced)?,
         Ok(Answer::Done)
     );
-    assert_eq!(rt; ask(alloc, desk, today, "new key", 3, &put_rider(9)?)?, old);
+    assert_eq!(rt; ask(alloc, desk, today, "new key", 3, put_rider(9)?)?, old);
     assert_eq!(rt;
-        ask(alloc, desk, today, "new key", 4, &put_rider(9)?)?,
+        ask(alloc, desk, today, "new key", 4, put_rider(9)?)?,
         Ok(Answer::Done)
     );
     Ok(())
@@ -203,33 +205,30 @@ fn each_role_asks_what_is_its_own(rt: HostRuntime) -> Result<(), Fail> {
             today,
             "hello",
             3,
-            &put_caller(4, Role::Clerk, "k")?
+            put_caller(4, Role::Clerk, "k")?
         )?,
         denied
     );
-    assert_eq!(rt; ask(alloc, desk, today, "abc", 3, &put_rider(8)?)?, denied);
+    assert_eq!(rt; ask(alloc, desk, today, "abc", 3, put_rider(8)?)?, denied);
     assert_eq!(rt;
-        ask(alloc, desk, today, "judge", 1, &enter(7, Entry::Complete)?)?,
+        ask(alloc, desk, today, "judge", 1, enter(7, Entry::Complete)?)?,
         denied
     );
     assert_eq!(rt;
-        ask(alloc, desk, today, "hello", 3, &enter(7, granted(today)?)?)?,
+        ask(alloc, desk, today, "hello", 3, enter(7, granted(today)?)?)?,
         denied
     );
     assert_eq!(rt;
-        ask(alloc, desk, today, "abc", 3, &standing(7, today)?)?,
+        ask(alloc, desk, today, "abc", 3, standing(7, today)?)?,
         denied
     );
     let rider = put_caller(5, Role::Rider(rider_id(7)?), "mine")?;
+    assert_eq!(rt; ask(alloc, desk, today, "abc", 3, rider)?, Ok(Answer::Done));
     assert_eq!(rt;
-        ask(alloc, desk, today, "abc", 3, &rider)?,
-        Ok(Answer::Done)
-    );
-    assert_eq!(rt;
-        ask(alloc, desk, today, "mine", 0, &standing(8, today)?)?,
+        ask(alloc, desk, today, "mine", 0, standing(8, today)?)?,
         denied
     );
-    assert!(rt; ask(alloc, desk, today, "mine", 0, &standing(7, today)?)? != denied);
+    assert!(rt; ask(alloc, desk, today, "mine", 0, standing(7, today)?)? != denied);
     Ok(())
 }
 
@@ -241,24 +240,96 @@ fn records_that_are_not_there_or_are_already(rt: HostRuntime) -> Result<(), Fail
     let today = "2025-03-10";
     let unknown: Reply = Ok(Answer::Denied(Rule::Unknown));
     assert_eq!(rt;
-        ask(alloc, desk, today, "hello", 3, &enter(8, Entry::Complete)?)?,
+        ask(alloc, desk, today, "hello", 3, enter(8, Entry::Complete)?)?,
         unknown
     );
     assert_eq!(rt;
-        ask(alloc, desk, today, "hello", 3, &standing(8, today)?)?,
+        ask(alloc, desk, today, "hello", 3, standing(8, today)?)?,
         unknown
     );
     let stranger = put_caller(5, Role::Rider(rider_id(8)?), "mine")?;
-    assert_eq!(rt; ask(alloc, desk, today, "abc", 3, &stranger)?, unknown);
+    assert_eq!(rt; ask(alloc, desk, today, "abc", 3, stranger)?, unknown);
     let driver = put_caller(
         5,
         Role::Driver(VehicleId::of(1).ok_or("a number")?),
         "drive",
     )?;
-    assert_eq!(rt; ask(alloc, desk, today, "abc", 3, &driver)?, unknown);
+    assert_eq!(rt; ask(alloc, desk, today, "abc", 3, driver)?, unknown);
     let same_key = put_caller(5, Role::Clerk, "hello")?;
     let exists: Reply = Ok(Answer::Denied(Rule::Exists));
-    assert_eq!(rt; ask(alloc, desk, today, "abc", 3, &same_key)?, exists);
+    assert_eq!(rt; ask(alloc, desk, today, "abc", 3, same_key)?, exists);
+    Ok(())
+}
+
+#[test]
+fn a_visitor_has_no_case_file(rt: HostRuntime) -> Result<(), Fail> {
+    let alloc = rt.alloc();
+    let mut keeper = desk_with_an_application(alloc)?;
+    let desk = &mut keeper;
+    let today = "2025-03-10";
+    let visitor = put_rider_of_kind(8, Residence::Visitor)?;
+    assert_eq!(rt;
+        ask(alloc, desk, today, "hello", 3, visitor)?,
+        Ok(Answer::Done)
+    );
+    let exists: Reply = Ok(Answer::Denied(Rule::Exists));
+    assert_eq!(rt; ask(alloc, desk, today, "hello", 4, put_rider(8)?)?, exists);
+    let resident = put_rider_of_kind(7, Residence::Visitor)?;
+    assert_eq!(rt; ask(alloc, desk, today, "hello", 4, resident)?, exists);
+    assert_eq!(rt;
+        ask(alloc, desk, today, "hello", 4, enter(8, Entry::Complete)?)?,
+        Ok(Answer::Denied(Rule::Residents))
+    );
+    assert_eq!(rt;
+        ask(alloc, desk, today, "hello", 0, standing(8, "2025-03-11")?)?,
+        Ok(Answer::Visitor { may_use: true })
+    );
+    Ok(())
+}
+
+/// Whether the caller of this key is denied the entry for the caller's role.
+fn is_not_for(alloc: Global, desk: &mut ListKeeper, key: &str, entry: Entry) -> Result<bool, Fail> {
+    let reply = ask(alloc, desk, "2025-03-10", key, 1_000, enter(7, entry)?)?;
+    Ok(matches!(reply, Ok(Answer::Denied(Rule::Caller))))
+}
+
+/// Whether the caller of this key is denied each entry that officers make.
+fn is_no_officer(alloc: Global, desk: &mut ListKeeper, key: &str) -> Result<bool, Fail> {
+    Ok(
+        is_not_for(alloc, desk, key, Entry::Heard)?
+            && is_not_for(alloc, desk, key, Entry::Overturn)?
+            && is_not_for(alloc, desk, key, Entry::NoticeHeard)?,
+    )
+}
+
+/// Whether the caller of this key is denied a notice.
+fn gives_no_notice(alloc: Global, desk: &mut ListKeeper, key: &str) -> Result<bool, Fail> {
+    let basis = Reasons::of(b"three missed trips".to_vec(alloc)?).ok_or("a basis")?;
+    is_not_for(alloc, desk, key, Entry::Notice(basis))
+}
+
+#[test]
+fn riders_and_clerks_appeal_and_officers_decide(rt: HostRuntime) -> Result<(), Fail> {
+    let alloc = rt.alloc();
+    let mut keeper = desk_with_an_application(alloc)?;
+    let desk = &mut keeper;
+    let today = "2025-03-10";
+    let done: Reply = Ok(Answer::Done);
+    assert_eq!(rt; ask(alloc, desk, today, "hello", 3, put_rider(8)?)?, done);
+    for (number, role, key) in [
+        (3, Role::Officer, "bench"),
+        (4, Role::Rider(rider_id(7)?), "mine"),
+        (5, Role::Rider(rider_id(8)?), "other"),
+    ] {
+        let caller = put_caller(number + 1, role, key)?;
+        assert_eq!(rt; ask(alloc, desk, today, "abc", number, caller)?, done);
+    }
+    for key in ["abc", "hello", "judge", "bench", "mine", "other"] {
+        let appeals = !is_not_for(alloc, desk, key, Entry::Appeal { against: 0 })?;
+        assert_eq!(rt; appeals, key == "hello" || key == "mine", "{key}");
+        assert_eq!(rt; is_no_officer(alloc, desk, key)?, key != "bench", "{key}");
+        assert_eq!(rt; gives_no_notice(alloc, desk, key)?, key != "hello", "{key}");
+    }
     Ok(())
 }
 
@@ -270,17 +341,30 @@ fn a_decision_answers_an_application(rt: HostRuntime) -> Result<(), Fail> {
     let today = "2025-03-11";
     let late = enter(7, granted("2025-03-10")?)?;
     let denied: Reply = Ok(Answer::Denied(Rule::LastDay));
-    assert_eq!(rt; ask(alloc, desk, today, "judge", 1, &late)?, denied);
+    assert_eq!(rt; ask(alloc, desk, today, "judge", 1, late)?, denied);
     let grant = enter(7, granted("2025-03-11")?)?;
     assert_eq!(rt;
-        ask(alloc, desk, today, "judge", 1, &grant)?,
+        ask(alloc, desk, today, "judge", 1, grant)?,
         Ok(Answer::Entered(1))
     );
-    let reasons = Reasons::of(b"no reasons".to_vec(alloc)?).ok_or("reasons")?;
-    let refuse = enter(7, Entry::Refuse(reasons))?;
-    let unasked: Reply = Ok(Answer::Denied(Rule::Application));
-    assert_eq!(rt; ask(alloc, desk, today, "judge", 2, &refuse)?, unasked);
-    let told = ask(alloc, desk, today, "hello", 0, &standing(7, today)?)?;
+    let twice = enter(7, granted("2025-03-11")?)?;
+    let again: Reply = Ok(Answer::Denied(Rule::Application));
+    assert_eq!(rt; ask(alloc, desk, today, "judge", 2, twice)?, again);
+    Ok(())
+}
+
+#[test]
+fn a_grant_gives_standing_to_its_last_day(rt: HostRuntime) -> Result<(), Fail> {
+    let alloc = rt.alloc();
+    let mut keeper = desk_with_an_application(alloc)?;
+    let desk = &mut keeper;
+    let today = "2025-03-11";
+    let grant = enter(7, granted(today)?)?;
+    assert_eq!(rt;
+        ask(alloc, desk, today, "judge", 1, grant)?,
+        Ok(Answer::Entered(1))
+    );
+    let told = ask(alloc, desk, today, "hello", 0, standing(7, today)?)?;
     assert!(rt;
         matches!(
             &told,
@@ -291,7 +375,7 @@ fn a_decision_answers_an_application(rt: HostRuntime) -> Result<(), Fail> {
         )
     );
     assert_eq!(rt;
-        ask(alloc, desk, today, "hello", 0, &standing(7, "2025-03-12")?)?,
+        ask(alloc, desk, today, "hello", 0, standing(7, "2025-03-12")?)?,
         without_standing()
     );
     Ok(())
@@ -338,19 +422,22 @@ fn a_run_answers_each_call_in_turn(rt: HostRuntime) -> Result<(), Fail> {
     Ok(())
 }
 
+fn refuse(alloc: Global, rider: u32) -> Result<Request, Fail> {
+    let reasons = Reasons::of(b"no reasons".to_vec(alloc)?).ok_or("reasons")?;
+    enter(rider, Entry::Refuse(reasons))
+}
+
 #[test]
 fn a_case_file_of_two_hundred_entries_is_full(rt: HostRuntime) -> Result<(), Fail> {
     let alloc = rt.alloc();
     let mut keeper = desk_with_an_application(alloc)?;
     let desk = &mut keeper;
     let today = "2025-03-10";
-    let complete = enter(7, Entry::Complete)?;
-    let reasons = Reasons::of(b"no reasons".to_vec(alloc)?).ok_or("reasons")?;
-    let refuse = enter(7, Entry::Refuse(reasons))?;
     for turn in 0..100u32 {
-        let refused = ask(alloc, desk, today, "judge", turn + 1, &refuse)?;
+        let refused = ask(alloc, desk, today, "judge", turn + 1, refuse(alloc, 7)?)?;
         assert_eq!(rt; refused, Ok(Answer::Entered(2 * turn + 1)));
-        let completed = ask(alloc, desk, today, "hello", turn + 3, &complete)?;
+        let complete = enter(7, Entry::Complete)?;
+        let completed = ask(alloc, desk, today, "hello", turn + 3, complete)?;
         let place = 2 * turn + 2;
         if place < 200 {
             assert_eq!(rt; completed, Ok(Answer::Entered(place)));

@@ -15,6 +15,8 @@ mod reading;
 mod received;
 mod rehearsal;
 #[cfg(test)]
+mod rights_tests;
+#[cfg(test)]
 mod settings_tests;
 #[cfg(test)]
 mod tests;

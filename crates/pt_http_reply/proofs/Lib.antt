@@ -1,3 +1,2 @@
-pub mod ConditionsLemmas
 pub mod DayLemmas
 pub mod ReplyLemmas

@@ -12,6 +12,7 @@ use Rattle.pt_http_reply.proofs.DayLemmas.{IsDateText-unique}
 
 until_of_standing : (s : Standing) (a b : List ℕ) → IsUntilOfStanding s a → IsUntilOfStanding s b → a ≡ b
 until_of_standing standing.Presumed a b is other = is ∙ sym other
+until_of_standing standing.AppealOverdue a b is other = is ∙ sym other
 until_of_standing standing.None a b is other = is ∙ sym other
 until_of_standing (standing.Granted grant) a b is other = IsDateText-unique (pos grant.until) a b is other
 
@@ -19,6 +20,7 @@ until_of_answer : (told : Answer) (a b : List ℕ) → IsUntil (response.Answere
 until_of_answer answer.Done a b is other = is ∙ sym other
 until_of_answer (answer.Entered place) a b is other = is ∙ sym other
 until_of_answer (answer.Standing standing suspended) a b is other = until_of_standing standing a b is other
+until_of_answer (answer.Visitor may_use) a b is other = is ∙ sym other
 until_of_answer (answer.Denied rule) a b is other = is ∙ sym other
 
 until_of : (reply : Response) (a b : List ℕ) → IsUntil reply a → IsUntil reply b → a ≡ b

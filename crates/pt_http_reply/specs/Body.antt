@@ -6,7 +6,7 @@ use Rattle.pt_base.specs.Rule.{name_of}
 use Rattle.pt_rights.specs.declared.case_file.Standing.{Standing}
 use Rattle.pt_rights.specs.declared.case_file.Standing.TheVariants as standing
 use Rattle.pt_rights.specs.declared.conditions.Condition.{Condition}
-use Rattle.pt_rights.specs.declared.conditions.Condition.TheVariants as condition
+use Rattle.pt_rights_texts.specs.Texts.{condition_text}
 use Rattle.pt_desk.specs.declared.keeper.StoreFault.TheVariants.{Memory, Store}
 use Rattle.pt_desk.specs.declared.request.Answer.{Answer}
 use Rattle.pt_desk.specs.declared.request.Answer.TheVariants as answer
@@ -22,22 +22,31 @@ truth_text true = codes "true"
 truth_text false = codes "false"
 
 -- a condition of a grant, as a JSON text
-abbrev pub condition_text : Condition → List ℕ
-condition_text condition.Always = codes "\"always\""
+abbrev pub condition_json : Condition → List ℕ
+condition_json condition = codes "\"" ++ condition_text condition ++ codes "\""
 
 -- the conditions of a grant in their order, with a comma (byte 44) between each two
 abbrev pub conditions_text : List Condition → List ℕ
-conditions_text members = join_with_byte 44 (map condition_text members)
+conditions_text members = join_with_byte 44 (map condition_json members)
 
--- a rider's standing, where `until` is the text of a grant's last day
+-- a standing that has no more than a name
+abbrev pub named_standing_body : List ℕ → Bool → List ℕ
+named_standing_body name suspended =
+    codes "{\"standing\":\"" ++ name ++ codes "\",\"suspended\":" ++ truth_text suspended ++ codes "}"
+
+-- a resident's standing, where `until` is the text of a grant's last day
 abbrev pub standing_body : Standing → Bool → List ℕ → List ℕ
-standing_body standing.Presumed suspended until =
-    codes "{\"standing\":\"presumed\",\"suspended\":" ++ truth_text suspended ++ codes "}"
-standing_body standing.None suspended until =
-    codes "{\"standing\":\"none\",\"suspended\":" ++ truth_text suspended ++ codes "}"
+standing_body standing.Presumed suspended until = named_standing_body (codes "presumed") suspended
+standing_body standing.AppealOverdue suspended until = named_standing_body (codes "appeal-overdue") suspended
+standing_body standing.None suspended until = named_standing_body (codes "none") suspended
 standing_body (standing.Granted grant) suspended until =
     codes "{\"conditions\":[" ++ conditions_text grant.conditions ++ codes "],\"standing\":\"granted\",\"suspended\":"
     ++ truth_text suspended ++ codes ",\"until\":\"" ++ until ++ codes "\"}"
+
+-- a visitor's standing: whether the visitor may use the day (49 CFR 37.127(e)); none is suspended
+abbrev pub visitor_body : Bool → List ℕ
+visitor_body true = named_standing_body (codes "visitor") false
+visitor_body false = named_standing_body (codes "visitor-used") false
 
 -- a denial by name
 abbrev pub denial_body : List ℕ → List ℕ
@@ -48,6 +57,7 @@ abbrev pub answer_body : Answer → List ℕ → List ℕ
 answer_body answer.Done until = codes "{\"done\":true}"
 answer_body (answer.Entered place) until = codes "{\"entered\":" ++ decimal place ++ codes "}"
 answer_body (answer.Standing standing suspended) until = standing_body standing suspended until
+answer_body (answer.Visitor may_use) until = visitor_body may_use
 answer_body (answer.Denied rule) until = denial_body (name_of rule)
 
 -- bytes that are no request: of a field, its name too
@@ -66,6 +76,7 @@ body_of (response.Refused refused) until = fault_body refused
 -- the text is that of the grant's last day, or empty where the reply has no grant
 abbrev pub IsUntilOfStanding : Standing → List ℕ → Type 0
 IsUntilOfStanding standing.Presumed until = until ≡ []
+IsUntilOfStanding standing.AppealOverdue until = until ≡ []
 IsUntilOfStanding standing.None until = until ≡ []
 IsUntilOfStanding (standing.Granted grant) until = IsDateText (pos grant.until) until
 

@@ -1,7 +1,7 @@
 ghost use Rattle.std.specs.Prelude.{◌≡◌, ◌≤◌, ◌++◌, ℕ, List, [], length, codes, decimal};
 ghost use Rattle.pt_http_reply.specs.Body.{body_of, denial_body, fault_body, IsUntil};
 
-use crate::standing::write_standing;
+use crate::standing::{write_standing, write_visitor};
 use crate::{ReplyBuffer, RequestFault, Response};
 use itoa::Buffer;
 use pt_desk::{Answer, StoreFault};
@@ -10,7 +10,7 @@ use pt_desk::{Answer, StoreFault};
 pub(crate) fn write_body(response: &Response, out: &mut ReplyBuffer)
     requires { out.old ≡ [] }
     ensures text { (until : List ℕ) × IsUntil response.now until × (out.new ≡ body_of response.now until) }
-    ensures short { length out.new ≤ 200 }
+    ensures short { length out.new ≤ 300 }
 {
     match response {
         Response::Answered(Ok(Answer::Done)) => out.push(b"{\"done\":true}"),
@@ -23,6 +23,7 @@ pub(crate) fn write_body(response: &Response, out: &mut ReplyBuffer)
                 },
             ),
         ) => write_standing(standing, *suspended, out),
+        Response::Answered(Ok(Answer::Visitor { may_use })) => write_visitor(*may_use, out),
         Response::Answered(Ok(Answer::Denied(rule))) => write_denial(rule.name(), out),
         Response::Answered(Err(StoreFault::Memory)) => write_denial("desk.memory", out),
         Response::Answered(Err(StoreFault::Store)) => write_denial("desk.store", out),

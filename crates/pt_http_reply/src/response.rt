@@ -50,7 +50,7 @@ pub fn write_response(response: &Response, out: &mut ReplyBuffer)
 /// The lines of the head before a body of so many bytes.
 fn write_head(response: &Response, body_length: usize, out: &mut ReplyBuffer)
     requires empty { out.old ≡ [] }
-    requires short { body_length ≤ 200 }
+    requires short { body_length ≤ 300 }
     ensures text { out.new ≡ head_text response.now body_length }
     ensures short { length out.new ≤ 200 }
 {

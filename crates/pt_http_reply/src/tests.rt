@@ -4,7 +4,7 @@ use crate::{
 };
 use pt_base::{Day, Rule};
 use pt_desk::{Answer, StoreFault};
-use pt_rights::{Condition, Conditions, Grant, Standing};
+use pt_rights::{Condition, Conditions, Feet, Grant, Months, Standing};
 use std::test::Fail;
 
 fn has_text(response: &Response, text: &str) -> bool {
@@ -110,6 +110,80 @@ fn a_grant(rt: HostRuntime) -> Result<(), Fail> {
             "200 OK",
             "111",
             "{\"conditions\":[\"always\",\"always\",\"always\",\"always\"],\"standing\":\"granted\",\"suspended\":true,\"until\":\"2026-03-11\"}"
+        )?
+    );
+    Ok(())
+}
+
+#[test]
+fn a_grant_under_conditions(rt: HostRuntime) -> Result<(), Fail> {
+    let until = Day::parse("2026-03-11")?;
+    let winter = Months::of(&[1, 2, 12]).expect(&rt, "three months");
+    let mile = Feet::of(5280).expect(&rt, "a mile");
+    let conditions = Conditions::of(&[
+        Condition::Months(winter),
+        Condition::Farther(mile),
+        Condition::NoLift,
+    ])
+    .expect(&rt, "three conditions");
+    let granted = standing_told(Standing::Granted(Grant { until, conditions }), false);
+    assert!(rt;
+        has_text(
+            &granted,
+            "HTTP/1.1 200 OK\r\nContent-Type: application/json\r\nContent-Length: 116\r\nConnection: close\r\n\r\n{\"conditions\":[\"months:1,2,12\",\"farther:5280\",\"nolift\"],\"standing\":\"granted\",\"suspended\":false,\"until\":\"2026-03-11\"}"
+        )
+    );
+    Ok(())
+}
+
+#[test]
+fn the_longest_reply(rt: HostRuntime) -> Result<(), Fail> {
+    let until = Day::parse("2026-03-11")?;
+    let year = Months::of(&[1, 2, 3, 4, 5, 6, 7, 8, 9, 10, 11, 12]).expect(&rt, "twelve months");
+    let conditions = Conditions::of(&[Condition::Months(year); 4]).expect(&rt, "four conditions");
+    let granted = standing_told(Standing::Granted(Grant { until, conditions }), false);
+    assert!(rt;
+        is_plain(
+            rt,
+            &granted,
+            "200 OK",
+            "220",
+            "{\"conditions\":[\"months:1,2,3,4,5,6,7,8,9,10,11,12\",\"months:1,2,3,4,5,6,7,8,9,10,11,12\",\"months:1,2,3,4,5,6,7,8,9,10,11,12\",\"months:1,2,3,4,5,6,7,8,9,10,11,12\"],\"standing\":\"granted\",\"suspended\":false,\"until\":\"2026-03-11\"}"
+        )?
+    );
+    Ok(())
+}
+
+#[test]
+fn standings_by_name_alone(rt: HostRuntime) -> Result<(), Fail> {
+    let overdue = standing_told(Standing::AppealOverdue, false);
+    assert!(rt;
+        is_plain(
+            rt,
+            &overdue,
+            "200 OK",
+            "47",
+            "{\"standing\":\"appeal-overdue\",\"suspended\":false}"
+        )?
+    );
+    let visitor = Response::Answered(Ok(Answer::Visitor { may_use: true }));
+    assert!(rt;
+        is_plain(
+            rt,
+            &visitor,
+            "200 OK",
+            "40",
+            "{\"standing\":\"visitor\",\"suspended\":false}"
+        )?
+    );
+    let used = Response::Answered(Ok(Answer::Visitor { may_use: false }));
+    assert!(rt;
+        is_plain(
+            rt,
+            &used,
+            "200 OK",
+            "45",
+            "{\"standing\":\"visitor-used\",\"suspended\":false}"
         )?
     );
     Ok(())

@@ -1,19 +1,23 @@
 -- What the body of a request asks, field by field: the first field that is not as it should be is the fault.
-use Rattle.std.specs.Prelude.{◌≡◌, ◌⊎◌, ◌==◌, ℕ, List, codes, bytes_eq, map, Some, Result, Ok, Err, if◌then◌else◌, option_and_then, ⊤}
+use Rattle.std.specs.Prelude.{◌≡◌, ◌⊎◌, ◌==◌, ℕ, List, [], ◌∷◌, codes, bytes_eq, map, All, Option, Some, None, Result, Ok, Err, if◌then◌else◌, option_and_then}
+use Rattle.pt_base.specs.declared.rider.Residence.{Residence}
+use Rattle.pt_base.specs.declared.rider.Residence.TheVariants as residence
+use Rattle.pt_base.specs.declared.rider.Rider.{Rider}
 use Rattle.pt_desk.specs.declared.caller.Caller.{Caller}
 use Rattle.pt_desk.specs.declared.caller.Role.{Role}
 use Rattle.pt_desk.specs.declared.caller.Role.TheVariants as role
-use Rattle.pt_rights.specs.Conditions.{IsConditions}
+use Rattle.pt_rights.specs.Conditions.{IsCondition, IsConditions}
 use Rattle.pt_rights.specs.declared.conditions.Condition.{Condition}
-use Rattle.pt_rights.specs.declared.conditions.Condition.TheVariants.{Always}
 use Rattle.pt_rights.specs.declared.entry.Entry.{Entry}
 use Rattle.pt_rights.specs.declared.entry.Entry.TheVariants as entry
-use Rattle.pt_desk.specs.declared.request.Request.{Request}
-use Rattle.pt_desk.specs.declared.request.Request.TheVariants as request
+use Rattle.pt_rights.specs.declared.entry.Grant.{Grant}
+use Rattle.pt_rights_texts.specs.Texts.{condition_text}
 use Rattle.serde_json.specs.Data.{Data, string, array}
 use Rattle.serde_json.specs.Find.{get}
 use Rattle.serde_json.specs.View.{items_of}
-use Rattle.pt_http_request.specs.Fields.{whole_at, text_at, truth_at, id_at, digest_from, IsDayAt, AreReasonsAt, needed, ◌>>=◌}
+use Rattle.pt_http_request.specs.Fields.{whole_at, text_at, truth_at, id_at, digest_from, number_within, IsDayAt, AreReasonsAt, needed, ◌>>=◌}
+use Rattle.pt_http_request.specs.declared.bodies.EntryKind.{EntryKind}
+use Rattle.pt_http_request.specs.declared.bodies.EntryKind.TheVariants as kind
 use Rattle.pt_http_reply.specs.declared.fault.FieldName.{FieldName}
 use Rattle.pt_http_reply.specs.declared.fault.FieldName.TheVariants as field
 
@@ -54,55 +58,118 @@ caller_in body = do
 
 -- ---- riders
 
--- residents alone have a record here
-abbrev pub resident_named : List ℕ → Result ⊤ FieldName
-resident_named kind = if bytes_eq kind (codes "resident") then Ok tt else Err field.Kind
+-- the residence of this name
+abbrev pub residence_named : List ℕ → Option Residence
+residence_named name =
+    if bytes_eq name (codes "resident") then Some residence.Resident
+    else (if bytes_eq name (codes "visitor") then Some residence.Visitor
+    else None)
 
--- the record of a resident that a body spells: id, kind, attendant
-abbrev pub rider_in : Data → Result Request FieldName
+-- the rider's record that a body spells: id, kind, attendant
+abbrev pub rider_in : Data → Result Rider FieldName
 rider_in body = do
-  rider ← needed (id_at (codes "id") body) field.Id
-  kind ← needed (text_at (codes "kind") body) field.Kind
-  resident ← resident_named kind
+  id ← needed (id_at (codes "id") body) field.Id
+  residence ← needed (option_and_then residence_named (text_at (codes "kind") body)) field.Kind
   attendant ← needed (truth_at (codes "attendant") body) field.Attendant
-  Ok (request.PutRider rider attendant)
+  Ok (record { id = id; kind = residence; attendant = attendant })
 
--- ---- entries
+-- ---- kinds of entries
+
+-- the kind of entry of this name
+abbrev pub kind_named : List ℕ → Option EntryKind
+kind_named name =
+    if bytes_eq name (codes "complete") then Some kind.Complete
+    else (if bytes_eq name (codes "grant") then Some kind.Grant
+    else (if bytes_eq name (codes "refuse") then Some kind.Refuse
+    else (if bytes_eq name (codes "appeal") then Some kind.Appeal
+    else (if bytes_eq name (codes "heard") then Some kind.Heard
+    else (if bytes_eq name (codes "appeal-granted") then Some kind.AppealGranted
+    else (if bytes_eq name (codes "appeal-denied") then Some kind.AppealDenied
+    else (if bytes_eq name (codes "overturn") then Some kind.Overturn
+    else (if bytes_eq name (codes "notice") then Some kind.Notice
+    else (if bytes_eq name (codes "notice-heard") then Some kind.NoticeHeard
+    else (if bytes_eq name (codes "suspend") then Some kind.Suspend
+    else None))))))))))
+
+-- the kind of the entry that a body spells
+abbrev pub kind_in : Data → Option EntryKind
+kind_in body = option_and_then kind_named (text_at (codes "entry") body)
+
+-- ---- what entries say
 
 -- how a condition is spelled
 abbrev pub spelling_of : Condition → Data
-spelling_of Always = string (codes "always")
+spelling_of condition = string (condition_text condition)
 
 -- the body lists these one to four conditions
 pub record HasConditions (body : Data) (conditions : List Condition) : Type 0 where
   pub listed : get (codes "conditions") body ≡ Some (array (items_of (map spelling_of conditions)))
   pub in_range : IsConditions conditions
+  pub each : All IsCondition conditions
 
--- the body is of an entry of this kind
-abbrev pub IsOfKind : List ℕ → Data → Type 0
-IsOfKind kind body = text_at (codes "entry") body ≡ Some kind
+-- the body spells this grant
+abbrev pub SpellsGrant : Data → Grant → Type 0
+SpellsGrant body grant = IsDayAt (codes "until") body grant.until × HasConditions body grant.conditions
 
--- the body spells this entry: entry, then for a grant until and conditions, for a refusal reasons
+-- the place in a case file of at most 200 entries, counted from 0, that an appeal is against
+abbrev pub place_in_file : Data → Result ℕ FieldName
+place_in_file body = number_within field.Against 0 199 body
+
+-- a body of this kind spells this entry
+abbrev pub SpellsOfKind : EntryKind → Data → Entry → Type 0
+SpellsOfKind kind.Complete body entry.Complete = Unit {0}
+SpellsOfKind kind.Grant body (entry.Grant grant) = SpellsGrant body grant
+SpellsOfKind kind.Refuse body (entry.Refuse reasons) = AreReasonsAt (codes "reasons") body reasons
+SpellsOfKind kind.Appeal body (entry.Appeal against) = place_in_file body ≡ Ok against
+SpellsOfKind kind.Heard body entry.Heard = Unit {0}
+SpellsOfKind kind.AppealGranted body (entry.AppealGranted grant) = SpellsGrant body grant
+SpellsOfKind kind.AppealDenied body (entry.AppealDenied reasons) = AreReasonsAt (codes "reasons") body reasons
+SpellsOfKind kind.Overturn body entry.Overturn = Unit {0}
+SpellsOfKind kind.Notice body (entry.Notice basis) = AreReasonsAt (codes "basis") body basis
+SpellsOfKind kind.NoticeHeard body entry.NoticeHeard = Unit {0}
+SpellsOfKind kind.Suspend body (entry.Suspend starts ends reasons) =
+    IsDayAt (codes "starts") body starts × IsDayAt (codes "ends") body ends × AreReasonsAt (codes "reasons") body reasons
+SpellsOfKind _ _ _ = ⊥
+
+-- the body spells this entry: its kind, then the fields of that kind
 abbrev pub SpellsEntry : Data → Entry → Type 0
-SpellsEntry body entry.Complete = IsOfKind (codes "complete") body
-SpellsEntry body (entry.Grant grant) =
-    IsOfKind (codes "grant") body × IsDayAt (codes "until") body grant.until × HasConditions body grant.conditions
-SpellsEntry body (entry.Refuse reasons) = IsOfKind (codes "refuse") body × AreReasonsAt (codes "reasons") body reasons
+SpellsEntry body asked = (which : EntryKind) × (kind_in body ≡ Some which) × SpellsOfKind which body asked
 
--- the field is the first that keeps the body of a grant from spelling one
-abbrev pub IsGrantFault : Data → FieldName → Type 0
-IsGrantFault body name =
-    ((name ≡ field.Until) × ((day : ℕ) → ¬ (IsDayAt (codes "until") body day)))
-    ⊎ ((name ≡ field.Conditions) × ((day : ℕ) × IsDayAt (codes "until") body day)
-    × ((conditions : List Condition) → ¬ (HasConditions body conditions)))
+-- ---- faults of entries
 
--- no reasons stand in the body
-abbrev pub IsReasonsFault : Data → FieldName → Type 0
-IsReasonsFault body name = (name ≡ field.Reasons) × ((reasons : List ℕ) → ¬ (AreReasonsAt (codes "reasons") body reasons))
+-- the fields of an entry of each kind, in their order
+abbrev pub entry_fields : EntryKind → List FieldName
+entry_fields kind.Complete = []
+entry_fields kind.Grant = field.Until ∷ field.Conditions ∷ []
+entry_fields kind.Refuse = field.Reasons ∷ []
+entry_fields kind.Appeal = field.Against ∷ []
+entry_fields kind.Heard = []
+entry_fields kind.AppealGranted = field.Until ∷ field.Conditions ∷ []
+entry_fields kind.AppealDenied = field.Reasons ∷ []
+entry_fields kind.Overturn = []
+entry_fields kind.Notice = field.Basis ∷ []
+entry_fields kind.NoticeHeard = []
+entry_fields kind.Suspend = field.Starts ∷ field.Ends ∷ field.Reasons ∷ []
+
+-- the body has what this field of an entry must hold
+abbrev pub HasField : Data → FieldName → Type 0
+HasField body field.Until = (day : ℕ) × IsDayAt (codes "until") body day
+HasField body field.Conditions = (conditions : List Condition) × HasConditions body conditions
+HasField body field.Reasons = (reasons : List ℕ) × AreReasonsAt (codes "reasons") body reasons
+HasField body field.Against = (place : ℕ) × (place_in_file body ≡ Ok place)
+HasField body field.Basis = (basis : List ℕ) × AreReasonsAt (codes "basis") body basis
+HasField body field.Starts = (day : ℕ) × IsDayAt (codes "starts") body day
+HasField body field.Ends = (day : ℕ) × IsDayAt (codes "ends") body day
+HasField body _ = ⊥
+
+-- the field is the first of these that the body lacks
+abbrev pub IsFirstFault : List FieldName → Data → FieldName → Type 0
+IsFirstFault [] body name = ⊥
+IsFirstFault (head ∷ later) body name =
+    ((name ≡ head) × ¬ (HasField body head)) ⊎ (HasField body head × IsFirstFault later body name)
 
 -- the field is the first that keeps the body from spelling an entry
 abbrev pub IsEntryFault : Data → FieldName → Type 0
 IsEntryFault body name =
-    ((name ≡ field.Entry) × ¬ (IsOfKind (codes "complete") body) × ¬ (IsOfKind (codes "grant") body) × ¬ (IsOfKind (codes "refuse") body))
-    ⊎ (IsOfKind (codes "grant") body × IsGrantFault body name)
-    ⊎ (IsOfKind (codes "refuse") body × IsReasonsFault body name)
+    ((name ≡ field.Entry) × (kind_in body ≡ None))
+    ⊎ ((which : EntryKind) × (kind_in body ≡ Some which) × IsFirstFault (entry_fields which) body name)

@@ -1,16 +1,19 @@
-ghost use Rattle.std.specs.Prelude.{◌≡◌, ℕ, codes, IfOk, IfErr};
+ghost use Rattle.std.specs.Prelude.{◌≡◌, ℕ, List, IfOk, IfErr};
 ghost use Rattle.pt_desk.specs.declared.caller.Role.{Role};
+ghost use Rattle.pt_http_reply.specs.Fault.{field_name};
 ghost use Rattle.serde_json.specs.View.{view};
-ghost use Rattle.pt_http_request.specs.Fields.{IsDayAt, AreReasonsAt};
-ghost use Rattle.pt_http_request.specs.Bodies.{role_alone, role_named, caller_in, rider_in, HasConditions, SpellsEntry, IsGrantFault, IsReasonsFault, IsEntryFault};
+ghost use Rattle.pt_http_request.specs.Fields.{AreReasonsAt};
+ghost use Rattle.pt_http_request.specs.Bodies.{role_alone, role_named, caller_in, residence_named, rider_in, kind_named, kind_in, place_in_file, SpellsGrant, SpellsOfKind, SpellsEntry, entry_fields, IsFirstFault, IsEntryFault};
+ghost use Rattle.pt_http_request.specs.declared.bodies.EntryKind.{EntryKind};
 ghost use Rattle.pt_http_request.specs.Faults.{OnField, OnRefused};
 
 use crate::conditions::conditions_in;
 use crate::fault::MessageFault;
-use crate::fields::{day_at, digest_from, id_at, text_at, truth_at, whole_at};
-use pt_desk::{Caller, Request, Role};
-use pt_http_reply::{FieldName, RequestFault};
-use pt_rights::{Entry, Grant, Reasons};
+use crate::fields::{day_at, digest_from, id_at, number_within, text_at, truth_at, whole_at};
+use pt_base::{Residence, Rider};
+use pt_desk::{Caller, Role};
+use pt_http_reply::FieldName;
+use pt_rights::{Entry, Grant, MOST_ENTRIES, Reasons};
 use serde_json::Value;
 use std::alloc::Global;
 
@@ -60,24 +63,80 @@ pub(crate) fn caller_of(body: &Value) -> Result<Caller, FieldName>
     Ok(Caller { id, role, digest })
 }
 
-/// The resident's record that an object spells, or its first bad field.
-pub(crate) fn rider_of(body: &Value) -> Result<Request, FieldName>
+/// The residence of this name.
+fn residence_named(name: &str) -> Option<Residence>
+    ensures { result ≡ residence_named name.now }
+{
+    match name {
+        "resident" => Some(Residence::Resident),
+        "visitor" => Some(Residence::Visitor),
+        _ => None,
+    }
+}
+
+/// The rider's record that an object spells, or its first bad field.
+pub(crate) fn rider_of(body: &Value) -> Result<Rider, FieldName>
     ensures { result ≡ rider_in (view body.now) }
 {
-    let rider = id_at(body, "id").ok_or(FieldName::Id)?;
-    let kind = text_at(body, "kind").ok_or(FieldName::Kind)?;
-    if kind != "resident" {
-        return Err(FieldName::Kind);
-    }
+    let id = id_at(body, "id").ok_or(FieldName::Id)?;
+    let kind = text_at(body, "kind")
+        .and_then(residence_named)
+        .ok_or(FieldName::Kind)?;
     let attendant = truth_at(body, "attendant").ok_or(FieldName::Attendant)?;
-    Ok(Request::PutRider { rider, attendant })
+    Ok(Rider {
+        id,
+        kind,
+        attendant,
+    })
+}
+
+/// The kinds of entries in a case file, as a body names them.
+#[derive(Clone, Copy)]
+enum EntryKind {
+    Complete,
+    Grant,
+    Refuse,
+    Appeal,
+    Heard,
+    AppealGranted,
+    AppealDenied,
+    Overturn,
+    Notice,
+    NoticeHeard,
+    Suspend,
+}
+
+/// The kind of entry of this name.
+fn kind_named(name: &str) -> Option<EntryKind>
+    ensures { result ≡ kind_named name.now }
+{
+    match name {
+        "complete" => Some(EntryKind::Complete),
+        "grant" => Some(EntryKind::Grant),
+        "refuse" => Some(EntryKind::Refuse),
+        "appeal" => Some(EntryKind::Appeal),
+        "heard" => Some(EntryKind::Heard),
+        "appeal-granted" => Some(EntryKind::AppealGranted),
+        "appeal-denied" => Some(EntryKind::AppealDenied),
+        "overturn" => Some(EntryKind::Overturn),
+        "notice" => Some(EntryKind::Notice),
+        "notice-heard" => Some(EntryKind::NoticeHeard),
+        "suspend" => Some(EntryKind::Suspend),
+        _ => None,
+    }
+}
+
+/// The kind of the entry that an object spells.
+fn kind_of(body: &Value) -> Option<EntryKind>
+    ensures { result ≡ kind_in (view body.now) }
+{
+    text_at(body, "entry").and_then(kind_named)
 }
 
 /// The grant that an object spells, or its first bad field.
 fn grant_of(body: &Value) -> Result<Grant, FieldName>
-    ensures granted { IfOk result (λ grant.
-        IsDayAt (codes "until") (view body.now) grant.until × HasConditions (view body.now) grant.conditions) }
-    ensures fault { IfErr result (IsGrantFault (view body.now)) }
+    ensures granted { IfOk result (SpellsGrant (view body.now)) }
+    ensures fault { IfErr result (IsFirstFault (entry_fields EntryKind.Grant) (view body.now)) }
 {
     let Some(until) = day_at(body, "until") else {
         return Err(FieldName::Until);
@@ -88,15 +147,64 @@ fn grant_of(body: &Value) -> Result<Grant, FieldName>
     Ok(Grant { until, conditions })
 }
 
-/// The reasons that an object spells.
-fn reasons_of(alloc: Global, body: &Value) -> Result<Reasons, MessageFault>
-    ensures reasons { IfOk result (AreReasonsAt (codes "reasons") (view body.now)) }
-    ensures fault { IfErr result (OnRefused (OnField (IsReasonsFault (view body.now)))) }
+/// The place in a case file that an appeal is against.
+fn place_of(body: &Value) -> Result<u8, FieldName>
+    ensures { result ≡ place_in_file (view body.now) }
 {
-    let text = text_at(body, "reasons").ok_or(FieldName::Reasons)?;
+    let place = number_within(body, FieldName::Against, 0, MOST_ENTRIES as u32 - 1)?;
+    Ok(place as u8)
+}
+
+/// The reasons at a field of an object, or the field as a fault.
+fn reasons_at(alloc: Global, body: &Value, name: FieldName) -> Result<Reasons, MessageFault>
+    ensures reasons { IfOk result (AreReasonsAt (field_name name) (view body.now)) }
+    ensures fault { IfErr result (OnRefused (OnField (λ bad.
+        (bad ≡ name) × ((reasons : List ℕ) → ¬ (AreReasonsAt (field_name name) (view body.now) reasons))))) }
+{
+    let text = text_at(body, name.text()).ok_or(name)?;
     let bytes = Vec::from_slice(alloc, text.as_bytes())?;
-    let reasons = Reasons::of(bytes).ok_or(FieldName::Reasons)?;
+    let reasons = Reasons::of(bytes).ok_or(name)?;
     Ok(reasons)
+}
+
+/// The suspension that an object spells, or its first bad field.
+fn suspension_of(alloc: Global, body: &Value) -> Result<Entry, MessageFault>
+    ensures suspension { IfOk result (SpellsOfKind EntryKind.Suspend (view body.now)) }
+    ensures fault { IfErr result (OnRefused (OnField (IsFirstFault (entry_fields EntryKind.Suspend) (view body.now)))) }
+{
+    let starts = day_at(body, "starts").ok_or(FieldName::Starts)?;
+    let ends = day_at(body, "ends").ok_or(FieldName::Ends)?;
+    let reasons = reasons_at(alloc, body, FieldName::Reasons)?;
+    Ok(Entry::Suspend {
+        starts,
+        ends,
+        reasons,
+    })
+}
+
+/// The entry of a kind that an object spells, or its first bad field.
+fn entry_of_kind(alloc: Global, kind: EntryKind, body: &Value) -> Result<Entry, MessageFault>
+    ensures entry { IfOk result (SpellsOfKind kind (view body.now)) }
+    ensures fault { IfErr result (OnRefused (OnField (IsFirstFault (entry_fields kind) (view body.now)))) }
+{
+    match kind {
+        EntryKind::Complete => Ok(Entry::Complete),
+        EntryKind::Grant => Ok(Entry::Grant(grant_of(body)?)),
+        EntryKind::Refuse => Ok(Entry::Refuse(reasons_at(alloc, body, FieldName::Reasons)?)),
+        EntryKind::Appeal => Ok(Entry::Appeal {
+            against: place_of(body)?,
+        }),
+        EntryKind::Heard => Ok(Entry::Heard),
+        EntryKind::AppealGranted => Ok(Entry::AppealGranted(grant_of(body)?)),
+        EntryKind::AppealDenied => {
+            let reasons = reasons_at(alloc, body, FieldName::Reasons)?;
+            Ok(Entry::AppealDenied(reasons))
+        }
+        EntryKind::Overturn => Ok(Entry::Overturn),
+        EntryKind::Notice => Ok(Entry::Notice(reasons_at(alloc, body, FieldName::Basis)?)),
+        EntryKind::NoticeHeard => Ok(Entry::NoticeHeard),
+        EntryKind::Suspend => suspension_of(alloc, body),
+    }
 }
 
 /// The entry that an object spells, or its first bad field.
@@ -104,10 +212,6 @@ pub(crate) fn entry_of(alloc: Global, body: &Value) -> Result<Entry, MessageFaul
     ensures entry { IfOk result (SpellsEntry (view body.now)) }
     ensures fault { IfErr result (OnRefused (OnField (IsEntryFault (view body.now)))) }
 {
-    match text_at(body, "entry").ok_or(FieldName::Entry)? {
-        "complete" => Ok(Entry::Complete),
-        "grant" => Ok(Entry::Grant(grant_of(body)?)),
-        "refuse" => Ok(Entry::Refuse(reasons_of(alloc, body)?)),
-        _ => Err(MessageFault::Refused(RequestFault::Field(FieldName::Entry))),
-    }
+    let kind = kind_of(body).ok_or(FieldName::Entry)?;
+    entry_of_kind(alloc, kind, body)
 }

@@ -1,33 +1,33 @@
-ghost use Rattle.std.specs.Prelude.{◌≡◌, ◌≢◌, List, Some, map, IfSome, IsNone};
-ghost use Rattle.pt_rights.specs.Conditions.{IsConditions};
+ghost use Rattle.std.specs.Prelude.{◌≡◌, ◌≢◌, List, map, All, IfSome, IsNone};
+ghost use Rattle.pt_rights.specs.Conditions.{IsCondition, IsConditions};
 ghost use Rattle.pt_rights.specs.declared.conditions.Condition.{Condition};
 ghost use Rattle.serde_json.specs.View.{view};
 ghost use Rattle.pt_http_request.specs.Bodies.{spelling_of, HasConditions};
 
 use arrayvec::ArrayVec;
 use pt_rights::{Condition, Conditions, MOST_CONDITIONS};
+use pt_rights_texts::condition_from;
 use serde_json::Value;
 
 /// The condition that a value of a list spells.
-fn condition_from(value: &Value) -> Option<Condition>
+fn condition_in(value: &Value) -> Option<Condition>
     ensures spelled { IfSome result (λ condition. view value.now ≡ spelling_of condition) }
-    ensures none { IsNone result → (condition : Condition) → view value.now ≢ spelling_of condition }
+    ensures condition { IfSome result IsCondition }
+    ensures none { IsNone result → (condition : Condition) → IsCondition condition → view value.now ≢ spelling_of condition }
 {
-    if value.as_str()? == "always" {
-        return Some(Condition::Always);
-    }
-    None
+    condition_from(value.as_str()?)
 }
 
 /// The conditions that a list spells: one to four.
 fn conditions_from(list: &[Value]) -> Option<Conditions>
     ensures spelled { IfSome result (λ conditions. map view list.now ≡ map spelling_of conditions) }
-    ensures none { IsNone result → (conditions : List Condition) → IsConditions conditions
+    ensures each { IfSome result (All IsCondition) }
+    ensures none { IsNone result → (conditions : List Condition) → IsConditions conditions → All IsCondition conditions
         → map view list.now ≢ map spelling_of conditions }
 {
     let mut members = ArrayVec::<Condition, MOST_CONDITIONS>::new();
     for value in list {
-        members.try_push(condition_from(value)?).ok()?;
+        members.try_push(condition_in(value)?).ok()?;
     }
     Conditions::of(&members)
 }

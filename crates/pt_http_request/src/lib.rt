@@ -10,6 +10,8 @@ pub use targets::{Path, Target, desk_router};
 
 mod bodies;
 mod conditions;
+#[cfg(test)]
+mod entries_tests;
 mod fault;
 mod fields;
 mod headers;

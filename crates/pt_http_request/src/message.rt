@@ -56,7 +56,7 @@ fn request_from(alloc: Global, target: Target, body: &Value) -> Result<Request, 
         Target::Policy => Ok(Request::PutPolicy(policy_of(body)?)),
         Target::Places => Ok(Request::PutPlace(place_of(body)?)),
         Target::Routes => Ok(Request::PutRoute(route_of(alloc, body)?)),
-        Target::Riders => Ok(rider_of(body)?),
+        Target::Riders => Ok(Request::PutRider(rider_of(body)?)),
         Target::Entries(rider) => {
             let entry = entry_of(alloc, body)?;
             Ok(Request::Enter { rider, entry })

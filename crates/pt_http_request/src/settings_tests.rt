@@ -1,8 +1,8 @@
-use crate::tests::{KEYED, ask, fault};
+use crate::tests::{bad_field, request};
 use pt_base::{Day, Minute, Place, Point};
 use pt_corridor::{FixedRoute, lies_in_corridor, runs};
 use pt_desk::Request;
-use pt_http_reply::{FieldName, RequestFault};
+use pt_http_reply::FieldName;
 use std::alloc::Global;
 use std::test::Fail;
 
@@ -30,22 +30,6 @@ const ABOVE_POLICY: [i32; 8] = [100_001, 100_001, 100_001, 31, 241, 1_001, 101, 
 const LINE: &str = "[[0,0],[20000,0]]";
 
 const EVERY_DAY: &str = "[7,6,5,4,3,2,1,1]";
-
-/// The request that a body to a path spells.
-fn request(alloc: Global, line: &str, body: &str) -> Result<Request, Fail> {
-    match ask(alloc, line, KEYED, body)? {
-        Ok(message) => Ok(message.request),
-        Err(_) => Err("no request".into()),
-    }
-}
-
-/// The first bad field of a body to a path.
-fn bad_field(alloc: Global, line: &str, body: &str) -> Result<Option<FieldName>, Fail> {
-    match fault(alloc, line, KEYED, body)? {
-        Some(RequestFault::Field(name)) => Ok(Some(name)),
-        _ => Ok(None),
-    }
-}
 
 /// The body of a policy with these values of its fields.
 fn policy_body(alloc: Global, values: [i32; 8]) -> Result<String, Fail> {

@@ -11,7 +11,6 @@ use httparse::spans::{EMPTY_HEADER_SPAN, HeaderSpan, parse_request};
 use matchit::Router;
 use pt_desk::Request;
 use pt_http_reply::{AllowedMethod, FieldName, RequestFault};
-use pt_rights::Entry;
 use std::alloc::Global;
 use std::test::Fail;
 
@@ -80,6 +79,22 @@ pub(crate) fn fault(
     }
 }
 
+/// The request that a body to a path spells.
+pub(crate) fn request(alloc: Global, line: &str, body: &str) -> Result<Request, Fail> {
+    match ask(alloc, line, KEYED, body)? {
+        Ok(message) => Ok(message.request),
+        Err(_) => Err("no request".into()),
+    }
+}
+
+/// The first bad field of a body to a path.
+pub(crate) fn bad_field(alloc: Global, line: &str, body: &str) -> Result<Option<FieldName>, Fail> {
+    match fault(alloc, line, KEYED, body)? {
+        Some(RequestFault::Field(name)) => Ok(Some(name)),
+        _ => Ok(None),
+    }
+}
+
 /// Which request it is, and the number that it names.
 fn named(request: &Request) -> (&'static str, u32) {
     match request {
@@ -87,24 +102,15 @@ fn named(request: &Request) -> (&'static str, u32) {
         Request::PutPolicy(policy) => ("policy", policy.fare),
         Request::PutPlace(place) => ("place", place.id.number()),
         Request::PutRoute(route) => ("route", route.id().number()),
-        Request::PutRider { rider, .. } => ("rider", rider.number()),
-        Request::Enter { rider, entry } => (kind_of(entry), rider.number()),
+        Request::PutRider(rider) => ("rider", rider.id.number()),
+        Request::Enter { rider, .. } => ("entry", rider.number()),
         Request::Standing { day, .. } => ("standing", day.number()),
-    }
-}
-
-fn kind_of(entry: &Entry) -> &'static str {
-    match entry {
-        Entry::Complete => "complete",
-        Entry::Grant(_) => "grant",
-        Entry::Refuse(_) => "refuse",
     }
 }
 
 #[test]
 fn every_request(rt: HostRuntime) -> Result<(), Fail> {
     let alloc = rt.alloc();
-    let entries = "POST /riders/07/entries";
     for (line, body, expected) in [
         ("POST /callers", CALLER, ("caller", 2)),
         (
@@ -112,16 +118,10 @@ fn every_request(rt: HostRuntime) -> Result<(), Fail> {
             "{\"id\":7,\"kind\":\"resident\",\"attendant\":false}",
             ("rider", 7),
         ),
-        (entries, "{\"entry\":\"complete\"}", ("complete", 7)),
         (
-            entries,
-            "{\"entry\":\"grant\",\"until\":\"2026-03-11\",\"conditions\":[\"always\"]}",
-            ("grant", 7),
-        ),
-        (
-            entries,
-            "{\"entry\":\"refuse\",\"reasons\":\"walks a mile\"}",
-            ("refuse", 7),
+            "POST /riders/07/entries",
+            "{\"entry\":\"complete\"}",
+            ("entry", 7),
         ),
         (
             "GET /riders/7/standing/2025-03-14",
@@ -227,38 +227,13 @@ fn faults_of_the_body(rt: HostRuntime) -> Result<(), Fail> {
         ),
         (
             "POST /riders",
-            "{\"id\":7,\"kind\":\"visitor\"}",
+            "{\"id\":7,\"kind\":\"guest\"}",
             FieldName::Kind,
         ),
         (
             "POST /riders",
             "{\"id\":7,\"kind\":\"resident\",\"attendant\":0}",
             FieldName::Attendant,
-        ),
-        (
-            "POST /riders/7/entries",
-            "{\"entry\":\"appeal\"}",
-            FieldName::Entry,
-        ),
-        (
-            "POST /riders/7/entries",
-            "{\"entry\":\"grant\",\"until\":\"2100-01-01\"}",
-            FieldName::Until,
-        ),
-        (
-            "POST /riders/7/entries",
-            "{\"entry\":\"grant\",\"until\":\"2026-03-11\",\"conditions\":[]}",
-            FieldName::Conditions,
-        ),
-        (
-            "POST /riders/7/entries",
-            "{\"entry\":\"grant\",\"until\":\"2026-03-11\",\"conditions\":[\"nolift\"]}",
-            FieldName::Conditions,
-        ),
-        (
-            "POST /riders/7/entries",
-            "{\"entry\":\"refuse\",\"reasons\":\"\"}",
-            FieldName::Reasons,
         ),
     ] {
         assert_eq!(rt;

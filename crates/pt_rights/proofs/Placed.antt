@@ -1,35 +1,34 @@
 -- The standing by tests of the list is that by numbered places.
 use Rattle.std.specs.Prelude.{◌≡◌, ℕ, ◌+◌, ◌<◌, ◌≤◌, ◌↔◌, Bool, true, false, ◌&&◌, not, List, [], ◌∷◌, ◌⊎◌, Option, Some, None, nat_le, slice_get, drop, if◌then◌else◌, refl}
 use Rattle.std.specs.List.{list_any, filter_map, last_or, cons_option}
-use Rattle.std.proofs.Common.{zero, suc, arith, sym, ap, ◌∙◌, inl, inr}
+use Rattle.std.proofs.Common.{zero, suc, arith, ap, ◌∙◌, inl, inr}
 use Rattle.std.proofs.lemmas.Bool.{and_parts, and_from, or_cases, or_parts, or_left, or_right, or_from, false≢true}
 use Rattle.std.proofs.lemmas.Bool.Decides.{nat_tests}
 use Rattle.pt_rights.specs.declared.entry.Grant.{Grant}
 use Rattle.pt_rights.specs.declared.entry.Entered.{Entered}
-use Rattle.pt_rights.specs.declared.case_file.Standing.{Standing}
 use Rattle.pt_rights.specs.declared.case_file.Standing.TheVariants as standing
 use Rattle.pt_rights.specs.Kinds.{is_complete, is_decision, grant_of}
 use Rattle.pt_rights.specs.Places.{some_place}
-use Rattle.pt_rights.specs.Standing.{is_unanswered, is_waiting, is_presumed, last_grant, standing_by, standing_of}
-use Rattle.pt_rights.specs.ByPlace.{IsUnansweredAt, IsWaiting, IsPresumed, IsLastGrantAt, IsGrantedFor}
+use Rattle.pt_rights.specs.Standing.{is_unanswered, is_waiting, is_presumed, standing_by}
+use Rattle.pt_rights.specs.ByPlace.{IsUnansweredAt, IsWaiting, IsPresumed, IsLastGrantAt}
 
-not_true : (b : Bool) → not b ≡ true → b ≡ false
+pub not_true : (b : Bool) → not b ≡ true → b ≡ false
 not_true true h = cc
 not_true false h = refl
 
-not_false : (b : Bool) → b ≡ false → not b ≡ true
+pub not_false : (b : Bool) → b ≡ false → not b ≡ true
 not_false true h = cc
 not_false false h = refl
 
-at_most : (m n : ℕ) → nat_le m n ≡ true → m ≤ n
+pub at_most : (m n : ℕ) → nat_le m n ≡ true → m ≤ n
 at_most m n h = grind (arith, nat_tests)
 
-at_most_test : (m n : ℕ) → m ≤ n → nat_le m n ≡ true
+pub at_most_test : (m n : ℕ) → m ≤ n → nat_le m n ≡ true
 at_most_test m n h = grind (arith, nat_tests)
 
 module _ {X : Type 0} (test : X → List X → Bool) where
   -- a place of the list that passes the test has a number, and conversely
-  numbered_place : (xs : List X) → some_place test xs ≡ true
+  pub numbered_place : (xs : List X) → some_place test xs ≡ true
       → (place : ℕ) × (item : X) × (slice_get xs place ≡ Some item) × (test item (drop (suc place) xs) ≡ true)
   numbered_place [] passes = absurd (false≢true passes)
   numbered_place (first ∷ xs) passes =
@@ -40,7 +39,7 @@ module _ {X : Type 0} (test : X → List X → Bool) where
             (suc found.0, found.1, found.2, found.3)
       ]
 
-  numbered_test : (xs : List X) (place : ℕ) (item : X)
+  pub numbered_test : (xs : List X) (place : ℕ) (item : X)
       → slice_get xs place ≡ Some item → test item (drop (suc place) xs) ≡ true → some_place test xs ≡ true
   numbered_test [] place item here passes = cc
   numbered_test (first ∷ xs) zero item here passes =
@@ -50,7 +49,7 @@ module _ {X : Type 0} (test : X → List X → Bool) where
 
 module _ {X : Type 0} (p : X → Bool) where
   -- no item passes, by the test and by numbers
-  none_at : (xs : List X) → list_any p xs ≡ false
+  pub none_at : (xs : List X) → list_any p xs ≡ false
       → (place : ℕ) (item : X) → slice_get xs place ≡ Some item → p item ≡ false
   none_at [] none place item here = cc
   none_at (first ∷ xs) none zero item here =
@@ -59,14 +58,14 @@ module _ {X : Type 0} (p : X → Bool) where
   none_at (first ∷ xs) none (suc place) item here =
       none_at xs (or_parts (p first) (list_any p xs) none).1 place item here
 
-  none_test : (xs : List X)
+  pub none_test : (xs : List X)
       → ((place : ℕ) (item : X) → slice_get xs place ≡ Some item → p item ≡ false) → list_any p xs ≡ false
   none_test [] none = refl
   none_test (first ∷ xs) none =
       or_from _ _ (none 0 first refl) (none_test xs (λ place item here. none (suc place) item here))
 
   -- no item after a place passes, by the test and by numbers
-  none_after : (xs : List X) (place : ℕ) → list_any p (drop (suc place) xs) ≡ false
+  pub none_after : (xs : List X) (place : ℕ) → list_any p (drop (suc place) xs) ≡ false
       → (later : ℕ) (item : X) → place < later → slice_get xs later ≡ Some item → p item ≡ false
   none_after [] place none later item after here = cc
   none_after (first ∷ xs) place none zero item after here = absurd (omega arith)
@@ -74,7 +73,7 @@ module _ {X : Type 0} (p : X → Bool) where
   none_after (first ∷ xs) (suc place) none (suc later) item after here =
       none_after xs place none later item (omega arith) here
 
-  none_after_test : (xs : List X) (place : ℕ)
+  pub none_after_test : (xs : List X) (place : ℕ)
       → ((later : ℕ) (item : X) → place < later → slice_get xs later ≡ Some item → p item ≡ false)
       → list_any p (drop (suc place) xs) ≡ false
   none_after_test [] place none = refl
@@ -116,23 +115,23 @@ waiting-law file = (to, from) where
 abbrev is_overdue : ℕ → Entered → List Entered → Bool
 is_overdue today application later = is_unanswered application later && nat_le (application.day + 21) today
 
-presumed_place : (file : List Entered) (today : ℕ) → is_presumed file today ≡ true → IsPresumed file today
+pub presumed_place : (file : List Entered) (today : ℕ) → is_presumed file today ≡ true → IsPresumed file today
 presumed_place file today presumed =
     let found = numbered_place (is_overdue today) file presumed in
     let parts = and_parts (is_unanswered found.1 (drop (suc found.0) file)) (nat_le (found.1.day + 21) today) found.3 in
     (found.0, found.1, unanswered_at file found.0 found.1 found.2 parts.0, at_most (found.1.day + 21) today parts.1)
 
-presumed_test : (file : List Entered) (today place : ℕ) (application : Entered)
+pub presumed_test : (file : List Entered) (today place : ℕ) (application : Entered)
     → IsUnansweredAt file place application → application.day + 21 ≤ today → is_presumed file today ≡ true
 presumed_test file today place application at waited =
     numbered_test (is_overdue today) file place application at.here
     (and_from _ _ (unanswered_test file place application at) (at_most_test (application.day + 21) today waited))
 
 -- no entry of the list grants
-abbrev NoneGrants : List Entered → Type 0
+abbrev pub NoneGrants : List Entered → Type 0
 NoneGrants file = (place : ℕ) (entered : Entered) → slice_get file place ≡ Some entered → grant_of entered.entry ≡ None
 
-abbrev grants : List Entered → List Grant
+abbrev pub grants : List Entered → List Grant
 grants file = filter_map (λ (e : Entered). grant_of e.entry) file
 
 NoneGrants-cons : (first : Entered) (file : List Entered)
@@ -172,11 +171,11 @@ IsLastGrantAt-first first file grant given none = record {
   unreplaced (suc later) entered after here = none later entered here
 
 -- the grant is the last of the list, at some place
-abbrev IsLastGrant : List Entered → Grant → Type 0
+abbrev pub IsLastGrant : List Entered → Grant → Type 0
 IsLastGrant file grant = (place : ℕ) × (granting : Entered) × IsLastGrantAt file place granting grant
 
 -- the last of a list, or else one from before it, is in one of the two
-last_place : (before : Option Grant) (file : List Entered) (grant : Grant)
+pub last_place : (before : Option Grant) (file : List Entered) (grant : Grant)
     → last_or before (grants file) ≡ Some grant
     → ((before ≡ Some grant) × NoneGrants file) ⊎ IsLastGrant file grant
 last_place before [] grant last = inl (last, λ place entered here. cc)
@@ -197,7 +196,7 @@ last_place before (first ∷ file) grant last =
     ]) refl last
 
 -- a last grant at a place is the last of the list
-last_value : (before : Option Grant) (file : List Entered) (place : ℕ) (granting : Entered) (grant : Grant)
+pub last_value : (before : Option Grant) (file : List Entered) (place : ℕ) (granting : Entered) (grant : Grant)
     → IsLastGrantAt file place granting grant → last_or before (grants file) ≡ Some grant
 last_value before [] place granting grant at = let here = at.here in cc
 last_value before (first ∷ file) zero granting grant at =
@@ -217,7 +216,7 @@ last_value before (first ∷ file) (suc place) granting grant at =
     ]
 
 -- a grant of the day is what the standing gives by the last grant
-granted_test : (last : Option Grant) (day : ℕ) (grant : Grant)
+pub granted_test : (last : Option Grant) (day : ℕ) (grant : Grant)
     → standing_by last day ≡ standing.Granted grant → (last ≡ Some grant) × (day ≤ grant.until)
 granted_test None day grant is = cc
 granted_test (Some last) day grant is =
@@ -230,76 +229,9 @@ granted_test (Some last) day grant is =
       | false ↦ λ runs_is granted_is. cc
     ]) refl is
 
-granted_value : (day : ℕ) (grant : Grant) → day ≤ grant.until → standing_by (Some grant) day ≡ standing.Granted grant
+pub granted_value : (day : ℕ) (grant : Grant) → day ≤ grant.until → standing_by (Some grant) day ≡ standing.Granted grant
 granted_value day grant runs = rw (at_most_test day grant.until runs) refl
-
-not_presumed : (last : Option Grant) (day : ℕ) → standing_by last day ≡ standing.Presumed → ⊥
-not_presumed None day is = cc
-not_presumed (Some last) day is =
-    (elim (nat_le day last.until) as (λ runs. (if runs then standing.Granted last else standing.None) ≡ standing.Presumed → ⊥) [
-      | true ↦ λ granted_is. cc
-      | false ↦ λ none_is. cc
-    ]) is
-
--- the standing is presumed exactly where an application is, by places
-presumed-law : (file : List Entered) (today day : ℕ)
-    → (standing_of file today day ≡ standing.Presumed) ↔ IsPresumed file today
-presumed-law file today day = (to, from) where
-  to : standing_of file today day ≡ standing.Presumed → IsPresumed file today
-  to is =
-      (elim (is_presumed file today) as
-      (λ presumed. is_presumed file today ≡ presumed
-      → (if presumed then standing.Presumed else standing_by (last_grant file) day) ≡ standing.Presumed → IsPresumed file today) [
-        | true ↦ λ presumed_is standing_is. presumed_place file today presumed_is
-        | false ↦ λ presumed_is standing_is. absurd (not_presumed (last_grant file) day standing_is)
-      ]) refl is
-
-  from : IsPresumed file today → standing_of file today day ≡ standing.Presumed
-  from presumed = rw (presumed_test file today presumed.0 presumed.1 presumed.2 presumed.3) refl
-
--- the standing is a grant exactly where none is presumed and that grant is the last and has not run out, by places
-granted-law : (file : List Entered) (today day : ℕ) (grant : Grant)
-    → (standing_of file today day ≡ standing.Granted grant) ↔ ((¬ IsPresumed file today) × IsGrantedFor file day grant)
-granted-law file today day grant = (to, from) where
-  by_last : standing_by (last_grant file) day ≡ standing.Granted grant → IsGrantedFor file day grant
-  by_last is =
-      let found = granted_test (last_grant file) day grant is in
-      elim (last_place None file grant found.0) [
-        | inl before ↦ let none = before.0 in cc
-        | inr at ↦ (at.0, at.1, at.2, found.1)
-      ]
-
-  to : standing_of file today day ≡ standing.Granted grant → (¬ IsPresumed file today) × IsGrantedFor file day grant
-  to is =
-      (elim (is_presumed file today) as
-      (λ presumed. is_presumed file today ≡ presumed
-      → (if presumed then standing.Presumed else standing_by (last_grant file) day) ≡ standing.Granted grant
-      → (¬ IsPresumed file today) × IsGrantedFor file day grant) [
-        | true ↦ λ presumed_is standing_is. cc
-        | false ↦ λ presumed_is standing_is.
-            (λ presumed. false≢true (sym presumed_is ∙ presumed_test file today presumed.0 presumed.1 presumed.2 presumed.3), by_last standing_is)
-      ]) refl is
-
-  from : (¬ IsPresumed file today) × IsGrantedFor file day grant → standing_of file today day ≡ standing.Granted grant
-  from (unpresumed, granted) =
-      (elim (is_presumed file today) as
-      (λ presumed. is_presumed file today ≡ presumed
-      → (if presumed then standing.Presumed else standing_by (last_grant file) day) ≡ standing.Granted grant) [
-        | true ↦ λ presumed_is. absurd (unpresumed (presumed_place file today presumed_is))
-        | false ↦ λ presumed_is.
-            rw (last_value None file granted.0 granted.1 grant granted.2) (granted_value day grant granted.3)
-      ]) refl
 
 -- the same of a value that is the test
 pub waiting-value : (result : Bool) (file : List Entered) → result ≡ is_waiting file → (result ≡ true) ↔ IsWaiting file
 waiting-value result file value = rw value (waiting-law file)
-
--- the same of a value that is the standing
-pub presumed-value : (result : Standing) (file : List Entered) (today day : ℕ)
-    → result ≡ standing_of file today day → (result ≡ standing.Presumed) ↔ IsPresumed file today
-presumed-value result file today day value = rw value (presumed-law file today day)
-
-pub granted-value : (result : Standing) (file : List Entered) (today day : ℕ)
-    → result ≡ standing_of file today day
-    → (grant : Grant) → (result ≡ standing.Granted grant) ↔ ((¬ IsPresumed file today) × IsGrantedFor file day grant)
-granted-value result file today day value grant = rw value (granted-law file today day grant)

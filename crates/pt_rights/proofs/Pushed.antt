@@ -1,7 +1,6 @@
 -- What one more entry at the end does to the definitions, and to the marks of a case file.
 use Rattle.std.specs.Prelude.{◌≡◌, ℕ, ◌+◌, ◌<◌, Bool, true, false, ◌&&◌, ◌||◌, not, List, [], ◌∷◌, ◌++◌, Option, Some, None, is_some, nat_le, min, length, refl}
 use Rattle.std.specs.List.{list_any, filter_map, last_or, cons_option}
-use Rattle.std.specs.Option.{option_map_or}
 use Rattle.std.proofs.Common.{arith, ap, ◌∙◌, length-append}
 use Rattle.std.proofs.lemmas.Bool.Decides.{nat_tests}
 use Rattle.std.proofs.lemmas.List.Folds.{list_any-append}
@@ -10,9 +9,10 @@ use Rattle.pt_rights.specs.declared.entry.Entry.{Entry}
 use Rattle.pt_rights.specs.declared.entry.Entry.TheVariants as kind
 use Rattle.pt_rights.specs.declared.entry.Entered.{Entered}
 use Rattle.pt_rights.specs.declared.case_file.TheConstants.{MOST_ENTRIES}
+use Rattle.pt_rights.specs.Appeals.{is_overdue}
 use Rattle.pt_rights.specs.Kinds.{is_complete, is_decision, grant_of}
 use Rattle.pt_rights.specs.Standing.{is_waiting, is_presumed, last_grant}
-use Rattle.pt_rights.specs.Marks.{AreMarks, waiting_with}
+use Rattle.pt_rights.specs.Marks.{AreMarks, has_come, earlier, waiting_with}
 
 -- the test of a place, of the later places and of the new one, before and after the new entry
 waiting_step : (completes decided decides rest new : Bool)
@@ -88,48 +88,70 @@ pub last_grant-push : (file : List Entered) (last : Entered)
     → last_grant (file ++ last ∷ []) ≡ newer (grant_of last.entry) (last_grant file)
 last_grant-push file last = last_grant_from None file last
 
+decided : (old : Bool) → ((old && false) || false) ≡ false
+decided true = refl
+decided false = refl
+
+kept : (old : Bool) → ((old && true) || false) ≡ old
+kept true = refl
+kept false = refl
+
 -- the mark of a waiting application says whether one waits
 waits_with : (waiting : Option ℕ) (entry : Entry) (day : ℕ)
     → ((is_some waiting && not (is_decision entry)) || is_complete entry) ≡ is_some (waiting_with waiting entry day)
 waits_with None kind.Complete day = refl
 waits_with (Some since) kind.Complete day = refl
-waits_with None (kind.Grant grant) day = refl
-waits_with (Some since) (kind.Grant grant) day = refl
-waits_with None (kind.Refuse reasons) day = refl
-waits_with (Some since) (kind.Refuse reasons) day = refl
+waits_with waiting (kind.Grant grant) day = decided (is_some waiting)
+waits_with waiting (kind.Refuse reasons) day = decided (is_some waiting)
+waits_with waiting _ day = kept (is_some waiting)
 
--- the earlier of two days has come to its 21st day when one of them has
-earlier_presumed : (since day today : ℕ)
-    → ((nat_le (since + 21) today && true) || nat_le (day + 21) today) ≡ nat_le (min since day + 21) today
-earlier_presumed since day today = grind (arith, nat_tests)
+-- the earlier of two days has come when one of them has
+pub earlier_come : (days : ℕ) (before : Option ℕ) (day today : ℕ)
+    → (has_come days before today || nat_le (day + days) today) ≡ has_come days (earlier before day) today
+earlier_come days None day today = refl
+earlier_come days (Some before) day today = earlier_of_two days before day today where
+  earlier_of_two : (days before day today : ℕ)
+      → (nat_le (before + days) today || nat_le (day + days) today) ≡ nat_le (min before day + days) today
+  earlier_of_two days before day today = grind (arith, nat_tests)
 
-decided : (old : Bool) → ((old && false) || false) ≡ false
-decided true = refl
-decided false = refl
-
--- whether the application of the mark has waited for 21 days
-abbrev pub has_waited : Option ℕ → ℕ → Bool
-has_waited waiting today = option_map_or (λ since. nat_le (since + 21) today) waiting false
+and_true : (old new : Bool) → ((old && true) || new) ≡ (old || new)
+and_true true new = refl
+and_true false new = refl
 
 -- the mark says whether an application is presumed granted
 presumes_with : (waiting : Option ℕ) (entry : Entry) (day today : ℕ)
-    → ((has_waited waiting today && not (is_decision entry)) || (is_complete entry && nat_le (day + 21) today))
-    ≡ has_waited (waiting_with waiting entry day) today
-presumes_with None kind.Complete day today = refl
-presumes_with (Some since) kind.Complete day today = earlier_presumed since day today
-presumes_with waiting (kind.Grant grant) day today = decided (has_waited waiting today)
-presumes_with waiting (kind.Refuse reasons) day today = decided (has_waited waiting today)
+    → ((has_come 21 waiting today && not (is_decision entry)) || (is_complete entry && nat_le (day + 21) today))
+    ≡ has_come 21 (waiting_with waiting entry day) today
+presumes_with waiting kind.Complete day today =
+    and_true (has_come 21 waiting today) (nat_le (day + 21) today) ∙ earlier_come 21 waiting day today
+presumes_with waiting (kind.Grant grant) day today = decided (has_come 21 waiting today)
+presumes_with waiting (kind.Refuse reasons) day today = decided (has_come 21 waiting today)
+presumes_with waiting _ day today = kept (has_come 21 waiting today)
 
 -- the marks after one more entry are marks of the longer file
-pub AreMarks-push : (file : List Entered) (waiting : Option ℕ) (granted : Option Grant) (last : Entered)
-    → AreMarks file waiting granted → length file < MOST_ENTRIES
-    → AreMarks (file ++ last ∷ []) (waiting_with waiting last.entry last.day) (newer (grant_of last.entry) granted)
-AreMarks-push file waiting granted last marks room = record {
+pub AreMarks-push : (file : List Entered) (waiting : Option ℕ) (granted : Option Grant) (heard heard_now : Option ℕ) (last : Entered)
+    → AreMarks file waiting granted heard → length file < MOST_ENTRIES
+    → ((today : ℕ) → is_overdue (file ++ last ∷ []) today ≡ has_come 30 heard_now today)
+    → AreMarks (file ++ last ∷ []) (waiting_with waiting last.entry last.day) (newer (grant_of last.entry) granted) heard_now
+AreMarks-push file waiting granted heard heard_now last marks room overdue = record {
   within = simp length-append (omega arith);
   waits = waiting-push file last ∙ rw marks.waits (waits_with waiting last.entry last.day);
   presumes = λ today. presumed-push file last today ∙ rw (marks.presumes today) (presumes_with waiting last.entry last.day today);
   grants = last_grant-push file last ∙ ap (newer (grant_of last.entry)) marks.grants;
+  overdue = overdue;
 }
+
+-- what has these entries and marks has marks of the longer file
+pub AreMarks-pushed : (file : List Entered) (waiting : Option ℕ) (granted : Option Grant) (heard : Option ℕ) (last : Entered)
+    → AreMarks file waiting granted heard → length file < MOST_ENTRIES
+    → (items : List Entered) (waiting_now : Option ℕ) (granted_now : Option Grant) (heard_now : Option ℕ)
+    → items ≡ file ++ last ∷ [] → waiting_now ≡ waiting_with waiting last.entry last.day
+    → granted_now ≡ newer (grant_of last.entry) granted
+    → ((today : ℕ) → is_overdue items today ≡ has_come 30 heard_now today)
+    → AreMarks items waiting_now granted_now heard_now
+AreMarks-pushed file waiting granted heard last marks room items waiting_now granted_now heard_now items_is waiting_is granted_is overdue =
+    let overdue_file = λ (today : ℕ). rw items_is at (overdue today) in
+    rw (items_is, waiting_is, granted_is) (AreMarks-push file waiting granted heard heard_now last marks room overdue_file)
 
 -- the newer grant is the new one where there is one, and else the old one
 pub newer-some : (new old : Option Grant) → is_some new ≡ true → newer new old ≡ new

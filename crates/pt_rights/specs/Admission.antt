@@ -1,5 +1,6 @@
 -- Which entries a case file admits.
-use Rattle.std.specs.Prelude.{ℕ, Bool, true, false, not, List, [], ◌∷◌, nat_le}
+use Rattle.std.specs.Prelude.{ℕ, Bool, true, false, ◌&&◌, not, List, [], ◌∷◌, nat_le}
+use Rattle.pt_base.specs.declared.policy.Policy.{Policy}
 use Rattle.pt_base.specs.declared.rider.Rider.{Rider}
 use Rattle.pt_base.specs.declared.rider.Residence.{Residence}
 use Rattle.pt_base.specs.declared.rider.Residence.TheVariants.{Resident, Visitor}
@@ -8,6 +9,9 @@ use Rattle.pt_base.specs.declared.rule.Rule.TheVariants as rule
 use Rattle.pt_rights.specs.declared.entry.Entry.{Entry}
 use Rattle.pt_rights.specs.declared.entry.Entry.TheVariants as kind
 use Rattle.pt_rights.specs.declared.entry.Entered.{Entered}
+use Rattle.pt_rights.specs.declared.tally.Tally.{Tally}
+use Rattle.pt_rights.specs.Appeals.{may_appeal, awaits_hearing, may_decide}
+use Rattle.pt_rights.specs.Notices.{is_pattern, awaits_notice_hearing, may_suspend, is_term}
 use Rattle.pt_rights.specs.Standing.{is_waiting}
 
 -- the rider has a case file (37.127: visitors have none)
@@ -15,16 +19,32 @@ abbrev pub is_resident : Residence → Bool
 is_resident Resident = true
 is_resident Visitor = false
 
--- the rules of an entry of each kind on a day, in the order in which they are tried, each with whether it holds
-abbrev pub rules_of : List Entered → ℕ → Entry → List (Rule × Bool)
+-- the rules of an entry of each kind, by an author on a day, in the order in which they are tried, each with whether it holds
+abbrev pub rules_of : List Entered → Entry → ℕ → ℕ → List Tally → Policy → List (Rule × Bool)
 -- an application waits for its decision before the next one comes (37.125(c))
-rules_of file today kind.Complete = (rule.Application, not (is_waiting file)) ∷ []
+rules_of file kind.Complete today author tallies policy = (rule.Application, not (is_waiting file)) ∷ []
 -- a decision answers an application (37.125(c)), and a grant's last day has not passed (37.125(e))
-rules_of file today (kind.Grant grant) =
+rules_of file (kind.Grant grant) today author tallies policy =
     (rule.Application, is_waiting file) ∷ (rule.LastDay, nat_le today grant.until) ∷ []
-rules_of file today (kind.Refuse reasons) = (rule.Application, is_waiting file) ∷ []
+rules_of file (kind.Refuse reasons) today author tallies policy = (rule.Application, is_waiting file) ∷ []
+-- an appeal comes in time, once, and one at a time (37.125(g))
+rules_of file (kind.Appeal against) today author tallies policy = (rule.Appeal, may_appeal file today against) ∷ []
+-- an appeal is heard once (37.125(g))
+rules_of file kind.Heard today author tallies policy = (rule.Appeal, awaits_hearing file) ∷ []
+-- another decides the appeal than the one who decided before (37.125(g))
+rules_of file (kind.AppealGranted grant) today author tallies policy =
+    (rule.Appeal, may_decide file (kind.AppealGranted grant) author) ∷ (rule.LastDay, nat_le today grant.until) ∷ []
+rules_of file (kind.AppealDenied reasons) today author tallies policy =
+    (rule.Appeal, may_decide file (kind.AppealDenied reasons) author) ∷ []
+rules_of file kind.Overturn today author tallies policy = (rule.Appeal, may_decide file kind.Overturn author) ∷ []
+-- the rider has missed trips in a pattern (37.125(h))
+rules_of file (kind.Notice basis) today author tallies policy = (rule.Suspension, is_pattern tallies policy today) ∷ []
+-- the rider is heard on a notice, and suspended only then (37.125(h))
+rules_of file kind.NoticeHeard today author tallies policy = (rule.Suspension, awaits_notice_hearing file) ∷ []
+rules_of file (kind.Suspend starts ends reasons) today author tallies policy =
+    (rule.Suspension, may_suspend file && is_term today starts ends) ∷ []
 
 -- the rules that a rider's entry has to meet, in order
-abbrev pub admission_rules : List Entered → Rider → Entry → ℕ → List (Rule × Bool)
-admission_rules file rider entry today =
-    (rule.Residents, is_resident rider.kind) ∷ rules_of file today entry
+abbrev pub admission_rules : List Entered → Rider → Entry → ℕ → ℕ → List Tally → Policy → List (Rule × Bool)
+admission_rules file rider entry today author tallies policy =
+    (rule.Residents, is_resident rider.kind) ∷ rules_of file entry today author tallies policy

@@ -1,7 +1,17 @@
 -- The conditions of a grant.
-use Rattle.std.specs.Prelude.{◌≤◌, List, length}
+use Rattle.std.specs.Prelude.{⊤, ◌≤◌, List, length}
+use Rattle.pt_rights.specs.Feet.{IsFeet}
+use Rattle.pt_rights.specs.Months.{IsMonthSet}
 use Rattle.pt_rights.specs.declared.conditions.Condition.{Condition}
+use Rattle.pt_rights.specs.declared.conditions.Condition.TheVariants.{Always, Months, Farther, NoLift}
 use Rattle.pt_rights.specs.declared.conditions.TheConstants.{MOST_CONDITIONS}
+
+-- a condition's months are a set of months, its distance 1 to 100,000 feet
+abbrev pub IsCondition : Condition → Type 0
+IsCondition Always = ⊤
+IsCondition (Months months) = IsMonthSet months
+IsCondition (Farther feet) = IsFeet feet
+IsCondition NoLift = ⊤
 
 -- a grant lists one to four conditions
 abbrev pub IsConditions : List Condition → Type 0

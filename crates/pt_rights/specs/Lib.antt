@@ -1,8 +1,12 @@
 pub mod Admission
+pub mod Appeals
 pub mod ByPlace
 pub mod Conditions
+pub mod Feet
 pub mod Kinds
 pub mod Marks
+pub mod Months
+pub mod Notices
 pub mod Places
 pub mod Reasons
 pub mod Rules

@@ -1,10 +1,11 @@
--- A rider's standing (49 CFR 37.125(c) and (e)), by the entries of the case file and what stands after each.
+-- A rider's standing (49 CFR 37.125(c), (e) and (g)), by the entries of the case file and what stands after each.
 use Rattle.std.specs.Prelude.{ℕ, ◌+◌, Bool, ◌&&◌, not, List, Option, Some, None, nat_le, if◌then◌else◌}
 use Rattle.std.specs.List.{list_any, filter_map, last_or}
 use Rattle.pt_rights.specs.declared.entry.Grant.{Grant}
 use Rattle.pt_rights.specs.declared.entry.Entered.{Entered}
 use Rattle.pt_rights.specs.declared.case_file.Standing.{Standing}
 use Rattle.pt_rights.specs.declared.case_file.Standing.TheVariants as standing
+use Rattle.pt_rights.specs.Appeals.{is_overdue}
 use Rattle.pt_rights.specs.Kinds.{is_complete, is_decision, grant_of}
 use Rattle.pt_rights.specs.Places.{some_place}
 
@@ -31,7 +32,8 @@ abbrev pub standing_by : Option Grant → ℕ → Standing
 standing_by None day = standing.None
 standing_by (Some grant) day = if nat_le day grant.until then standing.Granted grant else standing.None
 
--- the standing for a day as seen on the day today: the first of presumed, granted and none that holds
+-- the standing for a day as seen on the day today: the first of presumed, overdue, granted and none that holds
 abbrev pub standing_of : List Entered → ℕ → ℕ → Standing
 standing_of file today day =
-    if is_presumed file today then standing.Presumed else standing_by (last_grant file) day
+    if is_presumed file today then standing.Presumed
+    else (if is_overdue file today then standing.AppealOverdue else standing_by (last_grant file) day)

@@ -1,16 +1,16 @@
 ghost use Rattle.std.specs.Prelude.{◌≡◌, ◌<◌, ◌≤◌, ◌↔◌, [], ◌∷◌, ◌++◌, length, IsTrue, IfErr, OnOk, OnErr};
 ghost use Rattle.pt_base.specs.declared.fault.TheConstants.{MEMORY};
 ghost use Rattle.pt_rights.specs.Admission.{admission_rules};
-ghost use Rattle.pt_rights.specs.ByPlace.{IsWaiting, IsPresumed, IsGrantedFor};
+ghost use Rattle.pt_rights.specs.ByPlace.{IsWaiting, IsPresumed, IsOverdue, IsGrantedFor, IsSuspended};
 ghost use Rattle.pt_rights.specs.Kinds.{grant_of};
-ghost use Rattle.pt_rights.specs.Marks.{waiting_with};
+ghost use Rattle.pt_rights.specs.Marks.{has_come, waiting_with};
 ghost use Rattle.pt_rights.specs.Rules.{first_failing};
 ghost use Rattle.pt_rights.specs.Standing.{is_waiting, standing_of};
 ghost use Rattle.pt_rights.specs.Suspension.{is_suspended};
 ghost use Rattle.pt_rights.specs.declared.entry.Grant.{Grant};
 ghost use Rattle.pt_rights.specs.declared.case_file.TheConstants.{MOST_ENTRIES};
 
-use crate::{Entered, Entry, Grant, Tally};
+use crate::{Entered, Entry, Grant, Tally, appeals, notices, suspensions};
 use pt_base::fault::MEMORY;
 use pt_base::{CallerId, Day, Fault, Policy, Residence, Rider, Rule};
 use std::alloc::{AllocError, Global};
@@ -20,13 +20,18 @@ use std::marker::Model;
 pub const MOST_ENTRIES: usize = 200;
 
 /// How many days after it is complete an application that nobody answered is presumed granted.
-const PRESUMED_AFTER: u32 = 21;
+const PRESUMED_AFTER: u16 = 21;
+
+/// How many days after its hearing an appeal that nobody decided is overdue.
+const OVERDUE_AFTER: u16 = 30;
 
 /// What a rider's case file entitles to.
 #[derive(Debug, Drop, PartialEq, Eq)]
 pub enum Standing {
     /// An application went unanswered for 21 days.
     Presumed,
+    /// An appeal against a refusal went undecided for 30 days from its hearing.
+    AppealOverdue,
     /// The last grant has not run out.
     Granted(Grant),
     /// Neither.
@@ -41,6 +46,8 @@ pub struct CaseFile {
     waiting: Option<Day>,
     /// The last grant.
     granted: Option<Grant>,
+    /// The least day on which a pending appeal against a refusal was heard.
+    heard: Option<Day>,
 }
 
 impl Model for CaseFile {
@@ -53,7 +60,7 @@ impl Model for CaseFile {
 
     ghost view = { λ file. file.entries.items };
 
-    ghost invariant = { λ file. AreMarks file.entries.items file.waiting file.granted };
+    ghost invariant = { λ file. AreMarks file.entries.items file.waiting file.granted file.heard };
 }
 
 impl CaseFile {
@@ -65,6 +72,7 @@ impl CaseFile {
             entries: Vec::new(alloc),
             waiting: None,
             granted: None,
+            heard: None,
         }
     }
 
@@ -109,7 +117,7 @@ impl CaseFile {
 
     /// The rule by which the rider's file turns the entry away on the day `today`; `None` where it is admitted.
     ///
-    /// No kind of entry has a rule yet about its author, about missed trips or about the policy.
+    /// The tallies are those of the rider's trips; a notice looks at the ones of the policy's days before `today`.
     pub fn admits(
         &self,
         rider: &Rider,
@@ -119,18 +127,41 @@ impl CaseFile {
         tallies: &[Tally],
         policy: &Policy,
     ) -> Option<Rule>
-        ensures { result ≡ first_failing (admission_rules self.now rider.now entry.now today) }
+        ensures { result ≡ first_failing
+            (admission_rules self.now rider.now entry.now today author tallies.now policy.now) }
     {
         if rider.kind == Residence::Visitor {
             return Some(Rule::Residents);
         }
-        let waiting = self.is_waiting();
+        let entries = self.entries();
+        let (rule, holds) = match entry {
+            Entry::Complete => (Rule::Application, !self.is_waiting()),
+            Entry::Grant(_) | Entry::Refuse(_) => (Rule::Application, self.is_waiting()),
+            Entry::Appeal { against } => {
+                (Rule::Appeal, appeals::may_appeal(entries, today, *against))
+            }
+            Entry::Heard => (Rule::Appeal, appeals::awaits_hearing(entries)),
+            Entry::AppealGranted(_) | Entry::AppealDenied(_) | Entry::Overturn => {
+                (Rule::Appeal, appeals::may_decide(entries, entry, author))
+            }
+            Entry::Notice(_) => (
+                Rule::Suspension,
+                notices::is_pattern(tallies, policy, today),
+            ),
+            Entry::NoticeHeard => (Rule::Suspension, notices::awaits_notice_hearing(entries)),
+            Entry::Suspend { starts, ends, .. } => (
+                Rule::Suspension,
+                notices::may_suspend(entries) && notices::is_term(today, *starts, *ends),
+            ),
+        };
+        if !holds {
+            return Some(rule);
+        }
         match entry {
-            Entry::Complete if waiting => Some(Rule::Application),
-            Entry::Complete => None,
-            Entry::Grant(_) | Entry::Refuse(_) if !waiting => Some(Rule::Application),
-            Entry::Grant(grant) if grant.until < today => Some(Rule::LastDay),
-            Entry::Grant(_) | Entry::Refuse(_) => None,
+            Entry::Grant(grant) | Entry::AppealGranted(grant) if grant.until < today => {
+                Some(Rule::LastDay)
+            }
+            _ => None,
         }
     }
 
@@ -146,7 +177,7 @@ impl CaseFile {
         ensures fault { IfErr result (λ refused. refused.1 ≡ record { code = MEMORY; row = 0 }) }
     {
         let waiting = waiting_after(self.waiting, &entry, today);
-        let granted = granted_by(&entry);
+        let granted = entry.granted();
         let entered = Entered {
             entry,
             day: today,
@@ -158,6 +189,7 @@ impl CaseFile {
                 if granted.is_some() {
                     self.granted = granted;
                 }
+                self.heard = appeals::heard_since(&self.entries);
                 Ok(())
             }
             Err(refused) => Err((refused.value.entry, Fault::of(MEMORY))),
@@ -168,13 +200,23 @@ impl CaseFile {
     pub fn standing(&self, today: Day, day: Day) -> Standing
         ensures value { result ≡ standing_of self.now today day }
         ensures presumed { (result ≡ Standing.Presumed) ↔ IsPresumed self.now today }
+        ensures overdue { (result ≡ Standing.AppealOverdue)
+            ↔ ((¬ IsPresumed self.now today) × IsOverdue self.now today) }
         ensures granted { (grant : Grant) → (result ≡ Standing.Granted grant)
-            ↔ ((¬ IsPresumed self.now today) × IsGrantedFor self.now day grant) }
+            ↔ ((¬ IsPresumed self.now today) × (¬ IsOverdue self.now today) × IsGrantedFor self.now day grant) }
     {
-        if let Some(since) = self.waiting
-            && since.number() + PRESUMED_AFTER <= today.number()
-        {
+        self.first_standing(today, day)
+    }
+
+    /// The first of presumed, overdue, granted and none that holds.
+    fn first_standing(&self, today: Day, day: Day) -> Standing
+        ensures { result ≡ standing_of self.now today day }
+    {
+        if has_come(self.waiting, PRESUMED_AFTER, today) {
             return Standing::Presumed;
+        }
+        if has_come(self.heard, OVERDUE_AFTER, today) {
+            return Standing::AppealOverdue;
         }
         match &self.granted {
             Some(grant) if day <= grant.until => Standing::Granted(grant.copied()),
@@ -182,11 +224,12 @@ impl CaseFile {
         }
     }
 
-    /// Whether the rider is suspended on the day: no kind of entry suspends yet.
+    /// Whether the rider is suspended on the day.
     pub fn suspended(&self, day: Day) -> bool
-        ensures { result ≡ is_suspended self.now day }
+        ensures value { result ≡ is_suspended self.now day }
+        ensures by_place { IsTrue result ↔ IsSuspended self.now day }
     {
-        false
+        suspensions::is_suspended(&self.entries, day)
     }
 }
 
@@ -202,7 +245,18 @@ impl Clone for CaseFile {
             entries: self.entries.clone()?,
             waiting: self.waiting,
             granted,
+            heard: self.heard,
         })
+    }
+}
+
+/// Whether the day `today` is so many days after the first one, if there is one, or later.
+fn has_come(since: Option<Day>, days: u16, today: Day) -> bool
+    ensures { result ≡ has_come days since today }
+{
+    match since {
+        Some(since) => since.number() + u32::from(days) <= today.number(),
+        None => false,
     }
 }
 
@@ -211,20 +265,8 @@ fn waiting_after(waiting: Option<Day>, entry: &Entry, day: Day) -> Option<Day>
     ensures { result ≡ waiting_with waiting entry.now day }
 {
     match entry {
-        Entry::Complete => match waiting {
-            Some(since) if since <= day => Some(since),
-            _ => Some(day),
-        },
+        Entry::Complete => appeals::earlier(waiting, day),
         Entry::Grant(_) | Entry::Refuse(_) => None,
-    }
-}
-
-/// A copy of what the entry grants, if it is a grant.
-fn granted_by(entry: &Entry) -> Option<Grant>
-    ensures { result ≡ grant_of entry.now }
-{
-    match entry {
-        Entry::Grant(grant) => Some(grant.copied()),
-        Entry::Complete | Entry::Refuse(_) => None,
+        _ => waiting,
     }
 }

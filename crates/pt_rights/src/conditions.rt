@@ -2,6 +2,7 @@ ghost use Rattle.std.specs.Prelude.{⊤, ◌≡◌, ◌↔◌, IsSome, IfSome};
 ghost use Rattle.std.specs.Cmp.Lexicographic.{pointwise, lists_per, lists_equiv};
 ghost use Rattle.pt_rights.specs.Conditions.{IsConditions};
 
+use crate::{Feet, Months};
 use arrayvec::ArrayVec;
 use std::alloc::AllocError;
 use std::marker::Model;
@@ -9,12 +10,19 @@ use std::marker::Model;
 /// The most conditions that a grant lists.
 pub const MOST_CONDITIONS: usize = 4;
 
-/// A condition under which a trip qualifies. A grant's trips qualify where one of its conditions holds.
+/// A condition under which a trip qualifies (49 CFR 37.123(b), (e)). A grant's trips qualify where
+/// one of its conditions holds.
 #[derive(Clone, Copy, Debug, Default, PartialEq, Eq)]
 pub enum Condition {
     /// Every trip qualifies.
     #[default]
     Always,
+    /// The trip's day is in one of these months.
+    Months(Months),
+    /// One end of the trip is farther than this from every fixed route that runs then.
+    Farther(Feet),
+    /// No fixed route with accessible vehicles that runs then has both ends in its corridor.
+    NoLift,
 }
 
 /// The conditions of a grant, in the order given: one to four, and one may stand twice.

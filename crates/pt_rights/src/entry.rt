@@ -1,4 +1,6 @@
-ghost use Rattle.std.specs.Prelude.{⊤, ◌≡◌};
+ghost use Rattle.std.specs.Prelude.{⊤, ◌≡◌, ◌||◌};
+ghost use Rattle.pt_rights.specs.Appeals.{appeals_against, may_answer};
+ghost use Rattle.pt_rights.specs.Kinds.{grant_of, is_refusal, is_appeal, is_hearing, is_overturn, decides_appeal, is_notice, is_notice_hearing, is_suspension, suspends};
 
 use crate::{Conditions, Reasons};
 use pt_base::{CallerId, Day};
@@ -43,6 +45,155 @@ pub enum Entry {
     Grant(Grant),
     /// The application is refused.
     Refuse(Reasons),
+    /// An appeal against a refusal or a suspension.
+    Appeal {
+        /// The place of what it is against in the case file, counted from 0.
+        against: u8,
+    },
+    /// The appeal was heard.
+    Heard,
+    /// The appeal against a refusal is granted.
+    AppealGranted(Grant),
+    /// The appeal is denied.
+    AppealDenied(Reasons),
+    /// The appeal against a suspension is granted.
+    Overturn,
+    /// A suspension is proposed, on this basis.
+    Notice(Reasons),
+    /// The rider was heard on the notice.
+    NoticeHeard,
+    /// The rider is suspended.
+    Suspend {
+        /// The first day of the suspension.
+        starts: Day,
+        /// The last day of the suspension.
+        ends: Day,
+        reasons: Reasons,
+    },
+}
+
+impl Entry {
+    /// A copy of what the entry grants, if it grants.
+    pub(crate) fn granted(&self) -> Option<Grant>
+        ensures { result ≡ grant_of self.now }
+    {
+        match self {
+            Entry::Grant(grant) | Entry::AppealGranted(grant) => Some(grant.copied()),
+            _ => None,
+        }
+    }
+
+    /// Whether it refuses an application.
+    pub(crate) fn is_refusal(&self) -> bool
+        ensures { result ≡ is_refusal self.now }
+    {
+        matches!(self, Entry::Refuse(_))
+    }
+
+    /// Whether it is an appeal.
+    pub(crate) fn is_appeal(&self) -> bool
+        ensures { result ≡ is_appeal self.now }
+    {
+        matches!(self, Entry::Appeal { .. })
+    }
+
+    /// Whether it is an appeal against what stands at the place.
+    pub(crate) fn appeals_against(&self, place: usize) -> bool
+        ensures { result ≡ appeals_against place self.now }
+    {
+        match self {
+            Entry::Appeal { against } => usize::from(*against) == place,
+            _ => false,
+        }
+    }
+
+    /// Whether an appeal was heard.
+    pub(crate) fn is_hearing(&self) -> bool
+        ensures { result ≡ is_hearing self.now }
+    {
+        matches!(self, Entry::Heard)
+    }
+
+    /// Whether it overturns what is appealed against.
+    pub(crate) fn is_overturn(&self) -> bool
+        ensures { result ≡ is_overturn self.now }
+    {
+        matches!(self, Entry::Overturn)
+    }
+
+    /// Whether it decides an appeal.
+    pub(crate) fn decides_appeal(&self) -> bool
+        ensures { result ≡ decides_appeal self.now }
+    {
+        matches!(
+            self,
+            Entry::AppealGranted(_) | Entry::AppealDenied(_) | Entry::Overturn
+        )
+    }
+
+    /// Whether an appeal was heard, or is decided.
+    pub(crate) fn answers_appeal(&self) -> bool
+        ensures { result ≡ (decides_appeal self.now || is_hearing self.now) }
+    {
+        self.decides_appeal() || self.is_hearing()
+    }
+
+    /// Whether, as the decision of an appeal, it may answer one against that entry.
+    pub(crate) fn may_answer(&self, disputed: &Entry) -> bool
+        ensures { result ≡ may_answer self.now disputed.now }
+    {
+        match self {
+            Entry::AppealGranted(_) => disputed.is_refusal(),
+            Entry::AppealDenied(_) => disputed.is_refusal() || disputed.is_suspension(),
+            Entry::Overturn => disputed.is_suspension(),
+            _ => false,
+        }
+    }
+
+    /// Whether it gives notice of a suspension.
+    pub(crate) fn is_notice(&self) -> bool
+        ensures { result ≡ is_notice self.now }
+    {
+        matches!(self, Entry::Notice(_))
+    }
+
+    /// Whether the rider was heard on a notice.
+    pub(crate) fn is_notice_hearing(&self) -> bool
+        ensures { result ≡ is_notice_hearing self.now }
+    {
+        matches!(self, Entry::NoticeHeard)
+    }
+
+    /// Whether an earlier notice is used up: it suspends the rider, or gives notice anew.
+    pub(crate) fn ends_notice(&self) -> bool
+        ensures { result ≡ (is_suspension self.now || is_notice self.now) }
+    {
+        self.is_suspension() || self.is_notice()
+    }
+
+    /// Whether an earlier notice needs no hearing: it was heard, or is used up.
+    pub(crate) fn answers_notice(&self) -> bool
+        ensures { result ≡ (is_notice_hearing self.now || (is_suspension self.now || is_notice self.now)) }
+    {
+        self.is_notice_hearing() || self.ends_notice()
+    }
+
+    /// Whether it suspends the rider.
+    pub(crate) fn is_suspension(&self) -> bool
+        ensures { result ≡ is_suspension self.now }
+    {
+        matches!(self, Entry::Suspend { .. })
+    }
+
+    /// Whether it suspends the rider on the day.
+    pub(crate) fn suspends(&self, day: Day) -> bool
+        ensures { result ≡ suspends day self.now }
+    {
+        match self {
+            Entry::Suspend { starts, ends, .. } => *starts <= day && day <= *ends,
+            _ => false,
+        }
+    }
 }
 
 impl Clone for Entry {
@@ -53,6 +204,22 @@ impl Clone for Entry {
             Entry::Complete => Ok(Entry::Complete),
             Entry::Grant(grant) => Ok(Entry::Grant(grant.copied())),
             Entry::Refuse(reasons) => Ok(Entry::Refuse(reasons.clone()?)),
+            Entry::Appeal { against } => Ok(Entry::Appeal { against: *against }),
+            Entry::Heard => Ok(Entry::Heard),
+            Entry::AppealGranted(grant) => Ok(Entry::AppealGranted(grant.copied())),
+            Entry::AppealDenied(reasons) => Ok(Entry::AppealDenied(reasons.clone()?)),
+            Entry::Overturn => Ok(Entry::Overturn),
+            Entry::Notice(basis) => Ok(Entry::Notice(basis.clone()?)),
+            Entry::NoticeHeard => Ok(Entry::NoticeHeard),
+            Entry::Suspend {
+                starts,
+                ends,
+                reasons,
+            } => Ok(Entry::Suspend {
+                starts: *starts,
+                ends: *ends,
+                reasons: reasons.clone()?,
+            }),
         }
     }
 }

@@ -4,13 +4,25 @@
 pub use case_file::{CaseFile, MOST_ENTRIES, Standing};
 pub use conditions::{Condition, Conditions, MOST_CONDITIONS};
 pub use entry::{Entered, Entry, Grant};
+pub use feet::Feet;
+pub use months::Months;
 pub use reasons::Reasons;
 pub use tally::{Outcome, Tally};
 
+mod appeals;
 mod case_file;
 mod conditions;
+#[cfg(test)]
+mod conditions_tests;
 mod entry;
+mod feet;
+mod months;
+mod notices;
 mod reasons;
+#[cfg(test)]
+mod rights_tests;
+mod suspensions;
 mod tally;
 #[cfg(test)]
 mod tests;
+mod walk;

@@ -1,7 +1,5 @@
-use crate::{
-    CaseFile, Condition, Conditions, Entry, Grant, MOST_ENTRIES, Outcome, Reasons, Standing, Tally,
-};
-use pt_base::{CallerId, Day, Policy, Residence, Rider, RiderId, Rule};
+use crate::{CaseFile, Condition, Conditions, Entry, Grant, MOST_ENTRIES, Reasons, Standing};
+use pt_base::{CallerId, Day, Policy, Residence, Rider, RiderId};
 use std::alloc::Global;
 use std::test::Fail;
 
@@ -17,15 +15,15 @@ const MARCH_11: u32 = 20_158;
 /// 2025-03-12.
 const MARCH_12: u32 = 20_159;
 
-fn day(number: u32) -> Result<Day, Fail> {
+pub fn day(number: u32) -> Result<Day, Fail> {
     Ok(Day::of(number).ok_or("a day")?)
 }
 
-fn caller(number: u32) -> Result<CallerId, Fail> {
+pub fn caller(number: u32) -> Result<CallerId, Fail> {
     Ok(CallerId::of(number).ok_or("a caller")?)
 }
 
-fn rider(kind: Residence) -> Result<Rider, Fail> {
+pub fn rider(kind: Residence) -> Result<Rider, Fail> {
     let id = RiderId::of(7).ok_or("a rider")?;
     Ok(Rider {
         id,
@@ -34,7 +32,7 @@ fn rider(kind: Residence) -> Result<Rider, Fail> {
     })
 }
 
-fn policy() -> Policy {
+pub fn policy() -> Policy {
     Policy {
         base: 0,
         transfer: 0,
@@ -47,7 +45,7 @@ fn policy() -> Policy {
     }
 }
 
-fn grant_until(number: u32) -> Result<Grant, Fail> {
+pub fn grant_until(number: u32) -> Result<Grant, Fail> {
     let conditions = Conditions::of(&[Condition::Always]).ok_or("conditions")?;
     Ok(Grant {
         until: day(number)?,
@@ -55,10 +53,13 @@ fn grant_until(number: u32) -> Result<Grant, Fail> {
     })
 }
 
-fn refusal(alloc: Global) -> Result<Entry, Fail> {
+pub fn refusal(alloc: Global) -> Result<Entry, Fail> {
+    Ok(Entry::Refuse(reasons(alloc)?))
+}
+
+pub fn reasons(alloc: Global) -> Result<Reasons, Fail> {
     let bytes = Vec::from_slice(alloc, b"walks to every stop")?;
-    let reasons = Reasons::of(bytes).ok_or("reasons")?;
-    Ok(Entry::Refuse(reasons))
+    Ok(Reasons::of(bytes).ok_or("reasons")?)
 }
 
 fn enter(file: &mut CaseFile, entry: Entry, today: u32) -> Result<(), Fail> {
@@ -67,16 +68,6 @@ fn enter(file: &mut CaseFile, entry: Entry, today: u32) -> Result<(), Fail> {
     }
     file.push(entry, day(today)?, caller(3)?)?;
     Ok(())
-}
-
-fn turned_away(file: &CaseFile, kind: Residence, entry: &Entry) -> Result<Option<Rule>, Fail> {
-    let tallies = [Tally {
-        day: day(MARCH_10)?,
-        outcome: Outcome::MissedRider,
-    }];
-    let rider = rider(kind)?;
-    let today = day(MARCH_11)?;
-    Ok(file.admits(&rider, entry, today, caller(3)?, &tallies, &policy()))
 }
 
 #[test]
@@ -89,40 +80,6 @@ fn an_application_is_presumed_granted_on_the_21st_day(rt: HostRuntime) -> Result
     assert!(rt; !file.suspended(trip));
     enter(&mut file, refusal(rt.alloc())?, MARCH_12)?;
     assert_eq!(rt; file.standing(day(MARCH_12)?, trip), Standing::None);
-    Ok(())
-}
-
-#[test]
-fn entries_are_admitted_in_turn(rt: HostRuntime) -> Result<(), Fail> {
-    let mut file = CaseFile::new(rt.alloc());
-    let resident = Residence::Resident;
-    let granted = Entry::Grant(grant_until(MARCH_11)?);
-    let run_out = Entry::Grant(grant_until(MARCH_10)?);
-    let refused = refusal(rt.alloc())?;
-    assert_eq!(rt; turned_away(&file, resident, &Entry::Complete)?, None);
-    assert_eq!(rt;
-        turned_away(&file, resident, &run_out)?,
-        Some(Rule::Application)
-    );
-    assert_eq!(rt;
-        turned_away(&file, resident, &refused)?,
-        Some(Rule::Application)
-    );
-    enter(&mut file, Entry::Complete, FEBRUARY_17)?;
-    assert_eq!(rt;
-        turned_away(&file, resident, &Entry::Complete)?,
-        Some(Rule::Application)
-    );
-    assert_eq!(rt;
-        turned_away(&file, resident, &run_out)?,
-        Some(Rule::LastDay)
-    );
-    assert_eq!(rt; turned_away(&file, resident, &granted)?, None);
-    assert_eq!(rt; turned_away(&file, resident, &refused)?, None);
-    assert_eq!(rt;
-        turned_away(&file, Residence::Visitor, &Entry::Complete)?,
-        Some(Rule::Residents)
-    );
     Ok(())
 }
 

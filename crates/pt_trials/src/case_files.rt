@@ -1,8 +1,8 @@
-//! Standing, suspension and admission of random case files against their definitions, entry by entry.
+//! Admission, standing and suspension of random case files, by `pt_rights` and by the rules read entry by entry.
 ghost use Rattle.std.specs.Prelude.{◌<◌};
 
 use pt_base::{CallerId, Day, Policy, Residence, Rider, RiderId, Rule};
-use pt_rights::{CaseFile, Condition, Conditions, Entered, Entry, Grant, Reasons, Standing};
+use pt_rights::{CaseFile, Condition, Conditions, Entry, Grant, Outcome, Reasons, Standing, Tally};
 use std::alloc::Global;
 use std::test::Fail;
 
@@ -10,145 +10,454 @@ const SEED: u64 = 37_125;
 
 const FILES: u32 = 3_000;
 
+/// How often each answer has to come, so that the comparison says something of it.
+const OFTEN: u32 = 20;
+
+/// The answers: 11 kinds admitted, 16 reasons to turn away, 4 standings, 4 of suspension.
+const ANSWERS: usize = 35;
+
 const FIRST_DAY: u32 = 20_000;
 
-/// The constants of Knuth's MMIX generator.
-fn next(state: &mut u64, below: u32) -> u32
-    requires { 0 < below }
-    ensures { result < below }
-{
-    *state = state
-        .wrapping_mul(6_364_136_223_846_793_005)
-        .wrapping_add(1_442_695_040_888_963_407);
-    let high = (*state >> 33) as u32;
-    high % below
+#[derive(Clone, Copy, Debug, PartialEq, Eq)]
+pub(crate) enum Kind {
+    Complete,
+    Grant,
+    Refuse,
+    Appeal,
+    Heard,
+    AppealGranted,
+    AppealDenied,
+    Overturn,
+    Notice,
+    NoticeHeard,
+    Suspend,
 }
 
-fn random_day(state: &mut u64) -> Result<Day, Fail> {
-    Ok(Day::of(FIRST_DAY + next(state, 60)).ok_or("a day")?)
+/// The kinds that decide an appeal.
+const DECISIONS: [Kind; 3] = [Kind::AppealGranted, Kind::AppealDenied, Kind::Overturn];
+
+/// What an orderly file may have in turn, beside what is counted where it is admitted.
+const STORY: [(Kind, &str); 14] = [
+    (Kind::Complete, "complete"),
+    (Kind::Refuse, "refuse"),
+    (Kind::Appeal, "appeal"),
+    (Kind::Heard, "heard"),
+    (Kind::AppealGranted, "appeal granted"),
+    (Kind::AppealDenied, "appeal denied"),
+    (Kind::Notice, "notice"),
+    (Kind::NoticeHeard, "notice heard"),
+    (Kind::Suspend, "suspend"),
+    (Kind::Appeal, "appeal"),
+    (Kind::Heard, "heard"),
+    (Kind::Overturn, "overturn"),
+    (Kind::Complete, "complete"),
+    (Kind::Grant, "grant"),
+];
+
+/// An entry in plain numbers: `against` is an appeal's place, `starts` a suspension's first day, `until` its last day or a
+/// grant's.
+#[derive(Clone, Copy, Debug)]
+pub(crate) struct Plain {
+    pub kind: Kind,
+    pub day: u32,
+    pub author: u32,
+    pub against: u8,
+    pub starts: u32,
+    pub until: u32,
 }
 
-fn random_entry(alloc: Global, state: &mut u64) -> Result<Entry, Fail> {
-    match next(state, 3) {
-        0 => Ok(Entry::Complete),
-        1 => {
-            let members = [Condition::Always; 4];
-            let count = next(state, 4) as usize + 1;
-            Ok(Entry::Grant(Grant {
-                until: random_day(state)?,
-                conditions: Conditions::of(&members[..count]).ok_or("conditions")?,
-            }))
-        }
-        _ => {
-            let bytes = Vec::from_slice(alloc, b"no barrier on the way")?;
-            Ok(Entry::Refuse(Reasons::of(bytes).ok_or("reasons")?))
-        }
+fn is_at(file: &[Plain], place: usize, kinds: &[Kind]) -> bool {
+    file.get(place)
+        .is_some_and(|entry| kinds.contains(&entry.kind))
+}
+
+fn stands_after(file: &[Plain], place: usize, kinds: &[Kind]) -> bool {
+    let mut later = file.iter().skip(place.saturating_add(1));
+    later.any(|entry| kinds.contains(&entry.kind))
+}
+
+/// An application that no grant and no refusal follows.
+fn is_unanswered(file: &[Plain], place: usize) -> bool {
+    is_at(file, place, &[Kind::Complete])
+        && !stands_after(file, place, &[Kind::Grant, Kind::Refuse])
+}
+
+/// An appeal that no decision of an appeal follows.
+fn is_pending(file: &[Plain], place: usize) -> bool {
+    is_at(file, place, &[Kind::Appeal]) && !stands_after(file, place, &DECISIONS)
+}
+
+fn is_presumed(file: &[Plain], today: u32) -> bool {
+    let mut places = file.iter().enumerate();
+    places.any(|(place, entry)| is_unanswered(file, place) && today.saturating_sub(entry.day) >= 21)
+}
+
+/// Whether a hearing 30 days ago or earlier stands after the place.
+fn is_heard_by(file: &[Plain], place: usize, today: u32) -> bool {
+    let mut later = file.iter().skip(place);
+    later.any(|entry| entry.kind == Kind::Heard && today.saturating_sub(entry.day) >= 30)
+}
+
+fn is_overdue(file: &[Plain], today: u32) -> bool {
+    file.iter().enumerate().any(|(place, appeal)| {
+        is_pending(file, place)
+            && is_at(file, usize::from(appeal.against), &[Kind::Refuse])
+            && is_heard_by(file, place, today)
+    })
+}
+
+/// The standing, and the last day of what is granted.
+pub(crate) fn plain_standing(file: &[Plain], today: u32, day: u32) -> (&'static str, u32) {
+    let grants = [Kind::Grant, Kind::AppealGranted];
+    let granted = file.iter().rfind(|entry| grants.contains(&entry.kind));
+    match granted {
+        _ if is_presumed(file, today) => ("presumed", 0),
+        _ if is_overdue(file, today) => ("overdue", 0),
+        Some(grant) if day <= grant.until => ("granted", grant.until),
+        _ => ("no standing", 0),
     }
 }
 
-fn decides(entered: &Entered) -> bool {
-    matches!(&entered.entry, Entry::Grant(_) | Entry::Refuse(_))
-}
-
-/// The least day of an application that no later entry decides.
-fn unanswered_since(entries: &[Entered]) -> Option<u32> {
-    let mut least = None;
-    for (place, application) in entries.iter().enumerate() {
-        let answered = entries[place..].iter().any(decides);
-        if !answered && least.is_none_or(|day| application.day.number() < day) {
-            least = Some(application.day.number());
+/// Whether a suspension has effect, by the first decision after an appeal against it.
+fn effect(file: &[Plain], suspension: usize) -> &'static str {
+    for (place, entry) in file.iter().enumerate() {
+        if entry.kind == Kind::Appeal && usize::from(entry.against) == suspension {
+            let mut later = file.iter().skip(place);
+            match later.find(|later| DECISIONS.contains(&later.kind)) {
+                None => return "appealed",
+                Some(decision) if decision.kind == Kind::Overturn => return "overturned",
+                Some(_) => {}
+            }
         }
     }
-    least
+    "suspended"
 }
 
-/// The last grant, looked for from the end.
-fn last_grant(entries: &[Entered]) -> Option<&Grant> {
-    for entered in entries.iter().rev() {
-        if let Entry::Grant(grant) = &entered.entry {
-            return Some(grant);
+/// Whether a suspension of the day has effect, or why the last one of that day has none.
+pub(crate) fn plain_suspension(file: &[Plain], day: u32) -> &'static str {
+    let mut told = "not suspended";
+    for (place, entry) in file.iter().enumerate() {
+        let holds = entry.kind == Kind::Suspend && entry.starts <= day && day <= entry.until;
+        if holds && told != "suspended" {
+            told = effect(file, place);
+        }
+    }
+    told
+}
+
+fn appeal_denial(file: &[Plain], appeal: Plain) -> Option<&'static str> {
+    let against = usize::from(appeal.against);
+    let decided = file.get(against).map_or(0, |entry| entry.day);
+    if !is_at(file, against, &[Kind::Refuse, Kind::Suspend]) {
+        return Some("nothing to appeal against");
+    }
+    if appeal.day.saturating_sub(decided) > 60 {
+        return Some("appealed too late");
+    }
+    for (place, entry) in file.iter().enumerate() {
+        if entry.kind == Kind::Appeal && entry.against == appeal.against {
+            return Some("appealed before");
+        }
+        if is_pending(file, place) {
+            return Some("another appeal is pending");
         }
     }
     None
 }
 
-fn plain_standing(entries: &[Entered], today: Day, day: Day) -> Standing {
-    if let Some(since) = unanswered_since(entries)
-        && since < today.number()
-        && today.number() - since > 20
-    {
-        return Standing::Presumed;
+fn decision_denial(file: &[Plain], decision: Plain) -> Option<&'static str> {
+    let disputed: &[Kind] = match decision.kind {
+        Kind::AppealGranted => &[Kind::Refuse],
+        Kind::Overturn => &[Kind::Suspend],
+        _ => &[Kind::Refuse, Kind::Suspend],
+    };
+    let mut denial = Some("no appeal was heard");
+    for (place, appeal) in file.iter().enumerate() {
+        let against = usize::from(appeal.against);
+        let author = file.get(against).map_or(0, |entry| entry.author);
+        if is_pending(file, place) && stands_after(file, place, &[Kind::Heard]) {
+            denial = match is_at(file, against, disputed) {
+                true if author != decision.author => return None,
+                true => Some("its author decided"),
+                false => Some("no decision of this"),
+            };
+        }
     }
-    match last_grant(entries) {
-        Some(grant) if grant.until >= day => Standing::Granted(grant.copied()),
-        _ => Standing::None,
-    }
+    denial
 }
 
-fn plain_rule(entries: &[Entered], kind: Residence, entry: &Entry, today: Day) -> Option<Rule> {
-    let waiting = unanswered_since(entries).is_some();
-    if kind == Residence::Visitor {
-        return Some(Rule::Residents);
-    }
-    if waiting == matches!(entry, Entry::Complete) {
-        return Some(Rule::Application);
-    }
-    match entry {
-        Entry::Grant(grant) if today > grant.until => Some(Rule::LastDay),
+/// Whether a notice that is not used up was heard, or else was not.
+fn some_notice(file: &[Plain], heard: bool) -> bool {
+    (0..file.len()).any(|place| {
+        is_at(file, place, &[Kind::Notice])
+            && !stands_after(file, place, &[Kind::Suspend, Kind::Notice])
+            && stands_after(file, place, &[Kind::NoticeHeard]) == heard
+    })
+}
+
+/// Whether a pending appeal was not heard.
+fn some_unheard(file: &[Plain]) -> bool {
+    (0..file.len()).any(|place| is_pending(file, place)
+        && !stands_after(file, place, &[Kind::Heard]))
+}
+
+fn is_term(entry: Plain) -> bool {
+    let (starts, ends) = (entry.starts, entry.until);
+    entry.day < starts && starts <= ends && ends.saturating_sub(starts) <= 29
+}
+
+/// Why an entry comes out of turn, where `pattern` tells whether a pattern of missed trips stands on its day.
+fn out_of_turn(file: &[Plain], pattern: bool, entry: Plain) -> Option<&'static str> {
+    let waits = (0..file.len()).any(|place| is_unanswered(file, place));
+    match entry.kind {
+        Kind::Complete if waits => Some("an application waits"),
+        Kind::Grant | Kind::Refuse if !waits => Some("no application waits"),
+        Kind::Appeal => appeal_denial(file, entry),
+        Kind::Heard if !some_unheard(file) => Some("no appeal to hear"),
+        kind if DECISIONS.contains(&kind) => decision_denial(file, entry),
+        Kind::Notice if !pattern => Some("no pattern"),
+        Kind::NoticeHeard if !some_notice(file, false) => Some("no notice to hear"),
+        Kind::Suspend if !some_notice(file, true) => Some("no notice was heard"),
+        Kind::Suspend if !is_term(entry) => Some("no such term"),
         _ => None,
     }
 }
 
-fn random_rider(state: &mut u64) -> Result<Rider, Fail> {
-    let kind = if next(state, 8) == 0 {
-        Residence::Visitor
-    } else {
-        Residence::Resident
+/// The rule that turns a rider's entry away, and why.
+pub(crate) fn plain_denial(
+    residence: Residence,
+    file: &[Plain],
+    pattern: bool,
+    entry: Plain,
+) -> Option<(Rule, &'static str)> {
+    let rule = match entry.kind {
+        Kind::Complete | Kind::Grant | Kind::Refuse => Rule::Application,
+        Kind::Notice | Kind::NoticeHeard | Kind::Suspend => Rule::Suspension,
+        _ => Rule::Appeal,
     };
-    let id = RiderId::of(7).ok_or("a rider")?;
-    Ok(Rider {
-        id,
+    let grants = [Kind::Grant, Kind::AppealGranted].contains(&entry.kind);
+    match out_of_turn(file, pattern, entry) {
+        _ if residence == Residence::Visitor => Some((Rule::Residents, "a visitor")),
+        Some(why) => Some((rule, why)),
+        None if grants && entry.until < entry.day => Some((Rule::LastDay, "run out")),
+        None => None,
+    }
+}
+
+/// A number below `sides`, by the constants of Knuth's MMIX generator.
+pub(crate) fn throw(dice: &mut u64, sides: u32) -> u32
+    requires { 0 < sides }
+    ensures { result < sides }
+{
+    *dice = dice
+        .wrapping_mul(6_364_136_223_846_793_005)
+        .wrapping_add(1_442_695_040_888_963_407);
+    let high = (*dice >> 33) as u32;
+    high % sides
+}
+
+/// A random day, or half the time one on which something may turn for an entry of the file.
+fn random_day(dice: &mut u64, file: &[Plain]) -> u32 {
+    let turn = [20, 21, 29, 30, 60, 61][throw(dice, 6) as usize];
+    match file.get(throw(dice, 16) as usize) {
+        Some(entry) if throw(dice, 2) == 0 => entry.day.saturating_add(turn),
+        _ => FIRST_DAY + throw(dice, 90),
+    }
+}
+
+/// An entry of any day. Half of the appeals are against the last entry; a suspension has 0 to 32 days.
+pub(crate) fn random_entry(dice: &mut u64, file: &[Plain], kind: Kind) -> Plain {
+    let day = random_day(dice, file);
+    let starts = day.saturating_add(throw(dice, 6));
+    let ends = starts.saturating_add(throw(dice, 33)).saturating_sub(1);
+    let until = FIRST_DAY + throw(dice, 180);
+    let any = throw(dice, 16) as u8;
+    let last = u8::try_from(file.len()).unwrap_or(1).saturating_sub(1);
+    Plain {
         kind,
-        attendant: next(state, 2) == 0,
+        day,
+        author: 1 + throw(dice, 3),
+        against: if throw(dice, 2) == 0 { any } else { last },
+        starts,
+        until: if kind == Kind::Suspend { ends } else { until },
+    }
+}
+
+fn day(number: u32) -> Result<Day, Fail> {
+    Ok(Day::of(number).ok_or("a day")?)
+}
+
+/// The entry that the plain numbers tell.
+pub(crate) fn told(alloc: Global, plain: Plain) -> Result<Entry, Fail> {
+    let reasons = Reasons::of(Vec::from_slice(alloc, b"in short")?).ok_or("reasons")?;
+    let (starts, until) = (day(plain.starts)?, day(plain.until)?);
+    let conditions = Conditions::of(&[Condition::Always]).ok_or("conditions")?;
+    let grant = Grant { until, conditions };
+    let against = plain.against;
+    Ok(match plain.kind {
+        Kind::Complete => Entry::Complete,
+        Kind::Grant => Entry::Grant(grant),
+        Kind::Refuse => Entry::Refuse(reasons),
+        Kind::Appeal => Entry::Appeal { against },
+        Kind::Heard => Entry::Heard,
+        Kind::AppealGranted => Entry::AppealGranted(grant),
+        Kind::AppealDenied => Entry::AppealDenied(reasons),
+        Kind::Overturn => Entry::Overturn,
+        Kind::Notice => Entry::Notice(reasons),
+        Kind::NoticeHeard => Entry::NoticeHeard,
+        Kind::Suspend => Entry::Suspend {
+            starts,
+            ends: until,
+            reasons,
+        },
     })
 }
 
-fn policy() -> Policy {
-    Policy {
-        base: 0,
-        transfer: 0,
-        fare: 0,
-        service: 0,
-        extra_ride: 0,
-        min_missed: 1,
-        percent: 100,
-        span_days: 1,
+/// Up to thirty trips of the rider.
+fn random_tallies(alloc: Global, dice: &mut u64) -> Result<Vec<Tally>, Fail> {
+    let mut tallies = Vec::new(alloc);
+    for _ in 0..throw(dice, 30) {
+        let day = day(FIRST_DAY + throw(dice, 90))?;
+        let outcome = match throw(dice, 3) {
+            0 => Outcome::Ridden,
+            1 => Outcome::MissedRider,
+            _ => Outcome::MissedOperator,
+        };
+        tallies.push(Tally { day, outcome })?;
+    }
+    Ok(tallies)
+}
+
+/// How often each answer came.
+type Seen = Vec<(&'static str, u32)>;
+
+fn count(seen: &mut Seen, answer: &'static str) -> Result<(), Fail> {
+    match seen.iter_mut().find(|(known, _)| *known == answer) {
+        Some((_, times)) => *times = times.saturating_add(1),
+        None => seen.push((answer, 1))?,
+    }
+    Ok(())
+}
+
+/// A rider and the rider's trips, and the rider's case file in both ways.
+#[derive(Drop)]
+struct Trial {
+    rider: Rider,
+    tallies: Vec<Tally>,
+    policy: Policy,
+    file: CaseFile,
+    plain: Vec<Plain>,
+}
+
+impl Trial {
+    fn random(alloc: Global, dice: &mut u64) -> Result<Self, Fail> {
+        let kind = match throw(dice, 16) {
+            0 => Residence::Visitor,
+            _ => Residence::Resident,
+        };
+        Ok(Trial {
+            rider: Rider {
+                id: RiderId::of(7).ok_or("a rider")?,
+                kind,
+                attendant: throw(dice, 2) == 0,
+            },
+            tallies: random_tallies(alloc, dice)?,
+            policy: Policy {
+                base: 0,
+                transfer: 0,
+                fare: 0,
+                service: 0,
+                extra_ride: 0,
+                min_missed: 1 + throw(dice, 4) as u16,
+                percent: 25 * (1 + throw(dice, 4) as u16),
+                span_days: 1 + throw(dice, 30) as u16,
+            },
+            file: CaseFile::new(alloc),
+            plain: Vec::new(alloc),
+        })
+    }
+
+    fn is_pattern(&self, today: u32) -> bool {
+        let mut trips: u32 = 0;
+        let mut missed: u32 = 0;
+        for tally in &self.tallies {
+            let ago = today.saturating_sub(tally.day.number());
+            if 1 <= ago && ago <= u32::from(self.policy.span_days) {
+                trips = trips.saturating_add(1);
+                if tally.outcome == Outcome::MissedRider {
+                    missed = missed.saturating_add(1);
+                }
+            }
+        }
+        let share = u32::from(self.policy.percent).saturating_mul(trips);
+        missed >= u32::from(self.policy.min_missed) && missed.saturating_mul(100) >= share
+    }
+
+    /// The rule that turns the entry away, and why.
+    fn denial(&self, entry: Plain) -> Option<(Rule, &'static str)> {
+        let pattern = self.is_pattern(entry.day);
+        plain_denial(self.rider.kind, &self.plain, pattern, entry)
+    }
+
+    /// Enters an entry, admitted or not; whether both ways judge it alike.
+    fn enter(&mut self, alloc: Global, plain: Plain, seen: &mut Seen) -> Result<bool, Fail> {
+        let denial = self.denial(plain);
+        let name = STORY.iter().find(|(kind, _)| *kind == plain.kind);
+        let admitted = name.map_or("", |(_, name)| name);
+        count(seen, denial.map_or(admitted, |(_, why)| why))?;
+        let entry = told(alloc, plain)?;
+        let today = day(plain.day)?;
+        let author = CallerId::of(plain.author).ok_or("a caller")?;
+        let (rider, tallies, policy) = (&self.rider, &self.tallies, &self.policy);
+        let file = &self.file;
+        let rule = file.admits(rider, &entry, today, author, tallies, policy);
+        if self.file.is_full() {
+            return Err(Fail::new("a full file"));
+        }
+        self.file.push(entry, today, author)?;
+        self.plain.push(plain)?;
+        Ok(rule == denial.map(|(rule, _)| rule))
+    }
+
+    /// Whether both ways give the same standing and suspension.
+    fn agree(&self, today: u32, trip: u32, seen: &mut Seen) -> Result<bool, Fail> {
+        let plain = plain_standing(&self.plain, today, trip);
+        let suspension = plain_suspension(&self.plain, trip);
+        count(seen, plain.0)?;
+        count(seen, suspension)?;
+        let trip = day(trip)?;
+        let standing = match self.file.standing(day(today)?, trip) {
+            Standing::Presumed => ("presumed", 0),
+            Standing::AppealOverdue => ("overdue", 0),
+            Standing::Granted(grant) => ("granted", grant.until.number()),
+            Standing::None => ("no standing", 0),
+        };
+        Ok(standing == plain && self.file.suspended(trip) == (suspension == "suspended"))
     }
 }
 
 #[test]
-fn random_case_files_have_the_standing_of_their_entries(rt: HostRuntime) -> Result<(), Fail> {
-    let mut state = SEED;
-    let author = CallerId::of(3).ok_or("a caller")?;
+fn random_case_files_follow_the_rules_entry_by_entry(rt: HostRuntime) -> Result<(), Fail> {
+    let alloc = rt.alloc();
+    let mut dice = SEED;
+    let mut seen = Vec::new(alloc);
     for number in 0..FILES {
-        let mut file = CaseFile::new(rt.alloc());
-        for _ in 0..next(&mut state, 12) {
-            let entry = random_entry(rt.alloc(), &mut state)?;
-            let rider = random_rider(&mut state)?;
-            let entered_on = random_day(&mut state)?;
-            let (today, day) = (random_day(&mut state)?, random_day(&mut state)?);
-            let rule = file.admits(&rider, &entry, entered_on, author, &[], &policy());
-            let plain = plain_rule(file.entries(), rider.kind, &entry, entered_on);
-            assert_eq!(rt; rule, plain, "seed {SEED} file {number}");
-            if file.is_full() {
-                return Err(Fail::new("a full file"));
-            }
-            file.push(entry, entered_on, author)?;
-            let standing = file.standing(today, day);
-            let plain = plain_standing(file.entries(), today, day);
-            assert_eq!(rt; standing, plain, "seed {SEED} file {number}");
-            assert!(rt; !file.suspended(day), "seed {SEED} file {number}");
+        let mut trial = Trial::random(alloc, &mut dice)?;
+        for step in 0..throw(&mut dice, 20) {
+            let next = match throw(&mut dice, 3) {
+                0 => throw(&mut dice, 14),
+                _ => number + step,
+            };
+            let kind = STORY[next as usize % 14].0;
+            let entry = random_entry(&mut dice, &trial.plain, kind);
+            let same = trial.enter(alloc, entry, &mut seen)?;
+            let today = random_day(&mut dice, &trial.plain);
+            let trip = random_day(&mut dice, &trial.plain);
+            let agree = trial.agree(today, trip, &mut seen)?;
+            assert!(rt; same && agree, "seed {SEED}, file {number}, entry {step}");
         }
     }
+    let often = seen.iter().all(|answer| answer.1 >= OFTEN);
+    assert!(rt; often && seen.len() == ANSWERS, "{seen:?}");
     Ok(())
 }

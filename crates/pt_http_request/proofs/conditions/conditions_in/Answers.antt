@@ -12,4 +12,4 @@ returns-clause-none c = λ none conditions listed.
     let items = rw value at c.in_ok-as_array.ensures in
     let same : items_of (map view c.deref.result.now) ≡ items_of (map spelling_of conditions)
     = cc (items, c.deref.ensures.value) in
-    c.conditions_from.ensures.none none conditions listed.in_range (items_of-equal _ _ same)
+    c.conditions_from.ensures.none none conditions listed.in_range listed.each (items_of-equal _ _ same)

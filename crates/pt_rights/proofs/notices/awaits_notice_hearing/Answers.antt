@@ -1,0 +1,12 @@
+use Rattle.std.proofs.Common.{arith, rules, ◌||◌}
+use Rattle.pt_rights.specs.Kinds.{is_notice, is_notice_hearing, is_suspension}
+use Rattle.pt_rights.specs.declared.entry.Entered.{Entered}
+use Rattle.pt_rights.proofs.Stepped.{open-more}
+use Rattle.pt_rights.proofs.notices.awaits_notice_hearing.Goals as goal
+
+pub loop-entry-preserved : goal.loop-entry-preserved
+loop-entry-preserved c =
+    open-more c.args.entries.now c.loop-entry.entry-index c.loop-entry-item.result (omega arith) c.loop-entry-item.is
+    (λ (e : Entered). is_notice e.entry)
+    (λ (e : Entered). is_notice_hearing e.entry || (is_suspension e.entry || is_notice e.entry)) _ _
+    c.loop-entry.invariant (search rules)

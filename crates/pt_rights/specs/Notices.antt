@@ -1,0 +1,50 @@
+-- Patterns of missed trips, notices of suspension and their hearings (49 CFR 37.125(h)).
+use Rattle.std.specs.Prelude.{ℕ, ◌+◌, ◌*◌, Bool, true, false, ◌&&◌, ◌||◌, List, nat_le}
+use Rattle.std.specs.List.{count_by}
+use Rattle.pt_base.specs.declared.policy.Policy.{Policy}
+use Rattle.pt_rights.specs.declared.tally.Outcome.{Outcome}
+use Rattle.pt_rights.specs.declared.tally.Outcome.TheVariants as outcome
+use Rattle.pt_rights.specs.declared.tally.Tally.{Tally}
+use Rattle.pt_rights.specs.declared.entry.Entered.{Entered}
+use Rattle.pt_rights.specs.Kinds.{is_notice, is_notice_hearing, is_suspension}
+use Rattle.pt_rights.specs.Places.{some_place, is_open, is_followed}
+
+-- the rider missed the trip; what the operator missed, or was beyond the rider's control, never counts
+abbrev pub is_missed : Outcome → Bool
+is_missed outcome.MissedRider = true
+is_missed _ = false
+
+-- the day is one of the so many days before today
+abbrev pub is_recent : ℕ → ℕ → ℕ → Bool
+is_recent span today day = nat_le today (day + span) && nat_le (day + 1) today
+
+-- how many trips ended on the policy's days before today
+abbrev pub recent : List Tally → Policy → ℕ → ℕ
+recent tallies policy today = count_by (λ tally. is_recent policy.span_days today tally.day) tallies
+
+-- how many of them the rider missed
+abbrev pub missed : List Tally → Policy → ℕ → ℕ
+missed tallies policy today =
+    count_by (λ tally. is_recent policy.span_days today tally.day && is_missed tally.outcome) tallies
+
+-- those that the rider missed are enough, by number and by share
+abbrev pub is_pattern : List Tally → Policy → ℕ → Bool
+is_pattern tallies policy today =
+    nat_le policy.min_missed (missed tallies policy today)
+    && nat_le (policy.percent * recent tallies policy today) (100 * missed tallies policy today)
+
+-- a notice has no hearing, no suspension and no notice after it
+abbrev pub awaits_notice_hearing : List Entered → Bool
+awaits_notice_hearing file =
+    some_place
+    (is_open (λ e. is_notice e.entry) (λ e. is_notice_hearing e.entry || (is_suspension e.entry || is_notice e.entry))) file
+
+-- a notice has a hearing after it, and no suspension and no notice
+abbrev pub may_suspend : List Entered → Bool
+may_suspend file =
+    some_place
+    (is_followed (λ e. is_notice e.entry) (λ e. is_suspension e.entry || is_notice e.entry) (λ e. is_notice_hearing e.entry)) file
+
+-- a suspension starts after its day, and lasts 1 to 30 days
+abbrev pub is_term : ℕ → ℕ → ℕ → Bool
+is_term today starts ends = nat_le (today + 1) starts && (nat_le starts ends && nat_le ends (starts + 29))

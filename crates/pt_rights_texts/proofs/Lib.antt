@@ -1,0 +1,4 @@
+pub mod JoinLemmas
+pub mod NumbersLemmas
+pub mod ResultLemmas
+pub mod TextLemmas
