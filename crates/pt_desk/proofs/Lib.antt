@@ -1,8 +1,4 @@
-pub mod AnsweringLemmas
-pub mod FilingLemmas
-pub mod VisitLemmas
-pub mod OrderLemmas
-pub mod RecordLemmas
-pub mod RunLemmas
-pub mod SoundLemmas
-pub mod StepLemmas
+mod StoreLemmas
+mod SoundLemmas
+mod FileLemmas
+mod RunLemmas

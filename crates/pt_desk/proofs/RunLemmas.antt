@@ -1,12 +1,12 @@
 -- One call more of a run.
 use Rattle.std.proofs.Common.{◌≡◌, ℕ, zero, suc, ◌<◌, ◌≤◌, List, [], ◌∷◌, Result, Ok, Err, length, drop, get_or, drop-cons, add-one, ◌+◌, arith, refl, sym, ap, ◌∙◌, subst}
 use Rattle.std.proofs.lemmas.List.{drop_all}
-use Rattle.pt_desk.specs.State.{State}
-use Rattle.pt_desk.specs.Outcome.{Fails}
+use Rattle.pt_desk_rules.specs.State.{State}
+use Rattle.pt_desk.specs.Store.{Fails}
 use Rattle.pt_desk.specs.declared.keeper.StoreFault.{StoreFault}
 use Rattle.pt_desk.specs.declared.keeper.StoreFault.TheVariants.{Memory, Store}
-use Rattle.pt_desk.specs.declared.request.Answer.{Answer}
-use Rattle.pt_desk.specs.declared.request.Call.{Call}
+use Rattle.pt_desk_rules.specs.declared.request.Answer.{Answer}
+use Rattle.pt_desk.specs.declared.running.Call.{Call}
 use Rattle.pt_desk.specs.Run.{AnswersCall, Runs, AreRefused, GoesOn}
 
 abbrev Reply : Type 0

@@ -2,8 +2,8 @@
 use Rattle.std.specs.Prelude.{◌≡◌, ℕ, List, [], ◌∷◌}
 use Rattle.sha2.specs.Sha256.{sha256}
 use Rattle.pt_base.specs.declared.policy.Policy.{Policy}
-use Rattle.pt_desk.specs.State.{State}
-use Rattle.pt_desk.specs.declared.caller.Role.TheVariants.{Admin}
+use Rattle.pt_desk_rules.specs.State.{State}
+use Rattle.pt_desk_rules.specs.declared.caller.Role.TheVariants.{Admin}
 
 -- the policy of an agency that has settled nothing
 pub record IsLeastPolicy (policy : Policy) : Type 0 where
@@ -24,4 +24,4 @@ pub record IsLeastState (admin_key : List ℕ) (s : State) : Type 0 where
   pub places : s.places ≡ []
   pub routes : s.routes ≡ []
   pub riders : s.riders ≡ []
-  pub files : s.files ≡ []
+  pub entries : s.entries ≡ []

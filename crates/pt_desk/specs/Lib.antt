@@ -1,12 +1,3 @@
-pub mod Records
-pub mod State
-pub mod Outcome
-pub mod Permission
-pub mod Denial
-pub mod Step
-pub mod Answering
-pub mod Filing
+pub mod Store
 pub mod Run
 pub mod LeastState
-pub mod Room
-pub mod Sound

@@ -1,21 +1,122 @@
-ghost use Rattle.std.specs.Prelude.{◌≡◌, ◌⊎◌, ℕ, ◌≤◌, ◌<◌, Option, Some, IfOk, IfErr, OnErr};
-ghost use Rattle.pt_base.specs.Fault.{fault};
-ghost use Rattle.pt_base.specs.declared.fault.TheConstants.{MEMORY};
-ghost use Rattle.pt_desk.specs.State.{State};
-ghost use Rattle.pt_desk.specs.Outcome.{Fails};
-ghost use Rattle.pt_desk.specs.Step.{after, IsMade};
-ghost use Rattle.pt_desk.specs.Answering.{Answers, IsAcceptedWrite};
-ghost use Rattle.pt_desk.specs.Sound.{IsSound};
-ghost use Rattle.pt_desk.specs.Run.{AnswersCall, GoesOn};
+ghost use Rattle.std.specs.Prelude.{◌≡◌, ◌<◌, ◌≤◌, ℕ, true, Option, Some, None, Err, OnOk};
+ghost use Rattle.pt_desk_rules.specs.State.{State, kept_of};
+ghost use Rattle.pt_desk_rules.specs.Sound.{IsSound};
+ghost use Rattle.pt_desk_rules.specs.Step.{is_above, read_answer, write_told, write_left, step, write_answer, write_leaves, IsWriteMade, answer_to, leaves, IsMadeBy, sender};
+ghost use Rattle.pt_desk_rules.specs.Deciding.{IsMadeIf};
+ghost use Rattle.pt_desk.specs.Store.{Store, Goes, IsRead, Fails};
 
-use crate::{Answer, Call, Digest, Keeper, Reply, Request, callers, files, riders, settings};
-use pt_base::{Day, Fault, Minute, Rule};
+use crate::gathering::{gather, gather_read};
+use crate::{Keeper, Reply, StoreFault};
+use pt_base::{CallerId, Day, Minute, Rule};
+use pt_desk_rules::{Answer, Caller, Decision, Digest, Read, Request, Write, decide, tell};
 use std::alloc::Global;
+
+/// Whether a write's number is above the number of the caller's last accepted write.
+fn is_new<K: Keeper>(keeper: &mut K, me: CallerId, number: u32) -> Result<bool, StoreFault>
+    ensures reads { IsRead (K.store keeper.old) (K.store keeper.new) (is_above number (kept_of me (K.store keeper.old).content)) result }
+{
+    let last = keeper.kept(me)?;
+    Ok(last.map_or(0, |kept| kept.number) < number)
+}
+
+/// Answers a read.
+fn answer_read<K: Keeper>(
+    alloc: Global,
+    keeper: &mut K,
+    me: &Caller,
+    now: (Day, Minute),
+    read: &Read,
+) -> Reply
+    ensures reads { IsRead (K.store keeper.old) (K.store keeper.new) (read_answer read.now me.now now (K.store keeper.old).content) result }
+{
+    let facts = gather_read(alloc, keeper, read)?;
+    Ok(tell(&facts, me, now, read))
+}
+
+/// Tells what was decided, and commits the change of an accepted write.
+fn carry_out<K: Keeper>(keeper: &mut K, decision: Decision) -> Reply
+    ensures goes { Goes (K.store keeper.old) (K.store keeper.new) (write_told true decision) (write_left true decision (K.store keeper.old).content) result }
+{
+    match decision {
+        Decision::Denied(rule) => Ok(Answer::Denied(rule)),
+        Decision::Accepted { answer, change } => {
+            keeper.commit(change)?;
+            Ok(answer)
+        }
+    }
+}
+
+/// Answers a write with a new number.
+fn answer_new<K: Keeper>(
+    alloc: Global,
+    keeper: &mut K,
+    me: &Caller,
+    now: (Day, Minute),
+    number: u32,
+    write: &Write,
+) -> Reply
+    ensures goes { Goes (K.store keeper.old) (K.store keeper.new)
+        (write_told true (step write.now me.now now number (K.store keeper.old).content))
+        (write_left true (step write.now me.now now number (K.store keeper.old).content) (K.store keeper.old).content) result }
+    ensures made { (K.store keeper.new).doubt ≡ 0
+        → OnOk result (IsMadeIf (step write.now me.now now number (K.store keeper.old).content) write.now) }
+{
+    let facts = gather(alloc, keeper, write)?;
+    let decision = decide(alloc, &facts, me, now, number, write)?;
+    carry_out(keeper, decision)
+}
+
+/// Answers a write.
+fn answer_write<K: Keeper>(
+    alloc: Global,
+    keeper: &mut K,
+    me: &Caller,
+    now: (Day, Minute),
+    number: u32,
+    write: &Write,
+) -> Reply
+    ensures goes { Goes (K.store keeper.old) (K.store keeper.new)
+        (write_answer write.now me.now now number (K.store keeper.old).content)
+        (write_leaves write.now me.now now number (K.store keeper.old).content) result }
+    ensures made { (K.store keeper.new).doubt ≡ 0
+        → OnOk result (IsWriteMade write.now me.now now number (K.store keeper.old).content) }
+{
+    if !is_new(keeper, me.id, number)? {
+        return Ok(Answer::Denied(Rule::Number));
+    }
+    answer_new(alloc, keeper, me, now, number, write)
+}
+
+/// Answers one request where the store may serve.
+fn answer_by_rules<K: Keeper>(
+    alloc: Global,
+    keeper: &mut K,
+    now: (Day, Minute),
+    key: &[u8],
+    number: u32,
+    request: &Request,
+) -> Reply
+    ensures goes { Goes (K.store keeper.old) (K.store keeper.new)
+        (answer_to key.now now number request.now (K.store keeper.old).content)
+        (leaves key.now now number request.now (K.store keeper.old).content) result }
+    ensures made { (K.store keeper.new).doubt ≡ 0
+        → OnOk result (IsMadeBy (sender key.now (K.store keeper.old).content) now number request.now (K.store keeper.old).content) }
+{
+    let Some(me) = keeper.caller_with(&Digest::of_key(key))? else {
+        return Ok(Answer::Denied(Rule::Key));
+    };
+    match request {
+        Request::Read(read) => answer_read(alloc, keeper, &me, now, read),
+        Request::Write(write) => answer_write(alloc, keeper, &me, now, number, write),
+    }
+}
 
 /// Answers one request by the rules.
 ///
 /// `now` is the moment at which it comes, `key` the caller's key, and `number` the caller's number for it, which
-/// only a write needs. The error is the store's, or want of memory, and then nothing is changed.
+/// only a write needs. The error is the store's, or want of memory, and then nothing is changed. Where the store is
+/// shut as the call ends, it has failed, or the error is want of memory and the store serves no more.
+#[tactic(auto, using(crate::proofs::SoundLemmas::answered_sound, crate::proofs::StoreLemmas::leaves_nothing))]
 pub fn answer<K: Keeper>(
     alloc: Global,
     keeper: &mut K,
@@ -24,95 +125,19 @@ pub fn answer<K: Keeper>(
     number: u32,
     request: &Request,
 ) -> Reply
-    ensures answers { K.doubt keeper.new ≡ 0
-        → Answers (K.shut keeper.new) key.now now.0 number request.now (K.content keeper.old) (K.content keeper.new) result }
+    ensures goes { Goes (K.store keeper.old) (K.store keeper.new)
+        (answer_to key.now now number request.now (K.store keeper.old).content)
+        (leaves key.now now number request.now (K.store keeper.old).content) result }
+    ensures fails { Fails (K.store keeper.old).failures (K.store keeper.new).failures result }
+    // What commits nothing leaves just the state before at a crash.
+    ensures quiet { leaves key.now now number request.now (K.store keeper.old).content ≡ None
+        → (o : Option State) → (K.store keeper.new).doubt ≡ 0 → (K.store keeper.new).found o → (K.store keeper.old).found o }
     // A sound state is left sound.
-    ensures sound { K.doubt keeper.new ≡ 0 → K.shut keeper.new ≡ 0 → K.failures keeper.new ≡ 0
-        → IsSound (K.content keeper.old) → IsSound (K.content keeper.new) }
-    ensures clean { K.doubt keeper.old ≤ K.doubt keeper.new }
-    ensures serves { K.shut keeper.old ≤ K.shut keeper.new }
-    ensures fails { Fails (K.failures keeper.old) (K.failures keeper.new) result }
-    // What an opening after a crash may find is what stood before, or what the request leaves.
-    ensures crash { (s : Option State) → K.found keeper.new s
-        → K.found keeper.old s ⊎ (s ≡ Some (after key.now now.0 number request.now (K.content keeper.old))) }
-    // Once a write is accepted, it is what the request leaves.
-    ensures durable { IsAcceptedWrite result
-        → (s : Option State) → K.found keeper.new s → s ≡ Some (K.content keeper.new) }
+    ensures sound { (K.store keeper.new).doubt ≡ 0 → (K.store keeper.new).shut ≡ 0 → (K.store keeper.new).failures ≡ 0
+        → IsSound (K.store keeper.old).content → IsSound (K.store keeper.new).content }
 {
-    answer_by_rules(alloc, keeper, now.0, key, number, request)
-}
-
-/// Answers one request of the day `today` by the rules.
-fn answer_by_rules<K: Keeper>(
-    alloc: Global,
-    keeper: &mut K,
-    today: Day,
-    key: &[u8],
-    number: u32,
-    request: &Request,
-) -> Reply
-    ensures answers { K.doubt keeper.new ≡ 0
-        → Answers (K.shut keeper.new) key.now today number request.now (K.content keeper.old) (K.content keeper.new) result }
-    ensures clean { K.doubt keeper.old ≤ K.doubt keeper.new }
-    ensures serves { K.shut keeper.old ≤ K.shut keeper.new }
-    ensures fails { Fails (K.failures keeper.old) (K.failures keeper.new) result }
-    ensures crash { (s : Option State) → K.found keeper.new s
-        → K.found keeper.old s ⊎ (s ≡ Some (after key.now today number request.now (K.content keeper.old))) }
-    ensures durable { IsAcceptedWrite result
-        → (s : Option State) → K.found keeper.new s → s ≡ Some (K.content keeper.new) }
-    ensures made { IsAcceptedWrite result → IsMade request.now }
-{
-    let Some(me) = keeper.caller_with(&Digest::of_key(key))? else {
-        return Ok(Answer::Denied(Rule::Key));
-    };
-    match request {
-        Request::PutCaller(new) => callers::put_caller(keeper, &me, number, new),
-        Request::PutPolicy(new) => settings::put_policy(keeper, &me, number, new),
-        Request::PutPlace(new) => settings::put_place(keeper, &me, number, new),
-        Request::PutRoute(new) => settings::put_route(alloc, keeper, &me, number, new),
-        Request::PutRider(new) => riders::put_rider(keeper, &me, number, new),
-        Request::Enter { rider, entry } => {
-            files::enter(alloc, keeper, &me, today, number, *rider, entry)
-        }
-        Request::Standing { rider, day } => {
-            files::standing(alloc, keeper, &me, today, *rider, *day)
-        }
+    if keeper.failures() > 0 {
+        return Err(StoreFault::Store);
     }
-}
-
-/// Answers one call by the rules.
-fn answer_call<K: Keeper>(alloc: Global, keeper: &mut K, call: &Call) -> Reply
-    ensures answers { K.doubt keeper.new ≡ 0
-        → AnswersCall (K.shut keeper.new) call.entry.now (K.content keeper.old) (K.content keeper.new) result }
-    ensures clean { K.doubt keeper.old ≤ K.doubt keeper.new }
-    ensures serves { K.shut keeper.old ≤ K.shut keeper.new }
-    ensures fails { Fails (K.failures keeper.old) (K.failures keeper.new) result }
-{
-    answer(
-        alloc,
-        keeper,
-        call.now,
-        &call.key,
-        call.number,
-        &call.request,
-    )
-}
-
-/// Answers calls in turn, each over what the one before it left.
-///
-/// The list of replies is made first. The error is want of memory for it, and then no call was answered.
-pub fn run<K: Keeper>(alloc: Global, keeper: &mut K, calls: &[Call]) -> Result<Vec<Reply>, Fault>
-    ensures runs { K.doubt keeper.new ≡ 0 → K.shut keeper.new ≡ 0
-        → IfOk result (λ replies. GoesOn (K.failures keeper.old) (K.content keeper.old) calls.now replies.items (K.content keeper.new)) }
-    ensures clean { K.doubt keeper.old ≤ K.doubt keeper.new }
-    ensures serves { K.shut keeper.old ≤ K.shut keeper.new }
-    ensures err { OnErr result (keeper.new ≡ keeper.old) }
-    ensures memory { IfErr result (λ error. error ≡ fault MEMORY) }
-{
-    let mut replies = Vec::with_capacity(alloc, calls.len())?;
-    for call in calls {
-        let reply = answer_call(alloc, keeper, call);
-        let _ = replies.push(reply);
-    }
-    Ok(replies)
+    answer_by_rules(alloc, keeper, now, key, number, request)
 }

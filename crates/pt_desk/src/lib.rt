@@ -1,28 +1,18 @@
-//! The desk: what it keeps, who may ask what of it, and how each request is answered by the rules.
+//! The desk over a store: what a request needs is gathered, the rules decide with no store in sight, and one commit
+//! makes the change.
 #![tactic(auto)]
 
-pub use answering::{answer, run};
-pub use caller::{Caller, Digest, Kept, Role};
-pub use keeper::{
-    Change, FileEntry, Keeper, MOST_CALLERS, MOST_PLACES, MOST_RIDERS, MOST_ROUTES, RiderFile,
-    StoreFault,
-};
+pub use answering::answer;
+pub use keeper::{Keeper, Reply, StoreFault};
 pub use list_keeper::ListKeeper;
-pub use request::{Answer, Call, Reply, Request};
+pub use pt_desk_rules::{
+    Answer, Caller, Change, Decision, Digest, FiledEntry, Kept, MOST_CALLERS, MOST_PLACES,
+    MOST_RIDERS, MOST_ROUTES, Read, ReadFacts, Request, Role, Write, WriteFacts,
+};
+pub use running::{Call, run};
 
 mod answering;
-mod caller;
-mod callers;
-mod files;
+mod gathering;
 mod keeper;
 mod list_keeper;
-#[cfg(test)]
-mod memory_tests;
-mod permission;
-mod request;
-mod riders;
-mod settings;
-#[cfg(test)]
-mod settings_tests;
-#[cfg(test)]
-mod tests;
+mod running;

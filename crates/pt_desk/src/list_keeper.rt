@@ -1,15 +1,15 @@
-ghost use Rattle.std.specs.Prelude.{◌≡◌, ℕ, ◌+◌, ◌<◌, ◌≤◌, [], ◌∷◌, ◌++◌, length, Option, Some, IfOk, IfErr, vec_len, vec_capacity, find, bytes_eq, insert, slice_set, MatchResult};
-ghost use Rattle.std.specs.Option.{option_copied};
+ghost use Rattle.std.specs.Prelude.{◌≡◌, ◌∷◌, ◌++◌, ◌<◌, [], length, find, bytes_eq, IfOk, IfErr, OnOk};
 ghost use Rattle.pt_base.specs.Fault.{fault};
 ghost use Rattle.pt_base.specs.declared.fault.TheConstants.{MEMORY};
-ghost use Rattle.pt_rights.specs.declared.case_file.TheConstants.{MOST_ENTRIES};
-ghost use Rattle.pt_desk.specs.Records.{put, put_some, record_at};
-ghost use Rattle.pt_desk.specs.State.{file_key};
+ghost use Rattle.pt_desk_rules.specs.Limits.{most_entries};
+ghost use Rattle.pt_desk_rules.specs.State.{span_of, entries_of, file_with};
 
-use crate::{Caller, Change, Digest, FileEntry, Keeper, Kept, RiderFile, Role, StoreFault};
+use crate::{Keeper, StoreFault};
 use pt_base::{CallerId, Fault, Place, PlaceId, Policy, Rider, RiderId, RouteId};
 use pt_corridor::FixedRoute;
-use pt_rights::CaseFile;
+use pt_desk_rules::{Caller, Change, Digest, FiledEntry, Kept, Role};
+use pt_records::{Key, Keyed, Rows, Span, edit, find_record};
+use pt_rights::{CaseFile, Entered};
 use std::alloc::{AllocError, Global};
 use std::marker::Model;
 
@@ -28,138 +28,6 @@ const LEAST_POLICY: Policy = Policy {
 /// The failures of a store that cannot fail.
 const NEVER_FAILED: u32 = 0;
 
-/// A record with a number as its key.
-trait Keyed: Drop {
-    ghost key: { Self → ℕ };
-
-    fn key(&self) -> u32
-        ensures { result ≡ key self.now };
-}
-
-impl Keyed for Caller {
-    ghost key = { λ caller. caller.id };
-
-    fn key(&self) -> u32 {
-        self.id.number()
-    }
-}
-
-impl Keyed for Kept {
-    ghost key = { λ kept. kept.caller };
-
-    fn key(&self) -> u32 {
-        self.caller.number()
-    }
-}
-
-impl Keyed for Place {
-    ghost key = { λ place. place.id };
-
-    fn key(&self) -> u32 {
-        self.id.number()
-    }
-}
-
-impl Keyed for FixedRoute {
-    ghost key = { λ route. route.id };
-
-    fn key(&self) -> u32 {
-        self.id().number()
-    }
-}
-
-impl Keyed for Rider {
-    ghost key = { λ rider. rider.id };
-
-    fn key(&self) -> u32 {
-        self.id.number()
-    }
-}
-
-impl Keyed for RiderFile {
-    ghost key = { λ there. there.rider };
-
-    fn key(&self) -> u32 {
-        self.rider.number()
-    }
-}
-
-/// Where the record belongs: in place of the one that is there, or before it.
-fn place_for<T: Keyed>(records: &[T], added: &T) -> Result<usize, usize>
-    ensures { MatchResult result
-        (λ at. (at < length records.now) × (slice_set records.now at added.now ≡ put T.key added.now records.now))
-        (λ at. (at ≤ length records.now) × (insert records.now at added.now ≡ put T.key added.now records.now)) }
-{
-    let key = added.key();
-    for (at, there) in records.iter().enumerate() {
-        let other = there.key();
-        if other == key {
-            return Ok(at);
-        }
-        if key < other {
-            return Err(at);
-        }
-    }
-    Err(records.len())
-}
-
-/// Puts a record in its place, where there is room for one more.
-fn put_record<T: Keyed>(records: &mut Vec<T>, added: T)
-    requires { vec_len records.old < vec_capacity records.old }
-    ensures { records.new.items ≡ put T.key added records.old.items }
-{
-    match place_for(records, &added) {
-        Ok(at) => records[at] = added,
-        Err(at) => {
-            let _ = records.insert(at, added);
-        }
-    }
-}
-
-/// Puts a copy of the record, if there is one, in its place, where there is room for one more.
-fn put_copy<T: Keyed + Copy>(records: &mut Vec<T>, added: &Option<T>)
-    requires { vec_len records.old < vec_capacity records.old }
-    ensures { records.new.items ≡ put_some T.key added.now records.old.items }
-{
-    if let Some(added) = added {
-        put_record(records, *added);
-    }
-}
-
-/// Puts the record, if there is one, in its place, where there is room for one more.
-fn put_if_some<T: Keyed>(records: &mut Vec<T>, added: Option<T>)
-    requires { vec_len records.old < vec_capacity records.old }
-    ensures { records.new.items ≡ put_some T.key added records.old.items }
-{
-    if let Some(added) = added {
-        put_record(records, added);
-    }
-}
-
-/// The first record with this key.
-fn find_record<T: Keyed>(records: &[T], key: u32) -> Option<&T>
-    ensures { option_copied result ≡ record_at T.key key records.now }
-{
-    for there in records {
-        if there.key() == key {
-            return Some(there);
-        }
-    }
-    None
-}
-
-/// The first caller whose key has this digest.
-fn find_caller(callers: &[Caller], digest: &Digest) -> Option<Caller>
-    ensures { result ≡ find (λ caller. bytes_eq caller.digest digest.now) callers.now }
-{
-    for caller in callers {
-        if caller.digest == *digest {
-            return Some(*caller);
-        }
-    }
-    None
-}
-
 /// The desk's records in memory, in plain lists, for rehearsals and tests. It is always clean and never fails.
 #[derive(Drop)]
 pub struct ListKeeper {
@@ -169,11 +37,11 @@ pub struct ListKeeper {
     places: Vec<Place>,
     routes: Vec<FixedRoute>,
     riders: Vec<Rider>,
-    files: Vec<RiderFile>,
+    entries: Vec<FiledEntry>,
 }
 
 impl Model for ListKeeper {
-    ghost use Rattle.pt_desk.specs.State.{State};
+    ghost use Rattle.pt_desk_rules.specs.State.{State};
 
     ghost Value = { State };
 
@@ -184,20 +52,20 @@ impl Model for ListKeeper {
       places = k.places.items;
       routes = k.routes.items;
       riders = k.riders.items;
-      files = k.files.items;
+      entries = k.entries.items;
     } };
 }
 
 impl ListKeeper {
     ghost use Rattle.pt_desk.specs.LeastState.{IsLeastState};
-    ghost use Rattle.pt_desk.specs.Sound.{IsSound};
-    ghost use Rattle.pt_desk.specs.State.{file_of, put_some_entry};
-    ghost use Rattle.pt_desk.specs.Room.{HasRoomForEntry};
+    ghost use Rattle.pt_desk.specs.Store.{IsSettled};
+    ghost use Rattle.pt_desk_rules.specs.Sound.{IsSound};
 
     /// The least state, whose one caller is the admin with this key.
     pub fn new(alloc: Global, admin_key: &[u8]) -> Result<Self, Fault>
         ensures least { IfOk result (λ keeper. IsLeastState admin_key.now keeper) }
         ensures sound { IfOk result (λ keeper. IsSound keeper) }
+        ensures settled { IfOk result (λ keeper. IsSettled (⟦<ListKeeper as Keeper>⟧.store keeper)) }
         ensures memory { IfErr result (λ error. error ≡ fault MEMORY) }
     {
         let admin = Caller {
@@ -214,66 +82,69 @@ impl ListKeeper {
             places: Vec::new(alloc),
             routes: Vec::new(alloc),
             riders: Vec::new(alloc),
-            files: Vec::new(alloc),
+            entries: Vec::new(alloc),
         })
     }
+}
 
-    /// A copy of the rider's case file.
-    fn file(&self, alloc: Global, rider: RiderId) -> Result<CaseFile, AllocError>
-        ensures { IfOk result (λ file. file ≡ file_of rider self.now) }
-    {
-        match find_record(&self.files, rider.number()) {
-            Some(there) => there.file.clone(),
-            None => Ok(CaseFile::new(alloc)),
+/// The first caller whose key has this digest.
+fn find_caller(callers: &[Caller], digest: &Digest) -> Option<Caller>
+    ensures { result ≡ find (λ caller. bytes_eq caller.digest digest.now) callers.now }
+{
+    for caller in callers {
+        if caller.digest == *digest {
+            return Some(*caller);
         }
     }
+    None
+}
 
-    /// The rider's case file with the entry, if there is one, as a record of its own.
-    fn filed_if_some(
-        &self,
-        alloc: Global,
-        new: &Option<FileEntry>,
-    ) -> Result<Option<RiderFile>, AllocError>
-        requires { HasRoomForEntry new.now self.now }
-        ensures { IfOk result (λ filed. put_some file_key filed self.now.files ≡ put_some_entry new.now self.now.files) }
-    {
-        match new {
-            Some(new) => Ok(Some(self.filed(alloc, new)?)),
-            None => Ok(None),
+/// The keys of a rider's entries.
+fn span_of(rider: RiderId) -> Span
+    ensures value { result ≡ span_of rider }
+{
+    Span {
+        from: Key::pair(rider.number(), 0),
+        to: Key::pair(rider.number(), u32::MAX),
+    }
+}
+
+/// Adds a copy of the entry at the end of the file.
+fn push_copy(file: &mut CaseFile, new: &Entered) -> Result<(), AllocError>
+    requires { length file.old < most_entries }
+    ensures value { OnOk result (file.new ≡ file.old ++ new.now ∷ []) }
+{
+    let Entered { entry, day, author } = new.clone()?;
+    match file.push(entry, day, author) {
+        Ok(()) => Ok(()),
+        Err(_) => Err(AllocError),
+    }
+}
+
+/// A rider's case file, out of the entries of all.
+fn file_of(alloc: Global, entries: &[FiledEntry], rider: RiderId) -> Result<CaseFile, AllocError>
+    ensures value { IfOk result (λ file. file ≡ file_with (entries_of rider entries.now)) }
+{
+    let span = span_of(rider);
+    let mut file = CaseFile::new(alloc);
+    for filed in entries {
+        if span.has(&filed.key()) && !file.is_full() {
+            push_copy(&mut file, &filed.entered)?;
         }
     }
-
-    /// The rider's case file with one entry more, as a record of its own.
-    fn filed(&self, alloc: Global, new: &FileEntry) -> Result<RiderFile, AllocError>
-        requires { length (file_of new.now.rider self.now) < MOST_ENTRIES }
-        ensures rider { IfOk result (λ filed. filed.rider ≡ new.now.rider) }
-        ensures file { IfOk result (λ filed. filed.file ≡ file_of new.now.rider self.now ++ new.now.entered ∷ []) }
-    {
-        let mut file = self.file(alloc, new.rider)?;
-        let entry = new.entered.entry.clone()?;
-        match file.push(entry, new.entered.day, new.entered.author) {
-            Ok(()) => Ok(RiderFile {
-                rider: new.rider,
-                file,
-            }),
-            Err(_) => Err(AllocError),
-        }
-    }
+    Ok(file)
 }
 
 impl Keeper for ListKeeper {
     ghost use Rattle.std.specs.Prelude.{refl, Some};
-    ghost use Rattle.pt_desk.specs.State.{State};
 
-    ghost content = { λ keeper. keeper };
-
-    ghost doubt = { λ _. 0 };
-
-    ghost shut = { λ _. 0 };
-
-    ghost failures = { λ _. 0 };
-
-    ghost found = { λ keeper s. s ≡ Some keeper };
+    ghost store = { λ k. record {
+      content = k;
+      doubt = 0;
+      shut = 0;
+      failures = 0;
+      found = λ o. o ≡ Some k;
+    } };
 
     ghost found_clean = { λ _ _ _. refl };
 
@@ -282,7 +153,7 @@ impl Keeper for ListKeeper {
     }
 
     fn caller(&mut self, id: CallerId) -> Result<Option<Caller>, StoreFault> {
-        Ok(find_record(&self.callers, id.number()).copied())
+        Ok(find_record(&self.callers, &Key::of(id.number())).copied())
     }
 
     fn caller_count(&mut self) -> Result<usize, StoreFault> {
@@ -290,7 +161,7 @@ impl Keeper for ListKeeper {
     }
 
     fn kept(&mut self, caller: CallerId) -> Result<Option<Kept>, StoreFault> {
-        Ok(find_record(&self.kept, caller.number()).copied())
+        Ok(find_record(&self.kept, &Key::of(caller.number())).copied())
     }
 
     fn policy(&mut self) -> Result<Policy, StoreFault> {
@@ -298,34 +169,31 @@ impl Keeper for ListKeeper {
     }
 
     fn place(&mut self, id: PlaceId) -> Result<Option<Place>, StoreFault> {
-        Ok(find_record(&self.places, id.number()).copied())
+        Ok(find_record(&self.places, &Key::of(id.number())).copied())
     }
 
     fn place_count(&mut self) -> Result<usize, StoreFault> {
         Ok(self.places.len())
     }
 
-    fn places(&mut self, alloc: Global) -> Result<Vec<Place>, StoreFault> {
-        Ok(self.places.to_vec(alloc)?)
+    fn places(&mut self, alloc: Global) -> Result<Rows<Place>, StoreFault> {
+        Ok(Rows::of(self.places.to_vec(alloc)?))
     }
 
-    fn route(&mut self, _alloc: Global, id: RouteId) -> Result<Option<FixedRoute>, StoreFault> {
-        match find_record(&self.routes, id.number()) {
-            Some(there) => Ok(Some(there.clone()?)),
-            None => Ok(None),
-        }
+    fn has_route(&mut self, id: RouteId) -> Result<bool, StoreFault> {
+        Ok(find_record(&self.routes, &Key::of(id.number())).is_some())
     }
 
     fn route_count(&mut self) -> Result<usize, StoreFault> {
         Ok(self.routes.len())
     }
 
-    fn routes(&mut self, alloc: Global) -> Result<Vec<FixedRoute>, StoreFault> {
-        Ok(self.routes.to_vec(alloc)?)
+    fn routes(&mut self, alloc: Global) -> Result<Rows<FixedRoute>, StoreFault> {
+        Ok(Rows::of(self.routes.to_vec(alloc)?))
     }
 
     fn rider(&mut self, id: RiderId) -> Result<Option<Rider>, StoreFault> {
-        Ok(find_record(&self.riders, id.number()).copied())
+        Ok(find_record(&self.riders, &Key::of(id.number())).copied())
     }
 
     fn rider_count(&mut self) -> Result<usize, StoreFault> {
@@ -333,25 +201,23 @@ impl Keeper for ListKeeper {
     }
 
     fn case_file(&mut self, alloc: Global, rider: RiderId) -> Result<CaseFile, StoreFault> {
-        Ok(self.file(alloc, rider)?)
+        Ok(file_of(alloc, &self.entries, rider)?)
     }
 
-    fn commit(&mut self, change: &Change) -> Result<(), StoreFault> {
-        let filed = self.filed_if_some(*self.files.allocator(), &change.entry)?;
-        let route = change.route.clone()?;
-        self.callers.reserve(1)?;
-        self.kept.reserve(1)?;
-        self.places.reserve(1)?;
-        self.routes.reserve(1)?;
-        self.riders.reserve(1)?;
-        self.files.reserve(1)?;
-        put_copy(&mut self.callers, &change.caller);
-        put_record(&mut self.kept, change.kept);
+    fn commit(&mut self, change: Change) -> Result<(), StoreFault> {
+        self.callers.reserve(change.callers.put_count())?;
+        self.kept.reserve(change.kept.put_count())?;
+        self.places.reserve(change.places.put_count())?;
+        self.routes.reserve(change.routes.put_count())?;
+        self.riders.reserve(change.riders.put_count())?;
+        self.entries.reserve(change.entries.put_count())?;
+        edit(&mut self.callers, change.callers);
+        edit(&mut self.kept, change.kept);
         self.policy = change.policy.unwrap_or(self.policy);
-        put_copy(&mut self.places, &change.place);
-        put_if_some(&mut self.routes, route);
-        put_copy(&mut self.riders, &change.rider);
-        put_if_some(&mut self.files, filed);
+        edit(&mut self.places, change.places);
+        edit(&mut self.routes, change.routes);
+        edit(&mut self.riders, change.riders);
+        edit(&mut self.entries, change.entries);
         Ok(())
     }
 

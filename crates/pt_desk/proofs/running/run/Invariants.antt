@@ -1,0 +1,23 @@
+use Rattle.std.proofs.Common.{◌≡◌, ◌+◌, ◌-◌, ◌≤◌, ◌++◌, List, Result, drop, length, vec_len, vec_capacity}
+use Rattle.pt_desk_rules.specs.State.{State}
+use Rattle.pt_desk_rules.specs.Sound.{IsSound}
+use Rattle.pt_desk.specs.Run.{GoesOn}
+use Rattle.pt_desk.specs.Store.{Store, IsSettled}
+use Rattle.pt_desk.specs.declared.keeper.StoreFault.{StoreFault}
+use Rattle.pt_desk_rules.specs.declared.request.Answer.{Answer}
+use Rattle.pt_desk.proofs.running.run.Given as goal
+
+-- what is left completes the run, however it goes on
+abbrev pub invariant-loop-call : goal.invariant-loop-call
+invariant-loop-call g l =
+    let store = g.K.Keeper.store in
+    record {
+      room : vec_len l.replies + (length l.calls - l.call-index) ≤ vec_capacity l.replies;
+      clean : (store l.fn.keeper).doubt ≤ (store l.keeper).doubt;
+      serves : (store l.fn.keeper).shut ≤ (store l.keeper).shut;
+      grows : (store l.fn.keeper).failures ≤ (store l.keeper).failures;
+      settled : IsSettled (store l.fn.keeper) → IsSettled (store l.keeper);
+      sound : (store l.keeper).doubt ≡ 0 → (store l.keeper).shut ≡ 0 → (store l.keeper).failures ≡ 0 → IsSound (store l.fn.keeper).content → IsSound (store l.keeper).content;
+      rest : (store l.keeper).doubt ≡ 0 → (store l.keeper).shut ≡ 0 → (rest : List (Result Answer StoreFault)) (new : State) → GoesOn (store l.keeper).failures (store l.keeper).content (drop l.call-index l.calls) rest new
+          → GoesOn (store l.fn.keeper).failures (store l.fn.keeper).content l.calls (l.replies.items ++ rest) new;
+    }

@@ -1,0 +1,68 @@
+-- A store as contracts see it, and what calls make of it.
+use Rattle.std.specs.Prelude.{◌≡◌, ◌≤◌, ◌<◌, ◌⊎◌, ℕ, Option, Some, None, Result, Ok, Err}
+use Rattle.pt_desk_rules.specs.State.{State}
+use Rattle.pt_desk_rules.specs.Step.{state_after}
+use Rattle.pt_desk.specs.declared.keeper.StoreFault.{StoreFault}
+use Rattle.pt_desk.specs.declared.keeper.StoreFault.TheVariants.{Memory, Store as failed}
+
+pub record Store : Type 1 where
+  -- what it keeps, however it does
+  pub content : State
+  -- 0 so long as nobody else writes to it, and it returns what was written
+  pub doubt : ℕ
+  -- 0 so long as it serves; a fault may end that in a call that also wants memory
+  pub shut : ℕ
+  -- 0, and 1 for good once it has failed in a call
+  pub failures : ℕ
+  -- what an opening after a crash at this moment may find; None for what is no content
+  pub found : Option State → Type 0
+
+-- while it serves and has not failed, an opening after a crash finds the content and nothing else
+abbrev pub IsSettled : Store → Type 0
+IsSettled s = s.shut ≡ 0 → s.failures ≡ 0 → (o : Option State) → s.found o → o ≡ Some s.content
+
+-- what they may leave at a crash beside what stood before: the committed state, if there is one
+abbrev pub IsLeft : Option State → Option State → Type 0
+IsLeft None o = ⊥
+IsLeft (Some new) o = o ≡ Some new
+
+-- what they answer, and the content that stands, where `left` is what they commit, if anything: on Ok all is done, for want of memory nothing
+abbrev pub Tells : {X : Type 0} → ℕ → State → State → X → Option State → Result X StoreFault → Type 0
+Tells shut old new value left (Ok x) = (x ≡ value) × (new ≡ state_after left old)
+Tells shut old new value left (Err Memory) = shut ≡ 0 → new ≡ old
+Tells shut old new value left (Err failed) = Unit {0}
+
+-- once a commit is answered, an opening finds it and nothing else
+abbrev pub IsDurable : {X : Type 0} → Store → Option State → Result X StoreFault → Type 0
+IsDurable after (Some new) (Ok x) = (o : Option State) → after.found o → o ≡ Some after.content
+IsDurable after _ _ = Unit {0}
+
+-- what is said of the content, where the store is clean as the calls end
+pub record Holds {X : Type 0} (before after : Store) (value : X) (left : Option State) (result : Result X StoreFault) : Type 0 where
+  pub tells : Tells after.shut before.content after.content value left result
+  pub crash : (o : Option State) → after.found o → before.found o ⊎ IsLeft left o
+  pub durable : IsDurable after left result
+
+-- Calls that answer `value` and commit `left`, if anything: from none on, and any number of reads before a commit.
+pub record Goes {X : Type 0} (before after : Store) (value : X) (left : Option State) (result : Result X StoreFault) : Type 0 where
+  pub clean : before.doubt ≤ after.doubt
+  pub serves : before.shut ≤ after.shut
+  pub grows : before.failures ≤ after.failures
+  pub told : result ≡ Err failed → 0 < after.failures
+  pub stays : before.failures < 1 → 0 < after.failures → result ≡ Err failed
+  pub settled : IsSettled before → IsSettled after
+  pub holds : after.doubt ≡ 0 → Holds before after value left result
+
+-- calls that only read
+abbrev pub IsRead : {X : Type 0} → Store → Store → X → Result X StoreFault → Type 0
+IsRead before after value result = Goes before after value None result
+
+-- a commit that makes this state
+abbrev pub IsCommit : Store → Store → State → Result (Unit {0}) StoreFault → Type 0
+IsCommit before after changed result = Goes before after tt (Some changed) result
+
+-- `Store` is answered exactly where the store has failed in this call or before it
+pub record Fails {X : Type 0} (before after : ℕ) (result : Result X StoreFault) : Type 0 where
+  pub grows : before ≤ after
+  pub told : result ≡ Err failed → 0 < after
+  pub stays : 0 < after → result ≡ Err failed

@@ -1,0 +1,142 @@
+ghost use Rattle.std.specs.Prelude.{◌≡◌};
+ghost use Rattle.pt_desk_rules.specs.Facts.{no_facts, facts_of, read_facts_of, subject_in};
+ghost use Rattle.pt_desk_rules.specs.State.{rider_of, file_of};
+ghost use Rattle.pt_desk_rules.specs.declared.request.Write.TheVariants.{PutCaller, PutPlace, PutRoute, PutRider};
+ghost use Rattle.pt_desk.specs.Store.{Store, IsRead};
+
+use crate::{Keeper, StoreFault};
+use pt_base::{Place, Rider, RiderId};
+use pt_corridor::FixedRoute;
+use pt_desk_rules::{Caller, Read, ReadFacts, Role, Write, WriteFacts};
+use std::alloc::Global;
+
+/// The rider that a role speaks of.
+fn subject<K: Keeper>(keeper: &mut K, role: Role) -> Result<Option<Rider>, StoreFault>
+    ensures reads { IsRead (K.store keeper.old) (K.store keeper.new) (subject_in role (K.store keeper.old).content.riders) result }
+{
+    match role {
+        Role::Rider(rider) => keeper.rider(rider),
+        Role::Clerk
+        | Role::Examiner
+        | Role::Officer
+        | Role::Dispatcher
+        | Role::Driver(_)
+        | Role::Admin => Ok(None),
+    }
+}
+
+/// No more than the policy.
+fn gather_policy<K: Keeper>(alloc: Global, keeper: &mut K) -> Result<WriteFacts, StoreFault>
+    ensures reads { IsRead (K.store keeper.old) (K.store keeper.new) (no_facts (K.store keeper.old).content.policy) result }
+{
+    Ok(WriteFacts::none(alloc, keeper.policy()?))
+}
+
+fn gather_caller<K: Keeper>(
+    alloc: Global,
+    keeper: &mut K,
+    new: &Caller,
+) -> Result<WriteFacts, StoreFault>
+    ensures reads { IsRead (K.store keeper.old) (K.store keeper.new) (facts_of (PutCaller new.now) (K.store keeper.old).content) result }
+{
+    Ok(WriteFacts {
+        rider: subject(keeper, new.role)?,
+        caller: keeper.caller(new.id)?,
+        holder: keeper.caller_with(&new.digest)?,
+        caller_count: keeper.caller_count()?,
+        ..gather_policy(alloc, keeper)?
+    })
+}
+
+fn gather_place<K: Keeper>(
+    alloc: Global,
+    keeper: &mut K,
+    new: &Place,
+) -> Result<WriteFacts, StoreFault>
+    ensures reads { IsRead (K.store keeper.old) (K.store keeper.new) (facts_of (PutPlace new.now) (K.store keeper.old).content) result }
+{
+    Ok(WriteFacts {
+        has_place: keeper.place(new.id)?.is_some(),
+        place_count: keeper.place_count()?,
+        ..gather_policy(alloc, keeper)?
+    })
+}
+
+fn gather_route<K: Keeper>(
+    alloc: Global,
+    keeper: &mut K,
+    new: &FixedRoute,
+) -> Result<WriteFacts, StoreFault>
+    ensures reads { IsRead (K.store keeper.old) (K.store keeper.new) (facts_of (PutRoute new.now) (K.store keeper.old).content) result }
+{
+    Ok(WriteFacts {
+        has_route: keeper.has_route(new.id())?,
+        route_count: keeper.route_count()?,
+        ..gather_policy(alloc, keeper)?
+    })
+}
+
+fn gather_rider<K: Keeper>(
+    alloc: Global,
+    keeper: &mut K,
+    new: &Rider,
+) -> Result<WriteFacts, StoreFault>
+    ensures reads { IsRead (K.store keeper.old) (K.store keeper.new) (facts_of (PutRider new.now) (K.store keeper.old).content) result }
+{
+    Ok(WriteFacts {
+        rider: keeper.rider(new.id)?,
+        rider_count: keeper.rider_count()?,
+        ..gather_policy(alloc, keeper)?
+    })
+}
+
+fn gather_file<K: Keeper>(
+    alloc: Global,
+    keeper: &mut K,
+    rider: RiderId,
+) -> Result<WriteFacts, StoreFault>
+    ensures reads { IsRead (K.store keeper.old) (K.store keeper.new)
+        (record (no_facts (K.store keeper.old).content.policy) {
+          rider = rider_of rider (K.store keeper.old).content;
+          file = file_of rider (K.store keeper.old).content;
+        }) result }
+{
+    Ok(WriteFacts {
+        rider: keeper.rider(rider)?,
+        file: keeper.case_file(alloc, rider)?,
+        ..gather_policy(alloc, keeper)?
+    })
+}
+
+/// All that the rules of the write look at.
+pub(crate) fn gather<K: Keeper>(
+    alloc: Global,
+    keeper: &mut K,
+    write: &Write,
+) -> Result<WriteFacts, StoreFault>
+    ensures reads { IsRead (K.store keeper.old) (K.store keeper.new) (facts_of write.now (K.store keeper.old).content) result }
+{
+    match write {
+        Write::PutCaller(new) => gather_caller(alloc, keeper, new),
+        Write::PutPolicy(_) => gather_policy(alloc, keeper),
+        Write::PutPlace(new) => gather_place(alloc, keeper, new),
+        Write::PutRoute(new) => gather_route(alloc, keeper, new),
+        Write::PutRider(new) => gather_rider(alloc, keeper, new),
+        Write::Enter { rider, entry: _ } => gather_file(alloc, keeper, *rider),
+    }
+}
+
+/// All that the rules of the read look at, and what it is told.
+pub(crate) fn gather_read<K: Keeper>(
+    alloc: Global,
+    keeper: &mut K,
+    read: &Read,
+) -> Result<ReadFacts, StoreFault>
+    ensures reads { IsRead (K.store keeper.old) (K.store keeper.new) (read_facts_of read.now (K.store keeper.old).content) result }
+{
+    let Read::Standing { rider, day: _ } = *read;
+    Ok(ReadFacts {
+        rider: keeper.rider(rider)?,
+        file: keeper.case_file(alloc, rider)?,
+    })
+}

@@ -1,0 +1,2 @@
+mod VisitLemmas
+pub mod SoundLemmas

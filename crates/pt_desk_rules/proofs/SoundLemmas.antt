@@ -1,0 +1,247 @@
+-- What a request leaves is sound where what it found is.
+use Rattle.std.proofs.Common.{rules, ◌≡◌, ℕ, ◌+◌, ◌<◌, ◌≤◌, ◌||◌, nat_lt, Bool, true, false, not, IsTrue, List, [], ◌∷◌, ◌++◌, length, map, take, min, Option, Some, None, is_some, Result, Ok, Err, arith, cond, refl, sym, ap, ◌∙◌, subst, inl, inr}
+use Rattle.std.specs.Prelude.{find, bytes_eq}
+use Rattle.std.proofs.lemmas.Bool.Decides.{nat_tests}
+use Rattle.std.proofs.lemmas.List.{length-map, length-take}
+use Rattle.std.proofs.Common.{length-append}
+use Rattle.std.proofs.lemmas.Slice.Eq.{bytes_eq-Decides}
+use Rattle.sha2.specs.Sha256.{sha256}
+use Rattle.pt_base.specs.declared.place.Place.{Place}
+use Rattle.pt_base.specs.declared.policy.Policy.{Policy}
+use Rattle.pt_base.specs.declared.rider.Residence.{Residence}
+use Rattle.pt_base.specs.declared.rider.Residence.TheVariants.{Resident, Visitor}
+use Rattle.pt_base.specs.declared.rider.Rider.{Rider}
+use Rattle.pt_base.specs.declared.rule.Rule.{Rule}
+use Rattle.pt_base.specs.declared.rule.Rule.TheVariants as rule
+use Rattle.pt_corridor.specs.Route.{Route, IsFixedRoute}
+use Rattle.pt_records.specs.Keys.{pair_key}
+use Rattle.pt_records.specs.Records.{put, within, is_within, record_at, Each, IsInOrder, IsTable}
+use Rattle.pt_records.proofs.OrderLemmas.{Each-put, Each-weaker, Each-both, IsInOrder-put, record_at-put_same, record_at-put_other}
+use Rattle.pt_records.proofs.TableLemmas.{same_or_other, stays_there, found_by_key, below_is, IsTable-put, IsTable-add}
+use Rattle.pt_records.proofs.WithinLemmas.{within-put_other, within-put_last, Each-within}
+use Rattle.pt_rights.specs.Admission.{admission_rules, is_resident}
+use Rattle.pt_rights.specs.Rules.{first_failing}
+use Rattle.pt_rights.specs.declared.entry.Entry.{Entry}
+use Rattle.pt_desk_rules.specs.Limits.{most_callers, most_places, most_routes, most_riders, most_entries}
+use Rattle.pt_desk_rules.specs.State.{State, caller_with, rider_of, file_of, file_with, caller_key, kept_key, place_key, route_key, rider_key, entry_key, span_of, entries_of, applied}
+use Rattle.pt_desk_rules.specs.Facts.{facts_of, subject_in}
+use Rattle.pt_desk_rules.specs.Rules.{rules_of, entry_rules, is_nobody_else, is_of_kind, is_nobody_of_another_kind, subject_is_there}
+use Rattle.pt_desk_rules.specs.Deciding.{answer_of, change_of, decision_after, IsMade}
+use Rattle.pt_desk_rules.specs.Step.{state_after, write_left, is_new, step, left_by, leaves, sender, IsMadeWhere, IsMadeBy}
+use Rattle.pt_desk_rules.specs.Sound.{IsSound, IsSoundFile, IsIn, HasOneHolder, HasSubject, IsOfCaller, IsResidentIn, IsOfResident, HasAuthor, AreNumberedFrom}
+use Rattle.pt_desk_rules.specs.declared.caller.Caller.{Caller}
+use Rattle.pt_desk_rules.specs.declared.caller.Kept.{Kept}
+use Rattle.pt_desk_rules.specs.declared.caller.Role.{Role}
+use Rattle.pt_desk_rules.specs.declared.caller.Role.TheVariants as role
+use Rattle.pt_desk_rules.specs.declared.change.FiledEntry.{FiledEntry}
+use Rattle.pt_desk_rules.specs.declared.request.Request.{Request}
+use Rattle.pt_desk_rules.specs.declared.request.Request.TheVariants as request
+use Rattle.pt_desk_rules.specs.declared.request.Write.{Write}
+use Rattle.pt_desk_rules.specs.declared.request.Write.TheVariants as write
+
+held_by : (new x : Caller) (xs : List Caller) (b : Bool) → bytes_eq x.digest new.digest ≡ b → Each (HasOneHolder (x ∷ xs)) (x ∷ xs)
+    → IsTrue (is_nobody_else new.id (cond b (Some x) (find (λ caller. bytes_eq caller.digest new.digest) xs)))
+    → (IsTrue (is_nobody_else new.id (find (λ caller. bytes_eq caller.digest new.digest) xs)) → Each (λ other. new.digest ≡ other.digest → new.id ≡ other.id) xs)
+    → Each (λ other. new.digest ≡ other.digest → new.id ≡ other.id) (x ∷ xs)
+held_by new x xs true is one free rest =
+    let has : x.digest ≡ new.digest = (bytes_eq-Decides x.digest new.digest).0 is in
+    let number : x.id ≡ new.id = grind (arith, nat_tests) in
+    Each-weaker (λ b. x.digest ≡ b.digest → x.id ≡ b.id) (λ other. new.digest ≡ other.digest → new.id ≡ other.id) (λ other holds same. sym number ∙ holds (has ∙ same)) (x ∷ xs) one.0
+held_by new x xs false is one free rest =
+    ((λ same. absurd (let yes = (bytes_eq-Decides x.digest new.digest).1 (sym same) in cc)), rest free)
+
+-- whoever has the digest has the number
+holders_are : (new : Caller) (callers : List Caller) → Each (HasOneHolder callers) callers → IsTrue (is_nobody_else new.id (find (λ caller. bytes_eq caller.digest new.digest) callers))
+    → Each (λ other. new.digest ≡ other.digest → new.id ≡ other.id) callers
+holders_are new [] one free = tt
+holders_are new (x ∷ xs) one free = held_by new x xs (bytes_eq x.digest new.digest) refl one free
+    (λ free. holders_are new xs (Each-weaker (HasOneHolder (x ∷ xs)) (HasOneHolder xs) (λ a holds. holds.1) xs one.1) free)
+
+-- no two callers have one digest, the new one among them
+one_holder-put : (new : Caller) (callers : List Caller) → Each (HasOneHolder callers) callers → Each (λ other. new.digest ≡ other.digest → new.id ≡ other.id) callers
+    → Each (HasOneHolder (put caller_key new callers)) (put caller_key new callers)
+one_holder-put new callers one are =
+    Each-put (HasOneHolder (put caller_key new callers)) caller_key new callers
+    (Each-both (HasOneHolder callers) (λ other. new.digest ≡ other.digest → new.id ≡ other.id) (HasOneHolder (put caller_key new callers))
+    (λ a holds is. Each-put (λ b. a.digest ≡ b.digest → a.id ≡ b.id) caller_key new callers holds (λ same. sym (is (sym same)))) callers one are)
+    (Each-put (λ b. new.digest ≡ b.digest → new.id ≡ b.id) caller_key new callers are (λ same. refl))
+
+-- Each lemma gives the lines that change; `search` takes the others as they are.
+put_caller_sound : (new : Caller) (s : State) → IsSound s → IsTrue (subject_is_there new.role (subject_in new.role s.riders)) → IsTrue (is_nobody_else new.id (caller_with new.digest s))
+    → IsTrue (is_some (record_at caller_key new.id s.callers) || nat_lt (length s.callers) most_callers) → IsSound (record s { callers = put caller_key new s.callers })
+put_caller_sound new s sound subject free room =
+    let table = IsTable-put caller_key new s.callers most_callers sound.callers room in
+    let holders = one_holder-put new s.callers sound.one_holder_each (holders_are new s.callers sound.one_holder_each free) in
+    let subjects = Each-put (HasSubject s.riders) caller_key new s.callers sound.subjects_there subject in
+    let kept = Each-weaker (IsOfCaller s.callers) (IsOfCaller (put caller_key new s.callers)) (λ kept there. stays_there caller_key kept.caller new s.callers there) s.kept sound.kept_of_callers in
+    let authors = Each-weaker (HasAuthor s.callers) (HasAuthor (put caller_key new s.callers)) (λ filed there. stays_there caller_key filed.entered.author new s.callers there) s.entries sound.authors_there in
+    search rules
+
+put_policy_sound : (new : Policy) (s : State) → IsSound s → IsSound (record s { policy = new })
+put_policy_sound new s sound = search rules
+
+put_place_sound : (new : Place) (s : State) → IsSound s → IsTrue (nat_lt (length s.places) most_places) → IsSound (record s { places = put place_key new s.places })
+put_place_sound new s sound room =
+    let table = IsTable-add place_key new s.places most_places sound.places room in
+    search rules
+
+put_route_sound : (new : Route) (s : State) → IsSound s → IsFixedRoute new → IsTrue (is_some (record_at route_key new.id s.routes) || nat_lt (length s.routes) most_routes) → IsSound (record s { routes = put route_key new s.routes })
+put_route_sound new s sound made room =
+    let table = IsTable-put route_key new s.routes most_routes sound.routes room in
+    let all_made = Each-put IsFixedRoute route_key new s.routes sound.routes_made made in
+    search rules
+
+subject_stays : (new : Rider) (riders : List Rider) (role : Role) → IsTrue (subject_is_there role (subject_in role riders)) → IsTrue (subject_is_there role (subject_in role (put rider_key new riders)))
+subject_stays new riders (role.Rider rider) there = stays_there rider_key rider new riders there
+subject_stays new riders role.Clerk there = there
+subject_stays new riders role.Examiner there = there
+subject_stays new riders role.Officer there = there
+subject_stays new riders role.Dispatcher there = there
+subject_stays new riders (role.Driver vehicle) there = there
+subject_stays new riders role.Admin there = there
+
+-- a record that takes the place of a resident's is a resident's
+resident_by_kind : (kind : Residence) (there : Rider) → IsTrue (is_of_kind kind there) → IsTrue (is_resident there.kind) → IsTrue (is_resident kind)
+resident_by_kind Resident there same resident = refl
+resident_by_kind Visitor there same resident = absurd (cc)
+
+-- a resident's record stays a resident's while no record of another kind is put in its place
+resident_stays : (riders : List Rider) (new : Rider) (id : ℕ) → IsTrue (is_nobody_of_another_kind new.kind (record_at rider_key new.id riders)) → IsResidentIn riders id → IsResidentIn (put rider_key new riders) id
+resident_stays riders new id free is = elim (same_or_other new.id id) [
+  | inl same ↦
+      let there : record_at rider_key new.id riders ≡ Some is.0 = ap (λ n. record_at rider_key n riders) same ∙ is.1 in
+      let resident : IsTrue (is_resident new.kind) = resident_by_kind new.kind is.0 (subst (λ found. IsTrue (is_nobody_of_another_kind new.kind found)) there free) is.2 in
+      (new, ap (λ n. record_at rider_key n (put rider_key new riders)) (sym same) ∙ record_at-put_same rider_key new riders, resident)
+  | inr other ↦ (is.0, record_at-put_other rider_key id new riders other ∙ is.1, is.2)
+]
+
+put_rider_sound : (new : Rider) (s : State) → IsSound s → IsTrue (is_nobody_of_another_kind new.kind (rider_of new.id s))
+    → IsTrue (is_some (record_at rider_key new.id s.riders) || nat_lt (length s.riders) most_riders) → IsSound (record s { riders = put rider_key new s.riders })
+put_rider_sound new s sound free room =
+    let table = IsTable-put rider_key new s.riders most_riders sound.riders room in
+    let subjects = Each-weaker (HasSubject s.riders) (HasSubject (put rider_key new s.riders)) (λ caller there. subject_stays new s.riders caller.role there) s.callers sound.subjects_there in
+    let residents = Each-weaker (IsOfResident s.riders) (IsOfResident (put rider_key new s.riders)) (λ filed is. resident_stays s.riders new filed.rider free is) s.entries sound.entries_of_residents in
+    search rules
+
+-- the positions in a file are below its length
+below_length : (n : ℕ) (xs : List FiledEntry) → AreNumberedFrom n xs → Each (λ filed. filed.position < n + length xs) xs
+below_length n [] numbered = tt
+below_length n (x ∷ xs) numbered =
+    let at : x.position ≡ n = numbered.0 in
+    let rest = below_length (n + 1) xs numbered.1 in
+    (omega arith, Each-weaker (λ filed. filed.position < n + 1 + length xs) (λ filed. filed.position < n + length (x ∷ xs)) (λ filed lt. omega arith) xs rest)
+
+-- one entry more after the others
+numbered-more : (n : ℕ) (xs : List FiledEntry) (new : FiledEntry) → AreNumberedFrom n xs → new.position ≡ n + length xs → AreNumberedFrom n (xs ++ new ∷ [])
+numbered-more n [] new numbered at = (omega arith, tt)
+numbered-more n (x ∷ xs) new numbered at = (numbered.0, numbered-more (n + 1) xs new numbered.1 (omega arith))
+
+in_own_span : (rider position : ℕ) → position < 200 → is_within (pair_key rider position) (span_of rider) ≡ true
+in_own_span rider position lt = grind (arith, nat_tests)
+
+in_no_other_span : (rider other position : ℕ) → (rider ≡ other → ⊥) → position < 200 → is_within (pair_key rider position) (span_of other) ≡ false
+in_no_other_span rider other position differ lt = grind (arith, nat_tests)
+
+key_below : (x : FiledEntry) (rider n : ℕ) → IsTrue (is_within (entry_key x) (span_of rider)) → x.position < n → entry_key x < pair_key rider n
+key_below x rider n in_it lt = grind (arith, nat_tests)
+
+-- a file with one entry more
+longer_file : (new : FiledEntry) (xs : List FiledEntry) → IsSoundFile xs → new.position ≡ length xs → length xs < 200 → IsSoundFile (xs ++ new ∷ [])
+longer_file new xs file at room =
+    let more : length (xs ++ new ∷ []) ≡ length xs + 1 = length-append xs (new ∷ []) in
+    record { numbered = numbered-more 0 xs new file.numbered (omega arith); within = omega arith }
+
+own_file : (new : FiledEntry) (entries : List FiledEntry) → IsInOrder entry_key entries → IsSoundFile (entries_of new.rider entries) → new.position ≡ length (entries_of new.rider entries) → length (entries_of new.rider entries) < 200
+    → IsSoundFile (entries_of new.rider (put entry_key new entries))
+own_file new entries order file at room =
+    let here : new.position < 200 = omega arith in
+    let below = Each-both (λ x. IsTrue (is_within (entry_key x) (span_of new.rider))) (λ x. x.position < 0 + length (entries_of new.rider entries)) (λ x. entry_key x < entry_key new)
+        (λ x in_it lt. key_below x new.rider new.position in_it (omega arith)) (entries_of new.rider entries) (Each-within entry_key (span_of new.rider) entries) (below_length 0 (entries_of new.rider entries) file.numbered) in
+    subst IsSoundFile (sym (within-put_last entry_key (span_of new.rider) new entries (in_own_span new.rider new.position here) order below))
+    (longer_file new (entries_of new.rider entries) file at room)
+
+files_stay : (new : FiledEntry) (entries : List FiledEntry) → IsInOrder entry_key entries → ((rider : ℕ) → IsSoundFile (entries_of rider entries)) → new.position ≡ length (entries_of new.rider entries) → length (entries_of new.rider entries) < 200
+    → (rider : ℕ) → IsSoundFile (entries_of rider (put entry_key new entries))
+files_stay new entries order files at room rider =
+    let here : new.position < 200 = omega arith in
+    elim (same_or_other new.rider rider) [
+    | inl same ↦ subst (λ r. IsSoundFile (entries_of r (put entry_key new entries))) same (own_file new entries order (files new.rider) at room)
+    | inr other ↦ subst IsSoundFile (sym (within-put_other entry_key (span_of rider) new entries (in_no_other_span new.rider rider new.position other here))) (files rider)
+    ]
+
+put_entry_sound : (new : FiledEntry) (s : State) → IsSound s → IsResidentIn s.riders new.rider → IsIn caller_key s.callers new.entered.author → new.position ≡ length (entries_of new.rider s.entries) → length (entries_of new.rider s.entries) < 200
+    → IsSound (record s { entries = put entry_key new s.entries })
+put_entry_sound new s sound resident author at room =
+    let order = IsInOrder-put entry_key new s.entries sound.entries_in_order in
+    let residents = Each-put (IsOfResident s.riders) entry_key new s.entries sound.entries_of_residents resident in
+    let authors = Each-put (HasAuthor s.callers) entry_key new s.entries sound.authors_there author in
+    let files = files_stay new s.entries sound.entries_in_order sound.files at room in
+    search rules
+
+-- a file with room has all of its rider's entries
+whole_file : (rider : ℕ) (s : State) → length (file_of rider s) < 200 → length (file_of rider s) ≡ length (entries_of rider s.entries)
+whole_file rider s room =
+    let xs = entries_of rider s.entries in
+    let mapped : length (file_of rider s) ≡ length (take 200 xs) = length-map (take 200 xs) (λ filed. filed.entered) in
+    let taken : length (take 200 xs) ≡ min 200 (length xs) = length-take 200 xs in
+    omega arith
+
+numbered_sound : (kept : Kept) (s : State) → IsSound s → IsIn caller_key s.callers kept.caller → IsSound (record s { kept = put kept_key kept s.kept })
+numbered_sound kept s sound there =
+    let order = IsInOrder-put kept_key kept s.kept sound.kept_in_order in
+    let callers = Each-put (IsOfCaller s.callers) kept_key kept s.kept sound.kept_of_callers there in
+    search rules
+
+abbrev AllHold : List (Rule × Bool) → Type 0
+AllHold [] = Unit {0}
+AllHold (first ∷ rest) = (first.1 ≡ true) × AllHold rest
+
+holds_first : (name : Rule) (holds : Bool) (rest : List (Rule × Bool)) → first_failing ((name, holds) ∷ rest) ≡ None → (holds ≡ true) × (first_failing rest ≡ None)
+holds_first name true rest none = (refl, none)
+holds_first name false rest none = absurd (cc)
+
+all_hold : (ordered : List (Rule × Bool)) → first_failing ordered ≡ None → AllHold ordered
+all_hold [] none = tt
+all_hold (first ∷ rest) none = let here = holds_first first.0 first.1 rest none in (here.0, all_hold rest here.1)
+
+-- a rider whose entry is admitted is a resident
+admitted_resident : (found : Option Rider) (rider : ℕ) (entry : Entry) (me : Caller) (now : ℕ × ℕ) (s : State) → rider_of rider s ≡ found → is_some found ≡ true
+    → AllHold (entry_rules found entry now.0 me.id (facts_of (write.Enter rider entry) s)) → IsResidentIn s.riders rider
+admitted_resident None rider entry me now s is there hold = absurd (cc)
+admitted_resident (Some found) rider entry me now s is there hold = (found, is, hold.0)
+
+enter_sound : (rider : ℕ) (entry : Entry) (me : Caller) (now : ℕ × ℕ) (s : State) → IsSound s → IsIn caller_key s.callers me.id → AllHold (rules_of (write.Enter rider entry) me now (facts_of (write.Enter rider entry) s))
+    → IsSound (record s { entries = put entry_key (record { rider = rider; position = length (file_of rider s); entered = record { entry = entry; day = now.0; author = me.id } }) s.entries })
+enter_sound rider entry me now s sound there hold =
+    let room = below_is (length (file_of rider s)) 200 hold.1.1.0 in
+    let whole = whole_file rider s room in
+    put_entry_sound (record { rider = rider; position = length (file_of rider s); entered = record { entry = entry; day = now.0; author = me.id } }) s sound
+    (admitted_resident (rider_of rider s) rider entry me now s refl hold.1.0 hold.1.1.1) there whole (omega arith)
+
+-- what an accepted write makes of a sound state
+change_sound : (asked : Write) (me : Caller) (now : ℕ × ℕ) (number : ℕ) (s : State) → IsSound s → IsIn caller_key s.callers me.id → AllHold (rules_of asked me now (facts_of asked s)) → IsMade asked
+    → IsSound (applied (change_of asked (record { caller = me.id; number = number }) now.0 (facts_of asked s)) s)
+change_sound (write.PutCaller new) me now number s sound there hold made =
+    numbered_sound _ _ (put_caller_sound new s sound hold.1.0 hold.1.1.0 hold.1.1.1.0) (stays_there caller_key me.id new s.callers there)
+change_sound (write.PutPolicy new) me now number s sound there hold made = numbered_sound _ _ (put_policy_sound new s sound) there
+change_sound (write.PutPlace new) me now number s sound there hold made = numbered_sound _ _ (put_place_sound new s sound hold.1.1.0) there
+change_sound (write.PutRoute new) me now number s sound there hold made = numbered_sound _ _ (put_route_sound new s sound made hold.1.0) there
+change_sound (write.PutRider new) me now number s sound there hold made = numbered_sound _ _ (put_rider_sound new s sound hold.1.0 hold.1.1.0) there
+change_sound (write.Enter rider entry) me now number s sound there hold made = numbered_sound _ _ (enter_sound rider entry me now s sound there hold) there
+
+write_sound : (asked : Write) (me : Caller) (now : ℕ × ℕ) (number : ℕ) (s : State) (fresh : Bool) (first : Option Rule) → IsSound s → IsIn caller_key s.callers me.id
+    → first_failing (rules_of asked me now (facts_of asked s)) ≡ first → IsMadeWhere fresh (decision_after first asked me now number (facts_of asked s)) asked
+    → IsSound (state_after (write_left fresh (decision_after first asked me now number (facts_of asked s)) s) s)
+write_sound asked me now number s true None sound there is made = change_sound asked me now number s sound there (all_hold (rules_of asked me now (facts_of asked s)) is) made
+write_sound asked me now number s true (Some rule) sound there is made = sound
+write_sound asked me now number s false first sound there is made = sound
+
+by_sound : (digest : List ℕ) (found : Option Caller) (now : ℕ × ℕ) (number : ℕ) (asked : Request) (s : State) → caller_with digest s ≡ found → IsSound s → IsMadeBy found now number asked s → IsSound (state_after (left_by found now number asked s) s)
+by_sound digest None now number asked s is sound made = sound
+by_sound digest (Some me) now number (request.Read read) s is sound made = sound
+by_sound digest (Some me) now number (request.Write asked) s is sound made =
+    write_sound asked me now number s (is_new number me s) (first_failing (rules_of asked me now (facts_of asked s))) sound (found_by_key caller_key (λ caller. bytes_eq caller.digest digest) me s.callers is) refl made
+
+-- a request leaves a sound state where it finds one
+pub request_sound : (key : List ℕ) (now : ℕ × ℕ) (number : ℕ) (asked : Request) (s : State) → IsSound s → IsMadeBy (sender key s) now number asked s → IsSound (state_after (leaves key now number asked s) s)
+request_sound key now number asked s sound made = by_sound (sha256 key) (sender key s) now number asked s refl sound made

@@ -1,0 +1,57 @@
+-- What the rules look at.
+use Rattle.std.specs.Prelude.{ℕ, false, List, [], length, Option, None, is_some}
+use Rattle.pt_base.specs.declared.policy.Policy.{Policy}
+use Rattle.pt_base.specs.declared.rider.Rider.{Rider}
+use Rattle.pt_records.specs.Records.{record_at}
+use Rattle.pt_desk_rules.specs.State.{State, caller_with, caller_of, place_of, route_of, rider_of, file_of, rider_key}
+use Rattle.pt_desk_rules.specs.declared.caller.Role.{Role}
+use Rattle.pt_desk_rules.specs.declared.caller.Role.TheVariants as role
+use Rattle.pt_desk_rules.specs.declared.facts.ReadFacts.{ReadFacts}
+use Rattle.pt_desk_rules.specs.declared.facts.WriteFacts.{WriteFacts}
+use Rattle.pt_desk_rules.specs.declared.request.Read.{Read}
+use Rattle.pt_desk_rules.specs.declared.request.Read.TheVariants as read
+use Rattle.pt_desk_rules.specs.declared.request.Write.{Write}
+use Rattle.pt_desk_rules.specs.declared.request.Write.TheVariants as write
+
+-- the policy alone
+abbrev pub no_facts : Policy → WriteFacts
+no_facts policy = record {
+  policy = policy;
+  rider = None;
+  rider_count = 0;
+  file = [];
+  caller = None;
+  holder = None;
+  caller_count = 0;
+  has_place = false;
+  place_count = 0;
+  has_route = false;
+  route_count = 0;
+}
+
+-- the rider that a role speaks of
+abbrev pub subject_in : Role → List Rider → Option Rider
+subject_in (role.Rider rider) riders = record_at rider_key rider riders
+subject_in _ riders = None
+
+-- what the state says on what a write's rules look at
+abbrev pub facts_of : Write → State → WriteFacts
+facts_of (write.PutCaller new) s = record (no_facts s.policy) {
+  rider = subject_in new.role s.riders;
+  caller = caller_of new.id s;
+  holder = caller_with new.digest s;
+  caller_count = length s.callers;
+}
+facts_of (write.PutPolicy new) s = no_facts s.policy
+facts_of (write.PutPlace new) s =
+    record (no_facts s.policy) { has_place = is_some (place_of new.id s); place_count = length s.places }
+facts_of (write.PutRoute new) s =
+    record (no_facts s.policy) { has_route = is_some (route_of new.id s); route_count = length s.routes }
+facts_of (write.PutRider new) s =
+    record (no_facts s.policy) { rider = rider_of new.id s; rider_count = length s.riders }
+facts_of (write.Enter rider entry) s =
+    record (no_facts s.policy) { rider = rider_of rider s; file = file_of rider s }
+
+-- and on what a read's rules look at
+abbrev pub read_facts_of : Read → State → ReadFacts
+read_facts_of (read.Standing rider day) s = record { rider = rider_of rider s; file = file_of rider s }

@@ -1,0 +1,60 @@
+-- Who may make which request.
+use Rattle.std.specs.Prelude.{ℕ, Bool, true, false, ◌==◌, ◌&&◌, Option, is_some}
+use Rattle.pt_base.specs.declared.rider.Rider.{Rider}
+use Rattle.pt_rights.specs.declared.entry.Entry.{Entry}
+use Rattle.pt_rights.specs.declared.entry.Entry.TheVariants as entry
+use Rattle.pt_desk_rules.specs.declared.caller.Role.{Role}
+use Rattle.pt_desk_rules.specs.declared.caller.Role.TheVariants as role
+
+-- the caller is the admin
+abbrev pub is_admin : Role → Bool
+is_admin role.Admin = true
+is_admin _ = false
+
+-- a clerk
+abbrev pub is_clerk : Role → Bool
+is_clerk role.Clerk = true
+is_clerk _ = false
+
+-- an examiner
+abbrev pub is_examiner : Role → Bool
+is_examiner role.Examiner = true
+is_examiner _ = false
+
+-- an officer
+abbrev pub is_officer : Role → Bool
+is_officer role.Officer = true
+is_officer _ = false
+
+-- the rider is the caller's own, and has a record
+abbrev pub is_own : ℕ → ℕ → Option Rider → Bool
+is_own own rider found = (own == rider) && is_some found
+
+-- a clerk, an examiner or an officer, or the rider whose record it is
+abbrev pub may_see_standing : ℕ → Option Rider → Role → Bool
+may_see_standing rider found (role.Rider own) = is_own own rider found
+may_see_standing rider found role.Clerk = true
+may_see_standing rider found role.Examiner = true
+may_see_standing rider found role.Officer = true
+may_see_standing rider found _ = false
+
+-- a clerk, or the rider whose record it is
+abbrev pub may_appeal : ℕ → Option Rider → Role → Bool
+may_appeal rider found (role.Rider own) = is_own own rider found
+may_appeal rider found role.Clerk = true
+may_appeal rider found _ = false
+
+-- clerks take applications and give notice, examiners decide applications, riders appeal, and officers hear and
+-- decide appeals and suspensions
+abbrev pub may_enter : Entry → ℕ → Option Rider → Role → Bool
+may_enter entry.Complete rider found = is_clerk
+may_enter (entry.Grant grant) rider found = is_examiner
+may_enter (entry.Refuse reasons) rider found = is_examiner
+may_enter (entry.Appeal against) rider found = may_appeal rider found
+may_enter entry.Heard rider found = is_officer
+may_enter (entry.AppealGranted grant) rider found = is_officer
+may_enter (entry.AppealDenied reasons) rider found = is_officer
+may_enter entry.Overturn rider found = is_officer
+may_enter (entry.Notice basis) rider found = is_clerk
+may_enter entry.NoticeHeard rider found = is_officer
+may_enter (entry.Suspend starts ends reasons) rider found = is_officer

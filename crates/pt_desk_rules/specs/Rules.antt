@@ -1,0 +1,83 @@
+-- The rules of each request by whoever sent it, in the order in which they are tried.
+use Rattle.std.specs.Prelude.{ℕ, Bool, true, false, not, ◌==◌, ◌||◌, nat_lt, List, [], ◌∷◌, length, Option, Some, None, is_some}
+use Rattle.pt_base.specs.declared.rider.Residence.{Residence}
+use Rattle.pt_base.specs.declared.rider.Residence.TheVariants.{Resident, Visitor}
+use Rattle.pt_base.specs.declared.rider.Rider.{Rider}
+use Rattle.pt_base.specs.declared.rule.Rule.{Rule}
+use Rattle.pt_base.specs.declared.rule.Rule.TheVariants as rule
+use Rattle.pt_rights.specs.Admission.{admission_rules, is_resident}
+use Rattle.pt_rights.specs.declared.entry.Entry.{Entry}
+use Rattle.pt_desk_rules.specs.Limits.{most_callers, most_places, most_routes, most_riders, most_entries}
+use Rattle.pt_desk_rules.specs.Permission.{is_admin, is_clerk, may_enter, may_see_standing}
+use Rattle.pt_desk_rules.specs.declared.caller.Caller.{Caller}
+use Rattle.pt_desk_rules.specs.declared.caller.Role.{Role}
+use Rattle.pt_desk_rules.specs.declared.caller.Role.TheVariants as role
+use Rattle.pt_desk_rules.specs.declared.facts.ReadFacts.{ReadFacts}
+use Rattle.pt_desk_rules.specs.declared.facts.WriteFacts.{WriteFacts}
+use Rattle.pt_desk_rules.specs.declared.request.Read.{Read}
+use Rattle.pt_desk_rules.specs.declared.request.Read.TheVariants as read
+use Rattle.pt_desk_rules.specs.declared.request.Write.{Write}
+use Rattle.pt_desk_rules.specs.declared.request.Write.TheVariants as write
+
+-- the rider that a role speaks of was found; there are no vehicles yet
+abbrev pub subject_is_there : Role → Option Rider → Bool
+subject_is_there (role.Rider rider) found = is_some found
+subject_is_there (role.Driver vehicle) found = false
+subject_is_there _ found = true
+
+-- nobody, or the caller of this number
+abbrev pub is_nobody_else : ℕ → Option Caller → Bool
+is_nobody_else id None = true
+is_nobody_else id (Some there) = there.id == id
+
+-- a rider is of this kind
+abbrev pub is_of_kind : Residence → Rider → Bool
+is_of_kind Resident there = is_resident there.kind
+is_of_kind Visitor there = not (is_resident there.kind)
+
+-- nobody, or a rider of this kind
+abbrev pub is_nobody_of_another_kind : Residence → Option Rider → Bool
+is_nobody_of_another_kind kind None = true
+is_nobody_of_another_kind kind (Some there) = is_of_kind kind there
+
+-- an entry's own rules, by this author on the day today, for the rider who was found; no trip has an outcome yet
+abbrev pub entry_rules : Option Rider → Entry → ℕ → ℕ → WriteFacts → List (Rule × Bool)
+entry_rules None entry today author facts = []
+entry_rules (Some there) entry today author facts =
+    admission_rules facts.file there entry today author [] facts.policy
+
+-- the rules of a write by this caller at this moment, each with whether it holds
+abbrev pub rules_of : Write → Caller → (ℕ × ℕ) → WriteFacts → List (Rule × Bool)
+rules_of (write.PutCaller new) me now facts =
+    (rule.Caller, is_admin me.role)
+    ∷ (rule.Unknown, subject_is_there new.role facts.rider)
+    ∷ (rule.Exists, is_nobody_else new.id facts.holder)
+    ∷ (rule.Full, is_some facts.caller || nat_lt facts.caller_count most_callers)
+    ∷ []
+rules_of (write.PutPolicy new) me now facts = (rule.Caller, is_admin me.role) ∷ []
+rules_of (write.PutPlace new) me now facts =
+    (rule.Caller, is_admin me.role)
+    ∷ (rule.Exists, not facts.has_place)
+    ∷ (rule.Full, nat_lt facts.place_count most_places)
+    ∷ []
+rules_of (write.PutRoute new) me now facts =
+    (rule.Caller, is_admin me.role)
+    ∷ (rule.Full, facts.has_route || nat_lt facts.route_count most_routes)
+    ∷ []
+rules_of (write.PutRider new) me now facts =
+    (rule.Caller, is_clerk me.role)
+    ∷ (rule.Exists, is_nobody_of_another_kind new.kind facts.rider)
+    ∷ (rule.Full, is_some facts.rider || nat_lt facts.rider_count most_riders)
+    ∷ []
+rules_of (write.Enter rider entry) me now facts =
+    (rule.Caller, may_enter entry rider facts.rider me.role)
+    ∷ (rule.Unknown, is_some facts.rider)
+    ∷ (rule.Full, nat_lt (length facts.file) most_entries)
+    ∷ entry_rules facts.rider entry now.0 me.id facts
+
+-- the rules of a read by this caller
+abbrev pub read_rules : Read → Caller → ReadFacts → List (Rule × Bool)
+read_rules (read.Standing rider day) me facts =
+    (rule.Caller, may_see_standing rider facts.rider me.role)
+    ∷ (rule.Unknown, is_some facts.rider)
+    ∷ []

@@ -1,0 +1,124 @@
+ghost use Rattle.std.specs.Prelude.{◌≡◌};
+ghost use Rattle.pt_rights.specs.Rules.{first_failing};
+ghost use Rattle.pt_desk_rules.specs.Rules.{rules_of, is_nobody_else, is_nobody_of_another_kind, subject_is_there};
+ghost use Rattle.pt_desk_rules.specs.declared.request.Write.TheVariants.{Enter};
+
+use crate::permission::may_enter;
+use crate::{
+    Caller, MOST_CALLERS, MOST_PLACES, MOST_RIDERS, MOST_ROUTES, Role, Write, WriteFacts,
+};
+use pt_base::{CallerId, Day, Minute, Residence, Rider, RiderId, Rule};
+use pt_rights::Entry;
+
+/// The first rule that fails.
+pub(crate) fn first_failing(rules: &[(Rule, bool)]) -> Option<Rule>
+    ensures value { result ≡ first_failing rules.now }
+{
+    for (rule, holds) in rules {
+        if !*holds {
+            return Some(*rule);
+        }
+    }
+    None
+}
+
+/// Whether the record that a role speaks of is there.
+fn subject_is_there(role: Role, facts: &WriteFacts) -> bool
+    ensures value { result ≡ subject_is_there role facts.now.rider }
+{
+    match role {
+        Role::Rider(_) => facts.rider.is_some(),
+        Role::Driver(_) => false,
+        Role::Clerk | Role::Examiner | Role::Officer | Role::Dispatcher | Role::Admin => true,
+    }
+}
+
+/// Whether there is nobody, or the caller of this number.
+fn is_nobody_else(id: CallerId, found: Option<Caller>) -> bool
+    ensures value { result ≡ is_nobody_else id found }
+{
+    match found {
+        Some(there) => there.id == id,
+        None => true,
+    }
+}
+
+/// Whether there is nobody, or a rider of this kind.
+fn is_nobody_of_another_kind(kind: Residence, found: Option<Rider>) -> bool
+    ensures value { result ≡ is_nobody_of_another_kind kind found }
+{
+    match found {
+        Some(there) => there.kind == kind,
+        None => true,
+    }
+}
+
+/// The first rule by which an entry is denied.
+fn entry_denial(
+    facts: &WriteFacts,
+    me: &Caller,
+    now: (Day, Minute),
+    rider: RiderId,
+    entry: &Entry,
+) -> Option<Rule>
+    ensures value { result ≡ first_failing (rules_of (Enter rider entry.now) me.now now facts.now) }
+{
+    if !may_enter(me.role, rider, &facts.rider, entry) {
+        return Some(Rule::Caller);
+    }
+    let Some(there) = &facts.rider else {
+        return Some(Rule::Unknown);
+    };
+    if facts.file.is_full() {
+        return Some(Rule::Full);
+    }
+    facts.file.admits(there, entry, now.0, me.id, &[], &facts.policy)
+}
+
+/// The first rule by which a write with a new number is denied to the caller at the moment `now`; `None` where it is accepted.
+pub fn denial(
+    facts: &WriteFacts,
+    me: &Caller,
+    now: (Day, Minute),
+    write: &Write,
+) -> Option<Rule>
+    ensures value { result ≡ first_failing (rules_of write.now me.now now facts.now) }
+{
+    let is_admin = me.role.is_admin();
+    match write {
+        Write::PutCaller(new) => first_failing(&[
+            (Rule::Caller, is_admin),
+            (Rule::Unknown, subject_is_there(new.role, facts)),
+            (Rule::Exists, is_nobody_else(new.id, facts.holder)),
+            (
+                Rule::Full,
+                facts.caller.is_some() || facts.caller_count < MOST_CALLERS,
+            ),
+        ]),
+        Write::PutPolicy(_) => first_failing(&[(Rule::Caller, is_admin)]),
+        Write::PutPlace(_) => first_failing(&[
+            (Rule::Caller, is_admin),
+            (Rule::Exists, !facts.has_place),
+            (Rule::Full, facts.place_count < MOST_PLACES),
+        ]),
+        Write::PutRoute(_) => first_failing(&[
+            (Rule::Caller, is_admin),
+            (
+                Rule::Full,
+                facts.has_route || facts.route_count < MOST_ROUTES,
+            ),
+        ]),
+        Write::PutRider(new) => first_failing(&[
+            (Rule::Caller, me.role.is_clerk()),
+            (
+                Rule::Exists,
+                is_nobody_of_another_kind(new.kind, facts.rider),
+            ),
+            (
+                Rule::Full,
+                facts.rider.is_some() || facts.rider_count < MOST_RIDERS,
+            ),
+        ]),
+        Write::Enter { rider, entry } => entry_denial(facts, me, now, *rider, entry),
+    }
+}

@@ -1,0 +1,21 @@
+//! What the desk keeps, what may be asked of it, and what the rules make of each request, with no store in sight.
+#![tactic(auto)]
+
+pub use caller::{Caller, Digest, Kept, Role};
+pub use change::{Change, FiledEntry};
+pub use deciding::{Decision, decide};
+pub use denying::denial;
+pub use facts::{ReadFacts, WriteFacts};
+pub use limits::{MOST_CALLERS, MOST_PLACES, MOST_RIDERS, MOST_ROUTES};
+pub use request::{Answer, Read, Request, Write};
+pub use telling::tell;
+
+mod caller;
+mod change;
+mod deciding;
+mod denying;
+mod facts;
+mod limits;
+mod permission;
+mod request;
+mod telling;

@@ -1,0 +1,154 @@
+ghost use Rattle.std.specs.Prelude.{◌≡◌, ℕ, ◌+◌, ◌<◌, ◌≤◌, [], ◌∷◌, ◌++◌, length, MatchResult, IfOk, OnOk, vec_len, vec_capacity, insert, slice_set};
+ghost use Rattle.std.specs.Option.{option_copied};
+ghost use Rattle.pt_records.specs.Records.{put, put_all, take_away, take_all, edited, record_at, within};
+
+use crate::{Key, Keyed, Rows, Span};
+use std::alloc::{AllocError, Global};
+use std::cmp::Ordering;
+use std::marker::Model;
+
+/// What is taken away from a table, and then what is put into it.
+#[derive(Debug, Drop)]
+pub struct Edits<T> {
+    away: Vec<Span>,
+    puts: Vec<T>,
+}
+
+impl<T> Model for Edits<T> {
+    ghost use Rattle.pt_records.specs.Records.{Edit};
+
+    ghost Value = { Edit T };
+
+    ghost view = { λ edits. record { away = edits.away.items; puts = edits.puts.items } };
+}
+
+impl<T: Keyed> Edits<T> {
+    /// Nothing.
+    pub fn none(alloc: Global) -> Self
+        ensures value { result ≡ record { away = []; puts = [] } }
+    {
+        Edits {
+            away: Vec::new(alloc),
+            puts: Vec::new(alloc),
+        }
+    }
+
+    /// One record more to put.
+    pub fn put(&mut self, new: T) -> Result<(), AllocError>
+        ensures value { OnOk result (self.new ≡ record { away = self.old.away; puts = self.old.puts ++ new ∷ [] }) }
+    {
+        Ok(self.puts.push(new)?)
+    }
+
+    /// All records with these keys to take away.
+    pub fn take_away(&mut self, span: Span) -> Result<(), AllocError>
+        ensures value { OnOk result (self.new ≡ record { away = self.old.away ++ span ∷ []; puts = self.old.puts }) }
+    {
+        Ok(self.away.push(span)?)
+    }
+
+    /// How many records are put.
+    pub fn put_count(&self) -> usize
+        ensures value { result ≡ length self.now.puts }
+    {
+        self.puts.len()
+    }
+}
+
+/// Where the record belongs: in place of the one that is there, or before it.
+fn place_for<T: Keyed>(records: &[T], added: &T) -> Result<usize, usize>
+    ensures { MatchResult result
+        (λ at. (at < length records.now) × (slice_set records.now at added.now ≡ put T.key added.now records.now))
+        (λ at. (at ≤ length records.now) × (insert records.now at added.now ≡ put T.key added.now records.now)) }
+{
+    let key = added.key();
+    for (at, there) in records.iter().enumerate() {
+        match there.key().compare(&key) {
+            Ordering::Less => {}
+            Ordering::Equal => return Ok(at),
+            Ordering::Greater => return Err(at),
+        }
+    }
+    Err(records.len())
+}
+
+/// Puts a record in its place, where there is room for one more.
+fn put_record<T: Keyed>(records: &mut Vec<T>, added: T)
+    requires { vec_len records.old < vec_capacity records.old }
+    ensures items { records.new.items ≡ put T.key added records.old.items }
+    ensures len { vec_len records.new ≤ vec_len records.old + 1 }
+    ensures capacity { vec_capacity records.old ≤ vec_capacity records.new }
+{
+    match place_for(records, &added) {
+        Ok(at) => records[at] = added,
+        Err(at) => {
+            let _ = records.insert(at, added);
+        }
+    }
+}
+
+fn put_records<T: Keyed>(records: &mut Vec<T>, news: Vec<T>)
+    requires { vec_len records.old + length news.items ≤ vec_capacity records.old }
+    ensures { records.new.items ≡ put_all T.key news.items records.old.items }
+{
+    for new in news {
+        put_record(records, new);
+    }
+}
+
+fn take_span<T: Keyed>(records: &mut Vec<T>, span: &Span)
+    ensures items { records.new.items ≡ take_away T.key span.now records.old.items }
+    ensures len { vec_len records.new ≤ vec_len records.old }
+    ensures capacity { vec_capacity records.old ≤ vec_capacity records.new }
+{
+    records.retain(|there| !span.has(&there.key()));
+}
+
+fn take_spans<T: Keyed>(records: &mut Vec<T>, spans: &[Span])
+    ensures items { records.new.items ≡ take_all T.key spans.now records.old.items }
+    ensures len { vec_len records.new ≤ vec_len records.old }
+    ensures capacity { vec_capacity records.old ≤ vec_capacity records.new }
+{
+    for span in spans {
+        take_span(records, span);
+    }
+}
+
+/// Makes the edit, where there is room for what it puts.
+pub fn edit<T: Keyed>(records: &mut Vec<T>, edits: Edits<T>)
+    requires { vec_len records.old + length edits.puts ≤ vec_capacity records.old }
+    ensures { records.new.items ≡ edited T.key edits records.old.items }
+{
+    let Edits { away, puts } = edits;
+    take_spans(records, &away);
+    put_records(records, puts);
+}
+
+/// The record with this key.
+pub fn find_record<'a, T: Keyed>(records: &'a [T], key: &Key) -> Option<&'a T>
+    ensures { option_copied result ≡ record_at T.key key.now records.now }
+{
+    for there in records {
+        if there.key().compare(key) == Ordering::Equal {
+            return Some(there);
+        }
+    }
+    None
+}
+
+/// The records with these keys.
+pub fn find_within<T: Keyed + Copy>(
+    alloc: Global,
+    records: &[T],
+    span: &Span,
+) -> Result<Rows<T>, AllocError>
+    ensures { IfOk result (λ rows. rows ≡ within T.key span.now records.now) }
+{
+    let mut found = Vec::new(alloc);
+    for there in records {
+        if span.has(&there.key()) {
+            found.push(*there)?;
+        }
+    }
+    Ok(Rows::of(found))
+}

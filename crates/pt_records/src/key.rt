@@ -1,0 +1,63 @@
+ghost use Rattle.std.specs.Prelude.{◌≡◌};
+ghost use Rattle.std.specs.Ordering.{nat_cmp};
+ghost use Rattle.pt_records.specs.Keys.{pair_key};
+
+use std::cmp::Ordering;
+use std::marker::Model;
+
+/// One or two numbers that a record is known by, in the order of the first and then of the second.
+///
+/// A contract sees it as one number of that order; nothing is packed when the program runs.
+#[derive(Debug, Drop)]
+pub struct Key {
+    first: u32,
+    second: u32,
+}
+
+impl Model for Key {
+    ghost use Rattle.std.specs.Prelude.{ℕ};
+    ghost use Rattle.pt_records.specs.Keys.{pair_key};
+
+    ghost Value = { ℕ };
+
+    ghost view = { λ key. pair_key key.first key.second };
+}
+
+impl Key {
+    /// The key of a record with one number.
+    pub fn of(number: u32) -> Self
+        ensures value { result ≡ number }
+    {
+        Key {
+            first: 0,
+            second: number,
+        }
+    }
+
+    /// The key of a record with two numbers.
+    pub fn pair(first: u32, second: u32) -> Self
+        ensures value { result ≡ pair_key first second }
+    {
+        Key { first, second }
+    }
+
+    /// How the two keys stand.
+    pub fn compare(&self, other: &Key) -> Ordering
+        ensures value { result ≡ nat_cmp self.now other.now }
+    {
+        let (second, other_second) = (self.second, other.second);
+        if self.first < other.first {
+            return Ordering::Less;
+        }
+        if other.first < self.first {
+            return Ordering::Greater;
+        }
+        if second < other_second {
+            return Ordering::Less;
+        }
+        if other_second < second {
+            return Ordering::Greater;
+        }
+        Ordering::Equal
+    }
+}

@@ -1,0 +1,37 @@
+use crate::{Key, Keyed};
+use pt_base::{Place, Rider, Vehicle};
+use pt_corridor::FixedRoute;
+
+impl Keyed for Place {
+    ghost key = { λ place. place.id };
+
+    fn key(&self) -> Key {
+        Key::of(self.id.number())
+    }
+}
+
+impl Keyed for Rider {
+    ghost key = { λ rider. rider.id };
+
+    fn key(&self) -> Key {
+        Key::of(self.id.number())
+    }
+}
+
+impl Keyed for FixedRoute {
+    ghost key = { λ route. route.id };
+
+    fn key(&self) -> Key {
+        Key::of(self.id().number())
+    }
+}
+
+impl Keyed for Vehicle {
+    ghost use Rattle.pt_records.specs.Keys.{pair_key};
+
+    ghost key = { λ vehicle. pair_key vehicle.id vehicle.from_day };
+
+    fn key(&self) -> Key {
+        Key::pair(self.id.number(), self.from_day.number())
+    }
+}
