@@ -26,7 +26,7 @@ use Rattle.pt_http_request.specs.declared.fault.MessageFault.TheVariants.{Refuse
 use Rattle.pt_http_request.specs.declared.targets.Path.{Path}
 use Rattle.pt_http_request.specs.declared.targets.Target.{Target}
 use Rattle.pt_http_request.specs.declared.targets.Target.TheVariants as target
-use Rattle.pt_http_request.specs.Messages.{IsRequestFault, IsPostFault}
+use Rattle.pt_http_request.specs.Messages.{IsRequestFault}
 use Rattle.pt_http.specs.Received.{IsSpelledBy, BeginsWith}
 use Rattle.pt_http.specs.declared.received.Received.{Received}
 use Rattle.pt_http.specs.declared.received.Received.TheVariants as received
@@ -131,31 +131,15 @@ pub refused_by : (routes : RowsOf (RouteOf Path)) (method whole : List ℕ) (lin
 refused_by routes method whole lines body error why is routed refused = rw (is, routed) at refused
 
 -- a message that has its parts is not refused for its head or its length
-no_post_head : (asked : Target) (method : List ℕ) (lines : List (List ℕ × List ℕ)) (body : List ℕ) → ¬ (IsPostFault asked method lines body fault.Head)
-no_post_head asked method lines body (inl (is, not)) = absurd (cc (is))
-no_post_head asked method lines body (inr (post, none)) = none
-
-no_post_length : (asked : Target) (method : List ℕ) (lines : List (List ℕ × List ℕ)) (body : List ℕ) → ¬ (IsPostFault asked method lines body fault.Length)
-no_post_length asked method lines body (inl (is, not)) = absurd (cc (is))
-no_post_length asked method lines body (inr (post, none)) = none
-
 no_asked_head : (asked : Target) (method : List ℕ) (lines : List (List ℕ × List ℕ)) (body : List ℕ) → ¬ (IsRequestFault asked method lines body fault.Head)
-no_asked_head (target.Standing id number) method lines body refused = refused
-no_asked_head target.Callers method lines body refused = no_post_head target.Callers method lines body refused
-no_asked_head target.Riders method lines body refused = no_post_head target.Riders method lines body refused
-no_asked_head target.Policy method lines body refused = no_post_head target.Policy method lines body refused
-no_asked_head target.Places method lines body refused = no_post_head target.Places method lines body refused
-no_asked_head target.Routes method lines body refused = no_post_head target.Routes method lines body refused
-no_asked_head (target.Entries id) method lines body refused = no_post_head (target.Entries id) method lines body refused
+no_asked_head (target.Read asked) method lines body refused = refused
+no_asked_head (target.Write asked) method lines body (inl (is, not)) = absurd (cc (is))
+no_asked_head (target.Write asked) method lines body (inr (post, none)) = none
 
 no_asked_length : (asked : Target) (method : List ℕ) (lines : List (List ℕ × List ℕ)) (body : List ℕ) → ¬ (IsRequestFault asked method lines body fault.Length)
-no_asked_length (target.Standing id number) method lines body refused = refused
-no_asked_length target.Callers method lines body refused = no_post_length target.Callers method lines body refused
-no_asked_length target.Riders method lines body refused = no_post_length target.Riders method lines body refused
-no_asked_length target.Policy method lines body refused = no_post_length target.Policy method lines body refused
-no_asked_length target.Places method lines body refused = no_post_length target.Places method lines body refused
-no_asked_length target.Routes method lines body refused = no_post_length target.Routes method lines body refused
-no_asked_length (target.Entries id) method lines body refused = no_post_length (target.Entries id) method lines body refused
+no_asked_length (target.Read asked) method lines body refused = refused
+no_asked_length (target.Write asked) method lines body (inl (is, not)) = absurd (cc (is))
+no_asked_length (target.Write asked) method lines body (inr (post, none)) = none
 
 head_is_no_fault : (method whole : List ℕ) (lines : List (List ℕ × List ℕ)) (body : List ℕ) → ¬ (IsMessageFault desk_routes method whole lines body fault.Head)
 head_is_no_fault method whole lines body (inl (is, none)) = absurd (cc (is))

@@ -44,12 +44,12 @@ stops remaining input old now before after inbox stands =
 abbrev pub one_more : ℕ → ℕ → Response → List ℕ → Exchanged
 one_more day minute reply text = record { day = day; minute = minute; reply = reply; text = text }
 
-pub step_of : (shut day minute : ℕ) (left between rest text : List ℕ) (now new : Desk) (reply : Response) → shut ≡ 0 → BeginsWithMoment left day minute between → Exchanges shut day between now new reply rest → IsReplyText reply text
+pub step_of : (shut day minute : ℕ) (left between rest text : List ℕ) (now new : Desk) (reply : Response) → shut ≡ 0 → BeginsWithMoment left day minute between → Exchanges shut (day, minute) between now new reply rest → IsReplyText reply text
     → IsStep (one_more day minute reply text) left now rest new
 step_of shut day minute left between rest text now new reply whole moment exchanged replied = record {
   after = between;
   moment = moment;
-  exchanged = subst (λ n. Exchanges n day between now new reply rest) whole exchanged;
+  exchanged = subst (λ n. Exchanges n (day, minute) between now new reply rest) whole exchanged;
   replied = replied;
 }
 

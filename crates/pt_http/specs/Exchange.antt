@@ -4,12 +4,12 @@ use Rattle.pt_base.specs.Fault.{fault}
 use Rattle.pt_base.specs.declared.fault.Fault.{Fault}
 use Rattle.pt_base.specs.declared.fault.TheConstants.{MEMORY, READ_FAILED}
 use Rattle.pt_base.specs.declared.rule.Rule.TheVariants.{Key}
-use Rattle.pt_desk.specs.Answering.{Answers}
-use Rattle.pt_desk.specs.Outcome.{Fails}
-use Rattle.pt_desk.specs.State.{State}
+use Rattle.pt_desk.specs.Store.{Store, Tells, Fails}
+use Rattle.pt_desk_rules.specs.State.{State}
+use Rattle.pt_desk_rules.specs.Step.{answer_to, leaves}
 use Rattle.pt_desk.specs.declared.keeper.StoreFault.{StoreFault}
-use Rattle.pt_desk.specs.declared.request.Answer.{Answer}
-use Rattle.pt_desk.specs.declared.request.Answer.TheVariants.{Denied}
+use Rattle.pt_desk_rules.specs.declared.request.Answer.{Answer}
+use Rattle.pt_desk_rules.specs.declared.request.Answer.TheVariants.{Denied}
 use Rattle.pt_http_reply.specs.declared.response.Response.{Response}
 use Rattle.pt_http_reply.specs.declared.response.Response.TheVariants as response
 use Rattle.pt_http_request.specs.declared.message.Message.{Message}
@@ -24,31 +24,36 @@ pub record Desk : Type 0 where
   pub content : State
   pub failures : ℕ
 
--- a message with this key is answered by the rules; one with no key is denied, whoever the callers are, and changes nothing
-abbrev pub AnswersWith : Option (List ℕ) → ℕ → ℕ → Message → Desk → Desk → Result Answer StoreFault → Type 0
-AnswersWith (Some key) shut today message old new told =
-    Answers shut key today message.number message.request old.content new.content told × Fails old.failures new.failures told
-AnswersWith None shut today message old new told = (told ≡ Ok (Denied Key)) × (new ≡ old)
+abbrev pub desk_of : Store → Desk
+desk_of store = record { content = store.content; failures = store.failures }
 
--- the message is answered so on the day today
-abbrev pub AnswersMessage : ℕ → ℕ → Message → Desk → Desk → Result Answer StoreFault → Type 0
-AnswersMessage shut today message old new told =
-    AnswersWith (option_map (λ key. key.items) message.key) shut today message old new told
+-- a message with this key is answered by the rules; one with no key is denied, whoever the callers are, and changes nothing
+abbrev pub AnswersWith : Option (List ℕ) → ℕ → (ℕ × ℕ) → Message → Desk → Desk → Result Answer StoreFault → Type 0
+AnswersWith (Some key) shut now message old new told =
+    Tells shut old.content new.content (answer_to key now message.number message.request old.content)
+    (leaves key now message.number message.request old.content) told
+    × Fails old.failures new.failures told
+AnswersWith None shut now message old new told = (told ≡ Ok (Denied Key)) × (new ≡ old)
+
+-- the message is answered so at this moment
+abbrev pub AnswersMessage : ℕ → (ℕ × ℕ) → Message → Desk → Desk → Result Answer StoreFault → Type 0
+AnswersMessage shut now message old new told =
+    AnswersWith (option_map (λ key. key.items) message.key) shut now message old new told
 
 -- the reply to what begins the bytes, and what it leaves: a message is answered, and a fault changes nothing
-abbrev pub Exchanges : ℕ → ℕ → List ℕ → Desk → Desk → Response → List ℕ → Type 0
-Exchanges shut today bytes old new (response.Answered told) rest =
-    (message : Message) × BeginsWithMessage bytes message rest × AnswersMessage shut today message old new told
-Exchanges shut today bytes old new (response.Refused why) rest = BeginsWithFault bytes why rest × (new ≡ old)
+abbrev pub Exchanges : ℕ → (ℕ × ℕ) → List ℕ → Desk → Desk → Response → List ℕ → Type 0
+Exchanges shut now bytes old new (response.Answered told) rest =
+    (message : Message) × BeginsWithMessage bytes message rest × AnswersMessage shut now message old new told
+Exchanges shut now bytes old new (response.Refused why) rest = BeginsWithFault bytes why rest × (new ≡ old)
 
 -- memory was refused, or a read failed or was one too many: nothing was answered
 abbrev pub IsUnanswered : Fault → Type 0
 IsUnanswered error = (error ≡ fault MEMORY) ⊎ (error ≡ fault READ_FAILED)
 
 -- what begins the input is answered so, and the inbox has what comes after it
-abbrev pub IsExchanged : {R : Type 0} → (R → Option (List ℕ)) → ℕ → ℕ → List ℕ → Desk → Desk → Inbox R → Response → Type 0
-IsExchanged remaining shut today input old new inbox reply =
-    (rest : List ℕ) × HasInput remaining inbox rest × Exchanges shut today input old new reply rest
+abbrev pub IsExchanged : {R : Type 0} → (R → Option (List ℕ)) → ℕ → (ℕ × ℕ) → List ℕ → Desk → Desk → Inbox R → Response → Type 0
+IsExchanged remaining shut now input old new inbox reply =
+    (rest : List ℕ) × HasInput remaining inbox rest × Exchanges shut now input old new reply rest
 
 -- the bytes of the reply come to the end of what was written
 abbrev pub IsWritten : Response → Option (List ℕ) → Option (List ℕ) → Type 0

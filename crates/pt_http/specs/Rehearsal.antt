@@ -27,7 +27,7 @@ is_last _ = false
 pub record IsStep (one : Exchanged) (bytes : List ℕ) (old : Desk) (rest : List ℕ) (new : Desk) : Type 0 where
   pub after : List ℕ
   pub moment : BeginsWithMoment bytes one.day one.minute after
-  pub exchanged : Exchanges 0 one.day after old new one.reply rest
+  pub exchanged : Exchanges 0 (one.day, one.minute) after old new one.reply rest
   pub replied : IsReplyText one.reply one.text
 
 -- the desk goes through these messages at the front of the bytes, writes these bytes in reply, and comes to this rest and this state

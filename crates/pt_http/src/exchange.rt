@@ -1,7 +1,8 @@
 ghost use Rattle.std.specs.Prelude.{◌≡◌, ◌⊎◌, ℕ, ◌≤◌, List, Err, IfOk, IfErr, OnOk};
 ghost use Rattle.pt_base.specs.Fault.{fault};
 ghost use Rattle.pt_base.specs.declared.fault.TheConstants.{WRITE_FAILED};
-ghost use Rattle.pt_http.specs.Exchange.{Desk, IsExchanged, IsWritten, IsUnanswered};
+ghost use Rattle.pt_http.specs.Exchange.{Desk, desk_of, IsExchanged, IsWritten, IsUnanswered};
+ghost use Rattle.pt_desk.specs.Store.{Store, IsSettled};
 ghost use Rattle.pt_http.specs.Input.{HasInput};
 ghost use Rattle.pt_http.specs.Received.{Responds};
 ghost use Rattle.pt_http_reply.specs.Response.{IsReplyText};
@@ -26,10 +27,11 @@ fn respond<K: Keeper>(
     now: (Day, Minute),
     received: &Received,
 ) -> Response
-    ensures responds { K.doubt keeper.new ≡ 0
-        → Responds (K.shut keeper.new) now.0 received.now (record { content = K.content keeper.old; failures = K.failures keeper.old }) (record { content = K.content keeper.new; failures = K.failures keeper.new }) result }
-    ensures clean { K.doubt keeper.old ≤ K.doubt keeper.new }
-    ensures serves { K.shut keeper.old ≤ K.shut keeper.new }
+    ensures responds { (K.store keeper.new).doubt ≡ 0
+        → Responds (K.store keeper.new).shut now received.now (desk_of (K.store keeper.old)) (desk_of (K.store keeper.new)) result }
+    ensures clean { (K.store keeper.old).doubt ≤ (K.store keeper.new).doubt }
+    ensures serves { (K.store keeper.old).shut ≤ (K.store keeper.new).shut }
+    ensures settled { IsSettled (K.store keeper.old) → IsSettled (K.store keeper.new) }
 {
     match received {
         Received::Refused(fault) => Response::Refused(*fault),
@@ -67,15 +69,16 @@ pub(crate) fn exchange<K: Keeper, R: Read + Drop, W: Write>(
     out: &mut W,
 ) -> Result<Response, Fault>
     requires { router.now ≡ desk_routes }
-    ensures answered { K.doubt keeper.new ≡ 0 → (input : List ℕ) → HasInput R.remaining inbox.old input
-        → IfOk result (λ reply. IsExchanged R.remaining (K.shut keeper.new) now.0 input (record { content = K.content keeper.old; failures = K.failures keeper.old }) (record { content = K.content keeper.new; failures = K.failures keeper.new }) inbox.new reply) }
+    ensures answered { (K.store keeper.new).doubt ≡ 0 → (input : List ℕ) → HasInput R.remaining inbox.old input
+        → IfOk result (λ reply. IsExchanged R.remaining (K.store keeper.new).shut now input (desk_of (K.store keeper.old)) (desk_of (K.store keeper.new)) inbox.new reply) }
     ensures written { IfOk result (λ reply. IsWritten reply (W.contents out.old) (W.contents out.new)) }
-    ensures unheard { K.doubt keeper.new ≡ 0 → (input : List ℕ) → HasInput R.remaining inbox.old input → result ≡ Err (fault WRITE_FAILED)
-        → (reply : Response) × IsExchanged R.remaining (K.shut keeper.new) now.0 input (record { content = K.content keeper.old; failures = K.failures keeper.old }) (record { content = K.content keeper.new; failures = K.failures keeper.new }) inbox.new reply × ((text : List ℕ) × IsReplyText reply text) }
+    ensures unheard { (K.store keeper.new).doubt ≡ 0 → (input : List ℕ) → HasInput R.remaining inbox.old input → result ≡ Err (fault WRITE_FAILED)
+        → (reply : Response) × IsExchanged R.remaining (K.store keeper.new).shut now input (desk_of (K.store keeper.old)) (desk_of (K.store keeper.new)) inbox.new reply × ((text : List ℕ) × IsReplyText reply text) }
     ensures unanswered { IfErr result (λ error. IsUnanswered error → (keeper.new ≡ keeper.old) × (out.new ≡ out.old)) }
     ensures fault { IfErr result (λ error. IsUnanswered error ⊎ (error ≡ fault WRITE_FAILED)) }
-    ensures clean { K.doubt keeper.old ≤ K.doubt keeper.new }
-    ensures serves { K.shut keeper.old ≤ K.shut keeper.new }
+    ensures clean { (K.store keeper.old).doubt ≤ (K.store keeper.new).doubt }
+    ensures serves { (K.store keeper.old).shut ≤ (K.store keeper.new).shut }
+    ensures settled { IsSettled (K.store keeper.old) → IsSettled (K.store keeper.new) }
 {
     let received = receive(alloc, router, inbox)?;
     let response = respond(alloc, keeper, now, &received);
@@ -94,16 +97,17 @@ pub fn answer_bytes<K: Keeper, R: Read + Drop, W: Write>(
     inbox: &mut Inbox<R>,
     out: &mut W,
 ) -> Result<(), Fault>
-    ensures answered { K.doubt keeper.new ≡ 0 → (input : List ℕ) → HasInput R.remaining inbox.old input
-        → OnOk result ((reply : Response) × IsExchanged R.remaining (K.shut keeper.new) now.0 input (record { content = K.content keeper.old; failures = K.failures keeper.old }) (record { content = K.content keeper.new; failures = K.failures keeper.new }) inbox.new reply
+    ensures answered { (K.store keeper.new).doubt ≡ 0 → (input : List ℕ) → HasInput R.remaining inbox.old input
+        → OnOk result ((reply : Response) × IsExchanged R.remaining (K.store keeper.new).shut now input (desk_of (K.store keeper.old)) (desk_of (K.store keeper.new)) inbox.new reply
         × IsWritten reply (W.contents out.old) (W.contents out.new)) }
     // The reply was not wholly written, but the request is answered.
-    ensures unheard { K.doubt keeper.new ≡ 0 → (input : List ℕ) → HasInput R.remaining inbox.old input → result ≡ Err (fault WRITE_FAILED)
-        → (reply : Response) × IsExchanged R.remaining (K.shut keeper.new) now.0 input (record { content = K.content keeper.old; failures = K.failures keeper.old }) (record { content = K.content keeper.new; failures = K.failures keeper.new }) inbox.new reply }
+    ensures unheard { (K.store keeper.new).doubt ≡ 0 → (input : List ℕ) → HasInput R.remaining inbox.old input → result ≡ Err (fault WRITE_FAILED)
+        → (reply : Response) × IsExchanged R.remaining (K.store keeper.new).shut now input (desk_of (K.store keeper.old)) (desk_of (K.store keeper.new)) inbox.new reply }
     ensures unanswered { IfErr result (λ error. IsUnanswered error → (keeper.new ≡ keeper.old) × (out.new ≡ out.old)) }
     ensures fault { IfErr result (λ error. IsUnanswered error ⊎ (error ≡ fault WRITE_FAILED)) }
-    ensures clean { K.doubt keeper.old ≤ K.doubt keeper.new }
-    ensures serves { K.shut keeper.old ≤ K.shut keeper.new }
+    ensures clean { (K.store keeper.old).doubt ≤ (K.store keeper.new).doubt }
+    ensures serves { (K.store keeper.old).shut ≤ (K.store keeper.new).shut }
+    ensures settled { IsSettled (K.store keeper.old) → IsSettled (K.store keeper.new) }
 {
     let Ok(router) = desk_router(alloc) else {
         return Err(Fault::of(MEMORY));

@@ -2,7 +2,8 @@ ghost use Rattle.std.specs.Prelude.{◌≡◌, ◌≢◌, ◌⊎◌, ℕ, ◌≤
 ghost use Rattle.std.specs.Io.KnownBytes.{Appends};
 ghost use Rattle.pt_base.specs.Fault.{fault};
 ghost use Rattle.pt_base.specs.declared.fault.TheConstants.{READ_FAILED, WRITE_FAILED, MOMENT_LINE};
-ghost use Rattle.pt_http.specs.Exchange.{Desk, IsUnanswered};
+ghost use Rattle.pt_http.specs.Exchange.{Desk, desk_of, IsUnanswered};
+ghost use Rattle.pt_desk.specs.Store.{Store, IsSettled};
 ghost use Rattle.pt_http.specs.Input.{HasInput};
 ghost use Rattle.pt_http.specs.Moments.{IsNext};
 ghost use Rattle.pt_http_request.specs.Targets.{desk_routes};
@@ -60,19 +61,20 @@ fn go_through<K: Keeper, R: Read + Drop, W: Write>(
     out: &mut W,
 ) -> Result<(), Fault>
     requires { router.now ≡ desk_routes }
-    ensures finished { K.doubt keeper.new ≡ 0 → K.shut keeper.new ≡ 0 → (input : List ℕ) → HasInput R.remaining inbox.old input
+    ensures finished { (K.store keeper.new).doubt ≡ 0 → (K.store keeper.new).shut ≡ 0 → (input : List ℕ) → HasInput R.remaining inbox.old input
         → OnOk result ((messages : List Exchanged) × (written : List ℕ) × (rest : List ℕ)
-        × Rehearses messages input (record { content = K.content keeper.old; failures = K.failures keeper.old }) written rest (record { content = K.content keeper.new; failures = K.failures keeper.new })
+        × Rehearses messages input (desk_of (K.store keeper.old)) written rest (desk_of (K.store keeper.new))
         × Appends (W.contents out.old) (W.contents out.new) written × IsFinished messages rest) }
     // Else it stands after the last message that was answered, whose reply may not be wholly written.
-    ensures stopped { K.doubt keeper.new ≡ 0 → K.shut keeper.new ≡ 0 → (input : List ℕ) → HasInput R.remaining inbox.old input
+    ensures stopped { (K.store keeper.new).doubt ≡ 0 → (K.store keeper.new).shut ≡ 0 → (input : List ℕ) → HasInput R.remaining inbox.old input
         → IfErr result (λ error. (messages : List Exchanged) × (written : List ℕ) × (rest : List ℕ)
-        × Rehearses messages input (record { content = K.content keeper.old; failures = K.failures keeper.old }) written rest (record { content = K.content keeper.new; failures = K.failures keeper.new })
+        × Rehearses messages input (desk_of (K.store keeper.old)) written rest (desk_of (K.store keeper.new))
         × (error ≢ fault WRITE_FAILED → Appends (W.contents out.old) (W.contents out.new) written)
         × (error ≡ fault MOMENT_LINE → HasNoMoment rest)) }
     ensures fault { IfErr result IsRehearsalFault }
-    ensures clean { K.doubt keeper.old ≤ K.doubt keeper.new }
-    ensures serves { K.shut keeper.old ≤ K.shut keeper.new }
+    ensures clean { (K.store keeper.old).doubt ≤ (K.store keeper.new).doubt }
+    ensures serves { (K.store keeper.old).shut ≤ (K.store keeper.new).shut }
+    ensures settled { IsSettled (K.store keeper.old) → IsSettled (K.store keeper.new) }
 {
     for _ in 0..MOST_MESSAGES {
         let Some(now) = next_moment(inbox)? else {
@@ -99,19 +101,20 @@ pub fn rehearse<K: Keeper, R: Read + Drop, W: Write>(
     inbox: &mut Inbox<R>,
     out: &mut W,
 ) -> Result<(), Fault>
-    ensures finished { K.doubt keeper.new ≡ 0 → K.shut keeper.new ≡ 0 → (input : List ℕ) → HasInput R.remaining inbox.old input
+    ensures finished { (K.store keeper.new).doubt ≡ 0 → (K.store keeper.new).shut ≡ 0 → (input : List ℕ) → HasInput R.remaining inbox.old input
         → OnOk result ((messages : List Exchanged) × (written : List ℕ) × (rest : List ℕ)
-        × Rehearses messages input (record { content = K.content keeper.old; failures = K.failures keeper.old }) written rest (record { content = K.content keeper.new; failures = K.failures keeper.new })
+        × Rehearses messages input (desk_of (K.store keeper.old)) written rest (desk_of (K.store keeper.new))
         × Appends (W.contents out.old) (W.contents out.new) written × IsFinished messages rest) }
     // Else it stands after the last message that was answered, whose reply may not be wholly written.
-    ensures stopped { K.doubt keeper.new ≡ 0 → K.shut keeper.new ≡ 0 → (input : List ℕ) → HasInput R.remaining inbox.old input
+    ensures stopped { (K.store keeper.new).doubt ≡ 0 → (K.store keeper.new).shut ≡ 0 → (input : List ℕ) → HasInput R.remaining inbox.old input
         → IfErr result (λ error. (messages : List Exchanged) × (written : List ℕ) × (rest : List ℕ)
-        × Rehearses messages input (record { content = K.content keeper.old; failures = K.failures keeper.old }) written rest (record { content = K.content keeper.new; failures = K.failures keeper.new })
+        × Rehearses messages input (desk_of (K.store keeper.old)) written rest (desk_of (K.store keeper.new))
         × (error ≢ fault WRITE_FAILED → Appends (W.contents out.old) (W.contents out.new) written)
         × (error ≡ fault MOMENT_LINE → HasNoMoment rest)) }
     ensures fault { IfErr result IsRehearsalFault }
-    ensures clean { K.doubt keeper.old ≤ K.doubt keeper.new }
-    ensures serves { K.shut keeper.old ≤ K.shut keeper.new }
+    ensures clean { (K.store keeper.old).doubt ≤ (K.store keeper.new).doubt }
+    ensures serves { (K.store keeper.old).shut ≤ (K.store keeper.new).shut }
+    ensures settled { IsSettled (K.store keeper.old) → IsSettled (K.store keeper.new) }
 {
     let Ok(router) = desk_router(alloc) else {
         return Err(Fault::of(MEMORY));

@@ -2,8 +2,8 @@
 use Rattle.std.proofs.Common.{◌≡◌, List, ℕ, Ok, Err, pos, sym, ap, ◌∙◌}
 use Rattle.pt_rights.specs.declared.case_file.Standing.{Standing}
 use Rattle.pt_rights.specs.declared.case_file.Standing.TheVariants as standing
-use Rattle.pt_desk.specs.declared.request.Answer.{Answer}
-use Rattle.pt_desk.specs.declared.request.Answer.TheVariants as answer
+use Rattle.pt_desk_rules.specs.declared.request.Answer.{Answer}
+use Rattle.pt_desk_rules.specs.declared.request.Answer.TheVariants as answer
 use Rattle.pt_http_reply.specs.Body.{IsUntil, IsUntilOfStanding}
 use Rattle.pt_http_reply.specs.Response.{IsReplyText, reply_text}
 use Rattle.pt_http_reply.specs.declared.response.Response.{Response}

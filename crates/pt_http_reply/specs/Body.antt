@@ -8,8 +8,8 @@ use Rattle.pt_rights.specs.declared.case_file.Standing.TheVariants as standing
 use Rattle.pt_rights.specs.declared.conditions.Condition.{Condition}
 use Rattle.pt_rights_texts.specs.Texts.{condition_text}
 use Rattle.pt_desk.specs.declared.keeper.StoreFault.TheVariants.{Memory, Store}
-use Rattle.pt_desk.specs.declared.request.Answer.{Answer}
-use Rattle.pt_desk.specs.declared.request.Answer.TheVariants as answer
+use Rattle.pt_desk_rules.specs.declared.request.Answer.{Answer}
+use Rattle.pt_desk_rules.specs.declared.request.Answer.TheVariants as answer
 use Rattle.pt_http_reply.specs.Fault.{fault_name, field_name}
 use Rattle.pt_http_reply.specs.declared.fault.RequestFault.{RequestFault}
 use Rattle.pt_http_reply.specs.declared.fault.RequestFault.TheVariants as fault

@@ -1,7 +1,7 @@
 -- Replies in bytes, as HTTP/1.1 messages (RFC 9112).
 use Rattle.std.specs.Prelude.{◌≡◌, ℕ, List, [], ◌++◌, length, codes, decimal, Ok, Err}
 use Rattle.pt_base.specs.declared.rule.Rule.TheVariants.{Key}
-use Rattle.pt_desk.specs.declared.request.Answer.TheVariants as answer
+use Rattle.pt_desk_rules.specs.declared.request.Answer.TheVariants as answer
 use Rattle.pt_http_reply.specs.Body.{body_of, IsUntil}
 use Rattle.pt_http_reply.specs.Fault.{method_name, status_of_fault}
 use Rattle.pt_http_reply.specs.Status.{status_text, status_of_rule}

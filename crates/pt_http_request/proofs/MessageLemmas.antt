@@ -3,8 +3,11 @@ use Rattle.std.proofs.Common.{◌≡◌, ℕ, List, Option, Some, refl, ap, sym,
 use Rattle.std.specs.Prelude.{codes, Result, Ok, Err, IfOk, IfErr}
 use Rattle.matchit.specs.Router.{RouteOf}
 use Rattle.matchit.specs.Rows.{RowsOf}
-use Rattle.pt_desk.specs.declared.request.Request.{Request}
-use Rattle.pt_desk.specs.declared.request.Request.TheVariants as request
+use Rattle.pt_desk_rules.specs.declared.request.Read.{Read}
+use Rattle.pt_desk_rules.specs.declared.request.Read.TheVariants as read
+use Rattle.pt_desk_rules.specs.declared.request.Request.TheVariants as request
+use Rattle.pt_desk_rules.specs.declared.request.Write.{Write}
+use Rattle.pt_desk_rules.specs.declared.request.Write.TheVariants as write
 use Rattle.pt_http_reply.specs.declared.fault.FieldName.{FieldName}
 use Rattle.pt_http_reply.specs.declared.fault.RequestFault.{RequestFault}
 use Rattle.pt_http_reply.specs.declared.fault.RequestFault.TheVariants as fault
@@ -21,6 +24,8 @@ use Rattle.pt_http_request.specs.declared.targets.Path.{Path}
 use Rattle.pt_http_request.specs.declared.targets.Path.TheVariants as path
 use Rattle.pt_http_request.specs.declared.targets.Target.{Target}
 use Rattle.pt_http_request.specs.declared.targets.Target.TheVariants as target
+use Rattle.pt_http_request.specs.declared.targets.WriteTarget.{WriteTarget}
+use Rattle.pt_http_request.specs.declared.targets.WriteTarget.TheVariants as writes
 use Rattle.pt_http_request.proofs.EntryLemmas.{SpellsNumber-unique, SpellsDay-unique, SpellsEntry-unique, entry_or_fault, entry_fault-unique}
 use Rattle.pt_http_request.proofs.SettingsLemmas.{policy-same, place-same}
 use Rattle.pt_http_request.proofs.ListLemmas.{some-same, value-unique, error-unique, value-or-error}
@@ -29,28 +34,28 @@ use Rattle.pt_http_request.proofs.TargetLemmas.{IsTarget-route}
 -- ---- targets
 
 IsTarget-unique : (route : Path) (one two : Option (List ℕ)) (a b : Target) → IsTarget route one two a → IsTarget route one two b → a ≡ b
-IsTarget-unique path.Callers one two target.Callers target.Callers x y = refl
-IsTarget-unique path.Callers one two target.Callers b x y = absurd y
+IsTarget-unique path.Callers one two (target.Write writes.Callers) (target.Write writes.Callers) x y = refl
+IsTarget-unique path.Callers one two (target.Write writes.Callers) b x y = absurd y
 IsTarget-unique path.Callers one two a b x y = absurd x
-IsTarget-unique path.Policy one two target.Policy target.Policy x y = refl
-IsTarget-unique path.Policy one two target.Policy b x y = absurd y
+IsTarget-unique path.Policy one two (target.Write writes.Policy) (target.Write writes.Policy) x y = refl
+IsTarget-unique path.Policy one two (target.Write writes.Policy) b x y = absurd y
 IsTarget-unique path.Policy one two a b x y = absurd x
-IsTarget-unique path.Places one two target.Places target.Places x y = refl
-IsTarget-unique path.Places one two target.Places b x y = absurd y
+IsTarget-unique path.Places one two (target.Write writes.Places) (target.Write writes.Places) x y = refl
+IsTarget-unique path.Places one two (target.Write writes.Places) b x y = absurd y
 IsTarget-unique path.Places one two a b x y = absurd x
-IsTarget-unique path.Routes one two target.Routes target.Routes x y = refl
-IsTarget-unique path.Routes one two target.Routes b x y = absurd y
+IsTarget-unique path.Routes one two (target.Write writes.Routes) (target.Write writes.Routes) x y = refl
+IsTarget-unique path.Routes one two (target.Write writes.Routes) b x y = absurd y
 IsTarget-unique path.Routes one two a b x y = absurd x
-IsTarget-unique path.Riders one two target.Riders target.Riders x y = refl
-IsTarget-unique path.Riders one two target.Riders b x y = absurd y
+IsTarget-unique path.Riders one two (target.Write writes.Riders) (target.Write writes.Riders) x y = refl
+IsTarget-unique path.Riders one two (target.Write writes.Riders) b x y = absurd y
 IsTarget-unique path.Riders one two a b x y = absurd x
-IsTarget-unique path.Entries (Some rider) two (target.Entries id) (target.Entries other) x y = ap target.Entries (SpellsNumber-unique _ _ rider id other x.0 y.0)
-IsTarget-unique path.Entries (Some rider) two (target.Entries id) b x y = absurd y
+IsTarget-unique path.Entries (Some rider) two (target.Write (writes.Entries id)) (target.Write (writes.Entries other)) x y = ap (λ (i : ℕ). target.Write (writes.Entries i)) (SpellsNumber-unique _ _ rider id other x.0 y.0)
+IsTarget-unique path.Entries (Some rider) two (target.Write (writes.Entries id)) b x y = absurd y
 IsTarget-unique path.Entries one two a b x y = absurd x
-IsTarget-unique path.Standing (Some rider) (Some day) (target.Standing id number) (target.Standing other other_number) x y =
-    ap (λ (i : ℕ). target.Standing i number) (SpellsNumber-unique _ _ rider id other x.0.0 y.0.0)
-    ∙ ap (λ (d : ℕ). target.Standing other d) (SpellsDay-unique day number other_number x.1 y.1)
-IsTarget-unique path.Standing (Some rider) (Some day) (target.Standing id number) b x y = absurd y
+IsTarget-unique path.Standing (Some rider) (Some day) (target.Read (read.Standing id number)) (target.Read (read.Standing other other_number)) x y =
+    ap (λ (i : ℕ). target.Read (read.Standing i number)) (SpellsNumber-unique _ _ rider id other x.0.0 y.0.0)
+    ∙ ap (λ (d : ℕ). target.Read (read.Standing other d)) (SpellsDay-unique day number other_number x.1 y.1)
+IsTarget-unique path.Standing (Some rider) (Some day) (target.Read (read.Standing id number)) b x y = absurd y
 IsTarget-unique path.Standing one two a b x y = absurd x
 
 pub SpellsTarget-unique : (routes : RowsOf (RouteOf Path)) (text : List ℕ) (one other : Target) → SpellsTarget routes text one → SpellsTarget routes text other → one ≡ other
@@ -80,76 +85,73 @@ length-unique values one other (inr a) (inr b) =
 pub body_length_unique : (lines : List (List ℕ × List ℕ)) (one other : ℕ) → IsBodyLength lines one → IsBodyLength lines other → one ≡ other
 body_length_unique lines one other a b = length-unique (values_named (codes "content-length") lines) one other a.1 b.1
 
-SpellsFields-unique : (asked : Target) (body : Data) (one other : Request) → SpellsFields asked body one → SpellsFields asked body other → one ≡ other
-SpellsFields-unique target.Callers body (request.PutCaller one) (request.PutCaller other) a b = ap request.PutCaller (value-unique _ _ _ a b)
-SpellsFields-unique target.Callers body (request.PutCaller one) other a b = absurd b
-SpellsFields-unique target.Callers body one other a b = absurd a
-SpellsFields-unique target.Policy body (request.PutPolicy one) (request.PutPolicy other) a b = ap request.PutPolicy (policy-same one other (value-unique _ _ _ a b))
-SpellsFields-unique target.Policy body (request.PutPolicy one) other a b = absurd b
-SpellsFields-unique target.Policy body one other a b = absurd a
-SpellsFields-unique target.Places body (request.PutPlace one) (request.PutPlace other) a b = ap request.PutPlace (place-same one other (value-unique _ _ _ a b))
-SpellsFields-unique target.Places body (request.PutPlace one) other a b = absurd b
-SpellsFields-unique target.Places body one other a b = absurd a
-SpellsFields-unique target.Routes body (request.PutRoute one) (request.PutRoute other) a b = ap request.PutRoute (value-unique _ _ _ a b)
-SpellsFields-unique target.Routes body (request.PutRoute one) other a b = absurd b
-SpellsFields-unique target.Routes body one other a b = absurd a
-SpellsFields-unique target.Riders body (request.PutRider one) (request.PutRider other) a b = ap request.PutRider (value-unique _ _ _ a b)
-SpellsFields-unique target.Riders body (request.PutRider one) other a b = absurd b
-SpellsFields-unique target.Riders body one other a b = absurd a
-SpellsFields-unique (target.Entries id) body (request.Enter rider one) (request.Enter other_rider other) a b =
-    ap (λ (i : ℕ). request.Enter i one) (a.0 ∙ sym b.0) ∙ ap (λ e. request.Enter other_rider e) (SpellsEntry-unique body one other a.1 b.1)
-SpellsFields-unique (target.Entries id) body (request.Enter rider one) other a b = absurd b
-SpellsFields-unique (target.Entries id) body one other a b = absurd a
-SpellsFields-unique (target.Standing id number) body one other a b = a ∙ sym b
+SpellsFields-unique : (asked : WriteTarget) (body : Data) (one other : Write) → SpellsFields asked body one → SpellsFields asked body other → one ≡ other
+SpellsFields-unique writes.Callers body (write.PutCaller one) (write.PutCaller other) a b = ap write.PutCaller (value-unique _ _ _ a b)
+SpellsFields-unique writes.Callers body (write.PutCaller one) other a b = absurd b
+SpellsFields-unique writes.Callers body one other a b = absurd a
+SpellsFields-unique writes.Policy body (write.PutPolicy one) (write.PutPolicy other) a b = ap write.PutPolicy (policy-same one other (value-unique _ _ _ a b))
+SpellsFields-unique writes.Policy body (write.PutPolicy one) other a b = absurd b
+SpellsFields-unique writes.Policy body one other a b = absurd a
+SpellsFields-unique writes.Places body (write.PutPlace one) (write.PutPlace other) a b = ap write.PutPlace (place-same one other (value-unique _ _ _ a b))
+SpellsFields-unique writes.Places body (write.PutPlace one) other a b = absurd b
+SpellsFields-unique writes.Places body one other a b = absurd a
+SpellsFields-unique writes.Routes body (write.PutRoute one) (write.PutRoute other) a b = ap write.PutRoute (value-unique _ _ _ a b)
+SpellsFields-unique writes.Routes body (write.PutRoute one) other a b = absurd b
+SpellsFields-unique writes.Routes body one other a b = absurd a
+SpellsFields-unique writes.Riders body (write.PutRider one) (write.PutRider other) a b = ap write.PutRider (value-unique _ _ _ a b)
+SpellsFields-unique writes.Riders body (write.PutRider one) other a b = absurd b
+SpellsFields-unique writes.Riders body one other a b = absurd a
+SpellsFields-unique (writes.Entries id) body (write.Enter rider one) (write.Enter other_rider other) a b =
+    ap (λ (i : ℕ). write.Enter i one) (a.0 ∙ sym b.0) ∙ ap (λ e. write.Enter other_rider e) (SpellsEntry-unique body one other a.1 b.1)
+SpellsFields-unique (writes.Entries id) body (write.Enter rider one) other a b = absurd b
+SpellsFields-unique (writes.Entries id) body one other a b = absurd a
 
-fields_or_fault : (asked : Target) (body : Data) (one : Request) (name : FieldName) → SpellsFields asked body one → IsFieldFault asked body name → ⊥
-fields_or_fault target.Callers body (request.PutCaller caller) name a wrong = value-or-error _ _ _ a wrong
-fields_or_fault target.Callers body one name a wrong = absurd a
-fields_or_fault target.Policy body (request.PutPolicy policy) name a wrong = value-or-error _ _ _ a wrong
-fields_or_fault target.Policy body one name a wrong = absurd a
-fields_or_fault target.Places body (request.PutPlace place) name a wrong = value-or-error _ _ _ a wrong
-fields_or_fault target.Places body one name a wrong = absurd a
-fields_or_fault target.Routes body (request.PutRoute route) name a wrong = value-or-error _ _ _ a wrong
-fields_or_fault target.Routes body one name a wrong = absurd a
-fields_or_fault target.Riders body (request.PutRider rider) name a wrong = value-or-error _ _ _ a wrong
-fields_or_fault target.Riders body one name a wrong = absurd a
-fields_or_fault (target.Entries id) body (request.Enter rider one) name a wrong = entry_or_fault body one name a.1 wrong
-fields_or_fault (target.Entries id) body one name a wrong = absurd a
-fields_or_fault (target.Standing id number) body one name a wrong = absurd wrong
+fields_or_fault : (asked : WriteTarget) (body : Data) (one : Write) (name : FieldName) → SpellsFields asked body one → IsFieldFault asked body name → ⊥
+fields_or_fault writes.Callers body (write.PutCaller caller) name a wrong = value-or-error _ _ _ a wrong
+fields_or_fault writes.Callers body one name a wrong = absurd a
+fields_or_fault writes.Policy body (write.PutPolicy policy) name a wrong = value-or-error _ _ _ a wrong
+fields_or_fault writes.Policy body one name a wrong = absurd a
+fields_or_fault writes.Places body (write.PutPlace place) name a wrong = value-or-error _ _ _ a wrong
+fields_or_fault writes.Places body one name a wrong = absurd a
+fields_or_fault writes.Routes body (write.PutRoute route) name a wrong = value-or-error _ _ _ a wrong
+fields_or_fault writes.Routes body one name a wrong = absurd a
+fields_or_fault writes.Riders body (write.PutRider rider) name a wrong = value-or-error _ _ _ a wrong
+fields_or_fault writes.Riders body one name a wrong = absurd a
+fields_or_fault (writes.Entries id) body (write.Enter rider one) name a wrong = entry_or_fault body one name a.1 wrong
+fields_or_fault (writes.Entries id) body one name a wrong = absurd a
 
-field_fault-unique : (asked : Target) (body : Data) (one other : FieldName) → IsFieldFault asked body one → IsFieldFault asked body other → one ≡ other
-field_fault-unique target.Callers body one other a b = error-unique _ _ _ a b
-field_fault-unique target.Policy body one other a b = error-unique _ _ _ a b
-field_fault-unique target.Places body one other a b = error-unique _ _ _ a b
-field_fault-unique target.Routes body one other a b = error-unique _ _ _ a b
-field_fault-unique target.Riders body one other a b = error-unique _ _ _ a b
-field_fault-unique (target.Entries id) body one other a b = entry_fault-unique body one other a b
-field_fault-unique (target.Standing id number) body one other a b = absurd a
+field_fault-unique : (asked : WriteTarget) (body : Data) (one other : FieldName) → IsFieldFault asked body one → IsFieldFault asked body other → one ≡ other
+field_fault-unique writes.Callers body one other a b = error-unique _ _ _ a b
+field_fault-unique writes.Policy body one other a b = error-unique _ _ _ a b
+field_fault-unique writes.Places body one other a b = error-unique _ _ _ a b
+field_fault-unique writes.Routes body one other a b = error-unique _ _ _ a b
+field_fault-unique writes.Riders body one other a b = error-unique _ _ _ a b
+field_fault-unique (writes.Entries id) body one other a b = entry_fault-unique body one other a b
 
 -- ---- writes
 
-write-unique : (asked : Target) (lines : List (List ℕ × List ℕ)) (body : List ℕ) (one other : Message) → SpellsWrite asked lines body one → SpellsWrite asked lines body other → IsSameMessage one other
+write-unique : (asked : WriteTarget) (lines : List (List ℕ × List ℕ)) (body : List ℕ) (one other : Message) → SpellsWrite asked lines body one → SpellsWrite asked lines body other → IsSameMessage one other
 write-unique asked lines body one other a b =
     let same : a.found ≡ b.found = SpellsObject-unique body _ _ a.json b.json in
     record {
       key = value-unique _ _ _ a.key b.key;
       number = IsNumberIn-unique lines _ _ a.number b.number;
-      request = SpellsFields-unique asked b.found _ _ (subst (λ (found : Data). SpellsFields asked found one.request) same a.request) b.request;
+      request = a.request ∙ ap request.Write (SpellsFields-unique asked b.found _ _ (subst (λ (found : Data). SpellsFields asked found a.asks) same a.fields) b.fields) ∙ sym b.request;
     }
 
-write_field_or_fault : (asked : Target) (lines : List (List ℕ × List ℕ)) (body : List ℕ) (one : Message) (name : FieldName) → (a : SpellsWrite asked lines body one) → IsWriteFieldFault asked lines a.found name → ⊥
+write_field_or_fault : (asked : WriteTarget) (lines : List (List ℕ × List ℕ)) (body : List ℕ) (one : Message) (name : FieldName) → (a : SpellsWrite asked lines body one) → IsWriteFieldFault asked lines a.found name → ⊥
 write_field_or_fault asked lines body one name a (inl key) = value-or-error _ _ _ a.key key
 write_field_or_fault asked lines body one name a (inr (inl number)) = number.2 one.number a.number
-write_field_or_fault asked lines body one name a (inr (inr wrong)) = fields_or_fault asked a.found one.request name a.request wrong.2
+write_field_or_fault asked lines body one name a (inr (inr wrong)) = fields_or_fault asked a.found a.asks name a.fields wrong.2
 
-write_or_fault : (asked : Target) (lines : List (List ℕ × List ℕ)) (body : List ℕ) (one : Message) (why : RequestFault) → SpellsWrite asked lines body one → IsWriteFault asked lines body why → ⊥
+write_or_fault : (asked : WriteTarget) (lines : List (List ℕ × List ℕ)) (body : List ℕ) (one : Message) (why : RequestFault) → SpellsWrite asked lines body one → IsWriteFault asked lines body why → ⊥
 write_or_fault asked lines body one fault.Json a wrong = wrong a.found a.json
 write_or_fault asked lines body one (fault.Field name) a wrong =
     let same : wrong.0 ≡ a.found = SpellsObject-unique body _ _ wrong.1 a.json in
     write_field_or_fault asked lines body one name a (subst (λ (found : Data). IsWriteFieldFault asked lines found name) same wrong.2)
 write_or_fault asked lines body one why a wrong = absurd wrong
 
-write_field_fault-unique : (asked : Target) (lines : List (List ℕ × List ℕ)) (found : Data) (one other : FieldName) → IsWriteFieldFault asked lines found one → IsWriteFieldFault asked lines found other → one ≡ other
+write_field_fault-unique : (asked : WriteTarget) (lines : List (List ℕ × List ℕ)) (found : Data) (one other : FieldName) → IsWriteFieldFault asked lines found one → IsWriteFieldFault asked lines found other → one ≡ other
 write_field_fault-unique asked lines found one other (inl a) (inl b) = error-unique _ _ _ a b
 write_field_fault-unique asked lines found one other (inl a) (inr (inl b)) = absurd (value-or-error _ _ _ b.0.1 a)
 write_field_fault-unique asked lines found one other (inl a) (inr (inr b)) = absurd (value-or-error _ _ _ b.0.1 a)
@@ -160,7 +162,7 @@ write_field_fault-unique asked lines found one other (inr (inr a)) (inl b) = abs
 write_field_fault-unique asked lines found one other (inr (inr a)) (inr (inl b)) = absurd (b.2 a.1.0 a.1.1)
 write_field_fault-unique asked lines found one other (inr (inr a)) (inr (inr b)) = field_fault-unique asked found one other a.2 b.2
 
-write_fault-unique : (asked : Target) (lines : List (List ℕ × List ℕ)) (body : List ℕ) (one other : RequestFault) → IsWriteFault asked lines body one → IsWriteFault asked lines body other → one ≡ other
+write_fault-unique : (asked : WriteTarget) (lines : List (List ℕ × List ℕ)) (body : List ℕ) (one other : RequestFault) → IsWriteFault asked lines body one → IsWriteFault asked lines body other → one ≡ other
 write_fault-unique asked lines body fault.Json fault.Json a b = refl
 write_fault-unique asked lines body fault.Json (fault.Field other) a b = absurd (a b.0 b.1)
 write_fault-unique asked lines body fault.Json other a b = absurd b
@@ -171,11 +173,11 @@ write_fault-unique asked lines body (fault.Field one) (fault.Field other) a b =
 write_fault-unique asked lines body (fault.Field one) other a b = absurd b
 write_fault-unique asked lines body one other a b = absurd a
 
-post_or_fault : (asked : Target) (method : List ℕ) (lines : List (List ℕ × List ℕ)) (body : List ℕ) (one : Message) (why : RequestFault) → (method ≡ codes "POST") × SpellsWrite asked lines body one → IsPostFault asked method lines body why → ⊥
+post_or_fault : (asked : WriteTarget) (method : List ℕ) (lines : List (List ℕ × List ℕ)) (body : List ℕ) (one : Message) (why : RequestFault) → (method ≡ codes "POST") × SpellsWrite asked lines body one → IsPostFault asked method lines body why → ⊥
 post_or_fault asked method lines body one why a (inl wrong) = wrong.1 a.0
 post_or_fault asked method lines body one why a (inr wrong) = write_or_fault asked lines body one why a.1 wrong.1
 
-post_fault-unique : (asked : Target) (method : List ℕ) (lines : List (List ℕ × List ℕ)) (body : List ℕ) (one other : RequestFault) → IsPostFault asked method lines body one → IsPostFault asked method lines body other → one ≡ other
+post_fault-unique : (asked : WriteTarget) (method : List ℕ) (lines : List (List ℕ × List ℕ)) (body : List ℕ) (one other : RequestFault) → IsPostFault asked method lines body one → IsPostFault asked method lines body other → one ≡ other
 post_fault-unique asked method lines body one other (inl a) (inl b) = a.0 ∙ sym b.0
 post_fault-unique asked method lines body one other (inl a) (inr b) = absurd (a.1 b.0)
 post_fault-unique asked method lines body one other (inr a) (inl b) = absurd (b.1 a.0)
@@ -183,14 +185,14 @@ post_fault-unique asked method lines body one other (inr a) (inr b) = write_faul
 
 -- ---- reads
 
-read-unique : (method : List ℕ) (lines : List (List ℕ × List ℕ)) (asked : Request) (one other : Message) → SpellsRead method lines asked one → SpellsRead method lines asked other → IsSameMessage one other
+read-unique : (method : List ℕ) (lines : List (List ℕ × List ℕ)) (asked : Read) (one other : Message) → SpellsRead method lines asked one → SpellsRead method lines asked other → IsSameMessage one other
 read-unique method lines asked one other a b = record {
   key = value-unique _ _ _ a.key b.key;
   number = a.number ∙ sym b.number;
   request = a.request ∙ sym b.request;
 }
 
-read_or_fault : (method : List ℕ) (lines : List (List ℕ × List ℕ)) (asked : Request) (one : Message) (why : RequestFault) → SpellsRead method lines asked one → IsReadFault method lines why → ⊥
+read_or_fault : (method : List ℕ) (lines : List (List ℕ × List ℕ)) (asked : Read) (one : Message) (why : RequestFault) → SpellsRead method lines asked one → IsReadFault method lines why → ⊥
 read_or_fault method lines asked one (fault.Method needed) a wrong = wrong.1 a.get
 read_or_fault method lines asked one (fault.Field name) a wrong = value-or-error _ _ _ a.key wrong.1
 read_or_fault method lines asked one why a wrong = absurd wrong
@@ -207,31 +209,16 @@ read_fault-unique method lines one other a b = absurd a
 -- ---- requests
 
 request-unique : (asked : Target) (method : List ℕ) (lines : List (List ℕ × List ℕ)) (body : List ℕ) (one other : Message) → SpellsRequest asked method lines body one → SpellsRequest asked method lines body other → IsSameMessage one other
-request-unique target.Callers method lines body one other a b = write-unique _ lines body one other a.1 b.1
-request-unique target.Policy method lines body one other a b = write-unique _ lines body one other a.1 b.1
-request-unique target.Places method lines body one other a b = write-unique _ lines body one other a.1 b.1
-request-unique target.Routes method lines body one other a b = write-unique _ lines body one other a.1 b.1
-request-unique target.Riders method lines body one other a b = write-unique _ lines body one other a.1 b.1
-request-unique (target.Entries id) method lines body one other a b = write-unique _ lines body one other a.1 b.1
-request-unique (target.Standing id number) method lines body one other a b = read-unique method lines _ one other a b
+request-unique (target.Read asked) method lines body one other a b = read-unique method lines asked one other a b
+request-unique (target.Write asked) method lines body one other a b = write-unique asked lines body one other a.1 b.1
 
 request_or_fault : (asked : Target) (method : List ℕ) (lines : List (List ℕ × List ℕ)) (body : List ℕ) (one : Message) (why : RequestFault) → SpellsRequest asked method lines body one → IsRequestFault asked method lines body why → ⊥
-request_or_fault target.Callers method lines body one why a wrong = post_or_fault target.Callers method lines body one why a wrong
-request_or_fault target.Policy method lines body one why a wrong = post_or_fault target.Policy method lines body one why a wrong
-request_or_fault target.Places method lines body one why a wrong = post_or_fault target.Places method lines body one why a wrong
-request_or_fault target.Routes method lines body one why a wrong = post_or_fault target.Routes method lines body one why a wrong
-request_or_fault target.Riders method lines body one why a wrong = post_or_fault target.Riders method lines body one why a wrong
-request_or_fault (target.Entries id) method lines body one why a wrong = post_or_fault (target.Entries id) method lines body one why a wrong
-request_or_fault (target.Standing id number) method lines body one why a wrong = read_or_fault method lines _ one why a wrong
+request_or_fault (target.Read asked) method lines body one why a wrong = read_or_fault method lines asked one why a wrong
+request_or_fault (target.Write asked) method lines body one why a wrong = post_or_fault asked method lines body one why a wrong
 
 request_fault-unique : (asked : Target) (method : List ℕ) (lines : List (List ℕ × List ℕ)) (body : List ℕ) (one other : RequestFault) → IsRequestFault asked method lines body one → IsRequestFault asked method lines body other → one ≡ other
-request_fault-unique target.Callers method lines body one other a b = post_fault-unique target.Callers method lines body one other a b
-request_fault-unique target.Policy method lines body one other a b = post_fault-unique target.Policy method lines body one other a b
-request_fault-unique target.Places method lines body one other a b = post_fault-unique target.Places method lines body one other a b
-request_fault-unique target.Routes method lines body one other a b = post_fault-unique target.Routes method lines body one other a b
-request_fault-unique target.Riders method lines body one other a b = post_fault-unique target.Riders method lines body one other a b
-request_fault-unique (target.Entries id) method lines body one other a b = post_fault-unique (target.Entries id) method lines body one other a b
-request_fault-unique (target.Standing id number) method lines body one other a b = read_fault-unique method lines one other a b
+request_fault-unique (target.Read asked) method lines body one other a b = read_fault-unique method lines one other a b
+request_fault-unique (target.Write asked) method lines body one other a b = post_fault-unique asked method lines body one other a b
 
 -- ---- messages
 

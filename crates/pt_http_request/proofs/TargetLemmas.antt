@@ -11,16 +11,12 @@ use Rattle.pt_http_request.specs.declared.targets.Path.{Path}
 use Rattle.pt_http_request.specs.declared.targets.Path.TheVariants as path
 use Rattle.pt_http_request.specs.declared.targets.Target.{Target}
 use Rattle.pt_http_request.specs.declared.targets.Target.TheVariants as target
+use Rattle.pt_desk_rules.specs.declared.request.Read.TheVariants as read
 
 -- a route to a standing takes a day as its second part
 day_of_two : (rider day : List ℕ) (asked : Target) → IsTarget path.Standing (Some rider) (Some day) asked → (number : ℕ) × SpellsDay day number
-day_of_two rider day target.Callers named = absurd named
-day_of_two rider day target.Policy named = absurd named
-day_of_two rider day target.Places named = absurd named
-day_of_two rider day target.Routes named = absurd named
-day_of_two rider day target.Riders named = absurd named
-day_of_two rider day (target.Entries id) named = absurd named
-day_of_two rider day (target.Standing id number) named = (number, named.1)
+day_of_two rider day (target.Read (read.Standing id number)) named = (number, named.1)
+day_of_two rider day (target.Write goes) named = absurd named
 
 pub day_of_standing : (which : Path) (one two : Option (List ℕ)) (rider day : List ℕ) (asked : Target) → which ≡ path.Standing → one ≡ Some rider → two ≡ Some day → IsTarget which one two asked → (number : ℕ) × SpellsDay day number
 day_of_standing which one two rider day asked is_standing is_one is_two named =

@@ -3,9 +3,9 @@ use Rattle.std.specs.Prelude.{◌≡◌, ◌⊎◌, ◌==◌, ℕ, List, [], ◌
 use Rattle.pt_base.specs.declared.rider.Residence.{Residence}
 use Rattle.pt_base.specs.declared.rider.Residence.TheVariants as residence
 use Rattle.pt_base.specs.declared.rider.Rider.{Rider}
-use Rattle.pt_desk.specs.declared.caller.Caller.{Caller}
-use Rattle.pt_desk.specs.declared.caller.Role.{Role}
-use Rattle.pt_desk.specs.declared.caller.Role.TheVariants as role
+use Rattle.pt_desk_rules.specs.declared.caller.Caller.{Caller}
+use Rattle.pt_desk_rules.specs.declared.caller.Role.{Role}
+use Rattle.pt_desk_rules.specs.declared.caller.Role.TheVariants as role
 use Rattle.pt_rights.specs.Conditions.{IsCondition, IsConditions}
 use Rattle.pt_rights.specs.declared.conditions.Condition.{Condition}
 use Rattle.pt_rights.specs.declared.entry.Entry.{Entry}

@@ -2,8 +2,10 @@
 use Rattle.std.specs.Prelude.{◌≡◌, ◌≢◌, ◌⊎◌, ℕ, List, [], ◌∷◌, codes, Option, Some, Result, Ok, Err, IsUtf8, IsSome, option_map}
 use Rattle.matchit.specs.Router.{RouteOf}
 use Rattle.matchit.specs.Rows.{RowsOf}
-use Rattle.pt_desk.specs.declared.request.Request.{Request}
-use Rattle.pt_desk.specs.declared.request.Request.TheVariants as request
+use Rattle.pt_desk_rules.specs.declared.request.Read.{Read}
+use Rattle.pt_desk_rules.specs.declared.request.Request.TheVariants as request
+use Rattle.pt_desk_rules.specs.declared.request.Write.{Write}
+use Rattle.pt_desk_rules.specs.declared.request.Write.TheVariants as write
 use Rattle.pt_http_reply.specs.declared.fault.AllowedMethod.TheVariants as way
 use Rattle.pt_http_reply.specs.declared.fault.FieldName.{FieldName}
 use Rattle.pt_http_reply.specs.declared.fault.FieldName.TheVariants as field
@@ -22,6 +24,8 @@ use Rattle.pt_http_request.specs.Targets.{SpellsTarget, path_of}
 use Rattle.pt_http_request.specs.declared.targets.Path.{Path}
 use Rattle.pt_http_request.specs.declared.targets.Target.{Target}
 use Rattle.pt_http_request.specs.declared.targets.Target.TheVariants as target
+use Rattle.pt_http_request.specs.declared.targets.WriteTarget.{WriteTarget}
+use Rattle.pt_http_request.specs.declared.targets.WriteTarget.TheVariants as writes
 
 -- the text of a body: an empty body stands for an object without members
 abbrev pub body_text : List ℕ → List ℕ
@@ -37,44 +41,44 @@ abbrev pub IsObjectFault : List ℕ → RequestFault → Type 0
 IsObjectFault body fault.Json = (found : Data) → ¬ (SpellsObject body found)
 IsObjectFault body _ = ⊥
 
--- the fields of the body spell this request to what the path names
-abbrev pub SpellsFields : Target → Data → Request → Type 0
-SpellsFields target.Callers body (request.PutCaller caller) = caller_in body ≡ Ok caller
-SpellsFields target.Policy body (request.PutPolicy policy) = policy_in body ≡ Ok (settled policy)
-SpellsFields target.Places body (request.PutPlace place) = place_in body ≡ Ok (fields_of place)
-SpellsFields target.Routes body (request.PutRoute route) = route_in body ≡ Ok route
-SpellsFields target.Riders body (request.PutRider rider) = rider_in body ≡ Ok rider
-SpellsFields (target.Entries id) body (request.Enter rider entry) = (rider ≡ id) × SpellsEntry body entry
-SpellsFields (target.Standing id number) body asked = asked ≡ request.Standing id number
+-- the fields of the body spell this write to where the path leads
+abbrev pub SpellsFields : WriteTarget → Data → Write → Type 0
+SpellsFields writes.Callers body (write.PutCaller caller) = caller_in body ≡ Ok caller
+SpellsFields writes.Policy body (write.PutPolicy policy) = policy_in body ≡ Ok (settled policy)
+SpellsFields writes.Places body (write.PutPlace place) = place_in body ≡ Ok (fields_of place)
+SpellsFields writes.Routes body (write.PutRoute route) = route_in body ≡ Ok route
+SpellsFields writes.Riders body (write.PutRider rider) = rider_in body ≡ Ok rider
+SpellsFields (writes.Entries id) body (write.Enter rider entry) = (rider ≡ id) × SpellsEntry body entry
 SpellsFields _ _ _ = ⊥
 
 -- the field is the first of the body that keeps it from spelling one
-abbrev pub IsFieldFault : Target → Data → FieldName → Type 0
-IsFieldFault target.Callers body name = caller_in body ≡ Err name
-IsFieldFault target.Policy body name = policy_in body ≡ Err name
-IsFieldFault target.Places body name = place_in body ≡ Err name
-IsFieldFault target.Routes body name = route_in body ≡ Err name
-IsFieldFault target.Riders body name = rider_in body ≡ Err name
-IsFieldFault (target.Entries id) body name = IsEntryFault body name
-IsFieldFault (target.Standing id number) body name = ⊥
+abbrev pub IsFieldFault : WriteTarget → Data → FieldName → Type 0
+IsFieldFault writes.Callers body name = caller_in body ≡ Err name
+IsFieldFault writes.Policy body name = policy_in body ≡ Err name
+IsFieldFault writes.Places body name = place_in body ≡ Err name
+IsFieldFault writes.Routes body name = route_in body ≡ Err name
+IsFieldFault writes.Riders body name = rider_in body ≡ Err name
+IsFieldFault (writes.Entries id) body name = IsEntryFault body name
 
 -- a write as its header lines and its body give it: JSON, key, number, fields
-pub record SpellsWrite (asked : Target) (lines : List (List ℕ × List ℕ)) (body : List ℕ) (message : Message) : Type 0 where
+pub record SpellsWrite (asked : WriteTarget) (lines : List (List ℕ × List ℕ)) (body : List ℕ) (message : Message) : Type 0 where
   pub found : Data
   pub json : SpellsObject body found
   pub key : key_in lines ≡ Ok (option_map (λ key. key.items) message.key)
   pub number : IsNumberIn lines message.number
-  pub request : SpellsFields asked found message.request
+  pub asks : Write
+  pub request : message.request ≡ request.Write asks
+  pub fields : SpellsFields asked found asks
 
 -- the field, of the headers or the body, is the first that keeps a write from being one
-abbrev pub IsWriteFieldFault : Target → List (List ℕ × List ℕ) → Data → FieldName → Type 0
+abbrev pub IsWriteFieldFault : WriteTarget → List (List ℕ × List ℕ) → Data → FieldName → Type 0
 IsWriteFieldFault asked lines found name =
     (key_in lines ≡ Err name)
     ⊎ (((key : Option (List ℕ)) × (key_in lines ≡ Ok key)) × (name ≡ field.DeskNumber) × ((number : ℕ) → ¬ (IsNumberIn lines number)))
     ⊎ (((key : Option (List ℕ)) × (key_in lines ≡ Ok key)) × ((number : ℕ) × IsNumberIn lines number) × IsFieldFault asked found name)
 
 -- the fault is the first that keeps a write from being one
-abbrev pub IsWriteFault : Target → List (List ℕ × List ℕ) → List ℕ → RequestFault → Type 0
+abbrev pub IsWriteFault : WriteTarget → List (List ℕ × List ℕ) → List ℕ → RequestFault → Type 0
 IsWriteFault asked lines body fault.Json = (found : Data) → ¬ (SpellsObject body found)
 IsWriteFault asked lines body (fault.Field name) =
     (found : Data) × SpellsObject body found × IsWriteFieldFault asked lines found name
@@ -83,21 +87,16 @@ IsWriteFault asked lines body _ = ⊥
 -- ---- whole messages
 
 -- a read as its method and header lines give it: key
-pub record SpellsRead (method : List ℕ) (lines : List (List ℕ × List ℕ)) (asked : Request) (message : Message) : Type 0 where
+pub record SpellsRead (method : List ℕ) (lines : List (List ℕ × List ℕ)) (asked : Read) (message : Message) : Type 0 where
   pub get : method ≡ codes "GET"
   pub key : key_in lines ≡ Ok (option_map (λ key. key.items) message.key)
   pub number : message.number ≡ 0
-  pub request : message.request ≡ asked
+  pub request : message.request ≡ request.Read asked
 
 -- the message to what its path names
 abbrev pub SpellsRequest : Target → List ℕ → List (List ℕ × List ℕ) → List ℕ → Message → Type 0
-SpellsRequest (target.Standing id number) method lines body message = SpellsRead method lines (request.Standing id number) message
-SpellsRequest target.Callers method lines body message = (method ≡ codes "POST") × SpellsWrite target.Callers lines body message
-SpellsRequest target.Policy method lines body message = (method ≡ codes "POST") × SpellsWrite target.Policy lines body message
-SpellsRequest target.Places method lines body message = (method ≡ codes "POST") × SpellsWrite target.Places lines body message
-SpellsRequest target.Routes method lines body message = (method ≡ codes "POST") × SpellsWrite target.Routes lines body message
-SpellsRequest target.Riders method lines body message = (method ≡ codes "POST") × SpellsWrite target.Riders lines body message
-SpellsRequest (target.Entries id) method lines body message = (method ≡ codes "POST") × SpellsWrite (target.Entries id) lines body message
+SpellsRequest (target.Read asked) method lines body message = SpellsRead method lines asked message
+SpellsRequest (target.Write asked) method lines body message = (method ≡ codes "POST") × SpellsWrite asked lines body message
 
 -- the fault is the first that keeps a read from being one
 abbrev pub IsReadFault : List ℕ → List (List ℕ × List ℕ) → RequestFault → Type 0
@@ -106,20 +105,15 @@ IsReadFault method lines (fault.Field name) = (method ≡ codes "GET") × (key_i
 IsReadFault method lines _ = ⊥
 
 -- the same of a write, its method included
-abbrev pub IsPostFault : Target → List ℕ → List (List ℕ × List ℕ) → List ℕ → RequestFault → Type 0
+abbrev pub IsPostFault : WriteTarget → List ℕ → List (List ℕ × List ℕ) → List ℕ → RequestFault → Type 0
 IsPostFault asked method lines body why =
     ((why ≡ fault.Method way.Post) × (method ≢ codes "POST"))
     ⊎ ((method ≡ codes "POST") × IsWriteFault asked lines body why)
 
 -- the fault is the first that keeps a message to what its path names from being a request
 abbrev pub IsRequestFault : Target → List ℕ → List (List ℕ × List ℕ) → List ℕ → RequestFault → Type 0
-IsRequestFault (target.Standing id number) method lines body why = IsReadFault method lines why
-IsRequestFault target.Callers method lines body why = IsPostFault target.Callers method lines body why
-IsRequestFault target.Policy method lines body why = IsPostFault target.Policy method lines body why
-IsRequestFault target.Places method lines body why = IsPostFault target.Places method lines body why
-IsRequestFault target.Routes method lines body why = IsPostFault target.Routes method lines body why
-IsRequestFault target.Riders method lines body why = IsPostFault target.Riders method lines body why
-IsRequestFault (target.Entries id) method lines body why = IsPostFault (target.Entries id) method lines body why
+IsRequestFault (target.Read asked) method lines body why = IsReadFault method lines why
+IsRequestFault (target.Write asked) method lines body why = IsPostFault asked method lines body why
 
 -- the parts of a message spell this message
 pub record SpellsMessage (routes : RowsOf (RouteOf Path)) (method whole : List ℕ) (lines : List (List ℕ × List ℕ)) (body : List ℕ) (message : Message) : Type 0 where

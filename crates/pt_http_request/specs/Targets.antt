@@ -14,6 +14,8 @@ use Rattle.pt_http_request.specs.declared.targets.Path.{Path}
 use Rattle.pt_http_request.specs.declared.targets.Path.TheVariants as path
 use Rattle.pt_http_request.specs.declared.targets.Target.{Target}
 use Rattle.pt_http_request.specs.declared.targets.Target.TheVariants as target
+use Rattle.pt_http_request.specs.declared.targets.WriteTarget.TheVariants as writes
+use Rattle.pt_desk_rules.specs.declared.request.Read.TheVariants as read
 
 -- the rows with one route more
 abbrev pub with_route : Result Scan InsertError → Path → RowsOf (RouteOf Path) → RowsOf (RouteOf Path)
@@ -42,13 +44,14 @@ AreTexts (part ∷ parts) = IsUtf8 part.1 × AreTexts parts
 
 -- what a route names by the first two of its parts
 abbrev pub IsTarget : Path → Option (List ℕ) → Option (List ℕ) → Target → Type 0
-IsTarget path.Callers one two target.Callers = Unit {0}
-IsTarget path.Policy one two target.Policy = Unit {0}
-IsTarget path.Places one two target.Places = Unit {0}
-IsTarget path.Routes one two target.Routes = Unit {0}
-IsTarget path.Riders one two target.Riders = Unit {0}
-IsTarget path.Entries (Some rider) two (target.Entries id) = SpellsId rider id
-IsTarget path.Standing (Some rider) (Some day) (target.Standing id number) = SpellsId rider id × SpellsDay day number
+IsTarget path.Callers one two (target.Write writes.Callers) = Unit {0}
+IsTarget path.Policy one two (target.Write writes.Policy) = Unit {0}
+IsTarget path.Places one two (target.Write writes.Places) = Unit {0}
+IsTarget path.Routes one two (target.Write writes.Routes) = Unit {0}
+IsTarget path.Riders one two (target.Write writes.Riders) = Unit {0}
+IsTarget path.Entries (Some rider) two (target.Write (writes.Entries id)) = SpellsId rider id
+IsTarget path.Standing (Some rider) (Some day) (target.Read (read.Standing id number)) =
+    SpellsId rider id × SpellsDay day number
 IsTarget _ _ _ _ = ⊥
 
 -- a path of ASCII names what its route names

@@ -1,5 +1,5 @@
 ghost use Rattle.std.specs.Prelude.{◌≡◌, ℕ, List, IfOk, IfErr};
-ghost use Rattle.pt_desk.specs.declared.caller.Role.{Role};
+ghost use Rattle.pt_desk_rules.specs.declared.caller.Role.{Role};
 ghost use Rattle.pt_http_reply.specs.Fault.{field_name};
 ghost use Rattle.serde_json.specs.View.{view};
 ghost use Rattle.pt_http_request.specs.Fields.{AreReasonsAt};

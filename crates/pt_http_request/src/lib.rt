@@ -6,7 +6,7 @@ pub use fields::day_from;
 pub use headers::body_length;
 pub use message::{Message, message_from};
 pub use numbers::number_from;
-pub use targets::{Path, Target, desk_router};
+pub use targets::{Path, Target, WriteTarget, desk_router};
 
 mod bodies;
 mod conditions;

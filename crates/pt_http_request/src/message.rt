@@ -10,10 +10,10 @@ use crate::bodies::{caller_of, entry_of, rider_of};
 use crate::fault::MessageFault;
 use crate::headers::{key_of, number_of};
 use crate::settings::{place_of, policy_of, route_of};
-use crate::targets::{Path, Target, target_at};
+use crate::targets::{Path, Target, WriteTarget, target_at};
 use httparse::spans::HeaderSpan;
 use matchit::Router;
-use pt_desk::Request;
+use pt_desk::{Read, Request, Write};
 use pt_http_reply::{AllowedMethod, FieldName, RequestFault};
 use serde_json::Value;
 use std::alloc::Global;
@@ -46,29 +46,28 @@ fn object_from(alloc: Global, body: &[u8]) -> Result<Value, MessageFault>
     }
 }
 
-/// The request to what a path names that the fields of a body spell.
-fn request_from(alloc: Global, target: Target, body: &Value) -> Result<Request, MessageFault>
-    ensures request { IfOk result (SpellsFields target (view body.now)) }
+/// The write to where a path leads that the fields of a body spell.
+fn fields_from(alloc: Global, target: WriteTarget, body: &Value) -> Result<Write, MessageFault>
+    ensures write { IfOk result (SpellsFields target (view body.now)) }
     ensures fault { IfErr result (OnRefused (OnField (IsFieldFault target (view body.now)))) }
 {
     match target {
-        Target::Callers => Ok(Request::PutCaller(caller_of(body)?)),
-        Target::Policy => Ok(Request::PutPolicy(policy_of(body)?)),
-        Target::Places => Ok(Request::PutPlace(place_of(body)?)),
-        Target::Routes => Ok(Request::PutRoute(route_of(alloc, body)?)),
-        Target::Riders => Ok(Request::PutRider(rider_of(body)?)),
-        Target::Entries(rider) => {
+        WriteTarget::Callers => Ok(Write::PutCaller(caller_of(body)?)),
+        WriteTarget::Policy => Ok(Write::PutPolicy(policy_of(body)?)),
+        WriteTarget::Places => Ok(Write::PutPlace(place_of(body)?)),
+        WriteTarget::Routes => Ok(Write::PutRoute(route_of(alloc, body)?)),
+        WriteTarget::Riders => Ok(Write::PutRider(rider_of(body)?)),
+        WriteTarget::Entries(rider) => {
             let entry = entry_of(alloc, body)?;
-            Ok(Request::Enter { rider, entry })
+            Ok(Write::Enter { rider, entry })
         }
-        Target::Standing { rider, day } => Ok(Request::Standing { rider, day }),
     }
 }
 
 /// The write that header lines and a body spell.
 fn write_from(
     alloc: Global,
-    target: Target,
+    target: WriteTarget,
     headers: &[HeaderSpan],
     bytes: &[u8],
     body: &[u8],
@@ -82,18 +81,18 @@ fn write_from(
     let Some(number) = number_of(headers, bytes) else {
         return Err(MessageFault::Refused(RequestFault::Field(FieldName::DeskNumber)));
     };
-    let request = request_from(alloc, target, &body)?;
+    let write = fields_from(alloc, target, &body)?;
     Ok(Message {
         key,
         number: number as u32,
-        request,
+        request: Request::Write(write),
     })
 }
 
 /// The read that a method and header lines spell.
 fn read_from(
     alloc: Global,
-    asked: Request,
+    asked: Read,
     method: &[u8],
     headers: &[HeaderSpan],
     bytes: &[u8],
@@ -109,14 +108,14 @@ fn read_from(
     Ok(Message {
         key,
         number: 0,
-        request: asked,
+        request: Request::Read(asked),
     })
 }
 
 /// The write that a method, header lines and a body spell.
 fn post_from(
     alloc: Global,
-    target: Target,
+    target: WriteTarget,
     method: &[u8],
     headers: &[HeaderSpan],
     bytes: &[u8],
@@ -146,16 +145,8 @@ fn message_to(
     ensures fault { IfErr result (OnRefused (IsRequestFault target method.now (map (header_bytes bytes.now) headers.now) body.now)) }
 {
     match target {
-        Target::Standing { rider, day } => {
-            let asked = Request::Standing { rider, day };
-            read_from(alloc, asked, method, headers, bytes)
-        }
-        Target::Callers
-        | Target::Policy
-        | Target::Places
-        | Target::Routes
-        | Target::Riders
-        | Target::Entries(_) => { post_from(alloc, target, method, headers, bytes, body) }
+        Target::Read(asked) => read_from(alloc, asked, method, headers, bytes),
+        Target::Write(target) => post_from(alloc, target, method, headers, bytes, body),
     }
 }
 

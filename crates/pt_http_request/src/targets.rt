@@ -6,7 +6,8 @@ ghost use Rattle.pt_http_request.specs.declared.targets.Target.{Target};
 use crate::fields::day_from;
 use crate::numbers::id_from;
 use matchit::{InsertError, ParamsIter, Router};
-use pt_base::{Day, RiderId};
+use pt_base::RiderId;
+use pt_desk::Read;
 use std::alloc::Global;
 use std::str;
 
@@ -25,6 +26,15 @@ pub enum Path {
 /// What the path of a request names.
 #[derive(Clone, Copy, Debug, PartialEq, Eq)]
 pub enum Target {
+    /// What is read there; the path says all of it.
+    Read(Read),
+    /// What is written there; the body says the rest.
+    Write(WriteTarget),
+}
+
+/// Where a write goes.
+#[derive(Clone, Copy, Debug, PartialEq, Eq)]
+pub enum WriteTarget {
     /// The callers of the desk.
     Callers,
     /// The agency's policy.
@@ -37,8 +47,6 @@ pub enum Target {
     Riders,
     /// A rider's case file.
     Entries(RiderId),
-    /// A rider's standing on a day.
-    Standing { rider: RiderId, day: Day },
 }
 
 /// A router over the paths of the desk.
@@ -77,16 +85,16 @@ fn target_from(path: Path, one: Option<&str>, two: Option<&str>) -> Option<Targe
         → ¬ (IsTarget path (option_copied one.entry) (option_copied two.entry) asked) }
 {
     match path {
-        Path::Callers => Some(Target::Callers),
-        Path::Policy => Some(Target::Policy),
-        Path::Places => Some(Target::Places),
-        Path::Routes => Some(Target::Routes),
-        Path::Riders => Some(Target::Riders),
-        Path::Entries => Some(Target::Entries(id_from(one?)?)),
+        Path::Callers => Some(Target::Write(WriteTarget::Callers)),
+        Path::Policy => Some(Target::Write(WriteTarget::Policy)),
+        Path::Places => Some(Target::Write(WriteTarget::Places)),
+        Path::Routes => Some(Target::Write(WriteTarget::Routes)),
+        Path::Riders => Some(Target::Write(WriteTarget::Riders)),
+        Path::Entries => Some(Target::Write(WriteTarget::Entries(id_from(one?)?))),
         Path::Standing => {
             let rider = id_from(one?)?;
             let day = day_from(two?)?;
-            Some(Target::Standing { rider, day })
+            Some(Target::Read(Read::Standing { rider, day }))
         }
     }
 }

@@ -1,6 +1,7 @@
 use Rattle.std.proofs.Common.{◌≡◌, ◌∷◌, [], ◌++◌, Ok, Err, false, refl, sym, ap, ◌∙◌, arith, inl, inr}
 use Rattle.std.proofs.KnownBytes.{Appends-trans}
 use Rattle.std.proofs.lemmas.Result.{err_from_is_err_and}
+use Rattle.pt_http.specs.Exchange.{desk_of}
 use Rattle.pt_http.proofs.MomentLemmas.{next_some, next_none, nothing_left}
 use Rattle.pt_http.proofs.ReceivedLemmas.{reads_input, none_left}
 use Rattle.pt_http.proofs.RehearsalLemmas.{begun, stops, ends, step_of, one_more, went_on, stopped_here, stopped_unanswered, stopped_unheard, either, read_no_line, read_code_no_line}
@@ -10,6 +11,7 @@ pub loop-init : goal.loop-init
 loop-init g c = record {
   clean = omega arith;
   serves = omega arith;
+  settled = λ was. was;
   stands = λ clean whole input has. begun g.R.Read.remaining input _ _ c.args.inbox.now has;
 }
 
@@ -27,10 +29,10 @@ returns-in_default-clause-finished g c = λ clean whole input has.
 
 pub returns-in_err-response-clause-stopped : goal.returns-in_err-response-clause-stopped
 returns-in_err-response-clause-stopped g c = λ clean whole input has.
-    let k = g.K.Keeper in
+    let store = g.K.Keeper.store in
     let contents = g.W.Write.contents in
-    let was : k.doubt c.loop.keeper ≡ 0 = omega (arith, clean, c.exchange.ensures.clean) in
-    let served : k.shut c.loop.keeper ≡ 0 = omega (arith, whole, c.exchange.ensures.serves) in
+    let was : (store c.loop.keeper).doubt ≡ 0 = omega (arith, clean, c.exchange.ensures.clean) in
+    let served : (store c.loop.keeper).shut ≡ 0 = omega (arith, whole, c.exchange.ensures.serves) in
     let st = c.loop.invariant.stands was served input has in
     let next = next_some g.R.Read.remaining c.next_moment.new.inbox st.left c.in_ok-now.field-0 c.in-Some.now c.in-Some.is (c.in_ok-now.ensures.next st.left st.has) in
     let error = c.in_err-response.field-0.0 in
@@ -39,7 +41,7 @@ returns-in_err-response-clause-stopped g c = λ clean whole input has.
     (λ unanswered.
     let kept = c.in_err-response.ensures.unanswered unanswered in
     stopped_unanswered _ input _ _ _ _ _ _ _ error st unanswered
-    (ap (λ keeper. record { content = k.content keeper; failures = k.failures keeper }) kept.0) (ap contents kept.1))
+    (ap (λ keeper. desk_of (store keeper)) kept.0) (ap contents kept.1))
     (λ write.
     let unheard = c.exchange.ensures.unheard clean next.0 next.1 (c.in_err-response.was ∙ ap Err write) in
     let text = unheard.2 in
@@ -49,9 +51,9 @@ returns-in_err-response-clause-stopped g c = λ clean whole input has.
 
 pub returns-then-is_last-clause-finished : goal.returns-then-is_last-clause-finished
 returns-then-is_last-clause-finished g c = λ clean whole input has.
-    let k = g.K.Keeper in
-    let was : k.doubt c.loop.keeper ≡ 0 = omega (arith, clean, c.exchange.ensures.clean) in
-    let served : k.shut c.loop.keeper ≡ 0 = omega (arith, whole, c.exchange.ensures.serves) in
+    let store = g.K.Keeper.store in
+    let was : (store c.loop.keeper).doubt ≡ 0 = omega (arith, clean, c.exchange.ensures.clean) in
+    let served : (store c.loop.keeper).shut ≡ 0 = omega (arith, whole, c.exchange.ensures.serves) in
     let st = c.loop.invariant.stands was served input has in
     let next = next_some g.R.Read.remaining c.next_moment.new.inbox st.left c.in_ok-now.field-0 c.in-Some.now c.in-Some.is (c.in_ok-now.ensures.next st.left st.has) in
     let answered = c.in_ok-response.ensures.answered clean next.0 next.1 in
@@ -69,13 +71,14 @@ returns-then-is_last-clause-finished g c = λ clean whole input has.
 
 pub loop-preserved : goal.loop-preserved
 loop-preserved g c =
-    let k = g.K.Keeper in
+    let store = g.K.Keeper.store in
     record {
       clean = omega (arith, c.loop.invariant.clean, c.exchange.ensures.clean);
       serves = omega (arith, c.loop.invariant.serves, c.exchange.ensures.serves);
+      settled = λ was. c.exchange.ensures.settled (c.loop.invariant.settled was);
       stands = λ clean whole input has.
-          let was : k.doubt c.loop.keeper ≡ 0 = omega (arith, clean, c.exchange.ensures.clean) in
-          let served : k.shut c.loop.keeper ≡ 0 = omega (arith, whole, c.exchange.ensures.serves) in
+          let was : (store c.loop.keeper).doubt ≡ 0 = omega (arith, clean, c.exchange.ensures.clean) in
+          let served : (store c.loop.keeper).shut ≡ 0 = omega (arith, whole, c.exchange.ensures.serves) in
           let st = c.loop.invariant.stands was served input has in
           let next = next_some g.R.Read.remaining c.next_moment.new.inbox st.left c.in_ok-now.field-0 c.in-Some.now c.in-Some.is (c.in_ok-now.ensures.next st.left st.has) in
           let answered = c.in_ok-response.ensures.answered clean next.0 next.1 in
@@ -105,3 +108,9 @@ returns-clause-finished g c = λ clean whole input has.
     let none = none_left _ now.left (c.read_up_to.ensures.end ended) now.known in
     let empty = nothing_left st.left _ now.left now.whole (c.read_up_to.ensures.short ended) none in
     (st.messages, st.written, st.left, stops _ input _ _ _ _ _ st, st.appended, inl empty)
+
+pub returns-in_err-response-clause-settled : goal.returns-in_err-response-clause-settled
+returns-in_err-response-clause-settled g c = λ was. c.exchange.ensures.settled (c.loop.invariant.settled was)
+
+pub returns-then-is_last-clause-settled : goal.returns-then-is_last-clause-settled
+returns-then-is_last-clause-settled g c = λ was. c.exchange.ensures.settled (c.loop.invariant.settled was)
