@@ -16,3 +16,5 @@ mod gathering;
 mod keeper;
 mod list_keeper;
 mod running;
+#[cfg(test)]
+mod tests;

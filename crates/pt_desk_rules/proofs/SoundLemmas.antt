@@ -156,7 +156,7 @@ own_file : (new : FiledEntry) (entries : List FiledEntry) → IsInOrder entry_ke
 own_file new entries order file at room =
     let here : new.position < 200 = omega arith in
     let below = Each-both (λ x. IsTrue (is_within (entry_key x) (span_of new.rider))) (λ x. x.position < 0 + length (entries_of new.rider entries)) (λ x. entry_key x < entry_key new)
-        (λ x in_it lt. key_below x new.rider new.position in_it (omega arith)) (entries_of new.rider entries) (Each-within entry_key (span_of new.rider) entries) (below_length 0 (entries_of new.rider entries) file.numbered) in
+    (λ x in_it lt. key_below x new.rider new.position in_it (omega arith)) (entries_of new.rider entries) (Each-within entry_key (span_of new.rider) entries) (below_length 0 (entries_of new.rider entries) file.numbered) in
     subst IsSoundFile (sym (within-put_last entry_key (span_of new.rider) new entries (in_own_span new.rider new.position here) order below))
     (longer_file new (entries_of new.rider entries) file at room)
 
@@ -165,8 +165,8 @@ files_stay : (new : FiledEntry) (entries : List FiledEntry) → IsInOrder entry_
 files_stay new entries order files at room rider =
     let here : new.position < 200 = omega arith in
     elim (same_or_other new.rider rider) [
-    | inl same ↦ subst (λ r. IsSoundFile (entries_of r (put entry_key new entries))) same (own_file new entries order (files new.rider) at room)
-    | inr other ↦ subst IsSoundFile (sym (within-put_other entry_key (span_of rider) new entries (in_no_other_span new.rider rider new.position other here))) (files rider)
+      | inl same ↦ subst (λ r. IsSoundFile (entries_of r (put entry_key new entries))) same (own_file new entries order (files new.rider) at room)
+      | inr other ↦ subst IsSoundFile (sym (within-put_other entry_key (span_of rider) new entries (in_no_other_span new.rider rider new.position other here))) (files rider)
     ]
 
 put_entry_sound : (new : FiledEntry) (s : State) → IsSound s → IsResidentIn s.riders new.rider → IsIn caller_key s.callers new.entered.author → new.position ≡ length (entries_of new.rider s.entries) → length (entries_of new.rider s.entries) < 200

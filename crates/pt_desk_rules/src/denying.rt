@@ -4,9 +4,7 @@ ghost use Rattle.pt_desk_rules.specs.Rules.{rules_of, is_nobody_else, is_nobody_
 ghost use Rattle.pt_desk_rules.specs.declared.request.Write.TheVariants.{Enter};
 
 use crate::permission::may_enter;
-use crate::{
-    Caller, MOST_CALLERS, MOST_PLACES, MOST_RIDERS, MOST_ROUTES, Role, Write, WriteFacts,
-};
+use crate::{Caller, MOST_CALLERS, MOST_PLACES, MOST_RIDERS, MOST_ROUTES, Role, Write, WriteFacts};
 use pt_base::{CallerId, Day, Minute, Residence, Rider, RiderId, Rule};
 use pt_rights::Entry;
 
@@ -72,16 +70,13 @@ fn entry_denial(
     if facts.file.is_full() {
         return Some(Rule::Full);
     }
-    facts.file.admits(there, entry, now.0, me.id, &[], &facts.policy)
+    facts
+        .file
+        .admits(there, entry, now.0, me.id, &[], &facts.policy)
 }
 
 /// The first rule by which a write with a new number is denied to the caller at the moment `now`; `None` where it is accepted.
-pub fn denial(
-    facts: &WriteFacts,
-    me: &Caller,
-    now: (Day, Minute),
-    write: &Write,
-) -> Option<Rule>
+pub fn denial(facts: &WriteFacts, me: &Caller, now: (Day, Minute), write: &Write) -> Option<Rule>
     ensures value { result ≡ first_failing (rules_of write.now me.now now facts.now) }
 {
     let is_admin = me.role.is_admin();

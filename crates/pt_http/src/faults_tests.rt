@@ -1,8 +1,6 @@
-use crate::tests::{
-    PUT_CLERK, PUT_RIDER, Pieces, eight_in_the_morning, plain_reply, rehearsed, replied,
-};
-use crate::{MOST_MESSAGES, answer_bytes, rehearse};
-use pt_base::fault::{MOMENT_LINE, READ_FAILED, WRITE_FAILED};
+use crate::tests::{PUT_CLERK, Pieces, eight_in_the_morning, plain_reply};
+use crate::{answer_bytes, rehearse};
+use pt_base::fault::{READ_FAILED, WRITE_FAILED};
 use pt_base::{CallerId, Fault};
 use pt_desk::{Keeper, ListKeeper};
 use pt_http_inbox::Inbox;
@@ -11,11 +9,12 @@ use std::io;
 use std::io::{ErrorKind, Read, Write};
 use std::test::Fail;
 
-/// Takes so many bytes and then fails.
+/// Takes so many bytes and then fails, or fails to see them off.
 #[derive(Drop)]
 struct Narrow {
     bytes: Vec<u8>,
     room: usize,
+    is_stuck: bool,
 }
 
 impl Write for Narrow {
@@ -30,6 +29,9 @@ impl Write for Narrow {
     }
 
     fn flush(&mut self) -> io::Result<()> {
+        if self.is_stuck {
+            return Err(ErrorKind::BrokenPipe.into());
+        }
         Ok(())
     }
 }
@@ -78,12 +80,15 @@ fn a_reader_that_fails_at_each_byte(rt: HostRuntime) -> Result<(), Fail> {
 fn a_writer_that_fails_at_each_byte(rt: HostRuntime) -> Result<(), Fail> {
     let alloc = rt.alloc();
     let reply = plain_reply(alloc, "200 OK", "13", "{\"done\":true}")?;
-    for room in 0..=reply.len() {
+    // The last writer takes the whole reply, and fails to see it off.
+    for written in 0..=reply.len() + 1 {
         let mut keeper = ListKeeper::new(alloc, b"abc")?;
         let mut inbox = Inbox::new(alloc, PUT_CLERK.as_bytes())?;
+        let room = written.min(reply.len());
         let mut out = Narrow {
             bytes: Vec::new(alloc),
             room,
+            is_stuck: written > reply.len(),
         };
         let told = answer_bytes(
             alloc,
@@ -92,136 +97,14 @@ fn a_writer_that_fails_at_each_byte(rt: HostRuntime) -> Result<(), Fail> {
             &mut inbox,
             &mut out,
         );
-        let expected = if room == reply.len() {
+        let expected = if written == reply.len() {
             Ok(())
         } else {
             Err(Fault::of(WRITE_FAILED))
         };
-        assert_eq!(rt; told, expected, "room for {room} bytes");
-        assert!(rt; has_clerk(&mut keeper)?, "room for {room} bytes");
+        assert_eq!(rt; told, expected, "writer {written}");
+        assert!(rt; has_clerk(&mut keeper)?, "writer {written}");
         assert_eq!(rt; out.bytes.as_slice(), &reply.as_bytes()[..room]);
-    }
-    Ok(())
-}
-
-const BAD_REQUEST: &str = "400 Bad Request";
-
-#[test]
-fn bytes_that_are_no_request(rt: HostRuntime) -> Result<(), Fail> {
-    let alloc = rt.alloc();
-    let mut keeper = ListKeeper::new(alloc, b"abc")?;
-    for (request, status, length, body) in [
-        (
-            "POST /callers HTTP/1.1\r\nContent-Le",
-            BAD_REQUEST,
-            "22",
-            "{\"denied\":\"http.head\"}",
-        ),
-        (
-            "POST /callers HTTP/1.1\r\nContent-Length: 2\r\n\r\n{",
-            BAD_REQUEST,
-            "24",
-            "{\"denied\":\"http.length\"}",
-        ),
-        (
-            "PUT /caller HTTP/1.1\r\n\r\n",
-            "404 Not Found",
-            "22",
-            "{\"denied\":\"http.path\"}",
-        ),
-        (
-            "POST /callers HTTP/1.1\r\nContent-Length: 1\r\n\r\n{",
-            BAD_REQUEST,
-            "22",
-            "{\"denied\":\"http.json\"}",
-        ),
-        (
-            "POST /callers HTTP/1.1\r\n\r\n",
-            BAD_REQUEST,
-            "45",
-            "{\"denied\":\"http.field\",\"field\":\"Desk-Number\"}",
-        ),
-        (
-            "POST /callers HTTP/1.1\r\nDesk-Number: 1\r\nContent-Length: 23\r\n\r\n{\"id\":2,\"role\":\"chief\"}",
-            BAD_REQUEST,
-            "38",
-            "{\"denied\":\"http.field\",\"field\":\"role\"}",
-        ),
-    ] {
-        let expected = plain_reply(alloc, status, length, body)?;
-        let reply = replied(alloc, &mut keeper, request)?;
-        assert_eq!(rt; reply.as_slice(), expected.as_bytes(), "{request}");
-    }
-    let reply = replied(alloc, &mut keeper, "PUT /callers HTTP/1.1\r\n\r\n{")?;
-    assert_eq!(rt;
-        reply.as_slice(),
-        b"HTTP/1.1 405 Method Not Allowed\r\nContent-Type: application/json\r\nContent-Length: 24\r\nAllow: POST\r\nConnection: close\r\n\r\n{\"denied\":\"http.method\"}".as_slice()
-    );
-    assert!(rt; !has_clerk(&mut keeper)?);
-    Ok(())
-}
-
-fn joined(alloc: Global, parts: &[&str]) -> Result<String, Fail> {
-    let mut text = String::new(alloc);
-    for part in parts {
-        text.push_str(part)?;
-    }
-    Ok(text)
-}
-
-#[test]
-fn how_rehearsals_end(rt: HostRuntime) -> Result<(), Fail> {
-    let alloc = rt.alloc();
-    let done = plain_reply(alloc, "200 OK", "13", "{\"done\":true}")?;
-    let moment = "@ 2025-02-17 480\n";
-    let bad_line = Err(Fault::of(MOMENT_LINE));
-    let head = plain_reply(alloc, BAD_REQUEST, "22", "{\"denied\":\"http.head\"}")?;
-    let length = plain_reply(alloc, BAD_REQUEST, "24", "{\"denied\":\"http.length\"}")?;
-    let path = plain_reply(alloc, "404 Not Found", "22", "{\"denied\":\"http.path\"}")?;
-    for (parts, replies, ended) in [
-        (["", "", "", ""], ["", ""], Ok(())),
-        (["@ 2025-02-17 48", "", "", ""], ["", ""], bad_line),
-        (["\n", moment, PUT_CLERK, ""], ["", ""], bad_line),
-        (
-            [moment, PUT_CLERK, "\n", moment],
-            [done.as_str(), ""],
-            bad_line,
-        ),
-        (
-            [moment, PUT_CLERK, moment, PUT_RIDER],
-            [done.as_str(), done.as_str()],
-            Ok(()),
-        ),
-        // A head or a length that is not taken ends it, whatever comes then.
-        ([moment, "", "", ""], [head.as_str(), ""], Ok(())),
-        (
-            [moment, "GET /\r\n\r\n", moment, PUT_CLERK],
-            [head.as_str(), ""],
-            Ok(()),
-        ),
-        (
-            [
-                moment,
-                "GET / HTTP/1.1\r\nContent-Length: x\r\n\r\n",
-                moment,
-                PUT_CLERK,
-            ],
-            [length.as_str(), ""],
-            Ok(()),
-        ),
-        // Another fault does not.
-        (
-            [moment, "GET / HTTP/1.1\r\n\r\n", moment, PUT_CLERK],
-            [path.as_str(), done.as_str()],
-            Ok(()),
-        ),
-    ] {
-        let input = joined(alloc, &parts)?;
-        let output = joined(alloc, &replies)?;
-        let mut keeper = ListKeeper::new(alloc, b"abc")?;
-        let (told, written) = rehearsed(alloc, &mut keeper, input.as_str(), 10_000)?;
-        assert_eq!(rt; told, ended, "{input}");
-        assert_eq!(rt; written.as_slice(), output.as_bytes(), "{input}");
     }
     Ok(())
 }
@@ -258,10 +141,10 @@ fn ended_after(alloc: Global, count: u32) -> Result<(Result<(), Fault>, usize), 
 fn as_many_messages_as_there_may_be(rt: HostRuntime) -> Result<(), Fail> {
     let alloc = rt.alloc();
     // A reply has 119 bytes.
-    let (ended, written) = ended_after(alloc, MOST_MESSAGES)?;
+    let (ended, written) = ended_after(alloc, 100_000)?;
     assert_eq!(rt; ended, Ok(()));
     assert_eq!(rt; written, 11_900_000);
-    let (ended, written) = ended_after(alloc, MOST_MESSAGES + 1)?;
+    let (ended, written) = ended_after(alloc, 100_001)?;
     assert_eq!(rt; ended, Err(Fault::of(READ_FAILED)));
     assert_eq!(rt; written, 11_900_000);
     Ok(())

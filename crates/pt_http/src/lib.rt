@@ -15,8 +15,4 @@ mod reading;
 mod received;
 mod rehearsal;
 #[cfg(test)]
-mod rights_tests;
-#[cfg(test)]
-mod settings_tests;
-#[cfg(test)]
 mod tests;

@@ -10,16 +10,12 @@ pub use targets::{Path, Target, WriteTarget, desk_router};
 
 mod bodies;
 mod conditions;
-#[cfg(test)]
-mod entries_tests;
 mod fault;
 mod fields;
 mod headers;
 mod message;
 mod numbers;
 mod settings;
-#[cfg(test)]
-mod settings_tests;
 mod targets;
 #[cfg(test)]
 mod tests;

@@ -3,7 +3,7 @@ use crate::case_files::{
     Kind, Plain, plain_denial, plain_standing, plain_suspension, random_entry, throw, told,
 };
 use pt_base::{CallerId, Day, Minute, Residence, Rider, RiderId, Rule};
-use pt_desk::{Answer, Caller, Digest, ListKeeper, Request, Role, answer};
+use pt_desk::{Answer, Caller, Digest, ListKeeper, Read, Request, Role, Write, answer};
 use pt_rights::Standing;
 use std::alloc::Global;
 use std::test::Fail;
@@ -312,24 +312,24 @@ fn role(who: Who) -> Result<Role, Fail> {
 
 fn request(alloc: Global, asked: Asked) -> Result<Request, Fail> {
     Ok(match asked {
-        Asked::PutCaller(id, who, key) => Request::PutCaller(Caller {
+        Asked::PutCaller(id, who, key) => Request::Write(Write::PutCaller(Caller {
             id: CallerId::of(id).ok_or("a number")?,
             role: role(who)?,
             digest: Digest::of_key(&[key]),
-        }),
-        Asked::PutRider(id, kind) => Request::PutRider(Rider {
+        })),
+        Asked::PutRider(id, kind) => Request::Write(Write::PutRider(Rider {
             id: RiderId::of(id).ok_or("a number")?,
             kind,
             attendant: false,
-        }),
-        Asked::Enter(id, entry) => Request::Enter {
+        })),
+        Asked::Enter(id, entry) => Request::Write(Write::Enter {
             rider: RiderId::of(id).ok_or("a number")?,
             entry: told(alloc, entry)?,
-        },
-        Asked::Standing(id, day) => Request::Standing {
+        }),
+        Asked::Standing(id, day) => Request::Read(Read::Standing {
             rider: RiderId::of(id).ok_or("a number")?,
             day: Day::of(day).ok_or("a day")?,
-        },
+        }),
     })
 }
 

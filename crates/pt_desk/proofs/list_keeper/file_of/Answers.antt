@@ -20,24 +20,24 @@ loop-filed-preserved c =
     let whole = c.span_of-span.ensures.value in
     let has = c.has.ensures.value in
     elim c.if-has.branch [
-    | then-has+then-not-is_full+in_ok-push_copy w ↦
-        let yes = w.if-has.true in
-        let is : is_within (entry_key filed) (span_of rider) ≡ true = cc in
-        let full = w.is_full.ensures in
-        let room_left = w.if-not-is_full.true in
-        let room : length file < 200 = grind arith in
-        let more : c.if-has.file ≡ file ++ filed.entered ∷ [] = w.file-is ∙ w.in_ok-push_copy.ensures.value in
-        filled-in file c.if-has.file filed rest (is_within (entry_key filed) (span_of rider)) is room more ∙ before
-    | else-has w ↦ elim w.else-has.branch [
-      | else-has-via-then-has+else-not-is_full w' ↦
-          let yes = w'.if-not-is_full.false in
-          let full : length file ≡ 200 = w'.is_full.ensures.value.0 yes in
-          let stays : c.if-has.file ≡ file = w.file-is in
-          filled-no_more file c.if-has.file filed rest (is_within (entry_key filed) (span_of rider)) full stays ∙ before
-      | else-has-via-else-has w' ↦
-          let no = w'.if-has.false in
-          let is : is_within (entry_key filed) (span_of rider) ≡ false = cc in
-          let stays : c.if-has.file ≡ file = w.file-is in
-          filled-out file c.if-has.file filed rest (is_within (entry_key filed) (span_of rider)) is stays ∙ before
+      | then-has+then-not-is_full+in_ok-push_copy w ↦
+          let yes = w.if-has.true in
+          let is : is_within (entry_key filed) (span_of rider) ≡ true = cc in
+          let full = w.is_full.ensures in
+          let room_left = w.if-not-is_full.true in
+          let room : length file < 200 = grind arith in
+          let more : c.if-has.file ≡ file ++ filed.entered ∷ [] = w.file-is ∙ w.in_ok-push_copy.ensures.value in
+          filled-in file c.if-has.file filed rest (is_within (entry_key filed) (span_of rider)) is room more ∙ before
+      | else-has w ↦ elim w.else-has.branch [
+        | else-has-via-then-has+else-not-is_full w' ↦
+            let yes = w'.if-not-is_full.false in
+            let full : length file ≡ 200 = w'.is_full.ensures.value.0 yes in
+            let stays : c.if-has.file ≡ file = w.file-is in
+            filled-no_more file c.if-has.file filed rest (is_within (entry_key filed) (span_of rider)) full stays ∙ before
+        | else-has-via-else-has w' ↦
+            let no = w'.if-has.false in
+            let is : is_within (entry_key filed) (span_of rider) ≡ false = cc in
+            let stays : c.if-has.file ≡ file = w.file-is in
+            filled-out file c.if-has.file filed rest (is_within (entry_key filed) (span_of rider)) is stays ∙ before
       ]
     ]
