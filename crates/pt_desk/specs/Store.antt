@@ -1,5 +1,6 @@
 -- A store as contracts see it, and what calls make of it.
 use Rattle.std.specs.Prelude.{◌≡◌, ◌≤◌, ◌<◌, ◌⊎◌, ℕ, Option, Some, None, Result, Ok, Err}
+use Rattle.pt_desk_rules.specs.Sound.{IsSound}
 use Rattle.pt_desk_rules.specs.State.{State}
 use Rattle.pt_desk_rules.specs.Step.{state_after}
 use Rattle.pt_desk.specs.declared.keeper.StoreFault.{StoreFault}
@@ -53,16 +54,25 @@ pub record Goes {X : Type 0} (before after : Store) (value : X) (left : Option S
   pub settled : IsSettled before → IsSettled after
   pub holds : after.doubt ≡ 0 → Holds before after value left result
 
--- calls that only read
-abbrev pub IsRead : {X : Type 0} → Store → Store → X → Result X StoreFault → Type 0
-IsRead before after value result = Goes before after value None result
+-- calls that answer this of the content, and commit this, if anything
+abbrev pub Answers : {X : Type 0} → Store → Store → (State → X) → (State → Option State) → Result X StoreFault → Type 0
+Answers before after told left result = Goes before after (told before.content) (left before.content) result
 
--- a commit that makes this state
-abbrev pub IsCommit : Store → Store → State → Result (Unit {0}) StoreFault → Type 0
-IsCommit before after changed result = Goes before after tt (Some changed) result
+-- calls that only read
+abbrev pub Reads : {X : Type 0} → Store → Store → (State → X) → Result X StoreFault → Type 0
+Reads before after told result = Goes before after (told before.content) None result
+
+-- a commit that makes this of the content
+abbrev pub Commits : Store → Store → (State → State) → Result (Unit {0}) StoreFault → Type 0
+Commits before after changed result = Goes before after tt (Some (changed before.content)) result
 
 -- `Store` is answered exactly where the store has failed in this call or before it
 pub record Fails {X : Type 0} (before after : ℕ) (result : Result X StoreFault) : Type 0 where
   pub grows : before ≤ after
   pub told : result ≡ Err failed → 0 < after
   pub stays : 0 < after → result ≡ Err failed
+
+-- a sound content is left sound, while the store is clean, serves and has not failed
+abbrev pub IsSoundKept : Store → Store → Type 0
+IsSoundKept before after =
+    after.doubt ≡ 0 → after.shut ≡ 0 → after.failures ≡ 0 → IsSound before.content → IsSound after.content

@@ -1,9 +1,9 @@
 ghost use Rattle.std.specs.Prelude.{◌≡◌, ◌<◌, ◌≤◌, ℕ, true, Option, Some, None, Err, OnOk};
 ghost use Rattle.pt_desk_rules.specs.State.{State, kept_of};
-ghost use Rattle.pt_desk_rules.specs.Sound.{IsSound};
-ghost use Rattle.pt_desk_rules.specs.Step.{is_above, read_answer, write_told, write_left, step, write_answer, write_leaves, IsWriteMade, answer_to, leaves, IsMadeBy, sender};
+ghost use Rattle.pt_desk_rules.specs.Step.{is_above, read_answer, write_told, write_left, step};
+ghost use Rattle.pt_desk_rules.specs.Step.{write_answer, write_leaves, IsWriteMade, answer_to, leaves, IsMadeBy, sender};
 ghost use Rattle.pt_desk_rules.specs.Deciding.{IsMadeIf};
-ghost use Rattle.pt_desk.specs.Store.{Store, Goes, IsRead, Fails};
+ghost use Rattle.pt_desk.specs.Store.{Store, Answers, Reads, Fails, IsSoundKept};
 
 use crate::gathering::{gather, gather_read};
 use crate::{Keeper, Reply, StoreFault};
@@ -13,7 +13,7 @@ use std::alloc::Global;
 
 /// Whether a write's number is above the number of the caller's last accepted write.
 fn is_new<K: Keeper>(keeper: &mut K, me: CallerId, number: u32) -> Result<bool, StoreFault>
-    ensures reads { IsRead (K.store keeper.old) (K.store keeper.new) (is_above number (kept_of me (K.store keeper.old).content)) result }
+    ensures reads { Reads (K.store keeper.old) (K.store keeper.new) (λ s. is_above number (kept_of me s)) result }
 {
     let last = keeper.kept(me)?;
     Ok(last.map_or(0, |kept| kept.number) < number)
@@ -27,7 +27,7 @@ fn answer_read<K: Keeper>(
     now: (Day, Minute),
     read: &Read,
 ) -> Reply
-    ensures reads { IsRead (K.store keeper.old) (K.store keeper.new) (read_answer read.now me.now now (K.store keeper.old).content) result }
+    ensures reads { Reads (K.store keeper.old) (K.store keeper.new) (read_answer read.now me.now now) result }
 {
     let facts = gather_read(alloc, keeper, read)?;
     Ok(tell(&facts, me, now, read))
@@ -35,7 +35,8 @@ fn answer_read<K: Keeper>(
 
 /// Tells what was decided, and commits the change of an accepted write.
 fn carry_out<K: Keeper>(keeper: &mut K, decision: Decision) -> Reply
-    ensures goes { Goes (K.store keeper.old) (K.store keeper.new) (write_told true decision) (write_left true decision (K.store keeper.old).content) result }
+    ensures goes { Answers (K.store keeper.old) (K.store keeper.new)
+        (λ _. write_told true decision) (write_left true decision) result }
 {
     match decision {
         Decision::Denied(rule) => Ok(Answer::Denied(rule)),
@@ -55,9 +56,9 @@ fn answer_new<K: Keeper>(
     number: u32,
     write: &Write,
 ) -> Reply
-    ensures goes { Goes (K.store keeper.old) (K.store keeper.new)
-        (write_told true (step write.now me.now now number (K.store keeper.old).content))
-        (write_left true (step write.now me.now now number (K.store keeper.old).content) (K.store keeper.old).content) result }
+    ensures goes { Answers (K.store keeper.old) (K.store keeper.new)
+        (λ s. write_told true (step write.now me.now now number s))
+        (λ s. write_left true (step write.now me.now now number s) s) result }
     ensures made { (K.store keeper.new).doubt ≡ 0
         → OnOk result (IsMadeIf (step write.now me.now now number (K.store keeper.old).content) write.now) }
 {
@@ -75,9 +76,8 @@ fn answer_write<K: Keeper>(
     number: u32,
     write: &Write,
 ) -> Reply
-    ensures goes { Goes (K.store keeper.old) (K.store keeper.new)
-        (write_answer write.now me.now now number (K.store keeper.old).content)
-        (write_leaves write.now me.now now number (K.store keeper.old).content) result }
+    ensures goes { Answers (K.store keeper.old) (K.store keeper.new)
+        (write_answer write.now me.now now number) (write_leaves write.now me.now now number) result }
     ensures made { (K.store keeper.new).doubt ≡ 0
         → OnOk result (IsWriteMade write.now me.now now number (K.store keeper.old).content) }
 {
@@ -96,11 +96,11 @@ fn answer_by_rules<K: Keeper>(
     number: u32,
     request: &Request,
 ) -> Reply
-    ensures goes { Goes (K.store keeper.old) (K.store keeper.new)
-        (answer_to key.now now number request.now (K.store keeper.old).content)
-        (leaves key.now now number request.now (K.store keeper.old).content) result }
+    ensures goes { Answers (K.store keeper.old) (K.store keeper.new)
+        (answer_to key.now now number request.now) (leaves key.now now number request.now) result }
     ensures made { (K.store keeper.new).doubt ≡ 0
-        → OnOk result (IsMadeBy (sender key.now (K.store keeper.old).content) now number request.now (K.store keeper.old).content) }
+        → OnOk result (IsMadeBy (sender key.now (K.store keeper.old).content) now number request.now
+        (K.store keeper.old).content) }
 {
     let Some(me) = keeper.caller_with(&Digest::of_key(key))? else {
         return Ok(Answer::Denied(Rule::Key));
@@ -125,16 +125,14 @@ pub fn answer<K: Keeper>(
     number: u32,
     request: &Request,
 ) -> Reply
-    ensures goes { Goes (K.store keeper.old) (K.store keeper.new)
-        (answer_to key.now now number request.now (K.store keeper.old).content)
-        (leaves key.now now number request.now (K.store keeper.old).content) result }
+    ensures goes { Answers (K.store keeper.old) (K.store keeper.new)
+        (answer_to key.now now number request.now) (leaves key.now now number request.now) result }
     ensures fails { Fails (K.store keeper.old).failures (K.store keeper.new).failures result }
     // What commits nothing leaves just the state before at a crash.
-    ensures quiet { leaves key.now now number request.now (K.store keeper.old).content ≡ None
-        → (o : Option State) → (K.store keeper.new).doubt ≡ 0 → (K.store keeper.new).found o → (K.store keeper.old).found o }
+    ensures quiet { leaves key.now now number request.now (K.store keeper.old).content ≡ None → (o : Option State)
+        → (K.store keeper.new).doubt ≡ 0 → (K.store keeper.new).found o → (K.store keeper.old).found o }
     // A sound state is left sound.
-    ensures sound { (K.store keeper.new).doubt ≡ 0 → (K.store keeper.new).shut ≡ 0 → (K.store keeper.new).failures ≡ 0
-        → IsSound (K.store keeper.old).content → IsSound (K.store keeper.new).content }
+    ensures sound { IsSoundKept (K.store keeper.old) (K.store keeper.new) }
 {
     if keeper.failures() > 0 {
         return Err(StoreFault::Store);

@@ -2,7 +2,7 @@ ghost use Rattle.std.specs.Prelude.{◌≡◌};
 ghost use Rattle.pt_desk_rules.specs.Facts.{no_facts, facts_of, read_facts_of, subject_in};
 ghost use Rattle.pt_desk_rules.specs.State.{rider_of, file_of};
 ghost use Rattle.pt_desk_rules.specs.declared.request.Write.TheVariants.{PutCaller, PutPlace, PutRoute, PutRider};
-ghost use Rattle.pt_desk.specs.Store.{Store, IsRead};
+ghost use Rattle.pt_desk.specs.Store.{Store, Reads};
 
 use crate::{Keeper, StoreFault};
 use pt_base::{Place, Rider, RiderId};
@@ -12,7 +12,7 @@ use std::alloc::Global;
 
 /// The rider that a role speaks of.
 fn subject<K: Keeper>(keeper: &mut K, role: Role) -> Result<Option<Rider>, StoreFault>
-    ensures reads { IsRead (K.store keeper.old) (K.store keeper.new) (subject_in role (K.store keeper.old).content.riders) result }
+    ensures reads { Reads (K.store keeper.old) (K.store keeper.new) (λ s. subject_in role s.riders) result }
 {
     match role {
         Role::Rider(rider) => keeper.rider(rider),
@@ -27,7 +27,7 @@ fn subject<K: Keeper>(keeper: &mut K, role: Role) -> Result<Option<Rider>, Store
 
 /// No more than the policy.
 fn gather_policy<K: Keeper>(alloc: Global, keeper: &mut K) -> Result<WriteFacts, StoreFault>
-    ensures reads { IsRead (K.store keeper.old) (K.store keeper.new) (no_facts (K.store keeper.old).content.policy) result }
+    ensures reads { Reads (K.store keeper.old) (K.store keeper.new) (λ s. no_facts s.policy) result }
 {
     Ok(WriteFacts::none(alloc, keeper.policy()?))
 }
@@ -37,7 +37,7 @@ fn gather_caller<K: Keeper>(
     keeper: &mut K,
     new: &Caller,
 ) -> Result<WriteFacts, StoreFault>
-    ensures reads { IsRead (K.store keeper.old) (K.store keeper.new) (facts_of (PutCaller new.now) (K.store keeper.old).content) result }
+    ensures reads { Reads (K.store keeper.old) (K.store keeper.new) (facts_of (PutCaller new.now)) result }
 {
     Ok(WriteFacts {
         rider: subject(keeper, new.role)?,
@@ -53,7 +53,7 @@ fn gather_place<K: Keeper>(
     keeper: &mut K,
     new: &Place,
 ) -> Result<WriteFacts, StoreFault>
-    ensures reads { IsRead (K.store keeper.old) (K.store keeper.new) (facts_of (PutPlace new.now) (K.store keeper.old).content) result }
+    ensures reads { Reads (K.store keeper.old) (K.store keeper.new) (facts_of (PutPlace new.now)) result }
 {
     Ok(WriteFacts {
         has_place: keeper.place(new.id)?.is_some(),
@@ -67,7 +67,7 @@ fn gather_route<K: Keeper>(
     keeper: &mut K,
     new: &FixedRoute,
 ) -> Result<WriteFacts, StoreFault>
-    ensures reads { IsRead (K.store keeper.old) (K.store keeper.new) (facts_of (PutRoute new.now) (K.store keeper.old).content) result }
+    ensures reads { Reads (K.store keeper.old) (K.store keeper.new) (facts_of (PutRoute new.now)) result }
 {
     Ok(WriteFacts {
         has_route: keeper.has_route(new.id())?,
@@ -81,7 +81,7 @@ fn gather_rider<K: Keeper>(
     keeper: &mut K,
     new: &Rider,
 ) -> Result<WriteFacts, StoreFault>
-    ensures reads { IsRead (K.store keeper.old) (K.store keeper.new) (facts_of (PutRider new.now) (K.store keeper.old).content) result }
+    ensures reads { Reads (K.store keeper.old) (K.store keeper.new) (facts_of (PutRider new.now)) result }
 {
     Ok(WriteFacts {
         rider: keeper.rider(new.id)?,
@@ -95,11 +95,8 @@ fn gather_file<K: Keeper>(
     keeper: &mut K,
     rider: RiderId,
 ) -> Result<WriteFacts, StoreFault>
-    ensures reads { IsRead (K.store keeper.old) (K.store keeper.new)
-        (record (no_facts (K.store keeper.old).content.policy) {
-          rider = rider_of rider (K.store keeper.old).content;
-          file = file_of rider (K.store keeper.old).content;
-        }) result }
+    ensures reads { Reads (K.store keeper.old) (K.store keeper.new)
+        (λ s. record (no_facts s.policy) { rider = rider_of rider s; file = file_of rider s }) result }
 {
     Ok(WriteFacts {
         rider: keeper.rider(rider)?,
@@ -114,7 +111,7 @@ pub(crate) fn gather<K: Keeper>(
     keeper: &mut K,
     write: &Write,
 ) -> Result<WriteFacts, StoreFault>
-    ensures reads { IsRead (K.store keeper.old) (K.store keeper.new) (facts_of write.now (K.store keeper.old).content) result }
+    ensures reads { Reads (K.store keeper.old) (K.store keeper.new) (facts_of write.now) result }
 {
     match write {
         Write::PutCaller(new) => gather_caller(alloc, keeper, new),
@@ -132,7 +129,7 @@ pub(crate) fn gather_read<K: Keeper>(
     keeper: &mut K,
     read: &Read,
 ) -> Result<ReadFacts, StoreFault>
-    ensures reads { IsRead (K.store keeper.old) (K.store keeper.new) (read_facts_of read.now (K.store keeper.old).content) result }
+    ensures reads { Reads (K.store keeper.old) (K.store keeper.new) (read_facts_of read.now) result }
 {
     let Read::Standing { rider, day: _ } = *read;
     Ok(ReadFacts {

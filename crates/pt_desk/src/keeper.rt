@@ -1,6 +1,7 @@
 ghost use Rattle.std.specs.Prelude.{◌≡◌, ◌≤◌, length, Option, is_some};
-ghost use Rattle.pt_desk_rules.specs.State.{State, caller_with, caller_of, kept_of, place_of, rider_of, route_of, file_of, applied};
-ghost use Rattle.pt_desk.specs.Store.{Store, IsRead, IsCommit};
+ghost use Rattle.pt_desk_rules.specs.State.{State, caller_with, caller_of, kept_of, place_of, rider_of, route_of};
+ghost use Rattle.pt_desk_rules.specs.State.{file_of, applied};
+ghost use Rattle.pt_desk.specs.Store.{Store, Reads, Commits};
 
 use pt_base::{CallerId, Place, PlaceId, Policy, Rider, RiderId, RouteId};
 use pt_corridor::FixedRoute;
@@ -41,63 +42,63 @@ pub trait Keeper {
 
     /// The caller whose key has this digest.
     fn caller_with(&mut self, digest: &Digest) -> Result<Option<Caller>, StoreFault>
-        ensures reads { IsRead (store self.old) (store self.new) (caller_with digest.now (store self.old).content) result };
+        ensures reads { Reads (store self.old) (store self.new) (caller_with digest.now) result };
 
     /// The caller of this number.
     fn caller(&mut self, id: CallerId) -> Result<Option<Caller>, StoreFault>
-        ensures reads { IsRead (store self.old) (store self.new) (caller_of id (store self.old).content) result };
+        ensures reads { Reads (store self.old) (store self.new) (caller_of id) result };
 
     /// How many callers there are.
     fn caller_count(&mut self) -> Result<usize, StoreFault>
-        ensures reads { IsRead (store self.old) (store self.new) (length (store self.old).content.callers) result };
+        ensures reads { Reads (store self.old) (store self.new) (λ s. length s.callers) result };
 
     /// The last accepted write of a caller.
     fn kept(&mut self, caller: CallerId) -> Result<Option<Kept>, StoreFault>
-        ensures reads { IsRead (store self.old) (store self.new) (kept_of caller (store self.old).content) result };
+        ensures reads { Reads (store self.old) (store self.new) (kept_of caller) result };
 
     /// The agency's policy.
     fn policy(&mut self) -> Result<Policy, StoreFault>
-        ensures reads { IsRead (store self.old) (store self.new) (store self.old).content.policy result };
+        ensures reads { Reads (store self.old) (store self.new) (λ s. s.policy) result };
 
     /// The place of this number.
     fn place(&mut self, id: PlaceId) -> Result<Option<Place>, StoreFault>
-        ensures reads { IsRead (store self.old) (store self.new) (place_of id (store self.old).content) result };
+        ensures reads { Reads (store self.old) (store self.new) (place_of id) result };
 
     /// How many places there are.
     fn place_count(&mut self) -> Result<usize, StoreFault>
-        ensures reads { IsRead (store self.old) (store self.new) (length (store self.old).content.places) result };
+        ensures reads { Reads (store self.old) (store self.new) (λ s. length s.places) result };
 
     /// All places in order of their numbers.
     fn places(&mut self, alloc: Global) -> Result<Rows<Place>, StoreFault>
-        ensures reads { IsRead (store self.old) (store self.new) (store self.old).content.places result };
+        ensures reads { Reads (store self.old) (store self.new) (λ s. s.places) result };
 
     /// Whether the fixed route of this number is there.
     fn has_route(&mut self, id: RouteId) -> Result<bool, StoreFault>
-        ensures reads { IsRead (store self.old) (store self.new) (is_some (route_of id (store self.old).content)) result };
+        ensures reads { Reads (store self.old) (store self.new) (λ s. is_some (route_of id s)) result };
 
     /// How many fixed routes there are.
     fn route_count(&mut self) -> Result<usize, StoreFault>
-        ensures reads { IsRead (store self.old) (store self.new) (length (store self.old).content.routes) result };
+        ensures reads { Reads (store self.old) (store self.new) (λ s. length s.routes) result };
 
     /// All fixed routes in order of their numbers.
     fn routes(&mut self, alloc: Global) -> Result<Rows<FixedRoute>, StoreFault>
-        ensures reads { IsRead (store self.old) (store self.new) (store self.old).content.routes result };
+        ensures reads { Reads (store self.old) (store self.new) (λ s. s.routes) result };
 
     /// The rider of this number.
     fn rider(&mut self, id: RiderId) -> Result<Option<Rider>, StoreFault>
-        ensures reads { IsRead (store self.old) (store self.new) (rider_of id (store self.old).content) result };
+        ensures reads { Reads (store self.old) (store self.new) (rider_of id) result };
 
     /// How many riders there are.
     fn rider_count(&mut self) -> Result<usize, StoreFault>
-        ensures reads { IsRead (store self.old) (store self.new) (length (store self.old).content.riders) result };
+        ensures reads { Reads (store self.old) (store self.new) (λ s. length s.riders) result };
 
     /// The case file of a rider, empty where nothing was entered.
     fn case_file(&mut self, alloc: Global, rider: RiderId) -> Result<CaseFile, StoreFault>
-        ensures reads { IsRead (store self.old) (store self.new) (file_of rider (store self.old).content) result };
+        ensures reads { Reads (store self.old) (store self.new) (file_of rider) result };
 
     /// Makes all of the change or nothing of it.
     fn commit(&mut self, change: Change) -> Result<(), StoreFault>
-        ensures commits { IsCommit (store self.old) (store self.new) (applied change (store self.old).content) result };
+        ensures commits { Commits (store self.old) (store self.new) (applied change) result };
 
     /// 0, and 1 for good once the store has failed in a call.
     fn failures(&self) -> u32

@@ -1,8 +1,7 @@
 ghost use Rattle.std.specs.Prelude.{◌≡◌, ◌≤◌, IfOk, IfErr, OnErr};
 ghost use Rattle.pt_base.specs.Fault.{fault};
 ghost use Rattle.pt_base.specs.declared.fault.TheConstants.{MEMORY};
-ghost use Rattle.pt_desk_rules.specs.Sound.{IsSound};
-ghost use Rattle.pt_desk.specs.Store.{Store, Goes, Fails, IsSettled};
+ghost use Rattle.pt_desk.specs.Store.{Store, Answers, Fails, IsSettled, IsSoundKept};
 ghost use Rattle.pt_desk.specs.Run.{answer_to_call, left_by_call, GoesOn};
 
 use crate::{Keeper, Reply, answer};
@@ -22,11 +21,10 @@ pub struct Call {
 
 /// Answers one call by the rules.
 fn answer_call<K: Keeper>(alloc: Global, keeper: &mut K, call: &Call) -> Reply
-    ensures goes { Goes (K.store keeper.old) (K.store keeper.new)
-        (answer_to_call call.entry.now (K.store keeper.old).content) (left_by_call call.entry.now (K.store keeper.old).content) result }
+    ensures goes { Answers (K.store keeper.old) (K.store keeper.new)
+        (answer_to_call call.entry.now) (left_by_call call.entry.now) result }
     ensures fails { Fails (K.store keeper.old).failures (K.store keeper.new).failures result }
-    ensures sound { (K.store keeper.new).doubt ≡ 0 → (K.store keeper.new).shut ≡ 0 → (K.store keeper.new).failures ≡ 0
-        → IsSound (K.store keeper.old).content → IsSound (K.store keeper.new).content }
+    ensures sound { IsSoundKept (K.store keeper.old) (K.store keeper.new) }
 {
     answer(
         alloc,
@@ -44,14 +42,14 @@ fn answer_call<K: Keeper>(alloc: Global, keeper: &mut K, call: &Call) -> Reply
 /// store is shut as the run ends, it has failed, or a reply is want of memory and the store serves no more.
 pub fn run<K: Keeper>(alloc: Global, keeper: &mut K, calls: &[Call]) -> Result<Vec<Reply>, Fault>
     ensures runs { (K.store keeper.new).doubt ≡ 0 → (K.store keeper.new).shut ≡ 0
-        → IfOk result (λ replies. GoesOn (K.store keeper.old).failures (K.store keeper.old).content calls.now replies.items (K.store keeper.new).content) }
+        → IfOk result (λ replies. GoesOn (K.store keeper.old).failures (K.store keeper.old).content calls.now
+        replies.items (K.store keeper.new).content) }
     ensures clean { (K.store keeper.old).doubt ≤ (K.store keeper.new).doubt }
     ensures serves { (K.store keeper.old).shut ≤ (K.store keeper.new).shut }
     ensures grows { (K.store keeper.old).failures ≤ (K.store keeper.new).failures }
     // While the store serves, an opening after a crash finds what the run left.
     ensures settled { IsSettled (K.store keeper.old) → IsSettled (K.store keeper.new) }
-    ensures sound { (K.store keeper.new).doubt ≡ 0 → (K.store keeper.new).shut ≡ 0 → (K.store keeper.new).failures ≡ 0
-        → IsSound (K.store keeper.old).content → IsSound (K.store keeper.new).content }
+    ensures sound { IsSoundKept (K.store keeper.old) (K.store keeper.new) }
     ensures err { OnErr result (keeper.new ≡ keeper.old) }
     ensures memory { IfErr result (λ error. error ≡ fault MEMORY) }
 {

@@ -1,6 +1,4 @@
-use crate::{
-    Answer, Call, Caller, Digest, Keeper, ListKeeper, Read, Reply, Request, Role, Write, run,
-};
+use crate::{Answer, Call, Caller, Digest, Keeper, ListKeeper, Reply, Request, Role, Write, run};
 use pt_base::{
     CallerId, Day, Minute, Place, PlaceId, Point, Policy, Residence, Rider, RiderId, RouteId, Rule,
     Weekdays,
@@ -20,17 +18,6 @@ const POLICY: Policy = Policy {
     percent: 10,
     span_days: 30,
 };
-
-/// A call on the day at eight in the morning.
-fn call(alloc: Global, key: &str, number: u32, request: Request) -> Result<Call, Fail> {
-    let today = Day::parse("2025-02-17")?;
-    Ok(Call {
-        now: (today, Minute::of(480).ok_or("a minute")?),
-        key: Vec::from_slice(alloc, key.as_bytes())?,
-        number,
-        request,
-    })
-}
 
 fn clerk() -> Result<Write, Fail> {
     Ok(Write::PutCaller(Caller {
@@ -74,29 +61,63 @@ fn resident() -> Result<Write, Fail> {
     }))
 }
 
-fn entry(entry: Entry) -> Result<Write, Fail> {
+fn complete() -> Result<Write, Fail> {
     Ok(Write::Enter {
         rider: rider()?,
-        entry,
+        entry: Entry::Complete,
     })
 }
 
+/// What the calls of the test below write.
+#[derive(Clone, Copy)]
+enum Asked {
+    Clerk,
+    Policy,
+    Place,
+    Route,
+    Resident,
+    Complete,
+}
+
+fn write_of(alloc: Global, asked: Asked) -> Result<Write, Fail> {
+    match asked {
+        Asked::Clerk => clerk(),
+        Asked::Policy => Ok(Write::PutPolicy(POLICY)),
+        Asked::Place => place(),
+        Asked::Route => longest_route(alloc),
+        Asked::Resident => resident(),
+        Asked::Complete => complete(),
+    }
+}
+
 /// The admin `abc` settles the area and makes the clerk `hello`, who takes an application.
+const FIRST: [(&str, u32, Asked); 9] = [
+    ("abc", 1, Asked::Clerk),
+    ("abc", 2, Asked::Policy),
+    ("abc", 3, Asked::Place),
+    ("abc", 4, Asked::Route),
+    ("hello", 1, Asked::Resident),
+    ("hello", 2, Asked::Complete),
+    ("hello", 3, Asked::Complete),
+    ("hello", 2, Asked::Resident),
+    ("hello", 4, Asked::Place),
+];
+
 fn first_calls(alloc: Global) -> Result<Vec<Call>, Fail> {
-    let mut calls = Vec::new(alloc);
-    let settings = [
-        ("abc", 1, clerk()?),
-        ("abc", 2, Write::PutPolicy(POLICY)),
-        ("abc", 3, place()?),
-        ("abc", 4, longest_route(alloc)?),
-        ("hello", 1, resident()?),
-        ("hello", 2, entry(Entry::Complete)?),
-        ("hello", 3, entry(Entry::Complete)?),
-        ("hello", 2, resident()?),
-        ("hello", 4, place()?),
-    ];
-    for (key, number, write) in settings {
-        calls.push(call(alloc, key, number, Request::Write(write))?)?;
+    let now = (
+        Day::parse("2025-02-17")?,
+        Minute::of(480).ok_or("a minute")?,
+    );
+    let mut calls = Vec::with_capacity(alloc, FIRST.len())?;
+    for (key, number, asked) in FIRST {
+        let key = Vec::from_slice(alloc, key.as_bytes())?;
+        let request = Request::Write(write_of(alloc, asked)?);
+        calls.push(Call {
+            now,
+            key,
+            number,
+            request,
+        })?;
     }
     Ok(calls)
 }
