@@ -1,105 +1,55 @@
 use crate::fault::{DATE_OUT_OF_RANGE, NO_SUCH_DATE};
-use crate::{Day, Fault, Minute, PlaceId, Rule, Weekday, Weekdays, bookable};
-use std::alloc::Global;
+use crate::{Day, Fault, bookable};
 use std::test::Fail;
 
-fn text_of(alloc: Global, day: Day) -> Result<Vec<u8>, Fail> {
-    let mut text = vec![in alloc; b'<']?;
-    day.write(&mut text)?;
-    Ok(text)
-}
-
+/// A day of 2000 to 2099 as its text, its number, its weekday's number and its month.
 #[test]
-fn the_first_and_the_last_day(rt: HostRuntime) -> Result<(), Fail> {
-    assert_eq!(rt; Day::parse("2000-01-01")?.number(), 10_957);
-    assert_eq!(rt; Day::parse("2099-12-31")?.number(), 47_481);
-    assert_eq!(rt; Day::parse("1999-12-31"), Err(Fault::of(DATE_OUT_OF_RANGE)));
-    assert_eq!(rt; Day::parse("2100-01-01"), Err(Fault::of(DATE_OUT_OF_RANGE)));
-    assert_eq!(rt; Day::of(10_956), None);
-    assert_eq!(rt; Day::of(47_482), None);
-    let last = Day::parse("2099-12-31")?;
-    assert_eq!(rt; last.plus(1), None);
-    assert_eq!(rt; last.plus(0), Some(last));
-    Ok(())
-}
-
-#[test]
-fn leap_days_and_texts_that_are_no_dates(rt: HostRuntime) -> Result<(), Fail> {
-    assert_eq!(rt;
-        Day::parse("2024-02-29")?.plus(1),
-        Some(Day::parse("2024-03-01")?)
-    );
-    for text in [
-        "2025-02-29",
-        "2025-13-01",
-        "2025-00-10",
-        "2025-3-10",
-        "2025-03-10 ",
-        " 2025-03-10",
-        "2025/03/10",
-        "20250310",
-        "2025-03-1a",
-        "",
+fn days_of_the_calendar(rt: HostRuntime) -> Result<(), Fail> {
+    for (text, number, weekday, month) in [
+        ("2000-01-01", 10_957, 5, 1),
+        ("2024-02-29", 19_782, 3, 2),
+        ("2024-03-01", 19_783, 4, 3),
+        ("2025-03-10", 20_157, 0, 3),
+        ("2025-03-16", 20_163, 6, 3),
+        ("2025-12-31", 20_453, 2, 12),
+        ("2099-12-31", 47_481, 3, 12),
     ] {
-        assert_eq!(rt; Day::parse(text), Err(Fault::of(NO_SUCH_DATE)), "{text}");
+        let day = Day::parse(text)?;
+        let mut written = vec![in rt.alloc(); b'<']?;
+        day.write(&mut written)?;
+        let is_written = written[0] == b'<' && &written[1..] == text.as_bytes();
+        let found = (day.number(), day.weekday().number(), day.month());
+        assert!(rt; is_written && found == (number, weekday, month), "{text}");
     }
     Ok(())
 }
 
 #[test]
-fn weekdays_and_months(rt: HostRuntime) -> Result<(), Fail> {
-    let monday = Day::parse("2025-03-10")?;
-    assert_eq!(rt; monday.weekday(), Weekday::Monday);
-    assert_eq!(rt; Day::parse("2025-03-16")?.weekday(), Weekday::Sunday);
-    assert_eq!(rt; monday.month(), 3);
-    assert_eq!(rt; Day::parse("2025-12-31")?.month(), 12);
-    let only = Weekdays::none().with(Weekday::Tuesday);
-    assert!(rt; only.contains(Weekday::Tuesday));
-    assert!(rt; !only.contains(Weekday::Monday));
-    assert!(rt; Weekdays::all().contains(Weekday::Sunday));
-    Ok(())
-}
-
-#[test]
-fn a_day_writes_what_it_reads(rt: HostRuntime) -> Result<(), Fail> {
-    for date in ["2000-01-01", "2024-02-29", "2025-03-10", "2099-12-31"] {
-        let text = text_of(rt.alloc(), Day::parse(date)?)?;
-        assert_eq!(rt; text.len(), 11);
-        assert_eq!(rt; text[0], b'<');
-        assert_eq!(rt; &text[1..], date.as_bytes());
+fn texts_that_are_no_days(rt: HostRuntime) {
+    for (text, code) in [
+        ("1999-12-31", DATE_OUT_OF_RANGE),
+        ("2100-01-01", DATE_OUT_OF_RANGE),
+        ("2025-02-29", NO_SUCH_DATE),
+        ("2025-13-01", NO_SUCH_DATE),
+        ("2025-00-10", NO_SUCH_DATE),
+        ("2025-3-10", NO_SUCH_DATE),
+        ("2025-03-10 ", NO_SUCH_DATE),
+        (" 2025-03-10", NO_SUCH_DATE),
+        ("2025/03/10", NO_SUCH_DATE),
+        ("20250310", NO_SUCH_DATE),
+        ("2025-03-1a", NO_SUCH_DATE),
+        ("", NO_SUCH_DATE),
+    ] {
+        assert_eq!(rt; Day::parse(text), Err(Fault::of(code)), "{text}");
     }
-    Ok(())
 }
 
 #[test]
 fn booking_days_begin_tomorrow_and_end_in_fourteen_days(rt: HostRuntime) -> Result<(), Fail> {
     let today = Day::parse("2025-03-10")?;
-    for (date, may) in [
-        ("2025-03-10", false),
-        ("2025-03-11", true),
-        ("2025-03-24", true),
-        ("2025-03-25", false),
-    ] {
-        assert_eq!(rt; bookable(today, Day::parse(date)?), may, "{date}");
+    for (ahead, may) in [(0, false), (1, true), (14, true), (15, false)] {
+        let day = today.plus(ahead).ok_or("day")?;
+        assert_eq!(rt; bookable(today, day), may, "{ahead}");
     }
-    Ok(())
-}
-
-#[test]
-fn numbers_keep_their_ranges(rt: HostRuntime) -> Result<(), Fail> {
-    assert_eq!(rt; PlaceId::of(0), None);
-    assert_eq!(rt;
-        PlaceId::of(4_294_967_295).map(|id| id.number()),
-        Some(4_294_967_295)
-    );
-    assert_eq!(rt; Minute::of(1_440), None);
-    assert_eq!(rt;
-        Minute::of(1_439).map(|minute| minute.number()),
-        Some(1_439)
-    );
-    assert_eq!(rt; Weekday::of(7), None);
-    assert_eq!(rt; Weekday::of(6).map(|day| day.number()), Some(6));
-    assert_eq!(rt; Rule::Application.name(), "37.125(c)");
-    assert_eq!(rt; Rule::NoVehicle.name(), "no vehicle");
     Ok(())
 }
