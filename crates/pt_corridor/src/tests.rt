@@ -7,13 +7,13 @@ fn point(x: i32, y: i32) -> Point {
     Point { x, y }
 }
 
-/// A route of every day, from 6:00 to 22:00.
-fn daily(alloc: Global, width: u32, from: Point, to: Point) -> Result<FixedRoute, Fail> {
+/// A route of every day, from 6:00 to 22:00, that is 3,960 feet wide.
+fn daily(alloc: Global, from: Point, to: Point) -> Result<FixedRoute, Fail> {
     let points = vec![in alloc; from, to]?;
     let id = RouteId::of(1).ok_or("id")?;
     let first = Minute::of(360).ok_or("first")?;
     let last = Minute::of(1320).ok_or("last")?;
-    Ok(FixedRoute::new(id, width, points, true, Weekdays::all(), first, last)?)
+    Ok(FixedRoute::new(id, 3_960, points, true, Weekdays::all(), first, last)?)
 }
 
 fn place(x: i32, y: i32, core: bool) -> Result<Place, Fail> {
@@ -27,44 +27,35 @@ fn place(x: i32, y: i32, core: bool) -> Result<Place, Fail> {
 
 #[test]
 fn tells_feet_apart(rt: HostRuntime) -> Result<(), Fail> {
-    let level = daily(rt.alloc(), 3_960, point(0, 0), point(20_000, 0))?;
-    assert_eq!(rt; within(&level, point(10_000, 3_960), 3_960), true);
-    assert_eq!(rt; within(&level, point(10_000, 3_961), 3_960), false);
-    assert_eq!(rt; within(&level, point(22_376, 3_168), 3_960), true);
-    assert_eq!(rt; within(&level, point(22_377, 3_168), 3_960), false);
-    let slanted = daily(rt.alloc(), 3_960, point(0, 0), point(12_000, 16_000))?;
-    assert_eq!(rt; within(&slanted, point(2_832, 10_376), 3_960), true);
-    assert_eq!(rt; within(&slanted, point(2_831, 10_376), 3_960), false);
-    let disc = daily(rt.alloc(), 3_960, point(5, 5), point(5, 5))?;
-    assert_eq!(rt; within(&disc, point(2_381, 3_173), 3_960), true);
-    assert_eq!(rt; within(&disc, point(2_382, 3_173), 3_960), false);
-    Ok(())
-}
-
-#[test]
-fn reaches_the_corners(rt: HostRuntime) -> Result<(), Fail> {
     let low = point(-1_000_000, -1_000_000);
     let high = point(1_000_000, 1_000_000);
-    let across = daily(rt.alloc(), 7_920, low, high)?;
+    let origin = point(0, 0);
+    let along = point(20_000, 0);
+    let slanted = point(12_000, 16_000);
+    let corner = point(1_000_000, -1_000_000);
+    let disc = point(5, 5);
     // The other corners lie 1,414,213.56 feet off the diagonal.
-    assert_eq!(rt;
-        within(&across, point(-1_000_000, 1_000_000), 1_414_214),
-        true
-    );
-    assert_eq!(rt;
-        within(&across, point(-1_000_000, 1_000_000), 1_414_213),
-        false
-    );
-    assert_eq!(rt;
-        within(&across, point(1_000_000, -1_000_000), 1_414_214),
-        true
-    );
-    assert_eq!(rt; within(&across, point(i32::MIN, i32::MAX), u32::MAX), true);
-    assert_eq!(rt; within(&across, point(i32::MIN, i32::MAX), 0), false);
-    assert_eq!(rt; within(&across, point(7, 7), 0), true);
-    let edge = daily(rt.alloc(), 7_920, low, point(1_000_000, -1_000_000))?;
-    assert_eq!(rt; within(&edge, point(0, -992_080), 7_920), true);
-    assert_eq!(rt; within(&edge, point(0, -992_079), 7_920), false);
+    for (from, to, at, feet, near) in [
+        (origin, along, point(10_000, 3_960), 3_960, true),
+        (origin, along, point(10_000, 3_961), 3_960, false),
+        (origin, along, point(22_376, 3_168), 3_960, true),
+        (origin, along, point(22_377, 3_168), 3_960, false),
+        (origin, slanted, point(2_832, 10_376), 3_960, true),
+        (origin, slanted, point(2_831, 10_376), 3_960, false),
+        (disc, disc, point(2_381, 3_173), 3_960, true),
+        (disc, disc, point(2_382, 3_173), 3_960, false),
+        (low, high, point(-1_000_000, 1_000_000), 1_414_214, true),
+        (low, high, point(-1_000_000, 1_000_000), 1_414_213, false),
+        (low, high, corner, 1_414_214, true),
+        (low, high, point(i32::MIN, i32::MAX), u32::MAX, true),
+        (low, high, point(i32::MIN, i32::MAX), 0, false),
+        (low, high, point(7, 7), 0, true),
+        (low, corner, point(0, -992_080), 7_920, true),
+        (low, corner, point(0, -992_079), 7_920, false),
+    ] {
+        let route = daily(rt.alloc(), from, to)?;
+        assert_eq!(rt; within(&route, at, feet), near, "{at:?} in {feet} feet");
+    }
     Ok(())
 }
 
@@ -112,79 +103,71 @@ fn names_the_first_fault(rt: HostRuntime) -> Result<(), Fail> {
 }
 
 #[test]
-fn gives_back_its_arguments(rt: HostRuntime) -> Result<(), Fail> {
-    let id = RouteId::of(9).ok_or("id")?;
-    let days = Weekdays::none().with(Weekday::Sunday);
-    let first = Minute::of(360).ok_or("first")?;
-    let last = Minute::of(1_439).ok_or("last")?;
-    let points = vec![in rt.alloc(); point(1, 2), point(-3, 4)]?;
-    let route = FixedRoute::new(id, 5_280, points, true, days, first, last)?.clone()?;
-    assert_eq!(rt; route.id(), id);
-    assert_eq!(rt; route.width(), 5_280);
-    assert_eq!(rt; route.points().len(), 2);
-    assert_eq!(rt; route.points().first(), Some(&point(1, 2)));
-    assert_eq!(rt; route.points().last(), Some(&point(-3, 4)));
-    assert_eq!(rt; route.accessible(), true);
-    assert_eq!(rt; route.days(), days);
-    assert_eq!(rt; route.first(), first);
-    assert_eq!(rt; route.last(), last);
+fn a_copy_has_the_same_points(rt: HostRuntime) -> Result<(), Fail> {
+    let route = daily(rt.alloc(), point(1, 2), point(-3, 4))?;
+    assert_eq!(rt; route.clone()?.points(), route.points());
     Ok(())
 }
 
+/// Two routes that meet at 20,000 feet, and pairs of places with the minutes at which one route serves both.
 #[test]
 fn owes_service(rt: HostRuntime) -> Result<(), Fail> {
-    let west = daily(rt.alloc(), 3_960, point(0, 0), point(20_000, 0))?;
-    let east = daily(rt.alloc(), 3_960, point(20_000, 0), point(40_000, 0))?;
+    let west = daily(rt.alloc(), point(0, 0), point(20_000, 0))?;
+    let east = daily(rt.alloc(), point(20_000, 0), point(40_000, 0))?;
+    let routes = vec![in rt.alloc(); west, east]?;
     let near = place(0, 3_960, false)?;
     let far = place(40_000, -3_960, false)?;
     let outside = place(0, 3_961, false)?;
     let core = place(500_000, 0, true)?;
-    // 2025-03-11 is a Tuesday, and 2025-03-16 a Sunday.
+    // 2025-03-11 is a Tuesday.
     let tuesday = Day::of(20_158).ok_or("day")?;
-    let noon = Minute::of(720).ok_or("noon")?;
-    let none = vec![in rt.alloc()]?;
-    assert_eq!(rt; served(&none, &core), false);
-    assert_eq!(rt; served(&none, &near), false);
-    let routes = vec![in rt.alloc(); west, east]?;
-    assert_eq!(rt; served(&routes, &core), true);
-    assert_eq!(rt; served(&routes, &near), true);
-    assert_eq!(rt; served(&routes, &far), true);
-    assert_eq!(rt; served(&routes, &outside), false);
-    assert_eq!(rt; one_route(&routes, &near, &far, tuesday, noon), false);
-    assert_eq!(rt; one_route(&routes, &near, &core, tuesday, noon), true);
-    assert_eq!(rt; one_route(&routes, &core, &far, tuesday, noon), true);
-    assert_eq!(rt; one_route(&routes, &near, &outside, tuesday, noon), false);
-    for (minute, owed) in [(359, false), (360, true), (1_320, true), (1_321, false)] {
+    // Whether `from` is served at all, is served at that minute, and by one route together with `to`.
+    for (from, to, minute, wanted) in [
+        (near, far, 720, (true, true, false)),
+        (near, core, 720, (true, true, true)),
+        (core, far, 720, (true, true, true)),
+        (far, near, 720, (true, true, false)),
+        (near, outside, 720, (true, true, false)),
+        (outside, near, 720, (false, false, false)),
+        (near, near, 359, (true, false, false)),
+        (near, near, 360, (true, true, true)),
+        (near, near, 1_320, (true, true, true)),
+        (near, near, 1_321, (true, false, false)),
+    ] {
         let minute = Minute::of(minute).ok_or("minute")?;
-        assert_eq!(rt; runs(&routes, &near, tuesday, minute), owed);
-        assert_eq!(rt; one_route(&routes, &near, &near, tuesday, minute), owed);
+        let is_served = served(&routes, &from);
+        let is_run = runs(&routes, &from, tuesday, minute);
+        let is_joined = one_route(&routes, &from, &to, tuesday, minute);
+        assert_eq!(rt;
+            (is_served, is_run, is_joined),
+            wanted,
+            "{from:?} {to:?} {minute:?}"
+        );
     }
-    assert_eq!(rt; runs(&routes, &outside, tuesday, noon), false);
+    let none = vec![in rt.alloc()]?;
+    assert!(rt; !served(&none, &core) && !served(&none, &near));
     Ok(())
 }
 
 #[test]
 fn keeps_its_weekdays(rt: HostRuntime) -> Result<(), Fail> {
     let id = RouteId::of(2).ok_or("id")?;
-    let first = Minute::of(0).ok_or("first")?;
+    let midnight = Minute::of(0).ok_or("midnight")?;
     let points = vec![in rt.alloc(); point(0, 0), point(0, 0)]?;
     let days = Weekdays::none()
         .with(Weekday::Monday)
         .with(Weekday::Saturday);
-    let routes = vec![in rt.alloc();
-        FixedRoute::new(id, 3_960, points, true, days, first, first)?,
-    ]?;
+    let route = FixedRoute::new(id, 3_960, points, true, days, midnight, midnight)?;
+    let routes = vec![in rt.alloc(); route]?;
     let here = place(0, 0, false)?;
-    let cases = [
+    for (number, owed) in [
         (20_157, true),
         (20_158, false),
         (20_162, true),
         (20_163, false),
-    ];
-    for (number, owed) in cases {
+    ] {
         let day = Day::of(number).ok_or("day")?;
-        assert_eq!(rt; runs(&routes, &here, day, first), owed, "on {number}");
+        assert_eq!(rt; runs(&routes, &here, day, midnight), owed, "on {number}");
     }
-    assert_eq!(rt; served(&routes, &here), true);
     Ok(())
 }
