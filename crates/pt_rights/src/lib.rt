@@ -12,15 +12,11 @@ pub use tally::{Outcome, Tally};
 mod appeals;
 mod case_file;
 mod conditions;
-#[cfg(test)]
-mod conditions_tests;
 mod entry;
 mod feet;
 mod months;
 mod notices;
 mod reasons;
-#[cfg(test)]
-mod rights_tests;
 mod suspensions;
 mod tally;
 #[cfg(test)]

@@ -1,163 +1,180 @@
-use crate::{CaseFile, Condition, Conditions, Entry, Grant, MOST_ENTRIES, Reasons, Standing};
-use pt_base::{CallerId, Day, Policy, Residence, Rider, RiderId};
+use crate::{CaseFile, Condition, Conditions, Entry, Grant, Outcome, Reasons, Tally};
+use pt_base::{CallerId, Day, Policy, Residence, Rider, RiderId, Rule};
 use std::alloc::Global;
 use std::test::Fail;
 
-/// 2025-02-17.
-const FEBRUARY_17: u32 = 20_136;
+/// 2025-05-03.
+const MAY_3: u32 = 20_211;
 
-/// 2025-03-10, 21 days later.
-const MARCH_10: u32 = 20_157;
+/// 2025-06-02, 30 days later.
+const JUNE_2: u32 = 20_241;
 
-/// 2025-03-11.
-const MARCH_11: u32 = 20_158;
+/// 2025-06-10.
+const JUNE_10: u32 = 20_249;
 
-/// 2025-03-12.
-const MARCH_12: u32 = 20_159;
+/// 2025-07-09, the 30th day from 2025-06-10 on.
+const JULY_9: u32 = 20_278;
 
-pub fn day(number: u32) -> Result<Day, Fail> {
+fn day(number: u32) -> Result<Day, Fail> {
     Ok(Day::of(number).ok_or("a day")?)
 }
 
-pub fn caller(number: u32) -> Result<CallerId, Fail> {
-    Ok(CallerId::of(number).ok_or("a caller")?)
-}
-
-pub fn rider(kind: Residence) -> Result<Rider, Fail> {
-    let id = RiderId::of(7).ok_or("a rider")?;
-    Ok(Rider {
-        id,
-        kind,
-        attendant: false,
-    })
-}
-
-pub fn policy() -> Policy {
-    Policy {
-        base: 0,
-        transfer: 0,
-        fare: 0,
-        service: 0,
-        extra_ride: 0,
-        min_missed: 1,
-        percent: 100,
-        span_days: 1,
-    }
-}
-
-pub fn grant_until(number: u32) -> Result<Grant, Fail> {
-    let conditions = Conditions::of(&[Condition::Always]).ok_or("conditions")?;
-    Ok(Grant {
-        until: day(number)?,
-        conditions,
-    })
-}
-
-pub fn refusal(alloc: Global) -> Result<Entry, Fail> {
-    Ok(Entry::Refuse(reasons(alloc)?))
-}
-
-pub fn reasons(alloc: Global) -> Result<Reasons, Fail> {
+fn reasons(alloc: Global) -> Result<Reasons, Fail> {
     let bytes = Vec::from_slice(alloc, b"walks to every stop")?;
     Ok(Reasons::of(bytes).ok_or("reasons")?)
+}
+
+fn suspension(alloc: Global, starts: u32, ends: u32) -> Result<Entry, Fail> {
+    Ok(Entry::Suspend {
+        starts: day(starts)?,
+        ends: day(ends)?,
+        reasons: reasons(alloc)?,
+    })
 }
 
 fn enter(file: &mut CaseFile, entry: Entry, today: u32) -> Result<(), Fail> {
     if file.is_full() {
         return Err(Fail::new("the file is full"));
     }
-    file.push(entry, day(today)?, caller(3)?)?;
+    let author = CallerId::of(5).ok_or("an author")?;
+    file.push(entry, day(today)?, author)?;
     Ok(())
 }
 
-#[test]
-fn an_application_is_presumed_granted_on_the_21st_day(rt: HostRuntime) -> Result<(), Fail> {
-    let mut file = CaseFile::new(rt.alloc());
-    enter(&mut file, Entry::Complete, FEBRUARY_17)?;
-    let trip = day(MARCH_12 + 2)?;
-    assert_eq!(rt; file.standing(day(MARCH_10 - 1)?, trip), Standing::None);
-    assert_eq!(rt; file.standing(day(MARCH_10)?, trip), Standing::Presumed);
-    assert!(rt; !file.suspended(trip));
-    enter(&mut file, refusal(rt.alloc())?, MARCH_12)?;
-    assert_eq!(rt; file.standing(day(MARCH_12)?, trip), Standing::None);
-    Ok(())
+/// The rule by which an entry is turned away where three missed trips of ten in a hundred in 30 days are a pattern.
+fn turned_away(
+    file: &CaseFile,
+    entry: &Entry,
+    today: u32,
+    tallies: &[Tally],
+) -> Result<Option<Rule>, Fail> {
+    let policy = Policy {
+        min_missed: 3,
+        percent: 10,
+        span_days: 30,
+        base: 0,
+        transfer: 0,
+        fare: 0,
+        service: 0,
+        extra_ride: 0,
+    };
+    let rider = Rider {
+        id: RiderId::of(7).ok_or("a rider")?,
+        kind: Residence::Resident,
+        attendant: false,
+    };
+    let author = CallerId::of(6).ok_or("an author")?;
+    Ok(file.admits(&rider, entry, day(today)?, author, tallies, &policy))
 }
 
-#[test]
-fn the_last_grant_counts_and_a_refusal_leaves_it(rt: HostRuntime) -> Result<(), Fail> {
-    let mut file = CaseFile::new(rt.alloc());
-    let trip = day(MARCH_12)?;
-    enter(&mut file, Entry::Complete, FEBRUARY_17)?;
-    enter(&mut file, Entry::Grant(grant_until(MARCH_12)?), MARCH_10)?;
-    enter(&mut file, Entry::Complete, MARCH_10)?;
-    enter(&mut file, refusal(rt.alloc())?, MARCH_11)?;
-    let longer = Standing::Granted(grant_until(MARCH_12)?);
-    assert_eq!(rt; file.standing(trip, trip), longer);
-    enter(&mut file, Entry::Complete, MARCH_11)?;
-    enter(&mut file, Entry::Grant(grant_until(MARCH_11)?), MARCH_11)?;
-    let shorter = Standing::Granted(grant_until(MARCH_11)?);
-    assert_eq!(rt; file.standing(trip, trip), Standing::None);
-    assert_eq!(rt; file.standing(trip, day(MARCH_11)?), shorter);
-    Ok(())
-}
-
-#[test]
-fn a_copy_has_the_same_entries(rt: HostRuntime) -> Result<(), Fail> {
-    let mut file = CaseFile::new(rt.alloc());
-    assert!(rt; file.is_empty());
-    enter(&mut file, Entry::Complete, FEBRUARY_17)?;
-    enter(&mut file, refusal(rt.alloc())?, MARCH_12)?;
-    let copy = file.clone()?;
-    assert_eq!(rt; copy.len(), 2);
-    assert_eq!(rt; copy.entries(), file.entries());
-    let last = file.entries().last().ok_or("an entry")?;
-    assert_eq!(rt; last.day.number(), MARCH_12);
-    assert_eq!(rt; last.author.number(), 3);
-    Ok(())
-}
-
-#[test]
-fn a_file_has_room_for_200_entries(rt: HostRuntime) -> Result<(), Fail> {
-    let mut file = CaseFile::new(rt.alloc());
-    for _ in 0..MOST_ENTRIES {
-        assert!(rt; !file.is_full());
-        enter(&mut file, Entry::Complete, FEBRUARY_17)?;
+/// Thirty trips from 2025-05-03 to 2025-06-01, three missed by the rider and seven by the operator.
+fn thirty_trips(alloc: Global) -> Result<Vec<Tally>, Fail> {
+    let mut tallies = Vec::new(alloc);
+    for number in MAY_3..JUNE_2 {
+        let outcome = match number - MAY_3 {
+            0..=2 => Outcome::MissedRider,
+            3..=9 => Outcome::MissedOperator,
+            _ => Outcome::Ridden,
+        };
+        let day = day(number)?;
+        tallies.push(Tally { day, outcome })?;
     }
-    assert!(rt; file.is_full());
+    Ok(tallies)
+}
+
+#[test]
+fn three_missed_trips_of_thirty_are_a_pattern(rt: HostRuntime) -> Result<(), Fail> {
+    let mut tallies = thirty_trips(rt.alloc())?;
+    let file = CaseFile::new(rt.alloc());
+    let notice = Entry::Notice(reasons(rt.alloc())?);
+    let no_pattern = Some(Rule::Suspension);
+    for (today, rule) in [(JUNE_2, None), (JUNE_2 + 1, no_pattern)] {
+        assert_eq!(rt; turned_away(&file, &notice, today, &tallies)?, rule);
+    }
+    let day = day(MAY_3)?;
+    let outcome = Outcome::Ridden;
+    tallies.push(Tally { day, outcome })?;
+    assert_eq!(rt; turned_away(&file, &notice, JUNE_2, &tallies)?, no_pattern);
+    Ok(())
+}
+
+/// Each entry that is admitted is made before the next is tried.
+#[test]
+fn a_suspension_follows_a_heard_notice(rt: HostRuntime) -> Result<(), Fail> {
+    let alloc = rt.alloc();
+    let tallies = thirty_trips(alloc)?;
+    let out_of_turn = Some(Rule::Suspension);
+    let steps = vec![in alloc;
+        (Entry::NoticeHeard, out_of_turn),
+        (Entry::Notice(reasons(alloc)?), None),
+        (suspension(alloc, JUNE_10, JULY_9)?, out_of_turn),
+        (Entry::NoticeHeard, None),
+        (Entry::NoticeHeard, out_of_turn),
+        (suspension(alloc, JUNE_10, JULY_9 + 1)?, out_of_turn),
+        (suspension(alloc, JUNE_2, JUNE_10)?, out_of_turn),
+        (suspension(alloc, JUNE_10, JUNE_10 - 1)?, out_of_turn),
+        (suspension(alloc, JUNE_10, JULY_9)?, None),
+        (suspension(alloc, JUNE_10, JULY_9)?, out_of_turn),
+    ]?;
+    let mut file = CaseFile::new(alloc);
+    for (entry, rule) in &steps {
+        assert_eq!(rt;
+            turned_away(&file, entry, JUNE_2, &tallies)?,
+            *rule,
+            "{entry:?}"
+        );
+        if rule.is_none() {
+            enter(&mut file, entry.clone()?, JUNE_2)?;
+        }
+    }
+    for (number, holds) in [
+        (JUNE_10 - 1, false),
+        (JUNE_10, true),
+        (JULY_9, true),
+        (JULY_9 + 1, false),
+    ] {
+        assert_eq!(rt; file.suspended(day(number)?), holds, "{number}");
+    }
     Ok(())
 }
 
 #[test]
-fn reasons_are_1_to_500_printable_bytes(rt: HostRuntime) -> Result<(), Fail> {
-    let cases = [
-        (0x41, 0, false),
-        (0x41, 1, true),
-        (0x41, 500, true),
-        (0x41, 501, false),
-        (0x1F, 1, false),
-        (0x20, 1, true),
-        (0x7E, 1, true),
-        (0x7F, 1, false),
-    ];
-    for (byte, length, taken) in cases {
-        let bytes = vec![in rt.alloc(); byte; length]?;
+fn a_suspension_waits_for_its_appeal(rt: HostRuntime) -> Result<(), Fail> {
+    let alloc = rt.alloc();
+    let conditions = Conditions::of(&[Condition::Always]).ok_or("conditions")?;
+    let until = day(JULY_9)?;
+    let grant = Grant { until, conditions };
+    let mut file = CaseFile::new(alloc);
+    for entry in vec![in alloc;
+        Entry::Grant(grant.clone()?),
+        Entry::Notice(reasons(alloc)?),
+        Entry::NoticeHeard,
+        suspension(alloc, JUNE_10, JULY_9)?,
+        Entry::Appeal { against: 3 },
+        Entry::Heard,
+    ]? {
+        enter(&mut file, entry, JUNE_2)?;
+    }
+    assert!(rt; !file.suspended(day(JUNE_10)?));
+    for (entry, rule) in vec![in alloc;
+        (Entry::AppealGranted(grant), Some(Rule::Appeal)),
+        (Entry::Overturn, None),
+    ]? {
         assert_eq!(rt;
-            Reasons::of(bytes).is_some(),
-            taken,
-            "{length} bytes {byte}"
+            turned_away(&file, &entry, JUNE_10, &[])?,
+            rule,
+            "{entry:?}"
         );
     }
-    let reasons = Reasons::of(Vec::from_slice(rt.alloc(), b"no need")?).ok_or("reasons")?;
-    assert_eq!(rt; reasons.as_bytes(), b"no need".as_slice());
-    Ok(())
-}
-
-#[test]
-fn conditions_are_one_to_four(rt: HostRuntime) -> Result<(), Fail> {
-    let five = [Condition::Always; 5];
-    assert!(rt; Conditions::of(&[]).is_none());
-    assert!(rt; Conditions::of(&five).is_none());
-    let four = Conditions::of(&five[..4]).ok_or("conditions")?;
-    assert_eq!(rt; four.clone()?.as_slice(), &five[..4]);
+    let mut overturned = file.clone()?;
+    enter(&mut overturned, Entry::Overturn, JUNE_2)?;
+    enter(&mut file, Entry::AppealDenied(reasons(alloc)?), JUNE_2)?;
+    for number in JUNE_10..JULY_9 + 1 {
+        let day = day(number)?;
+        assert!(rt;
+            file.suspended(day) && !overturned.suspended(day),
+            "{number}"
+        );
+    }
     Ok(())
 }
