@@ -26,43 +26,32 @@ fn are_rising(uses: &[Day]) -> bool
     true
 }
 
-fn may(uses: &[Day], day: &str) -> Result<bool, Fail> {
-    if !are_rising(uses) {
-        return Err(Fail::new("uses that do not rise"));
+/// Two spells of days of use, a day, and whether the visitor may ride on it.
+#[test]
+fn days_of_use_and_the_periods_that_they_open(rt: HostRuntime) -> Result<(), Fail> {
+    for (first, count, second, more, day, may) in [
+        ("2025-01-01", 0, "2025-12-31", 0, "2025-12-31", true),
+        ("2025-01-01", 21, "2025-12-31", 0, "2025-01-21", true),
+        ("2025-01-01", 21, "2025-12-31", 0, "2025-12-31", false),
+        ("2025-01-01", 21, "2025-12-31", 0, "2026-01-01", true),
+        ("2025-01-02", 20, "2025-12-31", 0, "2025-12-31", true),
+        ("2025-01-02", 20, "2025-12-31", 1, "2026-01-01", false),
+        ("2025-01-02", 20, "2025-12-31", 1, "2026-01-02", true),
+        ("2025-01-01", 1, "2025-12-12", 20, "2025-12-11", false),
+        ("2025-01-01", 1, "2025-12-12", 21, "2026-01-02", true),
+    ] {
+        let mut uses = Vec::new(rt.alloc());
+        add_days(&mut uses, first, count)?;
+        add_days(&mut uses, second, more)?;
+        if !are_rising(&uses) {
+            return Err(Fail::new("uses that do not rise"));
+        }
+        assert_eq!(rt;
+            visitor_may(&uses, Day::parse(day)?),
+            may,
+            "{first} {second} {day}"
+        );
     }
-    Ok(visitor_may(uses, Day::parse(day)?))
-}
-
-#[test]
-fn the_period_of_21_days_of_use_ends_after_365_days(rt: HostRuntime) -> Result<(), Fail> {
-    let mut uses = Vec::new(rt.alloc());
-    add_days(&mut uses, "2025-01-01", 21)?;
-    assert_eq!(rt; may(&uses, "2025-01-21")?, true);
-    assert_eq!(rt; may(&uses, "2025-12-31")?, false);
-    assert_eq!(rt; may(&uses, "2026-01-01")?, true);
-    Ok(())
-}
-
-#[test]
-fn the_first_use_opens_the_period(rt: HostRuntime) -> Result<(), Fail> {
-    let mut uses = Vec::new(rt.alloc());
-    assert_eq!(rt; may(&uses, "2025-12-31")?, true);
-    add_days(&mut uses, "2025-01-02", 20)?;
-    assert_eq!(rt; may(&uses, "2025-12-31")?, true);
-    add_days(&mut uses, "2025-12-31", 1)?;
-    assert_eq!(rt; may(&uses, "2026-01-01")?, false);
-    assert_eq!(rt; may(&uses, "2026-01-02")?, true);
-    Ok(())
-}
-
-#[test]
-fn the_first_use_after_a_period_opens_the_next(rt: HostRuntime) -> Result<(), Fail> {
-    let mut uses = Vec::new(rt.alloc());
-    add_days(&mut uses, "2025-01-01", 1)?;
-    add_days(&mut uses, "2025-12-12", 20)?;
-    assert_eq!(rt; may(&uses, "2025-12-11")?, false);
-    add_days(&mut uses, "2026-01-01", 1)?;
-    assert_eq!(rt; may(&uses, "2026-01-02")?, true);
     Ok(())
 }
 
