@@ -7,6 +7,4 @@ pub use writing::{LONGEST_CONDITION, condition_text};
 
 mod law;
 mod reading;
-#[cfg(test)]
-mod tests;
 mod writing;
