@@ -29,84 +29,227 @@ fn north(feet: u16, core: bool) -> Result<Place, Fail> {
     Ok(Place { id, at, core })
 }
 
-/// Whether the conditions cover a trip between two such places on 2025-03-11.
-fn covers(
-    listed: &[Condition],
-    routes: &[FixedRoute],
-    wish: u32,
-    from: &Place,
-    to: &Place,
-) -> Result<bool, Fail> {
-    covers_on("2025-03-11", listed, routes, wish, from, to)
+/// A condition of this name: in winter, farther than 5,999 or than 6,000 feet, without lifts, or always.
+fn condition(name: &str) -> Result<Condition, Fail> {
+    match name {
+        "winter" => Ok(Condition::Months(Months::of(&[1, 2, 12]).ok_or("months")?)),
+        "beyond" => Ok(Condition::Farther(Feet::of(5_999).ok_or("feet")?)),
+        "exactly" => Ok(Condition::Farther(Feet::of(6_000).ok_or("feet")?)),
+        "nolift" => Ok(Condition::NoLift),
+        _ => Ok(Condition::Always),
+    }
 }
 
-fn covers_on(
-    day: &str,
-    listed: &[Condition],
-    routes: &[FixedRoute],
-    wish: u32,
-    from: &Place,
-    to: &Place,
-) -> Result<bool, Fail> {
-    let day = Day::parse(day)?;
-    let wish = Minute::of(wish).ok_or("wish")?;
-    let conditions = Conditions::of(listed).ok_or("conditions")?;
-    let grant = Grant {
-        until: day,
+/// Eligibility under either of two conditions.
+fn granted(first: &str, second: &str) -> Result<Grant, Fail> {
+    let listed = [condition(first)?, condition(second)?];
+    let conditions = Conditions::of(&listed).ok_or("conditions")?;
+    Ok(Grant {
+        until: Day::parse("2026-03-11")?,
         conditions,
-    };
-    Ok(qualifies(&grant, routes, day, wish, from, to))
+    })
 }
 
+/// Which trips a grant of two conditions covers: along lists of routes, from a place so many feet north, in the core or not, to another.
 #[test]
-fn trips_of_other_months_are_not_covered(rt: HostRuntime) -> Result<(), Fail> {
-    let winter = Condition::Months(Months::of(&[1, 2, 12]).ok_or("months")?);
-    let routes = vec![in rt.alloc(); route(rt.alloc(), true)?]?;
-    let at = north(0, false)?;
-    for (day, covered) in [
-        ("2025-02-28", true),
-        ("2025-03-11", false),
-        ("2025-11-30", false),
-        ("2025-12-01", true),
+fn trips_that_conditions_cover(rt: HostRuntime) -> Result<(), Fail> {
+    let ramps = vec![in rt.alloc(); route(rt.alloc(), true)?]?;
+    let stairs = vec![in rt.alloc(); route(rt.alloc(), false)?]?;
+    let both = vec![in rt.alloc(); route(rt.alloc(), false)?, route(rt.alloc(), true)?]?;
+    for (first, second, routes, day, wish, from, core, to, covered) in [
+        (
+            "winter",
+            "winter",
+            ramps.as_slice(),
+            "2025-02-28",
+            NOON,
+            0,
+            false,
+            0,
+            true,
+        ),
+        (
+            "winter",
+            "winter",
+            ramps.as_slice(),
+            "2025-03-11",
+            NOON,
+            0,
+            false,
+            0,
+            false,
+        ),
+        (
+            "winter",
+            "winter",
+            ramps.as_slice(),
+            "2025-11-30",
+            NOON,
+            0,
+            false,
+            0,
+            false,
+        ),
+        (
+            "winter",
+            "winter",
+            ramps.as_slice(),
+            "2025-12-01",
+            NOON,
+            0,
+            false,
+            0,
+            true,
+        ),
+        (
+            "winter",
+            "always",
+            ramps.as_slice(),
+            "2025-03-11",
+            NOON,
+            0,
+            false,
+            0,
+            true,
+        ),
+        (
+            "beyond",
+            "beyond",
+            ramps.as_slice(),
+            "2025-03-11",
+            NOON,
+            0,
+            false,
+            0,
+            false,
+        ),
+        (
+            "beyond",
+            "beyond",
+            ramps.as_slice(),
+            "2025-03-11",
+            NOON,
+            0,
+            false,
+            6_000,
+            true,
+        ),
+        (
+            "beyond",
+            "beyond",
+            ramps.as_slice(),
+            "2025-03-11",
+            NOON,
+            6_000,
+            false,
+            0,
+            true,
+        ),
+        (
+            "beyond",
+            "beyond",
+            ramps.as_slice(),
+            "2025-03-11",
+            NOON,
+            6_000,
+            false,
+            6_000,
+            true,
+        ),
+        (
+            "beyond",
+            "beyond",
+            ramps.as_slice(),
+            "2025-03-11",
+            NOON,
+            6_000,
+            true,
+            0,
+            true,
+        ),
+        (
+            "exactly",
+            "exactly",
+            ramps.as_slice(),
+            "2025-03-11",
+            NOON,
+            6_000,
+            false,
+            6_000,
+            false,
+        ),
+        (
+            "exactly",
+            "exactly",
+            ramps.as_slice(),
+            "2025-03-11",
+            NIGHT,
+            0,
+            false,
+            0,
+            true,
+        ),
+        (
+            "nolift",
+            "nolift",
+            stairs.as_slice(),
+            "2025-03-11",
+            NOON,
+            3_960,
+            false,
+            3_960,
+            true,
+        ),
+        (
+            "nolift",
+            "nolift",
+            both.as_slice(),
+            "2025-03-11",
+            NOON,
+            3_960,
+            false,
+            3_960,
+            false,
+        ),
+        (
+            "nolift",
+            "nolift",
+            both.as_slice(),
+            "2025-03-11",
+            NOON,
+            3_960,
+            false,
+            3_961,
+            true,
+        ),
+        (
+            "nolift",
+            "nolift",
+            both.as_slice(),
+            "2025-03-11",
+            NIGHT,
+            3_960,
+            false,
+            3_960,
+            true,
+        ),
     ] {
+        let grant = granted(first, second)?;
+        let wish = Minute::of(wish).ok_or("wish")?;
+        let day = Day::parse(day)?;
+        let is_covered = qualifies(
+            &grant,
+            routes,
+            day,
+            wish,
+            &north(from, core)?,
+            &north(to, false)?,
+        );
         assert_eq!(rt;
-            covers_on(day, &[winter], &routes, NOON, &at, &at)?,
-            covered
+            is_covered,
+            covered,
+            "{first} {second} {day:?} {wish:?} {from} {to}"
         );
     }
-    let either = [winter, Condition::Always];
-    assert_eq!(rt; covers(&either, &routes, NOON, &at, &at)?, true);
-    Ok(())
-}
-
-#[test]
-fn one_end_far_from_every_running_route_is_enough(rt: HostRuntime) -> Result<(), Fail> {
-    let beyond = [Condition::Farther(Feet::of(5_999).ok_or("feet")?)];
-    let exactly = [Condition::Farther(Feet::of(6_000).ok_or("feet")?)];
-    let routes = vec![in rt.alloc(); route(rt.alloc(), true)?]?;
-    let near = north(0, false)?;
-    let far = north(6_000, false)?;
-    let core = north(6_000, true)?;
-    assert_eq!(rt; covers(&beyond, &routes, NOON, &near, &near)?, false);
-    assert_eq!(rt; covers(&beyond, &routes, NOON, &near, &far)?, true);
-    assert_eq!(rt; covers(&beyond, &routes, NOON, &far, &near)?, true);
-    assert_eq!(rt; covers(&beyond, &routes, NOON, &far, &far)?, true);
-    assert_eq!(rt; covers(&beyond, &routes, NOON, &core, &near)?, true);
-    assert_eq!(rt; covers(&exactly, &routes, NOON, &far, &far)?, false);
-    assert_eq!(rt; covers(&exactly, &routes, NIGHT, &near, &near)?, true);
-    Ok(())
-}
-
-#[test]
-fn accessible_routes_serve_riders_who_need_a_lift(rt: HostRuntime) -> Result<(), Fail> {
-    let lift = [Condition::NoLift];
-    let near = north(3_960, false)?;
-    let far = north(3_961, false)?;
-    let stairs = vec![in rt.alloc(); route(rt.alloc(), false)?]?;
-    assert_eq!(rt; covers(&lift, &stairs, NOON, &near, &near)?, true);
-    let both = vec![in rt.alloc(); route(rt.alloc(), false)?, route(rt.alloc(), true)?]?;
-    assert_eq!(rt; covers(&lift, &both, NOON, &near, &near)?, false);
-    assert_eq!(rt; covers(&lift, &both, NOON, &near, &far)?, true);
-    assert_eq!(rt; covers(&lift, &both, NIGHT, &near, &near)?, true);
     Ok(())
 }
