@@ -1,7 +1,7 @@
 -- Where places stand in a list of them, and how many a list without repeats can have.
 use Rattle.std.proofs.Common.{◌≡◌, ℕ, ◌<◌, ◌⊎◌, inl, inr, sym, ap, ◌∙◌, subst, None, Some, List, [], ◌∷◌, ◌++◌, length, get_or, take, All, Contains, eqb, ltb, not, true, arith}
 use Rattle.std.specs.List.{position, position_or_len}
-use Rattle.std.proofs.lemmas.Bool.{cases_Bool, eqb-true, eq-eqb, ne_eqb, cond-true, false≢true, ltb-false}
+use Rattle.std.proofs.lemmas.Bool.{cases_Bool, eqb-true, eq-eqb, ne_eqb, cond-true, false≢true, ltb-false, lt-ltb}
 use Rattle.std.proofs.lemmas.List.{get_or-take, length-take, get_or_default, length-append}
 use Rattle.std.proofs.lemmas.List.Quantifiers.{position-Some}
 use Rattle.std.specs.Cmp.{nat_eq_equiv}
@@ -12,7 +12,7 @@ use Rattle.std.proofs.lemmas.Bool.Decides.{Decides-eqb}
 use Rattle.std.proofs.lemmas.List.Elements.{All-push, All-contains, Contains-push, Contains-append_left}
 use Rattle.std.proofs.lemmas.Map.Keys.{IsDistinct-push, IsDistinct-from_apart}
 use Rattle.std.proofs.lemmas.Map.Made.{is_member-Decides, length-le_from_is_member}
-use Rattle.std.proofs.lemmas.List.Sums.{prefix_len_passes}
+use Rattle.std.proofs.lemmas.List.Sums.{prefix_len_passes, position_or_len_is}
 
 pub position-found : (places : List ℕ) (place k : ℕ) → position (λ p. eqb p place) places ≡ Some k → (k < length places) × (get_or places k 0 ≡ place)
 position-found places place k e =
@@ -60,3 +60,14 @@ put-kept old new place (inl (same, there)) =
 put-kept old new place (inr more) =
     subst (λ (x : List ℕ). HasPut old x place) (sym more)
     (record { has = Contains-push old place; keeps = λ other h. Contains-append_left old (place ∷ []) other h; needs = λ list all one. All-push (Contains list) old place all one })
+
+-- in a list with no repeats, a place stands where it was seen
+pub position-is : (places : List ℕ) (place k : ℕ) → ((i j : ℕ) → i < length places → j < length places → get_or places i 0 ≡ get_or places j 0 → i ≡ j)
+    → k < length places → get_or places k 0 ≡ place → position (λ p. eqb p place) places ≡ Some k
+position-is places place k distinct in_k at =
+    let first : position_or_len (λ p. eqb p place) places ≡ k =
+    position_or_len_is (λ p. eqb p place) places k 0 (omega arith)
+    (λ j less. ne_eqb (get_or places j 0) place (λ same. absurd (omega (arith, distinct j k (omega arith) in_k (same ∙ sym at)))))
+    (λ _. eq-eqb (get_or places k 0) place at)
+    in
+    rw first (cond-true (ltb k (length places)) (Some k) None (lt-ltb k (length places) in_k))

@@ -3,11 +3,16 @@ ghost use Rattle.std.specs.Prelude.{◌≡◌, ℕ, ◌<◌, ◌≤◌, List, le
 use crate::raw::{MOST_PLACES, Row};
 use pt_base::PlaceId;
 
+/// How many guesses of where a place stands are kept.
+const GUESSES: usize = 1024;
+
 /// Places, each once and at most 100.
 #[derive(Clone, Copy, Debug)]
 pub struct Places {
     numbers: [u32; MOST_PLACES],
     len: usize,
+    // By a hash of a place's number, where it was put, unless another place of that hash came later.
+    guesses: [u8; GUESSES],
     ghost within: { len ≤ 100 },
     ghost distinct: { (i j : ℕ) → i < len → j < len → slice_index numbers i ≡ slice_index numbers j → i ≡ j },
 }
@@ -25,6 +30,7 @@ impl Places {
         Places {
             numbers: [0; MOST_PLACES],
             len: 0,
+            guesses: [0; GUESSES],
         }
     }
 
@@ -56,6 +62,7 @@ impl Places {
             return false;
         }
         self.numbers[self.len] = place.number();
+        self.guesses[slot(place.number())] = self.len as u8;
         self.len += 1;
         true
     }
@@ -75,6 +82,17 @@ impl Places {
             (λ k. (k < length (list_of self.now)) × (slice_index (list_of self.now) k ≡ place)) }
     {
         let number = place.number();
+        let guess = usize::from(self.guesses[slot(number)]);
+        if guess < self.len && self.numbers[guess] == number {
+            return Some(guess);
+        }
         self.numbers[..self.len].iter().position(|&n| n == number)
     }
+}
+
+// Where the guess for a place of this number is kept.
+fn slot(number: u32) -> usize
+    ensures { result < 1024 }
+{
+    (number.wrapping_mul(0x9E37_79B1) >> 22) as usize
 }
