@@ -5,6 +5,7 @@ use Rattle.std.proofs.lemmas.Bool.{cases_Bool, eqb-true, eq-eqb, ne_eqb, cond-tr
 use Rattle.std.proofs.lemmas.List.{get_or-take, length-take, get_or_default, length-append}
 use Rattle.std.proofs.lemmas.List.Quantifiers.{position-Some}
 use Rattle.std.specs.Cmp.{nat_eq_equiv}
+use Rattle.std.specs.Int.{IsInRange}
 use Rattle.std.specs.List.{IsDistinct}
 use Rattle.std.specs.Set.{is_member}
 use Rattle.std.proofs.lemmas.Bool.{false_from_ne_true}
@@ -71,3 +72,10 @@ position-is places place k distinct in_k at =
     (λ _. eq-eqb (get_or places k 0) place at)
     in
     rw first (cond-true (ltb k (length places)) (Some k) None (lt-ltb k (length places) in_k))
+
+-- the numbers before the end of an array are in range, if those of the array are
+pub in-range : (numbers : List ℕ) (n place : ℕ) → ((i : ℕ) → i < n → IsInRange 1 4294967295 (get_or numbers i 0)) → Contains (take n numbers) place → IsInRange 1 4294967295 place
+in-range numbers n place valid (k, in_k, is) =
+    let in_n : k < n = omega (arith, length-take n numbers) in
+    let in_numbers : k < length numbers = omega (arith, length-take n numbers) in
+    subst (IsInRange 1 4294967295) (get_or_default numbers k 0 place in_numbers ∙ sym (get_or-take n numbers k place in_n) ∙ is) (valid k in_n)

@@ -6,7 +6,7 @@ use Rattle.std.proofs.lemmas.List.Elements.{All-map, All-push, All-weaker, All-c
 use Rattle.csv.specs.Records.{field_at}
 use Rattle.pt_base.specs.declared.fault.Fault.{Fault}
 use Rattle.pt_travel.specs.Chain.{Row}
-use Rattle.pt_travel.specs.Table.{IsTable, Rises}
+use Rattle.pt_travel.specs.Table.{IsTable, NamesOnly, Rises}
 use Rattle.pt_travel.specs.Text.{AreSound, BeginsWith, Conflicts, HasFault, HasRecords, IsFirstFault, IsNextFault, IsReadSoFar, IsSortedFrom, IsSound, ReadsAs, Record, field, header, number_after, row_of}
 use Rattle.pt_travel.proofs.SortedLemmas.{rises-once}
 
@@ -101,18 +101,23 @@ reads-all text places seen rows few some all (inl (none, empty)) = absurd (omega
 reads-all text places seen rows few some all (inr (records, is, sound, sorted)) =
     record { few_places = few; records = records; all_of_them = subst (HasRecords text) is all; sound = sound; sorted = sorted }
 
--- the rows that a text reads as are those of a table
-pub table-from-reads : (text places : List ℕ) (rows : List Row) → ReadsAs text places rows → IsTable rows
-table-from-reads text places rows reads = record {
-  in_order = reads.sorted.0;
-  within_a_day = λ k d in_k. (sound_row (get_or rows k d) (Contains-get_or rows k d in_k)).2;
-  few_places = (places, reads.few_places, λ k d in_k. let one = sound_row (get_or rows k d) (Contains-get_or rows k d in_k) in (one.0, one.1));
-}
-  where
-    sound_row : (row : Row) → Contains rows row → Contains places row.0 × Contains places row.1 × (row.2 ≤ 1439)
-    sound_row row there =
-        All-contains (λ (r : Row). Contains places r.0 × Contains places r.1 × (r.2 ≤ 1439)) (map row_of reads.records) row
-        (All-map (λ (r : Row). Contains places r.0 × Contains places r.1 × (r.2 ≤ 1439)) row_of reads.records
-        (All-weaker (IsSound places) (λ (r : Record). Contains places (row_of r).0 × Contains places (row_of r).1 × ((row_of r).2 ≤ 1439))
-        (λ r h. (h.1.0.1, h.1.1.1, h.2.1)) reads.records reads.sound.0))
-        ((reads.sorted.1 row).0 there)
+module _ (text places : List ℕ) (rows : List Row) (reads : ReadsAs text places rows) where
+  sound-row : (row : Row) → Contains rows row → Contains places row.0 × Contains places row.1 × (row.2 ≤ 1439)
+  sound-row row there =
+      All-contains (λ (r : Row). Contains places r.0 × Contains places r.1 × (r.2 ≤ 1439)) (map row_of reads.records) row
+      (All-map (λ (r : Row). Contains places r.0 × Contains places r.1 × (r.2 ≤ 1439)) row_of reads.records
+      (All-weaker (IsSound places) (λ (r : Record). Contains places (row_of r).0 × Contains places (row_of r).1 × ((row_of r).2 ≤ 1439))
+      (λ r h. (h.1.0.1, h.1.1.1, h.2.1)) reads.records reads.sound.0))
+      ((reads.sorted.1 row).0 there)
+
+  -- the rows that a text reads as name its places alone
+  pub names-from-reads : NamesOnly places rows
+  names-from-reads k d in_k = let one = sound-row (get_or rows k d) (Contains-get_or rows k d in_k) in (one.0, one.1)
+
+  -- and are those of a table
+  pub table-from-reads : IsTable rows
+  table-from-reads = record {
+    in_order = reads.sorted.0;
+    within_a_day = λ k d in_k. (sound-row (get_or rows k d) (Contains-get_or rows k d in_k)).2;
+    few_places = (places, reads.few_places, names-from-reads);
+  }

@@ -1,21 +1,17 @@
 ghost use Rattle.std.specs.Prelude.{◌≡◌, ℕ, ◌≤◌, MatchOption};
+ghost use Rattle.pt_travel.specs.Places.{list_of};
 ghost use Rattle.pt_travel.specs.Text.{IsDigits, IsMinutes, IsPlace, number_of};
 
+use crate::places::Places;
 use crate::raw::MOST_MINUTES;
 use pt_base::PlaceId;
 
-/// The place of a list that a field of 1 to 10 digits names.
-pub fn place(field: &[u8], places: &[PlaceId]) -> Option<PlaceId>
-    ensures { MatchOption result (IsPlace places.now field.now → ⊥)
-        (λ place. IsPlace places.now field.now × (place ≡ number_of field.now)) }
+/// The place among these that a field of 1 to 10 digits names.
+pub fn place(field: &[u8], places: &Places) -> Option<PlaceId>
+    ensures { MatchOption result (IsPlace (list_of places.now) field.now → ⊥)
+        (λ place. IsPlace (list_of places.now) field.now × (place ≡ number_of field.now)) }
 {
-    let number = digits(field, 10)?;
-    for place in places {
-        if u64::from(place.number()) == number {
-            return Some(*place);
-        }
-    }
-    None
+    places.place(digits(field, 10)?)
 }
 
 /// The minutes that a field of 1 to 4 digits gives, at most 1439.

@@ -7,6 +7,8 @@ pub use times::Times;
 
 mod closed;
 mod fields;
+#[cfg(test)]
+mod full_table_tests;
 mod matrix;
 mod places;
 mod raw;

@@ -1,3 +1,4 @@
+ghost use Rattle.std.specs.Int.{IsInRange};
 ghost use Rattle.std.specs.Prelude.{◌≡◌, ℕ, ◌<◌, ◌≤◌, List, length, slice_index};
 
 use crate::raw::{MOST_PLACES, Row};
@@ -14,11 +15,12 @@ pub struct Places {
     // By a hash of a place's number, where it was put, unless another place of that hash came later.
     guesses: [u8; GUESSES],
     ghost within: { len ≤ 100 },
+    ghost valid: { (i : ℕ) → i < len → IsInRange 1 4_294_967_295 (slice_index numbers i) },
     ghost distinct: { (i j : ℕ) → i < len → j < len → slice_index numbers i ≡ slice_index numbers j → i ≡ j },
 }
 
 impl Places {
-    ghost use Rattle.std.specs.Prelude.{◌==◌, ◌∷◌, ◌++◌, [], ◌⊎◌, Contains, IsTrue, MatchOption, IfSome, IsNone};
+    ghost use Rattle.std.specs.Prelude.{◌==◌, ◌∷◌, ◌++◌, [], ◌⊎◌, ◌↔◌, Contains, IsTrue, MatchOption, IfSome, IsNone};
     ghost use Rattle.std.specs.Bool.{OnTrue, OnFalse};
     ghost use Rattle.std.specs.List.{position};
     ghost use Rattle.pt_travel.specs.Places.{list_of};
@@ -48,6 +50,18 @@ impl Places {
         Some(places)
     }
 
+    /// Each place of a list of at most 100.
+    pub fn listed(list: &[PlaceId]) -> Self
+        requires { length list.now ≤ 100 }
+        ensures { (place : ℕ) → Contains (list_of result) place ↔ Contains list.now place }
+    {
+        let mut places = Places::none();
+        for place in list {
+            places.insert(*place);
+        }
+        places
+    }
+
     // Whether there was room, or the place was there already.
     fn insert(&mut self, place: PlaceId) -> bool
         ensures kept { OnTrue result (((list_of self.new ≡ list_of self.old) × Contains (list_of self.old) place)
@@ -73,6 +87,19 @@ impl Places {
         ensures within { result ≤ 100 }
     {
         self.len
+    }
+
+    /// The place of this number, where it is one of them.
+    pub fn place(&self, number: u64) -> Option<PlaceId>
+        ensures { MatchOption result (Contains (list_of self.now) number → ⊥)
+            (λ place. Contains (list_of self.now) number × (place ≡ number)) }
+    {
+        if number > u64::from(u32::MAX) {
+            return None;
+        }
+        let place = PlaceId::of(number as u32)?;
+        self.position(place)?;
+        Some(place)
     }
 
     /// Where a place stands among them.

@@ -58,7 +58,16 @@ impl Raw {
         &self.rows
     }
 
-    // The places that the rows name.
+    /// The table of rows that name only these places.
+    pub(crate) fn naming(rows: Vec<Row>, places: Places) -> Self
+        requires table { IsTable rows.items }
+        requires named { NamesOnly (list_of places) rows.items }
+        ensures { result ≡ rows.items }
+    {
+        Raw { rows, places }
+    }
+
+    // The places that the rows name, and it may be others.
     pub(crate) fn places(&self) -> Places
         ensures { NamesOnly (list_of result) self.now }
     {

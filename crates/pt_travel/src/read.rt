@@ -1,10 +1,15 @@
-ghost use Rattle.std.specs.Prelude.{◌≡◌, ◌≤◌, ◌⊎◌, length, IfOk, IfErr};
+ghost use Rattle.std.specs.Prelude.{◌≡◌, ◌⊎◌, true, Some, IfOk, IfErr};
+ghost use Rattle.csv.specs.Reading.{ReadRecord, Ready, reader_trim};
+ghost use Rattle.csv.specs.Records.{fields_of};
+ghost use Rattle.csv.specs.declared.reader.Trim.TheVariants as trim;
 ghost use Rattle.pt_base.specs.declared.fault.TheConstants.{MEMORY};
+ghost use Rattle.pt_travel.specs.Places.{list_of};
 ghost use Rattle.pt_travel.specs.Text.{IsFirstFault, ReadsAs};
 
+use crate::places::Places;
 use crate::raw::{MOST_PLACES, Raw, Row};
 use crate::record;
-use csv::ReaderBuilder;
+use csv::{ByteRecord, Reader, ReaderBuilder};
 use pt_base::fault::{TRAVEL_HEADER, TRAVEL_PLACES};
 use pt_base::{Fault, PlaceId};
 use std::alloc::Global;
@@ -25,29 +30,26 @@ impl Raw {
         if places.len() > MOST_PLACES {
             return Err(Fault::of(TRAVEL_PLACES));
         }
-        let rows = read_rows(alloc, text, places)?;
-        Ok(Raw::of(rows).unwrap())
+        let places = Places::listed(places);
+        let rows = read_rows(alloc, text, &places)?;
+        Ok(Raw::naming(rows, places))
     }
 }
 
 // The rows of the records below the header, in order and each once.
-fn read_rows(alloc: Global, text: &[u8], places: &[PlaceId]) -> Result<Vec<Row>, Fault>
-    requires { length places.now ≤ 100 }
-    ensures reads { IfOk result (λ rows. ReadsAs text.now places.now rows.items) }
+fn read_rows(alloc: Global, text: &[u8], places: &Places) -> Result<Vec<Row>, Fault>
+    ensures reads { IfOk result (λ rows. ReadsAs text.now (list_of places.now) rows.items) }
     ensures faulty { IfErr result (λ fault. (fault ≡ record { code = MEMORY; row = 0 })
-        ⊎ IsFirstFault text.now places.now fault) }
+        ⊎ IsFirstFault text.now (list_of places.now) fault) }
 {
-    let reader = ReaderBuilder::new()
+    let mut reader = ReaderBuilder::new()
         .has_headers(false)
         .flexible(true)
         .from_reader(alloc, text);
+    let mut record = ByteRecord::new(alloc);
     let mut rows = Vec::new(alloc);
     let mut number: u32 = 0;
-    for next in reader.into_byte_records() {
-        // The bytes lie in memory and a record may have any length, so no read fails but for memory.
-        let Ok(record) = next else {
-            return Err(Fault::of(pt_base::fault::MEMORY));
-        };
+    while next_record(&mut reader, &mut record)? {
         number = number.saturating_add(1);
         record::take(&mut rows, places, &record, number)?;
     }
@@ -58,4 +60,19 @@ fn read_rows(alloc: Global, text: &[u8], places: &[PlaceId]) -> Result<Vec<Row>,
         });
     }
     Ok(rows)
+}
+
+// Reads the next record of a text in memory, if there is one.
+fn next_record(reader: &mut Reader<&[u8]>, given: &mut ByteRecord) -> Result<bool, Fault>
+    requires untrimmed { reader_trim reader.old ≡ trim.None }
+    requires ready { Ready reader.old }
+    ensures reads { IfOk result (λ found. ReadRecord (λ s. Some s.now) reader.old reader.new found (fields_of given.new)) }
+    ensures ready { IfOk result (λ found. found ≡ true → Ready reader.new) }
+    ensures refused { IfErr result (λ fault. fault ≡ record { code = MEMORY; row = 0 }) }
+{
+    // The bytes lie in memory and a record may have any length, so no read fails but for memory.
+    match reader.read_byte_record(given) {
+        Ok(found) => Ok(found),
+        Err(_) => Err(Fault::of(pt_base::fault::MEMORY)),
+    }
 }

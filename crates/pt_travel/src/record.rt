@@ -1,28 +1,30 @@
 ghost use Rattle.std.specs.Prelude.{◌≡◌, ℕ, ◌⊎◌, ◌↔◌, List, [], ◌∷◌, ◌++◌, length, slice_index_or, IsTrue, IfOk, OnOk, IfErr};
 ghost use Rattle.csv.specs.Records.{fields_of};
 ghost use Rattle.pt_base.specs.declared.fault.TheConstants.{MEMORY};
+ghost use Rattle.pt_travel.specs.Places.{list_of};
 ghost use Rattle.pt_travel.specs.Table.{Rises};
 ghost use Rattle.pt_travel.specs.Text.{HasFault, IsNextFault, IsReadSoFar, IsSound, Record, header, number_after, row_of};
 
+use crate::places::Places;
 use crate::raw::Row;
 use crate::{fields, sorted};
 use csv::ByteRecord;
+use pt_base::Fault;
 use pt_base::fault::{TRAVEL_HEADER, TRAVEL_MINUTES, TRAVEL_PLACE, TRAVEL_RECORD};
-use pt_base::{Fault, PlaceId};
 
 /// Takes the record of this number: the header row, or a row to stand among the others in order.
 pub fn take(
     rows: &mut Vec<Row>,
-    places: &[PlaceId],
+    places: &Places,
     given: &ByteRecord,
     number: u32,
 ) -> Result<(), Fault>
     requires { Rises rows.old.items }
     ensures taken { OnOk result ((seen : List Record) → number ≡ number_after (length seen)
-        → IsReadSoFar places.now seen rows.old.items → IsReadSoFar places.now (seen ++ fields_of given.now ∷ []) rows.new.items) }
+        → IsReadSoFar (list_of places.now) seen rows.old.items → IsReadSoFar (list_of places.now) (seen ++ fields_of given.now ∷ []) rows.new.items) }
     ensures faulty { IfErr result (λ fault. (fault ≡ record { code = MEMORY; row = 0 })
-        ⊎ ((seen : List Record) → number ≡ number_after (length seen) → IsReadSoFar places.now seen rows.old.items
-        → IsNextFault places.now seen (fields_of given.now) fault)) }
+        ⊎ ((seen : List Record) → number ≡ number_after (length seen) → IsReadSoFar (list_of places.now) seen rows.old.items
+        → IsNextFault (list_of places.now) seen (fields_of given.now) fault)) }
 {
     if number == 1 {
         return header(given);
@@ -54,9 +56,9 @@ fn header(given: &ByteRecord) -> Result<(), Fault>
 }
 
 // The row that a record reads as, or the code of what is wrong with it.
-fn row(given: &ByteRecord, places: &[PlaceId]) -> Result<Row, u16>
-    ensures sound { IfOk result (λ row. IsSound places.now (fields_of given.now) × (row ≡ row_of (fields_of given.now))) }
-    ensures faulty { IfErr result (λ code. (earlier : List Record) → HasFault places.now earlier (fields_of given.now) code) }
+fn row(given: &ByteRecord, places: &Places) -> Result<Row, u16>
+    ensures sound { IfOk result (λ row. IsSound (list_of places.now) (fields_of given.now) × (row ≡ row_of (fields_of given.now))) }
+    ensures faulty { IfErr result (λ code. (earlier : List Record) → HasFault (list_of places.now) earlier (fields_of given.now) code) }
 {
     if given.len() != 3 {
         return Err(TRAVEL_RECORD);

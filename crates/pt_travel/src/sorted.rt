@@ -32,8 +32,20 @@ pub fn put(rows: &mut Vec<Row>, row: Row, number: u32) -> Result<(), Fault>
     }
 }
 
-// How many rows come before this one.
+// How many rows come before this one: all of them, where a table is given in order.
 fn place_for(rows: &[Row], row: &Row) -> usize
+    requires { Rises rows.now }
+    ensures within { result ≤ length rows.now }
+    ensures before { (j : ℕ) → j < result → ComesBefore (slice_index_or rows.now j (0, 0, 0)) row.now }
+    ensures after { result < length rows.now → ComesBefore (slice_index_or rows.now result (0, 0, 0)) row.now → ⊥ }
+{
+    match rows.last() {
+        Some(last) if comes_before(last, row) => rows.len(),
+        _ => place_by_halving(rows, row),
+    }
+}
+
+fn place_by_halving(rows: &[Row], row: &Row) -> usize
     requires { Rises rows.now }
     ensures within { result ≤ length rows.now }
     ensures before { (j : ℕ) → j < result → ComesBefore (slice_index_or rows.now j (0, 0, 0)) row.now }

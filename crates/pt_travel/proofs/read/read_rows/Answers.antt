@@ -1,83 +1,109 @@
-use Rattle.std.proofs.Common.{Bor, ◌≡◌, ◌∙◌, ◌⊎◌, ℕ, List, Some, inl, inr, refl, sym, [], ◌∷◌, ◌++◌, arith}
-use Rattle.std.proofs.lemmas.List.{length-append}
+use Rattle.std.proofs.Common.{◌≡◌, ◌≤◌, ◌∙◌, ◌⊎◌, inl, inr, refl, sym, subst, List, [], ◌∷◌, ◌++◌, length, arith}
+use Rattle.std.proofs.lemmas.List.{length-append, length-take}
 use Rattle.std.proofs.lemmas.Result.{err_from_is_err_and}
-use Rattle.csv.specs.Reading.{Reached, default_config, source_of, strip_bom}
+use Rattle.csv.specs.Reading.{Reached, strip_bom}
 use Rattle.csv.specs.Records.{fields_of}
-use Rattle.csv.specs.declared.parser.State.TheVariants as st
-use Rattle.csv.proofs.ReadFacts.{rows-more}
 use Rattle.pt_base.specs.declared.fault.TheConstants.{MEMORY}
-use Rattle.pt_travel.specs.Text.{IsFirstFault}
-use Rattle.pt_travel.proofs.RecordLemmas.{first-fault}
+use Rattle.pt_travel.specs.Places.{list_of}
+use Rattle.pt_travel.specs.Text.{HasRecords, IsFirstFault}
+use Rattle.pt_travel.specs.declared.places.Places.{Places}
+use Rattle.pt_travel.proofs.ReaderLemmas.{HasGiven, given-all, given-less, given-more}
+use Rattle.pt_travel.proofs.RecordLemmas.{first-fault, reads-all, rises-so-far}
 use Rattle.pt_travel.proofs.read.read_rows.Goals as goal
 use Rattle.pt_travel.proofs.read.read_rows.Goals.{After-take}
 
-pub loop-next-init : goal.loop-next-init
+pub loop-rows-init : goal.loop-rows-init
 unfolding Reached
-loop-next-init c =
+loop-rows-init c =
     let fr = c.from_reader-reader.ensures in
     let built = c.flexible.ensures in
     let headers = c.has_headers.ensures in
-    let start = c.into_iter-next-iterator.ensures.into_iter_gives ∙ refl in
-    let rdr = c.into_byte_records-next-items.ensures.rdr in
-    let left = c.into_byte_records-next-items.ensures.left in
     let trim = rw (built, headers) at fr.trim in
     let named = rw (built, headers) at fr.has_headers in
     let config = rw (built, headers) at fr.config in
-    rw (start, rdr, c.new-rows.ensures.items)
-    (record {
-      untrimmed = trim ∙ c.new.ensures.trim;
-      ready = inr (inr (named, fr.headers));
-      turns = left;
-      config = config ∙ c.new.ensures.config;
-      seen = ([], strip_bom c.args.text.now, fr.source, (sym fr.state, refl), inl (refl, refl), refl);
-    })
+    record {
+      seen = [];
+      given = record {
+        untrimmed = trim ∙ c.new.ensures.trim;
+        ready = inr (inr (named, fr.headers));
+        config = config ∙ c.new.ensures.config;
+        rest = strip_bom c.args.text.now;
+        source = fr.source;
+        reached = (sym fr.state, refl);
+      };
+      so_far = inl (refl, c.new-rows.ensures.items);
+      number = refl;
+    }
 
--- the record of this turn, after those before it
-record_read : (c : After-take) → (rest : List ℕ) × (source_of (λ (s : Bor (List ℕ)). Some s.now) c.next.new.self.rdr ≡ Some rest)
-    × Reached default_config st.StartRecord (strip_bom c.args.text.now) (c.loop-next.invariant.seen.0 ++ (fields_of c.in-Ok.record ∷ [])) c.next.new.self.rdr.state rest
-record_read c =
-    let inv = c.loop-next.invariant in
-    let (records, rest, source, reached, so_far, number) = inv.seen in
-    let s = rw (c.in-Some.is, c.in-Ok.is) at ((c.next.ensures.steps inv.turns inv.untrimmed).0 inv.ready) in
-    rows-more (λ (s : Bor (List ℕ)). Some s.now) c.loop-next.next-iterator.rdr c.next.new.self.rdr (fields_of c.in-Ok.record) default_config st.StartRecord (strip_bom c.args.text.now) rest records inv.config source reached
-    s.0
+pub next_record-requires-clause-untrimmed : goal.next_record-requires-clause-untrimmed
+next_record-requires-clause-untrimmed c = c.loop-rows.invariant.given.untrimmed
+
+pub next_record-requires-clause-ready : goal.next_record-requires-clause-ready
+next_record-requires-clause-ready c = c.loop-rows.invariant.given.ready
+
+pub take-requires : goal.take-requires
+take-requires c = rises-so-far (list_of c.args.places.now) c.loop-rows.invariant.seen c.loop-rows.rows.items c.loop-rows.invariant.so_far
+
+pub loop-rows-smaller : goal.loop-rows-smaller
+loop-rows-smaller c =
+    let inv = c.loop-rows.invariant in
+    let reads = rw c.if-branch.true at c.in_ok-next_record.ensures.reads in
+    given-less c.args.text.now inv.seen c.loop-rows.reader c.next_record.new.reader (fields_of c.next_record.new.given) inv.given reads
+
+-- what was given with the record of this turn
+given : (c : After-take) → HasGiven c.args.text.now (c.loop-rows.invariant.seen ++ fields_of c.next_record.new.given ∷ []) c.next_record.new.reader
+given c =
+    let inv = c.loop-rows.invariant in
+    let reads = rw c.if-branch.true at c.in_ok-next_record.ensures.reads in
+    let ready = c.in_ok-next_record.ensures.ready c.if-branch.true in
+    given-more c.args.text.now inv.seen c.loop-rows.reader c.next_record.new.reader (fields_of c.next_record.new.given) inv.given reads ready
+
+pub loop-rows-preserved : goal.loop-rows-preserved
+loop-rows-preserved c =
+    let inv = c.loop-rows.invariant in
+    let fields = fields_of c.next_record.new.given in
+    record {
+      seen = inv.seen ++ fields ∷ [];
+      given = given ((goal.at.loop-rows-preserved c).After-take);
+      so_far = c.in_ok-take.ensures.taken inv.seen (omega (arith, inv.number, c.saturating_add-number.ensures)) inv.so_far;
+      number = omega (arith, inv.number, c.saturating_add-number.ensures, length-append inv.seen (fields ∷ []));
+    }
+
+few : (places : Places) → length (list_of places) ≤ 100
+few places = omega (arith, places.within, length-take places.len places.numbers)
 
 pub returns-in_err-take-clause-faulty : goal.returns-in_err-take-clause-faulty
 returns-in_err-take-clause-faulty c =
-    let p = err_from_is_err_and c.from_residual.result c.from_residual.ensures.1 in
+    let p = err_from_is_err_and c.from_residual-in_err-take.result c.from_residual-in_err-take.ensures.1 in
+    let inv = c.loop-rows.invariant in
     let fault = c.in_err-take.field-0.0 in
-    let (records, rest, source, reached, so_far, number) = c.loop-next.invariant.seen in
-    let (after, source', reached') = record_read ((goal.at.returns-in_err-take-clause-faulty c).After-take) in
-    let fields = fields_of c.in-Ok.record in
-    let why : (fault ≡ record { code = MEMORY; row = 0 }) ⊎ IsFirstFault c.args.text.now c.args.places.now fault =
+    let after = given ((goal.at.returns-in_err-take-clause-faulty c).After-take) in
+    let places = list_of c.args.places.now in
+    let why : (fault ≡ record { code = MEMORY; row = 0 }) ⊎ IsFirstFault c.args.text.now places fault =
     elim c.in_err-take.ensures.faulty [
       | inl memory ↦ inl memory
       | inr next ↦
           inr
-          (first-fault c.args.places.now records fields c.args.text.now fault c.requires (c.next.new.self.rdr.state, after, reached')
-          (next records (omega (arith, number, c.saturating_add-number.ensures)) so_far))
+          (first-fault places inv.seen (fields_of c.next_record.new.given) c.args.text.now fault (few c.args.places.now) (c.next_record.new.reader.state, after.rest, after.reached)
+          (next inv.seen (omega (arith, inv.number, c.saturating_add-number.ensures)) inv.so_far))
     ]
     in
     rw (p.1, p.2) why
 
-pub loop-next-preserved : goal.loop-next-preserved
-loop-next-preserved c =
-    let inv = c.loop-next.invariant in
-    let (records, rest, source, reached, so_far, number) = inv.seen in
-    let s = rw (c.in-Some.is, c.in-Ok.is) at ((c.next.ensures.steps inv.turns inv.untrimmed).0 inv.ready) in
-    let (after, source', reached') = record_read ((goal.at.loop-next-preserved c).After-take) in
-    let fields = fields_of c.in-Ok.record in
-    record {
-      untrimmed = s.0.3 ∙ inv.untrimmed;
-      ready = inl s.1;
-      turns = s.2;
-      config = s.0.2 ∙ inv.config;
-      seen = (
-        records ++ (fields ∷ []),
-        after,
-        source',
-        reached',
-        c.in_ok-take.ensures.taken records (omega (arith, number, c.saturating_add-number.ensures)) so_far,
-        omega (arith, number, c.saturating_add-number.ensures, length-append records (fields ∷ [])),
-      );
-    }
+empty : {X : Type 0} → (xs : List X) → length xs ≡ 0 → xs ≡ []
+empty [] none = refl
+empty (x ∷ xs) none = absurd (omega arith)
+
+pub returns-then-number-eq0-clause-faulty : goal.returns-then-number-eq0-clause-faulty
+returns-then-number-eq0-clause-faulty c =
+    let inv = c.loop-rows.invariant in
+    let reads = rw c.if-branch.false at c.in_ok-next_record.ensures.reads in
+    let all = given-all c.args.text.now inv.seen c.loop-rows.reader c.next_record.new.reader (fields_of c.next_record.new.given) inv.given reads in
+    inr (inr (inl (refl, few c.args.places.now, inl (subst (HasRecords c.args.text.now) (empty inv.seen (omega (arith, inv.number))) all))))
+
+pub returns-clause-reads : goal.returns-clause-reads
+returns-clause-reads c =
+    let inv = c.loop-rows.invariant in
+    let reads = rw c.if-branch.false at c.in_ok-next_record.ensures.reads in
+    let all = given-all c.args.text.now inv.seen c.loop-rows.reader c.next_record.new.reader (fields_of c.next_record.new.given) inv.given reads in
+    reads-all c.args.text.now (list_of c.args.places.now) inv.seen c.loop-rows.rows.items (few c.args.places.now) (omega (arith, inv.number)) all inv.so_far

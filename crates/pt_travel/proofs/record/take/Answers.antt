@@ -3,6 +3,7 @@ use Rattle.std.proofs.lemmas.Result.{IfErr-weaker}
 use Rattle.pt_base.specs.declared.fault.Fault.{Fault}
 use Rattle.pt_travel.specs.Chain.{Row}
 use Rattle.csv.specs.Records.{fields_of}
+use Rattle.pt_travel.specs.Places.{list_of}
 use Rattle.pt_travel.specs.Text.{Conflicts}
 use Rattle.pt_travel.proofs.RecordLemmas.{so-far-more, next-fault}
 use Rattle.pt_travel.proofs.record.take.Goals as goal
@@ -18,7 +19,7 @@ returns-in-Ok-clause-taken c =
     let (sound, is) = c.in-Ok.ensures.sound in
     both-ok _ _ _ c.put.result
     (λ rises rows seen number so_far.
-    so-far-more c.args.places.now seen fields c.args.rows.now.items new (omega (arith, number)) so_far sound rises
+    so-far-more (list_of c.args.places.now) seen fields c.args.rows.now.items new (omega (arith, number)) so_far sound rises
     (subst (λ (r : Row). (other : Row) → Contains new other ↔ (Contains c.args.rows.now.items other ⊎ (other ≡ r))) is rows))
     c.put.ensures.rises c.put.ensures.rows
 
@@ -33,7 +34,7 @@ returns-in-Ok-clause-faulty c =
           let (at, other, there, conflict) = pair in
           inr
           (λ seen number so_far.
-          next-fault c.args.places.now seen fields c.args.rows.now.items fault (omega (arith, number)) so_far
+          next-fault (list_of c.args.places.now) seen fields c.args.rows.now.items fault (omega (arith, number)) so_far
           (λ records sorted.
           inr (inr (inr (ap (λ (f : Fault). f.code) at, sound, other, (sorted.1 other).0 there, subst (λ (r : Row). Conflicts r other) is conflict))))
           (ap (λ (f : Fault). f.row) at ∙ number))
@@ -44,4 +45,4 @@ pub returns-in-Err-clause-faulty : goal.returns-in-Err-clause-faulty
 returns-in-Err-clause-faulty c =
     inr
     (λ seen number so_far.
-    next-fault c.args.places.now seen (fields_of c.args.given.now) c.args.rows.now.items _ (omega (arith, number)) so_far (λ records sorted. c.in-Err.ensures.faulty records) number)
+    next-fault (list_of c.args.places.now) seen (fields_of c.args.given.now) c.args.rows.now.items _ (omega (arith, number)) so_far (λ records sorted. c.in-Err.ensures.faulty records) number)

@@ -1,25 +1,18 @@
-use Rattle.std.proofs.Common.{◌≡◌, ℕ, ◌+◌, ◌-◌, ◌/◌, inl, inr, get_or, refl, subst, arith}
-use Rattle.std.proofs.lemmas.Bool.{cases_lt}
-use Rattle.std.proofs.lemmas.List.{get_or_read}
+use Rattle.std.proofs.Common.{ℕ, ◌-◌, inl, inr, get_or, length, refl, sym, subst, arith}
+use Rattle.std.proofs.lemmas.Bool.{cases_eq}
 use Rattle.pt_travel.specs.Chain.{Row}
 use Rattle.pt_travel.specs.Table.{ComesBefore}
 use Rattle.pt_travel.proofs.SortedLemmas.{before-trans, rises-apart}
 use Rattle.pt_travel.proofs.sorted.place_for.Goals as goal
 
-pub loop-low-preserved-then-comes_before : goal.loop-low-preserved-then-comes_before
-loop-low-preserved-then-comes_before c =
+pub returns-in-Some-clause-before : goal.returns-in-Some-clause-before
+returns-in-Some-clause-before c j in_j =
     let rows = c.args.rows.now in
     let row = c.args.row.now in
-    let middle = c.loop-low.low + (c.loop-low.high - c.loop-low.low) / 2 in
-    let found = c.index-rows-middle.result in
-    let is = get_or_read rows middle found (omega (arith, c.loop-low.invariant.within)) c.index-rows-middle.is (0, 0, 0) in
-    let here : ComesBefore (get_or rows middle (0, 0, 0)) row = subst (λ (r : Row). ComesBefore r row) is (c.if-comes_before.ensures.0 refl) in
-    record {
-      ordered = omega (arith, c.loop-low.invariant.ordered);
-      within = c.loop-low.invariant.within;
-      before = λ j less. elim (cases_lt j middle) [
-        | inl earlier ↦ before-trans (get_or rows j (0, 0, 0)) (get_or rows middle (0, 0, 0)) row (rises-apart rows c.requires j middle earlier (omega (arith, c.loop-low.invariant.within))) here
-        | inr last ↦ let e : middle ≡ j = omega arith in subst (λ (x : ℕ). ComesBefore (get_or rows x (0, 0, 0)) row) e here
-      ];
-      after = c.loop-low.invariant.after;
-    }
+    let end = length rows - 1 in
+    let is = c.in-Some.ensures.item.3.1 (0, 0, 0) in
+    let last : ComesBefore (get_or rows end (0, 0, 0)) row = subst (λ (r : Row). ComesBefore r row) is (c.if-comes_before.ensures.0 refl) in
+    elim (cases_eq j end) [
+      | inl here ↦ subst (λ (i : ℕ). ComesBefore (get_or rows i (0, 0, 0)) row) (sym here) last
+      | inr apart ↦ before-trans (get_or rows j (0, 0, 0)) (get_or rows end (0, 0, 0)) row (rises-apart rows c.requires j end (omega arith) (omega arith)) last
+    ]

@@ -1,6 +1,6 @@
 use Rattle.std.proofs.Common.{ℕ, ◌-◌, ◌<◌, ◌≤◌, length, get_or}
 use Rattle.pt_travel.specs.Table.{ComesBefore}
-use Rattle.pt_travel.proofs.sorted.place_for.Given as goal
+use Rattle.pt_travel.proofs.sorted.place_by_halving.Given as goal
 
 abbrev pub invariant-loop-low : goal.invariant-loop-low
 invariant-loop-low l = record {
