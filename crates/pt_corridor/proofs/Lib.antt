@@ -1,4 +1,5 @@
 pub mod AnyDecided
+pub mod Box
 pub mod Bridge
 pub mod Decided
 pub mod Squares

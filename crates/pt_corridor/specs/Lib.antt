@@ -1,3 +1,4 @@
+pub mod Box
 pub mod Corridor
 pub mod Near
 pub mod Route

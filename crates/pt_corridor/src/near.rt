@@ -1,5 +1,6 @@
 ghost use Rattle.std.specs.Prelude.{◌≡◌, ◌↔◌, ◌-ℤ◌, IsTrue, All};
 ghost use Rattle.pt_base.specs.Place.{IsOnPlane};
+ghost use Rattle.pt_corridor.specs.Box.{FallsShort, IsBeyond, IsOutsideBox};
 ghost use Rattle.pt_corridor.specs.Near.{IsNearSegment, IsNearLine, squared_length};
 ghost use Rattle.pt_corridor.specs.Way.{IsWay, dot_product, cross_product};
 
@@ -66,13 +67,38 @@ fn is_near_segment(point: Point, start: Point, end: Point, feet: u32) -> bool
     across * across <= reach * length
 }
 
+// Whether so many feet from one coordinate on do not come to another.
+fn falls_short(feet: u32, from: i32, to: i32) -> bool
+    ensures { IsTrue result ↔ FallsShort feet from to }
+{
+    i64::from(from) + i64::from(feet) < i64::from(to)
+}
+
+// Whether both ends of a segment lie further than so many feet to one side, in one coordinate.
+fn is_beyond(feet: u32, at: i32, start: i32, end: i32) -> bool
+    ensures { IsTrue result ↔ IsBeyond feet at start end }
+{
+    falls_short(feet, at, start) && falls_short(feet, at, end)
+        || falls_short(feet, start, at) && falls_short(feet, end, at)
+}
+
+// Whether the point is not in the box that goes so many feet around the segment.
+fn is_outside_box(point: Point, start: Point, end: Point, feet: u32) -> bool
+    ensures { IsTrue result ↔ IsOutsideBox feet point start end }
+{
+    is_beyond(feet, point.x, start.x, end.x) || is_beyond(feet, point.y, start.y, end.y)
+}
+
 /// Whether the point is within so many feet of one of the line's segments.
+///
+/// A segment is measured only where the point is in the box around it.
 pub(crate) fn is_near_line(line: &[Point], point: Point, feet: u32) -> bool
     requires { All (λ p. IsOnPlane p.x p.y) line.now }
     ensures { IsTrue result ↔ IsNearLine feet point line.now }
 {
     for end in 1..line.len() {
-        if is_near_segment(point, line[end - 1], line[end], feet) {
+        let (start, end) = (line[end - 1], line[end]);
+        if !is_outside_box(point, start, end, feet) && is_near_segment(point, start, end, feet) {
             return true;
         }
     }
