@@ -2,15 +2,15 @@ ghost use Rattle.std.specs.Prelude.{◌≡◌, ◌↔◌, ◌-ℤ◌, IsTrue, Al
 ghost use Rattle.pt_base.specs.Place.{IsOnPlane};
 ghost use Rattle.pt_corridor.specs.Box.{FallsShort, IsBeyond, IsOutsideBox};
 ghost use Rattle.pt_corridor.specs.Near.{IsNearSegment, IsNearLine, squared_length};
-ghost use Rattle.pt_corridor.specs.Way.{IsWay, dot_product, cross_product};
+ghost use Rattle.pt_corridor.specs.Way.{IsWay, IsWayOnPlane, dot_product, cross_product};
 
 use pt_base::Point;
 
 /// The way from one point to another, in feet east and north.
 #[derive(Clone, Copy)]
 struct Way {
-    east: i128,
-    north: i128,
+    east: i64,
+    north: i64,
     ghost in_range: { IsWay east north },
 }
 
@@ -20,18 +20,20 @@ impl Way {
         ensures north { result.north ≡ to.y -ℤ from.y }
     {
         Way {
-            east: i128::from(to.x) - i128::from(from.x),
-            north: i128::from(to.y) - i128::from(from.y),
+            east: i64::from(to.x) - i64::from(from.x),
+            north: i64::from(to.y) - i64::from(from.y),
         }
     }
 
-    fn dot(self, other: Way) -> i128
+    fn dot(self, other: Way) -> i64
+        requires { IsWayOnPlane other.east other.north }
         ensures { result ≡ dot_product self.east self.north other.east other.north }
     {
         self.east * other.east + self.north * other.north
     }
 
-    fn cross(self, other: Way) -> i128
+    fn cross(self, other: Way) -> i64
+        requires { IsWayOnPlane other.east other.north }
         ensures { result ≡ cross_product self.east self.north other.east other.north }
     {
         self.east * other.north - self.north * other.east
@@ -40,7 +42,9 @@ impl Way {
     fn squared_length(self) -> i128
         ensures { result ≡ squared_length self.east self.north }
     {
-        self.dot(self)
+        let east = i128::from(self.east);
+        let north = i128::from(self.north);
+        east * east + north * north
     }
 }
 
@@ -56,14 +60,15 @@ fn is_near_segment(point: Point, start: Point, end: Point, feet: u32) -> bool
     let to_point = Way::between(start, point);
     let to_end = Way::between(start, end);
     let along = to_point.dot(to_end);
-    let length = to_end.squared_length();
     if along <= 0 {
         return to_point.squared_length() <= reach;
     }
+    let length = to_end.dot(to_end);
     if along >= length {
         return Way::between(end, point).squared_length() <= reach;
     }
-    let across = to_point.cross(to_end);
+    let across = i128::from(to_point.cross(to_end));
+    let length = i128::from(length);
     across * across <= reach * length
 }
 
