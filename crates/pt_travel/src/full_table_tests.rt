@@ -49,7 +49,10 @@ fn a_full_table_is_read_and_closed(rt: HostRuntime) -> Result<(), Fail> {
     text.push_str("4294967196,4294967197,11\n")?;
     assert_eq!(rt;
         Raw::read(alloc, text.as_bytes(), &places).err(),
-        Some(Fault { code: 24, row: 9_902 })
+        Some(Fault {
+            code: 24,
+            row: 9_902
+        })
     );
     Ok(())
 }
