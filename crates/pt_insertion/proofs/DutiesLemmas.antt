@@ -1,16 +1,16 @@
 -- The best in the routes of the vehicles so far, and of one more vehicle.
-use Rattle.std.proofs.Common.{◌≡◌, ℕ, ◌+◌, ◌<◌, ◌≤◌, ◌⊎◌, List, Option, Some, None, length, nat_lt, get_or, IfSome, IfNone, inl, inr, refl, ap, sym, subst, ◌∙◌, arith}
+use Rattle.std.proofs.Common.{◌≡◌, ℕ, ◌+◌, ◌<◌, ◌≤◌, ◌⊎◌, List, Option, Some, None, length, get_or, IfSome, IfNone, inl, inr, ap, sym, subst, ◌∙◌, arith}
 use Rattle.std.specs.Prelude.{⊤, All, AllPairs, Any}
-use Rattle.std.proofs.lemmas.Bool.{ltb-true, ltb-false, cases_Bool, cases_lt}
+use Rattle.std.proofs.lemmas.Bool.{cases_lt}
 use Rattle.std.proofs.lemmas.List.{get_or_read}
 use Rattle.pt_feasible.specs.Route.{stops_of}
 use Rattle.pt_insertion.specs.declared.asked.Asked.{Asked}
 use Rattle.pt_insertion.specs.declared.chosen.Chosen.{Chosen}
 use Rattle.pt_insertion.specs.declared.duty.Duty.{Duty}
 use Rattle.pt_insertion.specs.Choice.{IsChosenIn, IsNoWorseThan, IsBestIn}
-use Rattle.pt_insertion.specs.BestAmong.{IsBestAmong, better_of}
+use Rattle.pt_insertion.specs.BestBelow.{IsBestBelow, limit_after, later_of}
 use Rattle.pt_insertion.specs.Possible.{IsPossible}
-use Rattle.pt_insertion.proofs.BestLemmas.{less_driving}
+use Rattle.pt_insertion.proofs.BelowLemmas.{less_driving}
 
 -- the best in the routes of the first n duties
 pub record IsBestSoFar (minutes : ℕ → ℕ → Option ℕ) (duties : List Duty) (asked : Asked) (n : ℕ) (best : Option Chosen) : Type 0 where
@@ -21,17 +21,14 @@ pub record IsBestSoFar (minutes : ℕ → ℕ → Option ℕ) (duties : List Dut
   pub least : IfSome best (λ choice. (k : ℕ) (d : Duty) → k < n →
       IsBestIn minutes (get_or duties k d).vehicle.now (stops_of (get_or duties k d).route.now) asked choice)
 
--- a choice of no more driving in an earlier vehicle is no worse than what a later vehicle's choice is no worse than
-earlier_vehicle : (first second : Chosen) (added vehicle i j : ℕ) → first.added ≤ second.added → first.vehicle < vehicle →
-    IsNoWorseThan second added vehicle i j → IsNoWorseThan first added vehicle i j
-earlier_vehicle first second added vehicle i j less before no_worse =
-    let at_most : second.added ≤ added = no_worse.driving_first in
-    record {
-      driving_first = omega arith;
-      then_vehicle = λ _. omega arith;
-      then_pickup = λ _ same. absurd (omega arith);
-      then_drop = λ _ same _. absurd (omega arith);
-    }
+-- a choice in an earlier vehicle is no worse than what adds as much driving in a later one
+earlier_vehicle : (first : Chosen) (added vehicle i j : ℕ) → first.added ≤ added → first.vehicle < vehicle → IsNoWorseThan first added vehicle i j
+earlier_vehicle first added vehicle i j less before = record {
+  driving_first = less;
+  then_vehicle = λ _. omega arith;
+  then_pickup = λ _ same. absurd (omega arith);
+  then_drop = λ _ same _. absurd (omega arith);
+}
 
 -- one of the first n duties, or the next one
 first_or_next : (duties : List Duty) (n : ℕ) (duty : Duty) → n < length duties → duty ≡ get_or duties n duty →
@@ -51,14 +48,15 @@ no_duties_yet minutes duties asked = record {
 }
 
 -- the routes of one vehicle more
-pub one_more_duty : (minutes : ℕ → ℕ → Option ℕ) (duties : List Duty) (asked : Asked) (n : ℕ) (duty : Duty) (best other new : Option Chosen) →
+pub one_more_duty : (minutes : ℕ → ℕ → Option ℕ) (duties : List Duty) (asked : Asked) (n : ℕ) (duty : Duty) (narrower : Option ℕ) (best other new : Option Chosen) →
     n < length duties → duty ≡ get_or duties n duty →
     AllPairs (λ first second. first.vehicle.now.id < second.vehicle.now.id) duties →
-    new ≡ better_of best other → IsBestSoFar minutes duties asked n best →
-    IsBestAmong minutes duty.vehicle.now (stops_of duty.route.now) asked (λ pickup drop. ⊤) other →
+    new ≡ later_of best other → narrower ≡ limit_after None best → IsBestSoFar minutes duties asked n best →
+    IsBestBelow minutes duty.vehicle.now (stops_of duty.route.now) asked (λ pickup drop. ⊤) narrower other →
     IsBestSoFar minutes duties asked (n + 1) new
-one_more_duty minutes duties asked n duty best other new within at rising same is_best is_other =
-    subst (λ (choice : Option Chosen). IsBestSoFar minutes duties asked (n + 1) choice) (sym same) (go best other is_best is_other)
+one_more_duty minutes duties asked n duty narrower best other new within at rising same narrow is_best is_other =
+    subst (λ (choice : Option Chosen). IsBestSoFar minutes duties asked (n + 1) choice) (sym same) (go best other is_best
+    (subst (λ (o : Option ℕ). IsBestBelow minutes duty.vehicle.now (stops_of duty.route.now) asked (λ pickup drop. ⊤) o other) narrow is_other))
   where
     -- what holds of the next duty holds of it in the list
     next_is : (P : Duty → Type 0) → P duty → (k : ℕ) (d : Duty) → duty ≡ get_or duties k d → P (get_or duties k d)
@@ -85,8 +83,8 @@ one_more_duty minutes duties asked n duty best other new within at rising same i
         omega arith
 
     go : (best other : Option Chosen) → IsBestSoFar minutes duties asked n best →
-        IsBestAmong minutes duty.vehicle.now (stops_of duty.route.now) asked (λ pickup drop. ⊤) other →
-        IsBestSoFar minutes duties asked (n + 1) (better_of best other)
+        IsBestBelow minutes duty.vehicle.now (stops_of duty.route.now) asked (λ pickup drop. ⊤) (limit_after None best) other →
+        IsBestSoFar minutes duties asked (n + 1) (later_of best other)
     go None None is_best is_other = record {
       none = λ k d h. elim (first_or_next duties n duty within at k d h) [
         | inl before ↦ is_best.none k d before
@@ -111,38 +109,18 @@ one_more_duty minutes duties asked n duty best other new within at rising same i
       least = λ k d h. elim (first_or_next duties n duty within at k d h) [
         | inl before ↦ is_best.least k d before
         | inr next ↦ next_is (λ (x : Duty). IsBestIn minutes x.vehicle.now (stops_of x.route.now) asked choice)
-            (λ i j possible. absurd (is_other.none i j tt possible)) k d next
+            (λ i j possible. earlier_vehicle choice _ _ i j (is_other.none i j tt possible) (before_next choice is_best)) k d next
       ];
     }
-    go (Some first) (Some second) is_best is_other =
-        elim (cases_Bool (nat_lt second.added first.added)) [
-          | inl less ↦ subst (λ (choice : Option Chosen). IsBestSoFar minutes duties asked (n + 1) choice) (rw less refl)
-              (the_second (ltb-true second.added first.added less))
-          | inr more ↦ subst (λ (choice : Option Chosen). IsBestSoFar minutes duties asked (n + 1) choice) (rw more refl)
-              (the_first (ltb-false second.added first.added more))
-        ]
-      where
-        the_second : second.added < first.added → IsBestSoFar minutes duties asked (n + 1) (Some second)
-        the_second less = record {
-          none = tt;
-          chosen = chosen_next second is_other.chosen;
-          least = λ k d h. elim (first_or_next duties n duty within at k d h) [
-            | inl before ↦ λ i j possible. less_driving first second _ _ i j less (is_best.least k d before i j possible)
-            | inr next ↦ next_is (λ (x : Duty). IsBestIn minutes x.vehicle.now (stops_of x.route.now) asked second)
-                (λ i j possible. is_other.least i j tt possible) k d next
-          ];
-        }
-
-        the_first : first.added ≤ second.added → IsBestSoFar minutes duties asked (n + 1) (Some first)
-        the_first less = record {
-          none = tt;
-          chosen = chosen_before first is_best;
-          least = λ k d h. elim (first_or_next duties n duty within at k d h) [
-            | inl before ↦ is_best.least k d before
-            | inr next ↦ next_is (λ (x : Duty). IsBestIn minutes x.vehicle.now (stops_of x.route.now) asked first)
-                (λ i j possible. earlier_vehicle first second _ _ i j less (before_next first is_best) (is_other.least i j tt possible)) k d next
-          ];
-        }
+    go (Some first) (Some second) is_best is_other = record {
+      none = tt;
+      chosen = chosen_next second is_other.chosen;
+      least = λ k d h. elim (first_or_next duties n duty within at k d h) [
+        | inl before ↦ λ i j possible. less_driving first second _ _ i j is_other.below (is_best.least k d before i j possible)
+        | inr next ↦ next_is (λ (x : Duty). IsBestIn minutes x.vehicle.now (stops_of x.route.now) asked second)
+            (λ i j possible. is_other.least i j tt possible) k d next
+      ];
+    }
 
 -- after all duties
 pub none_at_all : (minutes : ℕ → ℕ → Option ℕ) (duties : List Duty) (asked : Asked) (n : ℕ) (best : Option Chosen) → length duties ≤ n →

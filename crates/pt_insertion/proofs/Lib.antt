@@ -5,7 +5,9 @@ pub mod RemovalLemmas
 pub mod RemovalPairing
 pub mod RemovalTimes
 pub mod RemovalLoads
-pub mod DrivingLemmas
-pub mod BestLemmas
+pub mod PlaceLemmas
+pub mod BetweenLemmas
+pub mod DetourLemmas
+pub mod BelowLemmas
 pub mod DutiesLemmas
 pub mod AddedLemmas

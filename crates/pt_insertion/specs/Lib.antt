@@ -7,4 +7,5 @@ pub mod Removal
 pub mod TravelTimes
 pub mod Candidate
 pub mod CandidateStops
-pub mod BestAmong
+pub mod BestBelow
+pub mod Bounds
