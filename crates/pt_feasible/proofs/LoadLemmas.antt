@@ -11,7 +11,7 @@ use Rattle.pt_feasible.specs.declared.stop.StopKind.TheVariants.{Pickup, Drop}
 use Rattle.pt_feasible.specs.Loads.{total_load, load_aboard}
 use Rattle.pt_feasible.specs.Pairing.{IsPaired, is_partner}
 use Rattle.pt_feasible.specs.Stop.{is_pickup, is_drop, takes_aboard, lets_leave}
-use Rattle.pt_feasible.proofs.LimitLemmas.{not_both}
+use Rattle.pt_feasible.proofs.LimitsLemmas.{not_both}
 
 -- the load of joined lists
 pub total_load-append : (xs ys : List Stop) → total_load (xs ++ ys) ≡ total_load xs + total_load ys

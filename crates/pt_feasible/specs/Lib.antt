@@ -1,4 +1,4 @@
-pub mod Limit
+pub mod Limits
 pub mod Load
 pub mod Loads
 pub mod Pairing
@@ -7,3 +7,5 @@ pub mod Route
 pub mod ServiceTimes
 pub mod Stop
 pub mod Visit
+pub mod Line
+pub mod Sweep

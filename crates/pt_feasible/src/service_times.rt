@@ -1,12 +1,13 @@
-ghost use Rattle.std.specs.Prelude.{ℕ, ◌≤◌, List, length, IfSome, IfNone};
-ghost use Rattle.pt_feasible.specs.ServiceTimes.{TimesFit, IsLeastSchedule};
+ghost use Rattle.std.specs.Prelude.{◌≡◌, ℕ, ◌+◌, ◌<◌, ◌≤◌, List, length, IfSome, IfNone};
+ghost use Rattle.pt_feasible.specs.ServiceTimes.{TimesFit, IsNeverLater, IsLeastSchedule};
 
-use crate::limit::limits;
+use crate::line::line_of;
 use crate::sweep::least_times;
-use crate::visit::windows;
-use crate::{MAX_STOPS, Schedule, Stops};
+use crate::{MAX_STOPS, Passes, Schedule, Stops};
 use pt_base::Vehicle;
 use pt_travel::Times;
+use std::marker::Brand;
+use std::sync::ledger::{Blank, Ledger};
 
 /// The least service times that fit the route; `None` where none fit. It takes no memory.
 pub fn settle<S: Stops, T: Times>(stops: &S, times: &T, vehicle: &Vehicle) -> Option<Schedule>
@@ -16,7 +17,85 @@ pub fn settle<S: Stops, T: Times>(stops: &S, times: &T, vehicle: &Vehicle) -> Op
     ensures none { IfNone result
         ((b : List ℕ) → ¬ TimesFit (T.minutes times.now) vehicle.now (S.stops stops.now) b) }
 {
-    let windows = windows(stops, vehicle)?;
-    let limits = limits(stops, times, vehicle)?;
-    least_times(windows, limits.as_slice())
+    settle_uncounted::<Brand, S, T>(stops, times, vehicle, &[], Blank::new(1))
+}
+
+/// The same as `settle`, from a floor: minutes that no fitting service times come before. It takes no memory.
+pub fn settle_from<S: Stops, T: Times>(
+    stops: &S,
+    times: &T,
+    vehicle: &Vehicle,
+    floor: &Schedule,
+) -> Option<Schedule>
+    requires few { length (S.stops stops.now) ≤ MAX_STOPS }
+    requires floor { (b : List ℕ) → TimesFit (T.minutes times.now) vehicle.now (S.stops stops.now) b
+        → IsNeverLater floor.now.items b }
+    ensures least { IfSome result (λ schedule.
+        IsLeastSchedule (T.minutes times.now) vehicle.now (S.stops stops.now) schedule.items) }
+    ensures none { IfNone result
+        ((b : List ℕ) → ¬ TimesFit (T.minutes times.now) vehicle.now (S.stops stops.now) b) }
+{
+    settle_uncounted::<Brand, S, T>(stops, times, vehicle, floor.as_slice(), Blank::new(1))
+}
+
+/// The same as `settle`, and it counts its passes, each a walk over all constraints: three more than stops at most.
+///
+/// A bound that still rises then proves that no service times fit.
+pub fn settle_counted<L: Ledger, S: Stops, T: Times>(
+    stops: &S,
+    times: &T,
+    vehicle: &Vehicle,
+    passes: &mut Passes<L>,
+) -> Option<Schedule>
+    requires { length (S.stops stops.now) ≤ MAX_STOPS }
+    ensures least { IfSome result (λ schedule.
+        IsLeastSchedule (T.minutes times.now) vehicle.now (S.stops stops.now) schedule.items) }
+    ensures none { IfNone result
+        ((b : List ℕ) → ¬ TimesFit (T.minutes times.now) vehicle.now (S.stops stops.now) b) }
+    ensures passes { passes.new ≤ passes.old + length (S.stops stops.now) + 3 }
+{
+    settle_by(stops, times, vehicle, &[], passes)
+}
+
+/// The same where nobody asks for the passes.
+fn settle_uncounted<L: Ledger, S: Stops, T: Times>(
+    stops: &S,
+    times: &T,
+    vehicle: &Vehicle,
+    floor: &[u16],
+    blank: Blank,
+) -> Option<Schedule>
+    requires name { blank.name ≡ L.name }
+    requires parts { blank.parts ≡ L.parts }
+    requires some { 0 < L.parts }
+    requires few { length (S.stops stops.now) ≤ MAX_STOPS }
+    requires floor { (b : List ℕ) → TimesFit (T.minutes times.now) vehicle.now (S.stops stops.now) b
+        → IsNeverLater floor.now b }
+    ensures least { IfSome result (λ schedule.
+        IsLeastSchedule (T.minutes times.now) vehicle.now (S.stops stops.now) schedule.items) }
+    ensures none { IfNone result
+        ((b : List ℕ) → ¬ TimesFit (T.minutes times.now) vehicle.now (S.stops stops.now) b) }
+{
+    settle_by(stops, times, vehicle, floor, &mut Passes::<L>::none(blank))
+}
+
+/// The least service times that fit, from a floor, and the passes that they take.
+fn settle_by<L: Ledger, S: Stops, T: Times>(
+    stops: &S,
+    times: &T,
+    vehicle: &Vehicle,
+    floor: &[u16],
+    passes: &mut Passes<L>,
+) -> Option<Schedule>
+    requires few { length (S.stops stops.now) ≤ MAX_STOPS }
+    requires floor { (b : List ℕ) → TimesFit (T.minutes times.now) vehicle.now (S.stops stops.now) b
+        → IsNeverLater floor.now b }
+    ensures least { IfSome result (λ schedule.
+        IsLeastSchedule (T.minutes times.now) vehicle.now (S.stops stops.now) schedule.items) }
+    ensures none { IfNone result
+        ((b : List ℕ) → ¬ TimesFit (T.minutes times.now) vehicle.now (S.stops stops.now) b) }
+    ensures passes { passes.new ≤ passes.old + length (S.stops stops.now) + 3 }
+{
+    let line = line_of(stops, times, vehicle, floor)?;
+    least_times(line, passes)
 }

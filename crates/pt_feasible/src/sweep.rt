@@ -1,70 +1,110 @@
-ghost use Rattle.std.specs.Prelude.{◌≡◌, ℕ, ◌<◌, ◌≤◌, List, length, All, sum, IfSome, IfNone};
-ghost use Rattle.pt_feasible.specs.Limit.{IsKept, IsAmong, KeepsAll};
+ghost use Rattle.std.specs.Prelude.{◌≡◌, ◌≢◌, ℕ, ◌+◌, ◌<◌, ◌≤◌, List, length, sum, slice_index, slice_index_or, IfSome, IfNone};
+ghost use Rattle.pt_feasible.specs.Limits.{KeepsAll, LookBack, AreInWindows};
+ghost use Rattle.pt_feasible.specs.Sweep.{Raises, IsWalkedTo};
 ghost use Rattle.pt_feasible.specs.ServiceTimes.{IsNeverLater};
 
-use crate::Schedule;
-use crate::limit::Limit;
-use crate::visit::TimeWindows;
+use crate::limits::Limits;
+use crate::line::Line;
+use crate::{Passes, Schedule};
+use std::sync::ledger::Ledger;
 
-/// What a pass over all limits did to the bounds.
+/// What raising bounds did to them.
 #[derive(Clone, Copy, Debug, PartialEq, Eq)]
-enum Pass {
-    /// All limits are kept by the bounds as they were.
-    Settled,
+pub enum Pass {
+    /// No bound was raised.
+    Stayed,
     /// A bound was raised.
     Raised,
     /// A bound would pass the end of its window.
     Broken,
 }
 
-/// The least times in the windows that keep all limits; `None` where there are none.
-pub fn least_times(windows: TimeWindows, limits: &[Limit]) -> Option<Schedule>
-    requires same_length { length windows.earliest.items ≡ length windows.latest.items }
-    requires ordered { IsNeverLater windows.earliest.items windows.latest.items }
-    requires among { All (IsAmong (length windows.earliest.items)) limits.now }
-    ensures count { IfSome result (λ times. length times.items ≡ length windows.earliest.items) }
-    ensures fits { IfSome result (λ times.
-        KeepsAll windows.earliest.items windows.latest.items limits.now times.items) }
-    ensures least { IfSome result (λ times. (b : List ℕ)
-        → KeepsAll windows.earliest.items windows.latest.items limits.now b → IsNeverLater times.items b) }
-    ensures none { IfNone result ((b : List ℕ)
-        → ¬ KeepsAll windows.earliest.items windows.latest.items limits.now b) }
+/// The least times from the line's bounds on that keep all its limits; `None` where there are none.
+pub fn least_times<L: Ledger>(line: Line, passes: &mut Passes<L>) -> Option<Schedule>
+    requires same_length { length line.earliest.items ≡ length line.limits.items }
+    requires look_back { LookBack line.limits.items }
+    requires in_windows { AreInWindows line.limits.items line.earliest.items }
+    ensures count { IfSome result (λ times. length times.items ≡ length line.earliest.items) }
+    ensures rises { IfSome result (λ times. IsNeverLater line.earliest.items times.items) }
+    ensures kept { IfSome result (λ times. KeepsAll line.limits.items times.items) }
+    ensures least { IfSome result (λ times. (b : List ℕ) → IsNeverLater line.earliest.items b → KeepsAll line.limits.items b
+        → IsNeverLater times.items b) }
+    ensures none { IfNone result ((b : List ℕ) → length b ≡ length line.earliest.items
+        → IsNeverLater line.earliest.items b → ¬ KeepsAll line.limits.items b) }
+    ensures passes { passes.new ≤ passes.old + length line.limits.items + 1 }
 {
-    let TimeWindows {
+    let Line {
         earliest: mut bounds,
-        latest,
-    } = windows;
-    loop {
-        match sweep(bounds.as_mut_slice(), latest.as_slice(), limits) {
-            Pass::Settled => return Some(bounds),
+        limits,
+    } = line;
+    for _ in 0..limits.len() + 1 {
+        match sweep(bounds.as_mut_slice(), limits.as_slice(), passes) {
+            Pass::Stayed => return Some(bounds),
             Pass::Raised => {}
             Pass::Broken => return None,
         }
     }
+    None
 }
 
-/// One walk over all limits, which raises each bound as far as a limit asks.
-fn sweep(bounds: &mut [u16], latest: &[u16], limits: &[Limit]) -> Pass
-    requires same_length { length bounds.old ≡ length latest.now }
-    requires among { All (IsAmong (length bounds.old)) limits.now }
-    ensures rises { IsNeverLater bounds.old bounds.new }
-    ensures below { (b : List ℕ) → IsNeverLater bounds.old b → All (IsKept b) limits.now → IsNeverLater bounds.new b }
-    ensures capped { IsNeverLater bounds.old latest.now → IsNeverLater bounds.new latest.now }
-    ensures settled { result ≡ Pass.Settled → All (IsKept bounds.new) limits.now }
-    ensures raised { result ≡ Pass.Raised → sum bounds.old < sum bounds.new }
-    ensures broken { result ≡ Pass.Broken → (b : List ℕ) → ¬ KeepsAll bounds.old latest.now limits.now b }
+/// One pass: a walk over all visits, which raises each bound as far as a limit asks.
+fn sweep<L: Ledger>(bounds: &mut [u16], limits: &[Limits], passes: &mut Passes<L>) -> Pass
+    requires same_length { length bounds.old ≡ length limits.now }
+    requires look_back { LookBack limits.now }
+    ensures raises { Raises limits.now bounds.old bounds.new result }
+    ensures walked { result ≢ Pass.Broken → IsWalkedTo limits.now bounds.old bounds.new (length limits.now) }
+    ensures counted { passes.new ≡ passes.old + 1 }
 {
-    let mut raised = false;
-    for limit in limits {
-        let asked = u64::from(bounds[limit.from]) + u64::from(limit.gap);
-        let needed = asked.saturating_sub(u64::from(limit.slack));
-        if u64::from(bounds[limit.to]) < needed {
-            if u64::from(latest[limit.to]) < needed {
-                return Pass::Broken;
-            }
-            bounds[limit.to] = needed as u16;
-            raised = true;
+    passes.count();
+    let mut done = Pass::Stayed;
+    for k in 0..limits.len() {
+        match raise_from(bounds, limits, k) {
+            Pass::Stayed => {}
+            Pass::Raised => done = Pass::Raised,
+            Pass::Broken => return Pass::Broken,
         }
     }
-    if raised { Pass::Raised } else { Pass::Settled }
+    done
+}
+
+/// Raises the bounds that the time of one visit asks for.
+fn raise_from(bounds: &mut [u16], limits: &[Limits], k: usize) -> Pass
+    requires same_length { length bounds.old ≡ length limits.now }
+    requires look_back { LookBack limits.now }
+    requires among { k < length limits.now }
+    ensures raises { Raises limits.now bounds.old bounds.new result }
+    ensures ended { result ≢ Pass.Broken → (d : Limits) →
+        slice_index bounds.old k ≤ slice_index bounds.new (slice_index_or limits.now k d).since.visit + (slice_index_or limits.now k d).since.most }
+    ensures driven { result ≢ Pass.Broken → (d : Limits) → k + 1 < length limits.now →
+        slice_index bounds.old k + (slice_index_or limits.now k d).step ≤ slice_index bounds.new (k + 1) }
+{
+    let Limits { step, since, .. } = limits[k];
+    let needed = u64::from(bounds[k]).saturating_sub(u64::from(since.most));
+    let back = raise(bounds, limits, since.visit, needed);
+    if back == Pass::Broken || k + 1 == limits.len() {
+        return back;
+    }
+    let needed = u64::from(bounds[k]) + u64::from(step);
+    match raise(bounds, limits, k + 1, needed) {
+        Pass::Stayed => back,
+        on => on,
+    }
+}
+
+/// Raises a bound to what is needed, where that is within its window.
+fn raise(bounds: &mut [u16], limits: &[Limits], k: usize, needed: u64) -> Pass
+    requires same_length { length bounds.old ≡ length limits.now }
+    requires among { k < length limits.now }
+    requires needed { (b : List ℕ) → IsNeverLater bounds.old b → KeepsAll limits.now b → needed ≤ slice_index b k }
+    ensures raises { Raises limits.now bounds.old bounds.new result }
+    ensures reached { result ≢ Pass.Broken → needed ≤ slice_index bounds.new k }
+{
+    if needed <= u64::from(bounds[k]) {
+        return Pass::Stayed;
+    }
+    if needed > u64::from(limits[k].latest) {
+        return Pass::Broken;
+    }
+    bounds[k] = needed as u16;
+    Pass::Raised
 }

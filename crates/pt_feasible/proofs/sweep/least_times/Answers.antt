@@ -1,76 +1,64 @@
-use Rattle.std.proofs.Common.{arith, ◌≡◌, ℕ, List, length, drop, subst, ap, sym, refl, sum, ◌<◌}
+use Rattle.std.proofs.Common.{arith, ◌≡◌, ℕ, List, length, drop, subst, refl}
 use Rattle.std.specs.List.{refill}
 use Rattle.std.proofs.lemmas.List.{take_at}
-use Rattle.pt_feasible.specs.ServiceTimes.{IsNeverLater}
-use Rattle.pt_feasible.proofs.BoundLemmas.{sum-never_later}
+use Rattle.pt_feasible.specs.declared.limits.Limits.{Limits}
+use Rattle.pt_feasible.specs.declared.sweep.Pass.{Pass}
+use Rattle.pt_feasible.specs.declared.sweep.Pass.TheVariants.{Raised, Broken}
+use Rattle.pt_feasible.specs.Sweep.{Raises, IsWalkedTo}
+use Rattle.pt_feasible.proofs.PassLemmas.{count_final-le, none-from-lowest, one_more_final}
 use Rattle.pt_feasible.proofs.sweep.least_times.Goals as goal
 
 -- a list that was lent whole and came back with its length is what came back
 refill_whole : (old new : List ℕ) → length new ≡ length old → refill (length old) old new ≡ new
 refill_whole old new same = take_at new (drop (length new) old) (length old) same
 
--- what holds of the list that was lent holds of the vector's items
-same_start : (lent old b : List ℕ) → lent ≡ old → IsNeverLater old b → IsNeverLater lent b
-same_start lent old b same below = subst (λ (xs : List ℕ). IsNeverLater xs b) (sym same) below
+-- what was raised of the lists that were lent was raised of the vectors' items
+raises_items : (lent old new : List ℕ) (read limits : List Limits) (done is : Pass) → lent ≡ old → read ≡ limits → done ≡ is → Raises read lent new done → Raises limits old new is
+raises_items lent old new read limits done is same same' same'' raises =
+    subst (λ (p : Pass). Raises limits old new p) same'' (subst (λ (xs : List Limits). Raises xs old new done) same' (subst (λ (xs : List ℕ). Raises read xs new done) same raises))
 
--- the same on the right
-same_end : (a read latest : List ℕ) → read ≡ latest → IsNeverLater a latest → IsNeverLater a read
-same_end a read latest same below = subst (λ (xs : List ℕ). IsNeverLater a xs) (sym same) below
+walked_items : (lent old new : List ℕ) (read limits : List Limits) → lent ≡ old → read ≡ limits → IsWalkedTo read lent new (length read) → IsWalkedTo limits old new (length limits)
+walked_items lent old new read limits same same' walked =
+    subst (λ (xs : List Limits). IsWalkedTo xs old new (length xs)) same' (subst (λ (xs : List ℕ). IsWalkedTo read xs new (length read)) same walked)
 
-pub returns-in-Settled-clause-fits : goal.returns-in-Settled-clause-fits
-returns-in-Settled-clause-fits c =
-    let old = c.loop-bounds.bounds.items in
+pub loop-preserved : goal.loop-preserved
+loop-preserved g c =
+    let start = c.args.line.earliest.items in
+    let limits = c.args.line.limits.items in
+    let old = c.loop.bounds.items in
     let new = c.sweep.new.bounds in
-    let same : length new ≡ length old = omega (arith, ap length c.as_mut_slice.ensures.value) in
-    let whole = refill_whole old new same in
-    let rises : IsNeverLater old new = subst (λ (xs : List ℕ). IsNeverLater xs new) c.as_mut_slice.ensures.value c.sweep.ensures.rises in
-    let start = same_start c.as_mut_slice.result.now old c.as_slice.result.now c.as_mut_slice.ensures.value
-    (same_end old c.as_slice.result.now c.args.windows.latest.items c.as_slice.ensures.value c.loop-bounds.invariant.not_late) in
-    let capped : IsNeverLater new c.args.windows.latest.items =
-    subst (λ (xs : List ℕ). IsNeverLater new xs) c.as_slice.ensures.value (c.sweep.ensures.capped start) in
+    let same = c.as_mut_slice.ensures.value in
+    let same' = c.as_slice.ensures.value in
+    let raises = raises_items c.as_mut_slice.result.now old new c.as_slice.result.now limits c.sweep.result Raised same same' c.in-Raised.is c.sweep.ensures.raises in
+    let walked = walked_items c.as_mut_slice.result.now old new c.as_slice.result.now limits same same' (c.sweep.ensures.walked (λ is. cc)) in
+    let whole = refill_whole old new raises.count in
     rw whole (record {
-      not_early = λ k. omega (arith, rises k, c.loop-bounds.invariant.not_early k);
-      not_late = capped;
-      kept = c.sweep.ensures.settled c.in-Settled.is;
-    })
-
-pub loop-bounds-smaller : goal.loop-bounds-smaller
-loop-bounds-smaller c =
-    let old = c.loop-bounds.bounds.items in
-    let new = c.sweep.new.bounds in
-    let same : length new ≡ length old = omega (arith, ap length c.as_mut_slice.ensures.value) in
-    let whole = refill_whole old new same in
-    let start = same_start c.as_mut_slice.result.now old c.as_slice.result.now c.as_mut_slice.ensures.value
-    (same_end old c.as_slice.result.now c.args.windows.latest.items c.as_slice.ensures.value c.loop-bounds.invariant.not_late) in
-    let capped : IsNeverLater new c.args.windows.latest.items =
-    subst (λ (xs : List ℕ). IsNeverLater new xs) c.as_slice.ensures.value (c.sweep.ensures.capped start) in
-    let room = sum-never_later new c.args.windows.latest.items (omega arith) capped in
-    let more = subst (λ (xs : List ℕ). sum xs < sum new) c.as_mut_slice.ensures.value (c.sweep.ensures.raised c.in-Raised.is) in
-    rw whole (omega (arith, room, more))
-
-pub loop-bounds-preserved : goal.loop-bounds-preserved
-loop-bounds-preserved c =
-    let old = c.loop-bounds.bounds.items in
-    let new = c.sweep.new.bounds in
-    let same : length new ≡ length old = omega (arith, ap length c.as_mut_slice.ensures.value) in
-    let whole = refill_whole old new same in
-    let rises : IsNeverLater old new = subst (λ (xs : List ℕ). IsNeverLater xs new) c.as_mut_slice.ensures.value c.sweep.ensures.rises in
-    let start = same_start c.as_mut_slice.result.now old c.as_slice.result.now c.as_mut_slice.ensures.value
-    (same_end old c.as_slice.result.now c.args.windows.latest.items c.as_slice.ensures.value c.loop-bounds.invariant.not_late) in
-    let capped : IsNeverLater new c.args.windows.latest.items =
-    subst (λ (xs : List ℕ). IsNeverLater new xs) c.as_slice.ensures.value (c.sweep.ensures.capped start) in
-    rw whole (record {
-      count = omega arith;
-      latest_stays = refl;
-      not_early = λ k. omega (arith, rises k, c.loop-bounds.invariant.not_early k);
-      not_late = capped;
-      below = λ b keeps. c.sweep.ensures.below b
-          (same_start c.as_mut_slice.result.now old b c.as_mut_slice.ensures.value (c.loop-bounds.invariant.below b keeps)) keeps.kept;
+      count = omega (arith, raises.count);
+      limits_stay = c.loop.invariant.limits_stay;
+      rises = λ k. omega (arith, raises.rises k, c.loop.invariant.rises k);
+      in_windows = raises.in_windows c.loop.invariant.in_windows;
+      below = λ b from keeps. raises.below b (c.loop.invariant.below b from keeps) keeps;
+      final = λ b count from keeps lowest.
+          omega (
+            arith,
+            c.loop.invariant.final b count from keeps lowest,
+            one_more_final limits start old new b (omega arith) (omega (arith, raises.count)) (omega arith) c.loop.invariant.rises raises.rises
+                (raises.below b (c.loop.invariant.below b from keeps) keeps) keeps lowest walked (raises.raised refl),
+          );
+      counted = omega arith;
     })
 
 pub returns-in-Broken-clause-none : goal.returns-in-Broken-clause-none
-returns-in-Broken-clause-none c b keeps = c.sweep.ensures.broken c.in-Broken.is b (record {
-  not_early = same_start c.as_mut_slice.result.now c.loop-bounds.bounds.items b c.as_mut_slice.ensures.value (c.loop-bounds.invariant.below b keeps);
-  not_late = same_end b c.as_slice.result.now c.args.windows.latest.items c.as_slice.ensures.value keeps.not_late;
-  kept = keeps.kept;
-})
+returns-in-Broken-clause-none g c b count from keeps =
+    let limits = c.args.line.limits.items in
+    let old = c.loop.bounds.items in
+    let new = c.sweep.new.bounds in
+    let raises = raises_items c.as_mut_slice.result.now old new c.as_slice.result.now limits c.sweep.result Broken
+    c.as_mut_slice.ensures.value c.as_slice.ensures.value c.in-Broken.is c.sweep.ensures.raises in
+    raises.broken refl b (c.loop.invariant.below b from keeps) keeps
+
+pub returns-clause-none : goal.returns-clause-none
+returns-clause-none g c =
+    none-from-lowest c.args.line.limits.items c.args.line.earliest.items
+    (λ b count from keeps lowest.
+    omega (arith, c.loop.invariant.final b count from keeps lowest, count_final-le c.loop.bounds.items b, c.loop.invariant.count))

@@ -1,17 +1,18 @@
-use Rattle.std.proofs.Common.{◌≡◌, ℕ, ◌-◌, List, length, sum}
-use Rattle.pt_feasible.specs.Limit.{KeepsAll}
+use Rattle.std.proofs.Common.{◌≡◌, ℕ, ◌+◌, ◌≤◌, List, length}
+use Rattle.pt_feasible.specs.Limits.{KeepsAll, AreInWindows}
 use Rattle.pt_feasible.specs.ServiceTimes.{IsNeverLater}
+use Rattle.pt_feasible.proofs.PassLemmas.{IsLowest, count_final}
 use Rattle.pt_feasible.proofs.sweep.least_times.Given as goal
 
-abbrev pub invariant-loop-bounds : goal.invariant-loop-bounds
-invariant-loop-bounds l = record {
-  count : length l.bounds.items ≡ length l.fn.windows.earliest.items;
-  latest_stays : l.latest.items ≡ l.fn.windows.latest.items;
-  not_early : IsNeverLater l.fn.windows.earliest.items l.bounds.items;
-  not_late : IsNeverLater l.bounds.items l.latest.items;
-  below : (b : List ℕ) → KeepsAll l.fn.windows.earliest.items l.latest.items l.limits b → IsNeverLater l.bounds.items b;
+abbrev pub invariant-loop : goal.invariant-loop
+invariant-loop g l = record {
+  count : length l.bounds.items ≡ length l.fn.line.earliest.items;
+  limits_stay : l.limits.items ≡ l.fn.line.limits.items;
+  rises : IsNeverLater l.fn.line.earliest.items l.bounds.items;
+  in_windows : AreInWindows l.limits.items l.bounds.items;
+  below : (b : List ℕ) → IsNeverLater l.fn.line.earliest.items b → KeepsAll l.limits.items b → IsNeverLater l.bounds.items b;
+  -- each pass that raised a bound of the lowest times made one more of them final
+  final : (b : List ℕ) → length b ≡ length l.fn.line.earliest.items → IsNeverLater l.fn.line.earliest.items b → KeepsAll l.limits.items b →
+      IsLowest l.limits.items l.fn.line.earliest.items b → l.counter ≤ count_final l.bounds.items b;
+  counted : l.passes ≡ l.fn.passes + l.counter;
 }
-
--- the room that is left in the windows
-abbrev pub decreases-loop-bounds : goal.decreases-loop-bounds
-decreases-loop-bounds l = sum l.latest.items - sum l.bounds.items

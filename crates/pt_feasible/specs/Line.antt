@@ -1,0 +1,20 @@
+-- The visits of a route one after the other.
+use Rattle.std.specs.Prelude.{◌≡◌, ℕ, ◌+◌, ◌<◌, ◌≤◌, List, length, Option, Some, slice_get, slice_index, slice_index_or}
+use Rattle.pt_base.specs.declared.vehicle.Vehicle.{Vehicle}
+use Rattle.pt_feasible.specs.declared.limits.Limits.{Limits}
+use Rattle.pt_feasible.specs.declared.line.Line.{Line}
+use Rattle.pt_feasible.specs.declared.stop.Stop.{Stop}
+use Rattle.pt_feasible.specs.declared.visit.Visit.{Visit}
+use Rattle.pt_feasible.specs.Limits.{AreInWindows, StandFor}
+use Rattle.pt_feasible.specs.ServiceTimes.{TimesFit, IsNeverLater}
+use Rattle.pt_feasible.specs.Visit.{visits}
+
+-- a line has a bound and limits for each visit: bounds within the windows that no fitting times come before, and limits that
+-- stand for what these keep
+pub record IsLineOf (minutes : ℕ → ℕ → Option ℕ) (vehicle : Vehicle) (stops : List Stop) (line : Line) : Type 0 where
+  pub count : length line.earliest.items ≡ length stops + 2
+  pub count_limits : length line.limits.items ≡ length stops + 2
+  pub floor : (b : List ℕ) → TimesFit minutes vehicle stops b → IsNeverLater line.earliest.items b
+  pub opened : (k : ℕ) (visit : Visit) → slice_get (visits vehicle stops) k ≡ Some visit → visit.lo ≤ slice_index line.earliest.items k
+  pub in_windows : AreInWindows line.limits.items line.earliest.items
+  pub stand : (k : ℕ) (d : Limits) → k < length stops + 2 → StandFor minutes vehicle stops k (slice_index_or line.limits.items k d)

@@ -1,0 +1,96 @@
+ghost use Rattle.std.specs.Prelude.{◌≡◌, ℕ, ◌+◌, ◌<◌, ◌≤◌, ◌↔◌, List, Some, length, slice_get, slice_index, IsTrue, IfSome, IfNone};
+ghost use Rattle.pt_feasible.specs.declared.stop.Stop.{Stop};
+ghost use Rattle.pt_feasible.specs.Limits.{HasTimeToDrive, EndsInTime};
+ghost use Rattle.pt_feasible.specs.ServiceTimes.{KeepsDrivingTimes};
+ghost use Rattle.pt_feasible.specs.Stop.{is_pickup, is_drop};
+ghost use Rattle.pt_feasible.specs.Visit.{visits};
+
+use crate::visit::visit_at;
+use crate::{MAX_STOPS, Stop, StopKind, Stops};
+use pt_base::Vehicle;
+use pt_travel::Times;
+
+/// What the service time of a visit has to keep.
+#[derive(Clone, Copy, Debug, Default, PartialEq, Eq)]
+pub struct Limits {
+    /// The last minute of the day at which it may begin.
+    pub latest: u16,
+    /// The minutes of its service and of the drive to the next visit.
+    pub step: u32,
+    pub since: Since,
+}
+
+/// At most so many minutes pass since service began at this visit.
+#[derive(Clone, Copy, Debug, Default, PartialEq, Eq)]
+pub struct Since {
+    pub visit: usize,
+    pub most: u32,
+}
+
+/// The minutes of a visit's service and of the drive to the next one, and nothing after the last; `None` where there is no way.
+pub fn step_from<S: Stops, T: Times>(
+    stops: &S,
+    times: &T,
+    vehicle: &Vehicle,
+    k: usize,
+) -> Option<u32>
+    requires few { length (S.stops stops.now) ≤ MAX_STOPS }
+    requires among { k < length (S.stops stops.now) + 2 }
+    ensures kept { IfSome result (λ step. (b : List ℕ)
+        → HasTimeToDrive (T.minutes times.now) (visits vehicle.now (S.stops stops.now)) b k
+        ↔ (k + 1 < length (S.stops stops.now) + 2 → slice_index b k + step ≤ slice_index b (k + 1))) }
+    ensures none { IfNone result
+        ((b : List ℕ) → ¬ KeepsDrivingTimes (T.minutes times.now) (visits vehicle.now (S.stops stops.now)) b) }
+{
+    if k > stops.len() {
+        return Some(0);
+    }
+    let this = visit_at(stops, vehicle, k);
+    let next = visit_at(stops, vehicle, k + 1);
+    let drive = times.minutes(this.place, next.place)?;
+    Some(u32::from(this.service) + u32::from(drive))
+}
+
+/// A drop comes in time after its pickup, the last visit after the first, and any other after itself.
+pub fn since_at<S: Stops>(stops: &S, vehicle: &Vehicle, k: usize) -> Since
+    requires { k < length (S.stops stops.now) + 2 }
+    ensures before { result.visit ≤ k }
+    ensures kept { (b : List ℕ) → (slice_index b k ≤ slice_index b result.visit + result.most)
+        ↔ EndsInTime vehicle.now (S.stops stops.now) b k }
+{
+    if k > stops.len() {
+        return Since {
+            visit: 0,
+            most: u32::from(vehicle.duration),
+        };
+    }
+    if k > 0 {
+        let drop = stops.stop(k - 1);
+        if drop.kind == StopKind::Drop {
+            if let Some(i) = pickup_of(stops, k - 1, drop) {
+                return Since {
+                    visit: i + 1,
+                    most: u32::from(drop.service) + u32::from(drop.ride),
+                };
+            }
+        }
+    }
+    Since { visit: k, most: 0 }
+}
+
+/// Where the trip of the drop at `j` is picked up; it is looked for from the drop back.
+fn pickup_of<S: Stops>(stops: &S, j: usize, drop: Stop) -> Option<usize>
+    requires there { slice_get (S.stops stops.now) j ≡ Some drop }
+    requires drops { IsTrue (is_drop drop) }
+    ensures before { IfSome result (λ i. i < j) }
+    ensures only { (k : ℕ) (stop : Stop) → slice_get (S.stops stops.now) k ≡ Some stop →
+        (IsTrue (is_pickup stop) × (stop.trip ≡ drop.trip)) ↔ (result ≡ Some k) }
+{
+    for back in 0..j {
+        let i = j - 1 - back;
+        if stops.stop(i).trip == drop.trip {
+            return Some(i);
+        }
+    }
+    None
+}

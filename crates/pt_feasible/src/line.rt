@@ -1,0 +1,63 @@
+ghost use Rattle.std.specs.Prelude.{◌≡◌, ℕ, ◌+◌, ◌<◌, ◌≤◌, List, Some, length, slice_get, slice_index, slice_index_or, IfSome, IfNone};
+ghost use Rattle.pt_feasible.specs.Line.{IsLineOf};
+ghost use Rattle.pt_feasible.specs.ServiceTimes.{TimesFit, IsNeverLater};
+
+use crate::limits::{Limits, since_at, step_from};
+use crate::visit::visit_at;
+use crate::{MAX_STOPS, Schedule, Stops};
+use arrayvec::ArrayVec;
+use pt_base::Vehicle;
+use pt_travel::Times;
+
+/// The visits of a route one after the other.
+#[derive(Drop)]
+pub struct Line {
+    /// Minutes of the day that no fitting service times come before.
+    pub earliest: Schedule,
+    pub limits: ArrayVec<Limits, 62>,
+}
+
+const _: () = prove!(MAX_STOPS + 2 == 62);
+
+/// The line of a route from a floor of all fitting service times; `None` where a walk along it finds that none fit.
+pub fn line_of<S: Stops, T: Times>(
+    stops: &S,
+    times: &T,
+    vehicle: &Vehicle,
+    floor: &[u16],
+) -> Option<Line>
+    requires few { length (S.stops stops.now) ≤ MAX_STOPS }
+    requires floor { (b : List ℕ) → TimesFit (T.minutes times.now) vehicle.now (S.stops stops.now) b
+        → IsNeverLater floor.now b }
+    ensures line { IfSome result (λ line. IsLineOf (T.minutes times.now) vehicle.now (S.stops stops.now) line) }
+    ensures none { IfNone result
+        ((b : List ℕ) → ¬ TimesFit (T.minutes times.now) vehicle.now (S.stops stops.now) b) }
+{
+    let mut earliest = Schedule::new();
+    let mut limits = ArrayVec::new();
+    let mut arrival = 0;
+    for k in 0..stops.len() + 2 {
+        let visit = visit_at(stops, vehicle, k);
+        let least = u64::from(minute_at(floor, k));
+        let bound = u64::from(visit.lo.number()).max(least).max(arrival);
+        if bound > u64::from(visit.hi.number()) {
+            return None;
+        }
+        let step = step_from(stops, times, vehicle, k)?;
+        earliest.push(bound as u16);
+        limits.push(Limits {
+            latest: visit.hi.number() as u16,
+            step,
+            since: since_at(stops, vehicle, k),
+        });
+        arrival = bound + u64::from(step);
+    }
+    Some(Line { earliest, limits })
+}
+
+/// The minute at this place of a list, and 0 past its end.
+fn minute_at(minutes: &[u16], k: usize) -> u16
+    ensures { result ≡ slice_index minutes.now k }
+{
+    minutes.get(k).copied().unwrap_or(0)
+}
