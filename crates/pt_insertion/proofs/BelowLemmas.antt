@@ -31,33 +31,6 @@ no_place minutes vehicle stops asked A limit best is_none never =
     subst (λ (choice : Option Chosen). IsBestBelow minutes vehicle stops asked A limit choice) (sym is_none)
     (record { none = λ i j at possible. absurd (never i j at possible); chosen = tt; among = tt; below = tt; least = tt })
 
--- a place that is not possible
-pub none_here : (minutes : ℕ → ℕ → Option ℕ) (vehicle : Vehicle) (stops : List Stop) (asked : Asked) (limit : Option ℕ) (i j : ℕ) (best : Option Chosen) →
-    best ≡ None → ¬ IsPossible minutes vehicle stops asked i j →
-    IsBestBelow minutes vehicle stops asked (λ pickup drop. (pickup ≡ i) × (drop ≡ j)) limit best
-none_here minutes vehicle stops asked limit i j best is_none never =
-    no_place minutes vehicle stops asked (λ pickup drop. (pickup ≡ i) × (drop ≡ j)) limit best is_none (λ pickup drop here possible.
-    never (subst (λ (k : ℕ). IsPossible minutes vehicle stops asked k j) here.0
-    (subst (λ (k : ℕ). IsPossible minutes vehicle stops asked pickup k) here.1 possible)))
-
--- a place that adds as much as the limit, possible or not
-pub too_far : (minutes : ℕ → ℕ → Option ℕ) (vehicle : Vehicle) (stops : List Stop) (asked : Asked) (limit : Option ℕ) (most i j : ℕ) (best : Option Chosen) →
-    best ≡ None → limit ≡ Some most → most ≤ added_driving minutes vehicle stops asked i j →
-    IsBestBelow minutes vehicle stops asked (λ pickup drop. (pickup ≡ i) × (drop ≡ j)) limit best
-too_far minutes vehicle stops asked limit most i j best is_none is_limit far =
-    subst (λ (choice : Option Chosen). IsBestBelow minutes vehicle stops asked (λ pickup drop. (pickup ≡ i) × (drop ≡ j)) limit choice) (sym is_none)
-    (subst (λ (o : Option ℕ). IsBestBelow minutes vehicle stops asked (λ pickup drop. (pickup ≡ i) × (drop ≡ j)) o None) (sym is_limit) (record {
-      none = λ pickup drop here possible.
-          let same : added_driving minutes vehicle stops asked i j ≡ added_driving minutes vehicle stops asked pickup drop =
-          sym (ap (λ (k : ℕ). added_driving minutes vehicle stops asked k j) here.0)
-          ∙ sym (ap (λ (k : ℕ). added_driving minutes vehicle stops asked pickup k) here.1) in
-          omega arith;
-      chosen = tt;
-      among = tt;
-      below = tt;
-      least = tt;
-    }))
-
 -- a place that is possible
 pub chosen_here : (minutes : ℕ → ℕ → Option ℕ) (vehicle : Vehicle) (stops : List Stop) (asked : Asked) (limit : Option ℕ) (choice : Chosen) →
     IsChosenIn minutes vehicle stops asked choice → IfSome limit (λ most. choice.added < most) →
@@ -253,3 +226,17 @@ within_limit (Some n) most added e less = let same : n ≡ most = cc in omega ar
 pub without_limit : (limit : Option ℕ) (added : ℕ) → limit ≡ None → IfSome limit (λ n. added < n)
 without_limit None added e = tt
 without_limit (Some n) added e = cc
+
+-- the drops so far, where none from here on is possible
+pub all_drops_before : (minutes : ℕ → ℕ → Option ℕ) (vehicle : Vehicle) (stops : List Stop) (asked : Asked) (limit : Option ℕ) (i j : ℕ)
+    (best : Option Chosen) → ((later : ℕ) → j ≤ later → ¬ IsPossible minutes vehicle stops asked i later) →
+    IsBestBelow minutes vehicle stops asked (λ pickup drop. (pickup ≡ i) × (drop < j)) limit best →
+    IsBestBelow minutes vehicle stops asked (λ pickup drop. pickup ≡ i) limit best
+all_drops_before minutes vehicle stops asked limit i j best none is_best =
+    best_among_all minutes vehicle stops asked (λ pickup drop. (pickup ≡ i) × (drop < j)) (λ pickup drop. pickup ≡ i) limit best
+    (λ k l at. at.0)
+    (λ k l at possible. elim (cases_lt l j) [
+      | inl before ↦ (at, before)
+      | inr after ↦ absurd (none l after (subst (λ (n : ℕ). IsPossible minutes vehicle stops asked n l) at possible))
+    ])
+    is_best

@@ -1,0 +1,11 @@
+use Rattle.std.proofs.Common.{◌≡◌, ℕ, ◌+◌, ◌<◌, ◌≤◌, List, length, slice_index}
+use Rattle.pt_feasible.specs.ServiceTimes.{TimesFit, IsNeverLater}
+use Rattle.pt_feasible.proofs.earliest.earliest_times.Given as goal
+
+abbrev pub invariant-loop-k : goal.invariant-loop-k
+invariant-loop-k g l = record {
+  count : length l.earliest.items ≡ l.k;
+  floor : (b : List ℕ) → TimesFit (g.T.Times.minutes l.times) l.vehicle (g.S.Stops.stops l.stops) b → IsNeverLater l.earliest.items b;
+  arrival : (b : List ℕ) → TimesFit (g.T.Times.minutes l.times) l.vehicle (g.S.Stops.stops l.stops) b →
+      l.k < length (g.S.Stops.stops l.stops) + 2 → l.arrival ≤ slice_index b l.k;
+}
