@@ -5,7 +5,6 @@ pub mod Possible
 pub mod Choice
 pub mod Removal
 pub mod TravelTimes
-pub mod Candidate
-pub mod CandidateStops
+pub mod SplicedStops
 pub mod BestBelow
 pub mod Bounds
