@@ -1,0 +1,4 @@
+pub mod AboardLemmas
+pub mod CasesLemmas
+pub mod LawLemmas
+pub mod ReadingLemmas

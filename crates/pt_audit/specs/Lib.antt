@@ -1,0 +1,6 @@
+pub mod Aboard
+pub mod Bounds
+pub mod Cases
+pub mod Insertion
+pub mod Reading
+pub mod RightLog

@@ -1,0 +1,14 @@
+//! Logs of refusals, and their check: a right log shows that a trip has no place in any route.
+#![tactic(auto)]
+
+pub use audit::check;
+pub use law::right_log_shows_that_nothing_is_possible;
+pub use line::{End, Line, Log, Raise};
+
+mod audit;
+mod bounds;
+mod case_end;
+mod insertion;
+mod law;
+mod line;
+mod loads;
