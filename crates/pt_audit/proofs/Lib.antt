@@ -2,3 +2,4 @@ pub mod AboardLemmas
 pub mod CasesLemmas
 pub mod LawLemmas
 pub mod ReadingLemmas
+pub mod TextLemmas

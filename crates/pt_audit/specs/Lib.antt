@@ -4,3 +4,4 @@ pub mod Cases
 pub mod Insertion
 pub mod Reading
 pub mod RightLog
+pub mod Text

@@ -4,6 +4,8 @@
 pub use audit::check;
 pub use law::right_log_shows_that_nothing_is_possible;
 pub use line::{End, Line, Log, Raise};
+pub use reading::read_log;
+pub use text::{LONGEST_LINE, LineText, line_text};
 
 mod audit;
 mod bounds;
@@ -12,3 +14,5 @@ mod insertion;
 mod law;
 mod line;
 mod loads;
+mod reading;
+mod text;
