@@ -15,4 +15,6 @@ mod law;
 mod line;
 mod loads;
 mod reading;
+#[cfg(test)]
+mod tests;
 mod text;
