@@ -3,7 +3,7 @@ use Rattle.std.specs.Prelude.{ℕ, ◌==◌, Bool, true, false, if◌then◌else
 use Rattle.clap.specs.declared.error.kind.ErrorKind.{ErrorKind}
 use Rattle.clap.specs.declared.error.kind.ErrorKind.TheVariants.{DisplayHelp, OutOfMemory}
 use Rattle.pt_base.specs.Fault.{fault}
-use Rattle.pt_base.specs.declared.fault.TheConstants.{MEMORY, WRITE_FAILED}
+use Rattle.pt_base.specs.Codes.{memory_refused, write_failed}
 use Rattle.pt_app.specs.declared.outcome.Outcome.{Outcome}
 use Rattle.pt_app.specs.declared.outcome.Outcome.TheVariants.{Done, WrongWords, Failed}
 
@@ -11,11 +11,11 @@ use Rattle.pt_app.specs.declared.outcome.Outcome.TheVariants.{Done, WrongWords, 
 abbrev pub status_of : Outcome → ℕ
 status_of Done = 0
 status_of WrongWords = 2
-status_of (Failed error) = if error.code == MEMORY then 3 else 4
+status_of (Failed error) = if error.code == memory_refused then 3 else 4
 
 -- words that were not taken are wrong, but where memory was refused or help was asked for: that is done once it is shown
 abbrev pub refusal_outcome : ErrorKind → Bool → Outcome
-refusal_outcome OutOfMemory is_shown = Failed (fault MEMORY)
+refusal_outcome OutOfMemory is_shown = Failed (fault memory_refused)
 refusal_outcome DisplayHelp true = Done
-refusal_outcome DisplayHelp false = Failed (fault WRITE_FAILED)
+refusal_outcome DisplayHelp false = Failed (fault write_failed)
 refusal_outcome _ is_shown = WrongWords

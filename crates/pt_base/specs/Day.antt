@@ -1,13 +1,14 @@
 -- Days by their number since 1 January 1970.
 use Rattle.std.specs.Prelude.{ℕ, ◌+◌, ◌%◌, ◌≤◌, ◌⊎◌, ℤ, pos, ◌<ℤ◌}
+use Rattle.pt_base.specs.Ranges.{first_day, last_day}
 
 -- the day number lies in 2000-01-01 to 2099-12-31
 abbrev pub IsDay : ℕ → Type 0
-IsDay n = (10_957 ≤ n) × (n ≤ 47_481)
+IsDay n = (first_day ≤ n) × (n ≤ last_day)
 
 -- the day number lies before them or after them
 abbrev pub IsOutside : ℤ → Type 0
-IsOutside number = (number <ℤ pos 10_957) ⊎ (pos 47_481 <ℤ number)
+IsOutside number = (number <ℤ pos first_day) ⊎ (pos last_day <ℤ number)
 
 -- days since Monday: day 0 was a Thursday
 abbrev pub weekday_of : ℕ → ℕ

@@ -4,9 +4,9 @@ ghost use Rattle.jiff_core.specs.Date.{epoch_day};
 ghost use Rattle.pt_base.specs.DateText.{IsDateText, IsInMonth};
 ghost use Rattle.pt_base.specs.Day.{IsDay, IsOutside, weekday_of, IsBookable};
 ghost use Rattle.pt_base.specs.Fault.{fault};
-ghost use Rattle.pt_base.specs.declared.fault.TheConstants.{MEMORY, NO_SUCH_DATE, DATE_OUT_OF_RANGE};
+ghost use Rattle.pt_base.specs.Codes.{memory_refused, no_such_date, date_out_of_range};
 ghost use Rattle.pt_base.specs.Weekday.{number_of};
-ghost use Rattle.pt_base.specs.declared.day.TheConstants.{FIRST_DAY, LAST_DAY};
+ghost use Rattle.pt_base.specs.Ranges.{last_day};
 
 use crate::fault::{DATE_OUT_OF_RANGE, NO_SUCH_DATE};
 use crate::{Fault, Weekday, date_text};
@@ -60,7 +60,7 @@ impl Day {
 
     /// The day so many days later; `None` past 2099-12-31.
     pub fn plus(self, days: u16) -> Option<Self>
-        ensures in_range { IsSome result ↔ (self + days ≤ LAST_DAY) }
+        ensures in_range { IsSome result ↔ (self + days ≤ last_day) }
         ensures value { IfSome result (λ day. day ≡ self + days) }
     {
         Day::of(self.number() + u32::from(days))
@@ -70,9 +70,9 @@ impl Day {
     pub fn parse(text: &str) -> Result<Self, Fault>
         ensures date { IfOk result (λ day. IsDateText (pos day) text.now) }
         ensures read { (day : ℕ) → IsDay day → IsDateText (pos day) text.now → result ≡ Ok day }
-        ensures no_such_date { (result ≡ Err (fault NO_SUCH_DATE))
+        ensures no_such_date { (result ≡ Err (fault no_such_date))
             ↔ ((number : ℤ) → ¬ (IsDateText number text.now)) }
-        ensures out_of_range { (result ≡ Err (fault DATE_OUT_OF_RANGE))
+        ensures out_of_range { (result ≡ Err (fault date_out_of_range))
             ↔ ((number : ℤ) × IsDateText number text.now × IsOutside number) }
     {
         let Some(date) = date_text::read(text) else {
@@ -95,7 +95,7 @@ impl Day {
         ensures only { OnOk result ((text : List ℕ) → IsDateText (pos self) text
             → out.new.items ≡ out.old.items ++ text) }
         ensures err { OnErr result (out.new.items ≡ out.old.items) }
-        ensures memory { IfErr result (λ error. error ≡ fault MEMORY) }
+        ensures memory { IfErr result (λ error. error ≡ fault memory_refused) }
     {
         out.extend_from_slice(&date_text::spelled(self.date()))?;
         Ok(())

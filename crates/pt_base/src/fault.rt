@@ -1,5 +1,5 @@
 ghost use Rattle.std.specs.Prelude.{◌≡◌, ℕ};
-ghost use Rattle.pt_base.specs.declared.fault.TheConstants.{MEMORY};
+ghost use Rattle.pt_base.specs.Codes.{memory_refused};
 
 use std::alloc::AllocError;
 
@@ -72,6 +72,9 @@ pub const WRITE_FAILED: u16 = 47;
 /// A line that leads a message of a rehearsal is not `@ YYYY-MM-DD M`.
 pub const MOMENT_LINE: u16 = 48;
 
+/// A line of a log of refusals is not in form.
+pub const LOG_LINE: u16 = 50;
+
 /// What went wrong outside the rules: its code, and the row of the input where it was found, or 0.
 #[derive(Clone, Copy, Debug, PartialEq, Eq)]
 pub struct Fault {
@@ -90,7 +93,7 @@ impl Fault {
 }
 
 impl From<AllocError> for Fault {
-    ghost from_gives = { λ error fault. fault ≡ record { code = MEMORY; row = 0 } };
+    ghost from_gives = { λ error fault. fault ≡ record { code = memory_refused; row = 0 } };
 
     fn from(_error: AllocError) -> Self {
         Fault::of(MEMORY)

@@ -1,5 +1,5 @@
 ghost use Rattle.std.specs.Prelude.{◌≡◌, ℕ, ◌≤◌, ◌↔◌, IsSome, IfSome};
-ghost use Rattle.pt_base.specs.declared.minute.TheConstants.{LAST_MINUTE};
+ghost use Rattle.pt_base.specs.Ranges.{last_minute};
 
 use std::marker::Model;
 
@@ -17,7 +17,7 @@ impl Model for Minute {
 
     ghost view = { λ m. m.number };
 
-    ghost invariant = { λ m. m.number ≤ LAST_MINUTE };
+    ghost invariant = { λ m. m.number ≤ last_minute };
 
     ghost inverse = { λ n. record { number = n } };
 }
@@ -25,7 +25,7 @@ impl Model for Minute {
 impl Minute {
     /// The minute after so many minutes since midnight; `None` past 1439.
     pub fn of(number: u32) -> Option<Self>
-        ensures in_range { IsSome result ↔ (number ≤ LAST_MINUTE) }
+        ensures in_range { IsSome result ↔ (number ≤ last_minute) }
         ensures value { IfSome result (λ minute. minute ≡ number) }
     {
         if number > LAST_MINUTE {
@@ -37,7 +37,7 @@ impl Minute {
     /// Minutes since midnight.
     pub fn number(self) -> u32
         ensures value { result ≡ self }
-        ensures in_range { result ≤ LAST_MINUTE }
+        ensures in_range { result ≤ last_minute }
     {
         self.number
     }

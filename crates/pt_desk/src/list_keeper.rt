@@ -1,7 +1,7 @@
 ghost use Rattle.std.specs.Prelude.{◌≡◌, ◌∷◌, ◌++◌, ◌<◌, [], length, find, bytes_eq};
 ghost use Rattle.std.specs.Prelude.{IfOk, IfErr, OnOk};
 ghost use Rattle.pt_base.specs.Fault.{fault};
-ghost use Rattle.pt_base.specs.declared.fault.TheConstants.{MEMORY};
+ghost use Rattle.pt_base.specs.Codes.{memory_refused};
 ghost use Rattle.pt_desk_rules.specs.Limits.{most_entries};
 ghost use Rattle.pt_desk_rules.specs.State.{span_of, entries_of, file_with};
 
@@ -67,7 +67,7 @@ impl ListKeeper {
         ensures least { IfOk result (λ keeper. IsLeastState admin_key.now keeper) }
         ensures sound { IfOk result (λ keeper. IsSound keeper) }
         ensures settled { IfOk result (λ keeper. IsSettled (⟦<ListKeeper as Keeper>⟧.store keeper)) }
-        ensures memory { IfErr result (λ error. error ≡ fault MEMORY) }
+        ensures memory { IfErr result (λ error. error ≡ fault memory_refused) }
     {
         let admin = Caller {
             id: CallerId::of(1).unwrap(),

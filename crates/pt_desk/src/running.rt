@@ -1,6 +1,6 @@
 ghost use Rattle.std.specs.Prelude.{◌≡◌, ◌≤◌, IfOk, IfErr, OnErr};
 ghost use Rattle.pt_base.specs.Fault.{fault};
-ghost use Rattle.pt_base.specs.declared.fault.TheConstants.{MEMORY};
+ghost use Rattle.pt_base.specs.Codes.{memory_refused};
 ghost use Rattle.pt_desk.specs.Store.{Store, Answers, Fails, IsSettled, IsSoundKept};
 ghost use Rattle.pt_desk.specs.Run.{answer_to_call, left_by_call, GoesOn};
 
@@ -51,7 +51,7 @@ pub fn run<K: Keeper>(alloc: Global, keeper: &mut K, calls: &[Call]) -> Result<V
     ensures settled { IsSettled (K.store keeper.old) → IsSettled (K.store keeper.new) }
     ensures sound { IsSoundKept (K.store keeper.old) (K.store keeper.new) }
     ensures err { OnErr result (keeper.new ≡ keeper.old) }
-    ensures memory { IfErr result (λ error. error ≡ fault MEMORY) }
+    ensures memory { IfErr result (λ error. error ≡ fault memory_refused) }
 {
     let mut replies = Vec::with_capacity(alloc, calls.len())?;
     for call in calls {

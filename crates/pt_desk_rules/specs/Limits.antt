@@ -1,5 +1,6 @@
 -- How much the desk keeps.
 use Rattle.std.specs.Prelude.{ℕ}
+pub use Rattle.pt_rights.specs.Limits.{most_entries}
 
 abbrev pub most_callers : ℕ
 most_callers = 1_000
@@ -12,7 +13,3 @@ most_routes = 50
 
 abbrev pub most_riders : ℕ
 most_riders = 100_000
-
--- of one case file
-abbrev pub most_entries : ℕ
-most_entries = 200

@@ -9,7 +9,7 @@ use Rattle.pt_http_reply.specs.Response.{IsReplyText}
 use Rattle.pt_http_reply.specs.declared.response.Response.{Response}
 use Rattle.pt_base.specs.Fault.{fault}
 use Rattle.pt_base.specs.declared.fault.Fault.{Fault}
-use Rattle.pt_base.specs.declared.fault.TheConstants.{MEMORY, READ_FAILED, WRITE_FAILED, MOMENT_LINE}
+use Rattle.pt_base.specs.Codes.{memory_refused, read_failed, write_failed, moment_line_refused}
 use Rattle.pt_http.specs.Exchange.{Desk, Exchanges, IsUnanswered}
 use Rattle.pt_http.specs.Input.{HasInput}
 use Rattle.pt_http.specs.Rehearsal.{Exchanged, is_last, IsStep, Rehearses, HasNoMoment}
@@ -79,25 +79,25 @@ went_on remaining input rest old now new before after later inbox next one stand
 code_of : (error : Fault) (one other : ℕ) → error ≡ fault one → error ≡ fault other → one ≡ other
 code_of error one other is also = ap (λ (e : Fault). e.code) (sym is ∙ also)
 
-pub unanswered_no_line : (error : Fault) → IsUnanswered error → error ≡ fault MOMENT_LINE → ⊥
+pub unanswered_no_line : (error : Fault) → IsUnanswered error → error ≡ fault moment_line_refused → ⊥
 unanswered_no_line error (inl is) line = let same : 0 ≡ 48 = code_of error 0 48 is line in omega (arith, same)
 unanswered_no_line error (inr is) line = let same : 46 ≡ 48 = code_of error 46 48 is line in omega (arith, same)
 
-pub read_no_line : (error : Fault) → error ≡ fault READ_FAILED → error ≡ fault MOMENT_LINE → ⊥
+pub read_no_line : (error : Fault) → error ≡ fault read_failed → error ≡ fault moment_line_refused → ⊥
 read_no_line error is line = let same : 46 ≡ 48 = code_of error 46 48 is line in omega (arith, same)
 
-pub write_no_line : (error : Fault) → error ≡ fault WRITE_FAILED → error ≡ fault MOMENT_LINE → ⊥
+pub write_no_line : (error : Fault) → error ≡ fault write_failed → error ≡ fault moment_line_refused → ⊥
 write_no_line error is line = let same : 47 ≡ 48 = code_of error 47 48 is line in omega (arith, same)
 
 -- how a rehearsal stands that ended before its end
 abbrev pub Stopped : List ℕ → Desk → Desk → Option (List ℕ) → Option (List ℕ) → Fault → Type 0
 Stopped input old new before after error =
     (messages : List Exchanged) × (written : List ℕ) × (rest : List ℕ) × Rehearses messages input old written rest new
-    × (error ≢ fault WRITE_FAILED → Appends before after written) × (error ≡ fault MOMENT_LINE → HasNoMoment rest)
+    × (error ≢ fault write_failed → Appends before after written) × (error ≡ fault moment_line_refused → HasNoMoment rest)
 
 -- it ended where it stood
 pub stopped_here : {R : Type 0} (remaining : R → Option (List ℕ)) (input : List ℕ) (old now : Desk) (before after : Option (List ℕ)) (inbox : Inbox R) (error : Fault) → (stands : StandsAt remaining input old before inbox now after)
-    → (error ≡ fault MOMENT_LINE → HasNoMoment stands.left) → Stopped input old now before after error
+    → (error ≡ fault moment_line_refused → HasNoMoment stands.left) → Stopped input old now before after error
 stopped_here remaining input old now before after inbox error stands line =
     (stands.messages, stands.written, stands.left, stops remaining input old now before after inbox stands, (λ other. stands.appended), line)
 
@@ -109,7 +109,7 @@ stopped_unanswered remaining input old now new before after later inbox error st
 
 -- a message was answered, and its reply was not written
 pub stopped_unheard : {R : Type 0} (remaining : R → Option (List ℕ)) (input rest : List ℕ) (old now new : Desk) (before after later : Option (List ℕ)) (inbox : Inbox R) (one : Exchanged) (error : Fault)
-    → (stands : StandsAt remaining input old before inbox now after) → error ≡ fault WRITE_FAILED → IsStep one stands.left now rest new → Stopped input old new before later error
+    → (stands : StandsAt remaining input old before inbox now after) → error ≡ fault write_failed → IsStep one stands.left now rest new → Stopped input old new before later error
 stopped_unheard remaining input rest old now new before after later inbox one error stands is step =
     (stands.messages ++ one ∷ [], stands.written ++ one.text, rest, ends remaining input rest old now new before after inbox one stands step, (λ other. absurd (other is)), (λ line. absurd (write_no_line error is line)))
 
@@ -117,8 +117,8 @@ pub either : {P Q R : Type 0} → P ⊎ Q → (P → R) → (Q → R) → R
 either (inl p) one other = one p
 either (inr q) one other = other q
 
-pub read_code_no_line : (error : Fault) → error.code ≡ READ_FAILED → error ≡ fault MOMENT_LINE → ⊥
+pub read_code_no_line : (error : Fault) → error.code ≡ read_failed → error ≡ fault moment_line_refused → ⊥
 read_code_no_line error is line = let same : 46 ≡ 48 = sym is ∙ ap (λ (e : Fault). e.code) line in omega (arith, same)
 
-pub memory_code_no_line : (error : Fault) → error.code ≡ MEMORY → error ≡ fault MOMENT_LINE → ⊥
+pub memory_code_no_line : (error : Fault) → error.code ≡ memory_refused → error ≡ fault moment_line_refused → ⊥
 memory_code_no_line error is line = let same : 0 ≡ 48 = sym is ∙ ap (λ (e : Fault). e.code) line in omega (arith, same)

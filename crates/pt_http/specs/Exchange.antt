@@ -2,7 +2,7 @@
 use Rattle.std.specs.Prelude.{◌≡◌, ◌⊎◌, ℕ, List, Option, Some, None, Result, Ok, option_map}
 use Rattle.pt_base.specs.Fault.{fault}
 use Rattle.pt_base.specs.declared.fault.Fault.{Fault}
-use Rattle.pt_base.specs.declared.fault.TheConstants.{MEMORY, READ_FAILED}
+use Rattle.pt_base.specs.Codes.{memory_refused, read_failed}
 use Rattle.pt_base.specs.declared.rule.Rule.TheVariants.{Key}
 use Rattle.pt_desk.specs.Store.{Store, Tells, Fails}
 use Rattle.pt_desk_rules.specs.State.{State}
@@ -48,12 +48,17 @@ Exchanges shut now bytes old new (response.Refused why) rest = BeginsWithFault b
 
 -- memory was refused, or a read failed or was one too many: nothing was answered
 abbrev pub IsUnanswered : Fault → Type 0
-IsUnanswered error = (error ≡ fault MEMORY) ⊎ (error ≡ fault READ_FAILED)
+IsUnanswered error = (error ≡ fault memory_refused) ⊎ (error ≡ fault read_failed)
 
 -- what begins the input is answered so, and the inbox has what comes after it
 abbrev pub IsExchanged : {R : Type 0} → (R → Option (List ℕ)) → ℕ → (ℕ × ℕ) → List ℕ → Desk → Desk → Inbox R → Response → Type 0
 IsExchanged remaining shut now input old new inbox reply =
     (rest : List ℕ) × HasInput remaining inbox rest × Exchanges shut now input old new reply rest
+
+-- the same of a desk over a store, as it stood and as it stands
+abbrev pub IsExchangedOver : {R : Type 0} → (R → Option (List ℕ)) → Store → Store → (ℕ × ℕ) → List ℕ → Inbox R → Response → Type 0
+IsExchangedOver remaining old new now input inbox reply =
+    IsExchanged remaining new.shut now input (desk_of old) (desk_of new) inbox reply
 
 -- the bytes of the reply come to the end of what was written
 abbrev pub IsWritten : Response → Option (List ℕ) → Option (List ℕ) → Type 0

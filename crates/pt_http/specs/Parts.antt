@@ -2,8 +2,7 @@
 use Rattle.std.specs.Prelude.{ℕ, ◌≤◌, List, [], ◌++◌, length, map}
 use Rattle.httparse.specs.Grammar.{RequestHead, ReadsRequest}
 use Rattle.httparse.specs.Spans.{name_and_value}
-use Rattle.pt_http_inbox.specs.Head.{BeginsWithHead}
-use Rattle.pt_http_inbox.specs.declared.head.TheConstants.{MOST_FIELDS}
+use Rattle.pt_http_inbox.specs.Head.{BeginsWithHead, most_fields}
 use Rattle.pt_http_request.specs.Headers.{IsBodyLength}
 
 -- the names and values of a head's fields, in order
@@ -12,7 +11,7 @@ lines_of head = map name_and_value head.fields
 
 -- the bytes are this head, with no more fields than are read
 abbrev pub IsWholeHead : List ℕ → RequestHead → Type 0
-IsWholeHead bytes head = ReadsRequest bytes head [] × (length head.fields ≤ MOST_FIELDS)
+IsWholeHead bytes head = ReadsRequest bytes head [] × (length head.fields ≤ most_fields)
 
 -- the bytes begin with this head and this body, and the rest comes after them
 pub record BeginsWithParts (bytes : List ℕ) (head : RequestHead) (body rest : List ℕ) : Type 0 where

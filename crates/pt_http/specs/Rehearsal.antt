@@ -2,7 +2,7 @@
 use Rattle.std.specs.Prelude.{◌≡◌, ◌⊎◌, ℕ, Bool, true, false, List, [], ◌∷◌, ◌++◌}
 use Rattle.pt_base.specs.Fault.{fault}
 use Rattle.pt_base.specs.declared.fault.Fault.{Fault}
-use Rattle.pt_base.specs.declared.fault.TheConstants.{WRITE_FAILED, MOMENT_LINE}
+use Rattle.pt_base.specs.Codes.{write_failed, moment_line_refused}
 use Rattle.pt_http_moment.specs.Moment.{BeginsWithMoment}
 use Rattle.pt_http_reply.specs.Response.{IsReplyText}
 use Rattle.pt_http_reply.specs.declared.fault.RequestFault.TheVariants.{Head, Length}
@@ -48,4 +48,4 @@ HasNoMoment bytes = (day minute : ℕ) (rest : List ℕ) → ¬ (BeginsWithMomen
 
 -- what ends a rehearsal before its end: no memory, a read or a write that failed, a bad line, or too many messages
 abbrev pub IsRehearsalFault : Fault → Type 0
-IsRehearsalFault error = IsUnanswered error ⊎ (error ≡ fault WRITE_FAILED) ⊎ (error ≡ fault MOMENT_LINE)
+IsRehearsalFault error = IsUnanswered error ⊎ (error ≡ fault write_failed) ⊎ (error ≡ fault moment_line_refused)

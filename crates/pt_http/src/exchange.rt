@@ -1,7 +1,7 @@
 ghost use Rattle.std.specs.Prelude.{◌≡◌, ◌⊎◌, ℕ, ◌≤◌, List, Err, IfOk, IfErr, OnOk};
 ghost use Rattle.pt_base.specs.Fault.{fault};
-ghost use Rattle.pt_base.specs.declared.fault.TheConstants.{WRITE_FAILED};
-ghost use Rattle.pt_http.specs.Exchange.{Desk, desk_of, IsExchanged, IsWritten, IsUnanswered};
+ghost use Rattle.pt_base.specs.Codes.{write_failed};
+ghost use Rattle.pt_http.specs.Exchange.{Desk, desk_of, IsExchangedOver, IsWritten, IsUnanswered};
 ghost use Rattle.pt_desk.specs.Store.{Store, IsSettled};
 ghost use Rattle.pt_http.specs.Input.{HasInput};
 ghost use Rattle.pt_http.specs.Received.{Responds};
@@ -28,7 +28,8 @@ fn respond<K: Keeper>(
     received: &Received,
 ) -> Response
     ensures responds { (K.store keeper.new).doubt ≡ 0
-        → Responds (K.store keeper.new).shut now received.now (desk_of (K.store keeper.old)) (desk_of (K.store keeper.new)) result }
+        → Responds (K.store keeper.new).shut now received.now (desk_of (K.store keeper.old))
+        (desk_of (K.store keeper.new)) result }
     ensures clean { (K.store keeper.old).doubt ≤ (K.store keeper.new).doubt }
     ensures serves { (K.store keeper.old).shut ≤ (K.store keeper.new).shut }
     ensures settled { IsSettled (K.store keeper.old) → IsSettled (K.store keeper.new) }
@@ -49,7 +50,7 @@ fn respond<K: Keeper>(
 fn write_reply<W: Write>(response: &Response, out: &mut W) -> Result<(), Fault>
     ensures written { OnOk result (IsWritten response.now (W.contents out.old) (W.contents out.new)) }
     ensures text { (text : List ℕ) × IsReplyText response.now text }
-    ensures fault { IfErr result (λ error. error ≡ fault WRITE_FAILED) }
+    ensures fault { IfErr result (λ error. error ≡ fault write_failed) }
 {
     let mut reply = ReplyBuffer::new();
     write_response(response, &mut reply);
@@ -70,12 +71,15 @@ pub(crate) fn exchange<K: Keeper, R: Read + Drop, W: Write>(
 ) -> Result<Response, Fault>
     requires { router.now ≡ desk_routes }
     ensures answered { (K.store keeper.new).doubt ≡ 0 → (input : List ℕ) → HasInput R.remaining inbox.old input
-        → IfOk result (λ reply. IsExchanged R.remaining (K.store keeper.new).shut now input (desk_of (K.store keeper.old)) (desk_of (K.store keeper.new)) inbox.new reply) }
+        → IfOk result (λ reply. IsExchangedOver R.remaining
+        (K.store keeper.old) (K.store keeper.new) now input inbox.new reply) }
     ensures written { IfOk result (λ reply. IsWritten reply (W.contents out.old) (W.contents out.new)) }
-    ensures unheard { (K.store keeper.new).doubt ≡ 0 → (input : List ℕ) → HasInput R.remaining inbox.old input → result ≡ Err (fault WRITE_FAILED)
-        → (reply : Response) × IsExchanged R.remaining (K.store keeper.new).shut now input (desk_of (K.store keeper.old)) (desk_of (K.store keeper.new)) inbox.new reply × ((text : List ℕ) × IsReplyText reply text) }
+    ensures unheard { (K.store keeper.new).doubt ≡ 0 → (input : List ℕ) → HasInput R.remaining inbox.old input
+        → result ≡ Err (fault write_failed) → (reply : Response)
+        × IsExchangedOver R.remaining (K.store keeper.old) (K.store keeper.new) now input inbox.new reply
+        × ((text : List ℕ) × IsReplyText reply text) }
     ensures unanswered { IfErr result (λ error. IsUnanswered error → (keeper.new ≡ keeper.old) × (out.new ≡ out.old)) }
-    ensures fault { IfErr result (λ error. IsUnanswered error ⊎ (error ≡ fault WRITE_FAILED)) }
+    ensures fault { IfErr result (λ error. IsUnanswered error ⊎ (error ≡ fault write_failed)) }
     ensures clean { (K.store keeper.old).doubt ≤ (K.store keeper.new).doubt }
     ensures serves { (K.store keeper.old).shut ≤ (K.store keeper.new).shut }
     ensures settled { IsSettled (K.store keeper.old) → IsSettled (K.store keeper.new) }
@@ -98,13 +102,15 @@ pub fn answer_bytes<K: Keeper, R: Read + Drop, W: Write>(
     out: &mut W,
 ) -> Result<(), Fault>
     ensures answered { (K.store keeper.new).doubt ≡ 0 → (input : List ℕ) → HasInput R.remaining inbox.old input
-        → OnOk result ((reply : Response) × IsExchanged R.remaining (K.store keeper.new).shut now input (desk_of (K.store keeper.old)) (desk_of (K.store keeper.new)) inbox.new reply
+        → OnOk result ((reply : Response)
+        × IsExchangedOver R.remaining (K.store keeper.old) (K.store keeper.new) now input inbox.new reply
         × IsWritten reply (W.contents out.old) (W.contents out.new)) }
     // The reply was not wholly written, but the request is answered.
-    ensures unheard { (K.store keeper.new).doubt ≡ 0 → (input : List ℕ) → HasInput R.remaining inbox.old input → result ≡ Err (fault WRITE_FAILED)
-        → (reply : Response) × IsExchanged R.remaining (K.store keeper.new).shut now input (desk_of (K.store keeper.old)) (desk_of (K.store keeper.new)) inbox.new reply }
+    ensures unheard { (K.store keeper.new).doubt ≡ 0 → (input : List ℕ) → HasInput R.remaining inbox.old input
+        → result ≡ Err (fault write_failed) → (reply : Response)
+        × IsExchangedOver R.remaining (K.store keeper.old) (K.store keeper.new) now input inbox.new reply }
     ensures unanswered { IfErr result (λ error. IsUnanswered error → (keeper.new ≡ keeper.old) × (out.new ≡ out.old)) }
-    ensures fault { IfErr result (λ error. IsUnanswered error ⊎ (error ≡ fault WRITE_FAILED)) }
+    ensures fault { IfErr result (λ error. IsUnanswered error ⊎ (error ≡ fault write_failed)) }
     ensures clean { (K.store keeper.old).doubt ≤ (K.store keeper.new).doubt }
     ensures serves { (K.store keeper.old).shut ≤ (K.store keeper.new).shut }
     ensures settled { IsSettled (K.store keeper.old) → IsSettled (K.store keeper.new) }

@@ -3,7 +3,7 @@ ghost use Rattle.pt_http.specs.Exchange.{IsUnanswered};
 ghost use Rattle.pt_http.specs.Input.{HasInput};
 ghost use Rattle.httparse.specs.Grammar.{RequestHead};
 ghost use Rattle.pt_base.specs.Fault.{fault};
-ghost use Rattle.pt_base.specs.declared.fault.TheConstants.{MEMORY};
+ghost use Rattle.pt_base.specs.Codes.{memory_refused};
 ghost use Rattle.pt_http.specs.Parts.{IsWholeHead};
 ghost use Rattle.pt_http.specs.Received.{IsSpelledBy, BeginsWith};
 ghost use Rattle.pt_http_request.specs.Targets.{desk_routes};
@@ -36,7 +36,7 @@ fn received_from(
 ) -> Result<Received, Fault>
     requires { router.now ≡ desk_routes }
     ensures spelled { (whole : RequestHead) → IsWholeHead head.now whole → IfOk result (IsSpelledBy whole body.now) }
-    ensures memory { IfErr result (λ error. error ≡ fault MEMORY) }
+    ensures memory { IfErr result (λ error. error ≡ fault memory_refused) }
 {
     match message_in(alloc, router, head, body) {
         Ok(message) => Ok(Received::Message(message)),

@@ -1,7 +1,7 @@
 ghost use Rattle.std.specs.Prelude.{◌≡◌, ◌≢◌, ◌⊎◌, ℕ, ◌≤◌, List, Err, IfOk, IfErr, OnOk};
 ghost use Rattle.std.specs.Io.KnownBytes.{Appends};
 ghost use Rattle.pt_base.specs.Fault.{fault};
-ghost use Rattle.pt_base.specs.declared.fault.TheConstants.{READ_FAILED, WRITE_FAILED, MOMENT_LINE};
+ghost use Rattle.pt_base.specs.Codes.{read_failed, write_failed, moment_line_refused};
 ghost use Rattle.pt_http.specs.Exchange.{Desk, desk_of, IsUnanswered};
 ghost use Rattle.pt_desk.specs.Store.{Store, IsSettled};
 ghost use Rattle.pt_http.specs.Input.{HasInput};
@@ -28,8 +28,8 @@ pub const MOST_MESSAGES: u32 = 100_000;
 fn next_moment<R: Read + Drop>(inbox: &mut Inbox<R>) -> Result<Option<(Day, Minute)>, Fault>
     ensures next { (input : List ℕ) → HasInput R.remaining inbox.old input
         → IfOk result (IsNext R.remaining inbox.new input) }
-    ensures line { (input : List ℕ) → HasInput R.remaining inbox.old input → result ≡ Err (fault MOMENT_LINE) → HasNoMoment input }
-    ensures fault { IfErr result (λ error. (error ≡ fault READ_FAILED) ⊎ (error ≡ fault MOMENT_LINE)) }
+    ensures line { (input : List ℕ) → HasInput R.remaining inbox.old input → result ≡ Err (fault moment_line_refused) → HasNoMoment input }
+    ensures fault { IfErr result (λ error. (error ≡ fault read_failed) ⊎ (error ≡ fault moment_line_refused)) }
 {
     if !inbox.read_up_to(1)? {
         return Ok(None);
@@ -69,8 +69,8 @@ fn go_through<K: Keeper, R: Read + Drop, W: Write>(
     ensures stopped { (K.store keeper.new).doubt ≡ 0 → (K.store keeper.new).shut ≡ 0 → (input : List ℕ) → HasInput R.remaining inbox.old input
         → IfErr result (λ error. (messages : List Exchanged) × (written : List ℕ) × (rest : List ℕ)
         × Rehearses messages input (desk_of (K.store keeper.old)) written rest (desk_of (K.store keeper.new))
-        × (error ≢ fault WRITE_FAILED → Appends (W.contents out.old) (W.contents out.new) written)
-        × (error ≡ fault MOMENT_LINE → HasNoMoment rest)) }
+        × (error ≢ fault write_failed → Appends (W.contents out.old) (W.contents out.new) written)
+        × (error ≡ fault moment_line_refused → HasNoMoment rest)) }
     ensures fault { IfErr result IsRehearsalFault }
     ensures clean { (K.store keeper.old).doubt ≤ (K.store keeper.new).doubt }
     ensures serves { (K.store keeper.old).shut ≤ (K.store keeper.new).shut }
@@ -109,8 +109,8 @@ pub fn rehearse<K: Keeper, R: Read + Drop, W: Write>(
     ensures stopped { (K.store keeper.new).doubt ≡ 0 → (K.store keeper.new).shut ≡ 0 → (input : List ℕ) → HasInput R.remaining inbox.old input
         → IfErr result (λ error. (messages : List Exchanged) × (written : List ℕ) × (rest : List ℕ)
         × Rehearses messages input (desk_of (K.store keeper.old)) written rest (desk_of (K.store keeper.new))
-        × (error ≢ fault WRITE_FAILED → Appends (W.contents out.old) (W.contents out.new) written)
-        × (error ≡ fault MOMENT_LINE → HasNoMoment rest)) }
+        × (error ≢ fault write_failed → Appends (W.contents out.old) (W.contents out.new) written)
+        × (error ≡ fault moment_line_refused → HasNoMoment rest)) }
     ensures fault { IfErr result IsRehearsalFault }
     ensures clean { (K.store keeper.old).doubt ≤ (K.store keeper.new).doubt }
     ensures serves { (K.store keeper.old).shut ≤ (K.store keeper.new).shut }

@@ -1,13 +1,20 @@
 -- Heads of requests (RFC 9112), of a bounded size.
 use Rattle.std.specs.Prelude.{ℕ, ◌≤◌, List, ◌++◌, length, drop}
 use Rattle.httparse.specs.Grammar.{RequestHead, ReadsRequest, print_request}
-use Rattle.pt_http_inbox.specs.declared.head.TheConstants.{LONGEST_HEAD, MOST_FIELDS}
+
+-- bytes of a head
+abbrev pub longest_head : ℕ
+longest_head = 8_192
+
+-- header lines of a head
+abbrev pub most_fields : ℕ
+most_fields = 64
 
 -- the bytes begin with this head, which is short and has few fields, and the rest comes after it
 pub record BeginsWithHead (bytes : List ℕ) (head : RequestHead) (rest : List ℕ) : Type 0 where
   pub reads : ReadsRequest bytes head rest
-  pub short : length (print_request head) ≤ LONGEST_HEAD
-  pub few : length head.fields ≤ MOST_FIELDS
+  pub short : length (print_request head) ≤ longest_head
+  pub few : length head.fields ≤ most_fields
 
 -- the first so many bytes are such a head
 pub record IsHead (bytes : List ℕ) (count : ℕ) : Type 0 where

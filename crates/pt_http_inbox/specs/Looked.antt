@@ -1,11 +1,10 @@
 -- What a look at the front of some bytes found.
 use Rattle.std.specs.Prelude.{ℕ, ◌<◌, List, length}
-use Rattle.pt_http_inbox.specs.Head.{IsHead, HasNoHead, NeverHasHead}
+use Rattle.pt_http_inbox.specs.Head.{longest_head, IsHead, HasNoHead, NeverHasHead}
 use Rattle.pt_http_inbox.specs.declared.head.Front.{Front}
 use Rattle.pt_http_inbox.specs.declared.head.Front.TheVariants.{Head, Open, Never}
-use Rattle.pt_http_inbox.specs.declared.head.TheConstants.{LONGEST_HEAD}
 
 abbrev pub Says : List ℕ → Front → Type 0
 Says bytes (Head count) = IsHead bytes count
-Says bytes Open = HasNoHead bytes × (length bytes < LONGEST_HEAD)
+Says bytes Open = HasNoHead bytes × (length bytes < longest_head)
 Says bytes Never = NeverHasHead bytes

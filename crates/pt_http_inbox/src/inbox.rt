@@ -1,7 +1,7 @@
 ghost use Rattle.std.specs.Prelude.{◌≡◌, ◌≤◌, ◌<◌, ◌+◌, ◌++◌, ℕ, List, [], Some, None, Ok, true, false, length, drop, IfOk, IfErr, OnErr, IfSome};
 ghost use Rattle.std.specs.Io.KnownBytes.{IsAtEnd, ReadConsumes};
 ghost use Rattle.pt_base.specs.Fault.{fault};
-ghost use Rattle.pt_base.specs.declared.fault.TheConstants.{MEMORY, READ_FAILED};
+ghost use Rattle.pt_base.specs.Codes.{memory_refused, read_failed};
 ghost use Rattle.pt_http_inbox.specs.Head.{IsHead, HasNoHead};
 ghost use Rattle.pt_http_inbox.specs.Inbox.{held, reader_of, ReadsOn};
 
@@ -39,7 +39,7 @@ impl<R: Read + Drop> Inbox<R> {
     pub fn new(alloc: Global, reader: R) -> Result<Self, Fault>
         ensures empty { IfOk result (λ inbox. held inbox ≡ []) }
         ensures reader { IfOk result (λ inbox. reader_of inbox ≡ reader) }
-        ensures memory { IfErr result (λ error. error ≡ fault MEMORY) }
+        ensures memory { IfErr result (λ error. error ≡ fault memory_refused) }
     {
         let bytes = Box::new(alloc, ArrayVec::new()).map_err(AllocError::from)?;
         Ok(Inbox {
@@ -65,7 +65,7 @@ impl<R: Read + Drop> Inbox<R> {
         ensures end { result ≡ Ok false → IsAtEnd (R.remaining (reader_of self.new)) }
         ensures nothing { result ≡ Ok false → held self.new ≡ held self.old }
         ensures err { OnErr result (held self.new ≡ held self.old) }
-        ensures fault { IfErr result (λ error. error ≡ fault READ_FAILED) }
+        ensures fault { IfErr result (λ error. error ≡ fault read_failed) }
     {
         let mut piece = [0; PIECE];
         let room = self.bytes.remaining_capacity().min(PIECE);
@@ -79,7 +79,7 @@ impl<R: Read + Drop> Inbox<R> {
         ensures bytes { ReadConsumes (R.remaining (reader_of self.old)) (R.remaining (reader_of self.new)) result piece.new }
         ensures within { IfOk result (λ count. count ≤ length piece.new) }
         ensures held { held self.new ≡ held self.old }
-        ensures fault { IfErr result (λ error. error ≡ fault READ_FAILED) }
+        ensures fault { IfErr result (λ error. error ≡ fault read_failed) }
     {
         for _ in 0..MOST_READS {
             if self.reads >= MOST_READS {
@@ -102,7 +102,7 @@ impl<R: Read + Drop> Inbox<R> {
         ensures head { IfOk result (λ found. IfSome found (IsHead (held self.new))) }
         ensures none { result ≡ Ok None → (more : List ℕ) → R.remaining (reader_of self.new) ≡ Some more
             → HasNoHead (held self.new ++ more) }
-        ensures fault { IfErr result (λ error. error ≡ fault READ_FAILED) }
+        ensures fault { IfErr result (λ error. error ≡ fault read_failed) }
     {
         for _ in 0..=MOST_READS {
             match front_of(self.held()) {
@@ -126,7 +126,7 @@ impl<R: Read + Drop> Inbox<R> {
         ensures enough { result ≡ Ok true → count ≤ length (held self.new) }
         ensures short { result ≡ Ok false → length (held self.new) < count }
         ensures end { result ≡ Ok false → IsAtEnd (R.remaining (reader_of self.new)) }
-        ensures fault { IfErr result (λ error. error ≡ fault READ_FAILED) }
+        ensures fault { IfErr result (λ error. error ≡ fault read_failed) }
     {
         for _ in 0..=MOST_READS {
             if self.bytes.len() >= count {

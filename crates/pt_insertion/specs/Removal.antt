@@ -1,6 +1,6 @@
 -- A route's stops, loads and service times with a trip taken out, the others kept in their order.
 use Rattle.std.specs.Prelude.{ℕ, ◌≤◌, Bool, not, ◌==◌, if◌then◌else◌, List, [], ◌∷◌, filter, Option}
-use Rattle.pt_base.specs.declared.minute.TheConstants.{LAST_MINUTE}
+use Rattle.pt_base.specs.Ranges.{last_minute}
 use Rattle.pt_base.specs.declared.vehicle.Vehicle.{Vehicle}
 use Rattle.pt_feasible.specs.declared.stop.Stop.{Stop}
 use Rattle.pt_feasible.specs.Loads.{LoadsFit}
@@ -30,7 +30,7 @@ times_without_trip trip stops (leaving ∷ b) = leaving ∷ times_at_others trip
 -- service times that fit a vehicle's route still fit at the stops that stay
 abbrev pub KeepsFittingTimes : ℕ → List Stop → List Stop → Type 0
 KeepsFittingTimes trip old new = (minutes : ℕ → ℕ → Option ℕ) (vehicle : Vehicle) (b : List ℕ) →
-    KeepsTriangleLaw minutes → vehicle.closes ≤ LAST_MINUTE →
+    KeepsTriangleLaw minutes → vehicle.closes ≤ last_minute →
     TimesFit minutes vehicle old b → TimesFit minutes vehicle new (times_without_trip trip old b)
 
 -- loads that fit a vehicle still fit

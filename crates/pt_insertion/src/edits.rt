@@ -1,5 +1,5 @@
 ghost use Rattle.std.specs.Prelude.{◌≡◌, ◌+◌, ◌≤◌, ◌↔◌, length, IsTrue, IfOk, IfErr};
-ghost use Rattle.pt_base.specs.declared.fault.TheConstants.{MEMORY};
+ghost use Rattle.pt_base.specs.Codes.{memory_refused};
 ghost use Rattle.pt_feasible.specs.declared.schedule.TheConstants.{MAX_STOPS};
 ghost use Rattle.pt_feasible.specs.Route.{stops_of};
 ghost use Rattle.pt_insertion.specs.Insertion.{with_trip, IsWithout};
@@ -25,14 +25,14 @@ pub trait RouteEdits: Stops {
         requires new_trip { IsWithout asked.now.trip (Self.stops self.now) }
         ensures value { IfOk result (λ route.
             stops_of route ≡ with_trip asked.now chosen.now.i chosen.now.j (Self.stops self.now)) }
-        ensures memory { IfErr result (λ fault. fault ≡ record { code = MEMORY; row = 0 }) };
+        ensures memory { IfErr result (λ fault. fault ≡ record { code = memory_refused; row = 0 }) };
 
     /// The route without the trip's stops; the fault is want of memory.
     fn removed(&self, alloc: Global, trip: TripId) -> Result<Route, Fault>
         ensures value { IfOk result (λ route. stops_of route ≡ without_trip trip (Self.stops self.now)) }
         ensures times { IfOk result (λ route. KeepsFittingTimes trip (Self.stops self.now) (stops_of route)) }
         ensures loads { IfOk result (λ route. KeepsFittingLoads (Self.stops self.now) (stops_of route)) }
-        ensures memory { IfErr result (λ fault. fault ≡ record { code = MEMORY; row = 0 }) };
+        ensures memory { IfErr result (λ fault. fault ≡ record { code = memory_refused; row = 0 }) };
 }
 
 impl RouteEdits for Route {

@@ -1,6 +1,5 @@
 ghost use Rattle.std.specs.Prelude.{◌≡◌, ◌*◌, ◌≤◌};
-ghost use Rattle.pt_party.specs.Fare.{fixed_fare_of, fare_of, due_of};
-ghost use Rattle.pt_party.specs.declared.fares.TheConstants.{HIGHEST_FARE};
+ghost use Rattle.pt_party.specs.Fare.{due_of, fare_of, fixed_fare_of, highest_fare};
 
 use crate::Party;
 use pt_base::Policy;
@@ -14,7 +13,7 @@ pub const HIGHEST_FARE: u32 = 100_000;
 pub fn fare(policy: &Policy, one_route: bool) -> u32
     ensures value { result ≡ fare_of policy.now one_route }
     ensures at_most_twice { result ≤ 2 * fixed_fare_of policy.now one_route }
-    ensures in_range { result ≤ HIGHEST_FARE }
+    ensures in_range { result ≤ highest_fare }
 {
     let transfer = if one_route { 0 } else { policy.transfer };
     let fixed_fare = policy.base + transfer;
@@ -23,7 +22,7 @@ pub fn fare(policy: &Policy, one_route: bool) -> u32
 
 /// What the party owes for a trip whose fare for one person is this, in cents.
 pub fn due(fare: u32, party: Party) -> u32
-    requires { fare ≤ HIGHEST_FARE }
+    requires { fare ≤ highest_fare }
     ensures value { result ≡ due_of fare party }
 {
     fare * (1 + u32::from(party.companions))

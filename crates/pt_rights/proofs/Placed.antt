@@ -11,6 +11,7 @@ use Rattle.pt_rights.specs.Kinds.{is_complete, is_decision, grant_of}
 use Rattle.pt_rights.specs.Places.{some_place}
 use Rattle.pt_rights.specs.Standing.{is_unanswered, is_waiting, is_presumed, standing_by}
 use Rattle.pt_rights.specs.ByPlace.{IsUnansweredAt, IsWaiting, IsPresumed, IsLastGrantAt}
+use Rattle.pt_rights.specs.Limits.{days_to_presumption}
 
 pub not_true : (b : Bool) → not b ≡ true → b ≡ false
 not_true true h = cc
@@ -113,19 +114,19 @@ waiting-law file = (to, from) where
 
 -- an unanswered application that was completed 21 days before the day, or earlier
 abbrev is_overdue : ℕ → Entered → List Entered → Bool
-is_overdue today application later = is_unanswered application later && nat_le (application.day + 21) today
+is_overdue today application later = is_unanswered application later && nat_le (application.day + days_to_presumption) today
 
 pub presumed_place : (file : List Entered) (today : ℕ) → is_presumed file today ≡ true → IsPresumed file today
 presumed_place file today presumed =
     let found = numbered_place (is_overdue today) file presumed in
-    let parts = and_parts (is_unanswered found.1 (drop (suc found.0) file)) (nat_le (found.1.day + 21) today) found.3 in
-    (found.0, found.1, unanswered_at file found.0 found.1 found.2 parts.0, at_most (found.1.day + 21) today parts.1)
+    let parts = and_parts (is_unanswered found.1 (drop (suc found.0) file)) (nat_le (found.1.day + days_to_presumption) today) found.3 in
+    (found.0, found.1, unanswered_at file found.0 found.1 found.2 parts.0, at_most (found.1.day + days_to_presumption) today parts.1)
 
 pub presumed_test : (file : List Entered) (today place : ℕ) (application : Entered)
-    → IsUnansweredAt file place application → application.day + 21 ≤ today → is_presumed file today ≡ true
+    → IsUnansweredAt file place application → application.day + days_to_presumption ≤ today → is_presumed file today ≡ true
 presumed_test file today place application at waited =
     numbered_test (is_overdue today) file place application at.here
-    (and_from _ _ (unanswered_test file place application at) (at_most_test (application.day + 21) today waited))
+    (and_from _ _ (unanswered_test file place application at) (at_most_test (application.day + days_to_presumption) today waited))
 
 -- no entry of the list grants
 abbrev pub NoneGrants : List Entered → Type 0

@@ -15,6 +15,7 @@ use Rattle.pt_rights.specs.Places.{is_open, is_followed, some_numbered}
 use Rattle.pt_rights.specs.Suspension.{is_lifted, is_suspended}
 use Rattle.pt_rights.proofs.Placed.{not_true, not_false, at_most, at_most_test, numbered_place, numbered_test, none_after, none_after_test}
 use Rattle.pt_rights.proofs.Lifted.{is_first}
+use Rattle.pt_rights.specs.Limits.{days_to_decide}
 
 module _ {X : Type 0} (p : X → Bool) where
   -- some item passes, by the test and by numbers
@@ -233,7 +234,7 @@ overdue-law file today = (to, from) where
         found.1,
         pending_at file found.0 against.0 found.1 found.2 against.2 pending.1,
         (against.1, against.3, against.4),
-        (heard.0, heard.1, heard.2, heard.3, hearing.0, at_most (heard.1.day + 30) today hearing.1),
+        (heard.0, heard.1, heard.2, heard.3, hearing.0, at_most (heard.1.day + days_to_decide) today hearing.1),
       )
 
   from : IsOverdue file today → is_overdue file today ≡ true
@@ -244,7 +245,7 @@ overdue-law file today = (to, from) where
       (disputes_test (λ (d : Entered). is_refusal d.entry) file appeal.entry against refused.0 at.appeals refused.1 refused.2)
       (undecided_test file place against appeal at))
       (some_after_test (is_heard_by today) file place heard.0 heard.1 heard.2 heard.3
-      (and_from _ _ heard.4 (at_most_test (heard.1.day + 30) today heard.5))))
+      (and_from _ _ heard.4 (at_most_test (heard.1.day + days_to_decide) today heard.5))))
 
 -- what overturns decides
 overturn_decides : (entry : Entry) → is_overturn entry ≡ true → decides_appeal entry ≡ true

@@ -8,11 +8,11 @@ use Rattle.pt_rights.specs.declared.entry.Grant.{Grant}
 use Rattle.pt_rights.specs.declared.entry.Entry.{Entry}
 use Rattle.pt_rights.specs.declared.entry.Entry.TheVariants as kind
 use Rattle.pt_rights.specs.declared.entry.Entered.{Entered}
-use Rattle.pt_rights.specs.declared.case_file.TheConstants.{MOST_ENTRIES}
 use Rattle.pt_rights.specs.Appeals.{is_overdue}
 use Rattle.pt_rights.specs.Kinds.{is_complete, is_decision, grant_of}
 use Rattle.pt_rights.specs.Standing.{is_waiting, is_presumed, last_grant}
 use Rattle.pt_rights.specs.Marks.{AreMarks, has_come, earlier, waiting_with}
+use Rattle.pt_rights.specs.Limits.{days_to_decide, days_to_presumption, most_entries}
 
 -- the test of a place, of the later places and of the new one, before and after the new entry
 waiting_step : (completes decided decides rest new : Bool)
@@ -52,14 +52,14 @@ presumed_step false true false false rest new = refl
 -- an application is presumed granted after one more entry
 pub presumed-push : (file : List Entered) (last : Entered) (today : ℕ)
     → is_presumed (file ++ last ∷ []) today
-    ≡ ((is_presumed file today && not (is_decision last.entry)) || (is_complete last.entry && nat_le (last.day + 21) today))
-presumed-push [] last today = presumed_new (is_complete last.entry) (nat_le (last.day + 21) today) where
+    ≡ ((is_presumed file today && not (is_decision last.entry)) || (is_complete last.entry && nat_le (last.day + days_to_presumption) today))
+presumed-push [] last today = presumed_new (is_complete last.entry) (nat_le (last.day + days_to_presumption) today) where
   presumed_new : (new old : Bool) → (((new && not false) && old) || false) ≡ (false || (new && old))
   presumed_new true true = refl
   presumed_new true false = refl
   presumed_new false old = refl
 presumed-push (first ∷ file) last today =
-    let step = presumed_step (nat_le (first.day + 21) today) (is_complete first.entry) (list_any (λ e. is_decision e.entry) file) (is_decision last.entry) (is_presumed file today) (is_complete last.entry && nat_le (last.day + 21) today) in
+    let step = presumed_step (nat_le (first.day + days_to_presumption) today) (is_complete first.entry) (list_any (λ e. is_decision e.entry) file) (is_decision last.entry) (is_presumed file today) (is_complete last.entry && nat_le (last.day + days_to_presumption) today) in
     rw (list_any-append (λ (e : Entered). is_decision e.entry) file (last ∷ []), presumed-push file last today) step
 
 -- the newer grant, where there is one
@@ -120,18 +120,18 @@ and_true false new = refl
 
 -- the mark says whether an application is presumed granted
 presumes_with : (waiting : Option ℕ) (entry : Entry) (day today : ℕ)
-    → ((has_come 21 waiting today && not (is_decision entry)) || (is_complete entry && nat_le (day + 21) today))
-    ≡ has_come 21 (waiting_with waiting entry day) today
+    → ((has_come days_to_presumption waiting today && not (is_decision entry)) || (is_complete entry && nat_le (day + days_to_presumption) today))
+    ≡ has_come days_to_presumption (waiting_with waiting entry day) today
 presumes_with waiting kind.Complete day today =
-    and_true (has_come 21 waiting today) (nat_le (day + 21) today) ∙ earlier_come 21 waiting day today
-presumes_with waiting (kind.Grant grant) day today = decided (has_come 21 waiting today)
-presumes_with waiting (kind.Refuse reasons) day today = decided (has_come 21 waiting today)
-presumes_with waiting _ day today = kept (has_come 21 waiting today)
+    and_true (has_come days_to_presumption waiting today) (nat_le (day + days_to_presumption) today) ∙ earlier_come 21 waiting day today
+presumes_with waiting (kind.Grant grant) day today = decided (has_come days_to_presumption waiting today)
+presumes_with waiting (kind.Refuse reasons) day today = decided (has_come days_to_presumption waiting today)
+presumes_with waiting _ day today = kept (has_come days_to_presumption waiting today)
 
 -- the marks after one more entry are marks of the longer file
 pub AreMarks-push : (file : List Entered) (waiting : Option ℕ) (granted : Option Grant) (heard heard_now : Option ℕ) (last : Entered)
-    → AreMarks file waiting granted heard → length file < MOST_ENTRIES
-    → ((today : ℕ) → is_overdue (file ++ last ∷ []) today ≡ has_come 30 heard_now today)
+    → AreMarks file waiting granted heard → length file < most_entries
+    → ((today : ℕ) → is_overdue (file ++ last ∷ []) today ≡ has_come days_to_decide heard_now today)
     → AreMarks (file ++ last ∷ []) (waiting_with waiting last.entry last.day) (newer (grant_of last.entry) granted) heard_now
 AreMarks-push file waiting granted heard heard_now last marks room overdue = record {
   within = simp length-append (omega arith);
@@ -143,11 +143,11 @@ AreMarks-push file waiting granted heard heard_now last marks room overdue = rec
 
 -- what has these entries and marks has marks of the longer file
 pub AreMarks-pushed : (file : List Entered) (waiting : Option ℕ) (granted : Option Grant) (heard : Option ℕ) (last : Entered)
-    → AreMarks file waiting granted heard → length file < MOST_ENTRIES
+    → AreMarks file waiting granted heard → length file < most_entries
     → (items : List Entered) (waiting_now : Option ℕ) (granted_now : Option Grant) (heard_now : Option ℕ)
     → items ≡ file ++ last ∷ [] → waiting_now ≡ waiting_with waiting last.entry last.day
     → granted_now ≡ newer (grant_of last.entry) granted
-    → ((today : ℕ) → is_overdue items today ≡ has_come 30 heard_now today)
+    → ((today : ℕ) → is_overdue items today ≡ has_come days_to_decide heard_now today)
     → AreMarks items waiting_now granted_now heard_now
 AreMarks-pushed file waiting granted heard last marks room items waiting_now granted_now heard_now items_is waiting_is granted_is overdue =
     let overdue_file = λ (today : ℕ). rw items_is at (overdue today) in

@@ -7,6 +7,7 @@ use Rattle.pt_rights.specs.declared.entry.Entry.TheVariants as kind
 use Rattle.pt_rights.specs.declared.entry.Entered.{Entered}
 use Rattle.pt_rights.specs.Kinds.{is_refusal, is_suspension, against_of, is_appeal, is_hearing, is_overturn, decides_appeal}
 use Rattle.pt_rights.specs.Places.{some_place, is_open, is_followed}
+use Rattle.pt_rights.specs.Limits.{days_to_appeal, days_to_decide}
 
 -- the entry is an appeal against the entry at the place
 abbrev pub appeals_against : ℕ → Entry → Bool
@@ -32,7 +33,7 @@ some_pending_with appeals follows file =
 
 -- an entry may be appealed against when it is a refusal or a suspension, within 60 days, the 60th among them
 abbrev pub is_appealable : ℕ → Entered → Bool
-is_appealable today entered = (is_refusal entered.entry || is_suspension entered.entry) && nat_le today (entered.day + 60)
+is_appealable today entered = (is_refusal entered.entry || is_suspension entered.entry) && nat_le today (entered.day + days_to_appeal)
 
 -- the file has an appeal against the entry at the place
 abbrev pub is_appealed : List Entered → ℕ → Bool
@@ -67,7 +68,7 @@ may_decide file decision author =
 
 -- an appeal was heard on the entry's day, which is 30 days before today or earlier
 abbrev pub is_heard_by : ℕ → Entered → Bool
-is_heard_by today entered = is_hearing entered.entry && nat_le (entered.day + 30) today
+is_heard_by today entered = is_hearing entered.entry && nat_le (entered.day + days_to_decide) today
 
 -- a pending appeal against a refusal was heard on day h, and today is h + 30 or later (37.125(g))
 abbrev pub is_overdue : List Entered → ℕ → Bool

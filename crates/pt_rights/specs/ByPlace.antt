@@ -3,6 +3,7 @@ use Rattle.std.specs.Prelude.{◌≡◌, ℕ, ◌+◌, ◌<◌, ◌≤◌, true,
 use Rattle.pt_rights.specs.declared.entry.Grant.{Grant}
 use Rattle.pt_rights.specs.declared.entry.Entered.{Entered}
 use Rattle.pt_rights.specs.Kinds.{is_complete, is_decision, grant_of, is_refusal, against_of, is_hearing, is_overturn, decides_appeal, suspends}
+use Rattle.pt_rights.specs.Limits.{days_to_decide, days_to_presumption}
 
 -- an application stands at the place, and no decision stands after it
 pub record IsUnansweredAt (file : List Entered) (place : ℕ) (application : Entered) : Type 0 where
@@ -17,7 +18,7 @@ IsWaiting file = (place : ℕ) × (application : Entered) × IsUnansweredAt file
 -- some unanswered application was completed 21 days ago or earlier (49 CFR 37.125(c))
 abbrev pub IsPresumed : List Entered → ℕ → Type 0
 IsPresumed file today =
-    (place : ℕ) × (application : Entered) × IsUnansweredAt file place application × (application.day + 21 ≤ today)
+    (place : ℕ) × (application : Entered) × IsUnansweredAt file place application × (application.day + days_to_presumption ≤ today)
 
 -- this is granted at the place, and nothing is granted after it
 pub record IsLastGrantAt (file : List Entered) (place : ℕ) (granting : Entered) (grant : Grant) : Type 0 where
@@ -48,7 +49,7 @@ IsRefusedAt file place = (refusal : Entered) × (slice_get file place ≡ Some r
 abbrev pub IsHeardAfter : List Entered → ℕ → ℕ → Type 0
 IsHeardAfter file place today =
     (later : ℕ) × (hearing : Entered) × (place < later) × (slice_get file later ≡ Some hearing)
-    × (is_hearing hearing.entry ≡ true) × (hearing.day + 30 ≤ today)
+    × (is_hearing hearing.entry ≡ true) × (hearing.day + days_to_decide ≤ today)
 
 -- some pending appeal against a refusal was heard 30 days ago or earlier (37.125(g))
 abbrev pub IsOverdue : List Entered → ℕ → Type 0

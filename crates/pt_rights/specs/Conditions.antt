@@ -4,7 +4,7 @@ use Rattle.pt_rights.specs.Feet.{IsFeet}
 use Rattle.pt_rights.specs.Months.{IsMonthSet}
 use Rattle.pt_rights.specs.declared.conditions.Condition.{Condition}
 use Rattle.pt_rights.specs.declared.conditions.Condition.TheVariants.{Always, Months, Farther, NoLift}
-use Rattle.pt_rights.specs.declared.conditions.TheConstants.{MOST_CONDITIONS}
+use Rattle.pt_rights.specs.Limits.{most_conditions}
 
 -- a condition's months are a set of months, its distance 1 to 100,000 feet
 abbrev pub IsCondition : Condition → Type 0
@@ -15,4 +15,4 @@ IsCondition NoLift = ⊤
 
 -- a grant lists one to four conditions
 abbrev pub IsConditions : List Condition → Type 0
-IsConditions members = (1 ≤ length members) × (length members ≤ MOST_CONDITIONS)
+IsConditions members = (1 ≤ length members) × (length members ≤ most_conditions)

@@ -4,6 +4,7 @@ pub mod ByPlace
 pub mod Conditions
 pub mod Feet
 pub mod Kinds
+pub mod Limits
 pub mod Marks
 pub mod Months
 pub mod Notices

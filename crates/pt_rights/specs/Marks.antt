@@ -5,9 +5,9 @@ use Rattle.pt_rights.specs.declared.entry.Grant.{Grant}
 use Rattle.pt_rights.specs.declared.entry.Entry.{Entry}
 use Rattle.pt_rights.specs.declared.entry.Entry.TheVariants as kind
 use Rattle.pt_rights.specs.declared.entry.Entered.{Entered}
-use Rattle.pt_rights.specs.declared.case_file.TheConstants.{MOST_ENTRIES}
 use Rattle.pt_rights.specs.Appeals.{is_overdue}
 use Rattle.pt_rights.specs.Standing.{is_waiting, is_presumed, last_grant}
+use Rattle.pt_rights.specs.Limits.{days_to_decide, days_to_presumption, most_entries}
 
 -- today is so many days after the day of the mark, or later; never where there is no mark
 abbrev pub has_come : ℕ → Option ℕ → ℕ → Bool
@@ -15,11 +15,11 @@ has_come days since today = option_map_or (λ day. nat_le (day + days) today) si
 
 -- the marks say what standing and admission ask of the entries
 pub record AreMarks (file : List Entered) (waiting : Option ℕ) (granted : Option Grant) (heard : Option ℕ) : Type 0 where
-  pub within : length file ≤ MOST_ENTRIES
+  pub within : length file ≤ most_entries
   pub waits : is_waiting file ≡ is_some waiting
-  pub presumes : (today : ℕ) → is_presumed file today ≡ has_come 21 waiting today
+  pub presumes : (today : ℕ) → is_presumed file today ≡ has_come days_to_presumption waiting today
   pub grants : last_grant file ≡ granted
-  pub overdue : (today : ℕ) → is_overdue file today ≡ has_come 30 heard today
+  pub overdue : (today : ℕ) → is_overdue file today ≡ has_come days_to_decide heard today
 
 -- the earlier of a day, if there is one, and another
 abbrev pub earlier : Option ℕ → ℕ → Option ℕ

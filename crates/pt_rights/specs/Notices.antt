@@ -8,6 +8,7 @@ use Rattle.pt_rights.specs.declared.tally.Tally.{Tally}
 use Rattle.pt_rights.specs.declared.entry.Entered.{Entered}
 use Rattle.pt_rights.specs.Kinds.{is_notice, is_notice_hearing, is_suspension}
 use Rattle.pt_rights.specs.Places.{some_place, is_open, is_followed}
+use Rattle.pt_rights.specs.Limits.{days_after_first}
 
 -- the rider missed the trip; what the operator missed, or was beyond the rider's control, never counts
 abbrev pub is_missed : Outcome → Bool
@@ -47,4 +48,4 @@ may_suspend file =
 
 -- a suspension starts after its day, and lasts 1 to 30 days
 abbrev pub is_term : ℕ → ℕ → ℕ → Bool
-is_term today starts ends = nat_le (today + 1) starts && (nat_le starts ends && nat_le ends (starts + 29))
+is_term today starts ends = nat_le (today + 1) starts && (nat_le starts ends && nat_le ends (starts + days_after_first))

@@ -2,6 +2,7 @@ ghost use Rattle.std.specs.Prelude.{◌≡◌, ℕ, ◌+◌, ◌&&◌, ◌||◌,
 ghost use Rattle.pt_rights.specs.Appeals.{disputed, disputes, is_appealable, is_appealed, may_appeal, may_answer, some_pending, awaits_hearing, may_decide, is_overdue};
 ghost use Rattle.pt_rights.specs.Kinds.{is_appeal, is_refusal, is_hearing, decides_appeal};
 ghost use Rattle.pt_rights.specs.Marks.{earlier, has_come};
+ghost use Rattle.pt_rights.specs.Limits.{days_to_decide};
 
 use crate::walk::{followed_after, open_after};
 use crate::{Entered, Entry};
@@ -110,7 +111,7 @@ pub fn may_decide(entries: &[Entered], decision: &Entry, author: CallerId) -> bo
 
 /// The least day on which a pending appeal against a refusal was heard.
 pub fn heard_since(entries: &[Entered]) -> Option<Day>
-    ensures { (today : ℕ) → is_overdue entries.now today ≡ has_come 30 result today }
+    ensures { (today : ℕ) → is_overdue entries.now today ≡ has_come days_to_decide result today }
 {
     let mut pending = false;
     let mut heard = None;
@@ -124,8 +125,8 @@ pub fn heard_since(entries: &[Entered]) -> Option<Day>
 
 /// The least day on which what is pending was heard, after an entry of this day that may decide or hear it.
 fn heard_after(heard: Option<Day>, pending: bool, entry: &Entry, day: Day) -> Option<Day>
-    ensures { (today : ℕ) → has_come 30 result today ≡ (not (decides_appeal entry.now)
-        && (has_come 30 heard today || (pending && (is_hearing entry.now && nat_le (day + 30) today)))) }
+    ensures { (today : ℕ) → has_come days_to_decide result today ≡ (not (decides_appeal entry.now)
+        && (has_come days_to_decide heard today || (pending && (is_hearing entry.now && nat_le (day + days_to_decide) today)))) }
 {
     if entry.decides_appeal() {
         None

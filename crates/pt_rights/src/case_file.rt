@@ -1,5 +1,5 @@
 ghost use Rattle.std.specs.Prelude.{◌≡◌, ◌<◌, ◌≤◌, ◌↔◌, [], ◌∷◌, ◌++◌, length, IsTrue, IfErr, OnOk, OnErr};
-ghost use Rattle.pt_base.specs.declared.fault.TheConstants.{MEMORY};
+ghost use Rattle.pt_base.specs.Codes.{memory_refused};
 ghost use Rattle.pt_rights.specs.Admission.{admission_rules};
 ghost use Rattle.pt_rights.specs.ByPlace.{IsWaiting, IsPresumed, IsOverdue, IsGrantedFor, IsSuspended};
 ghost use Rattle.pt_rights.specs.Kinds.{grant_of};
@@ -8,7 +8,7 @@ ghost use Rattle.pt_rights.specs.Rules.{first_failing};
 ghost use Rattle.pt_rights.specs.Standing.{is_waiting, standing_of};
 ghost use Rattle.pt_rights.specs.Suspension.{is_suspended};
 ghost use Rattle.pt_rights.specs.declared.entry.Grant.{Grant};
-ghost use Rattle.pt_rights.specs.declared.case_file.TheConstants.{MOST_ENTRIES};
+ghost use Rattle.pt_rights.specs.Limits.{most_entries};
 
 use crate::{Entered, Entry, Grant, Tally, appeals, notices, suspensions};
 use pt_base::fault::MEMORY;
@@ -79,7 +79,7 @@ impl CaseFile {
     /// The entries, in the order in which they were entered.
     pub fn entries(&self) -> &[Entered]
         ensures value { result.now ≡ self.now }
-        ensures within { length result.now ≤ MOST_ENTRIES }
+        ensures within { length result.now ≤ most_entries }
     {
         &self.entries
     }
@@ -87,7 +87,7 @@ impl CaseFile {
     /// The number of entries.
     pub fn len(&self) -> usize
         ensures value { result ≡ length self.now }
-        ensures within { result ≤ MOST_ENTRIES }
+        ensures within { result ≤ most_entries }
     {
         self.entries.len()
     }
@@ -101,8 +101,8 @@ impl CaseFile {
 
     /// Whether there is no room for one more entry.
     pub fn is_full(&self) -> bool
-        ensures value { IsTrue result ↔ (length self.now ≡ MOST_ENTRIES) }
-        ensures within { length self.now ≤ MOST_ENTRIES }
+        ensures value { IsTrue result ↔ (length self.now ≡ most_entries) }
+        ensures within { length self.now ≤ most_entries }
     {
         self.len() == MOST_ENTRIES
     }
@@ -169,12 +169,12 @@ impl CaseFile {
     ///
     /// The error is want of memory, and hands the entry back.
     pub fn push(&mut self, entry: Entry, today: Day, author: CallerId) -> Result<(), (Entry, Fault)>
-        requires { length self.old < MOST_ENTRIES }
+        requires { length self.old < most_entries }
         ensures ok { OnOk result (self.new
             ≡ self.old ++ record { entry = entry; day = today; author = author } ∷ []) }
         ensures unchanged { OnErr result (self.new ≡ self.old) }
         ensures returned { IfErr result (λ refused. refused.0 ≡ entry) }
-        ensures fault { IfErr result (λ refused. refused.1 ≡ record { code = MEMORY; row = 0 }) }
+        ensures fault { IfErr result (λ refused. refused.1 ≡ record { code = memory_refused; row = 0 }) }
     {
         let waiting = waiting_after(self.waiting, &entry, today);
         let granted = entry.granted();

@@ -2,8 +2,8 @@ ghost use Rattle.std.specs.Prelude.{◌≡◌, ℕ, ◌<◌, ◌≤◌, ◌&&◌
 ghost use Rattle.pt_rights.specs.Appeals.{appeals_against};
 ghost use Rattle.pt_rights.specs.Kinds.{is_overturn, decides_appeal};
 ghost use Rattle.pt_rights.specs.Suspension.{is_lifted, is_suspended};
-ghost use Rattle.pt_rights.specs.declared.case_file.TheConstants.{MOST_ENTRIES};
 ghost use Rattle.pt_rights.specs.declared.suspensions.TheConstants.{PLACES};
+ghost use Rattle.pt_rights.specs.Limits.{most_entries};
 
 use crate::{Entered, Entry};
 use pt_base::Day;
@@ -13,7 +13,7 @@ const PLACES: usize = 256;
 
 /// Whether some suspension that has effect holds on the day.
 pub fn is_suspended(entries: &[Entered], day: Day) -> bool
-    requires { length entries.now ≤ MOST_ENTRIES }
+    requires { length entries.now ≤ most_entries }
     ensures { result ≡ is_suspended entries.now day }
 {
     let lifted = lifted_places(entries);

@@ -5,7 +5,7 @@ use Rattle.csv.specs.Reading.{AreRecords, Reached, default_config, strip_bom}
 use Rattle.csv.specs.declared.parser.State.{State}
 use Rattle.csv.specs.declared.parser.State.TheVariants as state
 use Rattle.pt_base.specs.declared.fault.Fault.{Fault}
-use Rattle.pt_base.specs.declared.fault.TheConstants.{TRAVEL_RECORD, TRAVEL_HEADER, TRAVEL_PLACE, TRAVEL_MINUTES, TRAVEL_PAIR, TRAVEL_PLACES}
+use Rattle.pt_base.specs.Codes.{record_refused, header_refused, place_refused, minutes_refused, pair_refused, places_refused}
 use Rattle.pt_travel.specs.Chain.{Row}
 use Rattle.pt_travel.specs.Table.{Rises}
 
@@ -73,10 +73,10 @@ IsSortedFrom records rows = Rises rows × ((row : Row) → Contains rows row ↔
 -- what is wrong with a record, after others that are sound
 abbrev pub HasFault : List ℕ → List Record → Record → ℕ → Type 0
 HasFault places earlier fields code =
-    ((code ≡ TRAVEL_RECORD) × (length fields ≢ 3))
-    ⊎ ((code ≡ TRAVEL_PLACE) × (length fields ≡ 3) × (NamesPlaces places fields → ⊥))
-    ⊎ ((code ≡ TRAVEL_MINUTES) × (length fields ≡ 3) × NamesPlaces places fields × (IsMinutes (field fields 2) → ⊥))
-    ⊎ ((code ≡ TRAVEL_PAIR) × IsSound places fields × (other : Row) × Contains (map row_of earlier) other × Conflicts (row_of fields) other)
+    ((code ≡ record_refused) × (length fields ≢ 3))
+    ⊎ ((code ≡ place_refused) × (length fields ≡ 3) × (NamesPlaces places fields → ⊥))
+    ⊎ ((code ≡ minutes_refused) × (length fields ≡ 3) × NamesPlaces places fields × (IsMinutes (field fields 2) → ⊥))
+    ⊎ ((code ≡ pair_refused) × IsSound places fields × (other : Row) × Contains (map row_of earlier) other × Conflicts (row_of fields) other)
 
 -- what was read so far: nothing, or the header row and sound records below it, with their rows in order
 abbrev pub IsReadSoFar : List ℕ → List Record → List Row → Type 0
@@ -91,7 +91,7 @@ number_after count = min (count + 1) (2 ^ 32 - 1)
 -- the fault of the record after those that were read so far
 abbrev pub IsNextFault : List ℕ → List Record → Record → Fault → Type 0
 IsNextFault places seen fields fault =
-    ((seen ≡ []) × (fault ≡ record { code = TRAVEL_HEADER; row = 1 }) × (fields ≢ header))
+    ((seen ≡ []) × (fault ≡ record { code = header_refused; row = 1 }) × (fields ≢ header))
     ⊎ ((records : List Record) × (seen ≡ header ∷ records) × AreSound places records × HasFault places records fields fault.code
     × (fault.row ≡ number_after (length seen)))
 
@@ -116,6 +116,6 @@ FailsAt text places fault =
 -- the first fault of a text: too many places, then no header row, then that of the first record that is not sound
 abbrev pub IsFirstFault : List ℕ → List ℕ → Fault → Type 0
 IsFirstFault text places fault =
-    ((fault ≡ record { code = TRAVEL_PLACES; row = 0 }) × (100 < length places))
-    ⊎ ((fault ≡ record { code = TRAVEL_HEADER; row = 1 }) × (length places ≤ 100) × LacksHeader text)
+    ((fault ≡ record { code = places_refused; row = 0 }) × (100 < length places))
+    ⊎ ((fault ≡ record { code = header_refused; row = 1 }) × (length places ≤ 100) × LacksHeader text)
     ⊎ ((length places ≤ 100) × FailsAt text places fault)

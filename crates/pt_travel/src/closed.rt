@@ -20,14 +20,14 @@ pub struct Closed {
 
 impl Closed {
     ghost use Rattle.std.specs.Prelude.{IfOk, IfErr};
-    ghost use Rattle.pt_base.specs.declared.fault.TheConstants.{MEMORY};
+    ghost use Rattle.pt_base.specs.Codes.{memory_refused};
     ghost use Rattle.pt_travel.specs.Chain.{IsTime};
     ghost use Rattle.pt_travel.specs.Times.{time_in};
 
     /// The closure of a table, whose memory is asked for at once.
     pub fn of(alloc: Global, raw: &Raw) -> Result<Self, Fault>
         ensures least { IfOk result (λ closed. (from to : ℕ) → IsTime raw.now from to (time_in closed from to)) }
-        ensures refused { IfErr result (λ fault. fault ≡ record { code = MEMORY; row = 0 }) }
+        ensures refused { IfErr result (λ fault. fault ≡ record { code = memory_refused; row = 0 }) }
     {
         let places = raw.places();
         let mut lines = matrix::direct(alloc, raw.rows(), &places)?;

@@ -2,7 +2,7 @@ ghost use Rattle.std.specs.Prelude.{◌≡◌, ◌⊎◌, true, Some, IfOk, IfEr
 ghost use Rattle.csv.specs.Reading.{ReadRecord, Ready, reader_trim};
 ghost use Rattle.csv.specs.Records.{fields_of};
 ghost use Rattle.csv.specs.declared.reader.Trim.TheVariants as trim;
-ghost use Rattle.pt_base.specs.declared.fault.TheConstants.{MEMORY};
+ghost use Rattle.pt_base.specs.Codes.{memory_refused};
 ghost use Rattle.pt_travel.specs.Places.{list_of};
 ghost use Rattle.pt_travel.specs.Text.{IsFirstFault, ReadsAs};
 
@@ -24,7 +24,7 @@ impl Raw {
     /// stood before with other minutes (24). Rows count records, and the header is row 1.
     pub fn read(alloc: Global, text: &[u8], places: &[PlaceId]) -> Result<Self, Fault>
         ensures reads { IfOk result (λ raw. ReadsAs text.now places.now raw) }
-        ensures faulty { IfErr result (λ fault. (fault ≡ record { code = MEMORY; row = 0 })
+        ensures faulty { IfErr result (λ fault. (fault ≡ record { code = memory_refused; row = 0 })
             ⊎ IsFirstFault text.now places.now fault) }
     {
         if places.len() > MOST_PLACES {
@@ -39,7 +39,7 @@ impl Raw {
 // The rows of the records below the header, in order and each once.
 fn read_rows(alloc: Global, text: &[u8], places: &Places) -> Result<Vec<Row>, Fault>
     ensures reads { IfOk result (λ rows. ReadsAs text.now (list_of places.now) rows.items) }
-    ensures faulty { IfErr result (λ fault. (fault ≡ record { code = MEMORY; row = 0 })
+    ensures faulty { IfErr result (λ fault. (fault ≡ record { code = memory_refused; row = 0 })
         ⊎ IsFirstFault text.now (list_of places.now) fault) }
 {
     let mut reader = ReaderBuilder::new()
@@ -68,7 +68,7 @@ fn next_record(reader: &mut Reader<&[u8]>, given: &mut ByteRecord) -> Result<boo
     requires ready { Ready reader.old }
     ensures reads { IfOk result (λ found. ReadRecord (λ s. Some s.now) reader.old reader.new found (fields_of given.new)) }
     ensures ready { IfOk result (λ found. found ≡ true → Ready reader.new) }
-    ensures refused { IfErr result (λ fault. fault ≡ record { code = MEMORY; row = 0 }) }
+    ensures refused { IfErr result (λ fault. fault ≡ record { code = memory_refused; row = 0 }) }
 {
     // The bytes lie in memory and a record may have any length, so no read fails but for memory.
     match reader.read_byte_record(given) {

@@ -1,6 +1,6 @@
 ghost use Rattle.std.specs.Prelude.{◌≡◌, ℕ, ◌⊎◌, ◌↔◌, List, [], ◌∷◌, ◌++◌, length, slice_index_or, IsTrue, IfOk, OnOk, IfErr};
 ghost use Rattle.csv.specs.Records.{fields_of};
-ghost use Rattle.pt_base.specs.declared.fault.TheConstants.{MEMORY};
+ghost use Rattle.pt_base.specs.Codes.{memory_refused, header_refused};
 ghost use Rattle.pt_travel.specs.Places.{list_of};
 ghost use Rattle.pt_travel.specs.Table.{Rises};
 ghost use Rattle.pt_travel.specs.Text.{HasFault, IsNextFault, IsReadSoFar, IsSound, Record, header, number_after, row_of};
@@ -22,7 +22,7 @@ pub fn take(
     requires { Rises rows.old.items }
     ensures taken { OnOk result ((seen : List Record) → number ≡ number_after (length seen)
         → IsReadSoFar (list_of places.now) seen rows.old.items → IsReadSoFar (list_of places.now) (seen ++ fields_of given.now ∷ []) rows.new.items) }
-    ensures faulty { IfErr result (λ fault. (fault ≡ record { code = MEMORY; row = 0 })
+    ensures faulty { IfErr result (λ fault. (fault ≡ record { code = memory_refused; row = 0 })
         ⊎ ((seen : List Record) → number ≡ number_after (length seen) → IsReadSoFar (list_of places.now) seen rows.old.items
         → IsNextFault (list_of places.now) seen (fields_of given.now) fault)) }
 {
@@ -39,7 +39,7 @@ pub fn take(
 #[tactic(auto, using(crate::proofs::RecordLemmas::header_from))]
 fn header(given: &ByteRecord) -> Result<(), Fault>
     ensures header { OnOk result (fields_of given.now ≡ header) }
-    ensures other { IfErr result (λ fault. (fault ≡ record { code = TRAVEL_HEADER; row = 1 })
+    ensures other { IfErr result (λ fault. (fault ≡ record { code = header_refused; row = 1 })
         × (fields_of given.now ≡ header → ⊥)) }
 {
     if given.len() == 3

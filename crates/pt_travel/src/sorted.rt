@@ -1,5 +1,5 @@
 ghost use Rattle.std.specs.Prelude.{◌≡◌, ℕ, ◌<◌, ◌≤◌, ◌⊎◌, ◌↔◌, length, slice_index_or, Contains, IsTrue, OnOk, IfErr};
-ghost use Rattle.pt_base.specs.declared.fault.TheConstants.{MEMORY, TRAVEL_PAIR};
+ghost use Rattle.pt_base.specs.Codes.{memory_refused, pair_refused};
 ghost use Rattle.pt_travel.specs.Table.{ComesBefore, Rises};
 ghost use Rattle.pt_travel.specs.Text.{Conflicts};
 
@@ -13,8 +13,8 @@ pub fn put(rows: &mut Vec<Row>, row: Row, number: u32) -> Result<(), Fault>
     requires { Rises rows.old.items }
     ensures rises { OnOk result (Rises rows.new.items) }
     ensures rows { OnOk result ((other : ℕ × ℕ × ℕ) → Contains rows.new.items other ↔ (Contains rows.old.items other ⊎ (other ≡ row))) }
-    ensures refused { IfErr result (λ fault. (fault ≡ record { code = MEMORY; row = 0 })
-        ⊎ ((fault ≡ record { code = TRAVEL_PAIR; row = number }) × (other : ℕ × ℕ × ℕ) × Contains rows.old.items other × Conflicts row other)) }
+    ensures refused { IfErr result (λ fault. (fault ≡ record { code = memory_refused; row = 0 })
+        ⊎ ((fault ≡ record { code = pair_refused; row = number }) × (other : ℕ × ℕ × ℕ) × Contains rows.old.items other × Conflicts row other)) }
 {
     let k = place_for(rows, &row);
     if k < rows.len() && same_places(&rows[k], &row) {

@@ -3,15 +3,15 @@ use Rattle.std.specs.Prelude.{◌≡◌, ◌<◌, Bool, true, false, length, is_
 use Rattle.std.proofs.Common.{sym, ap, ◌∙◌}
 use Rattle.pt_rights.specs.Kinds.{grant_of}
 use Rattle.pt_rights.specs.declared.entry.Entered.{Entered}
-use Rattle.pt_rights.specs.declared.case_file.TheConstants.{MOST_ENTRIES}
 use Rattle.pt_rights.proofs.Pushed.{AreMarks-pushed, newer-some, newer-none}
 use Rattle.pt_rights.proofs.case_file.CaseFile.push.Goals as goal
 use Rattle.pt_rights.proofs.case_file.CaseFile.push.Goals.{then-is_some, else-is_some}
+use Rattle.pt_rights.specs.Limits.{most_entries}
 
 pub invariant_of-self : goal.invariant_of-self
 invariant_of-self c =
     let last : Entered = record { entry = c.args.entry; day = c.args.today; author = c.args.author } in
-    let room : length c.self.inside.entries.items < MOST_ENTRIES = rw c.self.view_is c.requires in
+    let room : length c.self.inside.entries.items < most_entries = rw c.self.view_is c.requires in
     let pushed =
     AreMarks-pushed c.self.inside.entries.items c.self.inside.waiting c.self.inside.granted c.self.inside.heard last c.self.invariant room
     c.if-is_some.self-inside.entries.items c.if-is_some.self-inside.waiting c.if-is_some.self-inside.granted c.heard_since-self-inside.result in
