@@ -1,4 +1,4 @@
-use crate::{Inbox, LONGEST_HEAD, MOST_READS};
+use crate::{Inbox, MOST_READS};
 use pt_base::Fault;
 use pt_base::fault::READ_FAILED;
 use std::alloc::{AllocError, Global};
@@ -88,12 +88,6 @@ fn a_byte_a_read(rt: HostRuntime) -> Result<(), Fail> {
     Ok(())
 }
 
-/// What a new inbox finds at the front of a text.
-fn first_head(alloc: Global, text: &[u8]) -> Result<Option<usize>, Fault> {
-    let mut inbox = Inbox::new(alloc, text)?;
-    inbox.read_head()
-}
-
 #[test]
 fn a_reader_that_is_interrupted_without_end(rt: HostRuntime) -> Result<(), Fail> {
     let reader = OneByOne::of(rt.alloc(), b"GET", MOST_READS, false)?;
@@ -111,51 +105,5 @@ fn as_many_reads_as_there_may_be(rt: HostRuntime) -> Result<(), Fail> {
     assert_eq!(rt; inbox.read_up_to(2), Err(Fault::of(READ_FAILED)));
     inbox.consume(0);
     assert_eq!(rt; inbox.read_up_to(2)?, true);
-    Ok(())
-}
-
-#[test]
-fn heads_at_the_longest(rt: HostRuntime) -> Result<(), Fail> {
-    let mut text = Vec::from_slice(rt.alloc(), b"GET / HTTP/1.1\r\nX: ")?;
-    for _ in 0..8_192 {
-        text.push(b'x')?;
-    }
-    text.truncate(LONGEST_HEAD - 4);
-    text.extend_from_slice(b"\r\n\r\n")?;
-    assert_eq!(rt;
-        first_head(rt.alloc(), text.as_slice())?,
-        Some(LONGEST_HEAD)
-    );
-    // One byte more is too long.
-    text.truncate(LONGEST_HEAD - 4);
-    text.extend_from_slice(b"x\r\n\r\n")?;
-    assert_eq!(rt; first_head(rt.alloc(), text.as_slice())?, None);
-    Ok(())
-}
-
-#[test]
-fn what_begins_with_no_head(rt: HostRuntime) -> Result<(), Fail> {
-    assert_eq!(rt; first_head(rt.alloc(), b"")?, None);
-    assert_eq!(rt; first_head(rt.alloc(), b"\r\n")?, None);
-    assert_eq!(rt;
-        first_head(rt.alloc(), b"GET / HTTP/1.1\r\nContent-Le")?,
-        None
-    );
-    assert_eq!(rt; first_head(rt.alloc(), b"GET / HTTP/2\r\n\r\n")?, None);
-    assert_eq!(rt; first_head(rt.alloc(), b"<\r\n\r\n")?, None);
-    Ok(())
-}
-
-#[test]
-fn heads_with_many_fields(rt: HostRuntime) -> Result<(), Fail> {
-    let mut text = Vec::from_slice(rt.alloc(), b"GET / HTTP/1.1\r\n")?;
-    for _ in 0..64 {
-        text.extend_from_slice(b"X: x\r\n")?;
-    }
-    text.extend_from_slice(b"\r\n")?;
-    assert_eq!(rt; first_head(rt.alloc(), text.as_slice())?, Some(402));
-    text.truncate(400);
-    text.extend_from_slice(b"X: x\r\n\r\n")?;
-    assert_eq!(rt; first_head(rt.alloc(), text.as_slice())?, None);
     Ok(())
 }
