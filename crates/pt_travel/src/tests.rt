@@ -55,8 +55,8 @@ fn fault(alloc: Global, text: &[u8]) -> Result<Option<(u16, u32)>, AllocError> {
 }
 
 #[test]
-fn the_least_chain_is_the_time(rt: HostRuntime) -> Result<(), Fail> {
-    let given = [
+fn the_time_is_that_of_the_least_chain(rt: HostRuntime) -> Result<(), Fail> {
+    let triangle = [
         (1, 2, 10),
         (1, 3, 50),
         (2, 1, 10),
@@ -64,52 +64,42 @@ fn the_least_chain_is_the_time(rt: HostRuntime) -> Result<(), Fail> {
         (3, 1, 50),
         (3, 2, 10),
     ];
-    assert_eq!(rt; time(rt.alloc(), &given, 1, 3), Ok(Some(20)));
-    assert_eq!(rt; time(rt.alloc(), &given, 3, 1), Ok(Some(20)));
-    assert_eq!(rt; time(rt.alloc(), &given, 1, 2), Ok(Some(10)));
-    assert_eq!(rt; time(rt.alloc(), &given, 4, 4), Ok(Some(0)));
-    assert_eq!(rt; time(rt.alloc(), &given, 1, 4), Ok(None));
-    Ok(())
-}
-
-#[test]
-fn a_chain_of_more_than_1439_minutes_gives_no_time(rt: HostRuntime) -> Result<(), Fail> {
-    let alloc = rt.alloc();
-    assert_eq!(rt; time(alloc, &[(1, 2, 1000), (2, 3, 440)], 1, 3), Ok(None));
-    assert_eq!(rt;
-        time(alloc, &[(1, 2, 1000), (2, 3, 439)], 1, 3),
-        Ok(Some(1439))
-    );
-    Ok(())
-}
-
-#[test]
-fn a_chain_leads_over_three_middle_places(rt: HostRuntime) -> Result<(), Fail> {
-    let given = [(1, 5, 1), (3, 4, 4), (4, 2, 8), (5, 3, 2)];
-    assert_eq!(rt; time(rt.alloc(), &given, 1, 2), Ok(Some(15)));
-    assert_eq!(rt; time(rt.alloc(), &given, 2, 1), Ok(None));
-    Ok(())
-}
-
-#[test]
-fn staying_takes_no_time(rt: HostRuntime) -> Result<(), Fail> {
-    assert_eq!(rt; time(rt.alloc(), &[(1, 1, 5)], 1, 1), Ok(Some(0)));
+    let long = [(1, 2, 1000), (2, 3, 440)];
+    let longest = [(1, 2, 1000), (2, 3, 439)];
+    let four = [(1, 5, 1), (3, 4, 4), (4, 2, 8), (5, 3, 2)];
+    let loop_at_one = [(1, 1, 5)];
+    for (given, from, to, minutes) in [
+        (triangle.as_slice(), 1, 3, Some(20)),
+        (triangle.as_slice(), 3, 1, Some(20)),
+        (triangle.as_slice(), 1, 2, Some(10)),
+        (triangle.as_slice(), 4, 4, Some(0)),
+        (triangle.as_slice(), 1, 4, None),
+        (long.as_slice(), 1, 3, None),
+        (longest.as_slice(), 1, 3, Some(1439)),
+        (four.as_slice(), 1, 2, Some(15)),
+        (four.as_slice(), 2, 1, None),
+        (loop_at_one.as_slice(), 1, 1, Some(0)),
+    ] {
+        assert_eq!(rt;
+            time(rt.alloc(), given, from, to),
+            Ok(minutes),
+            "{given:?} {from} {to}"
+        );
+    }
     Ok(())
 }
 
 #[test]
 fn rows_rise_and_lie_within_a_day(rt: HostRuntime) -> Result<(), Fail> {
-    let alloc = rt.alloc();
-    assert_eq!(rt;
-        Raw::of(rows(alloc, &[(1, 2, 10), (1, 2, 10)])?).is_some(),
-        false
-    );
-    assert_eq!(rt;
-        Raw::of(rows(alloc, &[(2, 1, 10), (1, 2, 10)])?).is_some(),
-        false
-    );
-    assert_eq!(rt; Raw::of(rows(alloc, &[(1, 2, 1440)])?).is_some(), false);
-    assert_eq!(rt; Raw::of(rows(alloc, &[(1, 2, 1439)])?).is_some(), true);
+    for (first, second, is_table) in [
+        ((1, 2, 10), (1, 2, 10), false),
+        ((2, 1, 10), (1, 2, 10), false),
+        ((1, 2, 10), (2, 1, 1440), false),
+        ((1, 2, 10), (2, 1, 1439), true),
+    ] {
+        let raw = Raw::of(rows(rt.alloc(), &[first, second])?);
+        assert_eq!(rt; raw.is_some(), is_table, "{first:?} {second:?}");
+    }
     Ok(())
 }
 
@@ -147,44 +137,23 @@ fn a_text_reads_as_its_rows_in_order(rt: HostRuntime) -> Result<(), Fail> {
 
 #[test]
 fn the_first_fault_is_told(rt: HostRuntime) -> Result<(), Fail> {
-    let alloc = rt.alloc();
-    assert_eq!(rt;
-        fault(alloc, b"from,to,minutes\n1,2,10\n1,2,11\n"),
-        Ok(Some((24, 3)))
-    );
-    assert_eq!(rt;
-        fault(alloc, b"from,to,minutes\n1,2,1440\n"),
-        Ok(Some((23, 2)))
-    );
-    assert_eq!(rt;
-        fault(alloc, b"from,to,minutes\n1,2,-1\n"),
-        Ok(Some((23, 2)))
-    );
-    assert_eq!(rt;
-        fault(alloc, b"from,to,minutes\n1,2,00010\n"),
-        Ok(Some((23, 2)))
-    );
-    assert_eq!(rt; fault(alloc, b"from,to,minutes\n1,2\n"), Ok(Some((20, 2))));
-    assert_eq!(rt; fault(alloc, b"from,to,minutes\n1,4\n"), Ok(Some((20, 2))));
-    assert_eq!(rt;
-        fault(alloc, b"from,to,minutes\n1,2,3,4\n"),
-        Ok(Some((20, 2)))
-    );
-    assert_eq!(rt;
-        fault(alloc, b"from,to,minutes\n1,2,3\n1,4,x\n"),
-        Ok(Some((22, 3)))
-    );
-    assert_eq!(rt;
-        fault(alloc, b"from,to,minutes\n1,00000000002,3\n"),
-        Ok(Some((22, 2)))
-    );
-    assert_eq!(rt;
-        fault(alloc, b"from,to,minutes\n+1,2,3\n"),
-        Ok(Some((22, 2)))
-    );
-    assert_eq!(rt; fault(alloc, b""), Ok(Some((21, 1))));
-    assert_eq!(rt; fault(alloc, b"from,to,time\n1,2,3\n"), Ok(Some((21, 1))));
-    assert_eq!(rt; fault(alloc, b"1,2,3\n"), Ok(Some((21, 1))));
+    for (text, code, row) in [
+        (b"from,to,minutes\n1,2,10\n1,2,11\n".as_slice(), 24, 3),
+        (b"from,to,minutes\n1,2,1440\n".as_slice(), 23, 2),
+        (b"from,to,minutes\n1,2,-1\n".as_slice(), 23, 2),
+        (b"from,to,minutes\n1,2,00010\n".as_slice(), 23, 2),
+        (b"from,to,minutes\n1,2\n".as_slice(), 20, 2),
+        (b"from,to,minutes\n1,4\n".as_slice(), 20, 2),
+        (b"from,to,minutes\n1,2,3,4\n".as_slice(), 20, 2),
+        (b"from,to,minutes\n1,2,3\n1,4,x\n".as_slice(), 22, 3),
+        (b"from,to,minutes\n1,00000000002,3\n".as_slice(), 22, 2),
+        (b"from,to,minutes\n+1,2,3\n".as_slice(), 22, 2),
+        (b"".as_slice(), 21, 1),
+        (b"from,to,time\n1,2,3\n".as_slice(), 21, 1),
+        (b"1,2,3\n".as_slice(), 21, 1),
+    ] {
+        assert_eq!(rt; fault(rt.alloc(), text), Ok(Some((code, row))), "{text:?}");
+    }
     Ok(())
 }
 
