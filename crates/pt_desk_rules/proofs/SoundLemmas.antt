@@ -28,7 +28,7 @@ use Rattle.pt_desk_rules.specs.Facts.{facts_of, subject_in}
 use Rattle.pt_desk_rules.specs.Rules.{rules_of, entry_rules, is_nobody_else, is_of_kind, is_nobody_of_another_kind, subject_is_there}
 use Rattle.pt_desk_rules.specs.Deciding.{answer_of, change_of, decision_after, IsMade}
 use Rattle.pt_desk_rules.specs.Step.{state_after, write_left, is_new, step, left_by, leaves, sender, IsMadeWhere, IsMadeBy}
-use Rattle.pt_desk_rules.specs.Sound.{IsSound, IsSoundFile, IsIn, HasOneHolder, HasSubject, IsOfCaller, IsResidentIn, IsOfResident, HasAuthor, AreNumberedFrom}
+use Rattle.pt_desk_rules.specs.Sound.{IsSound, IsSoundFile, IsIn, HasDigest, HasOneHolder, HasSubject, IsOfCaller, IsResidentIn, IsOfResident, HasAuthor, AreNumberedFrom}
 use Rattle.pt_desk_rules.specs.declared.caller.Caller.{Caller}
 use Rattle.pt_desk_rules.specs.declared.caller.Kept.{Kept}
 use Rattle.pt_desk_rules.specs.declared.caller.Role.{Role}
@@ -67,10 +67,11 @@ one_holder-put new callers one are =
     (Each-put (λ b. new.digest ≡ b.digest → new.id ≡ b.id) caller_key new callers are (λ same. refl))
 
 -- Each lemma gives the lines that change; `search` takes the others as they are.
-put_caller_sound : (new : Caller) (s : State) → IsSound s → IsTrue (subject_is_there new.role (subject_in new.role s.riders)) → IsTrue (is_nobody_else new.id (caller_with new.digest s))
+put_caller_sound : (new : Caller) (s : State) → IsSound s → HasDigest new → IsTrue (subject_is_there new.role (subject_in new.role s.riders)) → IsTrue (is_nobody_else new.id (caller_with new.digest s))
     → IsTrue (is_some (record_at caller_key new.id s.callers) || nat_lt (length s.callers) most_callers) → IsSound (record s { callers = put caller_key new s.callers })
-put_caller_sound new s sound subject free room =
+put_caller_sound new s sound made subject free room =
     let table = IsTable-put caller_key new s.callers most_callers sound.callers room in
+    let digests = Each-put HasDigest caller_key new s.callers sound.digests made in
     let holders = one_holder-put new s.callers sound.one_holder_each (holders_are new s.callers sound.one_holder_each free) in
     let subjects = Each-put (HasSubject s.riders) caller_key new s.callers sound.subjects_there subject in
     let kept = Each-weaker (IsOfCaller s.callers) (IsOfCaller (put caller_key new s.callers)) (λ kept there. stays_there caller_key kept.caller new s.callers there) s.kept sound.kept_of_callers in
@@ -222,7 +223,7 @@ enter_sound rider entry me now s sound there hold =
 change_sound : (asked : Write) (me : Caller) (now : ℕ × ℕ) (number : ℕ) (s : State) → IsSound s → IsIn caller_key s.callers me.id → AllHold (rules_of asked me now (facts_of asked s)) → IsMade asked
     → IsSound (applied (change_of asked (record { caller = me.id; number = number }) now.0 (facts_of asked s)) s)
 change_sound (write.PutCaller new) me now number s sound there hold made =
-    numbered_sound _ _ (put_caller_sound new s sound hold.1.0 hold.1.1.0 hold.1.1.1.0) (stays_there caller_key me.id new s.callers there)
+    numbered_sound _ _ (put_caller_sound new s sound made hold.1.0 hold.1.1.0 hold.1.1.1.0) (stays_there caller_key me.id new s.callers there)
 change_sound (write.PutPolicy new) me now number s sound there hold made = numbered_sound _ _ (put_policy_sound new s sound) there
 change_sound (write.PutPlace new) me now number s sound there hold made = numbered_sound _ _ (put_place_sound new s sound hold.1.1.0) there
 change_sound (write.PutRoute new) me now number s sound there hold made = numbered_sound _ _ (put_route_sound new s sound made hold.1.0) there

@@ -1,5 +1,5 @@
 -- What the rules make of a request, by the facts alone.
-use Rattle.std.specs.Prelude.{ℕ, true, List, length, Option, Some, None}
+use Rattle.std.specs.Prelude.{◌≡◌, ℕ, true, List, length, Option, Some, None}
 use Rattle.pt_base.specs.declared.rider.Residence.{Residence}
 use Rattle.pt_base.specs.declared.rider.Residence.TheVariants.{Resident, Visitor}
 use Rattle.pt_base.specs.declared.rider.Rider.{Rider}
@@ -73,10 +73,14 @@ abbrev pub decision : Write → Caller → (ℕ × ℕ) → ℕ → WriteFacts �
 decision asked me now number facts =
     decision_after (first_failing (rules_of asked me now facts)) asked me now number facts
 
--- a fixed route that is put is one
+-- a digest that is put has 32 bytes, and a fixed route is one
 abbrev pub IsMade : Write → Type 0
+IsMade (write.PutCaller new) = length new.digest ≡ 32
+IsMade (write.PutPolicy new) = Unit {0}
+IsMade (write.PutPlace new) = Unit {0}
 IsMade (write.PutRoute new) = IsFixedRoute new
-IsMade _ = Unit {0}
+IsMade (write.PutRider new) = Unit {0}
+IsMade (write.Enter rider entry) = Unit {0}
 
 -- what is accepted is made
 abbrev pub IsMadeIf : Decision → Write → Type 0

@@ -20,6 +20,10 @@ IsIn key xs k = IsTrue (is_some (record_at key k xs))
 abbrev pub HasOneHolder : List Caller → Caller → Type 0
 HasOneHolder callers a = Each (λ b. a.digest ≡ b.digest → a.id ≡ b.id) callers
 
+-- a SHA-256 digest has 32 bytes
+abbrev pub HasDigest : Caller → Type 0
+HasDigest caller = length caller.digest ≡ 32
+
 -- the rider that a caller's role speaks of is there
 abbrev pub HasSubject : List Rider → Caller → Type 0
 HasSubject riders caller = IsTrue (subject_is_there caller.role (subject_in caller.role riders))
@@ -52,6 +56,7 @@ pub record IsSoundFile (entries : List FiledEntry) : Type 0 where
 -- The ranges of a place and of the policy are in their types.
 pub record IsSound (s : State) : Type 0 where
   pub callers : IsTable caller_key most_callers s.callers
+  pub digests : Each HasDigest s.callers
   pub one_holder_each : Each (HasOneHolder s.callers) s.callers
   pub subjects_there : Each (HasSubject s.riders) s.callers
   pub kept_in_order : IsInOrder kept_key s.kept

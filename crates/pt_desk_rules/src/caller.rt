@@ -1,4 +1,4 @@
-ghost use Rattle.std.specs.Prelude.{◌≡◌, ℕ, List};
+ghost use Rattle.std.specs.Prelude.{◌≡◌, ℕ, List, length};
 ghost use Rattle.sha2.specs.Sha256.{sha256};
 
 use pt_base::{CallerId, RiderId, VehicleId};
@@ -35,6 +35,8 @@ impl Model for Digest {
 
     ghost view = { λ digest. digest.bytes };
 
+    ghost invariant = { λ digest. length digest.bytes ≡ 32 };
+
     ghost inverse = { λ bytes. record { bytes = bytes } };
 }
 
@@ -42,6 +44,7 @@ impl Digest {
     /// These bytes as a digest.
     pub fn of(bytes: [u8; 32]) -> Self
         ensures value { result ≡ bytes }
+        ensures size { length result ≡ 32 }
     {
         Digest { bytes }
     }
@@ -49,6 +52,7 @@ impl Digest {
     /// The digest of a key.
     pub fn of_key(key: &[u8]) -> Self
         ensures value { result ≡ sha256 key.now }
+        ensures size { length result ≡ 32 }
     {
         Digest {
             bytes: Sha256::digest(key),
@@ -69,6 +73,20 @@ pub struct Caller {
     pub id: CallerId,
     pub role: Role,
     pub digest: Digest,
+}
+
+impl Caller {
+    /// A copy. Its digest, as every digest, has 32 bytes.
+    pub(crate) fn copied(&self) -> Self
+        ensures value { result ≡ self.now }
+        ensures digest { length result.digest ≡ 32 }
+    {
+        Caller {
+            id: self.id,
+            role: self.role,
+            digest: Digest::of(self.digest.bytes),
+        }
+    }
 }
 
 /// The last accepted write of a caller.

@@ -43,7 +43,7 @@ fn change_of(
     let mut change = Change::keeping(alloc, kept)?;
     match write {
         Write::PutCaller(new) => {
-            let Caller { id, role, digest } = *new;
+            let Caller { id, role, digest } = new.copied();
             change.callers.put(Caller { id, role, digest })?;
         }
         Write::PutPolicy(new) => change.policy = Some(*new),
