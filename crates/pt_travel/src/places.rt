@@ -117,7 +117,8 @@ impl Places {
     }
 }
 
-// Where the guess for a place of this number is kept.
+// Where the guess for a place of this number is kept. The factor, 2^32 over the golden ratio, keeps
+// numbers that rise in even steps apart.
 fn slot(number: u32) -> usize
     ensures { result < 1024 }
 {

@@ -67,7 +67,7 @@ impl Raw {
         Raw { rows, places }
     }
 
-    // The places that the rows name, and it may be others.
+    // The places that the rows name, and maybe others.
     pub(crate) fn places(&self) -> Places
         ensures { NamesOnly (list_of result) self.now }
     {
