@@ -44,7 +44,10 @@ fn near_filter(p: Point, a: Point, b: Point, f: i32) -> bool {
         (px - bx) * (px - bx) + (py - by) * (py - by) <= f * f
     } else {
         let cross = px * by - py * bx;
-        let (left, right) = ((cross as f64) * (cross as f64), (f * f) as f64 * (len as f64));
+        let (left, right) = (
+            (cross as f64) * (cross as f64),
+            (f * f) as f64 * (len as f64),
+        );
         // Relative errors of both sides stay far below 1e-12.
         if left < right * (1.0 - 1e-12) {
             true
@@ -58,19 +61,26 @@ fn near_filter(p: Point, a: Point, b: Point, f: i32) -> bool {
 
 /// Exact: first the segment's box widened by f, in i32.
 fn near_box(p: Point, a: Point, b: Point, f: i32) -> bool {
-    let inside = p.x >= a.x.min(b.x) - f && p.x <= a.x.max(b.x) + f && p.y >= a.y.min(b.y) - f && p.y <= a.y.max(b.y) + f;
+    let inside = p.x >= a.x.min(b.x) - f
+        && p.x <= a.x.max(b.x) + f
+        && p.y >= a.y.min(b.y) - f
+        && p.y <= a.y.max(b.y) + f;
     inside && near_filter(p, a, b, f)
 }
 
 fn served(routes: &[Route], p: Point, near: fn(Point, Point, Point, i32) -> bool) -> bool {
-    routes.iter().any(|r| r.points.windows(2).any(|s| near(p, s[0], s[1], r.width)))
+    routes
+        .iter()
+        .any(|r| r.points.windows(2).any(|s| near(p, s[0], s[1], r.width)))
 }
 
 /// A list with its near test compiled in (no call through a pointer).
 macro_rules! served_by {
     ($name:ident, $near:ident) => {
         fn $name(routes: &[Route], p: Point) -> bool {
-            routes.iter().any(|r| r.points.windows(2).any(|s| $near(p, s[0], s[1], r.width)))
+            routes
+                .iter()
+                .any(|r| r.points.windows(2).any(|s| $near(p, s[0], s[1], r.width)))
         }
     };
 }
@@ -92,13 +102,19 @@ fn clock(name: &str, points: &[Point], f: impl Fn(Point) -> bool) {
         })
         .collect();
     times.sort();
-    println!("plain | {name} | {:.1} us ({} points)", times[times.len() / 2] as f64 / 1000.0, times.len());
+    println!(
+        "plain | {name} | {:.1} us ({} points)",
+        times[times.len() / 2] as f64 / 1000.0,
+        times.len()
+    );
 }
 
 fn main() {
     let mut seed = 5u64;
     let mut int = |lo: i32, hi: i32| {
-        seed = seed.wrapping_mul(6364136223846793005).wrapping_add(1442695040888963407);
+        seed = seed
+            .wrapping_mul(6364136223846793005)
+            .wrapping_add(1442695040888963407);
         lo + ((seed >> 33) % (hi - lo + 1) as u64) as i32
     };
     // Bus lines: steps of up to 3,000 feet in a slowly turning direction, over the whole plane.
@@ -115,32 +131,67 @@ fn main() {
                     Point { x, y }
                 })
                 .collect();
-            Route { width: int(3_960, 7_920), points }
+            Route {
+                width: int(3_960, 7_920),
+                points,
+            }
         })
         .collect();
     let all: Vec<Point> = (0..4_000)
         .map(|k| {
             if k % 2 == 0 {
-                return Point { x: int(-1_000_000, 1_000_000), y: int(-1_000_000, 1_000_000) };
+                return Point {
+                    x: int(-1_000_000, 1_000_000),
+                    y: int(-1_000_000, 1_000_000),
+                };
             }
             let p = routes[int(0, 49) as usize].points[int(0, 199) as usize];
-            Point { x: p.x + int(-8_000, 8_000), y: p.y + int(-8_000, 8_000) }
+            Point {
+                x: p.x + int(-8_000, 8_000),
+                y: p.y + int(-8_000, 8_000),
+            }
         })
         .filter(|p| p.x.abs() <= 1_000_000 && p.y.abs() <= 1_000_000)
         .collect();
     let corner = |k: i32| if k % 2 == 0 { -900_000 } else { 900_000 };
-    let line = || (0..200).map(|k| Point { x: corner(k), y: corner(k) + k }).collect();
-    let crossing: Vec<Route> = (0..50).map(|_| Route { width: 7_920, points: line() }).collect();
-    let across: Vec<Point> = (0..500).map(|step| Point { x: 50_000 + step, y: -50_000 }).collect();
+    let line = || {
+        (0..200)
+            .map(|k| Point {
+                x: corner(k),
+                y: corner(k) + k,
+            })
+            .collect()
+    };
+    let crossing: Vec<Route> = (0..50)
+        .map(|_| Route {
+            width: 7_920,
+            points: line(),
+        })
+        .collect();
+    let across: Vec<Point> = (0..500)
+        .map(|step| Point {
+            x: 50_000 + step,
+            y: -50_000,
+        })
+        .collect();
     for (lines, points) in [(&routes, &all), (&crossing, &across)] {
         for &p in points {
             let want = served(lines, p, near_i128);
             assert!(want == served(lines, p, near_filter) && want == served(lines, p, near_box));
         }
     }
-    let (inside, outside): (Vec<Point>, Vec<Point>) = all.into_iter().partition(|&p| served_i128(&routes, p));
-    for (kind, lines, points) in [("not served", &routes, &outside), ("served", &routes, &inside), ("in each box", &crossing, &across)] {
-        clock(&format!("{kind}, 128 bits"), points, |p| served_i128(lines, p));
-        clock(&format!("{kind}, box first"), points, |p| served_box(lines, p));
+    let (inside, outside): (Vec<Point>, Vec<Point>) =
+        all.into_iter().partition(|&p| served_i128(&routes, p));
+    for (kind, lines, points) in [
+        ("not served", &routes, &outside),
+        ("served", &routes, &inside),
+        ("in each box", &crossing, &across),
+    ] {
+        clock(&format!("{kind}, 128 bits"), points, |p| {
+            served_i128(lines, p)
+        });
+        clock(&format!("{kind}, box first"), points, |p| {
+            served_box(lines, p)
+        });
     }
 }

@@ -9,7 +9,10 @@ fn number(field: &[u8], most: usize) -> Option<u32> {
     if field.is_empty() || field.len() > most {
         return None;
     }
-    field.iter().try_fold(0u32, |n, c| c.is_ascii_digit().then(|| n.checked_mul(10)?.checked_add((c - b'0') as u32))?)
+    field.iter().try_fold(0u32, |n, c| {
+        c.is_ascii_digit()
+            .then(|| n.checked_mul(10)?.checked_add((c - b'0') as u32))?
+    })
 }
 
 /// The minutes by pairs of places, or the row of the first fault.
@@ -22,10 +25,16 @@ fn read(csv: &[u8], places: &[u32]) -> Result<Vec<u16>, u32> {
     }
     for (row, record) in (2..).zip(records) {
         let mut fields = record.split(|&c| c == b',');
-        let (Some(a), Some(b), Some(m), None) = (fields.next(), fields.next(), fields.next(), fields.next()) else {
+        let (Some(a), Some(b), Some(m), None) =
+            (fields.next(), fields.next(), fields.next(), fields.next())
+        else {
             return Err(row);
         };
-        let place = |f| number(f, 10).and_then(|p| places.binary_search(&p).ok()).ok_or(row);
+        let place = |f| {
+            number(f, 10)
+                .and_then(|p| places.binary_search(&p).ok())
+                .ok_or(row)
+        };
         let (a, b) = (place(a)?, place(b)?);
         let minutes = number(m, 4).filter(|&m| m <= 1439).ok_or(row)? as u16;
         let old = &mut raw[a * n + b];
@@ -40,7 +49,10 @@ fn read(csv: &[u8], places: &[u32]) -> Result<Vec<u16>, u32> {
 /// The least chains, whole rows of u16 at a time, which the compiler turns into vector instructions.
 fn close(raw: &[u16], n: usize) -> Vec<u16> {
     const FAR: u16 = 30_000;
-    let mut t: Vec<u16> = raw.iter().map(|&x| if x == ABSENT { FAR } else { x }).collect();
+    let mut t: Vec<u16> = raw
+        .iter()
+        .map(|&x| if x == ABSENT { FAR } else { x })
+        .collect();
     for a in 0..n {
         t[a * n + a] = 0;
     }
@@ -77,7 +89,9 @@ fn main() {
     for a in 0..n {
         for b in 0..n {
             if a != b {
-                seed = seed.wrapping_mul(6364136223846793005).wrapping_add(1442695040888963407);
+                seed = seed
+                    .wrapping_mul(6364136223846793005)
+                    .wrapping_add(1442695040888963407);
                 csv += &format!("{},{},{}\n", places[a], places[b], 1 + (seed >> 33) % 120);
             }
         }
