@@ -15,6 +15,40 @@ const CASES: u32 = 300;
 
 const DEPOT: u32 = 20_020;
 
+/// What the routes of some cases are like.
+#[derive(Clone, Copy)]
+struct Shape {
+    /// The most trips of a route.
+    trips: u32,
+    /// How many minutes lie between two pickups.
+    apart: u32,
+    /// How many places the plain has on a side; on a small one many drives take no time, and many places tie.
+    side: u32,
+    /// How often at least, of the cases, a place has to be possible, and how often none.
+    often: u32,
+}
+
+const SHAPES: [Shape; 3] = [
+    Shape {
+        trips: 4,
+        apart: 60,
+        side: 40,
+        often: 60,
+    },
+    Shape {
+        trips: 10,
+        apart: 45,
+        side: 12,
+        often: 30,
+    },
+    Shape {
+        trips: 29,
+        apart: 18,
+        side: 3,
+        often: 30,
+    },
+];
+
 /// Places told by their numbers, whose last six digits are three east and three north.
 struct Plain;
 
@@ -62,10 +96,11 @@ fn minute(number: u32) -> Result<Minute, Fail> {
     Ok(Minute::of(number.min(1439)).ok_or("minute")?)
 }
 
-/// A place of a plain of 40 by 40, and one time in 100 of another plain.
-fn place(dice: &mut Dice) -> Result<PlaceId, Fail> {
-    let away = if dice.throw(100) == 0 { 1_000_000 } else { 0 };
-    let number = away + 1_001 * (1 + dice.throw(40)) + dice.throw(40);
+/// A place of a plain, and one time in 400 of another plain.
+fn place(dice: &mut Dice, shape: Shape) -> Result<PlaceId, Fail> {
+    let away = if dice.throw(400) == 0 { 1_000_000 } else { 0 };
+    let side = shape.side.clamp(1, 40);
+    let number = away + 1_001 * (1 + dice.throw(side)) + dice.throw(side);
     Ok(PlaceId::of(number).ok_or("place")?)
 }
 
@@ -89,12 +124,12 @@ fn vehicle(dice: &mut Dice, id: u32) -> Result<Vehicle, Fail> {
 }
 
 /// A trip with its pickup at about the minute `about`.
-fn asked(dice: &mut Dice, trip: u32, about: u32) -> Result<Asked, Fail> {
+fn asked(dice: &mut Dice, shape: Shape, trip: u32, about: u32) -> Result<Asked, Fail> {
     let lo = about.min(1_000) + dice.throw(60);
     Ok(Asked {
         trip: TripId::of(trip).ok_or("trip")?,
-        origin: place(dice)?,
-        goal: place(dice)?,
+        origin: place(dice, shape)?,
+        goal: place(dice, shape)?,
         lo: minute(lo)?,
         hi: minute(lo + 30 + dice.throw(120))?,
         latest: minute(lo + 150 + dice.throw(400))?,
@@ -104,16 +139,17 @@ fn asked(dice: &mut Dice, trip: u32, about: u32) -> Result<Asked, Fail> {
     })
 }
 
-/// Up to four trips, one after the other or one within the other.
-fn route(alloc: Global, dice: &mut Dice, first: u32) -> Result<Route, Fail> {
+/// Some trips, one after the other or one within the other.
+fn route(alloc: Global, dice: &mut Dice, shape: Shape, first: u32) -> Result<Route, Fail> {
     let mut stops = Vec::new(alloc);
     let mut riding: Option<Asked> = None;
     let mut about = 330;
-    let last = first.saturating_add(dice.throw(5));
+    let trips = dice.throw(shape.trips.min(29) + 1);
+    let last = first.saturating_add(trips);
     for trip in first..last {
-        let next = asked(dice, trip, about)?;
+        let next = asked(dice, shape, trip, about)?;
         stops.push(next.pickup_stop())?;
-        about = about.saturating_add(60).min(900);
+        about = about.saturating_add(shape.apart).min(900);
         if let Some(other) = riding {
             stops.push(other.drop_stop())?;
         }
@@ -244,12 +280,12 @@ fn same(chosen: &Chosen, found: &Found) -> bool {
 }
 
 /// Whether both ways agree, and whether a place is possible.
-fn compare(alloc: Global, dice: &mut Dice) -> Result<(bool, bool), Fail> {
+fn compare(alloc: Global, dice: &mut Dice, shape: Shape) -> Result<(bool, bool), Fail> {
     let vehicles = [vehicle(dice, 2)?, vehicle(dice, 5)?, vehicle(dice, 9)?];
     let routes = [
-        route(alloc, dice, 10)?,
-        route(alloc, dice, 20)?,
-        route(alloc, dice, 30)?,
+        route(alloc, dice, shape, 100)?,
+        route(alloc, dice, shape, 200)?,
+        route(alloc, dice, shape, 300)?,
     ];
     let duties = [
         Duty {
@@ -267,7 +303,7 @@ fn compare(alloc: Global, dice: &mut Dice) -> Result<(bool, bool), Fail> {
     ];
     let duties = &duties[..dice.throw(4) as usize];
     let about = 330 + dice.throw(300);
-    let asked = asked(dice, 99, about)?;
+    let asked = asked(dice, shape, 99, about)?;
     if !are_rising(duties) || !are_without(duties, asked.trip) {
         return Err(Fail::new("not to be asked"));
     }
@@ -284,19 +320,27 @@ fn compare(alloc: Global, dice: &mut Dice) -> Result<(bool, bool), Fail> {
 #[test]
 fn chooses_as_the_second_way_does(rt: HostRuntime) -> Result<(), Fail> {
     let mut dice = Dice { state: SEED };
-    let mut possible = 0;
-    for case in 0..CASES {
-        let (same, found) = compare(rt.alloc(), &mut dice)?;
-        assert_eq!(rt; same, true, "seed {SEED}, case {case}");
-        if found && possible < CASES {
-            possible += 1;
+    for shape in SHAPES {
+        let mut possible = 0;
+        for case in 0..CASES {
+            let (same, found) = compare(rt.alloc(), &mut dice, shape)?;
+            assert_eq!(rt;
+                same,
+                true,
+                "seed {SEED}, {} trips, case {case}",
+                shape.trips
+            );
+            if found && possible < CASES {
+                possible += 1;
+            }
         }
+        // Both outcomes have to be well represented.
+        let often = shape.often.min(CASES);
+        assert_eq!(rt;
+            often <= possible && possible <= CASES - often,
+            true,
+            "{possible} possible"
+        );
     }
-    // Both outcomes have to be well represented.
-    assert_eq!(rt;
-        possible > 60 && possible < 240,
-        true,
-        "{possible} possible"
-    );
     Ok(())
 }
