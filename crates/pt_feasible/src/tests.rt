@@ -1,9 +1,13 @@
+ghost use Rattle.std.specs.Prelude.{◌≡◌, ◌+◌, ◌<◌, ◌≤◌, length};
+ghost use Rattle.pt_feasible.specs.Route.{stops_of};
 ghost use Rattle.pt_feasible.specs.Plain.{plain_minutes, plain-stays, plain-within_a_day, plain-triangle};
 
 use super::*;
 use pt_base::{Day, Minute, PlaceId, TripId, Vehicle, VehicleId, Weekdays};
 use pt_travel::Times;
 use std::alloc::Global;
+use std::marker::Brand;
+use std::sync::ledger::{Blank, Ledger};
 use std::test::Fail;
 
 /// Places told by their numbers, whose last six digits are three east and three north.
@@ -98,6 +102,57 @@ fn settles_one_trip(rt: HostRuntime) -> Result<(), Fail> {
         let route = a_to_b(rt.alloc(), lo, hi)?;
         let schedule = settle(&route, &Plain, &vehicle(duration, 1020)?).ok_or("no schedule")?;
         assert_eq!(rt; schedule.as_slice(), times.as_slice());
+    }
+    Ok(())
+}
+
+#[test]
+fn settles_from_a_floor(rt: HostRuntime) -> Result<(), Fail> {
+    let route = a_to_b(rt.alloc(), 540, 660)?;
+    let vehicle = vehicle(100, 1020)?;
+    let latest = latest_times(&route, &Plain, &vehicle);
+    assert_eq!(rt;
+        (latest[0], latest[1], latest[2], latest[3]),
+        (640, 660, 978, 1020)
+    );
+    let Some(floor) = earliest_times(&route, &Plain, &vehicle) else {
+        return Err(Fail::new("no floor"));
+    };
+    assert_eq!(rt; floor.as_slice(), [480, 540, 572, 614].as_slice());
+    let schedule = settle_from(&route, &Plain, &vehicle, &floor).ok_or("no schedule")?;
+    assert_eq!(rt; schedule.as_slice(), [514, 540, 572, 614].as_slice());
+    Ok(())
+}
+
+/// Whether some times fit a route of two stops, in five passes at most.
+fn fits_in_five_passes<L: Ledger>(route: &Route, vehicle: &Vehicle, passes: &mut Passes<L>) -> bool
+    requires { length (stops_of route.now) ≡ 2 }
+    ensures few { passes.new ≤ passes.old + 5 }
+{
+    settle_counted(route, &Plain, vehicle, passes).is_some()
+}
+
+fn fits<L: Ledger>(route: &Route, vehicle: &Vehicle, blank: Blank) -> bool
+    requires name { blank.name ≡ L.name }
+    requires parts { blank.parts ≡ L.parts }
+    requires some { 0 < L.parts }
+    requires two { length (stops_of route.now) ≡ 2 }
+{
+    fits_in_five_passes(route, vehicle, &mut Passes::<L>::none(blank))
+}
+
+#[test]
+fn gives_up_a_ride_that_takes_a_minute_too_long(rt: HostRuntime) -> Result<(), Fail> {
+    let mut vehicle = vehicle(1439, 1439)?;
+    vehicle.opens = Minute::of(0).ok_or("opens")?;
+    for (ride, is_enough) in [(700, true), (699, false)] {
+        let stops = vec![in rt.alloc(); pickup(1, 1_001, 0, 1439, ride)?, drop(1, 701_001, ride)?]?;
+        let route = Route::of(stops).ok_or("no route")?;
+        if route.len() != 2 {
+            return Err(Fail::new("not two stops"));
+        }
+        let settled = fits::<Brand>(&route, &vehicle, Blank::new(1));
+        assert_eq!(rt; settled, is_enough, "with a ride limit of {ride}");
     }
     Ok(())
 }
