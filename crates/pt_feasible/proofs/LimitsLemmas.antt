@@ -1,18 +1,16 @@
 -- The limits of a visit and the constraints that they stand for.
-use Rattle.std.proofs.Common.{◌≡◌, ℕ, ◌+◌, ◌-◌, ◌<◌, ◌≤◌, ◌↔◌, List, length, Option, Some, None, IsSomeAnd, IfNone, IsTrue, slice_get, slice_index, arith, ap, sym, subst, ◌∙◌, inl, inr}
+use Rattle.std.proofs.Common.{◌≡◌, ℕ, ◌+◌, ◌-◌, ◌<◌, ◌≤◌, ◌↔◌, List, Option, Some, None, IsSomeAnd, IfNone, IsTrue, slice_get, slice_index, arith, ap, sym, subst, ◌∙◌, inl, inr}
 use Rattle.std.proofs.lemmas.Option.{same_Some, slice_get_within}
 use Rattle.std.proofs.lemmas.Bool.{cases_lt}
 use Rattle.pt_base.specs.declared.vehicle.Vehicle.{Vehicle}
 use Rattle.pt_feasible.specs.declared.limits.Limits.{Limits}
 use Rattle.pt_feasible.specs.declared.stop.Stop.{Stop}
 use Rattle.pt_feasible.specs.declared.visit.Visit.{Visit}
-use Rattle.pt_feasible.specs.Limits.{HasTimeToDrive, RidesAt, EndsInTime}
+use Rattle.pt_feasible.specs.Limits.{EndsInTime}
 use Rattle.pt_feasible.specs.Pairing.{IsPaired}
-use Rattle.pt_feasible.specs.ServiceTimes.{KeepsDrivingTimes, KeepsRouteDuration}
+use Rattle.pt_feasible.specs.ServiceTimes.{KeepsDrivingTimes}
 use Rattle.pt_feasible.specs.Stop.{is_pickup, is_drop, takes_aboard, lets_leave}
 use Rattle.pt_feasible.specs.declared.stop.StopKind.TheVariants.{Pickup, Drop}
-use Rattle.pt_feasible.specs.Visit.{visits}
-use Rattle.pt_feasible.proofs.VisitLemmas.{length-visits}
 
 -- no limits at all
 abbrev pub no_limits : Limits
@@ -21,29 +19,6 @@ no_limits = record { latest = 0; step = 0; since = record { visit = 0; most = 0 
 -- a fact holds where there is no value
 pub IfNone-from : {A : Type 0} (o : Option A) (P : Type 0) → P → IfNone o P
 IfNone-from o P p = elim o as (λ o. IfNone o P) [ None ↦ p | Some _ ↦ tt ]
-
--- a drive is in time exactly where its minutes pass
-pub drives-iff : (minutes : ℕ → ℕ → Option ℕ) (all : List Visit) (b : List ℕ) (k : ℕ) (this next : Visit) (drive : ℕ) →
-    slice_get all k ≡ Some this → slice_get all (k + 1) ≡ Some next → minutes this.place next.place ≡ Some drive →
-    HasTimeToDrive minutes all b k ↔ (slice_index b k + (this.service + drive) ≤ slice_index b (k + 1))
-drives-iff minutes all b k this next drive here there way = (
-  λ drives.
-      let at_these : IsSomeAnd (Some drive) (λ drive. slice_index b k + this.service + drive ≤ slice_index b (k + 1)) =
-      subst (λ (o : Option ℕ). IsSomeAnd o (λ drive. slice_index b k + this.service + drive ≤ slice_index b (k + 1))) way (drives this next here there) in
-      omega arith,
-  λ kept this' next' here' there'.
-      let same : this ≡ this' = same_Some this this' (sym here ∙ here') in
-      let same' : next ≡ next' = same_Some next next' (sym there ∙ there') in
-      let at_these : IsSomeAnd (minutes this.place next.place) (λ drive. slice_index b k + this.service + drive ≤ slice_index b (k + 1)) = rw way (omega arith) in
-      subst (λ (v : Visit). IsSomeAnd (minutes v.place next'.place) (λ drive. slice_index b k + v.service + drive ≤ slice_index b (k + 1))) same
-      (subst (λ (v : Visit). IsSomeAnd (minutes this.place v.place) (λ drive. slice_index b k + this.service + drive ≤ slice_index b (k + 1))) same' at_these),
-)
-
--- no drive begins at the last visit
-pub drives-last : (minutes : ℕ → ℕ → Option ℕ) (vehicle : Vehicle) (stops : List Stop) (b : List ℕ) (k : ℕ) → length stops < k →
-    HasTimeToDrive minutes (visits vehicle stops) b k
-drives-last minutes vehicle stops b k past this next here there =
-    absurd (omega (arith, slice_get_within (visits vehicle stops) (k + 1) next there, length-visits vehicle stops))
 
 -- without a way no times keep the driving times
 pub no_way : (minutes : ℕ → ℕ → Option ℕ) (all : List Visit) (b : List ℕ) (k : ℕ) (this next : Visit) → slice_get all k ≡ Some this → slice_get all (k + 1) ≡ Some next → minutes this.place next.place ≡ None → ¬ KeepsDrivingTimes minutes all b
@@ -85,26 +60,6 @@ picked_up_before stops paired j k drop stop there here drops picks same =
       ]
     ]
 
--- the route ends in time exactly where the last time is within its duration of the first
-pub ends-last : (vehicle : Vehicle) (stops : List Stop) (b : List ℕ) (k : ℕ) → k ≡ length stops + 1 →
-    (slice_index b k ≤ slice_index b 0 + vehicle.duration) ↔ EndsInTime vehicle stops b k
-ends-last vehicle stops b k last = (
-  λ kept. record {
-    ride = λ j next i pickup drop here there. absurd (omega (arith, slice_get_within stops j drop there));
-    route = λ _. let at : slice_index b k ≡ slice_index b (length stops + 1) = ap (slice_index b) last in omega arith;
-  },
-  λ ends. let at : slice_index b k ≡ slice_index b (length stops + 1) = ap (slice_index b) last in
-      let within : KeepsRouteDuration vehicle stops b = ends.route last in omega arith,
-)
-
--- nothing ends at a visit at which no ride and not the route ends
-pub ends-none : (vehicle : Vehicle) (stops : List Stop) (b : List ℕ) (k : ℕ) → k ≤ length stops →
-    ((j : ℕ) → k ≡ j + 1 → RidesAt stops b j) → (slice_index b k ≤ slice_index b k + 0) ↔ EndsInTime vehicle stops b k
-ends-none vehicle stops b k within rides = (
-  λ _. record { ride = rides; route = λ last. absurd (omega arith) },
-  λ _. omega arith,
-)
-
 -- where the trip that ends at a stop begins at another, the ride is within its limit exactly where its minutes pass at most
 pub ends-ride : (vehicle : Vehicle) (stops : List Stop) → IsPaired stops → (b : List ℕ) (i j k : ℕ) (pickup drop : Stop) → k ≡ j + 1 → i < j →
     slice_get stops i ≡ Some pickup → slice_get stops j ≡ Some drop →
@@ -134,13 +89,3 @@ ends-ride vehicle stops paired b i j k pickup drop next before here there picks 
           ends.ride j next i pickup drop here there picks drops same in
           omega (arith, alike.same_service, alike.same_ride),
     )
-
--- no ride ends at a pickup
-pub rides-at-pickup : (stops : List Stop) (b : List ℕ) (j : ℕ) (stop : Stop) → slice_get stops j ≡ Some stop → (IsTrue (is_drop stop) → ⊥) → RidesAt stops b j
-rides-at-pickup stops b j stop here leaves i pickup drop there here' picks drops same =
-    absurd (leaves (subst (λ (s : Stop). IsTrue (is_drop s)) (sym (same_Some stop drop (sym here ∙ here'))) drops))
-
--- no ride ends where its trip is not picked up
-pub rides-unpicked : (stops : List Stop) (b : List ℕ) (j : ℕ) (stop : Stop) → slice_get stops j ≡ Some stop → ((k : ℕ) (other : Stop) → slice_get stops k ≡ Some other → IsTrue (is_pickup other) → other.trip ≡ stop.trip → ⊥) → RidesAt stops b j
-rides-unpicked stops b j stop here nowhere i pickup drop there here' picks drops same =
-    absurd (nowhere i pickup there picks (same ∙ ap (λ (s : Stop). s.trip) (sym (same_Some stop drop (sym here ∙ here')))))

@@ -22,18 +22,6 @@ stays limits bounds = record {
   broken = λ is. cc;
 }
 
--- no times keep the limits
-pub breaks : (limits : List Limits) (bounds : List ℕ) → ((b : List ℕ) → IsNeverLater bounds b → ¬ KeepsAll limits b) → Raises limits bounds bounds Broken
-breaks limits bounds none = record {
-  count = refl;
-  rises = λ k. omega arith;
-  below = λ b from keeps. from;
-  in_windows = λ inside. inside;
-  stayed = λ _. refl;
-  raised = λ is. cc;
-  broken = λ _. none;
-}
-
 -- a bound that is raised within its window stays there
 in_window-raised : (limits : List Limits) (bounds : List ℕ) (place needed : ℕ) → place < length bounds →
     ((d : Limits) → needed ≤ (slice_index_or limits place d).latest) → AreInWindows limits bounds → AreInWindows limits (slice_set bounds place needed)
