@@ -2,6 +2,8 @@
 #![tactic(auto)]
 
 pub use audit::check;
+pub use bounds::{Bounds, MAX_VISITS, is_right_end, raise_bound};
+pub use insertion::{Insertion, Visit};
 pub use law::right_log_shows_that_nothing_is_possible;
 pub use line::{End, Line, Log, Raise};
 pub use reading::read_log;

@@ -1,0 +1,16 @@
+use Rattle.std.proofs.Common.{◌≡◌, length, slice_index}
+use Rattle.pt_audit.specs.Insertion.{case_of}
+use Rattle.pt_insertion_log.proofs.FitLemmas.{room_of}
+use Rattle.pt_insertion_log.proofs.WrittenLemmas.{IsBegun}
+use Rattle.pt_insertion_log.proofs.cases.explain_case.Given as goal
+
+-- the case was begun, with raises to these bounds
+abbrev pub invariant-loop-raise : goal.invariant-loop-raise
+invariant-loop-raise g l = record {
+  begun : IsBegun (g.T.Times.minutes l.times) (case_of l.insertion) (g.W.Write.contents l.fn.out) (g.W.Write.contents l.out) (slice_index l.bounds);
+  long : length l.bounds ≡ 64;
+}
+
+-- how far the bounds may still rise
+abbrev pub decreases-loop-raise : goal.decreases-loop-raise
+decreases-loop-raise g l = room_of l.bounds

@@ -1,0 +1,54 @@
+-- Steps of a case: a bound that a constraint raises, or a constraint that is broken.
+use Rattle.std.specs.Prelude.{◌≡◌, ℕ, ◌+◌, ◌-◌, ◌^◌, ◌<◌, ◌≤◌, IsTrue, List, length, Option, Some, slice_get}
+use Rattle.pt_base.specs.declared.vehicle.Vehicle.{Vehicle}
+use Rattle.pt_feasible.specs.declared.stop.Stop.{Stop}
+use Rattle.pt_feasible.specs.declared.visit.Visit.{Visit}
+use Rattle.pt_feasible.specs.Stop.{is_pickup, is_drop}
+use Rattle.pt_feasible.specs.Visit.{visits}
+use Rattle.pt_audit.specs.declared.line.Raise.{Raise}
+use Rattle.pt_audit.specs.declared.line.End.{End}
+use Rattle.pt_audit.specs.declared.line.End.TheVariants as end
+use Rattle.pt_audit.specs.Bounds.{visit_of, minute_of, IsRightRaise, IsRightEnd}
+use Rattle.pt_insertion_log.specs.declared.steps.Step.{Step}
+use Rattle.pt_insertion_log.specs.declared.steps.Step.TheVariants as step
+
+-- a right raise to a later minute
+abbrev pub Raises : (ℕ → ℕ → Option ℕ) → Vehicle → List Stop → (ℕ → ℕ) → Raise → Type 0
+Raises minutes vehicle stops bound raise = IsRightRaise minutes vehicle stops bound raise × (bound (visit_of raise) < minute_of raise)
+
+-- a step of a case: a right raise to a later minute, or a right end
+abbrev pub IsStep : (ℕ → ℕ → Option ℕ) → Vehicle → List Stop → (ℕ → ℕ) → Step → Type 0
+IsStep minutes vehicle stops bound (step.Raise raise) = Raises minutes vehicle stops bound raise
+IsStep minutes vehicle stops bound (step.End end) = IsRightEnd minutes vehicle stops bound end
+
+-- the bound of visit k, or the start of its window, is no earlier than the vehicle arrives there
+abbrev pub IsDriven : (ℕ → ℕ → Option ℕ) → Vehicle → List Stop → (ℕ → ℕ) → ℕ → Type 0
+IsDriven minutes vehicle stops bound k = (before drive : ℕ) (this next : Visit) → k ≡ before + 1 →
+    slice_get (visits vehicle stops) before ≡ Some this → slice_get (visits vehicle stops) k ≡ Some next →
+    minutes this.place next.place ≡ Some drive → next.lo ≤ bound k → bound k < 2 ^ 32 - 1 →
+    bound before + this.service + drive ≤ bound k
+
+-- the drop of a pickup at visit k is no later than its ride limit says
+abbrev pub IsRidden : List Stop → (ℕ → ℕ) → ℕ → Type 0
+IsRidden stops bound k = (i j : ℕ) (pickup drop : Stop) → k ≡ i + 1 →
+    slice_get stops i ≡ Some pickup → slice_get stops j ≡ Some drop →
+    IsTrue (is_pickup pickup) → IsTrue (is_drop drop) → pickup.trip ≡ drop.trip →
+    bound (j + 1) - (bound k + pickup.service) ≤ pickup.ride
+
+-- the bound of visit k lies in its window and keeps its constraints
+pub record IsKeptAt (minutes : ℕ → ℕ → Option ℕ) (vehicle : Vehicle) (stops : List Stop) (bound : ℕ → ℕ) (k : ℕ) : Type 0 where
+  pub not_early : (visit : Visit) → slice_get (visits vehicle stops) k ≡ Some visit → visit.lo ≤ bound k
+  pub not_late : (visit : Visit) → slice_get (visits vehicle stops) k ≡ Some visit → bound k ≤ visit.hi
+  pub within_a_day : bound k ≤ 1_439
+  pub driven : IsDriven minutes vehicle stops bound k
+  pub ridden : IsRidden stops bound k
+  pub back : k ≡ 0 → bound (length stops + 1) - bound 0 ≤ vehicle.duration
+
+-- an end that is right whatever the bounds are
+abbrev pub IsLasting : (ℕ → ℕ → Option ℕ) → Vehicle → List Stop → End → Type 0
+IsLasting minutes vehicle stops end = IsRightEnd minutes vehicle stops (λ _. 0) end
+
+-- the route is not too long, and at visit k there is a way on and room for those aboard
+abbrev pub IsClear : (ℕ → ℕ → Option ℕ) → Vehicle → List Stop → ℕ → Type 0
+IsClear minutes vehicle stops k =
+    ¬ IsLasting minutes vehicle stops end.TooLong × ¬ IsLasting minutes vehicle stops (end.NoWay k) × ¬ IsLasting minutes vehicle stops (end.Overloaded k)

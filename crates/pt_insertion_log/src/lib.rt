@@ -1,0 +1,10 @@
+//! Logs of refusals, written where a trip has no place in any route.
+#![tactic(auto)]
+
+pub use explaining::explain;
+
+mod cases;
+mod explaining;
+mod limits;
+mod steps;
+mod writing;

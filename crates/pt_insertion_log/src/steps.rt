@@ -1,0 +1,68 @@
+ghost use Rattle.std.specs.Prelude.{◌≡◌, ℕ, ◌+◌, ◌<◌, ◌≤◌, length, slice_index, IsNone, IfSome};
+ghost use Rattle.pt_audit.specs.Bounds.{IsRightEnd};
+ghost use Rattle.pt_audit.specs.declared.bounds.TheConstants.{MAX_VISITS};
+ghost use Rattle.pt_audit.specs.Insertion.{inserted_stops};
+ghost use Rattle.pt_audit.specs.declared.line.End.TheVariants as end;
+ghost use Rattle.pt_insertion_log.specs.Steps.{IsStep, IsKeptAt};
+
+use crate::limits::{drive_raise, ride_raise};
+use pt_audit::{Bounds, End, Insertion, Raise};
+use pt_travel::Times;
+
+/// What follows in a case.
+#[derive(Clone, Copy, Debug, PartialEq, Eq)]
+pub enum Step {
+    /// A bound that a constraint raises.
+    Raise(Raise),
+    /// A constraint that is broken.
+    End(End),
+}
+
+/// The first step that the bounds ask for; `None` where they keep all constraints.
+pub fn next_step<T: Times>(insertion: &Insertion<'_>, times: &T, bounds: &Bounds) -> Option<Step>
+    ensures step { IfSome result (IsStep (T.minutes times.now) insertion.now.vehicle.now
+        (inserted_stops insertion.now) (slice_index bounds.now)) }
+    ensures none { IsNone result → (k : ℕ) → k < length (inserted_stops insertion.now) + 2 →
+        IsKeptAt (T.minutes times.now) insertion.now.vehicle.now (inserted_stops insertion.now) (slice_index bounds.now) k }
+{
+    for k in 0..insertion.len() + 2 {
+        if let Some(step) = step_at(insertion, times, bounds, k) {
+            return Some(step);
+        }
+    }
+    None
+}
+
+/// The step that visit `k` asks for; `None` where its bound keeps its constraints.
+fn step_at<T: Times>(
+    insertion: &Insertion<'_>,
+    times: &T,
+    bounds: &Bounds,
+    k: usize,
+) -> Option<Step>
+    requires visit { k < length (inserted_stops insertion.now) + 2 }
+    requires short { k < MAX_VISITS }
+    ensures step { IfSome result (IsStep (T.minutes times.now) insertion.now.vehicle.now
+        (inserted_stops insertion.now) (slice_index bounds.now)) }
+    ensures none { IsNone result → IsKeptAt (T.minutes times.now) insertion.now.vehicle.now
+        (inserted_stops insertion.now) (slice_index bounds.now) k }
+{
+    let visit = insertion.visit(k);
+    if visit.hi.number() < bounds[k] {
+        return Some(Step::End(End::Late(k as u32)));
+    }
+    if let Some(raise) = drive_raise(insertion, times, bounds, k) {
+        return Some(Step::Raise(raise));
+    }
+    if bounds[k] < visit.lo.number() {
+        return Some(Step::Raise(Raise::Window(k as u32, visit.lo.number())));
+    }
+    if let Some(raise) = ride_raise(insertion, bounds, k) {
+        return Some(Step::Raise(raise));
+    }
+    let least = bounds[insertion.len() + 1].saturating_sub(u32::from(insertion.vehicle.duration));
+    if k == 0 && bounds[0] < least {
+        return Some(Step::Raise(Raise::Duration(least)));
+    }
+    None
+}
