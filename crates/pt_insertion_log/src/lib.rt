@@ -7,4 +7,6 @@ mod cases;
 mod explaining;
 mod limits;
 mod steps;
+#[cfg(test)]
+mod tests;
 mod writing;
