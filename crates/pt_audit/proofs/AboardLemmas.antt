@@ -1,6 +1,6 @@
 -- Who is aboard: those picked up and not yet dropped, together as many as were picked up without those dropped.
-use Rattle.std.proofs.Common.{tests, ◌↔◌, ◌≡◌, ◌≢◌, ℕ, ◌+◌, ◌-◌, ◌<◌, ◌≤◌, zero, suc, Bool, true, false, List, [], ◌∷◌, ◌++◌, length, take, Option, Some, None, IsTrue, slice_get, arith, refl, ap, sym, subst, ◌∙◌, inl, inr, ◌⊎◌, add-one}
-use Rattle.std.specs.Prelude.{filter, not, ◌==◌, ◌&&◌, ◌||◌, if◌then◌else◌}
+use Rattle.std.proofs.Common.{◌↔◌, ◌≡◌, ℕ, ◌+◌, ◌<◌, ◌≤◌, zero, suc, Bool, true, false, List, [], ◌∷◌, length, take, Option, Some, None, IsTrue, slice_get, arith, refl, ap, sym, subst, ◌∙◌, inl, inr, ◌⊎◌, add-one}
+use Rattle.std.specs.Prelude.{filter, not, ◌&&◌, ◌||◌}
 use Rattle.std.specs.List.{list_any}
 use Rattle.std.proofs.lemmas.Bool.{cases_Bool, cases_lt, eqb-true, eq-eqb, and_parts, and_from}
 use Rattle.std.proofs.lemmas.List.{length-take-le}
@@ -10,7 +10,7 @@ use Rattle.pt_feasible.specs.Loads.{total_load, load_aboard}
 use Rattle.pt_feasible.specs.Pairing.{IsPaired}
 use Rattle.pt_feasible.specs.Stop.{is_pickup, is_drop}
 use Rattle.pt_feasible.proofs.LimitLemmas.{not_both, pickup-place}
-use Rattle.pt_feasible.proofs.LoadLemmas.{load_if, total_load-next, total_load-below, sum_below, sum_below-partners, load_at, element_within, first-is-no-drop, drop-place, ride-of-drop, IsRide}
+use Rattle.pt_feasible.proofs.LoadLemmas.{load_if, total_load-below, sum_below, sum_below-partners, load_at, element_within, first-is-no-drop, drop-place, ride-of-drop, IsRide}
 use Rattle.pt_insertion.proofs.ListLemmas.{list_any_from, list_any_to, slice_get-take}
 use Rattle.pt_audit.specs.Aboard.{is_drop_of, is_gone, is_aboard}
 

@@ -1,5 +1,5 @@
 -- A right log refutes each of its cases, and its cases are all places of the day.
-use Rattle.std.proofs.Common.{◌≡◌, ℕ, zero, suc, ◌+◌, ◌-◌, ◌<◌, ◌≤◌, ◌==◌, max, cond, List, [], ◌∷◌, ◌++◌, length, map, All, Option, None, Some, IsSomeAnd, IsSome, slice_get, slice_index, arith, refl, ap, sym, subst, ◌∙◌, inl, inr, add-one}
+use Rattle.std.proofs.Common.{◌≡◌, ℕ, zero, suc, ◌+◌, ◌-◌, ◌<◌, ◌≤◌, ◌==◌, max, List, [], ◌∷◌, ◌++◌, length, map, Option, None, Some, IsSomeAnd, IsSome, slice_get, slice_index, arith, refl, ap, sym, subst, ◌∙◌, inl, inr, add-one}
 use Rattle.std.specs.List.{flat_map}
 use Rattle.std.proofs.lemmas.Bool.{cases_eq, eq-eqb, ne_eqb, cond-true, cond-false}
 use Rattle.pt_base.specs.declared.vehicle.Vehicle.{Vehicle}
@@ -12,7 +12,6 @@ use Rattle.pt_feasible.specs.Route.{stops_of}
 use Rattle.pt_feasible.specs.ServiceTimes.{TimesFit}
 use Rattle.pt_insertion.specs.declared.asked.Asked.{Asked}
 use Rattle.pt_insertion.specs.declared.duty.Duty.{Duty}
-use Rattle.pt_insertion.specs.Insertion.{with_trip}
 use Rattle.pt_insertion.specs.Possible.{IsPossible}
 use Rattle.pt_insertion.proofs.InsertionLemmas.{length-with_trip}
 use Rattle.pt_audit.specs.declared.line.Line.{Line}

@@ -15,7 +15,7 @@ use Rattle.pt_audit.proofs.LawLemmas.{value_of}
 use Rattle.pt_audit.specs.Bounds.{visit_of, raised, IsRightRaise, IsRightEnd, AreRight}
 use Rattle.pt_audit.specs.Cases.{Case}
 use Rattle.pt_audit.specs.Reading.{EndsCases}
-use Rattle.pt_audit.specs.RightLog.{case_line, lines_of, BeginsWithCases}
+use Rattle.pt_audit.specs.RightLog.{case_line, BeginsWithCases}
 
 module _ (minutes : ℕ → ℕ → Option ℕ) (vehicle : Vehicle) (stops : List Stop) where
   -- raises from these bounds on and an end, all right, and then the rest

@@ -1,5 +1,5 @@
 -- Lines as texts: their words, and that no line's text stands within another's.
-use Rattle.std.proofs.Common.{◌≡◌, ℕ, ◌+◌, ◌≤◌, ◌<◌, Bool, true, false, List, [], ◌∷◌, ◌++◌, map, length, decimal, drop, get_or, Ok, Some, suc, take, refl, sym, ap, ◌∙◌, arith, inl, inr, append-nil, append_assoc, length-append, drop-drop}
+use Rattle.std.proofs.Common.{◌≡◌, ℕ, ◌+◌, ◌≤◌, ◌<◌, false, List, [], ◌∷◌, ◌++◌, map, length, decimal, drop, get_or, Ok, Some, suc, take, refl, sym, ap, ◌∙◌, arith, inl, inr, append-nil, append_assoc, length-append, drop-drop}
 use Rattle.std.specs.Prelude.{◌==◌, Result, codes}
 use Rattle.std.specs.Char.{digit_value}
 use Rattle.std.specs.List.{All, AllByRecursion, slice_split, flat_map, position, position_from}
@@ -19,7 +19,7 @@ use Rattle.pt_audit.specs.declared.line.Line.{Line}
 use Rattle.pt_audit.specs.declared.line.Line.TheVariants as line
 use Rattle.pt_audit.specs.declared.line.Raise.TheVariants as raise
 use Rattle.pt_audit.specs.declared.line.End.TheVariants as end
-use Rattle.pt_audit.specs.Text.{keyword_of, numbers_of, number_text, words_of, line_text, line_from, opening, closing, IsLogText, IsNoLog, IsOutOfForm, FailsAt, IsNumber, IsInForm}
+use Rattle.pt_audit.specs.Text.{keyword_of, numbers_of, number_text, words_of, line_text, line_from, opening, closing, IsNoLog, FailsAt, IsNumber, IsInForm}
 
 -- the bytes that are letters or digits
 abbrev pub IsWord : List ℕ → Type 0

@@ -1,5 +1,5 @@
 -- Bounds that keep all constraints are service times that fit.
-use Rattle.std.proofs.Common.{◌≡◌, ℕ, zero, suc, [], ◌∷◌, ◌==◌, max, ◌+◌, ◌-◌, ◌^◌, ◌<◌, ◌≤◌, List, length, take, Option, None, Some, IsSome, IsSomeAnd, slice_get, slice_index, get_or, arith, refl, ap, sym, subst, ◌∙◌, inl, inr, length-take, add-one}
+use Rattle.std.proofs.Common.{◌≡◌, ℕ, zero, suc, [], ◌∷◌, ◌==◌, max, ◌+◌, ◌-◌, ◌<◌, ◌≤◌, List, length, take, Option, None, Some, IsSomeAnd, slice_get, slice_index, get_or, arith, refl, sym, subst, inl, inr, length-take}
 use Rattle.std.proofs.lemmas.Bool.{cases_lt, cases_eq, eq-eqb, ne_eqb, cond-true, cond-false}
 use Rattle.pt_audit.specs.declared.line.Line.TheVariants as line
 use Rattle.pt_audit.specs.declared.line.Raise.{Raise}
@@ -12,7 +12,6 @@ use Rattle.pt_base.specs.declared.vehicle.Vehicle.{Vehicle}
 use Rattle.pt_feasible.specs.declared.schedule.TheConstants.{MAX_STOPS}
 use Rattle.pt_feasible.specs.declared.stop.Stop.{Stop}
 use Rattle.pt_feasible.specs.declared.visit.Visit.{Visit}
-use Rattle.pt_feasible.specs.Load.{FitsWithin}
 use Rattle.pt_feasible.specs.Loads.{load_aboard, LoadsFit}
 use Rattle.pt_feasible.specs.ServiceTimes.{TimesFit}
 use Rattle.pt_feasible.specs.Visit.{visits}

@@ -1,5 +1,5 @@
 -- What was written so far of a case, and of many cases.
-use Rattle.std.proofs.Common.{◌≡◌, ℕ, ◌+◌, List, [], ◌∷◌, ◌++◌, length, map, All, Option, None, Some, Ok, Err, inl, inr, arith, refl, ap, sym, subst, ◌∙◌, append_assoc, append-nil}
+use Rattle.std.proofs.Common.{◌≡◌, ℕ, List, [], ◌∷◌, ◌++◌, map, All, Option, None, Ok, Err, inl, inr, refl, ap, sym, subst, ◌∙◌, append_assoc, append-nil}
 use Rattle.std.specs.List.{flat_map}
 use Rattle.std.specs.Io.KnownBytes.{Appends}
 use Rattle.std.proofs.KnownBytes.{Appends-trans, Appends-nil}
@@ -14,7 +14,7 @@ use Rattle.std.specs.Prelude.{Result, OnOk}
 use Rattle.pt_insertion.specs.declared.asked.Asked.{Asked}
 use Rattle.pt_insertion.specs.declared.duty.Duty.{Duty}
 use Rattle.pt_audit.specs.Cases.{Case, cases_of_day}
-use Rattle.pt_audit.specs.RightLog.{case_line, lines_of, BeginsWithCases}
+use Rattle.pt_audit.specs.RightLog.{case_line, BeginsWithCases}
 use Rattle.pt_audit.specs.Text.{line_text, opening, closing, IsInForm}
 use Rattle.pt_insertion_log.specs.Written.{WritesCases, WritesLines, WritesRightLog}
 

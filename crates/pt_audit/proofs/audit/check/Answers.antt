@@ -1,5 +1,4 @@
-use Rattle.std.proofs.Common.{arith, rules, ◌≡◌, ◌∙◌, ◌+◌, ◌-◌, ◌<◌, ◌≤◌, ◌↔◌, ℕ, List, [], ◌∷◌, ◌++◌, suc, length, take, drop, true, false, Option, None, Some, IsTrue, refl, subst, sym, ap, inl, inr}
-use Rattle.std.specs.List.{flat_map}
+use Rattle.std.proofs.Common.{arith, ◌≡◌, ◌∙◌, ◌+◌, ◌↔◌, ℕ, List, [], ◌∷◌, ◌++◌, suc, length, take, drop, true, false, Option, None, Some, IsTrue, refl, subst, sym, inl, inr}
 use Rattle.std.specs.Prelude.{Bool, not, is_some}
 use Rattle.std.proofs.lemmas.Bool.{eqb-true, eq-eqb}
 use Rattle.std.proofs.lemmas.List.{take_more, take_all}
@@ -8,7 +7,7 @@ use Rattle.pt_insertion.specs.declared.duty.Duty.{Duty}
 use Rattle.pt_insertion.specs.declared.asked.Asked.{Asked}
 use Rattle.pt_audit.specs.declared.line.Line.{Line}
 use Rattle.pt_audit.specs.declared.line.Line.TheVariants as line
-use Rattle.pt_audit.specs.Cases.{Case, cases_of_vehicle, cases_of_day}
+use Rattle.pt_audit.specs.Cases.{cases_of_vehicle, cases_of_day}
 use Rattle.pt_audit.specs.Reading.{EndsCases}
 use Rattle.pt_audit.specs.RightLog.{IsRightLog, BeginsWithCases}
 use Rattle.pt_audit.proofs.CasesLemmas.{ends_at_start, one_more, none_more, list_around, no_cases, at_the_end}

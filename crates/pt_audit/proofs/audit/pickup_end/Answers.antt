@@ -1,4 +1,4 @@
-use Rattle.std.proofs.Common.{arith, rules, ◌≡◌, ◌∙◌, ◌+◌, ◌-◌, ◌<◌, ◌≤◌, ℕ, List, length, Option, None, Some, subst, sym, ap}
+use Rattle.std.proofs.Common.{arith, ◌≡◌, ◌∙◌, ◌+◌, ◌-◌, ℕ, List, length, Option, None, Some, subst, sym, ap}
 use Rattle.std.specs.List.{flat_map}
 use Rattle.pt_feasible.specs.Route.{stops_of}
 use Rattle.pt_audit.specs.Cases.{Case, numbers_from, cases_of_pickup}

@@ -1,7 +1,7 @@
-use Rattle.std.proofs.Common.{arith, rules, ◌≡◌, ◌∙◌, ◌+◌, ◌-◌, ◌<◌, ◌≤◌, ℕ, List, length, Option, None, Some, subst, sym, ap}
+use Rattle.std.proofs.Common.{arith, ◌≡◌, ◌+◌, ◌-◌, ℕ, length, Option, Some, subst, sym}
 use Rattle.std.specs.List.{flat_map}
 use Rattle.pt_feasible.specs.Route.{stops_of}
-use Rattle.pt_audit.specs.Cases.{Case, numbers_from, cases_of_pickup, cases_of_vehicle}
+use Rattle.pt_audit.specs.Cases.{numbers_from, cases_of_pickup, cases_of_vehicle}
 use Rattle.pt_audit.specs.Reading.{EndsCases}
 use Rattle.pt_audit.proofs.CasesLemmas.{ends_at_start, one_more, none_more, numbers_below_next, numbers_below_around}
 use Rattle.pt_audit.proofs.audit.vehicle_end.Goals as goal

@@ -1,4 +1,4 @@
-use Rattle.std.proofs.Common.{◌-◌, ◌≤◌, Some, length}
+use Rattle.std.proofs.Common.{◌≤◌, Some, length}
 use Rattle.std.specs.List.{flat_map}
 use Rattle.pt_feasible.specs.Route.{stops_of}
 use Rattle.pt_audit.specs.Cases.{cases_of_pickup, numbers_from}

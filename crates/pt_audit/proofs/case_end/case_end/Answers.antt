@@ -1,12 +1,11 @@
-use Rattle.std.proofs.Common.{arith, rules, ◌≡◌, ◌∙◌, ◌+◌, ◌<◌, ◌≤◌, ℕ, List, [], Option, None, get_or, drop, slice_index, subst, sym, refl, length-drop, length, true, false}
+use Rattle.std.proofs.Common.{arith, ◌≡◌, ◌+◌, ◌≤◌, ℕ, List, [], drop, slice_index, subst, sym, refl, length-drop, length, false}
 use Rattle.std.proofs.lemmas.List.{nil_from_length}
 use Rattle.pt_feasible.specs.Route.{stops_of}
 use Rattle.pt_insertion.proofs.InsertionLemmas.{length-with_trip}
 use Rattle.pt_audit.specs.declared.line.Line.{Line}
-use Rattle.pt_audit.specs.declared.line.Line.TheVariants.{NoDirect}
 use Rattle.pt_audit.specs.Insertion.{case_of, inserted_stops}
 use Rattle.pt_audit.specs.RightLog.{case_line}
-use Rattle.pt_audit.proofs.ReadingLemmas.{from_here, all_zero, visit-among, IsReadTo, read_opening, other_opening, no_opening, read_raise, wrong_raise, right_end, wrong_end, wrong_line, no_end, not_no_direct, not_case}
+use Rattle.pt_audit.proofs.ReadingLemmas.{from_here, all_zero, visit-among, IsReadTo, read_opening, read_raise, wrong_raise, right_end, wrong_end, wrong_line, no_end, not_no_direct, not_case}
 use Rattle.pt_audit.proofs.case_end.case_end.Goals as goal
 
 -- past the last line there is nothing

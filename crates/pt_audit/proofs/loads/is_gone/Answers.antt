@@ -1,5 +1,4 @@
-use Rattle.std.proofs.Common.{arith, rules, ◌≡◌, ◌∙◌, true, false, take, slice_get, Some, ap, sym}
-use Rattle.std.specs.List.{list_any}
+use Rattle.std.proofs.Common.{arith, ◌∙◌, take, sym}
 use Rattle.pt_insertion.proofs.ListLemmas.{list_any_from, slice_get-take}
 use Rattle.pt_audit.specs.Aboard.{is_drop_of}
 use Rattle.pt_audit.specs.Insertion.{inserted_stops}

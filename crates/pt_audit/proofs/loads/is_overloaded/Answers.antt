@@ -1,4 +1,4 @@
-use Rattle.std.proofs.Common.{arith, rules, ◌≡◌, ℕ, refl, ◌+◌, ◌≤◌, ◌∙◌, Bool, true, false, take, slice_get, Some, ap, sym}
+use Rattle.std.proofs.Common.{arith, ◌≡◌, ℕ, refl, ◌+◌, ◌∙◌, Bool, take, ap, sym}
 use Rattle.std.specs.Prelude.{filter}
 use Rattle.pt_feasible.specs.Load.{FitsWithin}
 use Rattle.pt_feasible.specs.Loads.{total_load, load_aboard}

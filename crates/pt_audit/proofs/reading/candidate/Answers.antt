@@ -1,8 +1,8 @@
-use Rattle.std.proofs.Common.{arith, rules, ◌≡◌, ◌∙◌, ℕ, List, Some, get_or, ap, sym, subst}
+use Rattle.std.proofs.Common.{◌≡◌, ◌∙◌, ℕ, List, get_or, ap, sym, subst}
 use Rattle.std.specs.Str.{IsUtf8}
 use Rattle.std.proofs.lemmas.Option.{get_or_from_slice_get}
 use Rattle.pt_audit.specs.Text.{line_from, words_of, numbers_of}
-use Rattle.pt_audit.proofs.TextLemmas.{words-utf8, line_back, some_word}
+use Rattle.pt_audit.proofs.TextLemmas.{words-utf8, line_back}
 use Rattle.pt_audit.proofs.reading.candidate.Goals as goal
 
 pub returns : goal.returns

@@ -1,5 +1,4 @@
-use Rattle.std.proofs.Common.{arith, rules, ◌≡◌, ◌∙◌, ◌+◌, ℕ, List, Option, Some, None, take, length, ap, sym, subst, true, false}
-use Rattle.pt_audit.specs.declared.line.Line.{Line}
+use Rattle.std.proofs.Common.{◌≡◌, ◌∙◌, ◌+◌, ℕ, Some, None, take, length, ap, false}
 use Rattle.pt_audit.specs.Text.{words_of, line_text}
 use Rattle.pt_audit.proofs.TextLemmas.{front_line}
 use Rattle.pt_audit.proofs.reading.first_line.Goals as goal

@@ -1,4 +1,4 @@
-use Rattle.std.proofs.Common.{lit<, ◌≡◌, ◌∷◌, ◌++◌, [], Ok, length, take, take_all, length-take, sym, ap, ◌∙◌, arith, subst, decimal}
+use Rattle.std.proofs.Common.{lit<, ◌≡◌, ◌∷◌, ◌++◌, [], length, take, take_all, length-take, sym, ap, ◌∙◌, arith, decimal}
 use Rattle.std.proofs.lemmas.Iterator.Adapters.{YieldsList-from_skip}
 use Rattle.std.proofs.lemmas.Iterator.Consumers.{YieldsList-turn, YieldsList-end}
 use Rattle.std.proofs.lemmas.Iterator.Splits.{YieldsList-from_str_split}

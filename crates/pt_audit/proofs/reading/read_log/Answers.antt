@@ -1,10 +1,10 @@
-use Rattle.std.proofs.Common.{arith, rules, ◌≡◌, ◌∙◌, ◌+◌, ◌-◌, ◌∷◌, ◌++◌, [], ℕ, List, All, take, drop, length, min, ap, sym, subst, refl, true, false, inr, length-append, length-take, length-drop}
+use Rattle.std.proofs.Common.{arith, rules, ◌≡◌, ◌∙◌, ◌+◌, ◌-◌, ◌∷◌, ◌++◌, [], ℕ, List, All, take, drop, length, ap, sym, subst, refl, false, inr, length-drop}
 use Rattle.std.specs.List.{flat_map}
 use Rattle.std.proofs.lemmas.List.{length_push, take_all}
 use Rattle.std.proofs.lemmas.List.Elements.{All-push}
 use Rattle.pt_audit.specs.declared.line.Line.{Line}
-use Rattle.pt_audit.specs.Text.{opening, closing, line_text, IsInForm, row_number}
-use Rattle.pt_audit.proofs.TextLemmas.{fails_no_log, one_line_more, some_bytes}
+use Rattle.pt_audit.specs.Text.{opening, line_text, IsInForm}
+use Rattle.pt_audit.proofs.TextLemmas.{fails_no_log, one_line_more}
 use Rattle.pt_audit.proofs.reading.read_log.Goals as goal
 
 -- the text from a place on is all that is left there

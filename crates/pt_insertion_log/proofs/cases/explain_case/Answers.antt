@@ -1,17 +1,14 @@
-use Rattle.std.proofs.Common.{arith, rules, ◌≡◌, ◌+◌, ◌≤◌, ◌∷◌, [], ℕ, List, Option, Result, Ok, Err, length, slice_index, refl, sym, subst, ap}
-use Rattle.std.specs.Prelude.{OnOk}
+use Rattle.std.proofs.Common.{arith, ◌+◌, ◌≤◌, ◌∷◌, [], ℕ, length, slice_index, refl, sym, subst}
 use Rattle.pt_feasible.specs.Route.{stops_of}
 use Rattle.pt_feasible.specs.ServiceTimes.{TimesFit}
 use Rattle.pt_insertion.specs.Possible.{IsPossible}
 use Rattle.pt_insertion.proofs.InsertionLemmas.{length-with_trip}
 use Rattle.pt_audit.specs.declared.line.Line.TheVariants as line
-use Rattle.pt_audit.specs.Cases.{Case}
 use Rattle.pt_audit.specs.Insertion.{case_of, inserted_stops}
 use Rattle.pt_audit.specs.RightLog.{case_line}
 use Rattle.pt_audit.specs.Text.{line_text, IsInForm}
 use Rattle.std.specs.Io.KnownBytes.{Appends}
 use Rattle.pt_audit.proofs.ReadingLemmas.{all_zero, visit-among}
-use Rattle.pt_insertion_log.specs.Steps.{IsStep}
 use Rattle.pt_insertion_log.specs.Written.{WritesCases}
 use Rattle.pt_insertion_log.proofs.FitLemmas.{fit, times_of, clear-loads, clear-room, raise-room}
 use Rattle.pt_insertion_log.proofs.WrittenLemmas.{IsBegun, begun_first, begun_raise, begun_end, on_ok}

@@ -1,4 +1,4 @@
-use Rattle.std.proofs.Common.{arith, ◌≡◌, ◌∙◌, ◌+◌, ◌++◌, ◌∷◌, [], ℕ, Bool, true, false, List, take, Option, None, Some, refl, subst, sym, ap}
+use Rattle.std.proofs.Common.{arith, ◌≡◌, ◌∙◌, ◌+◌, ◌++◌, ◌∷◌, [], ℕ, Bool, true, false, List, take, Option, None, Some, refl, subst, sym}
 use Rattle.std.specs.Prelude.{not, is_some}
 use Rattle.std.specs.Io.KnownBytes.{Appends}
 use Rattle.pt_audit.specs.declared.line.Line.TheVariants as line

@@ -1,4 +1,4 @@
-use Rattle.std.proofs.Common.{◌≡◌, take}
+use Rattle.std.proofs.Common.{take}
 use Rattle.pt_audit.specs.Cases.{cases_of_day}
 use Rattle.pt_insertion_log.specs.Written.{WritesCases}
 use Rattle.pt_insertion_log.proofs.explaining.explain_day.Given as goal

@@ -1,4 +1,4 @@
-use Rattle.std.proofs.Common.{arith, ◌+◌}
+use Rattle.std.proofs.Common.{◌+◌}
 use Rattle.pt_feasible.specs.Route.{stops_of}
 use Rattle.pt_audit.specs.Cases.{numbers_from, cases_of_pickup}
 use Rattle.pt_audit.proofs.CasesLemmas.{numbers_below_next}

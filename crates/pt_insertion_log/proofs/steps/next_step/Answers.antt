@@ -1,4 +1,4 @@
-use Rattle.std.proofs.Common.{arith, below_more, refl, ◌<◌, slice_index}
+use Rattle.std.proofs.Common.{arith, below_more, refl, slice_index}
 use Rattle.pt_audit.specs.Insertion.{inserted_stops}
 use Rattle.pt_insertion_log.specs.Steps.{IsKeptAt}
 use Rattle.pt_insertion_log.proofs.steps.next_step.Goals as goal
