@@ -1,7 +1,7 @@
 ghost use Rattle.std.specs.Prelude.{◌≡◌, OnOk, IfErr};
 ghost use Rattle.std.specs.Io.KnownBytes.{Appends};
 ghost use Rattle.pt_base.specs.Fault.{fault};
-ghost use Rattle.pt_base.specs.declared.fault.TheConstants.{WRITE_FAILED};
+ghost use Rattle.pt_base.specs.Codes.{write_failed};
 ghost use Rattle.pt_audit.specs.Text.{line_text, IsInForm};
 
 use pt_audit::{Line, line_text};
@@ -13,7 +13,7 @@ use std::io::Write;
 pub fn write_line<W: Write>(line: Line, out: &mut W) -> Result<(), Fault>
     ensures line { OnOk result (Appends (W.contents out.old) (W.contents out.new) (line_text line)) }
     ensures in_form { IsInForm line }
-    ensures fault { IfErr result (λ error. error ≡ fault WRITE_FAILED) }
+    ensures fault { IfErr result (λ error. error ≡ fault write_failed) }
 {
     write_bytes(line_text(line).as_slice(), out)
 }
@@ -21,7 +21,7 @@ pub fn write_line<W: Write>(line: Line, out: &mut W) -> Result<(), Fault>
 /// Writes bytes; the fault is a write that failed.
 pub fn write_bytes<W: Write>(bytes: &[u8], out: &mut W) -> Result<(), Fault>
     ensures bytes { OnOk result (Appends (W.contents out.old) (W.contents out.new) bytes.now) }
-    ensures fault { IfErr result (λ error. error ≡ fault WRITE_FAILED) }
+    ensures fault { IfErr result (λ error. error ≡ fault write_failed) }
 {
     if out.write_all(bytes).is_err() {
         return Err(Fault::of(WRITE_FAILED));
