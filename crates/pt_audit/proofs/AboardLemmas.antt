@@ -9,7 +9,7 @@ use Rattle.pt_feasible.specs.declared.stop.Stop.{Stop}
 use Rattle.pt_feasible.specs.Loads.{total_load, load_aboard}
 use Rattle.pt_feasible.specs.Pairing.{IsPaired}
 use Rattle.pt_feasible.specs.Stop.{is_pickup, is_drop}
-use Rattle.pt_feasible.proofs.LimitLemmas.{not_both, pickup-place}
+use Rattle.pt_feasible.proofs.LimitsLemmas.{not_both, pickup-place}
 use Rattle.pt_feasible.proofs.LoadLemmas.{load_if, total_load-below, sum_below, sum_below-partners, load_at, element_within, first-is-no-drop, drop-place, ride-of-drop, IsRide}
 use Rattle.pt_insertion.proofs.ListLemmas.{list_any_from, list_any_to, slice_get-take}
 use Rattle.pt_audit.specs.Aboard.{is_drop_of, is_gone, is_aboard}

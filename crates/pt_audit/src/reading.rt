@@ -7,8 +7,8 @@ ghost use Rattle.pt_audit.specs.Text.{opening, closing, IsLogText, IsNoLog, Fail
 use crate::text::line_text;
 use crate::{End, Line, Log, Raise};
 use arrayvec::ArrayVec;
-use pt_base::fault::LOG_LINE;
 use pt_base::Fault;
+use pt_base::fault::LOG_LINE;
 use std::alloc::{AllocError, Global};
 
 /// The log of the text; or the first row that is not in form, or want of memory.
