@@ -50,21 +50,27 @@ fn read_at(
     )
 }
 
+/// What a write enters in a case file.
+fn entered(request: Request) -> Option<Entry> {
+    let Request::Write(write) = request else {
+        return None;
+    };
+    match write {
+        Write::Enter { entry, .. } => Some(entry),
+        _ => None,
+    }
+}
+
 /// The entry that a body of this kind, with reasons and a basis, spells.
-fn entry(alloc: Global, kind: &str) -> Result<Entry, Fail> {
+fn entry(alloc: Global, kind: &str) -> Result<Option<Entry>, Fail> {
     let body = format!(in alloc;
         "{{\"entry\":\"{kind}\",\"basis\":\"missed 3 of 9\",\"reasons\":\"walks a mile\"}}"
     )?;
     let mut headers = [EMPTY_HEADER_SPAN; 64];
     let router = desk_router(alloc)?;
     match read_at(alloc, &router, HEAD, &mut headers, body.as_bytes()) {
-        Ok(
-            Message {
-                request: Request::Write(Write::Enter { entry, .. }),
-                ..
-            },
-        ) => Ok(entry),
-        _ => Err("no entry".into()),
+        Ok(message) => Ok(entered(message.request)),
+        Err(_) => Ok(None),
     }
 }
 
@@ -82,7 +88,7 @@ fn entries_with_reasons(rt: HostRuntime) -> Result<(), Fail> {
         ("appeal-denied", Entry::AppealDenied(walks)),
         ("notice", Entry::Notice(reasons(alloc, "missed 3 of 9")?)),
     ] {
-        assert_eq!(rt; entry(alloc, kind)?, expected, "{kind}");
+        assert_eq!(rt; entry(alloc, kind)?, Some(expected), "{kind}");
     }
     Ok(())
 }
