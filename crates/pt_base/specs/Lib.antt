@@ -5,4 +5,5 @@ pub mod Fault
 pub mod Place
 pub mod Ranges
 pub mod Rule
+pub mod TripStatus
 pub mod Weekday

@@ -12,6 +12,8 @@ pub use place::{Place, Point};
 pub use policy::Policy;
 pub use rider::{Residence, Rider};
 pub use rule::Rule;
+pub use trip::{Trip, Wish};
+pub use trip_status::TripStatus;
 pub use vehicle::Vehicle;
 pub use weekday::{Weekday, Weekdays};
 
@@ -26,5 +28,7 @@ mod rider;
 mod rule;
 #[cfg(test)]
 mod tests;
+mod trip;
+mod trip_status;
 mod vehicle;
 mod weekday;

@@ -1,7 +1,7 @@
 -- A visitor with no days of use.
 use Rattle.std.proofs.Common.{◌≡◌, ℕ, ◌+◌, ◌≤◌, zero, suc, Bool, true, false, cond, [], ◌∷◌, arith, refl}
 use Rattle.std.specs.List.{Contains}
-use Rattle.pt_rights_visits.specs.Periods.{MayUse, IsOpening, first, is_in_period}
+use Rattle.pt_visitors.specs.Periods.{MayUse, IsOpening, first, is_in_period}
 
 -- the only member of a list of one
 only_member : (day other : ℕ) → Contains (day ∷ []) other → day ≡ other

@@ -5,7 +5,7 @@ use crate::permission::may_see_standing;
 use crate::{Answer, Caller, Read, ReadFacts};
 use pt_base::{Day, Minute, Residence, Rule};
 use pt_rights::CaseFile;
-use pt_rights_visits::visitor_may;
+use pt_visitors::visitor_may;
 
 /// Whether a visitor may use the day. No trips are booked, so there are no days of use.
 fn visitor_may_use(day: Day) -> bool

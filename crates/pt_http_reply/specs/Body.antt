@@ -6,7 +6,7 @@ use Rattle.pt_base.specs.Rule.{name_of}
 use Rattle.pt_rights.specs.declared.case_file.Standing.{Standing}
 use Rattle.pt_rights.specs.declared.case_file.Standing.TheVariants as standing
 use Rattle.pt_rights.specs.declared.conditions.Condition.{Condition}
-use Rattle.pt_rights_texts.specs.Texts.{condition_text}
+use Rattle.pt_conditions.specs.Texts.{condition_text}
 use Rattle.pt_desk.specs.declared.keeper.StoreFault.TheVariants.{Memory, Store}
 use Rattle.pt_desk_rules.specs.declared.request.Answer.{Answer}
 use Rattle.pt_desk_rules.specs.declared.request.Answer.TheVariants as answer

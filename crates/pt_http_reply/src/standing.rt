@@ -9,7 +9,7 @@ use jiff_core::civil::Date;
 use jiff_fmt::temporal::DateTimePrinter;
 use pt_base::Day;
 use pt_rights::{Condition, Conditions, Grant, Standing};
-use pt_rights_texts::condition_text;
+use pt_conditions::condition_text;
 
 /// The days from -9999-01-01, the first date of the calendar, to 1970-01-01.
 const EPOCH: u32 = 4_371_587;

@@ -7,7 +7,7 @@ use Rattle.pt_rights.specs.declared.entry.Entry.{Entry}
 use Rattle.pt_rights.specs.declared.entry.Entry.TheVariants as entry
 use Rattle.pt_rights.specs.declared.entry.Grant.{Grant}
 use Rattle.pt_rights.specs.Conditions.{IsCondition}
-use Rattle.pt_rights_texts.proofs.TextLemmas.{condition_text-injective}
+use Rattle.pt_conditions.proofs.TextLemmas.{condition_text-injective}
 use Rattle.serde_json.specs.Data.{Data, array}
 use Rattle.serde_json.specs.View.{items_of}
 use Rattle.pt_http_reply.specs.declared.fault.FieldName.{FieldName}

@@ -11,7 +11,7 @@ use Rattle.pt_rights.specs.declared.conditions.Condition.{Condition}
 use Rattle.pt_rights.specs.declared.entry.Entry.{Entry}
 use Rattle.pt_rights.specs.declared.entry.Entry.TheVariants as entry
 use Rattle.pt_rights.specs.declared.entry.Grant.{Grant}
-use Rattle.pt_rights_texts.specs.Texts.{condition_text}
+use Rattle.pt_conditions.specs.Texts.{condition_text}
 use Rattle.serde_json.specs.Data.{Data, string, array}
 use Rattle.serde_json.specs.Find.{get}
 use Rattle.serde_json.specs.View.{items_of}

@@ -6,7 +6,7 @@ ghost use Rattle.pt_http_request.specs.Bodies.{spelling_of, HasConditions};
 
 use arrayvec::ArrayVec;
 use pt_rights::{Condition, Conditions, MOST_CONDITIONS};
-use pt_rights_texts::condition_from;
+use pt_conditions::condition_from;
 use serde_json::Value;
 
 /// The condition that a value of a list spells.

@@ -1,7 +1,7 @@
 pub mod Lifted
-pub mod Placed
-pub mod PlacedAppeals
-pub mod PlacedStanding
+pub mod Positioned
+pub mod PositionedAppeals
+pub mod PositionedStanding
 pub mod Pushed
 pub mod Stepped
 pub mod MonthMarks

@@ -3,7 +3,7 @@ use Rattle.std.specs.Prelude.{◌≡◌, ℕ, ◌-◌, ◌<◌, Bool, true, fals
 use Rattle.std.specs.List.{list_any, find}
 use Rattle.std.specs.Option.{option_map_or}
 use Rattle.std.proofs.Common.{zero, suc, arith, get_or, drop, drop-cons, ◌∙◌}
-use Rattle.pt_rights.specs.Places.{some_place, is_open}
+use Rattle.pt_rights.specs.Positions.{some_position, is_open}
 
 -- the first item that closes passes the test
 abbrev pub is_first : {X : Type 0} → (X → Bool) → (X → Bool) → List X → Bool
@@ -32,15 +32,15 @@ module _ {X : Type 0} (opens closes test : X → Bool) where
         | false ↦ first-split xs
       ]
 
-  -- a place opens what stays open or is settled
+  -- a position opens what stays open or is settled
   pub lifted-split : (xs : List X)
-      → some_place (λ item later. opens item && first_if_any closes test later) xs
-      ≡ (some_place (is_open opens closes) xs || some_place (λ item later. opens item && is_first closes test later) xs)
+      → some_position (λ item later. opens item && first_if_any closes test later) xs
+      ≡ (some_position (is_open opens closes) xs || some_position (λ item later. opens item && is_first closes test later) xs)
   lifted-split [] = refl
   lifted-split (first ∷ xs) =
       rw (first-split xs, lifted-split xs)
       (lifted_step (opens first) (not (list_any closes xs)) (is_first closes test xs)
-      (some_place (is_open opens closes) xs) (some_place (λ item later. opens item && is_first closes test later) xs))
+      (some_position (is_open opens closes) xs) (some_position (λ item later. opens item && is_first closes test later) xs))
 
 -- one item earlier
 module _ {X : Type 0} (closes test : X → Bool) (x : X) (later items : List X) (from : items ≡ x ∷ later) where
@@ -55,14 +55,14 @@ module _ {X : Type 0} (closes test : X → Bool) (x : X) (later items : List X) 
 
   pub lifted-more : (opens : X → Bool) (lifts was now : Bool)
       → lifts ≡ first_if_any closes test later
-      → was ≡ some_place (λ item after. opens item && first_if_any closes test after) later
+      → was ≡ some_position (λ item after. opens item && first_if_any closes test after) later
       → now ≡ ((opens x && lifts) || was)
-      → now ≡ some_place (λ item after. opens item && first_if_any closes test after) items
+      → now ≡ some_position (λ item after. opens item && first_if_any closes test after) items
   lifted-more opens lifts was now lifts_is was_is now_is = now_is ∙ rw (lifts_is, was_is, from) refl
 
--- a list from the place before on
-pub drop-before : {X : Type 0} (xs : List X) (place : ℕ) (x : X)
-    → 0 < place → place - 1 < length xs → drop (place - 1) xs ≡ get_or xs (place - 1) x ∷ drop place xs
+-- a list from the position before on
+pub drop-before : {X : Type 0} (xs : List X) (position : ℕ) (x : X)
+    → 0 < position → position - 1 < length xs → drop (position - 1) xs ≡ get_or xs (position - 1) x ∷ drop position xs
 drop-before xs zero x after within = absurd (omega arith)
 drop-before xs (suc before) x after within =
     let same : suc before - 1 ≡ before = omega arith in

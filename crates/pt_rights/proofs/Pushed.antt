@@ -14,7 +14,7 @@ use Rattle.pt_rights.specs.Standing.{is_waiting, is_presumed, last_grant}
 use Rattle.pt_rights.specs.Marks.{AreMarks, has_come, earlier, waiting_with}
 use Rattle.pt_rights.specs.Limits.{days_to_decide, days_to_presumption, most_entries}
 
--- the test of a place, of the later places and of the new one, before and after the new entry
+-- the test of a position, of the later positions and of the new one, before and after the new entry
 waiting_step : (completes decided decides rest new : Bool)
     → ((completes && not (decided || (decides || false))) || ((rest && not decides) || new))
     ≡ ((((completes && not decided) || rest) && not decides) || new)
@@ -36,7 +36,7 @@ waiting-push (first ∷ file) last =
     let step = waiting_step (is_complete first.entry) (list_any (λ e. is_decision e.entry) file) (is_decision last.entry) (is_waiting file) (is_complete last.entry) in
     rw (list_any-append (λ (e : Entered). is_decision e.entry) file (last ∷ []), waiting-push file last) step
 
--- the same, where the places are also to pass a test of their own
+-- the same, where the positions are also to pass a test of their own
 presumed_step : (old completes decided decides rest new : Bool)
     → (((completes && not (decided || (decides || false))) && old) || ((rest && not decides) || new))
     ≡ (((((completes && not decided) && old) || rest) && not decides) || new)

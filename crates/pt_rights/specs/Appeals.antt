@@ -6,12 +6,12 @@ use Rattle.pt_rights.specs.declared.entry.Entry.{Entry}
 use Rattle.pt_rights.specs.declared.entry.Entry.TheVariants as kind
 use Rattle.pt_rights.specs.declared.entry.Entered.{Entered}
 use Rattle.pt_rights.specs.Kinds.{is_refusal, is_suspension, against_of, is_appeal, is_hearing, is_overturn, decides_appeal}
-use Rattle.pt_rights.specs.Places.{some_place, is_open, is_followed}
+use Rattle.pt_rights.specs.Positions.{some_position, is_open, is_followed}
 use Rattle.pt_rights.specs.Limits.{days_to_appeal, days_to_decide}
 
--- the entry is an appeal against the entry at the place
+-- the entry is an appeal against the entry at the position
 abbrev pub appeals_against : ℕ → Entry → Bool
-appeals_against place entry = option_map_or (λ against. against == place) (against_of entry) false
+appeals_against position entry = option_map_or (λ against. against == position) (against_of entry) false
 
 -- what is disputed: the entry of the file against which the entry is an appeal
 abbrev pub disputed : List Entered → Entry → Option Entered
@@ -24,32 +24,32 @@ disputes test file entry = option_map_or test (disputed file entry) false
 
 -- some appeal that passes the test is pending: no decision of an appeal stands after it
 abbrev pub some_pending : (Entry → Bool) → List Entered → Bool
-some_pending appeals file = some_place (is_open (λ e. appeals e.entry) (λ e. decides_appeal e.entry)) file
+some_pending appeals file = some_position (is_open (λ e. appeals e.entry) (λ e. decides_appeal e.entry)) file
 
 -- some such appeal is pending, and an entry that passes the second test stands after it
 abbrev pub some_pending_with : (Entry → Bool) → (Entered → Bool) → List Entered → Bool
 some_pending_with appeals follows file =
-    some_place (is_followed (λ e. appeals e.entry) (λ e. decides_appeal e.entry) follows) file
+    some_position (is_followed (λ e. appeals e.entry) (λ e. decides_appeal e.entry) follows) file
 
 -- an entry may be appealed against when it is a refusal or a suspension, within 60 days, the 60th among them
 abbrev pub is_appealable : ℕ → Entered → Bool
 is_appealable today entered = (is_refusal entered.entry || is_suspension entered.entry) && nat_le today (entered.day + days_to_appeal)
 
--- the file has an appeal against the entry at the place
+-- the file has an appeal against the entry at the position
 abbrev pub is_appealed : List Entered → ℕ → Bool
-is_appealed file place = list_any (λ e. appeals_against place e.entry) file
+is_appealed file position = list_any (λ e. appeals_against position e.entry) file
 
--- an appeal against the entry at the place may be entered: that entry is there and may be appealed against, nobody
+-- an appeal against the entry at the position may be entered: that entry is there and may be appealed against, nobody
 -- has done so, and no other appeal is pending
 abbrev pub may_appeal : List Entered → ℕ → ℕ → Bool
-may_appeal file today place =
-    option_map_or (is_appealable today) (slice_get file place) false
-    && (not (is_appealed file place) && not (some_pending is_appeal file))
+may_appeal file today position =
+    option_map_or (is_appealable today) (slice_get file position) false
+    && (not (is_appealed file position) && not (some_pending is_appeal file))
 
 -- an appeal is pending that was not heard
 abbrev pub awaits_hearing : List Entered → Bool
 awaits_hearing file =
-    some_place (is_open (λ e. is_appeal e.entry) (λ e. decides_appeal e.entry || is_hearing e.entry)) file
+    some_position (is_open (λ e. is_appeal e.entry) (λ e. decides_appeal e.entry || is_hearing e.entry)) file
 
 -- a decision of an appeal may answer it for what is appealed against: a refusal is granted or denied, a suspension
 -- overturned or denied
@@ -78,7 +78,7 @@ is_overdue file today = some_pending_with (disputes (λ e. is_refusal e.entry) f
 abbrev pub is_first_overturned : List Entered → Bool
 is_first_overturned file = option_map_or (λ e. is_overturn e.entry) (find (λ e. decides_appeal e.entry) file) false
 
--- what stands at the place is overturned: the first decision after an appeal against it overturns
+-- what stands at the position is overturned: the first decision after an appeal against it overturns
 abbrev pub is_overturned : List Entered → ℕ → Bool
-is_overturned file place =
-    some_place (λ entered later. appeals_against place entered.entry && is_first_overturned later) file
+is_overturned file position =
+    some_position (λ entered later. appeals_against position entered.entry && is_first_overturned later) file

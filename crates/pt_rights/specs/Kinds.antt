@@ -26,7 +26,7 @@ abbrev pub is_refusal : Entry → Bool
 is_refusal (kind.Refuse reasons) = true
 is_refusal _ = false
 
--- the place of the entry that is appealed against, if the entry is an appeal
+-- the position of the entry that is appealed against, if the entry is an appeal
 abbrev pub against_of : Entry → Option ℕ
 against_of (kind.Appeal against) = Some against
 against_of _ = None

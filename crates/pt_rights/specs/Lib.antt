@@ -1,6 +1,6 @@
 pub mod Admission
 pub mod Appeals
-pub mod ByPlace
+pub mod ByPosition
 pub mod Conditions
 pub mod Feet
 pub mod Kinds
@@ -8,7 +8,7 @@ pub mod Limits
 pub mod Marks
 pub mod Months
 pub mod Notices
-pub mod Places
+pub mod Positions
 pub mod Reasons
 pub mod Rules
 pub mod Standing

@@ -7,7 +7,7 @@ use Rattle.pt_rights.specs.declared.tally.Outcome.TheVariants as outcome
 use Rattle.pt_rights.specs.declared.tally.Tally.{Tally}
 use Rattle.pt_rights.specs.declared.entry.Entered.{Entered}
 use Rattle.pt_rights.specs.Kinds.{is_notice, is_notice_hearing, is_suspension}
-use Rattle.pt_rights.specs.Places.{some_place, is_open, is_followed}
+use Rattle.pt_rights.specs.Positions.{some_position, is_open, is_followed}
 use Rattle.pt_rights.specs.Limits.{days_after_first}
 
 -- the rider missed the trip; what the operator missed, or was beyond the rider's control, never counts
@@ -37,13 +37,13 @@ is_pattern tallies policy today =
 -- a notice has no hearing, no suspension and no notice after it
 abbrev pub awaits_notice_hearing : List Entered → Bool
 awaits_notice_hearing file =
-    some_place
+    some_position
     (is_open (λ e. is_notice e.entry) (λ e. is_notice_hearing e.entry || (is_suspension e.entry || is_notice e.entry))) file
 
 -- a notice has a hearing after it, and no suspension and no notice
 abbrev pub may_suspend : List Entered → Bool
 may_suspend file =
-    some_place
+    some_position
     (is_followed (λ e. is_notice e.entry) (λ e. is_suspension e.entry || is_notice e.entry) (λ e. is_notice_hearing e.entry)) file
 
 -- a suspension starts after its day, and lasts 1 to 30 days

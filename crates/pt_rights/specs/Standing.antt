@@ -7,7 +7,7 @@ use Rattle.pt_rights.specs.declared.case_file.Standing.{Standing}
 use Rattle.pt_rights.specs.declared.case_file.Standing.TheVariants as standing
 use Rattle.pt_rights.specs.Appeals.{is_overdue}
 use Rattle.pt_rights.specs.Kinds.{is_complete, is_decision, grant_of}
-use Rattle.pt_rights.specs.Places.{some_place}
+use Rattle.pt_rights.specs.Positions.{some_position}
 use Rattle.pt_rights.specs.Limits.{days_to_presumption}
 
 -- an application is unanswered when no decision stands after it
@@ -17,12 +17,12 @@ is_unanswered entered later =
 
 -- the file has an unanswered application
 abbrev pub is_waiting : List Entered → Bool
-is_waiting file = some_place is_unanswered file
+is_waiting file = some_position is_unanswered file
 
 -- an application that was completed on day c and is unanswered on day c + 21 or later is presumed granted (37.125(c))
 abbrev pub is_presumed : List Entered → ℕ → Bool
 is_presumed file today =
-    some_place (λ entered later. is_unanswered entered later && nat_le (entered.day + days_to_presumption) today) file
+    some_position (λ entered later. is_unanswered entered later && nat_le (entered.day + days_to_presumption) today) file
 
 -- the last grant of the file: a later grant replaces it, a refusal does not
 abbrev pub last_grant : List Entered → Option Grant

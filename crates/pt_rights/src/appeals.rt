@@ -71,7 +71,7 @@ fn is_appealable(entered: &Entered, today: Day) -> bool
     kind && today.number() <= entered.day.number() + APPEAL_WITHIN
 }
 
-/// Whether somebody appealed against what stands at the place.
+/// Whether somebody appealed against what stands at the position.
 fn is_appealed(entries: &[Entered], against: usize) -> bool
     ensures { result ≡ is_appealed entries.now against }
 {
@@ -80,7 +80,7 @@ fn is_appealed(entries: &[Entered], against: usize) -> bool
         .any(|entered| entered.entry.appeals_against(against))
 }
 
-/// Whether what stands at the place may be appealed against on the day `today`.
+/// Whether what stands at the position may be appealed against on the day `today`.
 pub fn may_appeal(entries: &[Entered], today: Day, against: u8) -> bool
     ensures { result ≡ may_appeal entries.now today against }
 {

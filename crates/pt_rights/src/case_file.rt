@@ -1,7 +1,7 @@
 ghost use Rattle.std.specs.Prelude.{◌≡◌, ◌<◌, ◌≤◌, ◌↔◌, [], ◌∷◌, ◌++◌, length, IsTrue, IfErr, OnOk, OnErr};
 ghost use Rattle.pt_base.specs.Codes.{memory_refused};
 ghost use Rattle.pt_rights.specs.Admission.{admission_rules};
-ghost use Rattle.pt_rights.specs.ByPlace.{IsWaiting, IsPresumed, IsOverdue, IsGrantedFor, IsSuspended};
+ghost use Rattle.pt_rights.specs.ByPosition.{IsWaiting, IsPresumed, IsOverdue, IsGrantedFor, IsSuspended};
 ghost use Rattle.pt_rights.specs.Kinds.{grant_of};
 ghost use Rattle.pt_rights.specs.Marks.{has_come, waiting_with};
 ghost use Rattle.pt_rights.specs.Rules.{first_failing};
@@ -110,7 +110,7 @@ impl CaseFile {
     /// Whether an application waits for its decision.
     pub fn is_waiting(&self) -> bool
         ensures value { result ≡ is_waiting self.now }
-        ensures by_place { IsTrue result ↔ IsWaiting self.now }
+        ensures by_position { IsTrue result ↔ IsWaiting self.now }
     {
         self.waiting.is_some()
     }
@@ -227,7 +227,7 @@ impl CaseFile {
     /// Whether the rider is suspended on the day.
     pub fn suspended(&self, day: Day) -> bool
         ensures value { result ≡ is_suspended self.now day }
-        ensures by_place { IsTrue result ↔ IsSuspended self.now day }
+        ensures by_position { IsTrue result ↔ IsSuspended self.now day }
     {
         suspensions::is_suspended(&self.entries, day)
     }

@@ -47,7 +47,7 @@ pub enum Entry {
     Refuse(Reasons),
     /// An appeal against a refusal or a suspension.
     Appeal {
-        /// The place of what it is against in the case file, counted from 0.
+        /// The position of what it is against in the case file, counted from 0.
         against: u8,
     },
     /// The appeal was heard.
@@ -97,12 +97,12 @@ impl Entry {
         matches!(self, Entry::Appeal { .. })
     }
 
-    /// Whether it is an appeal against what stands at the place.
-    pub(crate) fn appeals_against(&self, place: usize) -> bool
-        ensures { result ≡ appeals_against place self.now }
+    /// Whether it is an appeal against what stands at the position.
+    pub(crate) fn appeals_against(&self, position: usize) -> bool
+        ensures { result ≡ appeals_against position self.now }
     {
         match self {
-            Entry::Appeal { against } => usize::from(*against) == place,
+            Entry::Appeal { against } => usize::from(*against) == position,
             _ => false,
         }
     }

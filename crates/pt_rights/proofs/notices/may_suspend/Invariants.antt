@@ -1,12 +1,12 @@
 use Rattle.std.proofs.Common.{◌≡◌, ◌||◌, take}
 use Rattle.pt_rights.specs.Kinds.{is_notice, is_suspension}
 use Rattle.pt_rights.specs.Notices.{may_suspend}
-use Rattle.pt_rights.specs.Places.{some_place, is_open}
+use Rattle.pt_rights.specs.Positions.{some_position, is_open}
 use Rattle.pt_rights.proofs.notices.may_suspend.Given as goal
 
 abbrev pub invariant-loop-entry : goal.invariant-loop-entry
 invariant-loop-entry l = record {
-  noticed : l.noticed ≡ some_place
+  noticed : l.noticed ≡ some_position
       (is_open (λ e. is_notice e.entry) (λ e. is_suspension e.entry || is_notice e.entry)) (take l.entry-index l.entries);
   heard : l.heard ≡ may_suspend (take l.entry-index l.entries);
 }

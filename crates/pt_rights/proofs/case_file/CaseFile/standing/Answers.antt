@@ -1,6 +1,6 @@
--- The standing by tests of the list is that by places.
+-- The standing by tests of the list is that by positions.
 use Rattle.std.proofs.Common.{rules}
-use Rattle.pt_rights.proofs.PlacedStanding.{presumed-value, overdue-value, granted-value}
+use Rattle.pt_rights.proofs.PositionedStanding.{presumed-value, overdue-value, granted-value}
 use Rattle.pt_rights.proofs.case_file.CaseFile.standing.Goals as goal
 
 pub returns-clause-presumed : goal.returns-clause-presumed

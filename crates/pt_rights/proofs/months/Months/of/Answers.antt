@@ -8,8 +8,8 @@ pub loop-number-preserved : goal.loop-number-preserved
 loop-number-preserved c =
     let numbers = c.args.numbers.now in
     let index = c.loop-number.number-index in
-    let place : c.from.result ≡ slice_index numbers index - 1 = c.from.ensures in
-    rw place (read_more numbers index c.loop-number.has c.loop-number.last c.loop-number.invariant (omega arith) (omega arith) (omega arith))
+    let position : c.from.result ≡ slice_index numbers index - 1 = c.from.ensures in
+    rw position (read_more numbers index c.loop-number.has c.loop-number.last c.loop-number.invariant (omega arith) (omega arith) (omega arith))
 
 pub returns-clause-in_range : goal.returns-clause-in_range
 returns-clause-in_range c =

@@ -1,0 +1,12 @@
+-- The life of a trip.
+use Rattle.std.specs.Prelude.{Bool, true, false}
+use Rattle.pt_base.specs.declared.trip_status.TripStatus.{TripStatus}
+use Rattle.pt_base.specs.declared.trip_status.TripStatus.TheVariants.{Booked, Cancelled, Ridden, MissedRider, MissedOperator}
+
+-- a trip stands unless it was cancelled
+abbrev pub stands : TripStatus → Bool
+stands Booked = true
+stands Cancelled = false
+stands Ridden = true
+stands MissedRider = true
+stands MissedOperator = true

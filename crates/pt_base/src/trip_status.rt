@@ -1,0 +1,26 @@
+ghost use Rattle.std.specs.Prelude.{◌≡◌};
+ghost use Rattle.pt_base.specs.TripStatus.{stands};
+
+/// How far a trip has come.
+#[derive(Clone, Copy, Debug, PartialEq, Eq)]
+pub enum TripStatus {
+    /// It is planned.
+    Booked,
+    /// The rider gave it up.
+    Cancelled,
+    /// The rider rode.
+    Ridden,
+    /// The rider missed it.
+    MissedRider,
+    /// The operator missed it, or the rider missed it for reasons beyond the rider's control.
+    MissedOperator,
+}
+
+impl TripStatus {
+    /// Whether the trip stands: whatever came of it, it was not cancelled.
+    pub fn stands(self) -> bool
+        ensures value { result ≡ stands self }
+    {
+        self != TripStatus::Cancelled
+    }
+}

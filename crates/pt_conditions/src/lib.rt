@@ -1,0 +1,15 @@
+//! The conditions of a grant, under 49 CFR 37.123: which trips they cover, and how they read as texts in bodies, letters
+//! and tables.
+#![tactic(auto)]
+
+pub use law::condition_text_tells_its_condition;
+pub use reading::condition_from;
+pub use trips::qualifies;
+pub use writing::{LONGEST_CONDITION, condition_text};
+
+mod law;
+mod reading;
+#[cfg(test)]
+mod tests;
+mod trips;
+mod writing;

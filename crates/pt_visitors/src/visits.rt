@@ -1,0 +1,44 @@
+ghost use Rattle.std.specs.Prelude.{◌≡◌, ◌↔◌, IsTrue};
+ghost use Rattle.std.specs.List.Sorted.{IsStrictlyIncreasing};
+ghost use Rattle.pt_visitors.specs.Periods.{MayUse, is_in_period};
+
+use pt_base::Day;
+
+/// The days that a period lasts.
+const PERIOD: u32 = 365;
+
+/// The most days of a period on which a visitor may ride.
+const MOST_DAYS: usize = 21;
+
+/// Whether a visitor who rides on the days of `uses` may ride on this day too.
+///
+/// The day is tried for itself alone: it may be one of the uses, and the periods of later uses are
+/// not looked at. It takes no memory.
+pub fn visitor_may(uses: &[Day], day: Day) -> bool
+    requires { IsStrictlyIncreasing uses.now }
+    ensures { IsTrue result ↔ MayUse uses.now day }
+{
+    let mut opening = match uses.first() {
+        Some(&least) => least.min(day),
+        None => day,
+    };
+    let mut others = 0;
+    for &used in uses {
+        let reached = used.min(day);
+        if !is_in_period(opening, reached) {
+            opening = reached;
+            others = 0;
+        }
+        if used != day && is_in_period(opening, used) {
+            others += 1;
+        }
+    }
+    !is_in_period(opening, day) || others < MOST_DAYS
+}
+
+/// Whether the day lies in the period that the first day opens.
+fn is_in_period(opening: Day, day: Day) -> bool
+    ensures { result ≡ is_in_period opening day }
+{
+    opening <= day && day.number() < opening.number() + PERIOD
+}
