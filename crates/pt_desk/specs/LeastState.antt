@@ -25,3 +25,8 @@ pub record IsLeastState (admin_key : List ℕ) (s : State) : Type 0 where
   pub routes : s.routes ≡ []
   pub riders : s.riders ≡ []
   pub entries : s.entries ≡ []
+  pub vehicles : s.vehicles ≡ []
+  pub travel : s.travel ≡ []
+  pub trips : s.trips ≡ []
+  pub planned : s.planned ≡ []
+  pub last_trip : s.last_trip ≡ 0

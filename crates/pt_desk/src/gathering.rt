@@ -1,27 +1,25 @@
-ghost use Rattle.std.specs.Prelude.{◌≡◌};
-ghost use Rattle.pt_desk_rules.specs.Facts.{no_facts, facts_of, read_facts_of, subject_in};
+ghost use Rattle.std.specs.Prelude.{◌≡◌, []};
+ghost use Rattle.pt_desk_rules.specs.Facts.{no_facts, facts_of, read_facts_of, has_subject};
 ghost use Rattle.pt_desk_rules.specs.State.{rider_of, file_of};
-ghost use Rattle.pt_desk_rules.specs.declared.request.Write.TheVariants.{PutCaller, PutPlace, PutRoute, PutRider};
+ghost use Rattle.pt_desk_rules.specs.declared.request.Write.TheVariants.{PutCaller, PutPlace, PutRoute, PutRider, PutVehicle, Travel};
 ghost use Rattle.pt_desk.specs.Store.{Store, Reads};
 
 use crate::{Keeper, StoreFault};
-use pt_base::{Place, Rider, RiderId};
+use pt_base::{Day, Place, Rider, RiderId, Vehicle};
 use pt_corridor::FixedRoute;
 use pt_desk_rules::{Caller, Read, ReadFacts, Role, Write, WriteFacts};
+use pt_rights::CaseFile;
 use std::alloc::Global;
 
-/// The rider that a role speaks of.
-fn subject<K: Keeper>(keeper: &mut K, role: Role) -> Result<Option<Rider>, StoreFault>
-    ensures reads { Reads (K.store keeper.old) (K.store keeper.new) (λ s. subject_in role s.riders) result }
+/// Whether the rider or the vehicle is there that a role speaks of.
+fn has_subject<K: Keeper>(keeper: &mut K, role: Role) -> Result<bool, StoreFault>
+    ensures reads { Reads (K.store keeper.old) (K.store keeper.new)
+        (λ s. has_subject role s.riders s.vehicles) result }
 {
     match role {
-        Role::Rider(rider) => keeper.rider(rider),
-        Role::Clerk
-        | Role::Examiner
-        | Role::Officer
-        | Role::Dispatcher
-        | Role::Driver(_)
-        | Role::Admin => Ok(None),
+        Role::Rider(rider) => Ok(keeper.rider(rider)?.is_some()),
+        Role::Driver(vehicle) => keeper.has_vehicle(vehicle),
+        Role::Clerk | Role::Examiner | Role::Officer | Role::Dispatcher | Role::Admin => Ok(true),
     }
 }
 
@@ -40,7 +38,7 @@ fn gather_caller<K: Keeper>(
     ensures reads { Reads (K.store keeper.old) (K.store keeper.new) (facts_of (PutCaller new.now)) result }
 {
     Ok(WriteFacts {
-        rider: subject(keeper, new.role)?,
+        has_subject: has_subject(keeper, new.role)?,
         caller: keeper.caller(new.id)?,
         holder: keeper.caller_with(&new.digest)?,
         caller_count: keeper.caller_count()?,
@@ -90,6 +88,18 @@ fn gather_rider<K: Keeper>(
     })
 }
 
+/// A rider's record and case file.
+fn rider_with_file<K: Keeper>(
+    alloc: Global,
+    keeper: &mut K,
+    rider: RiderId,
+) -> Result<(Option<Rider>, CaseFile), StoreFault>
+    ensures reads { Reads (K.store keeper.old) (K.store keeper.new)
+        (λ s. (rider_of rider s, file_of rider s)) result }
+{
+    Ok((keeper.rider(rider)?, keeper.case_file(alloc, rider)?))
+}
+
 fn gather_file<K: Keeper>(
     alloc: Global,
     keeper: &mut K,
@@ -98,9 +108,40 @@ fn gather_file<K: Keeper>(
     ensures reads { Reads (K.store keeper.old) (K.store keeper.new)
         (λ s. record (no_facts s.policy) { rider = rider_of rider s; file = file_of rider s }) result }
 {
+    let (rider, file) = rider_with_file(alloc, keeper, rider)?;
     Ok(WriteFacts {
-        rider: keeper.rider(rider)?,
-        file: keeper.case_file(alloc, rider)?,
+        rider,
+        file,
+        ..gather_policy(alloc, keeper)?
+    })
+}
+
+fn gather_vehicle<K: Keeper>(
+    alloc: Global,
+    keeper: &mut K,
+    new: &Vehicle,
+) -> Result<WriteFacts, StoreFault>
+    ensures reads { Reads (K.store keeper.old) (K.store keeper.new) (facts_of (PutVehicle new.now)) result }
+{
+    Ok(WriteFacts {
+        has_place: keeper.place(new.depot)?.is_some(),
+        vehicles: keeper.vehicles(alloc)?,
+        is_booked: keeper.is_booked_from(Some(new.id), new.from_day)?,
+        ..gather_policy(alloc, keeper)?
+    })
+}
+
+fn gather_travel<K: Keeper>(
+    alloc: Global,
+    keeper: &mut K,
+    day: Day,
+) -> Result<WriteFacts, StoreFault>
+    ensures reads { Reads (K.store keeper.old) (K.store keeper.new) (facts_of (Travel day [])) result }
+{
+    Ok(WriteFacts {
+        places: keeper.places(alloc)?,
+        tables_before: keeper.table_count_before(day)?,
+        is_booked: keeper.is_booked_from(None, day)?,
         ..gather_policy(alloc, keeper)?
     })
 }
@@ -120,6 +161,8 @@ pub(crate) fn gather<K: Keeper>(
         Write::PutRoute(new) => gather_route(alloc, keeper, new),
         Write::PutRider(new) => gather_rider(alloc, keeper, new),
         Write::Enter { rider, entry: _ } => gather_file(alloc, keeper, *rider),
+        Write::PutVehicle(new) => gather_vehicle(alloc, keeper, new),
+        Write::Travel { day, rows: _ } => gather_travel(alloc, keeper, *day),
     }
 }
 
@@ -132,8 +175,6 @@ pub(crate) fn gather_read<K: Keeper>(
     ensures reads { Reads (K.store keeper.old) (K.store keeper.new) (read_facts_of read.now) result }
 {
     let Read::Standing { rider, day: _ } = *read;
-    Ok(ReadFacts {
-        rider: keeper.rider(rider)?,
-        file: keeper.case_file(alloc, rider)?,
-    })
+    let (rider, file) = rider_with_file(alloc, keeper, rider)?;
+    Ok(ReadFacts { rider, file })
 }

@@ -1,9 +1,11 @@
 ghost use Rattle.std.specs.Prelude.{◌≡◌, ◌≤◌, length, Option, is_some};
 ghost use Rattle.pt_desk_rules.specs.State.{State, caller_with, caller_of, kept_of, place_of, rider_of, route_of};
-ghost use Rattle.pt_desk_rules.specs.State.{file_of, applied};
+ghost use Rattle.pt_desk_rules.specs.State.{file_of, tables_before, applied};
+ghost use Rattle.pt_desk_rules.specs.Fleet.{has_version};
+ghost use Rattle.pt_desk_rules.specs.Planned.{is_booked_from};
 ghost use Rattle.pt_desk.specs.Store.{Store, Reads, Commits};
 
-use pt_base::{CallerId, Place, PlaceId, Policy, Rider, RiderId, RouteId};
+use pt_base::{CallerId, Day, Place, PlaceId, Policy, Rider, RiderId, RouteId, Vehicle, VehicleId};
 use pt_corridor::FixedRoute;
 use pt_desk_rules::{Answer, Caller, Change, Digest, Kept};
 use pt_records::Rows;
@@ -95,6 +97,22 @@ pub trait Keeper {
     /// The case file of a rider, empty where nothing was entered.
     fn case_file(&mut self, alloc: Global, rider: RiderId) -> Result<CaseFile, StoreFault>
         ensures reads { Reads (store self.old) (store self.new) (file_of rider) result };
+
+    /// Whether some version of the vehicle is there.
+    fn has_vehicle(&mut self, id: VehicleId) -> Result<bool, StoreFault>
+        ensures reads { Reads (store self.old) (store self.new) (λ s. has_version id s.vehicles) result };
+
+    /// All vehicles with their versions, in order of their numbers and days.
+    fn vehicles(&mut self, alloc: Global) -> Result<Rows<Vehicle>, StoreFault>
+        ensures reads { Reads (store self.old) (store self.new) (λ s. s.vehicles) result };
+
+    /// How many travel tables hold from a day before this one.
+    fn table_count_before(&mut self, day: Day) -> Result<usize, StoreFault>
+        ensures reads { Reads (store self.old) (store self.new) (λ s. length (tables_before day s.travel)) result };
+
+    /// Whether a trip of the vehicle, or of any where none is named, stands on the day or later.
+    fn is_booked_from(&mut self, vehicle: Option<VehicleId>, day: Day) -> Result<bool, StoreFault>
+        ensures reads { Reads (store self.old) (store self.new) (λ s. is_booked_from vehicle day s.trips) result };
 
     /// Makes all of the change or nothing of it.
     fn commit(&mut self, change: Change) -> Result<(), StoreFault>

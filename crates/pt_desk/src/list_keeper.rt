@@ -3,13 +3,18 @@ ghost use Rattle.std.specs.Prelude.{IfOk, IfErr, OnOk};
 ghost use Rattle.pt_base.specs.Fault.{fault};
 ghost use Rattle.pt_base.specs.Codes.{memory_refused};
 ghost use Rattle.pt_desk_rules.specs.Limits.{most_entries};
-ghost use Rattle.pt_desk_rules.specs.State.{span_of, entries_of, file_with};
+ghost use Rattle.pt_desk_rules.specs.Fleet.{has_version};
+ghost use Rattle.pt_desk_rules.specs.Planned.{is_booked_from, is_standing_from};
+ghost use Rattle.pt_desk_rules.specs.State.{span_of, entries_of, file_with, tables_before};
 
 use crate::{Keeper, StoreFault};
-use pt_base::{CallerId, Fault, Place, PlaceId, Policy, Rider, RiderId, RouteId};
+use pt_base::{
+    CallerId, Day, Fault, Place, PlaceId, Policy, Rider, RiderId, RouteId, Trip, TripId, Vehicle,
+    VehicleId,
+};
 use pt_corridor::FixedRoute;
-use pt_desk_rules::{Caller, Change, Digest, FiledEntry, Kept, Role};
-use pt_records::{Key, Keyed, Rows, Span, edit, find_record};
+use pt_desk_rules::{Caller, Change, Digest, FiledEntry, Kept, PlannedRoute, Role, TravelTable};
+use pt_records::{Edits, Key, Rows, Span, Table};
 use pt_rights::{CaseFile, Entered};
 use std::alloc::{AllocError, Global};
 use std::marker::Model;
@@ -32,16 +37,23 @@ const NEVER_FAILED: u32 = 0;
 /// The desk's records in memory, in plain lists, for rehearsals and tests. It is always clean and never fails.
 #[derive(Drop)]
 pub struct ListKeeper {
-    callers: Vec<Caller>,
-    kept: Vec<Kept>,
+    callers: Table<Caller>,
+    kept: Table<Kept>,
     policy: Policy,
-    places: Vec<Place>,
-    routes: Vec<FixedRoute>,
-    riders: Vec<Rider>,
-    entries: Vec<FiledEntry>,
+    places: Table<Place>,
+    routes: Table<FixedRoute>,
+    riders: Table<Rider>,
+    entries: Table<FiledEntry>,
+    vehicles: Table<Vehicle>,
+    travel: Table<TravelTable>,
+    trips: Table<Trip>,
+    planned: Table<PlannedRoute>,
+    /// The number that was last given to a trip, if any was.
+    last_trip: Option<TripId>,
 }
 
 impl Model for ListKeeper {
+    ghost use Rattle.std.specs.Option.{unwrap_or};
     ghost use Rattle.pt_desk_rules.specs.State.{State};
 
     ghost Value = { State };
@@ -54,6 +66,11 @@ impl Model for ListKeeper {
       routes = k.routes.items;
       riders = k.riders.items;
       entries = k.entries.items;
+      vehicles = k.vehicles.items;
+      travel = k.travel.items;
+      trips = k.trips.items;
+      planned = k.planned.items;
+      last_trip = unwrap_or k.last_trip 0;
     } };
 }
 
@@ -74,16 +91,24 @@ impl ListKeeper {
             role: Role::Admin,
             digest: Digest::of_key(admin_key),
         };
-        let mut callers = Vec::new(alloc);
-        callers.push(admin).map_err(AllocError::from)?;
+        let mut first = Edits::none(alloc);
+        first.put(admin)?;
+        let mut callers = Table::none(alloc);
+        callers.reserve(&first)?;
+        callers.edit(first);
         Ok(ListKeeper {
             callers,
-            kept: Vec::new(alloc),
+            kept: Table::none(alloc),
             policy: LEAST_POLICY,
-            places: Vec::new(alloc),
-            routes: Vec::new(alloc),
-            riders: Vec::new(alloc),
-            entries: Vec::new(alloc),
+            places: Table::none(alloc),
+            routes: Table::none(alloc),
+            riders: Table::none(alloc),
+            entries: Table::none(alloc),
+            vehicles: Table::none(alloc),
+            travel: Table::none(alloc),
+            trips: Table::none(alloc),
+            planned: Table::none(alloc),
+            last_trip: None,
         })
     }
 }
@@ -98,6 +123,54 @@ fn find_caller(callers: &[Caller], digest: &Digest) -> Option<Caller>
         }
     }
     None
+}
+
+/// Whether some version of the vehicle is among these.
+fn has_version(vehicles: &[Vehicle], id: VehicleId) -> bool
+    ensures value { result ≡ has_version id vehicles.now }
+{
+    for version in vehicles {
+        if version.id == id {
+            return true;
+        }
+    }
+    false
+}
+
+/// How many travel tables hold from a day before this one.
+fn table_count_before(tables: &[TravelTable], day: Day) -> usize
+    ensures value { result ≡ length (tables_before day tables.now) }
+{
+    let mut count = 0;
+    for table in tables {
+        if table.from_day() < day {
+            count += 1;
+        }
+    }
+    count
+}
+
+/// Whether the trip stands on the day or later, and is the vehicle's where one is named.
+fn stands_from(trip: &Trip, vehicle: &Option<VehicleId>, day: Day) -> bool
+    ensures value { result ≡ is_standing_from vehicle.now day trip.now }
+{
+    let is_of = match vehicle {
+        Some(id) => trip.vehicle == *id,
+        None => true,
+    };
+    trip.status.stands() && day <= trip.wish.day && is_of
+}
+
+/// Whether some trip stands on the day or later.
+fn is_booked_from(trips: &[Trip], vehicle: &Option<VehicleId>, day: Day) -> bool
+    ensures value { result ≡ is_booked_from vehicle.now day trips.now }
+{
+    for trip in trips {
+        if stands_from(trip, vehicle, day) {
+            return true;
+        }
+    }
+    false
 }
 
 /// The keys of a rider's entries.
@@ -122,16 +195,16 @@ fn push_copy(file: &mut CaseFile, new: &Entered) -> Result<(), AllocError>
     }
 }
 
-/// A rider's case file, out of the entries of all.
-fn file_of(alloc: Global, entries: &[FiledEntry], rider: RiderId) -> Result<CaseFile, AllocError>
-    ensures value { IfOk result (λ file. file ≡ file_with (entries_of rider entries.now)) }
+/// The entries as a case file, so far as it has room.
+fn file_with(alloc: Global, entries: &[FiledEntry]) -> Result<CaseFile, AllocError>
+    ensures value { IfOk result (λ file. file ≡ file_with entries.now) }
 {
-    let span = span_of(rider);
     let mut file = CaseFile::new(alloc);
     for filed in entries {
-        if span.has(&filed.key()) && !file.is_full() {
-            push_copy(&mut file, &filed.entered)?;
+        if file.is_full() {
+            return Ok(file);
         }
+        push_copy(&mut file, &filed.entered)?;
     }
     Ok(file)
 }
@@ -150,19 +223,19 @@ impl Keeper for ListKeeper {
     ghost found_clean = { λ _ _ _. refl };
 
     fn caller_with(&mut self, digest: &Digest) -> Result<Option<Caller>, StoreFault> {
-        Ok(find_caller(&self.callers, digest))
+        Ok(find_caller(self.callers.as_slice(), digest))
     }
 
     fn caller(&mut self, id: CallerId) -> Result<Option<Caller>, StoreFault> {
-        Ok(find_record(&self.callers, &Key::of(id.number())).copied())
+        Ok(self.callers.find(&Key::of(id.number())).copied())
     }
 
     fn caller_count(&mut self) -> Result<usize, StoreFault> {
-        Ok(self.callers.len())
+        Ok(self.callers.as_slice().len())
     }
 
     fn kept(&mut self, caller: CallerId) -> Result<Option<Kept>, StoreFault> {
-        Ok(find_record(&self.kept, &Key::of(caller.number())).copied())
+        Ok(self.kept.find(&Key::of(caller.number())).copied())
     }
 
     fn policy(&mut self) -> Result<Policy, StoreFault> {
@@ -170,55 +243,80 @@ impl Keeper for ListKeeper {
     }
 
     fn place(&mut self, id: PlaceId) -> Result<Option<Place>, StoreFault> {
-        Ok(find_record(&self.places, &Key::of(id.number())).copied())
+        Ok(self.places.find(&Key::of(id.number())).copied())
     }
 
     fn place_count(&mut self) -> Result<usize, StoreFault> {
-        Ok(self.places.len())
+        Ok(self.places.as_slice().len())
     }
 
     fn places(&mut self, alloc: Global) -> Result<Rows<Place>, StoreFault> {
-        Ok(Rows::of(self.places.to_vec(alloc)?))
+        Ok(Rows::of(self.places.as_slice().to_vec(alloc)?))
     }
 
     fn has_route(&mut self, id: RouteId) -> Result<bool, StoreFault> {
-        Ok(find_record(&self.routes, &Key::of(id.number())).is_some())
+        Ok(self.routes.find(&Key::of(id.number())).is_some())
     }
 
     fn route_count(&mut self) -> Result<usize, StoreFault> {
-        Ok(self.routes.len())
+        Ok(self.routes.as_slice().len())
     }
 
     fn routes(&mut self, alloc: Global) -> Result<Rows<FixedRoute>, StoreFault> {
-        Ok(Rows::of(self.routes.to_vec(alloc)?))
+        Ok(Rows::of(self.routes.as_slice().to_vec(alloc)?))
     }
 
     fn rider(&mut self, id: RiderId) -> Result<Option<Rider>, StoreFault> {
-        Ok(find_record(&self.riders, &Key::of(id.number())).copied())
+        Ok(self.riders.find(&Key::of(id.number())).copied())
     }
 
     fn rider_count(&mut self) -> Result<usize, StoreFault> {
-        Ok(self.riders.len())
+        Ok(self.riders.as_slice().len())
     }
 
     fn case_file(&mut self, alloc: Global, rider: RiderId) -> Result<CaseFile, StoreFault> {
-        Ok(file_of(alloc, &self.entries, rider)?)
+        Ok(file_with(alloc, self.entries.within(&span_of(rider)))?)
+    }
+
+    fn has_vehicle(&mut self, id: VehicleId) -> Result<bool, StoreFault> {
+        Ok(has_version(self.vehicles.as_slice(), id))
+    }
+
+    fn vehicles(&mut self, alloc: Global) -> Result<Rows<Vehicle>, StoreFault> {
+        Ok(Rows::of(self.vehicles.as_slice().to_vec(alloc)?))
+    }
+
+    fn table_count_before(&mut self, day: Day) -> Result<usize, StoreFault> {
+        Ok(table_count_before(self.travel.as_slice(), day))
+    }
+
+    fn is_booked_from(&mut self, vehicle: Option<VehicleId>, day: Day) -> Result<bool, StoreFault> {
+        Ok(is_booked_from(self.trips.as_slice(), &vehicle, day))
     }
 
     fn commit(&mut self, change: Change) -> Result<(), StoreFault> {
-        self.callers.reserve(change.callers.put_count())?;
-        self.kept.reserve(change.kept.put_count())?;
-        self.places.reserve(change.places.put_count())?;
-        self.routes.reserve(change.routes.put_count())?;
-        self.riders.reserve(change.riders.put_count())?;
-        self.entries.reserve(change.entries.put_count())?;
-        edit(&mut self.callers, change.callers);
-        edit(&mut self.kept, change.kept);
+        self.callers.reserve(&change.callers)?;
+        self.kept.reserve(&change.kept)?;
+        self.places.reserve(&change.places)?;
+        self.routes.reserve(&change.routes)?;
+        self.riders.reserve(&change.riders)?;
+        self.entries.reserve(&change.entries)?;
+        self.vehicles.reserve(&change.vehicles)?;
+        self.travel.reserve(&change.travel)?;
+        self.trips.reserve(&change.trips)?;
+        self.planned.reserve(&change.planned)?;
+        self.callers.edit(change.callers);
+        self.kept.edit(change.kept);
         self.policy = change.policy.unwrap_or(self.policy);
-        edit(&mut self.places, change.places);
-        edit(&mut self.routes, change.routes);
-        edit(&mut self.riders, change.riders);
-        edit(&mut self.entries, change.entries);
+        self.places.edit(change.places);
+        self.routes.edit(change.routes);
+        self.riders.edit(change.riders);
+        self.entries.edit(change.entries);
+        self.vehicles.edit(change.vehicles);
+        self.travel.edit(change.travel);
+        self.trips.edit(change.trips);
+        self.planned.edit(change.planned);
+        self.last_trip = change.last_trip.or(self.last_trip);
         Ok(())
     }
 

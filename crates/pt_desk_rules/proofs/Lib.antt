@@ -1,2 +1,3 @@
 mod VisitLemmas
+pub mod FleetLemmas
 pub mod SoundLemmas

@@ -1,6 +1,6 @@
 -- What a request leaves is sound where what it found is.
 use Rattle.std.proofs.Common.{rules, ◌≡◌, ℕ, ◌+◌, ◌<◌, ◌≤◌, ◌||◌, nat_lt, Bool, true, false, not, IsTrue, List, [], ◌∷◌, ◌++◌, length, map, take, min, Option, Some, None, is_some, Result, Ok, Err, arith, cond, refl, sym, ap, ◌∙◌, subst, inl, inr}
-use Rattle.std.specs.Prelude.{find, bytes_eq}
+use Rattle.std.specs.Prelude.{◌&&◌, find, filter, bytes_eq}
 use Rattle.std.proofs.lemmas.Bool.Decides.{nat_tests}
 use Rattle.std.proofs.lemmas.List.{length-map, length-take}
 use Rattle.std.proofs.Common.{length-append}
@@ -11,24 +11,29 @@ use Rattle.pt_base.specs.declared.policy.Policy.{Policy}
 use Rattle.pt_base.specs.declared.rider.Residence.{Residence}
 use Rattle.pt_base.specs.declared.rider.Residence.TheVariants.{Resident, Visitor}
 use Rattle.pt_base.specs.declared.rider.Rider.{Rider}
+use Rattle.pt_base.specs.declared.vehicle.Vehicle.{Vehicle}
 use Rattle.pt_base.specs.declared.rule.Rule.{Rule}
 use Rattle.pt_base.specs.declared.rule.Rule.TheVariants as rule
 use Rattle.pt_corridor.specs.Route.{Route, IsFixedRoute}
 use Rattle.pt_records.specs.Keys.{pair_key}
-use Rattle.pt_records.specs.Records.{put, within, is_within, record_at, Each, IsInOrder, IsTable}
+use Rattle.pt_records.specs.Records.{put, take_away, within, is_within, record_at, Each, IsInOrder, IsTable}
 use Rattle.pt_records.proofs.OrderLemmas.{Each-put, Each-weaker, Each-both, IsInOrder-put, record_at-put_same, record_at-put_other}
-use Rattle.pt_records.proofs.TableLemmas.{same_or_other, stays_there, found_by_key, below_is, IsTable-put, IsTable-add}
+use Rattle.pt_records.proofs.TableLemmas.{same_or_other, stays_there, found_by_key, below_is, IsTable-put, IsTable-add, IsTable-replace, Each-filter, IsInOrder-filter}
 use Rattle.pt_records.proofs.WithinLemmas.{within-put_other, within-put_last, Each-within}
 use Rattle.pt_rights.specs.Admission.{admission_rules, is_resident}
 use Rattle.pt_rights.specs.Rules.{first_failing}
 use Rattle.pt_rights.specs.declared.entry.Entry.{Entry}
-use Rattle.pt_desk_rules.specs.Limits.{most_callers, most_places, most_routes, most_riders, most_entries}
-use Rattle.pt_desk_rules.specs.State.{State, caller_with, rider_of, file_of, file_with, caller_key, kept_key, place_key, route_key, rider_key, entry_key, span_of, entries_of, applied}
-use Rattle.pt_desk_rules.specs.Facts.{facts_of, subject_in}
-use Rattle.pt_desk_rules.specs.Rules.{rules_of, entry_rules, is_nobody_else, is_of_kind, is_nobody_of_another_kind, subject_is_there}
+use Rattle.pt_desk_rules.specs.Limits.{most_callers, most_places, most_routes, most_riders, most_entries, most_tables}
+use Rattle.pt_desk_rules.specs.State.{State, caller_with, rider_of, file_of, file_with, caller_key, kept_key, place_key, route_key, rider_key, entry_key, vehicle_key, travel_key, span_of, versions_from, tables_from, tables_before, entries_of, applied}
+use Rattle.pt_desk_rules.specs.Facts.{facts_of, has_subject}
+use Rattle.pt_travel.specs.Chain.{Row}
+use Rattle.pt_desk_rules.proofs.FleetLemmas.{version_stays, fleet_stays}
+use Rattle.pt_desk_rules.specs.Fleet.{vehicle_count, versions_before, versions_of_others}
+use Rattle.pt_desk_rules.specs.Travel.{DatedTable}
+use Rattle.pt_desk_rules.specs.Rules.{rules_of, entry_rules, is_nobody_else, is_of_kind, is_nobody_of_another_kind, are_there, has_room_for}
 use Rattle.pt_desk_rules.specs.Deciding.{answer_of, change_of, decision_after, IsMade}
 use Rattle.pt_desk_rules.specs.Step.{state_after, write_left, is_new, step, left_by, leaves, sender, IsMadeWhere, IsMadeBy}
-use Rattle.pt_desk_rules.specs.Sound.{IsSound, IsSoundFile, IsIn, HasDigest, HasOneHolder, HasSubject, IsOfCaller, IsResidentIn, IsOfResident, HasAuthor, AreNumberedFrom}
+use Rattle.pt_desk_rules.specs.Sound.{IsSound, IsSoundFile, IsIn, HasDigest, HasOneHolder, HasSubject, IsOfCaller, IsResidentIn, IsOfResident, HasAuthor, HasFirstDay, HasDepot, IsOfPlaces, AreNumberedFrom}
 use Rattle.pt_desk_rules.specs.declared.caller.Caller.{Caller}
 use Rattle.pt_desk_rules.specs.declared.caller.Kept.{Kept}
 use Rattle.pt_desk_rules.specs.declared.caller.Role.{Role}
@@ -67,13 +72,13 @@ one_holder-put new callers one are =
     (Each-put (λ b. new.digest ≡ b.digest → new.id ≡ b.id) caller_key new callers are (λ same. refl))
 
 -- Each lemma gives the lines that change; `search` takes the others as they are.
-put_caller_sound : (new : Caller) (s : State) → IsSound s → HasDigest new → IsTrue (subject_is_there new.role (subject_in new.role s.riders)) → IsTrue (is_nobody_else new.id (caller_with new.digest s))
+put_caller_sound : (new : Caller) (s : State) → IsSound s → HasDigest new → IsTrue (has_subject new.role s.riders s.vehicles) → IsTrue (is_nobody_else new.id (caller_with new.digest s))
     → IsTrue (is_some (record_at caller_key new.id s.callers) || nat_lt (length s.callers) most_callers) → IsSound (record s { callers = put caller_key new s.callers })
 put_caller_sound new s sound made subject free room =
     let table = IsTable-put caller_key new s.callers most_callers sound.callers room in
     let digests = Each-put HasDigest caller_key new s.callers sound.digests made in
     let holders = one_holder-put new s.callers sound.one_holder_each (holders_are new s.callers sound.one_holder_each free) in
-    let subjects = Each-put (HasSubject s.riders) caller_key new s.callers sound.subjects_there subject in
+    let subjects = Each-put (HasSubject s.riders s.vehicles) caller_key new s.callers sound.subjects_there subject in
     let kept = Each-weaker (IsOfCaller s.callers) (IsOfCaller (put caller_key new s.callers)) (λ kept there. stays_there caller_key kept.caller new s.callers there) s.kept sound.kept_of_callers in
     let authors = Each-weaker (HasAuthor s.callers) (HasAuthor (put caller_key new s.callers)) (λ filed there. stays_there caller_key filed.entered.author new s.callers there) s.entries sound.authors_there in
     search rules
@@ -81,9 +86,29 @@ put_caller_sound new s sound made subject free room =
 put_policy_sound : (new : Policy) (s : State) → IsSound s → IsSound (record s { policy = new })
 put_policy_sound new s sound = search rules
 
+both_hold : (a b : Bool) → IsTrue (a && b) → IsTrue a × IsTrue b
+both_hold true true is = (refl, refl)
+both_hold true false is = absurd (cc)
+both_hold false b is = absurd (cc)
+
+hold_both : (a b : Bool) → IsTrue a → IsTrue b → IsTrue (a && b)
+hold_both true true is also = refl
+hold_both true false is also = also
+hold_both false b is also = absurd (cc)
+
+-- places that are there stay there
+rows_stay : (new : Place) (places : List Place) (rows : List Row) → IsTrue (are_there rows places) → IsTrue (are_there rows (put place_key new places))
+rows_stay new places [] are = refl
+rows_stay new places (row ∷ rows) are =
+    let parts = both_hold (is_some (record_at place_key row.0 places) && is_some (record_at place_key row.1 places)) (are_there rows places) are in
+    let ends = both_hold (is_some (record_at place_key row.0 places)) (is_some (record_at place_key row.1 places)) parts.0 in
+    hold_both _ _ (hold_both _ _ (stays_there place_key row.0 new places ends.0) (stays_there place_key row.1 new places ends.1)) (rows_stay new places rows parts.1)
+
 put_place_sound : (new : Place) (s : State) → IsSound s → IsTrue (nat_lt (length s.places) most_places) → IsSound (record s { places = put place_key new s.places })
 put_place_sound new s sound room =
     let table = IsTable-add place_key new s.places most_places sound.places room in
+    let depots = Each-weaker (HasDepot s.places) (HasDepot (put place_key new s.places)) (λ version there. stays_there place_key version.depot new s.places there) s.vehicles sound.depots_there in
+    let travel = Each-weaker (IsOfPlaces s.places) (IsOfPlaces (put place_key new s.places)) (λ table is. (is.0, rows_stay new s.places table.rows is.1)) s.travel sound.travel_of_places in
     search rules
 
 put_route_sound : (new : Route) (s : State) → IsSound s → IsFixedRoute new → IsTrue (is_some (record_at route_key new.id s.routes) || nat_lt (length s.routes) most_routes) → IsSound (record s { routes = put route_key new s.routes })
@@ -92,14 +117,14 @@ put_route_sound new s sound made room =
     let all_made = Each-put IsFixedRoute route_key new s.routes sound.routes_made made in
     search rules
 
-subject_stays : (new : Rider) (riders : List Rider) (role : Role) → IsTrue (subject_is_there role (subject_in role riders)) → IsTrue (subject_is_there role (subject_in role (put rider_key new riders)))
-subject_stays new riders (role.Rider rider) there = stays_there rider_key rider new riders there
-subject_stays new riders role.Clerk there = there
-subject_stays new riders role.Examiner there = there
-subject_stays new riders role.Officer there = there
-subject_stays new riders role.Dispatcher there = there
-subject_stays new riders (role.Driver vehicle) there = there
-subject_stays new riders role.Admin there = there
+subject_stays : (new : Rider) (riders : List Rider) (vehicles : List Vehicle) (role : Role) → IsTrue (has_subject role riders vehicles) → IsTrue (has_subject role (put rider_key new riders) vehicles)
+subject_stays new riders vehicles (role.Rider rider) there = stays_there rider_key rider new riders there
+subject_stays new riders vehicles role.Clerk there = there
+subject_stays new riders vehicles role.Examiner there = there
+subject_stays new riders vehicles role.Officer there = there
+subject_stays new riders vehicles role.Dispatcher there = there
+subject_stays new riders vehicles (role.Driver vehicle) there = there
+subject_stays new riders vehicles role.Admin there = there
 
 -- a record that takes the place of a resident's is a resident's
 resident_by_kind : (kind : Residence) (there : Rider) → IsTrue (is_of_kind kind there) → IsTrue (is_resident there.kind) → IsTrue (is_resident kind)
@@ -120,7 +145,7 @@ put_rider_sound : (new : Rider) (s : State) → IsSound s → IsTrue (is_nobody_
     → IsTrue (is_some (record_at rider_key new.id s.riders) || nat_lt (length s.riders) most_riders) → IsSound (record s { riders = put rider_key new s.riders })
 put_rider_sound new s sound free room =
     let table = IsTable-put rider_key new s.riders most_riders sound.riders room in
-    let subjects = Each-weaker (HasSubject s.riders) (HasSubject (put rider_key new s.riders)) (λ caller there. subject_stays new s.riders caller.role there) s.callers sound.subjects_there in
+    let subjects = Each-weaker (HasSubject s.riders s.vehicles) (HasSubject (put rider_key new s.riders) s.vehicles) (λ caller there. subject_stays new s.riders s.vehicles caller.role there) s.callers sound.subjects_there in
     let residents = Each-weaker (IsOfResident s.riders) (IsOfResident (put rider_key new s.riders)) (λ filed is. resident_stays s.riders new filed.rider free is) s.entries sound.entries_of_residents in
     search rules
 
@@ -219,6 +244,37 @@ enter_sound rider entry me now s sound there hold =
     put_entry_sound (record { rider = rider; position = length (file_of rider s); entered = record { entry = entry; day = now.0; author = me.id } }) s sound
     (admitted_resident (rider_of rider s) rider entry me now s refl hold.1.0 hold.1.1.1) there whole (omega arith)
 
+driver_stays : (new : Vehicle) (riders : List Rider) (vehicles : List Vehicle) (role : Role) → HasFirstDay new → Each HasFirstDay vehicles → IsTrue (has_subject role riders vehicles)
+    → IsTrue (has_subject role riders (put vehicle_key new (take_away vehicle_key (versions_from new.id new.from_day) vehicles)))
+driver_stays new riders vehicles (role.Rider rider) day days there = there
+driver_stays new riders vehicles role.Clerk day days there = there
+driver_stays new riders vehicles role.Examiner day days there = there
+driver_stays new riders vehicles role.Officer day days there = there
+driver_stays new riders vehicles role.Dispatcher day days there = there
+driver_stays new riders vehicles (role.Driver vehicle) day days there = version_stays new vehicle vehicles day days there
+driver_stays new riders vehicles role.Admin day days there = there
+
+put_vehicle_sound : (new : Vehicle) (s : State) → IsSound s → HasFirstDay new → HasDepot s.places new → IsTrue (has_room_for new s.vehicles)
+    → IsSound (record s { vehicles = put vehicle_key new (take_away vehicle_key (versions_from new.id new.from_day) s.vehicles) })
+put_vehicle_sound new s sound day depot room =
+    let kept = λ (version : Vehicle). not (is_within (vehicle_key version) (versions_from new.id new.from_day)) in
+    let left = filter kept s.vehicles in
+    let rooms = both_hold (nat_lt (length (versions_before new.id new.from_day s.vehicles)) 20) (nat_lt (vehicle_count (versions_of_others new.id s.vehicles)) 50) room in
+    let order = IsInOrder-put vehicle_key new left (IsInOrder-filter vehicle_key kept s.vehicles sound.vehicles_in_order) in
+    let days = Each-put HasFirstDay vehicle_key new left (Each-filter HasFirstDay kept s.vehicles sound.first_days) day in
+    let depots = Each-put (HasDepot s.places) vehicle_key new left (Each-filter (HasDepot s.places) kept s.vehicles sound.depots_there) depot in
+    let fleet = fleet_stays new s.vehicles day sound.first_days sound.fleet (below_is _ 20 rooms.0) (below_is _ 50 rooms.1) in
+    let subjects = Each-weaker (HasSubject s.riders s.vehicles) (HasSubject s.riders (put vehicle_key new left)) (λ caller there. driver_stays new s.riders s.vehicles caller.role day sound.first_days there) s.callers sound.subjects_there in
+    search rules
+
+put_travel_sound : (new : DatedTable) (s : State) → IsSound s → IsOfPlaces s.places new → IsTrue (nat_lt (length (tables_before new.from_day s.travel)) most_tables)
+    → IsSound (record s { travel = put travel_key new (take_away travel_key (tables_from new.from_day) s.travel) })
+put_travel_sound new s sound is room =
+    let table = IsTable-replace travel_key (tables_from new.from_day) new s.travel most_tables sound.travel room in
+    let of_places = Each-put (IsOfPlaces s.places) travel_key new (tables_before new.from_day s.travel)
+      (Each-filter (IsOfPlaces s.places) (λ table. not (is_within (travel_key table) (tables_from new.from_day))) s.travel sound.travel_of_places) is in
+    search rules
+
 -- what an accepted write makes of a sound state
 change_sound : (asked : Write) (me : Caller) (now : ℕ × ℕ) (number : ℕ) (s : State) → IsSound s → IsIn caller_key s.callers me.id → AllHold (rules_of asked me now (facts_of asked s)) → IsMade asked
     → IsSound (applied (change_of asked (record { caller = me.id; number = number }) now.0 (facts_of asked s)) s)
@@ -229,6 +285,9 @@ change_sound (write.PutPlace new) me now number s sound there hold made = number
 change_sound (write.PutRoute new) me now number s sound there hold made = numbered_sound _ _ (put_route_sound new s sound made hold.1.0) there
 change_sound (write.PutRider new) me now number s sound there hold made = numbered_sound _ _ (put_rider_sound new s sound hold.1.0 hold.1.1.0) there
 change_sound (write.Enter rider entry) me now number s sound there hold made = numbered_sound _ _ (enter_sound rider entry me now s sound there hold) there
+change_sound (write.PutVehicle new) me now number s sound there hold made = numbered_sound _ _ (put_vehicle_sound new s sound made hold.1.0 hold.1.1.1.0) there
+change_sound (write.Travel day rows) me now number s sound there hold made =
+    numbered_sound _ _ (put_travel_sound (record { from_day = day; rows = rows }) s sound (made.1, hold.1.0) hold.1.1.1.0) there
 
 write_sound : (asked : Write) (me : Caller) (now : ℕ × ℕ) (number : ℕ) (s : State) (fresh : Bool) (first : Option Rule) → IsSound s → IsIn caller_key s.callers me.id
     → first_failing (rules_of asked me now (facts_of asked s)) ≡ first → IsMadeWhere fresh (decision_after first asked me now number (facts_of asked s)) asked

@@ -1,5 +1,6 @@
 -- What the rules make of a request, by the facts alone.
 use Rattle.std.specs.Prelude.{◌≡◌, ℕ, true, List, length, Option, Some, None}
+use Rattle.pt_base.specs.Day.{IsDay}
 use Rattle.pt_base.specs.declared.rider.Residence.{Residence}
 use Rattle.pt_base.specs.declared.rider.Residence.TheVariants.{Resident, Visitor}
 use Rattle.pt_base.specs.declared.rider.Rider.{Rider}
@@ -10,7 +11,8 @@ use Rattle.pt_rights.specs.Rules.{first_failing}
 use Rattle.pt_rights.specs.Standing.{standing_of}
 use Rattle.pt_rights.specs.Suspension.{is_suspended}
 use Rattle.pt_rights.specs.declared.entry.Entered.{Entered}
-use Rattle.pt_desk_rules.specs.State.{no_edit, puts_one}
+use Rattle.pt_travel.specs.Table.{IsTable}
+use Rattle.pt_desk_rules.specs.State.{no_edit, puts_one, replaces, versions_from, tables_from}
 use Rattle.pt_desk_rules.specs.Rules.{rules_of, read_rules}
 use Rattle.pt_desk_rules.specs.declared.caller.Caller.{Caller}
 use Rattle.pt_desk_rules.specs.declared.caller.Kept.{Kept}
@@ -36,6 +38,11 @@ keeping kept = record {
   routes = no_edit;
   riders = no_edit;
   entries = no_edit;
+  vehicles = no_edit;
+  travel = no_edit;
+  trips = no_edit;
+  planned = no_edit;
+  last_trip = None;
 }
 
 -- what an accepted write on the day today changes
@@ -52,6 +59,10 @@ change_of (write.Enter rider entry) kept today facts = record (keeping kept) {
     entered = record { entry = entry; day = today; author = kept.caller };
   });
 }
+change_of (write.PutVehicle new) kept today facts =
+    record (keeping kept) { vehicles = replaces (versions_from new.id new.from_day) new }
+change_of (write.Travel day rows) kept today facts =
+    record (keeping kept) { travel = replaces (tables_from day) (record { from_day = day; rows = rows }) }
 
 -- what an accepted write is told
 abbrev pub answer_of : Write → WriteFacts → Answer
@@ -61,6 +72,8 @@ answer_of (write.PutPlace new) facts = answer.Done
 answer_of (write.PutRoute new) facts = answer.Done
 answer_of (write.PutRider new) facts = answer.Done
 answer_of (write.Enter rider entry) facts = answer.Entered (length facts.file)
+answer_of (write.PutVehicle new) facts = answer.Done
+answer_of (write.Travel day rows) facts = answer.Done
 
 -- the decision where the first failing rule, if any, is this one
 abbrev pub decision_after : Option Rule → Write → Caller → (ℕ × ℕ) → ℕ → WriteFacts → Decision
@@ -73,7 +86,7 @@ abbrev pub decision : Write → Caller → (ℕ × ℕ) → ℕ → WriteFacts �
 decision asked me now number facts =
     decision_after (first_failing (rules_of asked me now facts)) asked me now number facts
 
--- a digest that is put has 32 bytes, and a fixed route is one
+-- A digest that is put has 32 bytes, a fixed route and a travel table are such, and a first day is a day.
 abbrev pub IsMade : Write → Type 0
 IsMade (write.PutCaller new) = length new.digest ≡ 32
 IsMade (write.PutPolicy new) = Unit {0}
@@ -81,6 +94,8 @@ IsMade (write.PutPlace new) = Unit {0}
 IsMade (write.PutRoute new) = IsFixedRoute new
 IsMade (write.PutRider new) = Unit {0}
 IsMade (write.Enter rider entry) = Unit {0}
+IsMade (write.PutVehicle new) = IsDay new.from_day
+IsMade (write.Travel day rows) = IsDay day × IsTable rows
 
 -- what is accepted is made
 abbrev pub IsMadeIf : Decision → Write → Type 0

@@ -1,9 +1,12 @@
 -- What the rules look at.
-use Rattle.std.specs.Prelude.{ℕ, false, List, [], length, Option, None, is_some}
+use Rattle.std.specs.Prelude.{ℕ, Bool, true, false, List, [], length, Option, Some, None, is_some}
 use Rattle.pt_base.specs.declared.policy.Policy.{Policy}
 use Rattle.pt_base.specs.declared.rider.Rider.{Rider}
+use Rattle.pt_base.specs.declared.vehicle.Vehicle.{Vehicle}
 use Rattle.pt_records.specs.Records.{record_at}
-use Rattle.pt_desk_rules.specs.State.{State, caller_with, caller_of, place_of, route_of, rider_of, file_of, rider_key}
+use Rattle.pt_desk_rules.specs.Fleet.{has_version}
+use Rattle.pt_desk_rules.specs.Planned.{is_booked_from}
+use Rattle.pt_desk_rules.specs.State.{State, caller_with, caller_of, place_of, route_of, rider_of, file_of, rider_key, tables_before}
 use Rattle.pt_desk_rules.specs.declared.caller.Role.{Role}
 use Rattle.pt_desk_rules.specs.declared.caller.Role.TheVariants as role
 use Rattle.pt_desk_rules.specs.declared.facts.ReadFacts.{ReadFacts}
@@ -27,17 +30,23 @@ no_facts policy = record {
   place_count = 0;
   has_route = false;
   route_count = 0;
+  has_subject = false;
+  places = [];
+  vehicles = [];
+  tables_before = 0;
+  is_booked = false;
 }
 
--- the rider that a role speaks of
-abbrev pub subject_in : Role → List Rider → Option Rider
-subject_in (role.Rider rider) riders = record_at rider_key rider riders
-subject_in _ riders = None
+-- the rider or the vehicle that a role speaks of is there
+abbrev pub has_subject : Role → List Rider → List Vehicle → Bool
+has_subject (role.Rider rider) riders vehicles = is_some (record_at rider_key rider riders)
+has_subject (role.Driver vehicle) riders vehicles = has_version vehicle vehicles
+has_subject _ riders vehicles = true
 
 -- what the state says on what a write's rules look at
 abbrev pub facts_of : Write → State → WriteFacts
 facts_of (write.PutCaller new) s = record (no_facts s.policy) {
-  rider = subject_in new.role s.riders;
+  has_subject = has_subject new.role s.riders s.vehicles;
   caller = caller_of new.id s;
   holder = caller_with new.digest s;
   caller_count = length s.callers;
@@ -51,6 +60,16 @@ facts_of (write.PutRider new) s =
     record (no_facts s.policy) { rider = rider_of new.id s; rider_count = length s.riders }
 facts_of (write.Enter rider entry) s =
     record (no_facts s.policy) { rider = rider_of rider s; file = file_of rider s }
+facts_of (write.PutVehicle new) s = record (no_facts s.policy) {
+  has_place = is_some (place_of new.depot s);
+  vehicles = s.vehicles;
+  is_booked = is_booked_from (Some new.id) new.from_day s.trips;
+}
+facts_of (write.Travel day rows) s = record (no_facts s.policy) {
+  places = s.places;
+  tables_before = length (tables_before day s.travel);
+  is_booked = is_booked_from None day s.trips;
+}
 
 -- and on what a read's rules look at
 abbrev pub read_facts_of : Read → State → ReadFacts

@@ -1,8 +1,11 @@
 pub mod Limits
 pub mod State
 pub mod Facts
+pub mod Fleet
 pub mod Permission
 pub mod Rules
 pub mod Deciding
 pub mod Step
 pub mod Sound
+pub mod Planned
+pub mod Travel

@@ -13,3 +13,13 @@ most_routes = 50
 
 abbrev pub most_riders : ℕ
 most_riders = 100_000
+
+abbrev pub most_vehicles : ℕ
+most_vehicles = 50
+
+-- of one vehicle
+abbrev pub most_versions : ℕ
+most_versions = 20
+
+abbrev pub most_tables : ℕ
+most_tables = 50

@@ -16,6 +16,11 @@ abbrev pub is_clerk : Role → Bool
 is_clerk role.Clerk = true
 is_clerk _ = false
 
+-- a dispatcher
+abbrev pub is_dispatcher : Role → Bool
+is_dispatcher role.Dispatcher = true
+is_dispatcher _ = false
+
 -- an examiner
 abbrev pub is_examiner : Role → Bool
 is_examiner role.Examiner = true

@@ -1,17 +1,22 @@
 -- The rules of each request by whoever sent it, in the order in which they are tried.
-use Rattle.std.specs.Prelude.{ℕ, Bool, true, false, not, ◌==◌, ◌||◌, nat_lt, List, [], ◌∷◌, length, Option, Some, None, is_some}
+use Rattle.std.specs.Prelude.{ℕ, Bool, true, false, not, ◌==◌, ◌&&◌, ◌||◌, nat_lt, List, [], ◌∷◌, length, Option, Some, None, is_some}
+use Rattle.std.specs.List.{list_all}
+use Rattle.pt_base.specs.declared.place.Place.{Place}
 use Rattle.pt_base.specs.declared.rider.Residence.{Residence}
 use Rattle.pt_base.specs.declared.rider.Residence.TheVariants.{Resident, Visitor}
 use Rattle.pt_base.specs.declared.rider.Rider.{Rider}
 use Rattle.pt_base.specs.declared.rule.Rule.{Rule}
 use Rattle.pt_base.specs.declared.rule.Rule.TheVariants as rule
+use Rattle.pt_base.specs.declared.vehicle.Vehicle.{Vehicle}
+use Rattle.pt_records.specs.Records.{record_at}
 use Rattle.pt_rights.specs.Admission.{admission_rules, is_resident}
 use Rattle.pt_rights.specs.declared.entry.Entry.{Entry}
-use Rattle.pt_desk_rules.specs.Limits.{most_callers, most_places, most_routes, most_riders, most_entries}
-use Rattle.pt_desk_rules.specs.Permission.{is_admin, is_clerk, may_enter, may_see_standing}
+use Rattle.pt_travel.specs.Chain.{Row}
+use Rattle.pt_desk_rules.specs.Fleet.{vehicle_count, versions_before, versions_of_others}
+use Rattle.pt_desk_rules.specs.Limits.{most_callers, most_places, most_routes, most_riders, most_entries, most_vehicles, most_versions, most_tables}
+use Rattle.pt_desk_rules.specs.Permission.{is_admin, is_clerk, is_dispatcher, may_enter, may_see_standing}
+use Rattle.pt_desk_rules.specs.State.{place_key}
 use Rattle.pt_desk_rules.specs.declared.caller.Caller.{Caller}
-use Rattle.pt_desk_rules.specs.declared.caller.Role.{Role}
-use Rattle.pt_desk_rules.specs.declared.caller.Role.TheVariants as role
 use Rattle.pt_desk_rules.specs.declared.facts.ReadFacts.{ReadFacts}
 use Rattle.pt_desk_rules.specs.declared.facts.WriteFacts.{WriteFacts}
 use Rattle.pt_desk_rules.specs.declared.request.Read.{Read}
@@ -19,11 +24,16 @@ use Rattle.pt_desk_rules.specs.declared.request.Read.TheVariants as read
 use Rattle.pt_desk_rules.specs.declared.request.Write.{Write}
 use Rattle.pt_desk_rules.specs.declared.request.Write.TheVariants as write
 
--- the rider that a role speaks of was found; there are no vehicles yet
-abbrev pub subject_is_there : Role → Option Rider → Bool
-subject_is_there (role.Rider rider) found = is_some found
-subject_is_there (role.Driver vehicle) found = false
-subject_is_there _ found = true
+-- each place of the rows is among these
+abbrev pub are_there : List Row → List Place → Bool
+are_there rows places =
+    list_all (λ row. is_some (record_at place_key row.0 places) && is_some (record_at place_key row.1 places)) rows
+
+-- what stands beside a new version of a vehicle leaves room for it
+abbrev pub has_room_for : Vehicle → List Vehicle → Bool
+has_room_for new vehicles =
+    nat_lt (length (versions_before new.id new.from_day vehicles)) most_versions
+    && nat_lt (vehicle_count (versions_of_others new.id vehicles)) most_vehicles
 
 -- nobody, or the caller of this number
 abbrev pub is_nobody_else : ℕ → Option Caller → Bool
@@ -50,7 +60,7 @@ entry_rules (Some there) entry today author facts =
 abbrev pub rules_of : Write → Caller → (ℕ × ℕ) → WriteFacts → List (Rule × Bool)
 rules_of (write.PutCaller new) me now facts =
     (rule.Caller, is_admin me.role)
-    ∷ (rule.Unknown, subject_is_there new.role facts.rider)
+    ∷ (rule.Unknown, facts.has_subject)
     ∷ (rule.Exists, is_nobody_else new.id facts.holder)
     ∷ (rule.Full, is_some facts.caller || nat_lt facts.caller_count most_callers)
     ∷ []
@@ -74,6 +84,18 @@ rules_of (write.Enter rider entry) me now facts =
     ∷ (rule.Unknown, is_some facts.rider)
     ∷ (rule.Full, nat_lt (length facts.file) most_entries)
     ∷ entry_rules facts.rider entry now.0 me.id facts
+rules_of (write.PutVehicle new) me now facts =
+    (rule.Caller, is_dispatcher me.role)
+    ∷ (rule.Unknown, facts.has_place)
+    ∷ (rule.Booked, not facts.is_booked)
+    ∷ (rule.Full, has_room_for new facts.vehicles)
+    ∷ []
+rules_of (write.Travel day rows) me now facts =
+    (rule.Caller, is_dispatcher me.role)
+    ∷ (rule.Unknown, are_there rows facts.places)
+    ∷ (rule.Booked, not facts.is_booked)
+    ∷ (rule.Full, nat_lt facts.tables_before most_tables)
+    ∷ []
 
 -- the rules of a read by this caller
 abbrev pub read_rules : Read → Caller → ReadFacts → List (Rule × Bool)

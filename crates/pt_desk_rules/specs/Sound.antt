@@ -1,13 +1,20 @@
 -- The states that the desk may be in: its limits, its orders and its references are kept.
 use Rattle.std.specs.Prelude.{◌≡◌, ℕ, ◌+◌, ◌≤◌, IsTrue, List, [], ◌∷◌, length, Some, is_some}
+use Rattle.pt_base.specs.Day.{IsDay}
+use Rattle.pt_base.specs.declared.place.Place.{Place}
 use Rattle.pt_base.specs.declared.rider.Rider.{Rider}
+use Rattle.pt_base.specs.declared.trip.Trip.{Trip}
+use Rattle.pt_base.specs.declared.vehicle.Vehicle.{Vehicle}
 use Rattle.pt_corridor.specs.Route.{IsFixedRoute}
 use Rattle.pt_records.specs.Records.{Each, IsInOrder, IsTable, record_at}
 use Rattle.pt_rights.specs.Admission.{is_resident}
-use Rattle.pt_desk_rules.specs.Limits.{most_callers, most_places, most_routes, most_riders, most_entries}
-use Rattle.pt_desk_rules.specs.State.{State, caller_key, kept_key, place_key, route_key, rider_key, entry_key, entries_of}
-use Rattle.pt_desk_rules.specs.Facts.{subject_in}
-use Rattle.pt_desk_rules.specs.Rules.{subject_is_there}
+use Rattle.pt_travel.specs.Table as Travel
+use Rattle.pt_desk_rules.specs.Limits.{most_callers, most_places, most_routes, most_riders, most_entries, most_vehicles, most_versions, most_tables}
+use Rattle.pt_desk_rules.specs.State.{State, caller_key, kept_key, place_key, route_key, rider_key, entry_key, vehicle_key, travel_key, trip_key, planned_key, entries_of}
+use Rattle.pt_desk_rules.specs.Facts.{has_subject}
+use Rattle.pt_desk_rules.specs.Fleet.{vehicle_count, versions_of}
+use Rattle.pt_desk_rules.specs.Rules.{are_there}
+use Rattle.pt_desk_rules.specs.Travel.{DatedTable}
 use Rattle.pt_desk_rules.specs.declared.caller.Caller.{Caller}
 use Rattle.pt_desk_rules.specs.declared.caller.Kept.{Kept}
 use Rattle.pt_desk_rules.specs.declared.change.FiledEntry.{FiledEntry}
@@ -24,9 +31,9 @@ HasOneHolder callers a = Each (λ b. a.digest ≡ b.digest → a.id ≡ b.id) ca
 abbrev pub HasDigest : Caller → Type 0
 HasDigest caller = length caller.digest ≡ 32
 
--- the rider that a caller's role speaks of is there
-abbrev pub HasSubject : List Rider → Caller → Type 0
-HasSubject riders caller = IsTrue (subject_is_there caller.role (subject_in caller.role riders))
+-- the rider or the vehicle that a caller's role speaks of is there
+abbrev pub HasSubject : List Rider → List Vehicle → Caller → Type 0
+HasSubject riders vehicles caller = IsTrue (has_subject caller.role riders vehicles)
 
 abbrev pub IsOfCaller : List Caller → Kept → Type 0
 IsOfCaller callers kept = IsIn caller_key callers kept.caller
@@ -52,13 +59,34 @@ pub record IsSoundFile (entries : List FiledEntry) : Type 0 where
   pub numbered : AreNumberedFrom 0 entries
   pub within : length entries ≤ most_entries
 
+-- a version's first day is a day
+abbrev pub HasFirstDay : Vehicle → Type 0
+HasFirstDay version = IsDay version.from_day
+
+-- its depot is there
+abbrev pub HasDepot : List Place → Vehicle → Type 0
+HasDepot places version = IsIn place_key places version.depot
+
+-- at most 50 vehicles, each of at most 20 versions
+pub record IsFleet (vehicles : List Vehicle) : Type 0 where
+  pub few : vehicle_count vehicles ≤ most_vehicles
+  pub few_versions : (id : ℕ) → length (versions_of id vehicles) ≤ most_versions
+
+-- the rows are a travel table's, and name places that are there
+abbrev pub IsOfPlaces : List Place → DatedTable → Type 0
+IsOfPlaces places table = Travel.IsTable table.rows × IsTrue (are_there table.rows places)
+
+-- a trip has a number that was given
+abbrev pub IsNumberedTo : ℕ → Trip → Type 0
+IsNumberedTo last trip = trip.id ≤ last
+
 -- Each line speaks of the tables that it needs and of no other, so that a write of another table leaves it as it is.
 -- The ranges of a place and of the policy are in their types.
 pub record IsSound (s : State) : Type 0 where
   pub callers : IsTable caller_key most_callers s.callers
   pub digests : Each HasDigest s.callers
   pub one_holder_each : Each (HasOneHolder s.callers) s.callers
-  pub subjects_there : Each (HasSubject s.riders) s.callers
+  pub subjects_there : Each (HasSubject s.riders s.vehicles) s.callers
   pub kept_in_order : IsInOrder kept_key s.kept
   pub kept_of_callers : Each (IsOfCaller s.callers) s.kept
   pub places : IsTable place_key most_places s.places
@@ -69,3 +97,12 @@ pub record IsSound (s : State) : Type 0 where
   pub entries_of_residents : Each (IsOfResident s.riders) s.entries
   pub authors_there : Each (HasAuthor s.callers) s.entries
   pub files : (rider : ℕ) → IsSoundFile (entries_of rider s.entries)
+  pub vehicles_in_order : IsInOrder vehicle_key s.vehicles
+  pub first_days : Each HasFirstDay s.vehicles
+  pub depots_there : Each (HasDepot s.places) s.vehicles
+  pub fleet : IsFleet s.vehicles
+  pub travel : IsTable travel_key most_tables s.travel
+  pub travel_of_places : Each (IsOfPlaces s.places) s.travel
+  pub trips_in_order : IsInOrder trip_key s.trips
+  pub trips_numbered : Each (IsNumberedTo s.last_trip) s.trips
+  pub planned_in_order : IsInOrder planned_key s.planned

@@ -4,12 +4,16 @@ use Rattle.std.specs.Option.{unwrap_or}
 use Rattle.pt_base.specs.declared.place.Place.{Place}
 use Rattle.pt_base.specs.declared.policy.Policy.{Policy}
 use Rattle.pt_base.specs.declared.rider.Rider.{Rider}
+use Rattle.pt_base.specs.declared.trip.Trip.{Trip}
+use Rattle.pt_base.specs.declared.vehicle.Vehicle.{Vehicle}
 use Rattle.pt_corridor.specs.Route.{Route}
 use Rattle.pt_records.specs.Keys.{pair_key}
-use Rattle.pt_records.specs.Records.{Edit, edited, record_at, within}
+use Rattle.pt_records.specs.Records.{Edit, edited, record_at, take_away, within}
 use Rattle.pt_records.specs.declared.span.Span.{Span}
 use Rattle.pt_rights.specs.declared.entry.Entered.{Entered}
 use Rattle.pt_desk_rules.specs.Limits.{most_entries}
+use Rattle.pt_desk_rules.specs.Planned.{Plan}
+use Rattle.pt_desk_rules.specs.Travel.{DatedTable}
 use Rattle.pt_desk_rules.specs.declared.caller.Caller.{Caller}
 use Rattle.pt_desk_rules.specs.declared.caller.Kept.{Kept}
 use Rattle.pt_desk_rules.specs.declared.change.Change.{Change}
@@ -26,9 +30,21 @@ pub record State : Type 0 where
   pub riders : List Rider
   -- the entries of all case files, by their riders and their positions in the file
   pub entries : List FiledEntry
+  -- each vehicle as it is from a day on
+  pub vehicles : List Vehicle
+  pub travel : List DatedTable
+  pub trips : List Trip
+  -- the routes of the vehicles from day to day, with the stops of the trips that stand
+  pub planned : List Plan
+  -- the number that was last given to a trip
+  pub last_trip : ℕ
 
 abbrev pub no_edit : {A : Type 0} → Edit A
 no_edit = record { away = []; puts = [] }
+
+-- these are taken away, and one is put
+abbrev pub replaces : {A : Type 0} → Span → A → Edit A
+replaces span new = record { away = span ∷ []; puts = new ∷ [] }
 
 abbrev pub puts_one : {A : Type 0} → A → Edit A
 puts_one new = record { away = []; puts = new ∷ [] }
@@ -51,6 +67,18 @@ rider_key rider = rider.id
 
 abbrev pub entry_key : FiledEntry → ℕ
 entry_key filed = pair_key filed.rider filed.position
+
+abbrev pub vehicle_key : Vehicle → ℕ
+vehicle_key version = pair_key version.id version.from_day
+
+abbrev pub travel_key : DatedTable → ℕ
+travel_key table = table.from_day
+
+abbrev pub trip_key : Trip → ℕ
+trip_key trip = trip.id
+
+abbrev pub planned_key : Plan → ℕ
+planned_key plan = pair_key plan.vehicle plan.day
 
 -- the caller whose key has this digest
 abbrev pub caller_with : List ℕ → State → Option Caller
@@ -87,6 +115,18 @@ file_with entries = map (λ filed. filed.entered) (take most_entries entries)
 abbrev pub file_of : ℕ → State → List Entered
 file_of rider s = file_with (entries_of rider s.entries)
 
+-- the keys of a vehicle's versions of a day and later
+abbrev pub versions_from : ℕ → ℕ → Span
+versions_from id day = record { from = pair_key id day; to = pair_key id 4_294_967_295 }
+
+-- the keys of travel tables of a day and later
+abbrev pub tables_from : ℕ → Span
+tables_from day = record { from = day; to = 4_294_967_295 }
+
+-- the travel tables that stay where one of this day is put
+abbrev pub tables_before : ℕ → List DatedTable → List DatedTable
+tables_before day tables = take_away travel_key (tables_from day) tables
+
 -- the state with the change made
 abbrev pub applied : Change → State → State
 applied change s = record {
@@ -97,4 +137,9 @@ applied change s = record {
   routes = edited route_key change.routes s.routes;
   riders = edited rider_key change.riders s.riders;
   entries = edited entry_key change.entries s.entries;
+  vehicles = edited vehicle_key change.vehicles s.vehicles;
+  travel = edited travel_key change.travel s.travel;
+  trips = edited trip_key change.trips s.trips;
+  planned = edited planned_key change.planned s.planned;
+  last_trip = unwrap_or change.last_trip s.last_trip;
 }

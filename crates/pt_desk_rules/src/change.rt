@@ -1,8 +1,8 @@
 ghost use Rattle.std.specs.Prelude.{◌≡◌, [], ◌∷◌, None, IfOk};
 ghost use Rattle.pt_desk_rules.specs.State.{no_edit, puts_one};
 
-use crate::{Caller, Kept};
-use pt_base::{Place, Policy, Rider, RiderId};
+use crate::{Caller, Kept, PlannedRoute, TravelTable};
+use pt_base::{Place, Policy, Rider, RiderId, Trip, TripId, Vehicle};
 use pt_corridor::FixedRoute;
 use pt_records::{Edits, Key, Keyed};
 use pt_rights::Entered;
@@ -28,6 +28,12 @@ pub struct Change {
     pub routes: Edits<FixedRoute>,
     pub riders: Edits<Rider>,
     pub entries: Edits<FiledEntry>,
+    pub vehicles: Edits<Vehicle>,
+    pub travel: Edits<TravelTable>,
+    pub trips: Edits<Trip>,
+    pub planned: Edits<PlannedRoute>,
+    /// The number that is given to a new trip.
+    pub last_trip: Option<TripId>,
 }
 
 impl Change {
@@ -41,6 +47,11 @@ impl Change {
           routes = no_edit;
           riders = no_edit;
           entries = no_edit;
+          vehicles = no_edit;
+          travel = no_edit;
+          trips = no_edit;
+          planned = no_edit;
+          last_trip = None;
         }) }
     {
         let mut change = Change {
@@ -51,6 +62,11 @@ impl Change {
             routes: Edits::none(alloc),
             riders: Edits::none(alloc),
             entries: Edits::none(alloc),
+            vehicles: Edits::none(alloc),
+            travel: Edits::none(alloc),
+            trips: Edits::none(alloc),
+            planned: Edits::none(alloc),
+            last_trip: None,
         };
         change.kept.put(kept)?;
         Ok(change)

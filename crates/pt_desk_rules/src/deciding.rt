@@ -1,8 +1,13 @@
 ghost use Rattle.std.specs.Prelude.{◌≡◌, IfOk};
+ghost use Rattle.pt_base.specs.Day.{IsDay};
 ghost use Rattle.pt_desk_rules.specs.Deciding.{answer_of, change_of, decision, IsMade, IsMadeIf};
+ghost use Rattle.pt_desk_rules.specs.State.{versions_from, tables_from};
 
-use crate::{Answer, Caller, Change, FiledEntry, Kept, Write, WriteFacts, denial};
-use pt_base::{Day, Minute, Rule};
+use crate::{
+    Answer, Caller, Change, FiledEntry, Kept, TravelTable, Write, WriteFacts, denial,
+};
+use pt_base::{Day, Minute, Rule, Vehicle};
+use pt_records::{Key, Span};
 use pt_rights::Entered;
 use std::alloc::{AllocError, Global};
 
@@ -24,8 +29,32 @@ fn answer_of(facts: &WriteFacts, write: &Write) -> Answer
         | Write::PutPolicy(_)
         | Write::PutPlace(_)
         | Write::PutRoute(_)
-        | Write::PutRider(_) => Answer::Done,
+        | Write::PutRider(_)
+        | Write::PutVehicle(_)
+        | Write::Travel { .. } => Answer::Done,
         Write::Enter { .. } => Answer::Entered(facts.file.len() as u32),
+    }
+}
+
+/// The keys of a vehicle's versions that a new one replaces.
+fn versions_from(new: &Vehicle) -> Span
+    ensures value { result ≡ versions_from new.now.id new.now.from_day }
+    ensures day { IsDay new.now.from_day }
+{
+    Span {
+        from: Key::pair(new.id.number(), new.from_day.number()),
+        to: Key::pair(new.id.number(), u32::MAX),
+    }
+}
+
+/// The keys of the travel tables that one of this day replaces.
+fn tables_from(day: Day) -> Span
+    ensures value { result ≡ tables_from day }
+    ensures day { IsDay day }
+{
+    Span {
+        from: Key::of(day.number()),
+        to: Key::of(u32::MAX),
     }
 }
 
@@ -59,6 +88,14 @@ fn change_of(
                 author: kept.caller,
             },
         })?,
+        Write::PutVehicle(new) => {
+            change.vehicles.take_away(versions_from(new))?;
+            change.vehicles.put(*new)?;
+        }
+        Write::Travel { day, rows } => {
+            change.travel.take_away(tables_from(*day))?;
+            change.travel.put(TravelTable::of(alloc, *day, rows.copy(alloc)?)?)?;
+        }
     }
     Ok(change)
 }

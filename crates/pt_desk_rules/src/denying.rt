@@ -1,12 +1,22 @@
-ghost use Rattle.std.specs.Prelude.{◌≡◌};
+ghost use Rattle.std.specs.Prelude.{◌≡◌, is_some};
 ghost use Rattle.pt_rights.specs.Rules.{first_failing};
-ghost use Rattle.pt_desk_rules.specs.Rules.{rules_of, is_nobody_else, is_nobody_of_another_kind, subject_is_there};
+ghost use Rattle.pt_desk_rules.specs.Rules.{rules_of, is_nobody_else, is_nobody_of_another_kind, are_there, has_room_for};
+ghost use Rattle.pt_desk_rules.specs.State.{place_key};
+ghost use Rattle.pt_records.specs.Records.{record_at};
 ghost use Rattle.pt_desk_rules.specs.declared.request.Write.TheVariants.{Enter};
 
+use crate::fleet::{other_vehicle_count, version_count_before};
 use crate::permission::may_enter;
-use crate::{Caller, MOST_CALLERS, MOST_PLACES, MOST_RIDERS, MOST_ROUTES, Role, Write, WriteFacts};
-use pt_base::{CallerId, Day, Minute, Residence, Rider, RiderId, Rule};
+use crate::{
+    Caller, MOST_CALLERS, MOST_PLACES, MOST_RIDERS, MOST_ROUTES, MOST_TABLES, MOST_VEHICLES,
+    MOST_VERSIONS, Write, WriteFacts,
+};
+use pt_base::{
+    CallerId, Day, Minute, Place, PlaceId, Residence, Rider, RiderId, Rule, Vehicle,
+};
+use pt_records::{Key, Rows};
 use pt_rights::Entry;
+use pt_travel::Row;
 
 /// The first rule that fails.
 pub(crate) fn first_failing(rules: &[(Rule, bool)]) -> Option<Rule>
@@ -20,15 +30,31 @@ pub(crate) fn first_failing(rules: &[(Rule, bool)]) -> Option<Rule>
     None
 }
 
-/// Whether the record that a role speaks of is there.
-fn subject_is_there(role: Role, facts: &WriteFacts) -> bool
-    ensures value { result ≡ subject_is_there role facts.now.rider }
+/// Whether each place of the rows is there.
+fn are_there(rows: &[Row], places: &Rows<Place>) -> bool
+    ensures value { result ≡ are_there rows.now places.now }
 {
-    match role {
-        Role::Rider(_) => facts.rider.is_some(),
-        Role::Driver(_) => false,
-        Role::Clerk | Role::Examiner | Role::Officer | Role::Dispatcher | Role::Admin => true,
+    for (from, to, _) in rows {
+        if !is_there(*from, places) || !is_there(*to, places) {
+            return false;
+        }
     }
+    true
+}
+
+/// Whether the place of this number is there.
+fn is_there(id: PlaceId, places: &Rows<Place>) -> bool
+    ensures value { result ≡ is_some (record_at place_key id places.now) }
+{
+    places.find(&Key::of(id.number())).is_some()
+}
+
+/// Whether what stands beside a new version of a vehicle leaves room for it.
+fn has_room_for(new: &Vehicle, vehicles: &[Vehicle]) -> bool
+    ensures value { result ≡ has_room_for new.now vehicles.now }
+{
+    version_count_before(vehicles, new.id, new.from_day) < MOST_VERSIONS
+        && other_vehicle_count(vehicles, new.id) < MOST_VEHICLES
 }
 
 /// Whether there is nobody, or the caller of this number.
@@ -83,7 +109,7 @@ pub fn denial(facts: &WriteFacts, me: &Caller, now: (Day, Minute), write: &Write
     match write {
         Write::PutCaller(new) => first_failing(&[
             (Rule::Caller, is_admin),
-            (Rule::Unknown, subject_is_there(new.role, facts)),
+            (Rule::Unknown, facts.has_subject),
             (Rule::Exists, is_nobody_else(new.id, facts.holder)),
             (
                 Rule::Full,
@@ -115,5 +141,17 @@ pub fn denial(facts: &WriteFacts, me: &Caller, now: (Day, Minute), write: &Write
             ),
         ]),
         Write::Enter { rider, entry } => entry_denial(facts, me, now, *rider, entry),
+        Write::PutVehicle(new) => first_failing(&[
+            (Rule::Caller, me.role.is_dispatcher()),
+            (Rule::Unknown, facts.has_place),
+            (Rule::Booked, !facts.is_booked),
+            (Rule::Full, has_room_for(new, facts.vehicles.as_slice())),
+        ]),
+        Write::Travel { day: _, rows } => first_failing(&[
+            (Rule::Caller, me.role.is_dispatcher()),
+            (Rule::Unknown, are_there(rows.rows(), &facts.places)),
+            (Rule::Booked, !facts.is_booked),
+            (Rule::Full, facts.tables_before < MOST_TABLES),
+        ]),
     }
 }

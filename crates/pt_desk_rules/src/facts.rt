@@ -2,7 +2,8 @@ ghost use Rattle.std.specs.Prelude.{◌≡◌};
 ghost use Rattle.pt_desk_rules.specs.Facts.{no_facts};
 
 use crate::Caller;
-use pt_base::{Policy, Rider};
+use pt_base::{Place, Policy, Rider, Vehicle};
+use pt_records::Rows;
 use pt_rights::CaseFile;
 use std::alloc::Global;
 
@@ -27,6 +28,16 @@ pub struct WriteFacts {
     /// Whether the fixed route of the number that the write gives is there.
     pub has_route: bool,
     pub route_count: usize,
+    /// Whether the rider or the vehicle is there that a new caller's role speaks of.
+    pub has_subject: bool,
+    /// All places.
+    pub places: Rows<Place>,
+    /// All vehicles with their versions.
+    pub vehicles: Rows<Vehicle>,
+    /// How many travel tables stay beside a new one.
+    pub tables_before: usize,
+    /// Whether some trip that stands depends on what the write replaces.
+    pub is_booked: bool,
 }
 
 impl WriteFacts {
@@ -46,6 +57,11 @@ impl WriteFacts {
             place_count: 0,
             has_route: false,
             route_count: 0,
+            has_subject: false,
+            places: Rows::none(alloc),
+            vehicles: Rows::none(alloc),
+            tables_before: 0,
+            is_booked: false,
         }
     }
 }

@@ -6,16 +6,23 @@ pub use change::{Change, FiledEntry};
 pub use deciding::{Decision, decide};
 pub use denying::denial;
 pub use facts::{ReadFacts, WriteFacts};
-pub use limits::{MOST_CALLERS, MOST_PLACES, MOST_RIDERS, MOST_ROUTES};
+pub use limits::{
+    MOST_CALLERS, MOST_PLACES, MOST_RIDERS, MOST_ROUTES, MOST_TABLES, MOST_VEHICLES, MOST_VERSIONS,
+};
+pub use planned::{PlannedRoute, PlannedStop};
 pub use request::{Answer, Read, Request, Write};
 pub use telling::tell;
+pub use travel::TravelTable;
 
 mod caller;
 mod change;
 mod deciding;
 mod denying;
 mod facts;
+mod fleet;
 mod limits;
 mod permission;
+mod planned;
 mod request;
 mod telling;
+mod travel;

@@ -7,5 +7,14 @@ pub const MOST_PLACES: usize = 100;
 /// The most fixed routes that the desk keeps.
 pub const MOST_ROUTES: usize = 50;
 
+/// The most vehicles that the desk keeps.
+pub const MOST_VEHICLES: usize = 50;
+
+/// The most versions of one vehicle.
+pub const MOST_VERSIONS: usize = 20;
+
+/// The most travel tables that the desk keeps.
+pub const MOST_TABLES: usize = 50;
+
 /// The most riders that the desk keeps.
 pub const MOST_RIDERS: usize = 100_000;

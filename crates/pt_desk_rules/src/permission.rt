@@ -1,5 +1,5 @@
 ghost use Rattle.std.specs.Prelude.{◌≡◌};
-ghost use Rattle.pt_desk_rules.specs.Permission.{is_admin, is_clerk, is_examiner, is_officer, is_own, may_appeal, may_enter, may_see_standing};
+ghost use Rattle.pt_desk_rules.specs.Permission.{is_admin, is_clerk, is_dispatcher, is_examiner, is_officer, is_own, may_appeal, may_enter, may_see_standing};
 
 use crate::Role;
 use pt_base::{Rider, RiderId};
@@ -18,6 +18,13 @@ impl Role {
         ensures { result ≡ is_clerk self }
     {
         matches!(self, Role::Clerk)
+    }
+
+    /// Whether it is a dispatcher's.
+    pub(crate) fn is_dispatcher(self) -> bool
+        ensures { result ≡ is_dispatcher self }
+    {
+        matches!(self, Role::Dispatcher)
     }
 
     /// Whether it is an examiner's.

@@ -1,7 +1,8 @@
 use crate::Caller;
-use pt_base::{Day, Place, Policy, Rider, RiderId, Rule};
+use pt_base::{Day, Place, Policy, Rider, RiderId, Rule, Vehicle};
 use pt_corridor::FixedRoute;
 use pt_rights::{Entry, Standing};
+use pt_travel::Raw;
 
 /// What a caller asks of the desk.
 #[derive(Debug, Drop)]
@@ -32,6 +33,10 @@ pub enum Write {
     PutRider(Rider),
     /// Enters something in a resident's case file.
     Enter { rider: RiderId, entry: Entry },
+    /// Makes a vehicle as it is from a day on, in place of its versions of that day and later.
+    PutVehicle(Vehicle),
+    /// Puts a travel table that holds from a day on, in place of the tables of that day and later.
+    Travel { day: Day, rows: Raw },
 }
 
 /// What the rules make of a request.

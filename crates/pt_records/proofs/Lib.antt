@@ -2,3 +2,4 @@ pub mod RecordLemmas
 pub mod OrderLemmas
 pub mod TableLemmas
 pub mod WithinLemmas
+pub mod SplitLemmas

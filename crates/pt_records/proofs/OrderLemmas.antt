@@ -56,7 +56,7 @@ record_at-here key k x xs same = grind (arith, nat_tests)
 record_at-same_rest : {A : Type 0} (key : A → ℕ) (k : ℕ) (x : A) (xs ys : List A) → record_at key k xs ≡ record_at key k ys → record_at key k (x ∷ xs) ≡ record_at key k (x ∷ ys)
 record_at-same_rest key k x xs ys same = ap (λ o. cond (key x == k) (Some x) o) same
 
-record_at-above : {A : Type 0} (key : A → ℕ) (k : ℕ) (xs : List A) → Each (λ y. k < key y) xs → record_at key k xs ≡ None
+pub record_at-above : {A : Type 0} (key : A → ℕ) (k : ℕ) (xs : List A) → Each (λ y. k < key y) xs → record_at key k xs ≡ None
 record_at-above key k [] each = refl
 record_at-above key k (x ∷ xs) each = record_at-past key k x xs (λ same. absurd (let above = each.0 in omega arith)) ∙ record_at-above key k xs each.1
 

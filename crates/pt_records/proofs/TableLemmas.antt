@@ -3,7 +3,7 @@ use Rattle.std.proofs.Common.{◌≡◌, ◌⊎◌, inl, inr, ℕ, ◌+◌, ◌<
 use Rattle.std.specs.Prelude.{◌==◌, find, filter}
 use Rattle.std.proofs.lemmas.Bool.{cases_order}
 use Rattle.std.proofs.lemmas.Bool.Decides.{nat_tests}
-use Rattle.pt_records.specs.Records.{put, take_away, is_within, record_at, Each, IsInOrder, IsTable}
+use Rattle.pt_records.specs.Records.{put, put_all, take_away, take_all, is_within, record_at, Each, IsInOrder, IsTable}
 use Rattle.pt_records.specs.declared.span.Span.{Span}
 use Rattle.pt_records.proofs.OrderLemmas.{IsInOrder-put, length-put, length-put_there, record_at-put_same, record_at-put_other, record_at-here, record_at-past}
 
@@ -89,13 +89,14 @@ pub length-filter : {A : Type 0} (test : A → Bool) (xs : List A) → length (f
 length-filter test [] = omega arith
 length-filter test (x ∷ xs) = omega (arith, kept_length x (filter test xs) (test x) (length xs) (length-filter test xs))
 
--- a table stays one where records are taken away and there is room for one that is put
-pub IsTable-replace : {A : Type 0} (key : A → ℕ) (span : Span) (new : A) (xs : List A) (most : ℕ) → IsTable key most xs → IsTrue (nat_lt (length xs) most) → IsTable key most (put key new (take_away key span xs))
+-- a table stays one where records are taken away and that leaves room for one that is put
+pub IsTable-replace : {A : Type 0} (key : A → ℕ) (span : Span) (new : A) (xs : List A) (most : ℕ) → IsTable key most xs → IsTrue (nat_lt (length (take_away key span xs)) most)
+    → IsTable key most (put key new (take_away key span xs))
 IsTable-replace key span new xs most table room =
     let left = take_away key span xs in
     record {
       in_order = IsInOrder-put key new left (IsInOrder-filter key (λ x. not (is_within (key x) span)) xs table.in_order);
-      within = omega (arith, length-put key new left, length-filter (λ x. not (is_within (key x) span)) xs, below_is (length xs) most room);
+      within = omega (arith, length-put key new left, below_is (length left) most room);
     }
 
 found_kept : {A : Type 0} (key : A → ℕ) (k : ℕ) (x : A) (xs ys : List A) (b : Bool) → (key x ≡ k → b ≡ true) → record_at key k xs ≡ record_at key k ys → record_at key k (cond b (x ∷ xs) xs) ≡ record_at key k (x ∷ ys)
@@ -117,3 +118,16 @@ pub record_at-take_same : {A : Type 0} (key : A → ℕ) (k : ℕ) (span : Span)
 record_at-take_same key k span [] in_it = refl
 record_at-take_same key k span (x ∷ xs) in_it =
     found_gone key k x (take_away key span xs) (not (is_within (key x) span)) (λ same. ap (λ n. not (is_within n span)) same ∙ ap not in_it) (record_at-take_same key k span xs in_it)
+
+-- an edit keeps the order, and so do its parts
+pub IsInOrder-take_all : {A : Type 0} (key : A → ℕ) (spans : List Span) (xs : List A) → IsInOrder key xs → IsInOrder key (take_all key spans xs)
+IsInOrder-take_all key [] xs order = order
+IsInOrder-take_all key (span ∷ spans) xs order =
+    IsInOrder-take_all key spans (take_away key span xs) (IsInOrder-filter key (λ x. not (is_within (key x) span)) xs order)
+
+IsInOrder-put_all : {A : Type 0} (key : A → ℕ) (news xs : List A) → IsInOrder key xs → IsInOrder key (put_all key news xs)
+IsInOrder-put_all key [] xs order = order
+IsInOrder-put_all key (new ∷ news) xs order = IsInOrder-put_all key news (put key new xs) (IsInOrder-put key new xs order)
+
+pub IsInOrder-edited : {A : Type 0} (key : A → ℕ) (spans : List Span) (news xs : List A) → IsInOrder key xs → IsInOrder key (put_all key news (take_all key spans xs))
+IsInOrder-edited key spans news xs order = IsInOrder-put_all key news (take_all key spans xs) (IsInOrder-take_all key spans xs order)

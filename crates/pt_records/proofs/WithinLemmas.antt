@@ -1,5 +1,5 @@
 -- The records of a span, as one more is put.
-use Rattle.std.proofs.Common.{◌≡◌, ℕ, ◌<◌, ◌≤◌, Bool, true, false, IsTrue, List, [], ◌∷◌, ◌++◌, arith, cond, refl, sym, ap, ◌∙◌, subst, inl, inr}
+use Rattle.std.proofs.Common.{◌≡◌, ℕ, ◌<◌, Bool, true, false, IsTrue, List, [], ◌∷◌, ◌++◌, arith, cond, refl, sym, ap, ◌∙◌, inl, inr}
 use Rattle.pt_records.specs.Records.{put, within, is_within, Each, IsInOrder}
 use Rattle.pt_records.specs.declared.span.Span.{Span}
 use Rattle.pt_records.proofs.RecordLemmas.{put_past, put_over, put_before}

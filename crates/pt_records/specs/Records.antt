@@ -56,3 +56,8 @@ IsInOrder key (x ∷ xs) = Each (λ y. key x < key y) xs × IsInOrder key xs
 pub record IsTable {A : Type 0} (key : A → ℕ) (most : ℕ) (xs : List A) : Type 0 where
   pub in_order : IsInOrder key xs
   pub within : length xs ≤ most
+
+-- the records of a table, and how many more it has room for
+pub record Contents (A : Type 0) : Type 0 where
+  pub items : List A
+  pub room : ℕ

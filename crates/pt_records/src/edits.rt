@@ -1,17 +1,16 @@
-ghost use Rattle.std.specs.Prelude.{◌≡◌, ℕ, ◌+◌, ◌<◌, ◌≤◌, [], ◌∷◌, ◌++◌, length, MatchResult, IfOk, OnOk, vec_len, vec_capacity, insert, slice_set};
-ghost use Rattle.std.specs.Option.{option_copied};
-ghost use Rattle.pt_records.specs.Records.{put, put_all, take_away, take_all, edited, record_at, within};
+ghost use Rattle.std.specs.Prelude.{◌≡◌, ℕ, ◌+◌, ◌<◌, ◌≤◌, [], ◌∷◌, ◌++◌, length, MatchResult, OnOk, vec_len, vec_capacity, insert, slice_set};
+ghost use Rattle.pt_records.specs.Records.{IsInOrder, put, put_all, take_away, take_all};
 
-use crate::{Key, Keyed, Rows, Span};
+use crate::searching::position_of;
+use crate::{Keyed, Span};
 use std::alloc::{AllocError, Global};
-use std::cmp::Ordering;
 use std::marker::Model;
 
 /// What is taken away from a table, and then what is put into it.
 #[derive(Debug, Drop)]
 pub struct Edits<T> {
-    away: Vec<Span>,
-    puts: Vec<T>,
+    pub(crate) away: Vec<Span>,
+    pub(crate) puts: Vec<T>,
 }
 
 impl<T> Model for Edits<T> {
@@ -57,25 +56,20 @@ impl<T: Keyed> Edits<T> {
 
 /// Where the record belongs: in place of the one that is there, or before it.
 fn place_for<T: Keyed>(records: &[T], added: &T) -> Result<usize, usize>
+    requires { IsInOrder T.key records.now }
     ensures { MatchResult result
         (λ at. (at < length records.now) × (slice_set records.now at added.now ≡ put T.key added.now records.now))
         (λ at. (at ≤ length records.now) × (insert records.now at added.now ≡ put T.key added.now records.now)) }
 {
-    let key = added.key();
-    for (at, there) in records.iter().enumerate() {
-        match there.key().compare(&key) {
-            Ordering::Less => {}
-            Ordering::Equal => return Ok(at),
-            Ordering::Greater => return Err(at),
-        }
-    }
-    Err(records.len())
+    position_of(records, &added.key())
 }
 
 /// Puts a record in its place, where there is room for one more.
 fn put_record<T: Keyed>(records: &mut Vec<T>, added: T)
-    requires { vec_len records.old < vec_capacity records.old }
+    requires order { IsInOrder T.key records.old.items }
+    requires room { vec_len records.old < vec_capacity records.old }
     ensures items { records.new.items ≡ put T.key added records.old.items }
+    ensures order { IsInOrder T.key records.new.items }
     ensures len { vec_len records.new ≤ vec_len records.old + 1 }
     ensures capacity { vec_capacity records.old ≤ vec_capacity records.new }
 {
@@ -87,8 +81,10 @@ fn put_record<T: Keyed>(records: &mut Vec<T>, added: T)
     }
 }
 
-fn put_records<T: Keyed>(records: &mut Vec<T>, news: Vec<T>)
-    requires { vec_len records.old + length news.items ≤ vec_capacity records.old }
+/// Puts each of the records in its place, where there is room for them.
+pub(crate) fn put_records<T: Keyed>(records: &mut Vec<T>, news: Vec<T>)
+    requires order { IsInOrder T.key records.old.items }
+    requires room { vec_len records.old + length news.items ≤ vec_capacity records.old }
     ensures { records.new.items ≡ put_all T.key news.items records.old.items }
 {
     for new in news {
@@ -104,7 +100,8 @@ fn take_span<T: Keyed>(records: &mut Vec<T>, span: &Span)
     records.retain(|there| !span.has(&there.key()));
 }
 
-fn take_spans<T: Keyed>(records: &mut Vec<T>, spans: &[Span])
+/// Takes away all records with the keys of these spans.
+pub(crate) fn take_spans<T: Keyed>(records: &mut Vec<T>, spans: &[Span])
     ensures items { records.new.items ≡ take_all T.key spans.now records.old.items }
     ensures len { vec_len records.new ≤ vec_len records.old }
     ensures capacity { vec_capacity records.old ≤ vec_capacity records.new }
@@ -112,43 +109,4 @@ fn take_spans<T: Keyed>(records: &mut Vec<T>, spans: &[Span])
     for span in spans {
         take_span(records, span);
     }
-}
-
-/// Makes the edit, where there is room for what it puts.
-pub fn edit<T: Keyed>(records: &mut Vec<T>, edits: Edits<T>)
-    requires { vec_len records.old + length edits.puts ≤ vec_capacity records.old }
-    ensures { records.new.items ≡ edited T.key edits records.old.items }
-{
-    let Edits { away, puts } = edits;
-    take_spans(records, &away);
-    put_records(records, puts);
-}
-
-/// The record with this key.
-pub fn find_record<'a, T: Keyed>(records: &'a [T], key: &Key) -> Option<&'a T>
-    ensures { option_copied result ≡ record_at T.key key.now records.now }
-{
-    for there in records {
-        if there.key().compare(key) == Ordering::Equal {
-            return Some(there);
-        }
-    }
-    None
-}
-
-/// The records with these keys.
-pub fn find_within<T: Keyed + Copy>(
-    alloc: Global,
-    records: &[T],
-    span: &Span,
-) -> Result<Rows<T>, AllocError>
-    ensures { IfOk result (λ rows. rows ≡ within T.key span.now records.now) }
-{
-    let mut found = Vec::new(alloc);
-    for there in records {
-        if span.has(&there.key()) {
-            found.push(*there)?;
-        }
-    }
-    Ok(Rows::of(found))
 }

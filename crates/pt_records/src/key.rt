@@ -1,4 +1,4 @@
-ghost use Rattle.std.specs.Prelude.{◌≡◌};
+ghost use Rattle.std.specs.Prelude.{◌≡◌, nat_lt};
 ghost use Rattle.std.specs.Ordering.{nat_cmp};
 ghost use Rattle.pt_records.specs.Keys.{pair_key};
 
@@ -59,5 +59,12 @@ impl Key {
             return Ordering::Greater;
         }
         Ordering::Equal
+    }
+
+    /// Whether this key stands before the other.
+    pub fn is_before(&self, other: &Key) -> bool
+        ensures value { result ≡ nat_lt self.now other.now }
+    {
+        self.compare(other) == Ordering::Less
     }
 }

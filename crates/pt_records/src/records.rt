@@ -1,5 +1,5 @@
 use crate::{Key, Keyed};
-use pt_base::{Place, Rider, Vehicle};
+use pt_base::{Place, Rider, Trip, Vehicle};
 use pt_corridor::FixedRoute;
 
 impl Keyed for Place {
@@ -33,5 +33,13 @@ impl Keyed for Vehicle {
 
     fn key(&self) -> Key {
         Key::pair(self.id.number(), self.from_day.number())
+    }
+}
+
+impl Keyed for Trip {
+    ghost key = { λ trip. trip.id };
+
+    fn key(&self) -> Key {
+        Key::of(self.id.number())
     }
 }

@@ -7,7 +7,7 @@ use crate::matrix::{self, Line};
 use crate::places::Places;
 use crate::raw::{MOST_MINUTES, Raw};
 use pt_base::{Fault, PlaceId};
-use std::alloc::Global;
+use std::alloc::{AllocError, Global};
 
 /// The driving times by the least chains of a table's rows.
 #[derive(Debug, Drop)]
@@ -35,6 +35,16 @@ impl Closed {
             matrix::shorten(&mut lines, k);
         }
         Ok(Closed { places, lines })
+    }
+
+    /// A copy, with the same driving times.
+    pub fn copy(&self, alloc: Global) -> Result<Self, AllocError>
+        ensures same { IfOk result (λ copy. (from to : ℕ) → time_in copy from to ≡ time_in self.now from to) }
+    {
+        Ok(Closed {
+            places: self.places,
+            lines: Vec::from_slice(alloc, &self.lines)?,
+        })
     }
 }
 

@@ -1,9 +1,10 @@
-ghost use Rattle.std.specs.Prelude.{◌≡◌, ◌≤◌, ◌↔◌, All, IsSome, IfSome, IsTrue};
+ghost use Rattle.std.specs.Prelude.{◌≡◌, ◌≤◌, ◌↔◌, All, IsSome, IfSome, IfOk, IsTrue};
 ghost use Rattle.pt_travel.specs.Table.{ComesBefore, NamesOnly, Rises, IsTable};
 ghost use Rattle.pt_travel.specs.Places.{list_of};
 
 use crate::places::Places;
 use pt_base::PlaceId;
+use std::alloc::{AllocError, Global};
 use std::marker::Model;
 
 /// How many places a table may name.
@@ -56,6 +57,16 @@ impl Raw {
         ensures table { IsTable result.now }
     {
         &self.rows
+    }
+
+    /// A copy.
+    pub fn copy(&self, alloc: Global) -> Result<Self, AllocError>
+        ensures value { IfOk result (λ copy. copy ≡ self.now) }
+    {
+        Ok(Raw {
+            rows: Vec::from_slice(alloc, &self.rows)?,
+            places: self.places,
+        })
     }
 
     /// The table of rows that name only these places.

@@ -1,7 +1,0 @@
-use Rattle.std.proofs.Common.{◌≡◌, drop}
-use Rattle.pt_desk_rules.specs.State.{entries_of, file_with}
-use Rattle.pt_desk.proofs.FileLemmas.{filled}
-use Rattle.pt_desk.proofs.list_keeper.file_of.Given as goal
-
-abbrev pub invariant-loop-filed : goal.invariant-loop-filed
-invariant-loop-filed l = filled l.file (entries_of l.fn.rider (drop l.filed-index l.entries)) ≡ file_with (entries_of l.fn.rider l.entries)

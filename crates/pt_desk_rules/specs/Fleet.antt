@@ -1,0 +1,38 @@
+-- The agency's vehicles, each from day to day: a version of a vehicle is in force from its day until the next one's.
+use Rattle.std.specs.Prelude.{◌≡◌, ℕ, ◌+◌, ◌==◌, ◌&&◌, ◌<◌, ◌≤◌, nat_le, nat_lt, Bool, not, if◌then◌else◌, List, [], ◌∷◌, length, filter, Contains}
+use Rattle.std.specs.List.{list_any}
+use Rattle.pt_base.specs.Day.{weekday_of}
+use Rattle.pt_base.specs.Weekday.{Includes}
+use Rattle.pt_base.specs.declared.vehicle.Vehicle.{Vehicle}
+
+-- some version of this vehicle is among these
+abbrev pub has_version : ℕ → List Vehicle → Bool
+has_version id vehicles = list_any (λ version. version.id == id) vehicles
+
+-- how many vehicles these are versions of: each is counted at the last of its versions
+abbrev pub vehicle_count : List Vehicle → ℕ
+vehicle_count [] = 0
+vehicle_count (version ∷ later) = if has_version version.id later then vehicle_count later else vehicle_count later + 1
+
+-- the versions of other vehicles
+abbrev pub versions_of_others : ℕ → List Vehicle → List Vehicle
+versions_of_others id vehicles = filter (λ version. not (version.id == id)) vehicles
+
+-- the versions of a vehicle, and those of them before a day
+abbrev pub versions_of : ℕ → List Vehicle → List Vehicle
+versions_of id vehicles = filter (λ version. version.id == id) vehicles
+
+abbrev pub versions_before : ℕ → ℕ → List Vehicle → List Vehicle
+versions_before id day vehicles = filter (λ version. version.id == id && nat_lt version.from_day day) vehicles
+
+-- the version's day has come, and that of no later version of its vehicle
+abbrev pub is_in_force : ℕ → List Vehicle → Vehicle → Bool
+is_in_force day vehicles version =
+    nat_le version.from_day day
+    && not (list_any (λ other. other.id == version.id && nat_lt version.from_day other.from_day && nat_le other.from_day day) vehicles)
+
+-- a version is on duty on a day when it is in force then, and has its weekday
+pub record IsOnDuty (day : ℕ) (vehicles : List Vehicle) (version : Vehicle) : Type 0 where
+  pub there : Contains vehicles version
+  pub in_force : is_in_force day vehicles version ≡ Bool.true
+  pub weekday : Includes version.days (weekday_of day)

@@ -1,0 +1,41 @@
+use pt_base::{Day, TripId, VehicleId};
+use pt_feasible::StopKind;
+use pt_records::{Key, Keyed};
+use std::marker::Model;
+
+/// A stop of a vehicle's route: all else of it stands in its trip.
+#[derive(Clone, Copy, Debug, PartialEq, Eq)]
+pub struct PlannedStop {
+    pub trip: TripId,
+    pub kind: StopKind,
+}
+
+/// The route of a vehicle on a day, as the stops between its depot and its depot.
+#[derive(Debug, Drop)]
+pub struct PlannedRoute {
+    pub vehicle: VehicleId,
+    pub day: Day,
+    pub stops: Vec<PlannedStop>,
+}
+
+impl Model for PlannedRoute {
+    ghost use Rattle.pt_desk_rules.specs.Planned.{Plan};
+
+    ghost Value = { Plan };
+
+    ghost view = { λ route. record {
+      vehicle = route.vehicle;
+      day = route.day;
+      stops = route.stops.items;
+    } };
+}
+
+impl Keyed for PlannedRoute {
+    ghost use Rattle.pt_records.specs.Keys.{pair_key};
+
+    ghost key = { λ route. pair_key route.vehicle route.day };
+
+    fn key(&self) -> Key {
+        Key::pair(self.vehicle.number(), self.day.number())
+    }
+}

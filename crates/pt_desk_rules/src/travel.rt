@@ -1,0 +1,84 @@
+ghost use Rattle.std.specs.Prelude.{◌≡◌, ℕ, IfOk};
+ghost use Rattle.pt_travel.specs.Chain.{IsTime};
+ghost use Rattle.pt_travel.specs.Table.{IsTable};
+ghost use Rattle.pt_travel.specs.Times.{time_in};
+
+use pt_base::Day;
+use pt_records::{Key, Keyed};
+use pt_travel::{Closed, Raw, Row};
+use std::alloc::{AllocError, Global};
+use std::marker::Model;
+
+/// The agency's travel table from a day on, with the driving times that it gives, worked out once.
+///
+/// A contract sees its day and its rows.
+#[derive(Debug, Drop)]
+pub struct TravelTable {
+    from_day: Day,
+    rows: Raw,
+    times: Closed,
+}
+
+impl Model for TravelTable {
+    ghost use Rattle.std.specs.Prelude.{ℕ};
+    ghost use Rattle.pt_travel.specs.Chain.{IsTime};
+    ghost use Rattle.pt_travel.specs.Times.{time_in};
+    ghost use Rattle.pt_desk_rules.specs.Travel.{DatedTable};
+
+    ghost Value = { DatedTable };
+
+    ghost view = { λ table. record {
+      from_day = table.from_day;
+      rows = table.rows;
+    } };
+
+    ghost invariant = { λ table. (from to : ℕ) → IsTime table.rows from to (time_in table.times from to) };
+}
+
+impl TravelTable {
+    /// The table of these rows from this day on.
+    pub fn of(alloc: Global, from_day: Day, rows: Raw) -> Result<Self, AllocError>
+        ensures value { IfOk result (λ table. table ≡ record { from_day = from_day; rows = rows }) }
+        ensures table { IfOk result (λ table. IsTable table.rows) }
+    {
+        let times = match Closed::of(alloc, &rows) {
+            Ok(times) => times,
+            Err(_) => return Err(AllocError),
+        };
+        let _ = rows.rows();
+        Ok(TravelTable {
+            from_day,
+            rows,
+            times,
+        })
+    }
+
+    /// From which day on it holds.
+    pub fn from_day(&self) -> Day
+        ensures value { result ≡ self.now.from_day }
+    {
+        self.from_day
+    }
+
+    /// The rows, in order of their places.
+    pub fn rows(&self) -> &[Row]
+        ensures value { result.now ≡ self.now.rows }
+    {
+        self.rows.rows()
+    }
+
+    /// The driving times by the least chains of its rows.
+    pub fn times(&self) -> &Closed
+        ensures least { (from to : ℕ) → IsTime self.now.rows from to (time_in result.now from to) }
+    {
+        &self.times
+    }
+}
+
+impl Keyed for TravelTable {
+    ghost key = { λ table. table.from_day };
+
+    fn key(&self) -> Key {
+        Key::of(self.from_day.number())
+    }
+}

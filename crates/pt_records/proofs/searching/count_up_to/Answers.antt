@@ -1,0 +1,19 @@
+use Rattle.std.proofs.Common.{rules, ◌<◌, ◌≤◌, not}
+use Rattle.std.specs.Prelude.{nat_lt}
+use Rattle.std.proofs.lemmas.List.Sorted.{IsPartitionPoint-from_clause}
+use Rattle.pt_records.proofs.SplitLemmas.{Each-take, Each-drop, parted_up_to, is_up_to, is_above}
+use Rattle.pt_records.proofs.searching.count_up_to.Goals as goal
+
+pub returns-clause-up_to : goal.returns-clause-up_to
+returns-clause-up_to g c =
+    let point = IsPartitionPoint-from_clause (λ there. not (nat_lt c.args.key.now (g.T.Keyed.key there))) _ _ c.partition_point.ensures.partitioned
+    (parted_up_to g.T.Keyed.key c.args.key.now c.args.records.now c.requires) (λ a r q k. search rules) in
+    Each-take (λ there. g.T.Keyed.key there ≤ c.args.key.now) c.args.records.now c.partition_point.result
+    (λ k d low lt. is_up_to (g.T.Keyed.key _) c.args.key.now (point.0 k d low lt)) c.partition_point.ensures.bound
+
+pub returns-clause-rest : goal.returns-clause-rest
+returns-clause-rest g c =
+    let point = IsPartitionPoint-from_clause (λ there. not (nat_lt c.args.key.now (g.T.Keyed.key there))) _ _ c.partition_point.ensures.partitioned
+    (parted_up_to g.T.Keyed.key c.args.key.now c.args.records.now c.requires) (λ a r q k. search rules) in
+    Each-drop (λ there. c.args.key.now < g.T.Keyed.key there) c.args.records.now c.partition_point.result
+    (λ k d low lt. is_above (g.T.Keyed.key _) c.args.key.now (point.1 k d low lt))
