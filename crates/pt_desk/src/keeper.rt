@@ -3,11 +3,12 @@ ghost use Rattle.pt_desk_rules.specs.State.{State, caller_with, caller_of, kept_
 ghost use Rattle.pt_desk_rules.specs.State.{file_of, tables_before, applied};
 ghost use Rattle.pt_desk_rules.specs.Fleet.{has_version};
 ghost use Rattle.pt_desk_rules.specs.Planned.{is_booked_from};
+ghost use Rattle.pt_desk_rules.specs.Travel.{table_on};
 ghost use Rattle.pt_desk.specs.Store.{Store, Reads, Commits};
 
 use pt_base::{CallerId, Day, Place, PlaceId, Policy, Rider, RiderId, RouteId, Vehicle, VehicleId};
 use pt_corridor::FixedRoute;
-use pt_desk_rules::{Answer, Caller, Change, Digest, Kept};
+use pt_desk_rules::{Answer, Caller, Change, Digest, Kept, TravelTable};
 use pt_records::Rows;
 use pt_rights::CaseFile;
 use std::alloc::{AllocError, Global};
@@ -109,6 +110,10 @@ pub trait Keeper {
     /// How many travel tables hold from a day before this one.
     fn table_count_before(&mut self, day: Day) -> Result<usize, StoreFault>
         ensures reads { Reads (store self.old) (store self.new) (λ s. length (tables_before day s.travel)) result };
+
+    /// The travel table that holds on a day, if one does.
+    fn travel_on(&mut self, alloc: Global, day: Day) -> Result<Option<TravelTable>, StoreFault>
+        ensures reads { Reads (store self.old) (store self.new) (λ s. table_on day s.travel) result };
 
     /// Whether a trip of the vehicle, or of any where none is named, stands on the day or later.
     fn is_booked_from(&mut self, vehicle: Option<VehicleId>, day: Day) -> Result<bool, StoreFault>

@@ -13,7 +13,9 @@ use pt_base::{
     VehicleId,
 };
 use pt_corridor::FixedRoute;
-use pt_desk_rules::{Caller, Change, Digest, FiledEntry, Kept, PlannedRoute, Role, TravelTable};
+use pt_desk_rules::{
+    Caller, Change, Digest, FiledEntry, Kept, PlannedRoute, Role, TravelTable, table_on,
+};
 use pt_records::{Edits, Key, Rows, Span, Table};
 use pt_rights::{CaseFile, Entered};
 use std::alloc::{AllocError, Global};
@@ -288,6 +290,13 @@ impl Keeper for ListKeeper {
 
     fn table_count_before(&mut self, day: Day) -> Result<usize, StoreFault> {
         Ok(table_count_before(self.travel.as_slice(), day))
+    }
+
+    fn travel_on(&mut self, alloc: Global, day: Day) -> Result<Option<TravelTable>, StoreFault> {
+        match table_on(self.travel.as_slice(), day) {
+            Some(table) => Ok(Some(table.copy(alloc)?)),
+            None => Ok(None),
+        }
     }
 
     fn is_booked_from(&mut self, vehicle: Option<VehicleId>, day: Day) -> Result<bool, StoreFault> {

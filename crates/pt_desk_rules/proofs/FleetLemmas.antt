@@ -112,7 +112,7 @@ others_stay new vehicles day days =
     (λ x first same. no_other x.id new.id (same_vehicle x.id x.from_day new.id new.from_day first.1 day.1 same)) (no_other new.id new.id refl)
     (filter kept vehicles) (Each-kept HasFirstDay kept vehicles days)
     ∙ filter-kept (λ version. not (version.id == new.id)) kept HasFirstDay
-      (λ x first taken. no_other x.id new.id (taken_is_own new.id new.from_day x.id x.from_day first.1 taken)) vehicles days
+    (λ x first taken. no_other x.id new.id (taken_is_own new.id new.from_day x.id x.from_day first.1 taken)) vehicles days
 
 version_step : (id other : ℕ) (x : Vehicle) (ys xs : List Vehicle) (b : Bool) → (b ≡ false → (x.id == other) ≡ false) → has_version other ys ≡ has_version other xs → has_version other (cond b (x ∷ ys) ys) ≡ has_version other (x ∷ xs)
 version_step id other x ys xs true out same = ap (λ found. (x.id == other) || found) same
@@ -204,12 +204,12 @@ fleet_stays new vehicles day days fleet room room' =
         | inl same ↦ subst (λ n. length (versions_of n (fleet_with new vehicles)) ≤ 20) (sym same)
             (let more = length-filter-put vehicle_key (λ version. version.id == new.id) new left in
             let earlier = length-filter_twice (λ version. version.id == new.id) kept (λ version. (version.id == new.id) && nat_lt version.from_day new.from_day) HasFirstDay
-              (λ x first own stays. left_is_earlier new.id new.from_day x.id x.from_day first.1 own stays) vehicles days in
+            (λ x first own stays. left_is_earlier new.id new.from_day x.id x.from_day first.1 own stays) vehicles days in
             omega arith)
         | inr other ↦
             let same = filter-put_other vehicle_key (λ version. version.id == id) new HasFirstDay
-              (λ x first is. is_no x.id id (λ own. other (sym own ∙ same_vehicle x.id x.from_day new.id new.from_day first.1 day.1 is))) (is_no new.id id (λ own. other (sym own)))
-              left (Each-kept HasFirstDay kept vehicles days) in
+            (λ x first is. is_no x.id id (λ own. other (sym own ∙ same_vehicle x.id x.from_day new.id new.from_day first.1 day.1 is))) (is_no new.id id (λ own. other (sym own)))
+            left (Each-kept HasFirstDay kept vehicles days) in
             let fewer = length-filter_twice (λ version. version.id == id) kept (λ version. version.id == id) HasFirstDay (λ x first own stays. own) vehicles days in
             let most = fleet.few_versions id in
             let now = ap length same in
@@ -239,7 +239,7 @@ pub counted_more : (id at count total : ℕ) (x : Vehicle) (xs rest : List Vehic
 counted_more id at count total x xs rest is before =
     let n = vehicle_count (versions_of_others id rest) in
     let more = ap (λ ys. vehicle_count (versions_of_others id ys)) is ∙ by_own id x rest (x.id == id) refl (same_number x.id id) (other_number x.id id)
-      ∙ sym (counted_step n (x.id == id) (has_version x.id rest)) in
+    ∙ sym (counted_step n (x.id == id) (has_version x.id rest)) in
     moved count n total (not (x.id == id) && not (has_version x.id rest)) (sym (ap (λ m. count + m) more) ∙ before)
   where
     moved : (count n total : ℕ) (b : Bool) → count + cond b (n + 1) n ≡ total → cond b (count + 1) count + n ≡ total

@@ -272,7 +272,7 @@ put_travel_sound : (new : DatedTable) (s : State) → IsSound s → IsOfPlaces s
 put_travel_sound new s sound is room =
     let table = IsTable-replace travel_key (tables_from new.from_day) new s.travel most_tables sound.travel room in
     let of_places = Each-put (IsOfPlaces s.places) travel_key new (tables_before new.from_day s.travel)
-      (Each-filter (IsOfPlaces s.places) (λ table. not (is_within (travel_key table) (tables_from new.from_day))) s.travel sound.travel_of_places) is in
+    (Each-filter (IsOfPlaces s.places) (λ table. not (is_within (travel_key table) (tables_from new.from_day))) s.travel sound.travel_of_places) is in
     search rules
 
 -- what an accepted write makes of a sound state

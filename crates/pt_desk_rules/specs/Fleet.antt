@@ -1,8 +1,8 @@
 -- The agency's vehicles, each from day to day: a version of a vehicle is in force from its day until the next one's.
-use Rattle.std.specs.Prelude.{◌≡◌, ℕ, ◌+◌, ◌==◌, ◌&&◌, ◌<◌, ◌≤◌, nat_le, nat_lt, Bool, not, if◌then◌else◌, List, [], ◌∷◌, length, filter, Contains}
+use Rattle.std.specs.Prelude.{ℕ, ◌+◌, ◌==◌, ◌&&◌, nat_le, nat_lt, Bool, false, not, if◌then◌else◌, List, [], ◌∷◌, filter, slice_get}
+use Rattle.std.specs.Option.{unwrap_or}
 use Rattle.std.specs.List.{list_any}
 use Rattle.pt_base.specs.Day.{weekday_of}
-use Rattle.pt_base.specs.Weekday.{Includes}
 use Rattle.pt_base.specs.declared.vehicle.Vehicle.{Vehicle}
 
 -- some version of this vehicle is among these
@@ -25,14 +25,22 @@ versions_of id vehicles = filter (λ version. version.id == id) vehicles
 abbrev pub versions_before : ℕ → ℕ → List Vehicle → List Vehicle
 versions_before id day vehicles = filter (λ version. version.id == id && nat_lt version.from_day day) vehicles
 
+-- a later version of the same vehicle, whose day has come
+abbrev pub is_newer : ℕ → Vehicle → Vehicle → Bool
+is_newer day version other = other.id == version.id && nat_lt version.from_day other.from_day && nat_le other.from_day day
+
 -- the version's day has come, and that of no later version of its vehicle
 abbrev pub is_in_force : ℕ → List Vehicle → Vehicle → Bool
-is_in_force day vehicles version =
-    nat_le version.from_day day
-    && not (list_any (λ other. other.id == version.id && nat_lt version.from_day other.from_day && nat_le other.from_day day) vehicles)
+is_in_force day vehicles version = nat_le version.from_day day && not (list_any (is_newer day version) vehicles)
+
+-- it has the day's weekday
+abbrev pub has_weekday : ℕ → Vehicle → Bool
+has_weekday day version = unwrap_or (slice_get version.days (weekday_of day)) false
 
 -- a version is on duty on a day when it is in force then, and has its weekday
-pub record IsOnDuty (day : ℕ) (vehicles : List Vehicle) (version : Vehicle) : Type 0 where
-  pub there : Contains vehicles version
-  pub in_force : is_in_force day vehicles version ≡ Bool.true
-  pub weekday : Includes version.days (weekday_of day)
+abbrev pub is_on_duty : ℕ → List Vehicle → Vehicle → Bool
+is_on_duty day vehicles version = is_in_force day vehicles version && has_weekday day version
+
+-- the vehicles on duty on a day, in the order of their versions
+abbrev pub on_duty : ℕ → List Vehicle → List Vehicle
+on_duty day vehicles = filter (is_on_duty day vehicles) vehicles

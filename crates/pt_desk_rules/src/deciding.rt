@@ -3,9 +3,7 @@ ghost use Rattle.pt_base.specs.Day.{IsDay};
 ghost use Rattle.pt_desk_rules.specs.Deciding.{answer_of, change_of, decision, IsMade, IsMadeIf};
 ghost use Rattle.pt_desk_rules.specs.State.{versions_from, tables_from};
 
-use crate::{
-    Answer, Caller, Change, FiledEntry, Kept, TravelTable, Write, WriteFacts, denial,
-};
+use crate::{Answer, Caller, Change, FiledEntry, Kept, TravelTable, Write, WriteFacts, denial};
 use pt_base::{Day, Minute, Rule, Vehicle};
 use pt_records::{Key, Span};
 use pt_rights::Entered;
@@ -94,7 +92,9 @@ fn change_of(
         }
         Write::Travel { day, rows } => {
             change.travel.take_away(tables_from(*day))?;
-            change.travel.put(TravelTable::of(alloc, *day, rows.copy(alloc)?)?)?;
+            change
+                .travel
+                .put(TravelTable::of(alloc, *day, rows.copy(alloc)?)?)?;
         }
     }
     Ok(change)

@@ -11,9 +11,7 @@ use crate::{
     Caller, MOST_CALLERS, MOST_PLACES, MOST_RIDERS, MOST_ROUTES, MOST_TABLES, MOST_VEHICLES,
     MOST_VERSIONS, Write, WriteFacts,
 };
-use pt_base::{
-    CallerId, Day, Minute, Place, PlaceId, Residence, Rider, RiderId, Rule, Vehicle,
-};
+use pt_base::{CallerId, Day, Minute, Place, PlaceId, Residence, Rider, RiderId, Rule, Vehicle};
 use pt_records::{Key, Rows};
 use pt_rights::Entry;
 use pt_travel::Row;

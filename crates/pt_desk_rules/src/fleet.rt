@@ -1,7 +1,10 @@
-ghost use Rattle.std.specs.Prelude.{◌≡◌, ◌==◌, ◌&&◌, not, length};
+ghost use Rattle.std.specs.Prelude.{◌≡◌, ◌==◌, ◌&&◌, not, length, IfOk};
+ghost use Rattle.std.specs.List.{list_any};
 ghost use Rattle.pt_desk_rules.specs.Fleet.{has_version, vehicle_count, versions_before, versions_of_others};
+ghost use Rattle.pt_desk_rules.specs.Fleet.{is_newer, is_on_duty, on_duty};
 
 use pt_base::{Day, Vehicle, VehicleId};
+use std::alloc::{AllocError, Global};
 
 /// Whether some version of this vehicle is among these.
 fn has_version(vehicles: &[Vehicle], id: VehicleId) -> bool
@@ -47,4 +50,38 @@ pub(crate) fn other_vehicle_count(vehicles: &[Vehicle], id: VehicleId) -> usize
         }
     }
     count
+}
+
+/// Whether a later version of the same vehicle has come by the day.
+fn has_newer(vehicles: &[Vehicle], version: &Vehicle, day: Day) -> bool
+    ensures value { result ≡ list_any (is_newer day version.now) vehicles.now }
+{
+    for other in vehicles {
+        if other.id == version.id && version.from_day < other.from_day && other.from_day <= day {
+            return true;
+        }
+    }
+    false
+}
+
+/// Whether the version is on duty on the day.
+fn is_on_duty(vehicles: &[Vehicle], version: &Vehicle, day: Day) -> bool
+    ensures value { result ≡ is_on_duty day vehicles.now version.now }
+{
+    version.from_day <= day
+        && version.days.contains(day.weekday())
+        && !has_newer(vehicles, version, day)
+}
+
+/// The vehicles on duty on a day, each as it is then, in order of their numbers.
+pub fn on_duty(alloc: Global, vehicles: &[Vehicle], day: Day) -> Result<Vec<Vehicle>, AllocError>
+    ensures value { IfOk result (λ found. found.items ≡ on_duty day vehicles.now) }
+{
+    let mut found = Vec::new(alloc);
+    for version in vehicles {
+        if is_on_duty(vehicles, version, day) {
+            found.push(*version)?;
+        }
+    }
+    Ok(found)
 }

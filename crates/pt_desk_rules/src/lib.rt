@@ -6,13 +6,14 @@ pub use change::{Change, FiledEntry};
 pub use deciding::{Decision, decide};
 pub use denying::denial;
 pub use facts::{ReadFacts, WriteFacts};
+pub use fleet::on_duty;
 pub use limits::{
     MOST_CALLERS, MOST_PLACES, MOST_RIDERS, MOST_ROUTES, MOST_TABLES, MOST_VEHICLES, MOST_VERSIONS,
 };
 pub use planned::{PlannedRoute, PlannedStop};
 pub use request::{Answer, Read, Request, Write};
 pub use telling::tell;
-pub use travel::TravelTable;
+pub use travel::{TravelTable, table_on};
 
 mod caller;
 mod change;

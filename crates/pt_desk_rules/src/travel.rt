@@ -2,6 +2,9 @@ ghost use Rattle.std.specs.Prelude.{◌≡◌, ℕ, IfOk};
 ghost use Rattle.pt_travel.specs.Chain.{IsTime};
 ghost use Rattle.pt_travel.specs.Table.{IsTable};
 ghost use Rattle.pt_travel.specs.Times.{time_in};
+ghost use Rattle.std.specs.List.{list_any};
+ghost use Rattle.std.specs.Option.{option_copied};
+ghost use Rattle.pt_desk_rules.specs.Travel.{is_newer, table_on};
 
 use pt_base::Day;
 use pt_records::{Key, Keyed};
@@ -53,6 +56,17 @@ impl TravelTable {
         })
     }
 
+    /// A copy.
+    pub fn copy(&self, alloc: Global) -> Result<Self, AllocError>
+        ensures value { IfOk result (λ copy. copy ≡ self.now) }
+    {
+        Ok(TravelTable {
+            from_day: self.from_day,
+            rows: self.rows.copy(alloc)?,
+            times: self.times.copy(alloc)?,
+        })
+    }
+
     /// From which day on it holds.
     pub fn from_day(&self) -> Day
         ensures value { result ≡ self.now.from_day }
@@ -81,4 +95,28 @@ impl Keyed for TravelTable {
     fn key(&self) -> Key {
         Key::of(self.from_day.number())
     }
+}
+
+/// Whether a later table has come by the day.
+fn has_newer(tables: &[TravelTable], table: &TravelTable, day: Day) -> bool
+    ensures value { result ≡ list_any (is_newer day table.now) tables.now }
+{
+    for other in tables {
+        if table.from_day() < other.from_day() && other.from_day() <= day {
+            return true;
+        }
+    }
+    false
+}
+
+/// The table that holds on the day, if one does.
+pub fn table_on(tables: &[TravelTable], day: Day) -> Option<&TravelTable>
+    ensures value { option_copied result ≡ table_on day tables.now }
+{
+    for table in tables {
+        if table.from_day() <= day && !has_newer(tables, table, day) {
+            return Some(table);
+        }
+    }
+    None
 }

@@ -8,6 +8,8 @@ mod corridor;
 #[cfg(test)]
 mod desk;
 #[cfg(test)]
+mod fleet;
+#[cfg(test)]
 mod insertion;
 #[cfg(test)]
 mod service_times;

@@ -12,7 +12,7 @@ loop-at-preserved c =
     let rest : List Vehicle = drop (at + 1) xs in
     let within : at < length xs = c.loop-at-test.true in
     let is : drop at xs ≡ x ∷ rest =
-        drop-cons xs at x within ∙ ap (λ y. y ∷ drop (suc at) xs) (sym c.index-vehicles-at.is) ∙ ap (λ n. x ∷ drop n xs) (sym (add-one at)) in
+    drop-cons xs at x within ∙ ap (λ y. y ∷ drop (suc at) xs) (sym c.index-vehicles-at.is) ∙ ap (λ n. x ∷ drop n xs) (sym (add-one at)) in
     let few : c.loop-at.count ≤ at = c.loop-at.invariant.few in
     let last = c.is_last_of_another.result in
     let counted : c.if-is_last_of_another.count ≡ cond last (c.loop-at.count + 1) c.loop-at.count = elim c.if-is_last_of_another.branch [
