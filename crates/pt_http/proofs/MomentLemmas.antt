@@ -1,5 +1,5 @@
 -- The moment at the front of an input.
-use Rattle.std.proofs.Common.{◌≡◌, ℕ, ◌<◌, List, [], ◌∷◌, ◌++◌, length, ap, ◌∙◌, refl, arith, Bool, true, false, Option, Some, None, Result, Ok, inl, inr, ◌⊎◌}
+use Rattle.std.proofs.Common.{◌≡◌, ◌≢◌, ℕ, ◌<◌, ◌≤◌, ◌+◌, List, [], ◌∷◌, ◌++◌, length, sym, ap, ◌∙◌, refl, arith, length-append, Bool, true, false, Option, Some, None, Result, Ok, inl, inr, ◌⊎◌}
 use Rattle.pt_http_inbox.specs.declared.inbox.Inbox.{Inbox}
 use Rattle.pt_http_moment.specs.Moment.{BeginsWithMoment}
 use Rattle.pt_http.specs.Input.{HasInput}
@@ -25,3 +25,10 @@ none_in (byte ∷ bytes) few = absurd (omega arith)
 -- an input of which nothing is held or left is empty
 pub nothing_left : (input bytes left : List ℕ) → input ≡ bytes ++ left → length bytes < 1 → left ≡ [] → input ≡ []
 nothing_left input bytes left is few ended = is ∙ ap (λ b. b ++ left) (none_in bytes few) ∙ ended
+
+-- an input of which a byte is held is not empty
+pub not_empty : (input bytes left : List ℕ) → input ≡ bytes ++ left → 1 ≤ length bytes → input ≢ []
+not_empty input bytes left is some none =
+    let long : length input ≡ length bytes + length left = ap length is ∙ length-append bytes left in
+    let short : length input ≡ 0 = ap length none in
+    omega arith

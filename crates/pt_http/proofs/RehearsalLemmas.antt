@@ -10,9 +10,9 @@ use Rattle.pt_http_reply.specs.declared.response.Response.{Response}
 use Rattle.pt_base.specs.Fault.{fault}
 use Rattle.pt_base.specs.declared.fault.Fault.{Fault}
 use Rattle.pt_base.specs.Codes.{memory_refused, read_failed, write_failed, moment_line_refused}
-use Rattle.pt_http.specs.Exchange.{Desk, Exchanges, IsUnanswered}
+use Rattle.pt_http.specs.Exchange.{Desk, Exchanges, IsUnanswered, is_last}
 use Rattle.pt_http.specs.Input.{HasInput}
-use Rattle.pt_http.specs.Rehearsal.{Exchanged, is_last, IsStep, Rehearses, HasNoMoment}
+use Rattle.pt_http.specs.Rehearsal.{Exchanged, IsStep, Rehearses, HasBadLine}
 
 -- Where a rehearsal of this input stands: what comes after it completes it.
 pub record StandsAt {R : Type 0} (remaining : R → Option (List ℕ)) (input : List ℕ) (old : Desk) (before : Option (List ℕ)) (inbox : Inbox R) (now : Desk) (after : Option (List ℕ)) : Type 0 where
@@ -93,11 +93,11 @@ write_no_line error is line = let same : 47 ≡ 48 = code_of error 47 48 is line
 abbrev pub Stopped : List ℕ → Desk → Desk → Option (List ℕ) → Option (List ℕ) → Fault → Type 0
 Stopped input old new before after error =
     (messages : List Exchanged) × (written : List ℕ) × (rest : List ℕ) × Rehearses messages input old written rest new
-    × (error ≢ fault write_failed → Appends before after written) × (error ≡ fault moment_line_refused → HasNoMoment rest)
+    × (error ≢ fault write_failed → Appends before after written) × (error ≡ fault moment_line_refused → HasBadLine rest)
 
 -- it ended where it stood
 pub stopped_here : {R : Type 0} (remaining : R → Option (List ℕ)) (input : List ℕ) (old now : Desk) (before after : Option (List ℕ)) (inbox : Inbox R) (error : Fault) → (stands : StandsAt remaining input old before inbox now after)
-    → (error ≡ fault moment_line_refused → HasNoMoment stands.left) → Stopped input old now before after error
+    → (error ≡ fault moment_line_refused → HasBadLine stands.left) → Stopped input old now before after error
 stopped_here remaining input old now before after inbox error stands line =
     (stands.messages, stands.written, stands.left, stops remaining input old now before after inbox stands, (λ other. stands.appended), line)
 

@@ -1,8 +1,8 @@
 -- What was received from some bytes.
-use Rattle.std.specs.Prelude.{◌≡◌, ℕ, List}
+use Rattle.std.specs.Prelude.{◌≡◌, ℕ, Bool, false, List}
 use Rattle.pt_http_reply.specs.declared.response.Response.{Response}
 use Rattle.pt_http_reply.specs.declared.response.Response.TheVariants as response
-use Rattle.pt_http.specs.Exchange.{Desk, AnswersMessage}
+use Rattle.pt_http.specs.Exchange.{Desk, AnswersMessage, is_last}
 use Rattle.httparse.specs.Grammar.{RequestHead}
 use Rattle.pt_http_request.specs.Messages.{SpellsMessage, IsMessageFault}
 use Rattle.pt_http_request.specs.Targets.{desk_routes}
@@ -15,6 +15,11 @@ use Rattle.pt_http.specs.declared.received.Received.TheVariants as received
 abbrev pub IsSpelledBy : RequestHead → List ℕ → Received → Type 0
 IsSpelledBy head body (received.Message message) = SpellsMessage desk_routes head.method head.target (lines_of head) body message
 IsSpelledBy head body (received.Refused why) = IsMessageFault desk_routes head.method head.target (lines_of head) body why
+
+-- where the next message begins is not known
+abbrev pub is_end : Received → Bool
+is_end (received.Message message) = false
+is_end (received.Refused why) = is_last (response.Refused why)
 
 -- the bytes begin with this message, or what begins them is refused for this fault
 abbrev pub BeginsWith : List ℕ → Received → List ℕ → Type 0

@@ -1,14 +1,12 @@
 -- Rehearsals: messages one after another, each led by a line that gives its moment.
-use Rattle.std.specs.Prelude.{◌≡◌, ◌⊎◌, ℕ, Bool, true, false, List, [], ◌∷◌, ◌++◌}
+use Rattle.std.specs.Prelude.{◌≡◌, ◌≢◌, ◌⊎◌, ℕ, true, List, [], ◌∷◌, ◌++◌}
 use Rattle.pt_base.specs.Fault.{fault}
 use Rattle.pt_base.specs.declared.fault.Fault.{Fault}
 use Rattle.pt_base.specs.Codes.{write_failed, moment_line_refused}
 use Rattle.pt_http_moment.specs.Moment.{BeginsWithMoment}
 use Rattle.pt_http_reply.specs.Response.{IsReplyText}
-use Rattle.pt_http_reply.specs.declared.fault.RequestFault.TheVariants.{Head, Length}
 use Rattle.pt_http_reply.specs.declared.response.Response.{Response}
-use Rattle.pt_http_reply.specs.declared.response.Response.TheVariants.{Refused}
-use Rattle.pt_http.specs.Exchange.{Desk, Exchanges, IsUnanswered}
+use Rattle.pt_http.specs.Exchange.{Desk, Exchanges, IsUnanswered, is_last}
 
 -- a message of a rehearsal: the moment at which it came, the reply, and the reply's bytes
 pub record Exchanged : Type 0 where
@@ -16,12 +14,6 @@ pub record Exchanged : Type 0 where
   pub minute : ℕ
   pub reply : Response
   pub text : List ℕ
-
--- a rehearsal ends with a head or a length that is not taken: where the next message begins is not known
-abbrev pub is_last : Response → Bool
-is_last (Refused Head) = true
-is_last (Refused Length) = true
-is_last _ = false
 
 -- the bytes begin with this message's moment and then with what it answers, and leave this rest and this state
 pub record IsStep (one : Exchanged) (bytes : List ℕ) (old : Desk) (rest : List ℕ) (new : Desk) : Type 0 where
@@ -45,6 +37,10 @@ IsFinished messages rest =
 -- no line with a moment begins the bytes
 abbrev pub HasNoMoment : List ℕ → Type 0
 HasNoMoment bytes = (day minute : ℕ) (rest : List ℕ) → ¬ (BeginsWithMoment bytes day minute rest)
+
+-- the input goes on, and not with a line that gives a moment: its end is no bad line
+abbrev pub HasBadLine : List ℕ → Type 0
+HasBadLine bytes = (bytes ≢ []) × HasNoMoment bytes
 
 -- what ends a rehearsal before its end: no memory, a read or a write that failed, a bad line, or too many messages
 abbrev pub IsRehearsalFault : Fault → Type 0

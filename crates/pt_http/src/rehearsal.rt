@@ -2,12 +2,13 @@ ghost use Rattle.std.specs.Prelude.{◌≡◌, ◌≢◌, ◌⊎◌, ℕ, ◌≤
 ghost use Rattle.std.specs.Io.KnownBytes.{Appends};
 ghost use Rattle.pt_base.specs.Fault.{fault};
 ghost use Rattle.pt_base.specs.Codes.{read_failed, write_failed, moment_line_refused};
-ghost use Rattle.pt_http.specs.Exchange.{Desk, desk_of, IsUnanswered};
+ghost use Rattle.pt_http_inbox.specs.Inbox.{reads_of};
+ghost use Rattle.pt_http.specs.Exchange.{Desk, desk_of, IsUnanswered, is_last};
 ghost use Rattle.pt_desk.specs.Store.{Store, IsSettled};
 ghost use Rattle.pt_http.specs.Input.{HasInput};
 ghost use Rattle.pt_http.specs.Moments.{IsNext};
 ghost use Rattle.pt_http_request.specs.Targets.{desk_routes};
-ghost use Rattle.pt_http.specs.Rehearsal.{Exchanged, Rehearses, IsFinished, HasNoMoment, IsRehearsalFault, is_last};
+ghost use Rattle.pt_http.specs.Rehearsal.{Exchanged, Rehearses, IsFinished, HasBadLine, IsRehearsalFault};
 
 use crate::exchange::exchange;
 use matchit::Router;
@@ -28,7 +29,10 @@ pub const MOST_MESSAGES: u32 = 100_000;
 fn next_moment<R: Read + Drop>(inbox: &mut Inbox<R>) -> Result<Option<(Day, Minute)>, Fault>
     ensures next { (input : List ℕ) → HasInput R.remaining inbox.old input
         → IfOk result (IsNext R.remaining inbox.new input) }
-    ensures line { (input : List ℕ) → HasInput R.remaining inbox.old input → result ≡ Err (fault moment_line_refused) → HasNoMoment input }
+    ensures line { (input : List ℕ) → HasInput R.remaining inbox.old input
+        → result ≡ Err (fault moment_line_refused) → HasBadLine input }
+    // The reads of the line count with those of its message.
+    ensures counted { reads_of inbox.old ≤ reads_of inbox.new }
     ensures fault { IfErr result (λ error. (error ≡ fault read_failed) ⊎ (error ≡ fault moment_line_refused)) }
 {
     if !inbox.read_up_to(1)? {
@@ -61,16 +65,18 @@ fn go_through<K: Keeper, R: Read + Drop, W: Write>(
     out: &mut W,
 ) -> Result<(), Fault>
     requires { router.now ≡ desk_routes }
-    ensures finished { (K.store keeper.new).doubt ≡ 0 → (K.store keeper.new).shut ≡ 0 → (input : List ℕ) → HasInput R.remaining inbox.old input
+    ensures finished { (K.store keeper.new).doubt ≡ 0 → (K.store keeper.new).shut ≡ 0
+        → (input : List ℕ) → HasInput R.remaining inbox.old input
         → OnOk result ((messages : List Exchanged) × (written : List ℕ) × (rest : List ℕ)
         × Rehearses messages input (desk_of (K.store keeper.old)) written rest (desk_of (K.store keeper.new))
         × Appends (W.contents out.old) (W.contents out.new) written × IsFinished messages rest) }
     // Else it stands after the last message that was answered, whose reply may not be wholly written.
-    ensures stopped { (K.store keeper.new).doubt ≡ 0 → (K.store keeper.new).shut ≡ 0 → (input : List ℕ) → HasInput R.remaining inbox.old input
+    ensures stopped { (K.store keeper.new).doubt ≡ 0 → (K.store keeper.new).shut ≡ 0
+        → (input : List ℕ) → HasInput R.remaining inbox.old input
         → IfErr result (λ error. (messages : List Exchanged) × (written : List ℕ) × (rest : List ℕ)
         × Rehearses messages input (desk_of (K.store keeper.old)) written rest (desk_of (K.store keeper.new))
         × (error ≢ fault write_failed → Appends (W.contents out.old) (W.contents out.new) written)
-        × (error ≡ fault moment_line_refused → HasNoMoment rest)) }
+        × (error ≡ fault moment_line_refused → HasBadLine rest)) }
     ensures fault { IfErr result IsRehearsalFault }
     ensures clean { (K.store keeper.old).doubt ≤ (K.store keeper.new).doubt }
     ensures serves { (K.store keeper.old).shut ≤ (K.store keeper.new).shut }
@@ -101,16 +107,18 @@ pub fn rehearse<K: Keeper, R: Read + Drop, W: Write>(
     inbox: &mut Inbox<R>,
     out: &mut W,
 ) -> Result<(), Fault>
-    ensures finished { (K.store keeper.new).doubt ≡ 0 → (K.store keeper.new).shut ≡ 0 → (input : List ℕ) → HasInput R.remaining inbox.old input
+    ensures finished { (K.store keeper.new).doubt ≡ 0 → (K.store keeper.new).shut ≡ 0
+        → (input : List ℕ) → HasInput R.remaining inbox.old input
         → OnOk result ((messages : List Exchanged) × (written : List ℕ) × (rest : List ℕ)
         × Rehearses messages input (desk_of (K.store keeper.old)) written rest (desk_of (K.store keeper.new))
         × Appends (W.contents out.old) (W.contents out.new) written × IsFinished messages rest) }
     // Else it stands after the last message that was answered, whose reply may not be wholly written.
-    ensures stopped { (K.store keeper.new).doubt ≡ 0 → (K.store keeper.new).shut ≡ 0 → (input : List ℕ) → HasInput R.remaining inbox.old input
+    ensures stopped { (K.store keeper.new).doubt ≡ 0 → (K.store keeper.new).shut ≡ 0
+        → (input : List ℕ) → HasInput R.remaining inbox.old input
         → IfErr result (λ error. (messages : List Exchanged) × (written : List ℕ) × (rest : List ℕ)
         × Rehearses messages input (desk_of (K.store keeper.old)) written rest (desk_of (K.store keeper.new))
         × (error ≢ fault write_failed → Appends (W.contents out.old) (W.contents out.new) written)
-        × (error ≡ fault moment_line_refused → HasNoMoment rest)) }
+        × (error ≡ fault moment_line_refused → HasBadLine rest)) }
     ensures fault { IfErr result IsRehearsalFault }
     ensures clean { (K.store keeper.old).doubt ≤ (K.store keeper.new).doubt }
     ensures serves { (K.store keeper.old).shut ≤ (K.store keeper.new).shut }

@@ -1,9 +1,9 @@
-use Rattle.std.proofs.Common.{◌++◌, refl, subst, sym, ap, ◌∙◌, drop, List, ℕ}
+use Rattle.std.proofs.Common.{◌≡◌, ◌≤◌, ◌++◌, Ok, true, length, refl, subst, sym, ap, ◌∙◌, drop, List, ℕ, arith}
 use Rattle.pt_http_inbox.specs.Inbox.{held}
 use Rattle.pt_http_moment.specs.Moment.{BeginsWithMoment}
 use Rattle.pt_http_moment.proofs.MomentLemmas.{moment_before, no_moment_after}
 use Rattle.pt_http.specs.Rehearsal.{HasNoMoment}
-use Rattle.pt_http.proofs.MomentLemmas.{one_of_two}
+use Rattle.pt_http.proofs.MomentLemmas.{one_of_two, not_empty}
 use Rattle.pt_http.proofs.ReceivedLemmas.{reads_input, none_left}
 use Rattle.pt_http.proofs.rehearsal.next_moment.Goals as goal
 
@@ -15,7 +15,9 @@ returns-in_default-clause-line g c = λ input has is.
     let none : HasNoMoment bytes = subst HasNoMoment c.held.ensures.value (c.in_default.ensures.none refl) in
     let all = one_of_two c.in_ok-read_up_to-2.field-0 c.read_up_to-2.result c.in_ok-read_up_to-2.was c.read_up_to-2.ensures.enough
     (λ ended. none_left _ now.left (c.read_up_to-2.ensures.end ended) now.known) in
-    subst HasNoMoment (sym now.whole) (no_moment_after bytes now.left all none)
+    let came : c.read_up_to.result ≡ Ok true = c.in_ok-read_up_to.was ∙ ap Ok c.if-not-branch.false in
+    let some : 1 ≤ length (held c.read_up_to.new.self) = c.read_up_to.ensures.enough came in
+    (not_empty input _ first.left first.whole some, subst HasNoMoment (sym now.whole) (no_moment_after bytes now.left all none))
 
 pub returns-clause-next : goal.returns-clause-next
 returns-clause-next g c = λ input has.
