@@ -5,6 +5,8 @@ ghost use Rattle.pt_http.specs.Exchange.{Desk, desk_of, IsExchangedOver, IsWritt
 ghost use Rattle.pt_desk.specs.Store.{Store, IsSettled};
 ghost use Rattle.pt_http.specs.Input.{HasInput};
 ghost use Rattle.pt_http.specs.Received.{Responds};
+ghost use Rattle.std.specs.Io.KnownBytes.{Appends};
+ghost use Rattle.pt_http_reply.specs.Reply.{bytes_of};
 ghost use Rattle.pt_http_reply.specs.Response.{IsReplyText};
 ghost use Rattle.pt_http_reply.specs.declared.response.Response.{Response};
 ghost use Rattle.pt_http_request.specs.Targets.{desk_routes};
@@ -15,7 +17,7 @@ use pt_base::fault::{MEMORY, WRITE_FAILED};
 use pt_base::{Day, Fault, Minute, Rule};
 use pt_desk::{Answer, Keeper, answer};
 use pt_http_inbox::Inbox;
-use pt_http_reply::{ReplyBuffer, Response, write_response};
+use pt_http_reply::{ReplyBytes, Response, reply_to};
 use pt_http_request::{Path, desk_router};
 use std::alloc::Global;
 use std::io::{Read, Write};
@@ -47,14 +49,14 @@ fn respond<K: Keeper>(
 }
 
 /// Writes a reply, and sees it off. The error is a write that failed.
-fn write_reply<W: Write>(response: &Response, out: &mut W) -> Result<(), Fault>
-    ensures written { OnOk result (IsWritten response.now (W.contents out.old) (W.contents out.new)) }
-    ensures text { (text : List ℕ) × IsReplyText response.now text }
+fn write_reply<W: Write>(reply: &ReplyBytes, out: &mut W) -> Result<(), Fault>
+    ensures written { OnOk result (Appends (W.contents out.old) (W.contents out.new) (bytes_of reply.now)) }
     ensures fault { IfErr result (λ error. error ≡ fault write_failed) }
 {
-    let mut reply = ReplyBuffer::new();
-    write_response(response, &mut reply);
-    if out.write_all(reply.as_slice()).is_err() || out.flush().is_err() {
+    if out.write_all(reply.front.as_slice()).is_err()
+        || out.write_all(reply.rest.as_slice()).is_err()
+        || out.flush().is_err()
+    {
         return Err(Fault::of(WRITE_FAILED));
     }
     Ok(())
@@ -86,7 +88,8 @@ pub(crate) fn exchange<K: Keeper, R: Read + Drop, W: Write>(
 {
     let received = receive(alloc, router, inbox)?;
     let response = respond(alloc, keeper, now, &received);
-    write_reply(&response, out)?;
+    let (response, reply) = reply_to(alloc, response);
+    write_reply(&reply, out)?;
     Ok(response)
 }
 

@@ -3,6 +3,9 @@ use Rattle.std.specs.Prelude.{◌≡◌, ℕ, List, [], ◌++◌, length, codes,
 use Rattle.pt_base.specs.declared.rule.Rule.TheVariants.{Key}
 use Rattle.pt_desk_rules.specs.declared.request.Answer.TheVariants as answer
 use Rattle.pt_http_reply.specs.Body.{body_of, IsUntil}
+use Rattle.pt_http_reply.specs.ContentType.{type_text}
+use Rattle.pt_http_reply.specs.declared.content_type.ContentType.{ContentType}
+use Rattle.pt_http_reply.specs.declared.content_type.ContentType.TheVariants.{Json}
 use Rattle.pt_http_reply.specs.Fault.{method_name, status_of_fault}
 use Rattle.pt_http_reply.specs.Status.{status_text, status_of_rule}
 use Rattle.pt_http_reply.specs.declared.fault.RequestFault.TheVariants as fault
@@ -18,6 +21,10 @@ status_of (response.Answered (Ok told)) = status.Ok
 status_of (response.Answered (Err failed)) = status.ServiceUnavailable
 status_of (response.Refused refused) = status_of_fault refused
 
+-- what the body of a reply is written in
+abbrev pub type_of : Response → ContentType
+type_of reply = Json
+
 -- a line of a head
 abbrev pub line : List ℕ → List ℕ
 line text = text ++ codes "\r\n"
@@ -32,7 +39,7 @@ own_lines _ = []
 abbrev pub head_text : Response → ℕ → List ℕ
 head_text reply body_length =
     line (codes "HTTP/1.1 " ++ status_text (status_of reply))
-    ++ line (codes "Content-Type: application/json")
+    ++ line (codes "Content-Type: " ++ type_text (type_of reply))
     ++ line (codes "Content-Length: " ++ decimal body_length)
     ++ own_lines reply
     ++ line (codes "Connection: close")
