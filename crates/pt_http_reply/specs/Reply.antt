@@ -26,7 +26,7 @@ bytes_in (Grown text) = text.items
 
 -- one in fixed room leaves room for a head
 abbrev pub IsShort : Body → Type 0
-IsShort (Fixed text) = length text ≤ 300
+IsShort (Fixed text) = length text ≤ 60
 IsShort (Grown text) = Unit {0}
 
 -- it stands in fixed room

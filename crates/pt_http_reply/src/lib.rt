@@ -7,7 +7,6 @@ pub use content_type::ContentType;
 pub use fault::{AllowedMethod, FieldName, RequestFault};
 pub use reply_bytes::{ReplyBytes, reply_to};
 pub use response::Response;
-pub use status::Status;
 
 mod body;
 mod buffer;

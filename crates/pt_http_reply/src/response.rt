@@ -1,9 +1,11 @@
-ghost use Rattle.std.specs.Prelude.{◌≡◌, ◌≤◌, ◌+◌, ◌++◌, [], length, codes, decimal};
+ghost use Rattle.std.specs.Prelude.{◌≡◌, ◌≤◌, ◌+◌, ◌++◌, [], length, codes, decimal, unwrap_or};
+ghost use Rattle.http.specs.StatusCode.{reason_phrase, status_text};
 ghost use Rattle.pt_http_reply.specs.ContentType.{type_text};
 ghost use Rattle.pt_http_reply.specs.Response.{status_of, type_of, line, own_lines, head_text};
-ghost use Rattle.pt_http_reply.specs.Status.{status_text};
 
-use crate::{ContentType, ReplyBuffer, RequestFault, Status};
+use crate::status::status_of_rule;
+use crate::{ContentType, ReplyBuffer, RequestFault};
+use http::StatusCode;
 use itoa::Buffer;
 use pt_base::Rule;
 use pt_desk::{Answer, Reply};
@@ -19,13 +21,13 @@ pub enum Response {
 
 impl Response {
     /// The status that the reply has.
-    pub fn status(&self) -> Status
+    pub fn status(&self) -> StatusCode
         ensures { result ≡ status_of self.now }
     {
         match self {
-            Response::Answered(Ok(Answer::Denied(rule))) => Status::of_rule(*rule),
-            Response::Answered(Ok(_)) => Status::Ok,
-            Response::Answered(Err(_)) => Status::ServiceUnavailable,
+            Response::Answered(Ok(Answer::Denied(rule))) => status_of_rule(*rule),
+            Response::Answered(Ok(_)) => StatusCode::OK,
+            Response::Answered(Err(_)) => StatusCode::SERVICE_UNAVAILABLE,
             Response::Refused(fault) => fault.status(),
         }
     }
@@ -42,7 +44,7 @@ impl Response {
 pub(crate) fn write_head(response: &Response, body_length: usize, out: &mut ReplyBuffer)
     requires { out.old ≡ [] }
     ensures text { out.new ≡ head_text response.now body_length }
-    ensures short { length out.new ≤ 200 }
+    ensures short { length out.new ≤ 250 }
 {
     write_status_line(response.status(), out);
     write_type_line(response.content_type(), out);
@@ -53,13 +55,16 @@ pub(crate) fn write_head(response: &Response, body_length: usize, out: &mut Repl
 }
 
 /// The line that begins a reply.
-fn write_status_line(status: Status, out: &mut ReplyBuffer)
-    requires { length out.old ≤ 400 }
+fn write_status_line(status: StatusCode, out: &mut ReplyBuffer)
+    requires room { length out.old ≤ 400 }
+    requires short { length (unwrap_or (reason_phrase status) (codes "<unknown status code>")) ≤ 31 }
     ensures text { out.new ≡ out.old ++ line (codes "HTTP/1.1 " ++ status_text status) }
-    ensures short { length out.new ≤ length out.old + 35 }
+    ensures short { length out.new ≤ length out.old + 83 }
 {
     out.push(b"HTTP/1.1 ");
-    out.push(status.text().as_bytes());
+    out.push(Buffer::new().format(status.as_u16()).as_bytes());
+    out.push(b" ");
+    out.push(status.canonical_reason().unwrap_or("<unknown status code>").as_bytes());
     out.push(b"\r\n");
 }
 
