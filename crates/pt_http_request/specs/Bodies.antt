@@ -1,5 +1,5 @@
 -- What the body of a request asks, field by field: the first field that is not as it should be is the fault.
-use Rattle.std.specs.Prelude.{◌≡◌, ◌⊎◌, ◌==◌, ℕ, List, [], ◌∷◌, codes, bytes_eq, map, All, Option, Some, None, Result, Ok, Err, if◌then◌else◌, option_and_then}
+use Rattle.std.specs.Prelude.{◌≡◌, ◌⊎◌, ◌==◌, ℕ, List, [], ◌∷◌, codes, bytes_eq, map, All, Option, Some, None, Result, Ok, Err, if◌then◌else◌}
 use Rattle.pt_base.specs.declared.rider.Residence.{Residence}
 use Rattle.pt_base.specs.declared.rider.Residence.TheVariants as residence
 use Rattle.pt_base.specs.declared.rider.Rider.{Rider}
@@ -15,9 +15,10 @@ use Rattle.pt_conditions.specs.Texts.{condition_text}
 use Rattle.serde_json.specs.Data.{Data, string, array}
 use Rattle.serde_json.specs.Find.{get}
 use Rattle.serde_json.specs.View.{items_of}
-use Rattle.pt_http_request.specs.Fields.{whole_at, text_at, truth_at, id_at, digest_from, number_within, IsDayAt, AreReasonsAt, needed, ◌>>=◌}
+use Rattle.pt_http_request.specs.Fields.{whole_at, text_at, truth_at, id_at, digest_at, number_within, IsDayAt, AreReasonsAt, needed, ◌>>=◌}
 use Rattle.pt_http_request.specs.declared.bodies.EntryKind.{EntryKind}
 use Rattle.pt_http_request.specs.declared.bodies.EntryKind.TheVariants as kind
+use Rattle.pt_http_reply.specs.Fault.{field_name}
 use Rattle.pt_http_reply.specs.declared.fault.FieldName.{FieldName}
 use Rattle.pt_http_reply.specs.declared.fault.FieldName.TheVariants as field
 
@@ -26,13 +27,13 @@ use Rattle.pt_http_reply.specs.declared.fault.FieldName.TheVariants as field
 -- a rider's or a driver's role, with the number of the rider or the vehicle as its subject
 abbrev pub role_with_subject : (ℕ → Role) → Data → Result Role FieldName
 role_with_subject of body = do
-  subject ← needed (id_at (codes "subject") body) field.Subject
+  subject ← id_at field.Subject body
   Ok (of subject)
 
 -- a role of nobody in particular, whose subject is written as 0
 abbrev pub role_alone : Role → Data → Result Role FieldName
 role_alone plain body = do
-  subject ← needed (whole_at (codes "subject") body) field.Subject
+  subject ← whole_at field.Subject body
   if subject == 0 then Ok plain else Err field.Subject
 
 -- the role of this name
@@ -50,10 +51,10 @@ role_named name body =
 -- the caller that a body spells: id, role, subject, digest
 abbrev pub caller_in : Data → Result Caller FieldName
 caller_in body = do
-  id ← needed (id_at (codes "id") body) field.Id
-  name ← needed (text_at (codes "role") body) field.Role
+  id ← id_at field.Id body
+  name ← text_at field.Role body
   role ← role_named name body
-  digest ← needed (option_and_then digest_from (text_at (codes "digest") body)) field.Digest
+  digest ← digest_at field.Digest body
   Ok (record { id = id; role = role; digest = digest })
 
 -- ---- riders
@@ -65,12 +66,18 @@ residence_named name =
     else (if bytes_eq name (codes "visitor") then Some residence.Visitor
     else None)
 
+-- the residence that a field names
+abbrev pub residence_at : FieldName → Data → Result Residence FieldName
+residence_at name body = do
+  text ← text_at name body
+  needed (residence_named text) name
+
 -- the rider's record that a body spells: id, kind, attendant
 abbrev pub rider_in : Data → Result Rider FieldName
 rider_in body = do
-  id ← needed (id_at (codes "id") body) field.Id
-  residence ← needed (option_and_then residence_named (text_at (codes "kind") body)) field.Kind
-  attendant ← needed (truth_at (codes "attendant") body) field.Attendant
+  id ← id_at field.Id body
+  residence ← residence_at field.Kind body
+  attendant ← truth_at field.Attendant body
   Ok (record { id = id; kind = residence; attendant = attendant })
 
 -- ---- kinds of entries
@@ -92,8 +99,10 @@ kind_named name =
     else None))))))))))
 
 -- the kind of the entry that a body spells
-abbrev pub kind_in : Data → Option EntryKind
-kind_in body = option_and_then kind_named (text_at (codes "entry") body)
+abbrev pub kind_in : Data → Result EntryKind FieldName
+kind_in body = do
+  name ← text_at field.Entry body
+  needed (kind_named name) field.Entry
 
 -- ---- what entries say
 
@@ -103,13 +112,13 @@ spelling_of condition = string (condition_text condition)
 
 -- the body lists these one to four conditions
 pub record HasConditions (body : Data) (conditions : List Condition) : Type 0 where
-  pub listed : get (codes "conditions") body ≡ Some (array (items_of (map spelling_of conditions)))
+  pub listed : get (field_name field.Conditions) body ≡ Some (array (items_of (map spelling_of conditions)))
   pub in_range : IsConditions conditions
   pub each : All IsCondition conditions
 
 -- the body spells this grant
 abbrev pub SpellsGrant : Data → Grant → Type 0
-SpellsGrant body grant = IsDayAt (codes "until") body grant.until × HasConditions body grant.conditions
+SpellsGrant body grant = IsDayAt field.Until body grant.until × HasConditions body grant.conditions
 
 -- the place in a case file of at most 200 entries, counted from 0, that an appeal is against
 abbrev pub place_in_file : Data → Result ℕ FieldName
@@ -119,21 +128,21 @@ place_in_file body = number_within field.Against 0 199 body
 abbrev pub SpellsOfKind : EntryKind → Data → Entry → Type 0
 SpellsOfKind kind.Complete body entry.Complete = Unit {0}
 SpellsOfKind kind.Grant body (entry.Grant grant) = SpellsGrant body grant
-SpellsOfKind kind.Refuse body (entry.Refuse reasons) = AreReasonsAt (codes "reasons") body reasons
+SpellsOfKind kind.Refuse body (entry.Refuse reasons) = AreReasonsAt field.Reasons body reasons
 SpellsOfKind kind.Appeal body (entry.Appeal against) = place_in_file body ≡ Ok against
 SpellsOfKind kind.Heard body entry.Heard = Unit {0}
 SpellsOfKind kind.AppealGranted body (entry.AppealGranted grant) = SpellsGrant body grant
-SpellsOfKind kind.AppealDenied body (entry.AppealDenied reasons) = AreReasonsAt (codes "reasons") body reasons
+SpellsOfKind kind.AppealDenied body (entry.AppealDenied reasons) = AreReasonsAt field.Reasons body reasons
 SpellsOfKind kind.Overturn body entry.Overturn = Unit {0}
-SpellsOfKind kind.Notice body (entry.Notice basis) = AreReasonsAt (codes "basis") body basis
+SpellsOfKind kind.Notice body (entry.Notice basis) = AreReasonsAt field.Basis body basis
 SpellsOfKind kind.NoticeHeard body entry.NoticeHeard = Unit {0}
 SpellsOfKind kind.Suspend body (entry.Suspend starts ends reasons) =
-    IsDayAt (codes "starts") body starts × IsDayAt (codes "ends") body ends × AreReasonsAt (codes "reasons") body reasons
+    IsDayAt field.Starts body starts × IsDayAt field.Ends body ends × AreReasonsAt field.Reasons body reasons
 SpellsOfKind _ _ _ = ⊥
 
 -- the body spells this entry: its kind, then the fields of that kind
 abbrev pub SpellsEntry : Data → Entry → Type 0
-SpellsEntry body asked = (which : EntryKind) × (kind_in body ≡ Some which) × SpellsOfKind which body asked
+SpellsEntry body asked = (which : EntryKind) × (kind_in body ≡ Ok which) × SpellsOfKind which body asked
 
 -- ---- faults of entries
 
@@ -153,13 +162,13 @@ entry_fields kind.Suspend = field.Starts ∷ field.Ends ∷ field.Reasons ∷ []
 
 -- the body has what this field of an entry must hold
 abbrev pub HasField : Data → FieldName → Type 0
-HasField body field.Until = (day : ℕ) × IsDayAt (codes "until") body day
+HasField body field.Until = (day : ℕ) × IsDayAt field.Until body day
 HasField body field.Conditions = (conditions : List Condition) × HasConditions body conditions
-HasField body field.Reasons = (reasons : List ℕ) × AreReasonsAt (codes "reasons") body reasons
+HasField body field.Reasons = (reasons : List ℕ) × AreReasonsAt field.Reasons body reasons
 HasField body field.Against = (place : ℕ) × (place_in_file body ≡ Ok place)
-HasField body field.Basis = (basis : List ℕ) × AreReasonsAt (codes "basis") body basis
-HasField body field.Starts = (day : ℕ) × IsDayAt (codes "starts") body day
-HasField body field.Ends = (day : ℕ) × IsDayAt (codes "ends") body day
+HasField body field.Basis = (basis : List ℕ) × AreReasonsAt field.Basis body basis
+HasField body field.Starts = (day : ℕ) × IsDayAt field.Starts body day
+HasField body field.Ends = (day : ℕ) × IsDayAt field.Ends body day
 HasField body _ = ⊥
 
 -- the field is the first of these that the body lacks
@@ -171,5 +180,5 @@ IsFirstFault (head ∷ later) body name =
 -- the field is the first that keeps the body from spelling an entry
 abbrev pub IsEntryFault : Data → FieldName → Type 0
 IsEntryFault body name =
-    ((name ≡ field.Entry) × (kind_in body ≡ None))
-    ⊎ ((which : EntryKind) × (kind_in body ≡ Some which) × IsFirstFault (entry_fields which) body name)
+    (kind_in body ≡ Err name)
+    ⊎ ((which : EntryKind) × (kind_in body ≡ Ok which) × IsFirstFault (entry_fields which) body name)

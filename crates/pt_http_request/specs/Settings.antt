@@ -79,10 +79,10 @@ fields_of place = (place.id, place.at, place.core)
 -- the same of the place that a body spells: id, x, y, core
 abbrev pub place_in : Data → Result (ℕ × Point × Bool) FieldName
 place_in body = do
-  id ← needed (id_at (codes "id") body) field.Id
+  id ← id_at field.Id body
   x ← coordinate_at field.X body
   y ← coordinate_at field.Y body
-  core ← needed (truth_at (codes "core") body) field.Core
+  core ← truth_at field.Core body
   Ok (id, record { x = x; y = y }, core)
 
 -- ---- fixed routes
@@ -116,7 +116,7 @@ enough points = if nat_le 2 (length points) && nat_le (length points) 200 then S
 
 -- the 2 to 200 points that a body lists
 abbrev pub points_at : Data → Option (List Point)
-points_at body = option_and_then enough (option_and_then (each point_from) (option_and_then values_of (get (codes "points") body)))
+points_at body = option_and_then enough (option_and_then (each point_from) (option_and_then values_of (get (field_name field.Points) body)))
 
 -- the days since Monday of the weekday with this number: 1 is Monday, 7 is Sunday
 abbrev pub weekday_from : Data → Option ℕ
@@ -134,7 +134,7 @@ set_of days =
 
 -- the set of the weekdays that a body lists, in any order, none or some more than once
 abbrev pub days_at : Data → Option (List Bool)
-days_at body = option_map set_of (option_and_then (each weekday_from) (option_and_then values_of (get (codes "days") body)))
+days_at body = option_map set_of (option_and_then (each weekday_from) (option_and_then values_of (get (field_name field.Days) body)))
 
 -- the first minute is not after the last
 abbrev pub ordered : ℕ → ℕ → Result ⊤ FieldName
@@ -143,10 +143,10 @@ ordered first last = if nat_le first last then Ok tt else Err field.First
 -- the fixed route that a body spells: id, width, points, accessible, days, first, last
 abbrev pub route_in : Data → Result Route FieldName
 route_in body = do
-  id ← needed (id_at (codes "id") body) field.Id
+  id ← id_at field.Id body
   width ← number_within field.Width 3_960 7_920 body
   points ← needed (points_at body) field.Points
-  accessible ← needed (truth_at (codes "accessible") body) field.Accessible
+  accessible ← truth_at field.Accessible body
   days ← needed (days_at body) field.Days
   first ← number_within field.First 0 1_439 body
   last ← number_within field.Last 0 1_439 body

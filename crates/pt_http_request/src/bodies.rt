@@ -1,15 +1,14 @@
 ghost use Rattle.std.specs.Prelude.{◌≡◌, ℕ, List, IfOk, IfErr};
 ghost use Rattle.pt_desk_rules.specs.declared.caller.Role.{Role};
-ghost use Rattle.pt_http_reply.specs.Fault.{field_name};
 ghost use Rattle.serde_json.specs.View.{view};
 ghost use Rattle.pt_http_request.specs.Fields.{AreReasonsAt};
-ghost use Rattle.pt_http_request.specs.Bodies.{role_alone, role_named, caller_in, residence_named, rider_in, kind_named, kind_in, place_in_file, SpellsGrant, SpellsOfKind, SpellsEntry, entry_fields, IsFirstFault, IsEntryFault};
+ghost use Rattle.pt_http_request.specs.Bodies.{role_alone, role_named, caller_in, residence_named, residence_at, rider_in, kind_named, kind_in, place_in_file, SpellsGrant, SpellsOfKind, SpellsEntry, entry_fields, IsFirstFault, IsEntryFault};
 ghost use Rattle.pt_http_request.specs.declared.bodies.EntryKind.{EntryKind};
 ghost use Rattle.pt_http_request.specs.Faults.{OnField, OnRefused};
 
 use crate::conditions::conditions_in;
 use crate::fault::MessageFault;
-use crate::fields::{day_at, digest_from, id_at, number_within, text_at, truth_at, whole_at};
+use crate::fields::{day_at, digest_at, id_at, number_within, text_at, truth_at, whole_at};
 use pt_base::{Residence, Rider};
 use pt_desk::{Caller, Role};
 use pt_http_reply::FieldName;
@@ -21,7 +20,7 @@ use std::alloc::Global;
 fn role_alone(role: Role, body: &Value) -> Result<Role, FieldName>
     ensures { result ≡ role_alone role (view body.now) }
 {
-    let subject = whole_at(body, "subject").ok_or(FieldName::Subject)?;
+    let subject = whole_at(body, FieldName::Subject)?;
     if subject == 0 {
         return Ok(role);
     }
@@ -34,7 +33,7 @@ fn role_named(name: &str, body: &Value) -> Result<Role, FieldName>
 {
     match name {
         "rider" => {
-            let rider = id_at(body, "subject").ok_or(FieldName::Subject)?;
+            let rider = id_at(body, FieldName::Subject)?;
             Ok(Role::Rider(rider))
         }
         "clerk" => role_alone(Role::Clerk, body),
@@ -42,7 +41,7 @@ fn role_named(name: &str, body: &Value) -> Result<Role, FieldName>
         "officer" => role_alone(Role::Officer, body),
         "dispatcher" => role_alone(Role::Dispatcher, body),
         "driver" => {
-            let vehicle = id_at(body, "subject").ok_or(FieldName::Subject)?;
+            let vehicle = id_at(body, FieldName::Subject)?;
             Ok(Role::Driver(vehicle))
         }
         "admin" => role_alone(Role::Admin, body),
@@ -54,12 +53,10 @@ fn role_named(name: &str, body: &Value) -> Result<Role, FieldName>
 pub(crate) fn caller_of(body: &Value) -> Result<Caller, FieldName>
     ensures { result ≡ caller_in (view body.now) }
 {
-    let id = id_at(body, "id").ok_or(FieldName::Id)?;
-    let name = text_at(body, "role").ok_or(FieldName::Role)?;
+    let id = id_at(body, FieldName::Id)?;
+    let name = text_at(body, FieldName::Role)?;
     let role = role_named(name, body)?;
-    let digest = text_at(body, "digest")
-        .and_then(digest_from)
-        .ok_or(FieldName::Digest)?;
+    let digest = digest_at(body, FieldName::Digest)?;
     Ok(Caller { id, role, digest })
 }
 
@@ -74,15 +71,20 @@ fn residence_named(name: &str) -> Option<Residence>
     }
 }
 
+/// The residence that a field names, or the field as a fault.
+fn residence_at(body: &Value, name: FieldName) -> Result<Residence, FieldName>
+    ensures { result ≡ residence_at name (view body.now) }
+{
+    residence_named(text_at(body, name)?).ok_or(name)
+}
+
 /// The rider's record that an object spells, or its first bad field.
 pub(crate) fn rider_of(body: &Value) -> Result<Rider, FieldName>
     ensures { result ≡ rider_in (view body.now) }
 {
-    let id = id_at(body, "id").ok_or(FieldName::Id)?;
-    let kind = text_at(body, "kind")
-        .and_then(residence_named)
-        .ok_or(FieldName::Kind)?;
-    let attendant = truth_at(body, "attendant").ok_or(FieldName::Attendant)?;
+    let id = id_at(body, FieldName::Id)?;
+    let kind = residence_at(body, FieldName::Kind)?;
+    let attendant = truth_at(body, FieldName::Attendant)?;
     Ok(Rider {
         id,
         kind,
@@ -126,11 +128,11 @@ fn kind_named(name: &str) -> Option<EntryKind>
     }
 }
 
-/// The kind of the entry that an object spells.
-fn kind_of(body: &Value) -> Option<EntryKind>
+/// The kind of the entry that an object spells, or that field as a fault.
+fn kind_of(body: &Value) -> Result<EntryKind, FieldName>
     ensures { result ≡ kind_in (view body.now) }
 {
-    text_at(body, "entry").and_then(kind_named)
+    kind_named(text_at(body, FieldName::Entry)?).ok_or(FieldName::Entry)
 }
 
 /// The grant that an object spells, or its first bad field.
@@ -138,9 +140,7 @@ fn grant_of(body: &Value) -> Result<Grant, FieldName>
     ensures granted { IfOk result (SpellsGrant (view body.now)) }
     ensures fault { IfErr result (IsFirstFault (entry_fields EntryKind.Grant) (view body.now)) }
 {
-    let Some(until) = day_at(body, "until") else {
-        return Err(FieldName::Until);
-    };
+    let until = day_at(body, FieldName::Until)?;
     let Some(conditions) = conditions_in(body) else {
         return Err(FieldName::Conditions);
     };
@@ -157,11 +157,11 @@ fn place_of(body: &Value) -> Result<u8, FieldName>
 
 /// The reasons at a field of an object, or the field as a fault.
 fn reasons_at(alloc: Global, body: &Value, name: FieldName) -> Result<Reasons, MessageFault>
-    ensures reasons { IfOk result (AreReasonsAt (field_name name) (view body.now)) }
+    ensures reasons { IfOk result (AreReasonsAt name (view body.now)) }
     ensures fault { IfErr result (OnRefused (OnField (λ bad.
-        (bad ≡ name) × ((reasons : List ℕ) → ¬ (AreReasonsAt (field_name name) (view body.now) reasons))))) }
+        (bad ≡ name) × ((reasons : List ℕ) → ¬ (AreReasonsAt name (view body.now) reasons))))) }
 {
-    let text = text_at(body, name.text()).ok_or(name)?;
+    let text = text_at(body, name)?;
     let bytes = Vec::from_slice(alloc, text.as_bytes())?;
     let reasons = Reasons::of(bytes).ok_or(name)?;
     Ok(reasons)
@@ -172,8 +172,8 @@ fn suspension_of(alloc: Global, body: &Value) -> Result<Entry, MessageFault>
     ensures suspension { IfOk result (SpellsOfKind EntryKind.Suspend (view body.now)) }
     ensures fault { IfErr result (OnRefused (OnField (IsFirstFault (entry_fields EntryKind.Suspend) (view body.now)))) }
 {
-    let starts = day_at(body, "starts").ok_or(FieldName::Starts)?;
-    let ends = day_at(body, "ends").ok_or(FieldName::Ends)?;
+    let starts = day_at(body, FieldName::Starts)?;
+    let ends = day_at(body, FieldName::Ends)?;
     let reasons = reasons_at(alloc, body, FieldName::Reasons)?;
     Ok(Entry::Suspend {
         starts,
@@ -212,6 +212,6 @@ pub(crate) fn entry_of(alloc: Global, body: &Value) -> Result<Entry, MessageFaul
     ensures entry { IfOk result (SpellsEntry (view body.now)) }
     ensures fault { IfErr result (OnRefused (OnField (IsEntryFault (view body.now)))) }
 {
-    let kind = kind_of(body).ok_or(FieldName::Entry)?;
+    let kind = kind_of(body)?;
     entry_of_kind(alloc, kind, body)
 }

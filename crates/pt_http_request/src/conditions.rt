@@ -7,6 +7,7 @@ ghost use Rattle.pt_http_request.specs.Bodies.{spelling_of, HasConditions};
 use arrayvec::ArrayVec;
 use pt_rights::{Condition, Conditions, MOST_CONDITIONS};
 use pt_conditions::condition_from;
+use pt_http_reply::FieldName;
 use serde_json::Value;
 
 /// The condition that a value of a list spells.
@@ -37,5 +38,5 @@ pub(crate) fn conditions_in(body: &Value) -> Option<Conditions>
     ensures listed { IfSome result (HasConditions (view body.now)) }
     ensures none { IsNone result → (conditions : List Condition) → ¬ (HasConditions (view body.now) conditions) }
 {
-    conditions_from(body.get("conditions")?.as_array()?)
+    conditions_from(body.get(FieldName::Conditions.text())?.as_array()?)
 }

@@ -68,10 +68,10 @@ pub(crate) fn place_of(body: &Value) -> Result<Place, FieldName>
     ensures place { IfOk result (λ place. place_in (view body.now) ≡ Ok (fields_of place)) }
     ensures fault { IfErr result (λ name. place_in (view body.now) ≡ Err name) }
 {
-    let id = id_at(body, "id").ok_or(FieldName::Id)?;
+    let id = id_at(body, FieldName::Id)?;
     let x = coordinate_at(body, FieldName::X)?;
     let y = coordinate_at(body, FieldName::Y)?;
-    let core = truth_at(body, "core").ok_or(FieldName::Core)?;
+    let core = truth_at(body, FieldName::Core)?;
     let at = Point { x, y };
     Ok(Place { id, at, core })
 }
@@ -120,7 +120,7 @@ fn points_of(alloc: Global, body: &Value) -> Result<Vec<Point>, MessageFault>
     ensures on_plane { IfOk result (λ points. All (λ point. IsOnPlane point.x point.y) points.items) }
     ensures fault { IfErr result (OnRefused (OnField (λ name. (name ≡ Points) × (points_at (view body.now) ≡ None)))) }
 {
-    let list = body.get("points").ok_or(FieldName::Points)?;
+    let list = body.get(FieldName::Points.text()).ok_or(FieldName::Points)?;
     let pairs = values_of(list).ok_or(FieldName::Points)?;
     let points = points_from(alloc, pairs)?;
     if points.len() < MIN_POINTS || points.len() > MAX_POINTS {
@@ -155,7 +155,7 @@ fn days_from(numbers: &[Value]) -> Option<Weekdays>
 fn days_of(body: &Value) -> Option<Weekdays>
     ensures { result ≡ days_at (view body.now) }
 {
-    days_from(values_of(body.get("days")?)?)
+    days_from(values_of(body.get(FieldName::Days.text())?)?)
 }
 
 /// The minute of the day at a field of an object, or the field as a fault.
@@ -171,10 +171,10 @@ pub(crate) fn route_of(alloc: Global, body: &Value) -> Result<FixedRoute, Messag
     ensures route { IfOk result (λ route. route_in (view body.now) ≡ Ok route) }
     ensures fault { IfErr result (OnRefused (OnField (λ name. route_in (view body.now) ≡ Err name))) }
 {
-    let id = id_at(body, "id").ok_or(FieldName::Id)?;
+    let id = id_at(body, FieldName::Id)?;
     let width = number_within(body, FieldName::Width, MIN_WIDTH, MAX_WIDTH)?;
     let points = points_of(alloc, body)?;
-    let accessible = truth_at(body, "accessible").ok_or(FieldName::Accessible)?;
+    let accessible = truth_at(body, FieldName::Accessible)?;
     let days = days_of(body).ok_or(FieldName::Days)?;
     let first = minute_at(body, FieldName::First)?;
     let last = minute_at(body, FieldName::Last)?;
