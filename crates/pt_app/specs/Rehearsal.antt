@@ -2,7 +2,7 @@
 use Rattle.std.specs.Prelude.{◌≡◌, ℕ, List}
 use Rattle.pt_desk.specs.LeastState.{IsLeastState}
 use Rattle.pt_http.specs.Exchange.{Desk}
-use Rattle.pt_http.specs.Rehearsal.{Exchanged, Rehearses}
+use Rattle.pt_rehearsal.specs.Rehearsal.{Exchanged, Rehearses}
 
 -- a desk that never failed and has nothing but an admin with this key goes through these messages at the front of the
 -- bytes, writes these bytes in reply, and leaves this rest

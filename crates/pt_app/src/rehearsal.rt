@@ -3,11 +3,11 @@ ghost use Rattle.std.specs.Io.KnownBytes.{Appends};
 ghost use Rattle.pt_app.specs.Rehearsal.{RehearsesFromLeast};
 ghost use Rattle.pt_base.specs.Fault.{fault};
 ghost use Rattle.pt_base.specs.Codes.{memory_refused, moment_line_refused, write_failed};
-ghost use Rattle.pt_http.specs.Rehearsal.{Exchanged, HasBadLine, IsFinished, IsRehearsalFault};
+ghost use Rattle.pt_rehearsal.specs.Rehearsal.{Exchanged, HasBadLine, IsFinished, IsRehearsalFault};
 
 use pt_base::Fault;
 use pt_desk::ListKeeper;
-use pt_http::rehearse;
+use pt_rehearsal::rehearse;
 use pt_http_inbox::Inbox;
 use std::alloc::Global;
 use std::io::{Read, Write};
