@@ -1,6 +1,5 @@
 -- The parts of a message spell one thing each.
 use Rattle.std.proofs.Common.{◌≡◌, ℕ, List, [], ◌∷◌, map, refl, ap, sym, subst, inl, inr, pos, ◌∙◌}
-use Rattle.std.specs.Prelude.{codes}
 use Rattle.pt_base.proofs.CalendarLemmas.{IsDateText-day}
 use Rattle.pt_rights.specs.declared.conditions.Condition.{Condition}
 use Rattle.pt_rights.specs.declared.entry.Entry.{Entry}
@@ -12,11 +11,11 @@ use Rattle.serde_json.specs.Data.{Data, array}
 use Rattle.serde_json.specs.View.{items_of}
 use Rattle.pt_http_reply.specs.declared.fault.FieldName.{FieldName}
 use Rattle.pt_http_reply.specs.declared.fault.FieldName.TheVariants as field
-use Rattle.pt_http_request.specs.Bodies.{spelling_of, HasConditions, SpellsGrant, SpellsOfKind, SpellsEntry, entry_fields, HasField, IsFirstFault, IsEntryFault}
+use Rattle.pt_http_request.specs.Entries.{spelling_of, HasConditions, SpellsGrant, SpellsOfKind, SpellsEntry, entry_fields, HasField, IsFirstFault, IsEntryFault}
 use Rattle.pt_http_request.specs.Fields.{SpellsDay, IsDayAt, AreReasonsAt}
 use Rattle.pt_http_request.specs.Numbers.{SpellsNumber}
-use Rattle.pt_http_request.specs.declared.bodies.EntryKind.{EntryKind}
-use Rattle.pt_http_request.specs.declared.bodies.EntryKind.TheVariants as kind
+use Rattle.pt_http_request.specs.declared.entries.EntryKind.{EntryKind}
+use Rattle.pt_http_request.specs.declared.entries.EntryKind.TheVariants as kind
 use Rattle.pt_http_request.proofs.ListLemmas.{map-injective, items_of-equal, some-same, value-unique, error-unique, value-or-error}
 
 -- ---- numbers and days

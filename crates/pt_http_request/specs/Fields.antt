@@ -1,5 +1,6 @@
 -- The fields of a JSON object by their names, and what each may hold.
-use Rattle.std.specs.Prelude.{◌≡◌, ℕ, ◌^◌, ◌&&◌, List, Bool, Option, Some, None, Result, Ok, Err, nat_lt, nat_le, if◌then◌else◌, option_and_then, pos}
+use Rattle.std.specs.Prelude.{◌≡◌, ℕ, ◌^◌, ◌&&◌, List, Bool, Option, Some, None, Result, Ok, Err, nat_lt, nat_le}
+use Rattle.std.specs.Prelude.{if◌then◌else◌, option_and_then, pos}
 use Rattle.hex.specs.Hex.{decode_sized}
 use Rattle.hex.specs.declared.error.FromHexError.{FromHexError}
 use Rattle.pt_base.specs.DateText.{IsDateText}

@@ -1,7 +1,8 @@
 ghost use Rattle.std.specs.Prelude.{◌≡◌, ℕ, Ok, Err, IfSome, IsNone, IfOk, IfErr};
 ghost use Rattle.std.specs.Int.{IsInRange};
 ghost use Rattle.serde_json.specs.View.{view};
-ghost use Rattle.pt_http_request.specs.Fields.{number_within, whole_at, text_at, truth_at, id_from, id_at, digest_from, digest_at, SpellsDay, IsDayAt};
+ghost use Rattle.pt_http_request.specs.Fields.{number_within, whole_at, text_at, truth_at, id_from, id_at, digest_from};
+ghost use Rattle.pt_http_request.specs.Fields.{digest_at, SpellsDay, IsDayAt};
 
 use hex::FromHex;
 use pt_base::{Day, Id};

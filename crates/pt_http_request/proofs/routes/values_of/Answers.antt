@@ -1,9 +1,9 @@
 use Rattle.std.proofs.Common.{Some, map, ap, sym, ◌∙◌}
 use Rattle.std.specs.Prelude.{option_map}
 use Rattle.serde_json.specs.View.{view}
-use Rattle.pt_http_request.specs.Settings.{values_in}
+use Rattle.pt_http_request.specs.Routes.{values_in}
 use Rattle.pt_http_request.proofs.SettingsLemmas.{values_in-items}
-use Rattle.pt_http_request.proofs.settings.values_of.Goals as goal
+use Rattle.pt_http_request.proofs.routes.values_of.Goals as goal
 
 pub returns-in-Some : goal.returns-in-Some
 returns-in-Some c =

@@ -1,11 +1,7 @@
--- What the body of a request asks, field by field: the first field that is not as it should be is the fault.
-use Rattle.std.specs.Prelude.{◌≡◌, ◌⊎◌, ◌==◌, ℕ, List, [], ◌∷◌, codes, bytes_eq, map, All, Option, Some, None, Result, Ok, Err, if◌then◌else◌}
-use Rattle.pt_base.specs.declared.rider.Residence.{Residence}
-use Rattle.pt_base.specs.declared.rider.Residence.TheVariants as residence
-use Rattle.pt_base.specs.declared.rider.Rider.{Rider}
-use Rattle.pt_desk_rules.specs.declared.caller.Caller.{Caller}
-use Rattle.pt_desk_rules.specs.declared.caller.Role.{Role}
-use Rattle.pt_desk_rules.specs.declared.caller.Role.TheVariants as role
+-- The entry of a case file that a body spells, field by field: the first field that is not as it should be is the
+-- fault.
+use Rattle.std.specs.Prelude.{◌≡◌, ◌⊎◌, ℕ, List, [], ◌∷◌, codes, bytes_eq, map, All, Option, Some, None, Result, Ok}
+use Rattle.std.specs.Prelude.{Err, if◌then◌else◌}
 use Rattle.pt_rights.specs.Conditions.{IsCondition, IsConditions}
 use Rattle.pt_rights.specs.declared.conditions.Condition.{Condition}
 use Rattle.pt_rights.specs.declared.entry.Entry.{Entry}
@@ -15,72 +11,12 @@ use Rattle.pt_conditions.specs.Texts.{condition_text}
 use Rattle.serde_json.specs.Data.{Data, string, array}
 use Rattle.serde_json.specs.Find.{get}
 use Rattle.serde_json.specs.View.{items_of}
-use Rattle.pt_http_request.specs.Fields.{whole_at, text_at, truth_at, id_at, digest_at, number_within, IsDayAt, AreReasonsAt, needed, ◌>>=◌}
-use Rattle.pt_http_request.specs.declared.bodies.EntryKind.{EntryKind}
-use Rattle.pt_http_request.specs.declared.bodies.EntryKind.TheVariants as kind
+use Rattle.pt_http_request.specs.Fields.{text_at, number_within, IsDayAt, AreReasonsAt, needed, ◌>>=◌}
+use Rattle.pt_http_request.specs.declared.entries.EntryKind.{EntryKind}
+use Rattle.pt_http_request.specs.declared.entries.EntryKind.TheVariants as kind
 use Rattle.pt_http_reply.specs.Fault.{field_name}
 use Rattle.pt_http_reply.specs.declared.fault.FieldName.{FieldName}
 use Rattle.pt_http_reply.specs.declared.fault.FieldName.TheVariants as field
-
--- ---- callers
-
--- a rider's or a driver's role, with the number of the rider or the vehicle as its subject
-abbrev pub role_with_subject : (ℕ → Role) → Data → Result Role FieldName
-role_with_subject of body = do
-  subject ← id_at field.Subject body
-  Ok (of subject)
-
--- a role of nobody in particular, whose subject is written as 0
-abbrev pub role_alone : Role → Data → Result Role FieldName
-role_alone plain body = do
-  subject ← whole_at field.Subject body
-  if subject == 0 then Ok plain else Err field.Subject
-
--- the role of this name
-abbrev pub role_named : List ℕ → Data → Result Role FieldName
-role_named name body =
-    if bytes_eq name (codes "rider") then role_with_subject role.Rider body
-    else (if bytes_eq name (codes "clerk") then role_alone role.Clerk body
-    else (if bytes_eq name (codes "examiner") then role_alone role.Examiner body
-    else (if bytes_eq name (codes "officer") then role_alone role.Officer body
-    else (if bytes_eq name (codes "dispatcher") then role_alone role.Dispatcher body
-    else (if bytes_eq name (codes "driver") then role_with_subject role.Driver body
-    else (if bytes_eq name (codes "admin") then role_alone role.Admin body
-    else Err field.Role))))))
-
--- the caller that a body spells: id, role, subject, digest
-abbrev pub caller_in : Data → Result Caller FieldName
-caller_in body = do
-  id ← id_at field.Id body
-  name ← text_at field.Role body
-  role ← role_named name body
-  digest ← digest_at field.Digest body
-  Ok (record { id = id; role = role; digest = digest })
-
--- ---- riders
-
--- the residence of this name
-abbrev pub residence_named : List ℕ → Option Residence
-residence_named name =
-    if bytes_eq name (codes "resident") then Some residence.Resident
-    else (if bytes_eq name (codes "visitor") then Some residence.Visitor
-    else None)
-
--- the residence that a field names
-abbrev pub residence_at : FieldName → Data → Result Residence FieldName
-residence_at name body = do
-  text ← text_at name body
-  needed (residence_named text) name
-
--- the rider's record that a body spells: id, kind, attendant
-abbrev pub rider_in : Data → Result Rider FieldName
-rider_in body = do
-  id ← id_at field.Id body
-  residence ← residence_at field.Kind body
-  attendant ← truth_at field.Attendant body
-  Ok (record { id = id; kind = residence; attendant = attendant })
-
--- ---- kinds of entries
 
 -- the kind of entry of this name
 abbrev pub kind_named : List ℕ → Option EntryKind
@@ -103,8 +39,6 @@ abbrev pub kind_in : Data → Result EntryKind FieldName
 kind_in body = do
   name ← text_at field.Entry body
   needed (kind_named name) field.Entry
-
--- ---- what entries say
 
 -- how a condition is spelled
 abbrev pub spelling_of : Condition → Data
@@ -143,8 +77,6 @@ SpellsOfKind _ _ _ = ⊥
 -- the body spells this entry: its kind, then the fields of that kind
 abbrev pub SpellsEntry : Data → Entry → Type 0
 SpellsEntry body asked = (which : EntryKind) × (kind_in body ≡ Ok which) × SpellsOfKind which body asked
-
--- ---- faults of entries
 
 -- the fields of an entry of each kind, in their order
 abbrev pub entry_fields : EntryKind → List FieldName

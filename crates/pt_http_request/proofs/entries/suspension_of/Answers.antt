@@ -1,6 +1,6 @@
 use Rattle.std.proofs.Common.{inl, inr}
 use Rattle.std.proofs.lemmas.Result.{err_from_is_err_and}
-use Rattle.pt_http_request.proofs.bodies.suspension_of.Goals as goal
+use Rattle.pt_http_request.proofs.entries.suspension_of.Goals as goal
 
 pub returns-in_err-starts-clause-fault : goal.returns-in_err-starts-clause-fault
 returns-in_err-starts-clause-fault c =

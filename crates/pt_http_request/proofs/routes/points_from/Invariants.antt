@@ -2,8 +2,8 @@ use Rattle.std.proofs.Common.{◌≡◌, Some, map, take}
 use Rattle.std.specs.Prelude.{All}
 use Rattle.serde_json.specs.View.{view}
 use Rattle.pt_base.specs.Place.{IsOnPlane}
-use Rattle.pt_http_request.specs.Settings.{point_from}
-use Rattle.pt_http_request.proofs.settings.points_from.Given as goal
+use Rattle.pt_http_request.specs.Routes.{point_from}
+use Rattle.pt_http_request.proofs.routes.points_from.Given as goal
 
 abbrev pub invariant-loop-pair : goal.invariant-loop-pair
 invariant-loop-pair l = record {

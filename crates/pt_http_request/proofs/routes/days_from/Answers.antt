@@ -2,9 +2,9 @@ use Rattle.std.proofs.Common.{◌≡◌, None, [], ◌∷◌, ◌++◌, Some, ma
 use Rattle.std.specs.Prelude.{option_map}
 use Rattle.pt_base.specs.Weekday.{number_of}
 use Rattle.serde_json.specs.View.{view}
-use Rattle.pt_http_request.specs.Settings.{each, weekday_from, set_of}
+use Rattle.pt_http_request.specs.Routes.{each, weekday_from, set_of}
 use Rattle.pt_http_request.proofs.SettingsLemmas.{each-none, read-more, read-all, set_of-more}
-use Rattle.pt_http_request.proofs.settings.days_from.Goals as goal
+use Rattle.pt_http_request.proofs.routes.days_from.Goals as goal
 
 pub returns-in_err-weekday_from : goal.returns-in_err-weekday_from
 returns-in_err-weekday_from c =

@@ -1,96 +1,18 @@
 ghost use Rattle.std.specs.Prelude.{◌≡◌, ℕ, List, IfOk, IfErr};
-ghost use Rattle.pt_desk_rules.specs.declared.caller.Role.{Role};
 ghost use Rattle.serde_json.specs.View.{view};
 ghost use Rattle.pt_http_request.specs.Fields.{AreReasonsAt};
-ghost use Rattle.pt_http_request.specs.Bodies.{role_alone, role_named, caller_in, residence_named, residence_at, rider_in, kind_named, kind_in, place_in_file, SpellsGrant, SpellsOfKind, SpellsEntry, entry_fields, IsFirstFault, IsEntryFault};
-ghost use Rattle.pt_http_request.specs.declared.bodies.EntryKind.{EntryKind};
+ghost use Rattle.pt_http_request.specs.Entries.{kind_named, kind_in, place_in_file, SpellsGrant, SpellsOfKind};
+ghost use Rattle.pt_http_request.specs.Entries.{SpellsEntry, entry_fields, IsFirstFault, IsEntryFault};
+ghost use Rattle.pt_http_request.specs.declared.entries.EntryKind.{EntryKind};
 ghost use Rattle.pt_http_request.specs.Faults.{OnField, OnRefused};
 
 use crate::conditions::conditions_in;
 use crate::fault::MessageFault;
-use crate::fields::{day_at, digest_at, id_at, number_within, text_at, truth_at, whole_at};
-use pt_base::{Residence, Rider};
-use pt_desk::{Caller, Role};
+use crate::fields::{day_at, number_within, text_at};
 use pt_http_reply::FieldName;
 use pt_rights::{Entry, Grant, MOST_ENTRIES, Reasons};
 use serde_json::Value;
 use std::alloc::Global;
-
-/// A role of nobody in particular, whose subject is written as 0.
-fn role_alone(role: Role, body: &Value) -> Result<Role, FieldName>
-    ensures { result ≡ role_alone role (view body.now) }
-{
-    let subject = whole_at(body, FieldName::Subject)?;
-    if subject == 0 {
-        return Ok(role);
-    }
-    Err(FieldName::Subject)
-}
-
-/// The role of this name, with the body's subject.
-fn role_named(name: &str, body: &Value) -> Result<Role, FieldName>
-    ensures { result ≡ role_named name.now (view body.now) }
-{
-    match name {
-        "rider" => {
-            let rider = id_at(body, FieldName::Subject)?;
-            Ok(Role::Rider(rider))
-        }
-        "clerk" => role_alone(Role::Clerk, body),
-        "examiner" => role_alone(Role::Examiner, body),
-        "officer" => role_alone(Role::Officer, body),
-        "dispatcher" => role_alone(Role::Dispatcher, body),
-        "driver" => {
-            let vehicle = id_at(body, FieldName::Subject)?;
-            Ok(Role::Driver(vehicle))
-        }
-        "admin" => role_alone(Role::Admin, body),
-        _ => Err(FieldName::Role),
-    }
-}
-
-/// The caller that an object spells, or its first bad field.
-pub(crate) fn caller_of(body: &Value) -> Result<Caller, FieldName>
-    ensures { result ≡ caller_in (view body.now) }
-{
-    let id = id_at(body, FieldName::Id)?;
-    let name = text_at(body, FieldName::Role)?;
-    let role = role_named(name, body)?;
-    let digest = digest_at(body, FieldName::Digest)?;
-    Ok(Caller { id, role, digest })
-}
-
-/// The residence of this name.
-fn residence_named(name: &str) -> Option<Residence>
-    ensures { result ≡ residence_named name.now }
-{
-    match name {
-        "resident" => Some(Residence::Resident),
-        "visitor" => Some(Residence::Visitor),
-        _ => None,
-    }
-}
-
-/// The residence that a field names, or the field as a fault.
-fn residence_at(body: &Value, name: FieldName) -> Result<Residence, FieldName>
-    ensures { result ≡ residence_at name (view body.now) }
-{
-    residence_named(text_at(body, name)?).ok_or(name)
-}
-
-/// The rider's record that an object spells, or its first bad field.
-pub(crate) fn rider_of(body: &Value) -> Result<Rider, FieldName>
-    ensures { result ≡ rider_in (view body.now) }
-{
-    let id = id_at(body, FieldName::Id)?;
-    let kind = residence_at(body, FieldName::Kind)?;
-    let attendant = truth_at(body, FieldName::Attendant)?;
-    Ok(Rider {
-        id,
-        kind,
-        attendant,
-    })
-}
 
 /// The kinds of entries in a case file, as a body names them.
 #[derive(Clone, Copy)]

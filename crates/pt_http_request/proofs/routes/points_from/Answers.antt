@@ -1,8 +1,8 @@
 use Rattle.std.proofs.Common.{◌≡◌, None, map, rules}
 use Rattle.serde_json.specs.View.{view}
-use Rattle.pt_http_request.specs.Settings.{each, point_from}
+use Rattle.pt_http_request.specs.Routes.{each, point_from}
 use Rattle.pt_http_request.proofs.SettingsLemmas.{each-none, read-all}
-use Rattle.pt_http_request.proofs.settings.points_from.Goals as goal
+use Rattle.pt_http_request.proofs.routes.points_from.Goals as goal
 
 pub returns-in_err-point-clause-fault : goal.returns-in_err-point-clause-fault
 returns-in_err-point-clause-fault c =
