@@ -29,7 +29,8 @@ pub record Desk : Type 0 where
 abbrev pub desk_of : Store → Desk
 desk_of store = record { content = store.content; failures = store.failures }
 
--- a message with this key is answered by the rules; one with no key is denied, whoever the callers are, and changes nothing
+-- a message with this key is answered by the rules; one with no key is denied, whoever the callers are, and changes
+-- nothing
 abbrev pub AnswersWith : Option (List ℕ) → ℕ → (ℕ × ℕ) → Message → Desk → Desk → Result Answer StoreFault → Type 0
 AnswersWith (Some key) shut now message old new told =
     Tells shut old.content new.content (answer_to key now message.number message.request old.content)
@@ -66,7 +67,8 @@ IsExchanged remaining shut now input old new inbox reply =
     × (is_last reply ≡ false → reads_of inbox ≡ 0)
 
 -- the same of a desk over a store, as it stood and as it stands
-abbrev pub IsExchangedOver : {R : Type 0} → (R → Option (List ℕ)) → Store → Store → (ℕ × ℕ) → List ℕ → Inbox R → Response
+abbrev pub IsExchangedOver : {R : Type 0} → (R → Option (List ℕ)) → Store → Store → (ℕ × ℕ) → List ℕ → Inbox R
+    → Response
     → Type 0
 IsExchangedOver remaining old new now input inbox reply =
     IsExchanged remaining new.shut now input (desk_of old) (desk_of new) inbox reply

@@ -62,7 +62,8 @@ fn write_reply<W: Write>(reply: &ReplyBytes, out: &mut W) -> Result<(), Fault>
     Ok(())
 }
 
-/// Reads one request, answers it by these routes and writes the reply, which it tells. Errors are those of `answer_bytes`.
+/// Reads one request, answers it by these routes and writes the reply, which it tells. Errors are those of
+/// `answer_bytes`.
 pub fn exchange<K: Keeper, R: Read + Drop, W: Write>(
     alloc: Global,
     router: &Router<Path>,

@@ -1,5 +1,5 @@
-use crate::tests::{PUT_CLERK, Pieces, eight_in_the_morning, plain_reply};
 use crate::answer_bytes;
+use crate::tests::{PUT_CLERK, Pieces, eight_in_the_morning, plain_reply};
 use pt_base::fault::{READ_FAILED, WRITE_FAILED};
 use pt_base::{CallerId, Fault};
 use pt_desk::{Keeper, ListKeeper};

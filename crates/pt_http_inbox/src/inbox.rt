@@ -1,5 +1,5 @@
-ghost use Rattle.std.specs.Prelude.{◌≡◌, ◌≤◌, ◌<◌, ◌+◌, ◌*◌, ◌++◌, ℕ, List, [], Some, None, Ok, true, false, length, drop};
-ghost use Rattle.std.specs.Prelude.{IfOk, IfErr, OnErr, IfSome};
+ghost use Rattle.std.specs.Prelude.{◌≡◌, ◌≤◌, ◌<◌, ◌+◌, ◌*◌, ◌++◌, ℕ, List, [], Some, None, Ok, true, false};
+ghost use Rattle.std.specs.Prelude.{length, drop, IfOk, IfErr, OnErr, IfSome};
 ghost use Rattle.std.specs.Io.KnownBytes.{IsAtEnd, ReadConsumes};
 ghost use Rattle.pt_base.specs.Fault.{fault};
 ghost use Rattle.pt_base.specs.Codes.{memory_refused, read_failed};
@@ -81,7 +81,8 @@ impl<R: Read + Drop> Inbox<R> {
 
     /// Reads once, and again for as long as reads are interrupted.
     fn read_piece(&mut self, piece: &mut [u8]) -> Result<usize, Fault>
-        ensures bytes { ReadConsumes (R.remaining (reader_of self.old)) (R.remaining (reader_of self.new)) result piece.new }
+        ensures bytes { ReadConsumes (R.remaining (reader_of self.old)) (R.remaining (reader_of self.new))
+            result piece.new }
         ensures within { IfOk result (λ count. count ≤ length piece.new) }
         ensures held { held self.new ≡ held self.old }
         ensures counted { reads_of self.old ≤ reads_of self.new }

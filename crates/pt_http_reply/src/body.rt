@@ -27,8 +27,12 @@ pub(crate) fn body_of(alloc: Global, response: &Response) -> Result<Body, Fault>
     ensures memory { OnErr result (is_told response.now ≡ true) }
 {
     match response {
-        Response::Answered(Ok(Answer::Done)) => Ok(Body::Fixed(ReplyBuffer::of(b"{\"done\":true}"))),
-        Response::Answered(Ok(Answer::Entered(position))) => Ok(Body::Fixed(entered_body(*position))),
+        Response::Answered(Ok(Answer::Done)) => Ok(Body::Fixed(ReplyBuffer::of(
+            b"{\"done\":true}",
+        ))),
+        Response::Answered(Ok(Answer::Entered(position))) => Ok(Body::Fixed(entered_body(
+            *position,
+        ))),
         Response::Answered(
             Ok(
                 Answer::Standing {

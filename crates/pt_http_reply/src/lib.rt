@@ -1,4 +1,5 @@
-//! Replies in bytes: what the desk tells over HTTP. What a read is told may be of any length; every other reply is formed
+//! Replies in bytes: what the desk tells over HTTP. What a read is told may be of any length; every other reply is
+//! formed
 //! in fixed room.
 #![tactic(auto)]
 

@@ -64,7 +64,12 @@ fn write_status_line(status: StatusCode, out: &mut ReplyBuffer)
     out.push(b"HTTP/1.1 ");
     out.push(Buffer::new().format(status.as_u16()).as_bytes());
     out.push(b" ");
-    out.push(status.canonical_reason().unwrap_or("<unknown status code>").as_bytes());
+    out.push(
+        status
+            .canonical_reason()
+            .unwrap_or("<unknown status code>")
+            .as_bytes(),
+    );
     out.push(b"\r\n");
 }
 

@@ -50,7 +50,9 @@ fn replies_one_after_another(rt: HostRuntime) -> Result<(), Fail> {
         let text = format!(in rt.alloc();
             "HTTP/1.1 {status}\r\nContent-Type: application/json\r\nContent-Length: {length}\r\nConnection: close\r\n\r\n{body}"
         )?;
-        let (front, rest) = text.as_bytes().split_at(reply.front.as_slice().len().min(text.len()));
+        let (front, rest) = text
+            .as_bytes()
+            .split_at(reply.front.as_slice().len().min(text.len()));
         assert_eq!(rt; reply.front.as_slice(), front, "{body}");
         assert_eq!(rt; reply.rest.as_slice(), rest, "{body}");
     }
