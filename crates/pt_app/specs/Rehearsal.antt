@@ -8,4 +8,5 @@ use Rattle.pt_rehearsal.specs.Rehearsal.{Exchanged, Rehearses}
 -- bytes, writes these bytes in reply, and leaves this rest
 abbrev pub RehearsesFromLeast : List ℕ → List Exchanged → List ℕ → List ℕ → List ℕ → Type 0
 RehearsesFromLeast key messages bytes written rest =
-    (least after : Desk) × IsLeastState key least.content × (least.failures ≡ 0) × Rehearses messages bytes least written rest after
+    (least after : Desk) × IsLeastState key least.content × (least.failures ≡ 0)
+    × Rehearses messages bytes least written rest after

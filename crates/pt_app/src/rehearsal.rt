@@ -7,8 +7,8 @@ ghost use Rattle.pt_rehearsal.specs.Rehearsal.{Exchanged, HasBadLine, IsFinished
 
 use pt_base::Fault;
 use pt_desk::ListKeeper;
-use pt_rehearsal::rehearse;
 use pt_http_inbox::Inbox;
+use pt_rehearsal::rehearse;
 use std::alloc::Global;
 use std::io::{Read, Write};
 

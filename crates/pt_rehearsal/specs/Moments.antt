@@ -7,4 +7,5 @@ use Rattle.pt_http.specs.Input.{HasInput}
 -- the input begins with this moment, and the inbox has what comes after it; or the input is at its end
 abbrev pub IsNext : {R : Type 0} → (R → Option (List ℕ)) → Inbox R → List ℕ → Option (ℕ × ℕ) → Type 0
 IsNext remaining inbox input None = input ≡ []
-IsNext remaining inbox input (Some now) = (rest : List ℕ) × HasInput remaining inbox rest × BeginsWithMoment input now.0 now.1 rest
+IsNext remaining inbox input (Some now) =
+    (rest : List ℕ) × HasInput remaining inbox rest × BeginsWithMoment input now.0 now.1 rest

@@ -22,7 +22,8 @@ pub record IsStep (one : Exchanged) (bytes : List ℕ) (old : Desk) (rest : List
   pub exchanged : Exchanges 0 (one.day, one.minute) after old new one.reply rest
   pub replied : IsReplyText one.reply one.text
 
--- the desk goes through these messages at the front of the bytes, writes these bytes in reply, and comes to this rest and this state
+-- the desk goes through these messages at the front of the bytes, writes these bytes in reply, and comes to this rest
+-- and this state
 abbrev pub Rehearses : List Exchanged → List ℕ → Desk → List ℕ → List ℕ → Desk → Type 0
 Rehearses [] bytes old written rest new = (rest ≡ bytes) × (new ≡ old) × (written ≡ [])
 Rehearses (one ∷ later) bytes old written rest new =
@@ -32,7 +33,8 @@ Rehearses (one ∷ later) bytes old written rest new =
 -- the input is used up, or the last message ended it
 abbrev pub IsFinished : List Exchanged → List ℕ → Type 0
 IsFinished messages rest =
-    (rest ≡ []) ⊎ ((front : List Exchanged) × (one : Exchanged) × (messages ≡ front ++ one ∷ []) × (is_last one.reply ≡ true))
+    (rest ≡ []) ⊎ ((front : List Exchanged) × (one : Exchanged) × (messages ≡ front ++ one ∷ [])
+    × (is_last one.reply ≡ true))
 
 -- no line with a moment begins the bytes
 abbrev pub HasNoMoment : List ℕ → Type 0

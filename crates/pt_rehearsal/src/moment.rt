@@ -66,7 +66,8 @@ fn moment_from(line: &[u8]) -> Option<(Day, Minute)>
 
 /// The moment that the line at the front of the bytes gives; `None` where no such line is there.
 pub(crate) fn moment_at(bytes: &[u8]) -> Option<MomentLine>
-    ensures moment { IfSome result (λ found. BeginsWithMoment bytes.now found.day found.minute (drop found.end bytes.now)) }
+    ensures moment { IfSome result (λ found. BeginsWithMoment bytes.now found.day found.minute (drop found.end
+        bytes.now)) }
     ensures within { IfSome result (λ found. found.end ≤ length bytes.now) }
     ensures short { IfSome result (λ found. found.end ≤ LONGEST_MOMENT_LINE) }
     ensures none { IsNone result → (day minute : ℕ) (rest : List ℕ) → ¬ (BeginsWithMoment bytes.now day minute rest) }

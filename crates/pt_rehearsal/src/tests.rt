@@ -72,12 +72,7 @@ impl Read for Pieces<'_> {
 }
 
 /// A reply with no line of its own.
-fn plain_reply(
-    alloc: Global,
-    status: &str,
-    length: &str,
-    body: &str,
-) -> Result<String, Fail> {
+fn plain_reply(alloc: Global, status: &str, length: &str, body: &str) -> Result<String, Fail> {
     Ok(format!(in alloc;
         "HTTP/1.1 {status}\r\nContent-Type: application/json\r\nContent-Length: {length}\r\nConnection: close\r\n\r\n{body}"
     )?)
