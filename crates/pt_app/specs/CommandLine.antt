@@ -15,7 +15,9 @@ rehearse_words = with_rule (new_app (codes "rehearse")) key_word
 
 -- desk, with one subcommand, which may not be left out
 abbrev pub desk_words : App
-desk_words = with_subcommand (on_top (λ top. record top { subcommand_required = true; disable_help_subcommand = true }) (new_app (codes "desk"))) rehearse_words.top
+desk_words =
+    with_subcommand (on_top (λ top. record top { subcommand_required = true; disable_help_subcommand = true })
+    (new_app (codes "desk"))) rehearse_words.top
 
 -- the key of a rehearsal that the words ask for
 abbrev pub rehearsal_key : List Text → Option Text

@@ -2,10 +2,11 @@
 use Rattle.std.specs.Prelude.{◌≡◌, ℕ, List}
 use Rattle.pt_desk.specs.LeastState.{IsLeastState}
 use Rattle.pt_http.specs.Exchange.{Desk}
-use Rattle.pt_http.specs.Rehearsal.{Exchanged, Rehearses}
+use Rattle.pt_rehearsal.specs.Rehearsal.{Exchanged, Rehearses}
 
 -- a desk that never failed and has nothing but an admin with this key goes through these messages at the front of the
 -- bytes, writes these bytes in reply, and leaves this rest
 abbrev pub RehearsesFromLeast : List ℕ → List Exchanged → List ℕ → List ℕ → List ℕ → Type 0
 RehearsesFromLeast key messages bytes written rest =
-    (least after : Desk) × IsLeastState key least.content × (least.failures ≡ 0) × Rehearses messages bytes least written rest after
+    (least after : Desk) × IsLeastState key least.content × (least.failures ≡ 0)
+    × Rehearses messages bytes least written rest after

@@ -13,7 +13,8 @@ status_of Done = 0
 status_of WrongWords = 2
 status_of (Failed error) = if error.code == memory_refused then 3 else 4
 
--- words that were not taken are wrong, but where memory was refused or help was asked for: that is done once it is shown
+-- words that were not taken are wrong, but where memory was refused or help was asked for: that is done once it is
+-- shown
 abbrev pub refusal_outcome : ErrorKind → Bool → Outcome
 refusal_outcome OutOfMemory is_shown = Failed (fault memory_refused)
 refusal_outcome DisplayHelp true = Done

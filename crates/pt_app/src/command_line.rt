@@ -44,8 +44,10 @@ fn desk_command<'a>(alloc: Global) -> Result<Command<'a>, AllocError>
 /// The error is the text for the user: what is wrong with the words, or the help that they ask for.
 pub(crate) fn task_in<'a>(alloc: Global, words: &'a [String]) -> Result<Option<Task<'a>>, Error>
     ensures key { IfOk result (λ task. option_map key_of task ≡ rehearsal_key (map string_bytes words.now)) }
-    ensures rehearsal { (key : Text) → AsksRehearsal (map string_bytes words.now) key → IfOk result (λ task. option_map key_of task ≡ Some key) }
-    ensures taken { (key : Text) → AsksRehearsal (map string_bytes words.now) key → IfErr result (λ error. kind_of error ≡ OutOfMemory) }
+    ensures rehearsal { (key : Text) → AsksRehearsal (map string_bytes words.now) key
+        → IfOk result (λ task. option_map key_of task ≡ Some key) }
+    ensures taken { (key : Text) → AsksRehearsal (map string_bytes words.now) key
+        → IfErr result (λ error. kind_of error ≡ OutOfMemory) }
     ensures refused { FailsBy (fault_of desk_words (map string_bytes words.now)) result }
 {
     let matches = desk_command(alloc)?.try_get_matches_from(words)?;

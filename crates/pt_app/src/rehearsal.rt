@@ -3,12 +3,12 @@ ghost use Rattle.std.specs.Io.KnownBytes.{Appends};
 ghost use Rattle.pt_app.specs.Rehearsal.{RehearsesFromLeast};
 ghost use Rattle.pt_base.specs.Fault.{fault};
 ghost use Rattle.pt_base.specs.Codes.{memory_refused, moment_line_refused, write_failed};
-ghost use Rattle.pt_http.specs.Rehearsal.{Exchanged, HasNoMoment, IsFinished, IsRehearsalFault};
+ghost use Rattle.pt_rehearsal.specs.Rehearsal.{Exchanged, HasBadLine, IsFinished, IsRehearsalFault};
 
 use pt_base::Fault;
 use pt_desk::ListKeeper;
-use pt_http::rehearse;
 use pt_http_inbox::Inbox;
+use pt_rehearsal::rehearse;
 use std::alloc::Global;
 use std::io::{Read, Write};
 
@@ -27,10 +27,11 @@ pub(crate) fn rehearse_with_key<R: Read + Drop, W: Write>(
         × Appends (W.contents out.old) (W.contents out.new) written × IsFinished messages rest) }
     // Else the desk stood after the last message that was answered, whose reply may not be wholly written.
     ensures stopped { (bytes : List ℕ) → R.remaining input ≡ Some bytes
-        → IfErr result (λ error. error ≢ fault memory_refused → (messages : List Exchanged) × (written : List ℕ) × (rest : List ℕ)
+        → IfErr result (λ error. error ≢ fault memory_refused
+        → (messages : List Exchanged) × (written : List ℕ) × (rest : List ℕ)
         × RehearsesFromLeast key.now messages bytes written rest
         × (error ≢ fault write_failed → Appends (W.contents out.old) (W.contents out.new) written)
-        × (error ≡ fault moment_line_refused → HasNoMoment rest)) }
+        × (error ≡ fault moment_line_refused → HasBadLine rest)) }
     ensures fault { IfErr result IsRehearsalFault }
 {
     let mut keeper = ListKeeper::new(alloc, key)?;

@@ -1,10 +1,10 @@
 -- Exchanges, from what was received and what the desk responds.
-use Rattle.std.proofs.Common.{ℕ, List, sym, subst}
+use Rattle.std.proofs.Common.{◌≡◌, ℕ, List, refl, sym, ap, subst}
 use Rattle.pt_http_reply.specs.declared.response.Response.{Response}
 use Rattle.pt_http_reply.specs.declared.response.Response.TheVariants as response
-use Rattle.pt_http.specs.Exchange.{Desk, Exchanges}
+use Rattle.pt_http.specs.Exchange.{Desk, Exchanges, is_last}
 use Rattle.pt_http.specs.Message.{BeginsWithFault}
-use Rattle.pt_http.specs.Received.{BeginsWith, Responds}
+use Rattle.pt_http.specs.Received.{BeginsWith, Responds, is_end}
 use Rattle.pt_http.specs.declared.received.Received.{Received}
 use Rattle.pt_http.specs.declared.received.Received.TheVariants as received
 
@@ -15,3 +15,12 @@ exchanged shut now input (received.Message message) old new (response.Refused na
 exchanged shut now input (received.Refused why) old new (response.Answered told) rest begins responds = absurd responds
 exchanged shut now input (received.Refused why) old new (response.Refused named) rest begins (is, same) =
     (subst (λ fault. BeginsWithFault input fault rest) (sym is) begins, same)
+
+-- the response ends the messages exactly where what was received does
+pub same_end : (shut : ℕ) (now : ℕ × ℕ) (came : Received) (old new : Desk) (reply : Response) → Responds shut now came old new reply
+    → is_end came ≡ is_last reply
+same_end shut now (received.Message message) old new (response.Answered told) responds = refl
+same_end shut now (received.Message message) old new (response.Refused named) responds = absurd responds
+same_end shut now (received.Refused why) old new (response.Answered told) responds = absurd responds
+same_end shut now (received.Refused why) old new (response.Refused named) (is, same) =
+    ap (λ fault. is_last (response.Refused fault)) (sym is)

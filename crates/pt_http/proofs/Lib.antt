@@ -1,6 +1,5 @@
 pub mod PartsLemmas
 pub mod ReceivedLemmas
 pub mod ExchangeLemmas
-pub mod MomentLemmas
-pub mod RehearsalLemmas
+pub mod ToldLemmas
 pub mod UniqueLemmas

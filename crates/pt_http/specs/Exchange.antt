@@ -1,5 +1,5 @@
 -- How the desk answers what begins some bytes.
-use Rattle.std.specs.Prelude.{◌≡◌, ◌⊎◌, ℕ, List, Option, Some, None, Result, Ok, option_map}
+use Rattle.std.specs.Prelude.{◌≡◌, ◌⊎◌, ℕ, Bool, true, false, List, Option, Some, None, Result, Ok, option_map}
 use Rattle.pt_base.specs.Fault.{fault}
 use Rattle.pt_base.specs.declared.fault.Fault.{Fault}
 use Rattle.pt_base.specs.Codes.{memory_refused, read_failed}
@@ -10,9 +10,11 @@ use Rattle.pt_desk_rules.specs.Step.{answer_to, leaves}
 use Rattle.pt_desk.specs.declared.keeper.StoreFault.{StoreFault}
 use Rattle.pt_desk_rules.specs.declared.request.Answer.{Answer}
 use Rattle.pt_desk_rules.specs.declared.request.Answer.TheVariants.{Denied}
+use Rattle.pt_http_reply.specs.declared.fault.RequestFault.TheVariants.{Head, Length}
 use Rattle.pt_http_reply.specs.declared.response.Response.{Response}
 use Rattle.pt_http_reply.specs.declared.response.Response.TheVariants as response
 use Rattle.pt_http_request.specs.declared.message.Message.{Message}
+use Rattle.pt_http_inbox.specs.Inbox.{reads_of}
 use Rattle.pt_http_inbox.specs.declared.inbox.Inbox.{Inbox}
 use Rattle.pt_http_reply.specs.Response.{IsReplyText}
 use Rattle.std.specs.Io.KnownBytes.{Appends}
@@ -27,7 +29,8 @@ pub record Desk : Type 0 where
 abbrev pub desk_of : Store → Desk
 desk_of store = record { content = store.content; failures = store.failures }
 
--- a message with this key is answered by the rules; one with no key is denied, whoever the callers are, and changes nothing
+-- a message with this key is answered by the rules; one with no key is denied, whoever the callers are, and changes
+-- nothing
 abbrev pub AnswersWith : Option (List ℕ) → ℕ → (ℕ × ℕ) → Message → Desk → Desk → Result Answer StoreFault → Type 0
 AnswersWith (Some key) shut now message old new told =
     Tells shut old.content new.content (answer_to key now message.number message.request old.content)
@@ -50,13 +53,23 @@ Exchanges shut now bytes old new (response.Refused why) rest = BeginsWithFault b
 abbrev pub IsUnanswered : Fault → Type 0
 IsUnanswered error = (error ≡ fault memory_refused) ⊎ (error ≡ fault read_failed)
 
--- what begins the input is answered so, and the inbox has what comes after it
-abbrev pub IsExchanged : {R : Type 0} → (R → Option (List ℕ)) → ℕ → (ℕ × ℕ) → List ℕ → Desk → Desk → Inbox R → Response → Type 0
+-- after a head or a length that is not taken, where the next message begins is not known
+abbrev pub is_last : Response → Bool
+is_last (response.Refused Head) = true
+is_last (response.Refused Length) = true
+is_last _ = false
+
+-- what begins the input is answered so, and the inbox has what comes after it, for which it counts reads anew
+abbrev pub IsExchanged : {R : Type 0} → (R → Option (List ℕ)) → ℕ → (ℕ × ℕ) → List ℕ → Desk → Desk → Inbox R → Response
+    → Type 0
 IsExchanged remaining shut now input old new inbox reply =
     (rest : List ℕ) × HasInput remaining inbox rest × Exchanges shut now input old new reply rest
+    × (is_last reply ≡ false → reads_of inbox ≡ 0)
 
 -- the same of a desk over a store, as it stood and as it stands
-abbrev pub IsExchangedOver : {R : Type 0} → (R → Option (List ℕ)) → Store → Store → (ℕ × ℕ) → List ℕ → Inbox R → Response → Type 0
+abbrev pub IsExchangedOver : {R : Type 0} → (R → Option (List ℕ)) → Store → Store → (ℕ × ℕ) → List ℕ → Inbox R
+    → Response
+    → Type 0
 IsExchangedOver remaining old new now input inbox reply =
     IsExchanged remaining new.shut now input (desk_of old) (desk_of new) inbox reply
 

@@ -3,5 +3,3 @@ pub mod Message
 pub mod Input
 pub mod Exchange
 pub mod Received
-pub mod Rehearsal
-pub mod Moments

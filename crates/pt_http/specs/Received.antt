@@ -1,8 +1,8 @@
 -- What was received from some bytes.
-use Rattle.std.specs.Prelude.{◌≡◌, ℕ, List}
+use Rattle.std.specs.Prelude.{◌≡◌, ℕ, Bool, false, List}
 use Rattle.pt_http_reply.specs.declared.response.Response.{Response}
 use Rattle.pt_http_reply.specs.declared.response.Response.TheVariants as response
-use Rattle.pt_http.specs.Exchange.{Desk, AnswersMessage}
+use Rattle.pt_http.specs.Exchange.{Desk, AnswersMessage, is_last}
 use Rattle.httparse.specs.Grammar.{RequestHead}
 use Rattle.pt_http_request.specs.Messages.{SpellsMessage, IsMessageFault}
 use Rattle.pt_http_request.specs.Targets.{desk_routes}
@@ -13,8 +13,15 @@ use Rattle.pt_http.specs.declared.received.Received.TheVariants as received
 
 -- a head and a body spell this message, or are refused for this fault
 abbrev pub IsSpelledBy : RequestHead → List ℕ → Received → Type 0
-IsSpelledBy head body (received.Message message) = SpellsMessage desk_routes head.method head.target (lines_of head) body message
-IsSpelledBy head body (received.Refused why) = IsMessageFault desk_routes head.method head.target (lines_of head) body why
+IsSpelledBy head body (received.Message message) =
+    SpellsMessage desk_routes head.method head.target (lines_of head) body message
+IsSpelledBy head body (received.Refused why) =
+    IsMessageFault desk_routes head.method head.target (lines_of head) body why
+
+-- where the next message begins is not known
+abbrev pub is_end : Received → Bool
+is_end (received.Message message) = false
+is_end (received.Refused why) = is_last (response.Refused why)
 
 -- the bytes begin with this message, or what begins them is refused for this fault
 abbrev pub BeginsWith : List ℕ → Received → List ℕ → Type 0
@@ -23,6 +30,7 @@ BeginsWith bytes (received.Refused why) rest = BeginsWithFault bytes why rest
 
 -- the desk's response to what was received: an answer, or the fault, which changes nothing
 abbrev pub Responds : ℕ → (ℕ × ℕ) → Received → Desk → Desk → Response → Type 0
-Responds shut now (received.Message message) old new (response.Answered told) = AnswersMessage shut now message old new told
+Responds shut now (received.Message message) old new (response.Answered told) =
+    AnswersMessage shut now message old new told
 Responds shut now (received.Refused why) old new (response.Refused named) = (named ≡ why) × (new ≡ old)
 Responds shut now _ old new _ = ⊥

@@ -1,12 +1,12 @@
+use crate::answer_bytes;
 use crate::tests::{PUT_CLERK, Pieces, eight_in_the_morning, plain_reply};
-use crate::{answer_bytes, rehearse};
 use pt_base::fault::{READ_FAILED, WRITE_FAILED};
 use pt_base::{CallerId, Fault};
 use pt_desk::{Keeper, ListKeeper};
 use pt_http_inbox::Inbox;
 use std::alloc::Global;
 use std::io;
-use std::io::{ErrorKind, Read, Write};
+use std::io::{ErrorKind, Write};
 use std::test::Fail;
 
 /// Takes so many bytes and then fails, or fails to see them off.
@@ -106,46 +106,5 @@ fn a_writer_that_fails_at_each_byte(rt: HostRuntime) -> Result<(), Fail> {
         assert!(rt; has_clerk(&mut keeper)?, "writer {written}");
         assert_eq!(rt; out.bytes.as_slice(), &reply.as_bytes()[..room]);
     }
-    Ok(())
-}
-
-const NOWHERE: &[u8] = b"@ 2025-02-17 480\nGET / HTTP/1.1\r\n\r\n";
-
-/// Gives one message so many times.
-#[derive(Drop)]
-struct Repeated {
-    left: u32,
-}
-
-impl Read for Repeated {
-    fn read(&mut self, buf: &mut [u8]) -> io::Result<usize> {
-        if self.left == 0 || buf.len() < NOWHERE.len() {
-            return Ok(0);
-        }
-        self.left -= 1;
-        buf[..NOWHERE.len()].copy_from_slice(NOWHERE);
-        Ok(NOWHERE.len())
-    }
-}
-
-/// How a rehearsal of so many messages ends, and the bytes that it writes.
-fn ended_after(alloc: Global, count: u32) -> Result<(Result<(), Fault>, usize), Fail> {
-    let mut keeper = ListKeeper::new(alloc, b"abc")?;
-    let mut inbox = Inbox::new(alloc, Repeated { left: count })?;
-    let mut out = Vec::new(alloc);
-    let ended = rehearse(alloc, &mut keeper, &mut inbox, &mut out);
-    Ok((ended, out.len()))
-}
-
-#[test]
-fn as_many_messages_as_there_may_be(rt: HostRuntime) -> Result<(), Fail> {
-    let alloc = rt.alloc();
-    // A reply has 119 bytes.
-    let (ended, written) = ended_after(alloc, 100_000)?;
-    assert_eq!(rt; ended, Ok(()));
-    assert_eq!(rt; written, 11_900_000);
-    let (ended, written) = ended_after(alloc, 100_001)?;
-    assert_eq!(rt; ended, Err(Fault::of(READ_FAILED)));
-    assert_eq!(rt; written, 11_900_000);
     Ok(())
 }

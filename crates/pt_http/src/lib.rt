@@ -1,11 +1,10 @@
 //! The desk in bytes: requests from a reader, replies to a writer, one after another.
 #![tactic(auto)]
 
-pub use exchange::answer_bytes;
+pub use exchanging::{answer_bytes, exchange};
 pub use reading::bytes_spell_one_message;
-pub use rehearsal::{MOST_MESSAGES, rehearse};
 
-mod exchange;
+mod exchanging;
 #[cfg(test)]
 mod faults_tests;
 #[cfg(test)]
@@ -13,6 +12,5 @@ mod memory_tests;
 mod parts;
 mod reading;
 mod received;
-mod rehearsal;
 #[cfg(test)]
 mod tests;

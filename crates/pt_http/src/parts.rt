@@ -15,7 +15,8 @@ use std::alloc::Global;
 
 /// The length of the body that comes after a head; `None` where the head gives none that is taken.
 pub(crate) fn body_length_after(head: &[u8]) -> Option<u64>
-    ensures length { (whole : RequestHead) → IsWholeHead head.now whole → IfSome result (IsBodyLength (lines_of whole)) }
+    ensures length { (whole : RequestHead) → IsWholeHead head.now whole
+        → IfSome result (IsBodyLength (lines_of whole)) }
     ensures none { IsNone result → (whole : RequestHead) → IsWholeHead head.now whole
         → (size : ℕ) → ¬ (IsBodyLength (lines_of whole) size) }
 {

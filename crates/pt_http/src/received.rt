@@ -1,11 +1,12 @@
-ghost use Rattle.std.specs.Prelude.{◌≡◌, ℕ, List, IfOk, IfErr};
+ghost use Rattle.std.specs.Prelude.{◌≡◌, ℕ, false, List, IfOk, IfErr};
 ghost use Rattle.pt_http.specs.Exchange.{IsUnanswered};
 ghost use Rattle.pt_http.specs.Input.{HasInput};
 ghost use Rattle.httparse.specs.Grammar.{RequestHead};
 ghost use Rattle.pt_base.specs.Fault.{fault};
 ghost use Rattle.pt_base.specs.Codes.{memory_refused};
 ghost use Rattle.pt_http.specs.Parts.{IsWholeHead};
-ghost use Rattle.pt_http.specs.Received.{IsSpelledBy, BeginsWith};
+ghost use Rattle.pt_http.specs.Received.{IsSpelledBy, BeginsWith, is_end};
+ghost use Rattle.pt_http_inbox.specs.Inbox.{reads_of};
 ghost use Rattle.pt_http_request.specs.Targets.{desk_routes};
 
 use crate::parts::{body_length_after, message_in};
@@ -55,7 +56,9 @@ pub(crate) fn receive<R: Read + Drop>(
 ) -> Result<Received, Fault>
     requires { router.now ≡ desk_routes }
     ensures received { (input : List ℕ) → HasInput R.remaining inbox.old input
-        → IfOk result (λ received. (rest : List ℕ) × HasInput R.remaining inbox.new rest × BeginsWith input received rest) }
+        → IfOk result (λ received. (rest : List ℕ)
+        × HasInput R.remaining inbox.new rest × BeginsWith input received rest) }
+    ensures fresh { IfOk result (λ received. is_end received ≡ false → reads_of inbox.new ≡ 0) }
     ensures fault { IfErr result IsUnanswered }
 {
     let Some(head) = inbox.read_head()? else {
@@ -70,6 +73,6 @@ pub(crate) fn receive<R: Read + Drop>(
     }
     let held = inbox.held();
     let received = received_from(alloc, router, &held[..head], &held[head..end])?;
-    inbox.consume(end);
+    inbox.finish_request(end);
     Ok(received)
 }

@@ -1,7 +1,4 @@
-use crate::rehearse;
-use pt_base::{Day, Fault, Minute};
-use pt_desk::ListKeeper;
-use pt_http_inbox::Inbox;
+use pt_base::{Day, Minute};
 use std::alloc::Global;
 use std::io;
 use std::io::{ErrorKind, Read};
@@ -19,39 +16,6 @@ pub(crate) const COMPLETE: &str =
 
 pub(crate) const STANDING: &str =
     "GET /riders/7/standing/2025-03-14 HTTP/1.1\r\nDesk-Key: hello\r\nContent-Length: 0\r\n\r\n";
-
-const OK: &str = "200 OK";
-
-const DONE: &str = "{\"done\":true}";
-
-/// A message of a rehearsal: its day, the request, and the status, the body's length and the body of the reply.
-type Row = (
-    &'static str,
-    &'static str,
-    &'static str,
-    &'static str,
-    &'static str,
-);
-
-const FIRST_RIGHTS: [Row; 5] = [
-    ("2025-02-17", PUT_CLERK, OK, "13", DONE),
-    ("2025-02-17", PUT_RIDER, OK, "13", DONE),
-    ("2025-02-17", COMPLETE, OK, "13", "{\"entered\":0}"),
-    (
-        "2025-03-09",
-        STANDING,
-        OK,
-        "37",
-        "{\"standing\":\"none\",\"suspended\":false}",
-    ),
-    (
-        "2025-03-10",
-        STANDING,
-        OK,
-        "41",
-        "{\"standing\":\"presumed\",\"suspended\":false}",
-    ),
-];
 
 /// Gives its bytes in pieces of one size, and then ends or fails.
 #[derive(Drop)]
@@ -86,52 +50,8 @@ pub(crate) fn plain_reply(
     )?)
 }
 
-/// The input of a rehearsal, and what it has to write.
-fn script(alloc: Global, rows: &[Row]) -> Result<(String, String), Fail> {
-    let mut input = String::new(alloc);
-    let mut output = String::new(alloc);
-    for (day, request, status, length, body) in rows {
-        input.push_str("@ ")?;
-        input.push_str(day)?;
-        input.push_str(" 480\n")?;
-        input.push_str(request)?;
-        let reply = plain_reply(alloc, status, length, body)?;
-        output.push_str(reply.as_str())?;
-    }
-    Ok((input, output))
-}
-
-/// What a rehearsal answers to its input in pieces of this size, and what it writes.
-fn rehearsed(
-    alloc: Global,
-    keeper: &mut ListKeeper,
-    input: &str,
-    size: usize,
-) -> Result<(Result<(), Fault>, Vec<u8>), Fail> {
-    let reader = Pieces {
-        rest: input.as_bytes(),
-        size,
-        fails: false,
-    };
-    let mut inbox = Inbox::new(alloc, reader)?;
-    let mut out = Vec::new(alloc);
-    let ended = rehearse(alloc, keeper, &mut inbox, &mut out);
-    Ok((ended, out))
-}
-
 pub(crate) fn eight_in_the_morning() -> Result<(Day, Minute), Fail> {
     let day = Day::parse("2025-02-17")?;
     let minute = Minute::of(480).ok_or("a minute")?;
     Ok((day, minute))
-}
-
-#[test]
-fn the_first_rights_in_pieces_of_seven_bytes(rt: HostRuntime) -> Result<(), Fail> {
-    let alloc = rt.alloc();
-    let (input, output) = script(alloc, &FIRST_RIGHTS)?;
-    let mut keeper = ListKeeper::new(alloc, b"abc")?;
-    let (ended, written) = rehearsed(alloc, &mut keeper, input.as_str(), 7)?;
-    assert_eq!(rt; ended, Ok(()));
-    assert_eq!(rt; written.as_slice(), output.as_bytes());
-    Ok(())
 }

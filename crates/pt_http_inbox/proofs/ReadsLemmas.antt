@@ -1,5 +1,5 @@
 -- Reads one after another.
-use Rattle.std.proofs.Common.{◌≡◌, ℕ, List, [], ◌++◌, Option, Some, None, unwrap_or, refl, sym, ap, ◌∙◌, append_assoc, append-nil}
+use Rattle.std.proofs.Common.{◌≡◌, ℕ, ◌+◌, ◌*◌, ◌≤◌, List, [], ◌++◌, length, Option, Some, None, unwrap_or, refl, sym, ap, ◌∙◌, append_assoc, append-nil, arith, length-append}
 use Rattle.std.specs.Io.KnownBytes.{Consumes, Keeps}
 use Rattle.pt_http_inbox.specs.Inbox.{held, reader_of, ReadsOn}
 use Rattle.pt_http_inbox.specs.declared.inbox.Inbox.{Inbox}
@@ -16,7 +16,12 @@ consumes_then (Some xs) (Some ys) (Some zs) first second x y = x ∙ ap (λ t. f
 
 -- nothing was read
 pub reads_none : {R : Type 0} (remaining : R → Option (List ℕ)) (inbox : Inbox R) → ReadsOn remaining inbox inbox
-reads_none remaining inbox = record { more = []; consumed = consumes_none (remaining (reader_of inbox)); appended = sym (append-nil (held inbox)) }
+reads_none remaining inbox = record {
+  more = [];
+  consumed = consumes_none (remaining (reader_of inbox));
+  appended = sym (append-nil (held inbox));
+  counted = omega arith;
+}
 
 -- some was read, and then some more
 pub reads_then : {R : Type 0} (remaining : R → Option (List ℕ)) (a b c : Inbox R) → ReadsOn remaining a b → ReadsOn remaining b c → ReadsOn remaining a c
@@ -24,6 +29,7 @@ reads_then remaining a b c x y = record {
   more = x.more ++ y.more;
   consumed = consumes_then (remaining (reader_of a)) (remaining (reader_of b)) (remaining (reader_of c)) x.more y.more x.consumed y.consumed;
   appended = y.appended ∙ ap (λ t. t ++ y.more) x.appended ∙ append_assoc (held a) x.more y.more;
+  counted = omega (arith, x.counted, y.counted, length-append x.more y.more);
 }
 
 -- known bytes that stayed, and stayed again

@@ -1,3 +1,4 @@
 pub mod Head
+pub mod Reads
 pub mod Inbox
 pub mod Looked

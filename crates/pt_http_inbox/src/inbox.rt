@@ -1,9 +1,10 @@
-ghost use Rattle.std.specs.Prelude.{◌≡◌, ◌≤◌, ◌<◌, ◌+◌, ◌++◌, ℕ, List, [], Some, None, Ok, true, false, length, drop, IfOk, IfErr, OnErr, IfSome};
+ghost use Rattle.std.specs.Prelude.{◌≡◌, ◌≤◌, ◌<◌, ◌+◌, ◌*◌, ◌++◌, ℕ, List, [], Some, None, Ok, true, false};
+ghost use Rattle.std.specs.Prelude.{length, drop, IfOk, IfErr, OnErr, IfSome};
 ghost use Rattle.std.specs.Io.KnownBytes.{IsAtEnd, ReadConsumes};
 ghost use Rattle.pt_base.specs.Fault.{fault};
 ghost use Rattle.pt_base.specs.Codes.{memory_refused, read_failed};
 ghost use Rattle.pt_http_inbox.specs.Head.{IsHead, HasNoHead};
-ghost use Rattle.pt_http_inbox.specs.Inbox.{held, reader_of, ReadsOn};
+ghost use Rattle.pt_http_inbox.specs.Reads.{most_reads};
 
 use crate::LONGEST_HEAD;
 use crate::head::{Front, front_of};
@@ -30,15 +31,19 @@ const PIECE: usize = 4_096;
 pub struct Inbox<R> {
     reader: R,
     bytes: Box<ArrayVec<u8, ROOM>>,
-    /// The reads since bytes were last consumed.
+    /// The reads since the last request was let go of.
     reads: u32,
+    ghost few_reads: { reads ≤ most_reads },
 }
 
 impl<R: Read + Drop> Inbox<R> {
+    ghost use Rattle.pt_http_inbox.specs.Inbox.{held, reader_of, reads_of, ReadsOn};
+
     /// An inbox that holds nothing yet. The error is want of memory.
     pub fn new(alloc: Global, reader: R) -> Result<Self, Fault>
         ensures empty { IfOk result (λ inbox. held inbox ≡ []) }
         ensures reader { IfOk result (λ inbox. reader_of inbox ≡ reader) }
+        ensures fresh { IfOk result (λ inbox. reads_of inbox ≡ 0) }
         ensures memory { IfErr result (λ error. error ≡ fault memory_refused) }
     {
         let bytes = Box::new(alloc, ArrayVec::new()).map_err(AllocError::from)?;
@@ -76,9 +81,12 @@ impl<R: Read + Drop> Inbox<R> {
 
     /// Reads once, and again for as long as reads are interrupted.
     fn read_piece(&mut self, piece: &mut [u8]) -> Result<usize, Fault>
-        ensures bytes { ReadConsumes (R.remaining (reader_of self.old)) (R.remaining (reader_of self.new)) result piece.new }
+        ensures bytes { ReadConsumes (R.remaining (reader_of self.old)) (R.remaining (reader_of self.new))
+            result piece.new }
         ensures within { IfOk result (λ count. count ≤ length piece.new) }
         ensures held { held self.new ≡ held self.old }
+        ensures counted { reads_of self.old ≤ reads_of self.new }
+        ensures one_more { IfOk result (λ _. reads_of self.old < reads_of self.new) }
         ensures fault { IfErr result (λ error. error ≡ fault read_failed) }
     {
         for _ in 0..MOST_READS {
@@ -139,15 +147,26 @@ impl<R: Read + Drop> Inbox<R> {
         Err(Fault::of(READ_FAILED))
     }
 
-    /// Lets go of the first so many bytes, and counts reads anew.
+    /// Lets go of the first so many bytes, which lead a request: reads go on being counted.
     pub fn consume(&mut self, count: usize)
         requires { count ≤ length (held self.old) }
         ensures rest { held self.new ≡ drop count (held self.old) }
         ensures reader { reader_of self.new ≡ reader_of self.old }
+        ensures counted { reads_of self.new ≡ reads_of self.old }
     {
         let rest = self.bytes.len() - count;
         self.bytes.as_mut_slice().rotate_left(count);
         self.bytes.truncate(rest);
+    }
+
+    /// Lets go of the first so many bytes, a whole request: reads are counted anew.
+    pub fn finish_request(&mut self, count: usize)
+        requires { count ≤ length (held self.old) }
+        ensures rest { held self.new ≡ drop count (held self.old) }
+        ensures reader { reader_of self.new ≡ reader_of self.old }
+        ensures fresh { reads_of self.new ≡ 0 }
+    {
+        self.consume(count);
         self.reads = 0;
     }
 }

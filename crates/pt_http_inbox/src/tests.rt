@@ -62,7 +62,7 @@ fn a_request_and_the_front_of_the_next(rt: HostRuntime) -> Result<(), Fail> {
     assert_eq!(rt; inbox.read_up_to(47)?, true);
     assert_eq!(rt; inbox.held(), REQUEST.as_bytes());
     if inbox.held().len() >= 47 {
-        inbox.consume(47);
+        inbox.finish_request(47);
     }
     assert_eq!(rt; inbox.held(), "GET".as_bytes());
     assert_eq!(rt; inbox.read_head()?, None);
@@ -104,6 +104,8 @@ fn as_many_reads_as_there_may_be(rt: HostRuntime) -> Result<(), Fail> {
     assert_eq!(rt; inbox.read_up_to(1)?, true);
     assert_eq!(rt; inbox.read_up_to(2), Err(Fault::of(READ_FAILED)));
     inbox.consume(0);
+    assert_eq!(rt; inbox.read_up_to(2), Err(Fault::of(READ_FAILED)));
+    inbox.finish_request(0);
     assert_eq!(rt; inbox.read_up_to(2)?, true);
     Ok(())
 }

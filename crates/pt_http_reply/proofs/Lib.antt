@@ -1,2 +1,1 @@
-pub mod DayLemmas
 pub mod ReplyLemmas

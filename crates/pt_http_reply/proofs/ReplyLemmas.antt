@@ -1,14 +1,27 @@
 -- A reply has one text.
-use Rattle.std.proofs.Common.{◌≡◌, List, ℕ, Ok, Err, pos, sym, ap, ◌∙◌}
+use Rattle.std.proofs.Common.{◌≡◌, ◌≤◌, List, [], ◌++◌, codes, length, ℕ, Option, Some, None, unwrap_or, Ok, Err, ℤ, pos, refl, sym, ap, ◌∙◌, arith, append_assoc, append-nil}
+use denote.Ref.{Bor}
+use Rattle.std.specs.Prelude.{option_map}
+use Rattle.http.specs.StatusCode.{reason_phrase}
+use Rattle.pt_base.specs.declared.rule.Rule.TheVariants as rule
+use Rattle.pt_http_reply.specs.declared.fault.RequestFault.TheVariants as fault
+use Rattle.pt_base.proofs.CalendarLemmas.{IsDateText-text}
+use Rattle.pt_base.specs.DateText.{IsDateText}
 use Rattle.pt_rights.specs.declared.case_file.Standing.{Standing}
 use Rattle.pt_rights.specs.declared.case_file.Standing.TheVariants as standing
 use Rattle.pt_desk_rules.specs.declared.request.Answer.{Answer}
 use Rattle.pt_desk_rules.specs.declared.request.Answer.TheVariants as answer
-use Rattle.pt_http_reply.specs.Body.{IsUntil, IsUntilOfStanding}
-use Rattle.pt_http_reply.specs.Response.{IsReplyText, reply_text}
+use Rattle.pt_http_reply.specs.Body.{IsUntil, IsUntilOfStanding, body_of}
+use Rattle.pt_http_reply.specs.Reply.{bytes_in}
+use Rattle.pt_http_reply.specs.Response.{IsReplyText, reply_text, head_text, status_of}
+use Rattle.pt_http_reply.specs.declared.body.Body.{Body}
+use Rattle.pt_http_reply.specs.declared.body.Body.TheVariants.{Fixed}
 use Rattle.pt_http_reply.specs.declared.response.Response.{Response}
 use Rattle.pt_http_reply.specs.declared.response.Response.TheVariants as response
-use Rattle.pt_http_reply.proofs.DayLemmas.{IsDateText-unique}
+
+-- a day has one text
+IsDateText-unique : (number : ℤ) (a b : List ℕ) → IsDateText number a → IsDateText number b → a ≡ b
+IsDateText-unique number a b is other = sym is.spelled ∙ IsDateText-text is.date number b is.day other
 
 until_of_standing : (s : Standing) (a b : List ℕ) → IsUntilOfStanding s a → IsUntilOfStanding s b → a ≡ b
 until_of_standing standing.Presumed a b is other = is ∙ sym other
@@ -31,3 +44,54 @@ until_of (response.Refused refused) a b is other = is ∙ sym other
 pub IsReplyText-unique : (reply : Response) (a b : List ℕ) → IsReplyText reply a → IsReplyText reply b → a ≡ b
 IsReplyText-unique reply a b is other =
     is.text ∙ ap (reply_text reply) (until_of reply is.until other.until is.last_day other.last_day) ∙ sym other.text
+
+-- a body behind its head is the reply
+pub reply_formed : (reply : Response) (body all until : List ℕ) → IsUntil reply until → body ≡ body_of reply until
+    → all ≡ head_text reply (length body) ++ body → IsReplyText reply all
+reply_formed reply body all until day is_body is_all = record {
+  until = until;
+  last_day = day;
+  text = is_all ∙ ap (λ b. head_text reply (length b) ++ b) is_body;
+}
+
+-- ---- parts one after another
+
+pub three_parts : (front a b c one two three : List ℕ) → one ≡ front ++ a → two ≡ one ++ b → three ≡ two ++ c → three ≡ front ++ ((a ++ b) ++ c)
+three_parts front a b c one two three is_one is_two is_three = rw (is_three, is_two, is_one) (simp append_assoc)
+
+pub five_parts : (front a b c d e one two three four five : List ℕ) → one ≡ front ++ a → two ≡ one ++ b → three ≡ two ++ c → four ≡ three ++ d → five ≡ four ++ e
+    → five ≡ front ++ ((a ++ ((b ++ c) ++ d)) ++ e)
+five_parts front a b c d e one two three four five is_one is_two is_three is_four is_five =
+    rw (is_five, is_four, is_three, is_two, is_one) (simp append_assoc)
+
+-- a body in fixed room stands behind its head, and nothing after it
+pub fixed_bytes : (head : ℕ → List ℕ) (body : Body) (text one other front all rest : List ℕ) → body ≡ Fixed text → one ≡ text → other ≡ text
+    → front ≡ head (length one) → all ≡ front ++ other → rest ≡ [] → all ++ rest ≡ head (length (bytes_in body)) ++ bytes_in body
+fixed_bytes head body text one other front all rest is_body is_one is_other is_front is_all ended =
+    rw (is_body, is_all, is_front, is_one, is_other, ended) (append-nil (head (length text) ++ text))
+
+pub six_lines : (old a b c d e f one two three four five six : List ℕ) → old ≡ [] → one ≡ old ++ a → two ≡ one ++ b → three ≡ two ++ c
+    → four ≡ three ++ d → five ≡ four ++ e → six ≡ five ++ f → six ≡ a ++ b ++ c ++ d ++ e ++ f
+six_lines old a b c d e f one two three four five six none is_one is_two is_three is_four is_five is_six =
+    rw (is_six, is_five, is_four, is_three, is_two, is_one, none) refl
+
+-- ---- status lines
+
+-- the phrase of a reply's status is short
+pub short_phrase : (reply : Response) → length (unwrap_or (reason_phrase (status_of reply)) (codes "<unknown status code>")) ≤ 31
+short_phrase (response.Answered (Ok (answer.Denied rule.Key))) = omega arith
+short_phrase (response.Answered (Ok (answer.Denied rule.Number))) = omega arith
+short_phrase (response.Answered (Ok (answer.Denied rule.Caller))) = omega arith
+short_phrase (response.Answered (Ok (answer.Denied rule.Unknown))) = omega arith
+short_phrase (response.Answered (Ok (answer.Denied other))) = omega arith
+short_phrase (response.Answered (Ok told)) = omega arith
+short_phrase (response.Answered (Err failed)) = omega arith
+short_phrase (response.Refused fault.Path) = omega arith
+short_phrase (response.Refused (fault.Method allowed)) = omega arith
+short_phrase (response.Refused other) = omega arith
+
+-- the phrase as it is read from an option
+pub phrase_now : (o : Option (Bor (List ℕ))) (r d : Bor (List ℕ)) (phrase : Option (List ℕ)) → r ≡ unwrap_or o d → option_map (λ s. s.now) o ≡ phrase
+    → r.now ≡ unwrap_or phrase d.now
+phrase_now None r d phrase is same = ap (λ b. b.now) is ∙ ap (λ o. unwrap_or o d.now) same
+phrase_now (Some s) r d phrase is same = ap (λ b. b.now) is ∙ ap (λ o. unwrap_or o d.now) same

@@ -6,8 +6,6 @@ use Rattle.pt_http_reply.specs.declared.fault.FieldName.{FieldName}
 use Rattle.pt_http_reply.specs.declared.fault.FieldName.TheVariants as field
 use Rattle.pt_http_reply.specs.declared.fault.RequestFault.{RequestFault}
 use Rattle.pt_http_reply.specs.declared.fault.RequestFault.TheVariants as fault
-use Rattle.pt_http_reply.specs.declared.status.Status.{Status}
-use Rattle.pt_http_reply.specs.declared.status.Status.TheVariants as status
 
 -- a method as HTTP spells it
 abbrev pub method_name : AllowedMethod → List ℕ
@@ -59,11 +57,11 @@ fault_name (fault.Method allowed) = codes "http.method"
 fault_name fault.Json = codes "http.json"
 fault_name (fault.Field name) = codes "http.field"
 
--- the status of a fault
-abbrev pub status_of_fault : RequestFault → Status
-status_of_fault fault.Head = status.BadRequest
-status_of_fault fault.Length = status.BadRequest
-status_of_fault fault.Path = status.NotFound
-status_of_fault (fault.Method allowed) = status.MethodNotAllowed
-status_of_fault fault.Json = status.BadRequest
-status_of_fault (fault.Field name) = status.BadRequest
+-- the status of a fault: Bad Request, Not Found, or Method Not Allowed
+abbrev pub status_of_fault : RequestFault → ℕ
+status_of_fault fault.Head = 400
+status_of_fault fault.Length = 400
+status_of_fault fault.Path = 404
+status_of_fault (fault.Method allowed) = 405
+status_of_fault fault.Json = 400
+status_of_fault (fault.Field name) = 400

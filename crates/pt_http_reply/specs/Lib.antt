@@ -1,4 +1,6 @@
 pub mod Status
+pub mod ContentType
 pub mod Fault
 pub mod Body
 pub mod Response
+pub mod Reply

@@ -3,20 +3,26 @@ use Rattle.std.specs.Prelude.{◌≡◌, ℕ, List, [], ◌++◌, length, codes,
 use Rattle.pt_base.specs.declared.rule.Rule.TheVariants.{Key}
 use Rattle.pt_desk_rules.specs.declared.request.Answer.TheVariants as answer
 use Rattle.pt_http_reply.specs.Body.{body_of, IsUntil}
+use Rattle.pt_http_reply.specs.ContentType.{type_text}
+use Rattle.pt_http_reply.specs.declared.content_type.ContentType.{ContentType}
+use Rattle.pt_http_reply.specs.declared.content_type.ContentType.TheVariants.{Json}
 use Rattle.pt_http_reply.specs.Fault.{method_name, status_of_fault}
-use Rattle.pt_http_reply.specs.Status.{status_text, status_of_rule}
+use Rattle.http.specs.StatusCode.{status_text}
+use Rattle.pt_http_reply.specs.Status.{status_of_rule}
 use Rattle.pt_http_reply.specs.declared.fault.RequestFault.TheVariants as fault
 use Rattle.pt_http_reply.specs.declared.response.Response.{Response}
 use Rattle.pt_http_reply.specs.declared.response.Response.TheVariants as response
-use Rattle.pt_http_reply.specs.declared.status.Status.{Status}
-use Rattle.pt_http_reply.specs.declared.status.Status.TheVariants as status
 
--- the status of a reply
-abbrev pub status_of : Response → Status
+-- the status of a reply: OK, that of a denial or a fault, or Service Unavailable
+abbrev pub status_of : Response → ℕ
 status_of (response.Answered (Ok (answer.Denied rule))) = status_of_rule rule
-status_of (response.Answered (Ok told)) = status.Ok
-status_of (response.Answered (Err failed)) = status.ServiceUnavailable
+status_of (response.Answered (Ok told)) = 200
+status_of (response.Answered (Err failed)) = 503
 status_of (response.Refused refused) = status_of_fault refused
+
+-- what the body of a reply is written in
+abbrev pub type_of : Response → ContentType
+type_of reply = Json
 
 -- a line of a head
 abbrev pub line : List ℕ → List ℕ
@@ -32,7 +38,7 @@ own_lines _ = []
 abbrev pub head_text : Response → ℕ → List ℕ
 head_text reply body_length =
     line (codes "HTTP/1.1 " ++ status_text (status_of reply))
-    ++ line (codes "Content-Type: application/json")
+    ++ line (codes "Content-Type: " ++ type_text (type_of reply))
     ++ line (codes "Content-Length: " ++ decimal body_length)
     ++ own_lines reply
     ++ line (codes "Connection: close")

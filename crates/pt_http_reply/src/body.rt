@@ -1,20 +1,38 @@
-ghost use Rattle.std.specs.Prelude.{◌≡◌, ◌≤◌, ◌++◌, ℕ, List, [], length, codes, decimal};
+ghost use Rattle.std.specs.Prelude.{◌≡◌, ◌≤◌, ◌++◌, ℕ, List, false, true, length, codes, decimal, IfOk, OnErr};
 ghost use Rattle.pt_http_reply.specs.Body.{body_of, denial_body, fault_body, IsUntil};
+ghost use Rattle.pt_http_reply.specs.Reply.{bytes_in, IsShort, IsFixed, is_told};
 
-use crate::standing::{write_standing, write_visitor};
+use crate::standing::{standing_body, visitor_body};
 use crate::{ReplyBuffer, RequestFault, Response};
 use itoa::Buffer;
+use pt_base::Fault;
 use pt_desk::{Answer, StoreFault};
+use std::alloc::Global;
 
-/// The body of the reply.
-pub(crate) fn write_body(response: &Response, out: &mut ReplyBuffer)
-    requires { out.old ≡ [] }
-    ensures text { (until : List ℕ) × IsUntil response.now until × (out.new ≡ body_of response.now until) }
-    ensures short { length out.new ≤ 300 }
+/// The body of a reply.
+#[derive(Debug, Drop)]
+pub(crate) enum Body {
+    /// In room that is there.
+    Fixed(ReplyBuffer),
+    /// What a read is told, of any length.
+    Grown(Vec<u8>),
+}
+
+/// The body of the reply. The error is want of memory for what a read is told.
+pub(crate) fn body_of(alloc: Global, response: &Response) -> Result<Body, Fault>
+    ensures text { IfOk result (λ body. (until : List ℕ) × IsUntil response.now until
+        × (bytes_in body ≡ body_of response.now until)) }
+    ensures short { IfOk result IsShort }
+    ensures fixed { is_told response.now ≡ false → IfOk result IsFixed }
+    ensures memory { OnErr result (is_told response.now ≡ true) }
 {
     match response {
-        Response::Answered(Ok(Answer::Done)) => out.push(b"{\"done\":true}"),
-        Response::Answered(Ok(Answer::Entered(place))) => write_entered(*place, out),
+        Response::Answered(Ok(Answer::Done)) => Ok(Body::Fixed(ReplyBuffer::of(
+            b"{\"done\":true}",
+        ))),
+        Response::Answered(Ok(Answer::Entered(position))) => Ok(Body::Fixed(entered_body(
+            *position,
+        ))),
         Response::Answered(
             Ok(
                 Answer::Standing {
@@ -22,49 +40,50 @@ pub(crate) fn write_body(response: &Response, out: &mut ReplyBuffer)
                     suspended,
                 },
             ),
-        ) => write_standing(standing, *suspended, out),
-        Response::Answered(Ok(Answer::Visitor { may_use })) => write_visitor(*may_use, out),
-        Response::Answered(Ok(Answer::Denied(rule))) => write_denial(rule.name(), out),
-        Response::Answered(Err(StoreFault::Memory)) => write_denial("desk.memory", out),
-        Response::Answered(Err(StoreFault::Store)) => write_denial("desk.store", out),
-        Response::Refused(fault) => write_fault(*fault, out),
+        ) => Ok(Body::Grown(standing_body(alloc, standing, *suspended)?)),
+        Response::Answered(Ok(Answer::Visitor { may_use })) => {
+            Ok(Body::Grown(visitor_body(alloc, *may_use)?))
+        }
+        Response::Answered(Ok(Answer::Denied(rule))) => Ok(Body::Fixed(denial_body(rule.name()))),
+        Response::Answered(Err(StoreFault::Memory)) => Ok(Body::Fixed(denial_body("desk.memory"))),
+        Response::Answered(Err(StoreFault::Store)) => Ok(Body::Fixed(denial_body("desk.store"))),
+        Response::Refused(fault) => Ok(Body::Fixed(fault_body(*fault))),
     }
 }
 
-/// The body that tells at which place an entry stands.
-fn write_entered(place: u32, out: &mut ReplyBuffer)
-    requires { out.old ≡ [] }
-    ensures text { out.new ≡ codes "{\"entered\":" ++ decimal place ++ codes "}" }
-    ensures short { length out.new ≤ 22 }
+/// The body that tells at which position an entry stands.
+fn entered_body(position: u32) -> ReplyBuffer
+    ensures text { result ≡ codes "{\"entered\":" ++ decimal position ++ codes "}" }
+    ensures short { length result ≤ 22 }
 {
-    out.push(b"{\"entered\":");
-    out.push(Buffer::new().format(place).as_bytes());
-    out.push(b"}");
+    let mut body = ReplyBuffer::of(b"{\"entered\":");
+    body.push(Buffer::new().format(position).as_bytes());
+    body.push(b"}");
+    body
 }
 
 /// The body of a denial by name.
-fn write_denial(name: &str, out: &mut ReplyBuffer)
-    requires empty { out.old ≡ [] }
-    requires short { length name.now ≤ 20 }
-    ensures text { out.new ≡ denial_body name.now }
-    ensures short { length out.new ≤ 33 }
+pub(crate) fn denial_body(name: &str) -> ReplyBuffer
+    requires { length name.now ≤ 20 }
+    ensures text { result ≡ denial_body name.now }
+    ensures short { length result ≤ 33 }
 {
-    out.push(b"{\"denied\":\"");
-    out.push(name.as_bytes());
-    out.push(b"\"}");
+    let mut body = ReplyBuffer::of(b"{\"denied\":\"");
+    body.push(name.as_bytes());
+    body.push(b"\"}");
+    body
 }
 
 /// The body for bytes that are no request.
-fn write_fault(fault: RequestFault, out: &mut ReplyBuffer)
-    requires { out.old ≡ [] }
-    ensures text { out.new ≡ fault_body fault }
-    ensures short { length out.new ≤ 50 }
+fn fault_body(fault: RequestFault) -> ReplyBuffer
+    ensures text { result ≡ fault_body fault }
+    ensures short { length result ≤ 50 }
 {
-    if let RequestFault::Field(name) = fault {
-        out.push(b"{\"denied\":\"http.field\",\"field\":\"");
-        out.push(name.text().as_bytes());
-        out.push(b"\"}");
-    } else {
-        write_denial(fault.name(), out);
-    }
+    let RequestFault::Field(name) = fault else {
+        return denial_body(fault.name());
+    };
+    let mut body = ReplyBuffer::of(b"{\"denied\":\"http.field\",\"field\":\"");
+    body.push(name.text().as_bytes());
+    body.push(b"\"}");
+    body
 }

@@ -4,10 +4,10 @@ ghost use Rattle.pt_http_reply.specs.declared.buffer.TheConstants.{LONGEST_REPLY
 use arrayvec::ArrayVec;
 use std::marker::Model;
 
-/// How many bytes a reply has at most.
+/// How many bytes a reply in fixed room has at most.
 pub const LONGEST_REPLY: usize = 512;
 
-/// A reply in bytes, or the front of one. It takes no memory.
+/// A reply in bytes, or a part of one, in fixed room. It takes no memory.
 #[derive(Debug, Drop)]
 pub struct ReplyBuffer {
     bytes: ArrayVec<u8, LONGEST_REPLY>,
@@ -39,11 +39,14 @@ impl ReplyBuffer {
         self.bytes.as_slice()
     }
 
-    /// Takes every byte out.
-    pub(crate) fn clear(&mut self)
-        ensures { self.new ≡ [] }
+    /// A buffer with these bytes.
+    pub(crate) fn of(text: &[u8]) -> Self
+        requires { length text.now ≤ LONGEST_REPLY }
+        ensures { result ≡ text.now }
     {
-        self.bytes.clear();
+        let mut buffer = ReplyBuffer::new();
+        buffer.push(text);
+        buffer
     }
 
     /// Adds bytes at the end.

@@ -1,7 +1,7 @@
 ghost use Rattle.std.specs.Prelude.{◌≡◌, ◌≤◌, length};
 ghost use Rattle.pt_http_reply.specs.Fault.{fault_name, field_name, method_name, status_of_fault};
 
-use crate::Status;
+use http::StatusCode;
 
 /// A method that a path takes.
 #[derive(Clone, Copy, Debug, PartialEq, Eq)]
@@ -141,16 +141,16 @@ impl RequestFault {
     }
 
     /// The status of the reply that names it.
-    pub fn status(self) -> Status
+    pub fn status(self) -> StatusCode
         ensures { result ≡ status_of_fault self }
     {
         match self {
-            RequestFault::Path => Status::NotFound,
-            RequestFault::Method(_) => Status::MethodNotAllowed,
+            RequestFault::Path => StatusCode::NOT_FOUND,
+            RequestFault::Method(_) => StatusCode::METHOD_NOT_ALLOWED,
             RequestFault::Head
             | RequestFault::Length
             | RequestFault::Json
-            | RequestFault::Field(_) => Status::BadRequest,
+            | RequestFault::Field(_) => StatusCode::BAD_REQUEST,
         }
     }
 }

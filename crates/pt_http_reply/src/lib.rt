@@ -1,14 +1,19 @@
-//! Replies in bytes: what the desk tells over HTTP, formed in a buffer that takes no memory.
+//! Replies in bytes: what the desk tells over HTTP. What a read is told may be of any length; every other reply is
+//! formed
+//! in fixed room.
 #![tactic(auto)]
 
 pub use buffer::{LONGEST_REPLY, ReplyBuffer};
+pub use content_type::ContentType;
 pub use fault::{AllowedMethod, FieldName, RequestFault};
-pub use response::{Response, write_response};
-pub use status::Status;
+pub use reply_bytes::{ReplyBytes, reply_to};
+pub use response::Response;
 
 mod body;
 mod buffer;
+mod content_type;
 mod fault;
+mod reply_bytes;
 mod response;
 mod standing;
 mod status;

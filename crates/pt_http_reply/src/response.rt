@@ -1,11 +1,11 @@
-ghost use Rattle.std.specs.Prelude.{◌≡◌, ◌≤◌, ◌+◌, ◌++◌, ℕ, List, [], length, codes, decimal};
-ghost use Rattle.pt_http_reply.specs.Body.{body_of, IsUntil};
-ghost use Rattle.pt_http_reply.specs.Response.{IsReplyText, status_of, line, own_lines, head_text};
-ghost use Rattle.pt_http_reply.specs.Status.{status_text};
-ghost use Rattle.pt_http_reply.specs.declared.buffer.TheConstants.{LONGEST_REPLY};
+ghost use Rattle.std.specs.Prelude.{◌≡◌, ◌≤◌, ◌+◌, ◌++◌, [], length, codes, decimal, unwrap_or};
+ghost use Rattle.http.specs.StatusCode.{reason_phrase, status_text};
+ghost use Rattle.pt_http_reply.specs.ContentType.{type_text};
+ghost use Rattle.pt_http_reply.specs.Response.{status_of, type_of, line, own_lines, head_text};
 
-use crate::body::write_body;
-use crate::{ReplyBuffer, RequestFault, Status};
+use crate::status::status_of_rule;
+use crate::{ContentType, ReplyBuffer, RequestFault};
+use http::StatusCode;
 use itoa::Buffer;
 use pt_base::Rule;
 use pt_desk::{Answer, Reply};
@@ -21,41 +21,33 @@ pub enum Response {
 
 impl Response {
     /// The status that the reply has.
-    pub fn status(&self) -> Status
+    pub fn status(&self) -> StatusCode
         ensures { result ≡ status_of self.now }
     {
         match self {
-            Response::Answered(Ok(Answer::Denied(rule))) => Status::of_rule(*rule),
-            Response::Answered(Ok(_)) => Status::Ok,
-            Response::Answered(Err(_)) => Status::ServiceUnavailable,
+            Response::Answered(Ok(Answer::Denied(rule))) => status_of_rule(*rule),
+            Response::Answered(Ok(_)) => StatusCode::OK,
+            Response::Answered(Err(_)) => StatusCode::SERVICE_UNAVAILABLE,
             Response::Refused(fault) => fault.status(),
         }
     }
-}
 
-/// Puts the bytes of the reply into the buffer, in place of what it had.
-pub fn write_response(response: &Response, out: &mut ReplyBuffer)
-    ensures text { IsReplyText response.now out.new }
-    // No other bytes are the reply.
-    ensures only { (bytes : List ℕ) → IsReplyText response.now bytes → out.new ≡ bytes }
-    ensures within { length out.new ≤ LONGEST_REPLY }
-{
-    let mut body = ReplyBuffer::new();
-    write_body(response, &mut body);
-    out.clear();
-    write_head(response, body.as_slice().len(), out);
-    out.push(body.as_slice());
+    /// What the body of the reply is written in.
+    pub fn content_type(&self) -> ContentType
+        ensures { result ≡ type_of self.now }
+    {
+        ContentType::Json
+    }
 }
 
 /// The lines of the head before a body of so many bytes.
-fn write_head(response: &Response, body_length: usize, out: &mut ReplyBuffer)
-    requires empty { out.old ≡ [] }
-    requires short { body_length ≤ 300 }
+pub(crate) fn write_head(response: &Response, body_length: usize, out: &mut ReplyBuffer)
+    requires { out.old ≡ [] }
     ensures text { out.new ≡ head_text response.now body_length }
-    ensures short { length out.new ≤ 200 }
+    ensures short { length out.new ≤ 250 }
 {
     write_status_line(response.status(), out);
-    out.push(b"Content-Type: application/json\r\n");
+    write_type_line(response.content_type(), out);
     write_length_line(body_length, out);
     write_own_lines(response, out);
     out.push(b"Connection: close\r\n");
@@ -63,13 +55,32 @@ fn write_head(response: &Response, body_length: usize, out: &mut ReplyBuffer)
 }
 
 /// The line that begins a reply.
-fn write_status_line(status: Status, out: &mut ReplyBuffer)
-    requires { length out.old ≤ 400 }
+fn write_status_line(status: StatusCode, out: &mut ReplyBuffer)
+    requires room { length out.old ≤ 400 }
+    requires short { length (unwrap_or (reason_phrase status) (codes "<unknown status code>")) ≤ 31 }
     ensures text { out.new ≡ out.old ++ line (codes "HTTP/1.1 " ++ status_text status) }
-    ensures short { length out.new ≤ length out.old + 35 }
+    ensures short { length out.new ≤ length out.old + 83 }
 {
     out.push(b"HTTP/1.1 ");
-    out.push(status.text().as_bytes());
+    out.push(Buffer::new().format(status.as_u16()).as_bytes());
+    out.push(b" ");
+    out.push(
+        status
+            .canonical_reason()
+            .unwrap_or("<unknown status code>")
+            .as_bytes(),
+    );
+    out.push(b"\r\n");
+}
+
+/// The line that tells what the body is written in.
+fn write_type_line(content_type: ContentType, out: &mut ReplyBuffer)
+    requires { length out.old ≤ 400 }
+    ensures text { out.new ≡ out.old ++ line (codes "Content-Type: " ++ type_text content_type) }
+    ensures short { length out.new ≤ length out.old + 32 }
+{
+    out.push(b"Content-Type: ");
+    out.push(content_type.text().as_bytes());
     out.push(b"\r\n");
 }
 

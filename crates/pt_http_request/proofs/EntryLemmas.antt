@@ -1,6 +1,5 @@
 -- The parts of a message spell one thing each.
 use Rattle.std.proofs.Common.{◌≡◌, ℕ, List, [], ◌∷◌, map, refl, ap, sym, subst, inl, inr, pos, ◌∙◌}
-use Rattle.std.specs.Prelude.{codes}
 use Rattle.pt_base.proofs.CalendarLemmas.{IsDateText-day}
 use Rattle.pt_rights.specs.declared.conditions.Condition.{Condition}
 use Rattle.pt_rights.specs.declared.entry.Entry.{Entry}
@@ -11,12 +10,13 @@ use Rattle.pt_conditions.proofs.TextLemmas.{condition_text-injective}
 use Rattle.serde_json.specs.Data.{Data, array}
 use Rattle.serde_json.specs.View.{items_of}
 use Rattle.pt_http_reply.specs.declared.fault.FieldName.{FieldName}
-use Rattle.pt_http_request.specs.Bodies.{spelling_of, HasConditions, SpellsGrant, SpellsOfKind, SpellsEntry, entry_fields, HasField, IsFirstFault, IsEntryFault}
+use Rattle.pt_http_reply.specs.declared.fault.FieldName.TheVariants as field
+use Rattle.pt_http_request.specs.Entries.{spelling_of, HasConditions, SpellsGrant, SpellsOfKind, SpellsEntry, entry_fields, HasField, IsFirstFault, IsEntryFault}
 use Rattle.pt_http_request.specs.Fields.{SpellsDay, IsDayAt, AreReasonsAt}
 use Rattle.pt_http_request.specs.Numbers.{SpellsNumber}
-use Rattle.pt_http_request.specs.declared.bodies.EntryKind.{EntryKind}
-use Rattle.pt_http_request.specs.declared.bodies.EntryKind.TheVariants as kind
-use Rattle.pt_http_request.proofs.ListLemmas.{map-injective, items_of-equal, some-same, some-or-none, value-unique}
+use Rattle.pt_http_request.specs.declared.entries.EntryKind.{EntryKind}
+use Rattle.pt_http_request.specs.declared.entries.EntryKind.TheVariants as kind
+use Rattle.pt_http_request.proofs.ListLemmas.{map-injective, items_of-equal, some-same, value-unique, error-unique, value-or-error}
 
 -- ---- numbers and days
 
@@ -28,13 +28,13 @@ SpellsDay-unique text one other a b =
     let same : pos one ≡ pos other = sym a.1.day ∙ IsDateText-day a.1.date text (pos other) a.1.spelled a.1.four_digits b.1 in
     cc
 
-pub IsDayAt-unique : (name : List ℕ) (body : Data) (one other : ℕ) → IsDayAt name body one → IsDayAt name body other → one ≡ other
+pub IsDayAt-unique : (name : FieldName) (body : Data) (one other : ℕ) → IsDayAt name body one → IsDayAt name body other → one ≡ other
 IsDayAt-unique name body one other a b =
-    let same : a.text ≡ b.text = some-same _ _ _ a.holds b.holds in
+    let same : a.text ≡ b.text = value-unique _ _ _ a.holds b.holds in
     SpellsDay-unique b.text one other (subst (λ text. SpellsDay text one) same a.day_of_text) b.day_of_text
 
-AreReasonsAt-unique : (name : List ℕ) (body : Data) (one other : List ℕ) → AreReasonsAt name body one → AreReasonsAt name body other → one ≡ other
-AreReasonsAt-unique name body one other a b = some-same _ _ _ a.0 b.0
+AreReasonsAt-unique : (name : FieldName) (body : Data) (one other : List ℕ) → AreReasonsAt name body one → AreReasonsAt name body other → one ≡ other
+AreReasonsAt-unique name body one other a b = value-unique _ _ _ a.0 b.0
 
 -- ---- grants
 
@@ -65,7 +65,7 @@ kind-unique kind.Complete body one other a b = absurd a
 kind-unique kind.Grant body (entry.Grant one) (entry.Grant other) a b = ap entry.Grant (SpellsGrant-unique body one other a b)
 kind-unique kind.Grant body (entry.Grant one) other a b = absurd b
 kind-unique kind.Grant body one other a b = absurd a
-kind-unique kind.Refuse body (entry.Refuse one) (entry.Refuse other) a b = ap entry.Refuse (AreReasonsAt-unique (codes "reasons") body one other a b)
+kind-unique kind.Refuse body (entry.Refuse one) (entry.Refuse other) a b = ap entry.Refuse (AreReasonsAt-unique field.Reasons body one other a b)
 kind-unique kind.Refuse body (entry.Refuse one) other a b = absurd b
 kind-unique kind.Refuse body one other a b = absurd a
 kind-unique kind.Appeal body (entry.Appeal one) (entry.Appeal other) a b = ap entry.Appeal (value-unique _ _ _ a b)
@@ -77,13 +77,13 @@ kind-unique kind.Heard body one other a b = absurd a
 kind-unique kind.AppealGranted body (entry.AppealGranted one) (entry.AppealGranted other) a b = ap entry.AppealGranted (SpellsGrant-unique body one other a b)
 kind-unique kind.AppealGranted body (entry.AppealGranted one) other a b = absurd b
 kind-unique kind.AppealGranted body one other a b = absurd a
-kind-unique kind.AppealDenied body (entry.AppealDenied one) (entry.AppealDenied other) a b = ap entry.AppealDenied (AreReasonsAt-unique (codes "reasons") body one other a b)
+kind-unique kind.AppealDenied body (entry.AppealDenied one) (entry.AppealDenied other) a b = ap entry.AppealDenied (AreReasonsAt-unique field.Reasons body one other a b)
 kind-unique kind.AppealDenied body (entry.AppealDenied one) other a b = absurd b
 kind-unique kind.AppealDenied body one other a b = absurd a
 kind-unique kind.Overturn body entry.Overturn entry.Overturn a b = refl
 kind-unique kind.Overturn body entry.Overturn other a b = absurd b
 kind-unique kind.Overturn body one other a b = absurd a
-kind-unique kind.Notice body (entry.Notice one) (entry.Notice other) a b = ap entry.Notice (AreReasonsAt-unique (codes "basis") body one other a b)
+kind-unique kind.Notice body (entry.Notice one) (entry.Notice other) a b = ap entry.Notice (AreReasonsAt-unique field.Basis body one other a b)
 kind-unique kind.Notice body (entry.Notice one) other a b = absurd b
 kind-unique kind.Notice body one other a b = absurd a
 kind-unique kind.NoticeHeard body entry.NoticeHeard entry.NoticeHeard a b = refl
@@ -92,14 +92,14 @@ kind-unique kind.NoticeHeard body one other a b = absurd a
 kind-unique kind.Suspend body (entry.Suspend starts ends reasons) (entry.Suspend other_starts other_ends other_reasons) a b =
     ap (λ (day : ℕ). entry.Suspend day ends reasons) (IsDayAt-unique _ body _ _ a.0 b.0)
     ∙ ap (λ (day : ℕ). entry.Suspend other_starts day reasons) (IsDayAt-unique _ body _ _ a.1 b.1)
-    ∙ ap (λ (text : List ℕ). entry.Suspend other_starts other_ends text) (AreReasonsAt-unique (codes "reasons") body _ _ a.2 b.2)
+    ∙ ap (λ (text : List ℕ). entry.Suspend other_starts other_ends text) (AreReasonsAt-unique field.Reasons body _ _ a.2 b.2)
 kind-unique kind.Suspend body (entry.Suspend starts ends reasons) other a b = absurd b
 kind-unique kind.Suspend body one other a b = absurd a
 
 -- a body spells one entry
 pub SpellsEntry-unique : (body : Data) (one other : Entry) → SpellsEntry body one → SpellsEntry body other → one ≡ other
 SpellsEntry-unique body one other a b =
-    let same : a.0 ≡ b.0 = some-same _ _ _ a.1 b.1 in
+    let same : a.0 ≡ b.0 = value-unique _ _ _ a.1 b.1 in
     kind-unique b.0 body one other (subst (λ (which : EntryKind). SpellsOfKind which body one) same a.2) b.2
 
 -- ---- faults of entries
@@ -147,14 +147,14 @@ fault-of body which same name e wrong = subst (λ (k : EntryKind). IsFirstFault 
 
 -- a body that spells an entry has no fault
 pub entry_or_fault : (body : Data) (one : Entry) (name : FieldName) → SpellsEntry body one → IsEntryFault body name → ⊥
-entry_or_fault body one name a (inl wrong) = some-or-none _ _ a.1 wrong.1
+entry_or_fault body one name a (inl wrong) = value-or-error _ _ _ a.1 wrong
 entry_or_fault body one name a (inr wrong) =
-    each_or_fault (entry_fields a.0) body name (has_each a.0 body one a.2) (fault-of body wrong.0 a.0 name (some-same _ _ _ wrong.1 a.1) wrong.2)
+    each_or_fault (entry_fields a.0) body name (has_each a.0 body one a.2) (fault-of body wrong.0 a.0 name (value-unique _ _ _ wrong.1 a.1) wrong.2)
 
 -- a body has one first fault
 pub entry_fault-unique : (body : Data) (one other : FieldName) → IsEntryFault body one → IsEntryFault body other → one ≡ other
-entry_fault-unique body one other (inl a) (inl b) = a.0 ∙ sym b.0
-entry_fault-unique body one other (inl a) (inr b) = absurd (some-or-none _ _ b.1 a.1)
-entry_fault-unique body one other (inr a) (inl b) = absurd (some-or-none _ _ a.1 b.1)
+entry_fault-unique body one other (inl a) (inl b) = error-unique _ _ _ a b
+entry_fault-unique body one other (inl a) (inr b) = absurd (value-or-error _ _ _ b.1 a)
+entry_fault-unique body one other (inr a) (inl b) = absurd (value-or-error _ _ _ a.1 b)
 entry_fault-unique body one other (inr a) (inr b) =
-    first_fault-unique (entry_fields b.0) body one other (fault-of body a.0 b.0 one (some-same _ _ _ a.1 b.1) a.2) b.2
+    first_fault-unique (entry_fields b.0) body one other (fault-of body a.0 b.0 one (value-unique _ _ _ a.1 b.1) a.2) b.2

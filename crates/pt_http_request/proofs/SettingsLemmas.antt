@@ -13,7 +13,9 @@ use Rattle.pt_base.specs.declared.weekday.Weekday.{Weekday}
 use Rattle.pt_base.specs.declared.weekday.Weekday.TheVariants.{Monday, Tuesday, Wednesday, Thursday, Friday, Saturday, Sunday}
 use Rattle.serde_json.specs.Data.{Data}
 use Rattle.serde_json.specs.View.{items_of}
-use Rattle.pt_http_request.specs.Settings.{settled, fields_of, values_in, each, point_of, is_among, set_of}
+use Rattle.pt_http_request.specs.Policy.{settled}
+use Rattle.pt_http_request.specs.Places.{fields_of}
+use Rattle.pt_http_request.specs.Routes.{values_in, each, point_of, is_among, set_of}
 
 at_most-prop : (most n : ℕ) → IsProp (n ≤ most)
 at_most-prop most n = hlevel props

@@ -1,5 +1,6 @@
 -- The headers that the desk reads, from the names and values of a message's header lines.
-use Rattle.std.specs.Prelude.{◌≡◌, ◌⊎◌, ◌<◌, ℕ, List, [], ◌∷◌, codes, map, filter, length, bytes_eq, Bool, Option, Some, None, Result, Ok, Err}
+use Rattle.std.specs.Prelude.{◌≡◌, ◌⊎◌, ◌<◌, ℕ, List, [], ◌∷◌, codes, map, filter, length, bytes_eq, Bool, Option, Some}
+use Rattle.std.specs.Prelude.{None, Result, Ok, Err}
 use Rattle.std.specs.Char.{to_ascii_lowercase}
 use Rattle.pt_http_request.specs.Numbers.{SpellsNumber}
 use Rattle.pt_http_reply.specs.declared.fault.FieldName.{FieldName}
@@ -29,7 +30,8 @@ IsLengthIn values number =
 -- the body's length: no Transfer-Encoding, and Content-Length gives it
 abbrev pub IsBodyLength : List (List ℕ × List ℕ) → ℕ → Type 0
 IsBodyLength lines number =
-    (values_named (codes "transfer-encoding") lines ≡ []) × IsLengthIn (values_named (codes "content-length") lines) number
+    (values_named (codes "transfer-encoding") lines ≡ [])
+    × IsLengthIn (values_named (codes "content-length") lines) number
 
 -- the caller's key as the values of its header give it: none, or the bytes of one; two are a fault
 abbrev pub key_from : List (List ℕ) → Result (Option (List ℕ)) FieldName

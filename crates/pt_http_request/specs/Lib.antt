@@ -1,8 +1,12 @@
 pub mod Fields
 pub mod Numbers
 pub mod Faults
-pub mod Bodies
-pub mod Settings
+pub mod Callers
+pub mod Riders
+pub mod Entries
+pub mod Policy
+pub mod Places
+pub mod Routes
 pub mod Targets
 pub mod Headers
 pub mod Messages

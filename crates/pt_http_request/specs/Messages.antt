@@ -1,5 +1,6 @@
 -- What a message asks, from the parts of its head and its body.
-use Rattle.std.specs.Prelude.{◌≡◌, ◌≢◌, ◌⊎◌, ℕ, List, [], ◌∷◌, codes, Option, Some, Result, Ok, Err, IsUtf8, IsSome, option_map}
+use Rattle.std.specs.Prelude.{◌≡◌, ◌≢◌, ◌⊎◌, ℕ, List, [], ◌∷◌, codes, Option, Some, Result, Ok, Err, IsUtf8, IsSome}
+use Rattle.std.specs.Prelude.{option_map}
 use Rattle.matchit.specs.Router.{RouteOf}
 use Rattle.matchit.specs.Rows.{RowsOf}
 use Rattle.pt_desk_rules.specs.declared.request.Read.{Read}
@@ -14,8 +15,12 @@ use Rattle.pt_http_reply.specs.declared.fault.RequestFault.TheVariants as fault
 use Rattle.serde_json.specs.Data.{Data}
 use Rattle.serde_json.specs.Find.{as_object}
 use Rattle.serde_json.specs.Read.{read}
-use Rattle.pt_http_request.specs.Bodies.{caller_in, rider_in, SpellsEntry, IsEntryFault}
-use Rattle.pt_http_request.specs.Settings.{policy_in, settled, place_in, fields_of, route_in}
+use Rattle.pt_http_request.specs.Callers.{caller_in}
+use Rattle.pt_http_request.specs.Riders.{rider_in}
+use Rattle.pt_http_request.specs.Entries.{SpellsEntry, IsEntryFault}
+use Rattle.pt_http_request.specs.Policy.{policy_in, settled}
+use Rattle.pt_http_request.specs.Places.{place_in, fields_of}
+use Rattle.pt_http_request.specs.Routes.{route_in}
 use Rattle.pt_http_request.specs.Headers.{key_in, IsNumberIn}
 use Rattle.pt_http_request.specs.declared.fault.MessageFault.{MessageFault}
 use Rattle.pt_http_request.specs.declared.fault.MessageFault.TheVariants.{Refused, Memory}
@@ -61,7 +66,8 @@ IsFieldFault writes.Riders body name = rider_in body ≡ Err name
 IsFieldFault (writes.Entries id) body name = IsEntryFault body name
 
 -- a write as its header lines and its body give it: JSON, key, number, fields
-pub record SpellsWrite (asked : WriteTarget) (lines : List (List ℕ × List ℕ)) (body : List ℕ) (message : Message) : Type 0 where
+pub record SpellsWrite (asked : WriteTarget)
+    (lines : List (List ℕ × List ℕ)) (body : List ℕ) (message : Message) : Type 0 where
   pub found : Data
   pub json : SpellsObject body found
   pub key : key_in lines ≡ Ok (option_map (λ key. key.items) message.key)
@@ -74,8 +80,10 @@ pub record SpellsWrite (asked : WriteTarget) (lines : List (List ℕ × List ℕ
 abbrev pub IsWriteFieldFault : WriteTarget → List (List ℕ × List ℕ) → Data → FieldName → Type 0
 IsWriteFieldFault asked lines found name =
     (key_in lines ≡ Err name)
-    ⊎ (((key : Option (List ℕ)) × (key_in lines ≡ Ok key)) × (name ≡ field.DeskNumber) × ((number : ℕ) → ¬ (IsNumberIn lines number)))
-    ⊎ (((key : Option (List ℕ)) × (key_in lines ≡ Ok key)) × ((number : ℕ) × IsNumberIn lines number) × IsFieldFault asked found name)
+    ⊎ (((key : Option (List ℕ)) × (key_in lines ≡ Ok key)) × (name ≡ field.DeskNumber)
+    × ((number : ℕ) → ¬ (IsNumberIn lines number)))
+    ⊎ (((key : Option (List ℕ)) × (key_in lines ≡ Ok key)) × ((number : ℕ) × IsNumberIn lines number)
+    × IsFieldFault asked found name)
 
 -- the fault is the first that keeps a write from being one
 abbrev pub IsWriteFault : WriteTarget → List (List ℕ × List ℕ) → List ℕ → RequestFault → Type 0
@@ -87,7 +95,8 @@ IsWriteFault asked lines body _ = ⊥
 -- ---- whole messages
 
 -- a read as its method and header lines give it: key
-pub record SpellsRead (method : List ℕ) (lines : List (List ℕ × List ℕ)) (asked : Read) (message : Message) : Type 0 where
+pub record SpellsRead (method : List ℕ)
+    (lines : List (List ℕ × List ℕ)) (asked : Read) (message : Message) : Type 0 where
   pub get : method ≡ codes "GET"
   pub key : key_in lines ≡ Ok (option_map (λ key. key.items) message.key)
   pub number : message.number ≡ 0
@@ -96,7 +105,8 @@ pub record SpellsRead (method : List ℕ) (lines : List (List ℕ × List ℕ)) 
 -- the message to what its path names
 abbrev pub SpellsRequest : Target → List ℕ → List (List ℕ × List ℕ) → List ℕ → Message → Type 0
 SpellsRequest (target.Read asked) method lines body message = SpellsRead method lines asked message
-SpellsRequest (target.Write asked) method lines body message = (method ≡ codes "POST") × SpellsWrite asked lines body message
+SpellsRequest (target.Write asked) method lines body message =
+    (method ≡ codes "POST") × SpellsWrite asked lines body message
 
 -- the fault is the first that keeps a read from being one
 abbrev pub IsReadFault : List ℕ → List (List ℕ × List ℕ) → RequestFault → Type 0
@@ -116,13 +126,15 @@ IsRequestFault (target.Read asked) method lines body why = IsReadFault method li
 IsRequestFault (target.Write asked) method lines body why = IsPostFault asked method lines body why
 
 -- the parts of a message spell this message
-pub record SpellsMessage (routes : RowsOf (RouteOf Path)) (method whole : List ℕ) (lines : List (List ℕ × List ℕ)) (body : List ℕ) (message : Message) : Type 0 where
+pub record SpellsMessage (routes : RowsOf (RouteOf Path)) (method whole : List ℕ)
+    (lines : List (List ℕ × List ℕ)) (body : List ℕ) (message : Message) : Type 0 where
   pub asked : Target
   pub path : SpellsTarget routes (path_of whole) asked
   pub request : SpellsRequest asked method lines body message
 
 -- the fault is the first that keeps the parts of a message from spelling one
-abbrev pub IsMessageFault : RowsOf (RouteOf Path) → List ℕ → List ℕ → List (List ℕ × List ℕ) → List ℕ → RequestFault → Type 0
+abbrev pub IsMessageFault : RowsOf (RouteOf Path) → List ℕ → List ℕ → List (List ℕ × List ℕ) → List ℕ → RequestFault
+    → Type 0
 IsMessageFault routes method whole lines body why =
     ((why ≡ fault.Path) × ((asked : Target) → ¬ (SpellsTarget routes (path_of whole) asked)))
     ⊎ ((asked : Target) × SpellsTarget routes (path_of whole) asked × IsRequestFault asked method lines body why)

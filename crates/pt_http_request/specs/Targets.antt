@@ -1,5 +1,6 @@
 -- What the path of a request names, by the routes of the desk as `matchit` finds them.
-use Rattle.std.specs.Prelude.{◌≡◌, ◌==◌, ℕ, List, [], ◌∷◌, codes, map, slice_get, Option, Some, Result, Ok, Err, IsAscii, IsUtf8}
+use Rattle.std.specs.Prelude.{◌≡◌, ◌==◌, ℕ, List, [], ◌∷◌, codes, map, slice_get, Option, Some, Result, Ok, Err}
+use Rattle.std.specs.Prelude.{IsAscii, IsUtf8}
 use Rattle.std.specs.List.{before_first}
 use Rattle.matchit.specs.Order.{placed}
 use Rattle.matchit.specs.Params.{walk}

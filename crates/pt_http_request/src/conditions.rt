@@ -2,18 +2,20 @@ ghost use Rattle.std.specs.Prelude.{◌≡◌, ◌≢◌, List, map, All, IfSome
 ghost use Rattle.pt_rights.specs.Conditions.{IsCondition, IsConditions};
 ghost use Rattle.pt_rights.specs.declared.conditions.Condition.{Condition};
 ghost use Rattle.serde_json.specs.View.{view};
-ghost use Rattle.pt_http_request.specs.Bodies.{spelling_of, HasConditions};
+ghost use Rattle.pt_http_request.specs.Entries.{spelling_of, HasConditions};
 
 use arrayvec::ArrayVec;
-use pt_rights::{Condition, Conditions, MOST_CONDITIONS};
 use pt_conditions::condition_from;
+use pt_http_reply::FieldName;
+use pt_rights::{Condition, Conditions, MOST_CONDITIONS};
 use serde_json::Value;
 
 /// The condition that a value of a list spells.
 fn condition_in(value: &Value) -> Option<Condition>
     ensures spelled { IfSome result (λ condition. view value.now ≡ spelling_of condition) }
     ensures condition { IfSome result IsCondition }
-    ensures none { IsNone result → (condition : Condition) → IsCondition condition → view value.now ≢ spelling_of condition }
+    ensures none { IsNone result → (condition : Condition) → IsCondition condition
+        → view value.now ≢ spelling_of condition }
 {
     condition_from(value.as_str()?)
 }
@@ -37,5 +39,5 @@ pub(crate) fn conditions_in(body: &Value) -> Option<Conditions>
     ensures listed { IfSome result (HasConditions (view body.now)) }
     ensures none { IsNone result → (conditions : List Condition) → ¬ (HasConditions (view body.now) conditions) }
 {
-    conditions_from(body.get("conditions")?.as_array()?)
+    conditions_from(body.get(FieldName::Conditions.text())?.as_array()?)
 }

@@ -1,7 +1,8 @@
-ghost use Rattle.std.specs.Prelude.{◌≡◌, ℕ, option_map, option_and_then, IfSome, IsNone, IfOk};
+ghost use Rattle.std.specs.Prelude.{◌≡◌, ℕ, Ok, Err, IfSome, IsNone, IfOk, IfErr};
 ghost use Rattle.std.specs.Int.{IsInRange};
 ghost use Rattle.serde_json.specs.View.{view};
-ghost use Rattle.pt_http_request.specs.Fields.{number_within, whole_at, text_at, truth_at, id_at, digest_from, SpellsDay, IsDayAt};
+ghost use Rattle.pt_http_request.specs.Fields.{number_within, whole_at, text_at, truth_at, id_from, id_at, digest_from};
+ghost use Rattle.pt_http_request.specs.Fields.{digest_at, SpellsDay, IsDayAt};
 
 use hex::FromHex;
 use pt_base::{Day, Id};
@@ -9,40 +10,56 @@ use pt_desk::Digest;
 use pt_http_reply::FieldName;
 use serde_json::Value;
 
-/// The whole number at a field of an object.
-pub(crate) fn whole_at(object: &Value, name: &str) -> Option<u64>
-    ensures { result ≡ whole_at name.now (view object.now) }
+/// The whole number at a field of an object, or the field as a fault.
+pub(crate) fn whole_at(object: &Value, name: FieldName) -> Result<u64, FieldName>
+    ensures { result ≡ whole_at name (view object.now) }
 {
-    object.get(name).and_then(Value::as_u64)
+    object.get(name.text()).and_then(Value::as_u64).ok_or(name)
 }
 
-/// The text at a field of an object.
-pub(crate) fn text_at<'v>(object: &'v Value, name: &str) -> Option<&'v str>
-    ensures { option_map (λ text. text.now) result ≡ text_at name.now (view object.now) }
+/// The text at a field of an object, or the field as a fault.
+pub(crate) fn text_at(object: &Value, name: FieldName) -> Result<&str, FieldName>
+    ensures text { IfOk result (λ text. text_at name (view object.now) ≡ Ok text.now) }
+    ensures fault { IfErr result (λ bad. text_at name (view object.now) ≡ Err bad) }
+    ensures named { IfErr result (λ bad. bad ≡ name) }
 {
-    object.get(name).and_then(Value::as_str)
+    object.get(name.text()).and_then(Value::as_str).ok_or(name)
 }
 
-/// The truth value at a field of an object.
-pub(crate) fn truth_at(object: &Value, name: &str) -> Option<bool>
-    ensures { result ≡ truth_at name.now (view object.now) }
+/// The truth value at a field of an object, or the field as a fault.
+pub(crate) fn truth_at(object: &Value, name: FieldName) -> Result<bool, FieldName>
+    ensures { result ≡ truth_at name (view object.now) }
 {
-    object.get(name).and_then(Value::as_bool)
+    object.get(name.text()).and_then(Value::as_bool).ok_or(name)
 }
 
-/// The number of a record at a field of an object.
-pub(crate) fn id_at<Kind>(object: &Value, name: &str) -> Option<Id<Kind>>
-    ensures { result ≡ id_at name.now (view object.now) }
+/// The number, where it may number a record.
+fn id_from<Kind>(number: u64) -> Option<Id<Kind>>
+    ensures { result ≡ id_from number }
 {
-    let number = u32::try_from(whole_at(object, name)?).ok()?;
+    let number = u32::try_from(number).ok()?;
     Id::of(number)
 }
 
+/// The number of a record at a field of an object, or the field as a fault.
+pub(crate) fn id_at<Kind>(object: &Value, name: FieldName) -> Result<Id<Kind>, FieldName>
+    ensures { result ≡ id_at name (view object.now) }
+{
+    id_from(whole_at(object, name)?).ok_or(name)
+}
+
 /// The digest that 64 hexadecimal digits spell.
-pub(crate) fn digest_from(text: &str) -> Option<Digest>
+fn digest_from(text: &str) -> Option<Digest>
     ensures { result ≡ digest_from text.now }
 {
     <[u8; 32] as FromHex>::from_hex(text).ok().map(Digest::of)
+}
+
+/// The digest at a field of an object, or the field as a fault.
+pub(crate) fn digest_at(object: &Value, name: FieldName) -> Result<Digest, FieldName>
+    ensures { result ≡ digest_at name (view object.now) }
+{
+    digest_from(text_at(object, name)?).ok_or(name)
 }
 
 /// The day that a text of the form `YYYY-MM-DD` spells.
@@ -53,12 +70,16 @@ pub fn day_from(text: &str) -> Option<Day>
     Day::parse(text).ok()
 }
 
-/// The day at a field of an object.
-pub(crate) fn day_at(object: &Value, name: &str) -> Option<Day>
-    ensures holds { IfSome result (λ day. IsDayAt name.now (view object.now) day) }
-    ensures none { IsNone result → (day : ℕ) → ¬ (IsDayAt name.now (view object.now) day) }
+/// The day at a field of an object, or the field as a fault.
+pub(crate) fn day_at(object: &Value, name: FieldName) -> Result<Day, FieldName>
+    ensures holds { IfOk result (IsDayAt name (view object.now)) }
+    ensures fault { IfErr result (λ bad. (bad ≡ name) × ((day : ℕ) → ¬ (IsDayAt name (view object.now) day))) }
 {
-    day_from(text_at(object, name)?)
+    let text = text_at(object, name)?;
+    match day_from(text) {
+        Some(day) => Ok(day),
+        None => Err(name),
+    }
 }
 
 /// The whole number of this range at a field of an object, or the field as a fault.
@@ -71,7 +92,7 @@ pub(crate) fn number_within(
     ensures value { result ≡ number_within name least most (view object.now) }
     ensures in_range { IfOk result (IsInRange least most) }
 {
-    let number = whole_at(object, name.text()).ok_or(name)?;
+    let number = whole_at(object, name)?;
     if number < u64::from(least) || number > u64::from(most) {
         return Err(name);
     }

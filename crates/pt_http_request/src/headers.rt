@@ -65,8 +65,10 @@ pub(crate) fn key_of(
     bytes: &[u8],
 ) -> Result<Option<Vec<u8>>, MessageFault>
     requires { All (IsHeaderWithin (length bytes.now)) headers.now }
-    ensures key { IfOk result (λ key. key_in (map (header_bytes bytes.now) headers.now) ≡ Ok (option_map (λ v. v.items) key)) }
-    ensures fault { IfErr result (OnRefused (OnField (λ name. key_in (map (header_bytes bytes.now) headers.now) ≡ Err name))) }
+    ensures key { IfOk result (λ key. key_in (map (header_bytes bytes.now) headers.now) ≡ Ok (option_map (λ v.
+        v.items) key)) }
+    ensures fault { IfErr result (OnRefused (OnField (λ name. key_in (map (header_bytes bytes.now) headers.now) ≡ Err
+        name))) }
 {
     match value_of(headers, bytes, b"desk-key") {
         Given::Missing => Ok(None),

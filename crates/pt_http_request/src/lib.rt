@@ -8,14 +8,18 @@ pub use message::{Message, message_from};
 pub use numbers::number_from;
 pub use targets::{Path, Target, WriteTarget, desk_router};
 
-mod bodies;
+mod callers;
 mod conditions;
+mod entries;
 mod fault;
 mod fields;
 mod headers;
 mod message;
 mod numbers;
-mod settings;
+mod places;
+mod policy;
+mod riders;
+mod routes;
 mod targets;
 #[cfg(test)]
 mod tests;

@@ -2,14 +2,21 @@ ghost use Rattle.std.specs.Prelude.{◌≡◌, codes, map, length, All, IsUtf8, 
 ghost use Rattle.httparse.specs.Spans.{IsHeaderWithin, header_bytes};
 ghost use Rattle.serde_json.specs.View.{view};
 ghost use Rattle.pt_http_request.specs.Faults.{OnField, OnRefused};
-ghost use Rattle.pt_http_request.specs.Messages.{SpellsObject, SpellsFields, IsFieldFault, SpellsWrite, IsWriteFault, IsObjectFault, SpellsRead, IsReadFault, IsPostFault, SpellsRequest, IsRequestFault, SpellsMessage, IsMessageFault, IsMessageRead, IsRefusedFor};
+ghost use Rattle.pt_http_request.specs.Messages.{SpellsObject, SpellsFields, IsFieldFault, SpellsWrite, IsWriteFault};
+ghost use Rattle.pt_http_request.specs.Messages.{IsObjectFault, SpellsRead, IsReadFault, IsPostFault, SpellsRequest};
+ghost use Rattle.pt_http_request.specs.Messages.{IsRequestFault, SpellsMessage, IsMessageFault, IsMessageRead};
+ghost use Rattle.pt_http_request.specs.Messages.{IsRefusedFor};
 ghost use Rattle.pt_http_reply.specs.declared.fault.RequestFault.{RequestFault};
 ghost use Rattle.pt_http_request.specs.declared.message.Message.{Message};
 
-use crate::bodies::{caller_of, entry_of, rider_of};
+use crate::callers::caller_of;
+use crate::entries::entry_of;
 use crate::fault::MessageFault;
 use crate::headers::{key_of, number_of};
-use crate::settings::{place_of, policy_of, route_of};
+use crate::places::place_of;
+use crate::policy::policy_of;
+use crate::riders::rider_of;
+use crate::routes::route_of;
 use crate::targets::{Path, Target, WriteTarget, target_at};
 use httparse::spans::HeaderSpan;
 use matchit::Router;
@@ -122,8 +129,10 @@ fn post_from(
     body: &[u8],
 ) -> Result<Message, MessageFault>
     requires { All (IsHeaderWithin (length bytes.now)) headers.now }
-    ensures write { IfOk result (λ message. (method.now ≡ codes "POST") × SpellsWrite target (map (header_bytes bytes.now) headers.now) body.now message) }
-    ensures fault { IfErr result (OnRefused (IsPostFault target method.now (map (header_bytes bytes.now) headers.now) body.now)) }
+    ensures write { IfOk result (λ message. (method.now ≡ codes "POST")
+        × SpellsWrite target (map (header_bytes bytes.now) headers.now) body.now message) }
+    ensures fault { IfErr result (OnRefused (IsPostFault target method.now (map (header_bytes bytes.now) headers.now)
+        body.now)) }
 {
     if method != b"POST".as_slice() {
         return Err(MessageFault::Refused(RequestFault::Method(AllowedMethod::Post)));
@@ -141,8 +150,10 @@ fn message_to(
     body: &[u8],
 ) -> Result<Message, MessageFault>
     requires { All (IsHeaderWithin (length bytes.now)) headers.now }
-    ensures message { IfOk result (SpellsRequest target method.now (map (header_bytes bytes.now) headers.now) body.now) }
-    ensures fault { IfErr result (OnRefused (IsRequestFault target method.now (map (header_bytes bytes.now) headers.now) body.now)) }
+    ensures message { IfOk result (SpellsRequest target method.now (map (header_bytes bytes.now) headers.now)
+        body.now) }
+    ensures fault { IfErr result (OnRefused (IsRequestFault target method.now
+        (map (header_bytes bytes.now) headers.now) body.now)) }
 {
     match target {
         Target::Read(asked) => read_from(alloc, asked, method, headers, bytes),
@@ -163,11 +174,15 @@ pub fn message_from(
 ) -> Result<Message, MessageFault>
     requires within { All (IsHeaderWithin (length bytes.now)) headers.now }
     requires text { IsUtf8 target.now }
-    ensures message { IfOk result (SpellsMessage router.now method.now target.now (map (header_bytes bytes.now) headers.now) body.now) }
-    ensures fault { IfErr result (OnRefused (IsMessageFault router.now method.now target.now (map (header_bytes bytes.now) headers.now) body.now)) }
-    ensures spelled { (message : Message) → SpellsMessage router.now method.now target.now (map (header_bytes bytes.now) headers.now) body.now message
+    ensures message { IfOk result (SpellsMessage router.now method.now target.now
+        (map (header_bytes bytes.now) headers.now) body.now) }
+    ensures fault { IfErr result (OnRefused (IsMessageFault router.now method.now target.now
+        (map (header_bytes bytes.now) headers.now) body.now)) }
+    ensures spelled { (message : Message) → SpellsMessage router.now method.now target.now
+        (map (header_bytes bytes.now) headers.now) body.now message
         → IsMessageRead message result }
-    ensures refused { (why : RequestFault) → IsMessageFault router.now method.now target.now (map (header_bytes bytes.now) headers.now) body.now why
+    ensures refused { (why : RequestFault) → IsMessageFault router.now method.now target.now
+        (map (header_bytes bytes.now) headers.now) body.now why
         → IsRefusedFor why result }
 {
     let Some(asked) = target_at(router, target) else {

@@ -60,8 +60,8 @@ returns-clause-received g c = λ input has.
       rest,
       record {
         left = now.left;
-        known = ap g.R.Read.remaining c.consume.ensures.reader ∙ now.known;
-        whole = ap (λ b. b ++ now.left) (sym c.consume.ensures.rest);
+        known = ap g.R.Read.remaining c.finish_request.ensures.reader ∙ now.known;
+        whole = ap (λ b. b ++ now.left) (sym c.finish_request.ensures.rest);
       },
       received_whole input body rest head.0 c.in_ok-received.received parts (c.in_ok-received.ensures.spelled head.0 again),
     )

@@ -1,7 +1,7 @@
 use Rattle.std.proofs.Common.{sym, refl}
 use Rattle.pt_rights.specs.Conditions.{IsCondition}
 use Rattle.serde_json.specs.View.{view}
-use Rattle.pt_http_request.specs.Bodies.{spelling_of}
+use Rattle.pt_http_request.specs.Entries.{spelling_of}
 use Rattle.pt_http_request.proofs.ListLemmas.{image_at}
 use Rattle.pt_http_request.proofs.conditions.conditions_from.Goals as goal
 

@@ -1,7 +1,7 @@
 use Rattle.std.proofs.Common.{◌≡◌, map}
 use Rattle.serde_json.specs.Data.{array}
 use Rattle.serde_json.specs.View.{view, items_of}
-use Rattle.pt_http_request.specs.Bodies.{spelling_of}
+use Rattle.pt_http_request.specs.Entries.{spelling_of}
 use Rattle.pt_http_request.proofs.ListLemmas.{items_of-equal}
 use Rattle.pt_http_request.proofs.conditions.conditions_in.Goals as goal
 

@@ -1,0 +1,43 @@
+-- How a reply is held before it is written.
+use Rattle.std.specs.Prelude.{◌≡◌, ◌≤◌, ◌⊎◌, ℕ, List, [], ◌++◌, length, Bool, true, false, Ok, Err}
+use Rattle.pt_desk.specs.declared.keeper.StoreFault.TheVariants.{Memory}
+use Rattle.pt_desk_rules.specs.declared.request.Answer.{Answer}
+use Rattle.pt_desk_rules.specs.declared.request.Answer.TheVariants as answer
+use Rattle.pt_http_reply.specs.declared.body.Body.{Body}
+use Rattle.pt_http_reply.specs.declared.body.Body.TheVariants.{Fixed, Grown}
+use Rattle.pt_http_reply.specs.declared.reply_bytes.ReplyBytes.{ReplyBytes}
+use Rattle.pt_http_reply.specs.declared.response.Response.{Response}
+use Rattle.pt_http_reply.specs.declared.response.Response.TheVariants as response
+
+-- what a read is told, where no rule fails: it may be of any length
+abbrev pub is_of_read : Answer → Bool
+is_of_read (answer.Standing standing suspended) = true
+is_of_read (answer.Visitor may_use) = true
+is_of_read _ = false
+
+abbrev pub is_told : Response → Bool
+is_told (response.Answered (Ok told)) = is_of_read told
+is_told _ = false
+
+-- the bytes of a body
+abbrev pub bytes_in : Body → List ℕ
+bytes_in (Fixed text) = text
+bytes_in (Grown text) = text.items
+
+-- one in fixed room leaves room for a head
+abbrev pub IsShort : Body → Type 0
+IsShort (Fixed text) = length text ≤ 60
+IsShort (Grown text) = Unit {0}
+
+-- it stands in fixed room
+abbrev pub IsFixed : Body → Type 0
+IsFixed (Fixed text) = Unit {0}
+IsFixed (Grown text) = ⊥
+
+-- the bytes of a reply
+abbrev pub bytes_of : ReplyBytes → List ℕ
+bytes_of reply = reply.front ++ reply.rest.items
+
+-- the response goes out, or, in place of what a read is told, that memory was wanting
+abbrev pub IsSent : Response → Response → Type 0
+IsSent asked sent = (sent ≡ asked) ⊎ ((is_told asked ≡ true) × (sent ≡ response.Answered (Err Memory)))

@@ -1,0 +1,139 @@
+ghost use Rattle.std.specs.Prelude.{◌≡◌, ℕ, List, IfOk, IfErr};
+ghost use Rattle.serde_json.specs.View.{view};
+ghost use Rattle.pt_http_request.specs.Fields.{AreReasonsAt};
+ghost use Rattle.pt_http_request.specs.Entries.{kind_named, kind_in, place_in_file, SpellsGrant, SpellsOfKind};
+ghost use Rattle.pt_http_request.specs.Entries.{SpellsEntry, entry_fields, IsFirstFault, IsEntryFault};
+ghost use Rattle.pt_http_request.specs.declared.entries.EntryKind.{EntryKind};
+ghost use Rattle.pt_http_request.specs.Faults.{OnField, OnRefused};
+
+use crate::conditions::conditions_in;
+use crate::fault::MessageFault;
+use crate::fields::{day_at, number_within, text_at};
+use pt_http_reply::FieldName;
+use pt_rights::{Entry, Grant, MOST_ENTRIES, Reasons};
+use serde_json::Value;
+use std::alloc::Global;
+
+/// The kinds of entries in a case file, as a body names them.
+#[derive(Clone, Copy)]
+enum EntryKind {
+    Complete,
+    Grant,
+    Refuse,
+    Appeal,
+    Heard,
+    AppealGranted,
+    AppealDenied,
+    Overturn,
+    Notice,
+    NoticeHeard,
+    Suspend,
+}
+
+/// The kind of entry of this name.
+fn kind_named(name: &str) -> Option<EntryKind>
+    ensures { result ≡ kind_named name.now }
+{
+    match name {
+        "complete" => Some(EntryKind::Complete),
+        "grant" => Some(EntryKind::Grant),
+        "refuse" => Some(EntryKind::Refuse),
+        "appeal" => Some(EntryKind::Appeal),
+        "heard" => Some(EntryKind::Heard),
+        "appeal-granted" => Some(EntryKind::AppealGranted),
+        "appeal-denied" => Some(EntryKind::AppealDenied),
+        "overturn" => Some(EntryKind::Overturn),
+        "notice" => Some(EntryKind::Notice),
+        "notice-heard" => Some(EntryKind::NoticeHeard),
+        "suspend" => Some(EntryKind::Suspend),
+        _ => None,
+    }
+}
+
+/// The kind of the entry that an object spells, or that field as a fault.
+fn kind_of(body: &Value) -> Result<EntryKind, FieldName>
+    ensures { result ≡ kind_in (view body.now) }
+{
+    kind_named(text_at(body, FieldName::Entry)?).ok_or(FieldName::Entry)
+}
+
+/// The grant that an object spells, or its first bad field.
+fn grant_of(body: &Value) -> Result<Grant, FieldName>
+    ensures granted { IfOk result (SpellsGrant (view body.now)) }
+    ensures fault { IfErr result (IsFirstFault (entry_fields EntryKind.Grant) (view body.now)) }
+{
+    let until = day_at(body, FieldName::Until)?;
+    let Some(conditions) = conditions_in(body) else {
+        return Err(FieldName::Conditions);
+    };
+    Ok(Grant { until, conditions })
+}
+
+/// The place in a case file that an appeal is against.
+fn place_of(body: &Value) -> Result<u8, FieldName>
+    ensures { result ≡ place_in_file (view body.now) }
+{
+    let place = number_within(body, FieldName::Against, 0, MOST_ENTRIES as u32 - 1)?;
+    Ok(place as u8)
+}
+
+/// The reasons at a field of an object, or the field as a fault.
+fn reasons_at(alloc: Global, body: &Value, name: FieldName) -> Result<Reasons, MessageFault>
+    ensures reasons { IfOk result (AreReasonsAt name (view body.now)) }
+    ensures fault { IfErr result (OnRefused (OnField (λ bad.
+        (bad ≡ name) × ((reasons : List ℕ) → ¬ (AreReasonsAt name (view body.now) reasons))))) }
+{
+    let text = text_at(body, name)?;
+    let bytes = Vec::from_slice(alloc, text.as_bytes())?;
+    let reasons = Reasons::of(bytes).ok_or(name)?;
+    Ok(reasons)
+}
+
+/// The suspension that an object spells, or its first bad field.
+fn suspension_of(alloc: Global, body: &Value) -> Result<Entry, MessageFault>
+    ensures suspension { IfOk result (SpellsOfKind EntryKind.Suspend (view body.now)) }
+    ensures fault { IfErr result (OnRefused (OnField (IsFirstFault (entry_fields EntryKind.Suspend) (view body.now)))) }
+{
+    let starts = day_at(body, FieldName::Starts)?;
+    let ends = day_at(body, FieldName::Ends)?;
+    let reasons = reasons_at(alloc, body, FieldName::Reasons)?;
+    Ok(Entry::Suspend {
+        starts,
+        ends,
+        reasons,
+    })
+}
+
+/// The entry of a kind that an object spells, or its first bad field.
+fn entry_of_kind(alloc: Global, kind: EntryKind, body: &Value) -> Result<Entry, MessageFault>
+    ensures entry { IfOk result (SpellsOfKind kind (view body.now)) }
+    ensures fault { IfErr result (OnRefused (OnField (IsFirstFault (entry_fields kind) (view body.now)))) }
+{
+    match kind {
+        EntryKind::Complete => Ok(Entry::Complete),
+        EntryKind::Grant => Ok(Entry::Grant(grant_of(body)?)),
+        EntryKind::Refuse => Ok(Entry::Refuse(reasons_at(alloc, body, FieldName::Reasons)?)),
+        EntryKind::Appeal => Ok(Entry::Appeal {
+            against: place_of(body)?,
+        }),
+        EntryKind::Heard => Ok(Entry::Heard),
+        EntryKind::AppealGranted => Ok(Entry::AppealGranted(grant_of(body)?)),
+        EntryKind::AppealDenied => {
+            let reasons = reasons_at(alloc, body, FieldName::Reasons)?;
+            Ok(Entry::AppealDenied(reasons))
+        }
+        EntryKind::Overturn => Ok(Entry::Overturn),
+        EntryKind::Notice => Ok(Entry::Notice(reasons_at(alloc, body, FieldName::Basis)?)),
+        EntryKind::NoticeHeard => Ok(Entry::NoticeHeard),
+        EntryKind::Suspend => suspension_of(alloc, body),
+    }
+}
+
+/// The entry that an object spells, or its first bad field.
+pub(crate) fn entry_of(alloc: Global, body: &Value) -> Result<Entry, MessageFault>
+    ensures entry { IfOk result (SpellsEntry (view body.now)) }
+    ensures fault { IfErr result (OnRefused (OnField (IsEntryFault (view body.now)))) }
+{
+    let kind = kind_of(body)?;
+    entry_of_kind(alloc, kind, body)
+}

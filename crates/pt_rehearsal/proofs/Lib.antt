@@ -1,0 +1,4 @@
+pub mod LineLemmas
+pub mod MomentLemmas
+pub mod NextLemmas
+pub mod RehearsalLemmas

@@ -1,0 +1,124 @@
+-- Rehearsals, message by message.
+use Rattle.std.proofs.Common.{◌≡◌, ◌≢◌, ◌⊎◌, arith, ℕ, false, List, [], ◌∷◌, ◌++◌, refl, sym, ap, ◌∙◌, subst, append_assoc, append-nil, inl, inr}
+use Rattle.std.specs.Prelude.{Option}
+use Rattle.std.specs.Io.KnownBytes.{Appends}
+use Rattle.std.proofs.KnownBytes.{Appends-nil, Appends-trans}
+use Rattle.pt_http_inbox.specs.declared.inbox.Inbox.{Inbox}
+use Rattle.pt_rehearsal.specs.Moment.{BeginsWithMoment}
+use Rattle.pt_http_reply.specs.Response.{IsReplyText}
+use Rattle.pt_http_reply.specs.declared.response.Response.{Response}
+use Rattle.pt_base.specs.Fault.{fault}
+use Rattle.pt_base.specs.declared.fault.Fault.{Fault}
+use Rattle.pt_base.specs.Codes.{memory_refused, read_failed, write_failed, moment_line_refused}
+use Rattle.pt_http.specs.Exchange.{Desk, Exchanges, IsUnanswered, is_last}
+use Rattle.pt_http.specs.Input.{HasInput}
+use Rattle.pt_rehearsal.specs.Rehearsal.{Exchanged, IsStep, Rehearses, HasBadLine}
+
+-- Where a rehearsal of this input stands: what comes after it completes it.
+pub record StandsAt {R : Type 0} (remaining : R → Option (List ℕ)) (input : List ℕ) (old : Desk) (before : Option (List ℕ)) (inbox : Inbox R) (now : Desk) (after : Option (List ℕ)) : Type 0 where
+  pub messages : List Exchanged
+  pub written : List ℕ
+  pub left : List ℕ
+  pub has : HasInput remaining inbox left
+  pub goes : (later : List Exchanged) (more rest : List ℕ) (new : Desk) → Rehearses later left now more rest new → Rehearses (messages ++ later) input old (written ++ more) rest new
+  pub appended : Appends before after written
+
+-- it begins
+pub begun : {R : Type 0} (remaining : R → Option (List ℕ)) (input : List ℕ) (old : Desk) (before : Option (List ℕ)) (inbox : Inbox R) → HasInput remaining inbox input → StandsAt remaining input old before inbox old before
+begun remaining input old before inbox has = record {
+  messages = [];
+  written = [];
+  left = input;
+  has = has;
+  goes = λ later more rest new goes. goes;
+  appended = Appends-nil before;
+}
+
+-- it may stop here
+pub stops : {R : Type 0} (remaining : R → Option (List ℕ)) (input : List ℕ) (old now : Desk) (before after : Option (List ℕ)) (inbox : Inbox R) → (stands : StandsAt remaining input old before inbox now after)
+    → Rehearses stands.messages input old stands.written stands.left now
+stops remaining input old now before after inbox stands =
+    rw (append-nil stands.messages, append-nil stands.written) at (stands.goes [] [] stands.left now (refl, refl, refl))
+
+-- one message more
+abbrev pub one_more : ℕ → ℕ → Response → List ℕ → Exchanged
+one_more day minute reply text = record { day = day; minute = minute; reply = reply; text = text }
+
+pub step_of : (shut day minute : ℕ) (left between rest text : List ℕ) (now new : Desk) (reply : Response) → shut ≡ 0 → BeginsWithMoment left day minute between → Exchanges shut (day, minute) between now new reply rest → IsReplyText reply text
+    → IsStep (one_more day minute reply text) left now rest new
+step_of shut day minute left between rest text now new reply whole moment exchanged replied = record {
+  after = between;
+  moment = moment;
+  exchanged = subst (λ n. Exchanges n (day, minute) between now new reply rest) whole exchanged;
+  replied = replied;
+}
+
+-- it may stop after one message more
+pub ends : {R : Type 0} (remaining : R → Option (List ℕ)) (input rest : List ℕ) (old now new : Desk) (before after : Option (List ℕ)) (inbox : Inbox R) (one : Exchanged) → (stands : StandsAt remaining input old before inbox now after)
+    → IsStep one stands.left now rest new → Rehearses (stands.messages ++ one ∷ []) input old (stands.written ++ one.text) rest new
+ends remaining input rest old now new before after inbox one stands step =
+    stands.goes (one ∷ []) one.text rest new (rest, new, [], step, (λ last. refl), (refl, refl, refl), sym (append-nil one.text))
+
+-- the rehearsal goes on after a message that does not end it
+pub went_on : {R : Type 0} (remaining : R → Option (List ℕ)) (input rest : List ℕ) (old now new : Desk) (before after later : Option (List ℕ)) (inbox next : Inbox R) (one : Exchanged)
+    → (stands : StandsAt remaining input old before inbox now after) → IsStep one stands.left now rest new → is_last one.reply ≡ false → HasInput remaining next rest → Appends after later one.text
+    → StandsAt remaining input old before next new later
+went_on remaining input rest old now new before after later inbox next one stands step goes_on has appended = record {
+  messages = stands.messages ++ one ∷ [];
+  written = stands.written ++ one.text;
+  left = rest;
+  has = has;
+  goes = λ further more end final goes.
+      let on : Rehearses (stands.messages ++ (one ∷ further)) input old (stands.written ++ (one.text ++ more)) end final
+      = stands.goes (one ∷ further) (one.text ++ more) end final (rest, new, more, step, (λ last. absurd (cc (last, goes_on))), goes, refl) in
+      rw (sym (append_assoc stands.messages (one ∷ []) further), sym (append_assoc stands.written one.text more)) at on;
+  appended = Appends-trans before after later stands.written one.text stands.appended appended;
+}
+
+-- what ends a rehearsal before its end is one of several things
+code_of : (error : Fault) (one other : ℕ) → error ≡ fault one → error ≡ fault other → one ≡ other
+code_of error one other is also = ap (λ (e : Fault). e.code) (sym is ∙ also)
+
+pub unanswered_no_line : (error : Fault) → IsUnanswered error → error ≡ fault moment_line_refused → ⊥
+unanswered_no_line error (inl is) line = let same : 0 ≡ 48 = code_of error 0 48 is line in omega (arith, same)
+unanswered_no_line error (inr is) line = let same : 46 ≡ 48 = code_of error 46 48 is line in omega (arith, same)
+
+pub read_no_line : (error : Fault) → error ≡ fault read_failed → error ≡ fault moment_line_refused → ⊥
+read_no_line error is line = let same : 46 ≡ 48 = code_of error 46 48 is line in omega (arith, same)
+
+pub write_no_line : (error : Fault) → error ≡ fault write_failed → error ≡ fault moment_line_refused → ⊥
+write_no_line error is line = let same : 47 ≡ 48 = code_of error 47 48 is line in omega (arith, same)
+
+-- how a rehearsal stands that ended before its end
+abbrev pub Stopped : List ℕ → Desk → Desk → Option (List ℕ) → Option (List ℕ) → Fault → Type 0
+Stopped input old new before after error =
+    (messages : List Exchanged) × (written : List ℕ) × (rest : List ℕ) × Rehearses messages input old written rest new
+    × (error ≢ fault write_failed → Appends before after written) × (error ≡ fault moment_line_refused → HasBadLine rest)
+
+-- it ended where it stood
+pub stopped_here : {R : Type 0} (remaining : R → Option (List ℕ)) (input : List ℕ) (old now : Desk) (before after : Option (List ℕ)) (inbox : Inbox R) (error : Fault) → (stands : StandsAt remaining input old before inbox now after)
+    → (error ≡ fault moment_line_refused → HasBadLine stands.left) → Stopped input old now before after error
+stopped_here remaining input old now before after inbox error stands line =
+    (stands.messages, stands.written, stands.left, stops remaining input old now before after inbox stands, (λ other. stands.appended), line)
+
+-- a message was asked for, and not answered
+pub stopped_unanswered : {R : Type 0} (remaining : R → Option (List ℕ)) (input : List ℕ) (old now new : Desk) (before after later : Option (List ℕ)) (inbox : Inbox R) (error : Fault) → StandsAt remaining input old before inbox now after
+    → IsUnanswered error → new ≡ now → later ≡ after → Stopped input old new before later error
+stopped_unanswered remaining input old now new before after later inbox error stands unanswered same kept =
+    rw (same, kept) (stopped_here remaining input old now before after inbox error stands (λ line. absurd (unanswered_no_line error unanswered line)))
+
+-- a message was answered, and its reply was not written
+pub stopped_unheard : {R : Type 0} (remaining : R → Option (List ℕ)) (input rest : List ℕ) (old now new : Desk) (before after later : Option (List ℕ)) (inbox : Inbox R) (one : Exchanged) (error : Fault)
+    → (stands : StandsAt remaining input old before inbox now after) → error ≡ fault write_failed → IsStep one stands.left now rest new → Stopped input old new before later error
+stopped_unheard remaining input rest old now new before after later inbox one error stands is step =
+    (stands.messages ++ one ∷ [], stands.written ++ one.text, rest, ends remaining input rest old now new before after inbox one stands step, (λ other. absurd (other is)), (λ line. absurd (write_no_line error is line)))
+
+pub either : {P Q R : Type 0} → P ⊎ Q → (P → R) → (Q → R) → R
+either (inl p) one other = one p
+either (inr q) one other = other q
+
+pub read_code_no_line : (error : Fault) → error.code ≡ read_failed → error ≡ fault moment_line_refused → ⊥
+read_code_no_line error is line = let same : 46 ≡ 48 = sym is ∙ ap (λ (e : Fault). e.code) line in omega (arith, same)
+
+pub memory_code_no_line : (error : Fault) → error.code ≡ memory_refused → error ≡ fault moment_line_refused → ⊥
+memory_code_no_line error is line = let same : 0 ≡ 48 = sym is ∙ ap (λ (e : Fault). e.code) line in omega (arith, same)

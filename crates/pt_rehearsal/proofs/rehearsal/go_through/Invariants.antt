@@ -1,0 +1,19 @@
+use Rattle.std.proofs.Common.{◌≡◌, ◌≤◌, ℕ, List}
+use Rattle.pt_desk.specs.Store.{Store, IsSettled}
+use Rattle.pt_http.specs.Exchange.{desk_of}
+use Rattle.pt_http.specs.Input.{HasInput}
+use Rattle.pt_rehearsal.proofs.RehearsalLemmas.{StandsAt}
+use Rattle.pt_rehearsal.proofs.rehearsal.go_through.Given as goal
+
+-- the messages so far were answered in turn
+abbrev pub invariant-loop : goal.invariant-loop
+invariant-loop g l =
+    let store = g.K.Keeper.store in
+    record {
+      clean : (store l.fn.keeper).doubt ≤ (store l.keeper).doubt;
+      serves : (store l.fn.keeper).shut ≤ (store l.keeper).shut;
+      settled : IsSettled (store l.fn.keeper) → IsSettled (store l.keeper);
+      stands : (store l.keeper).doubt ≡ 0 → (store l.keeper).shut ≡ 0 → (input : List ℕ) → HasInput g.R.Read.remaining l.fn.inbox input
+          → StandsAt g.R.Read.remaining input (desk_of (store l.fn.keeper)) (g.W.Write.contents l.fn.out)
+          l.inbox (desk_of (store l.keeper)) (g.W.Write.contents l.out);
+    }

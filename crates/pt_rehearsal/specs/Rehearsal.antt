@@ -1,0 +1,49 @@
+-- Rehearsals: messages one after another, each led by a line that gives its moment.
+use Rattle.std.specs.Prelude.{◌≡◌, ◌≢◌, ◌⊎◌, ℕ, true, List, [], ◌∷◌, ◌++◌}
+use Rattle.pt_base.specs.Fault.{fault}
+use Rattle.pt_base.specs.declared.fault.Fault.{Fault}
+use Rattle.pt_base.specs.Codes.{write_failed, moment_line_refused}
+use Rattle.pt_rehearsal.specs.Moment.{BeginsWithMoment}
+use Rattle.pt_http_reply.specs.Response.{IsReplyText}
+use Rattle.pt_http_reply.specs.declared.response.Response.{Response}
+use Rattle.pt_http.specs.Exchange.{Desk, Exchanges, IsUnanswered, is_last}
+
+-- a message of a rehearsal: the moment at which it came, the reply, and the reply's bytes
+pub record Exchanged : Type 0 where
+  pub day : ℕ
+  pub minute : ℕ
+  pub reply : Response
+  pub text : List ℕ
+
+-- the bytes begin with this message's moment and then with what it answers, and leave this rest and this state
+pub record IsStep (one : Exchanged) (bytes : List ℕ) (old : Desk) (rest : List ℕ) (new : Desk) : Type 0 where
+  pub after : List ℕ
+  pub moment : BeginsWithMoment bytes one.day one.minute after
+  pub exchanged : Exchanges 0 (one.day, one.minute) after old new one.reply rest
+  pub replied : IsReplyText one.reply one.text
+
+-- the desk goes through these messages at the front of the bytes, writes these bytes in reply, and comes to this rest
+-- and this state
+abbrev pub Rehearses : List Exchanged → List ℕ → Desk → List ℕ → List ℕ → Desk → Type 0
+Rehearses [] bytes old written rest new = (rest ≡ bytes) × (new ≡ old) × (written ≡ [])
+Rehearses (one ∷ later) bytes old written rest new =
+    (left : List ℕ) × (mid : Desk) × (more : List ℕ) × IsStep one bytes old left mid
+    × (is_last one.reply ≡ true → later ≡ []) × Rehearses later left mid more rest new × (written ≡ one.text ++ more)
+
+-- the input is used up, or the last message ended it
+abbrev pub IsFinished : List Exchanged → List ℕ → Type 0
+IsFinished messages rest =
+    (rest ≡ []) ⊎ ((front : List Exchanged) × (one : Exchanged) × (messages ≡ front ++ one ∷ [])
+    × (is_last one.reply ≡ true))
+
+-- no line with a moment begins the bytes
+abbrev pub HasNoMoment : List ℕ → Type 0
+HasNoMoment bytes = (day minute : ℕ) (rest : List ℕ) → ¬ (BeginsWithMoment bytes day minute rest)
+
+-- the input goes on, and not with a line that gives a moment: its end is no bad line
+abbrev pub HasBadLine : List ℕ → Type 0
+HasBadLine bytes = (bytes ≢ []) × HasNoMoment bytes
+
+-- what ends a rehearsal before its end: no memory, a read or a write that failed, a bad line, or too many messages
+abbrev pub IsRehearsalFault : Fault → Type 0
+IsRehearsalFault error = IsUnanswered error ⊎ (error ≡ fault write_failed) ⊎ (error ≡ fault moment_line_refused)

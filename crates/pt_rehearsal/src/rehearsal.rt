@@ -1,0 +1,131 @@
+ghost use Rattle.std.specs.Prelude.{◌≡◌, ◌≢◌, ◌⊎◌, ℕ, ◌≤◌, List, Err, IfOk, IfErr, OnOk};
+ghost use Rattle.std.specs.Io.KnownBytes.{Appends};
+ghost use Rattle.pt_base.specs.Fault.{fault};
+ghost use Rattle.pt_base.specs.Codes.{read_failed, write_failed, moment_line_refused};
+ghost use Rattle.pt_http_inbox.specs.Inbox.{reads_of};
+ghost use Rattle.pt_http.specs.Exchange.{Desk, desk_of, IsUnanswered, is_last};
+ghost use Rattle.pt_desk.specs.Store.{Store, IsSettled};
+ghost use Rattle.pt_http.specs.Input.{HasInput};
+ghost use Rattle.pt_rehearsal.specs.Moments.{IsNext};
+ghost use Rattle.pt_http_request.specs.Targets.{desk_routes};
+ghost use Rattle.pt_rehearsal.specs.Rehearsal.{Exchanged, Rehearses, IsFinished, HasBadLine, IsRehearsalFault};
+
+use crate::moment::{LONGEST_MOMENT_LINE, moment_at};
+use matchit::Router;
+use pt_base::fault::{MEMORY, MOMENT_LINE, READ_FAILED};
+use pt_base::{Day, Fault, Minute};
+use pt_desk::Keeper;
+use pt_http::exchange;
+use pt_http_inbox::Inbox;
+use pt_http_reply::{RequestFault, Response};
+use pt_http_request::{Path, desk_router};
+use std::alloc::Global;
+use std::io::{Read, Write};
+
+/// The most messages of a rehearsal.
+pub const MOST_MESSAGES: u32 = 100_000;
+
+/// The moment that leads the next message; `None` at the end of the input.
+fn next_moment<R: Read + Drop>(inbox: &mut Inbox<R>) -> Result<Option<(Day, Minute)>, Fault>
+    ensures next { (input : List ℕ) → HasInput R.remaining inbox.old input
+        → IfOk result (IsNext R.remaining inbox.new input) }
+    ensures line { (input : List ℕ) → HasInput R.remaining inbox.old input
+        → result ≡ Err (fault moment_line_refused) → HasBadLine input }
+    // The reads of the line count with those of its message.
+    ensures counted { reads_of inbox.old ≤ reads_of inbox.new }
+    ensures fault { IfErr result (λ error. (error ≡ fault read_failed) ⊎ (error ≡ fault moment_line_refused)) }
+{
+    if !inbox.read_up_to(1)? {
+        return Ok(None);
+    }
+    inbox.read_up_to(LONGEST_MOMENT_LINE)?;
+    let Some(line) = moment_at(inbox.held()) else {
+        return Err(Fault::of(MOMENT_LINE));
+    };
+    inbox.consume(line.end);
+    Ok(Some((line.day, line.minute)))
+}
+
+/// Whether a rehearsal ends with this reply.
+fn is_last(response: &Response) -> bool
+    ensures { result ≡ is_last response.now }
+{
+    matches!(
+        response,
+        Response::Refused(RequestFault::Head | RequestFault::Length)
+    )
+}
+
+/// Answers messages in turn by these routes.
+fn go_through<K: Keeper, R: Read + Drop, W: Write>(
+    alloc: Global,
+    router: &Router<Path>,
+    keeper: &mut K,
+    inbox: &mut Inbox<R>,
+    out: &mut W,
+) -> Result<(), Fault>
+    requires { router.now ≡ desk_routes }
+    ensures finished { (K.store keeper.new).doubt ≡ 0 → (K.store keeper.new).shut ≡ 0
+        → (input : List ℕ) → HasInput R.remaining inbox.old input
+        → OnOk result ((messages : List Exchanged) × (written : List ℕ) × (rest : List ℕ)
+        × Rehearses messages input (desk_of (K.store keeper.old)) written rest (desk_of (K.store keeper.new))
+        × Appends (W.contents out.old) (W.contents out.new) written × IsFinished messages rest) }
+    // Else it stands after the last message that was answered, whose reply may not be wholly written.
+    ensures stopped { (K.store keeper.new).doubt ≡ 0 → (K.store keeper.new).shut ≡ 0
+        → (input : List ℕ) → HasInput R.remaining inbox.old input
+        → IfErr result (λ error. (messages : List Exchanged) × (written : List ℕ) × (rest : List ℕ)
+        × Rehearses messages input (desk_of (K.store keeper.old)) written rest (desk_of (K.store keeper.new))
+        × (error ≢ fault write_failed → Appends (W.contents out.old) (W.contents out.new) written)
+        × (error ≡ fault moment_line_refused → HasBadLine rest)) }
+    ensures fault { IfErr result IsRehearsalFault }
+    ensures clean { (K.store keeper.old).doubt ≤ (K.store keeper.new).doubt }
+    ensures serves { (K.store keeper.old).shut ≤ (K.store keeper.new).shut }
+    ensures settled { IsSettled (K.store keeper.old) → IsSettled (K.store keeper.new) }
+{
+    for _ in 0..MOST_MESSAGES {
+        let Some(now) = next_moment(inbox)? else {
+            return Ok(());
+        };
+        let response = exchange(alloc, router, keeper, now, inbox, out)?;
+        if is_last(&response) {
+            return Ok(());
+        }
+    }
+    if inbox.read_up_to(1)? {
+        return Err(Fault::of(READ_FAILED));
+    }
+    Ok(())
+}
+
+/// Answers messages in turn, each at the moment that the line before it gives, until the input ends.
+///
+/// It ends as well after the reply to a head or to a length that is not taken. The error is want of memory, a read that
+/// failed or one or a message too many, a write that failed, or a line that gives no moment.
+pub fn rehearse<K: Keeper, R: Read + Drop, W: Write>(
+    alloc: Global,
+    keeper: &mut K,
+    inbox: &mut Inbox<R>,
+    out: &mut W,
+) -> Result<(), Fault>
+    ensures finished { (K.store keeper.new).doubt ≡ 0 → (K.store keeper.new).shut ≡ 0
+        → (input : List ℕ) → HasInput R.remaining inbox.old input
+        → OnOk result ((messages : List Exchanged) × (written : List ℕ) × (rest : List ℕ)
+        × Rehearses messages input (desk_of (K.store keeper.old)) written rest (desk_of (K.store keeper.new))
+        × Appends (W.contents out.old) (W.contents out.new) written × IsFinished messages rest) }
+    // Else it stands after the last message that was answered, whose reply may not be wholly written.
+    ensures stopped { (K.store keeper.new).doubt ≡ 0 → (K.store keeper.new).shut ≡ 0
+        → (input : List ℕ) → HasInput R.remaining inbox.old input
+        → IfErr result (λ error. (messages : List Exchanged) × (written : List ℕ) × (rest : List ℕ)
+        × Rehearses messages input (desk_of (K.store keeper.old)) written rest (desk_of (K.store keeper.new))
+        × (error ≢ fault write_failed → Appends (W.contents out.old) (W.contents out.new) written)
+        × (error ≡ fault moment_line_refused → HasBadLine rest)) }
+    ensures fault { IfErr result IsRehearsalFault }
+    ensures clean { (K.store keeper.old).doubt ≤ (K.store keeper.new).doubt }
+    ensures serves { (K.store keeper.old).shut ≤ (K.store keeper.new).shut }
+    ensures settled { IsSettled (K.store keeper.old) → IsSettled (K.store keeper.new) }
+{
+    let Ok(router) = desk_router(alloc) else {
+        return Err(Fault::of(MEMORY));
+    };
+    go_through(alloc, &router, keeper, inbox, out)
+}
