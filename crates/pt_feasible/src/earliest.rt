@@ -18,9 +18,9 @@ pub struct Earliest {
     pub steps: ArrayVec<u32, 62>,
 }
 
-/// Minutes before which no service times that fit the route begin; `None` where a window ends before. It takes no memory.
+/// Minutes before which no service times that fit the route begin; `None` where a window ends before.
 ///
-/// One walk along windows and driving times; ride limits and the duration do not count.
+/// It takes no memory. One walk along windows and driving times; ride limits and the duration do not count.
 pub fn earliest_times<S: Stops, T: Times>(
     stops: &S,
     times: &T,

@@ -23,7 +23,9 @@ pub fn loads_fit<S: Stops>(stops: &S, vehicle: &Vehicle) -> bool
     true
 }
 
-/// Who is aboard after the stop with this number, by who was before it; `None` where that is more than any vehicle carries.
+/// Who is aboard after the stop with this number, by who was before it.
+///
+/// `None` where that is more than any vehicle carries.
 pub fn aboard_after<S: Stops>(stops: &S, k: usize, aboard: Load) -> Option<Load>
     requires stop { k < length (S.stops stops.now) }
     requires before { aboard ≡ load_aboard (take k (S.stops stops.now)) }

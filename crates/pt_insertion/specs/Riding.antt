@@ -10,8 +10,8 @@ use Rattle.pt_insertion.specs.declared.asked.Asked.{Asked}
 use Rattle.pt_insertion.specs.declared.riding.Riding.{Riding}
 use Rattle.pt_insertion.specs.Insertion.{with_trip}
 
--- with the pickup after i old stops and the drop after j or more, the last visit of the first j, or the pickup where it is later, is
--- at this place, and when its service ends the ride has taken at least so many minutes
+-- with the pickup after i old stops and the drop after j or more, the later of the pickup and the j-th visit is at this
+-- place, and when its service ends the ride has taken at least so many minutes
 abbrev pub IsRiddenFor : (ℕ → ℕ → Option ℕ) → Vehicle → List Stop → Asked → (i j place ridden : ℕ) → Type 0
 IsRiddenFor minutes vehicle stops asked i j place ridden = (later : ℕ) (b : List ℕ) (last : Visit) →
     j ≤ later → later ≤ length stops → TimesFit minutes vehicle (with_trip asked i later stops) b →

@@ -43,9 +43,9 @@ pub fn boarded(duty: &Duty<'_>, asked: &Asked, i: usize, others: Load) -> Option
     })
 }
 
-/// The ride one stop on; `None` where from there on the vehicle is too full or the ride too long, wherever the drop comes.
+/// The ride one stop on; `None` where the vehicle is too full or the ride too long from there on.
 ///
-/// Driving and service alone count: a wait makes a ride no shorter.
+/// No later drop is possible then. Driving and service alone count: a wait makes a ride no shorter.
 pub fn ride_on<T: Times>(
     duty: &Duty<'_>,
     asked: &Asked,
@@ -58,7 +58,8 @@ pub fn ride_on<T: Times>(
     requires stop { j < length (stops_of duty.now.route.now) }
     requires new_trip { IsWithout asked.now.trip (stops_of duty.now.route.now) }
     requires within_a_day { duty.now.vehicle.now.closes ≤ last_minute }
-    requires riding { IsRiding (T.minutes times.now) duty.now.vehicle.now (stops_of duty.now.route.now) asked.now i j riding }
+    requires riding { IsRiding (T.minutes times.now) duty.now.vehicle.now
+        (stops_of duty.now.route.now) asked.now i j riding }
     ensures riding { IfSome result (λ on.
         IsRiding (T.minutes times.now) duty.now.vehicle.now (stops_of duty.now.route.now) asked.now i (j + 1) on) }
     ensures none { IfNone result ((later : ℕ) → j + 1 ≤ later →
