@@ -1,23 +1,19 @@
 -- Latest times, one visit back.
-use Rattle.std.proofs.Common.{◌≡◌, ℕ, ◌+◌, ◌<◌, ◌≤◌, List, Option, Some, None, length, IsSomeAnd, slice_get, slice_index, slice_set, unwrap_or, arith}
+use Rattle.std.proofs.Common.{◌≡◌, ℕ, ◌+◌, ◌<◌, ◌≤◌, List, Option, Some, length, slice_get, slice_index, slice_set, arith}
 use Rattle.std.proofs.lemmas.Grind.{elements}
 use Rattle.std.proofs.lemmas.List.{get_or_past}
 use Rattle.pt_base.specs.declared.vehicle.Vehicle.{Vehicle}
 use Rattle.pt_feasible.specs.declared.stop.Stop.{Stop}
 use Rattle.pt_feasible.specs.declared.visit.Visit.{Visit}
 use Rattle.pt_feasible.specs.ServiceTimes.{TimesFit}
+use Rattle.pt_feasible.specs.Steps.{AreSteps}
 use Rattle.pt_feasible.specs.Visit.{visits}
 
--- from a visit on, no times that fit are later than these
-abbrev pub IsLatestFrom : (ℕ → ℕ → Option ℕ) → Vehicle → List Stop → List ℕ → ℕ → Type 0
-IsLatestFrom minutes vehicle stops latest k = (b : List ℕ) → TimesFit minutes vehicle stops b →
+-- from a visit on, no times that fit are later than these, where they keep the steps
+abbrev pub IsLatestFrom : Vehicle → List Stop → List ℕ → List ℕ → ℕ → Type 0
+IsLatestFrom vehicle stops steps latest k = (minutes : ℕ → ℕ → Option ℕ) (b : List ℕ) →
+    AreSteps minutes vehicle stops steps → TimesFit minutes vehicle stops b →
     (m : ℕ) → k ≤ m → slice_index b m ≤ slice_index latest m
-
--- a drive that is there takes no less than its minutes
-pub drive_counted : (way : Option ℕ) (from service to : ℕ) → IsSomeAnd way (λ drive. from + service + drive ≤ to) →
-    from + (service + unwrap_or way 0) ≤ to
-drive_counted None from service to h = absurd h
-drive_counted (Some drive) from service to h = omega arith
 
 -- one place of a list is set
 set_lower : (latest b : List ℕ) (k m bound : ℕ) → k < length latest → (k < m → slice_index b m ≤ slice_index latest m) →
@@ -25,22 +21,21 @@ set_lower : (latest b : List ℕ) (k m bound : ℕ) → k < length latest → (k
 set_lower latest b k m bound inside after here from = grind (arith, elements)
 
 -- one visit more
-pub latest_more : (minutes : ℕ → ℕ → Option ℕ) (vehicle : Vehicle) (stops : List Stop) (latest : List ℕ) (k bound : ℕ) (this next : Visit) →
-    slice_get (visits vehicle stops) k ≡ Some this → slice_get (visits vehicle stops) (k + 1) ≡ Some next → k < length latest →
-    ((t : ℕ) → t ≤ this.hi → t + (this.service + unwrap_or (minutes this.place next.place) 0) ≤ slice_index latest (k + 1) → t ≤ bound) →
-    IsLatestFrom minutes vehicle stops latest (k + 1) → IsLatestFrom minutes vehicle stops (slice_set latest k bound) k
-latest_more minutes vehicle stops latest k bound this next here there inside least after b fits m from =
-    let late : slice_index b (k + 1) ≤ slice_index latest (k + 1) = after b fits (k + 1) (omega arith) in
+pub latest_more : (vehicle : Vehicle) (stops : List Stop) (steps latest : List ℕ) (k bound : ℕ) (this : Visit) →
+    slice_get (visits vehicle stops) k ≡ Some this → k < length stops + 1 → k < length latest →
+    ((t : ℕ) → t ≤ this.hi → t + slice_index steps k ≤ slice_index latest (k + 1) → t ≤ bound) →
+    IsLatestFrom vehicle stops steps latest (k + 1) → IsLatestFrom vehicle stops steps (slice_set latest k bound) k
+latest_more vehicle stops steps latest k bound this here within inside least after minutes b are fits m from =
+    let late : slice_index b (k + 1) ≤ slice_index latest (k + 1) = after minutes b are fits (k + 1) (omega arith) in
     let (low, high) = fits.time_windows k this here in
-    let drive = drive_counted (minutes this.place next.place) (slice_index b k) this.service (slice_index b (k + 1))
-    (fits.driving_times k this next here there) in
-    set_lower latest b k m bound inside (λ more. after b fits m (omega arith)) (least (slice_index b k) high (omega arith)) from
+    let step = are b k fits within in
+    set_lower latest b k m bound inside (λ more. after minutes b are fits m (omega arith)) (least (slice_index b k) high (omega arith)) from
 
 -- the last visit
-pub latest_home : (minutes : ℕ → ℕ → Option ℕ) (vehicle : Vehicle) (stops : List Stop) (latest : List ℕ) (last bound : ℕ) (home : Visit) →
+pub latest_home : (vehicle : Vehicle) (stops : List Stop) (steps latest : List ℕ) (last bound : ℕ) (home : Visit) →
     last ≡ length stops + 1 → last < length latest → slice_get (visits vehicle stops) last ≡ Some home → home.hi ≤ bound →
-    IsLatestFrom minutes vehicle stops (slice_set latest last bound) last
-latest_home minutes vehicle stops latest last bound home end inside there capped b fits m from =
+    IsLatestFrom vehicle stops steps (slice_set latest last bound) last
+latest_home vehicle stops steps latest last bound home end inside there capped minutes b are fits m from =
     let (low, high) = fits.time_windows last home there in
     set_lower latest b last m bound inside
     (λ more. let past : slice_index b m ≡ 0 = get_or_past b m 0 (omega (arith, fits.one_each)) in omega arith) (omega arith) from

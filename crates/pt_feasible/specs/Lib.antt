@@ -9,3 +9,4 @@ pub mod Stop
 pub mod Visit
 pub mod Line
 pub mod Sweep
+pub mod Steps

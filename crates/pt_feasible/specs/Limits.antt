@@ -1,5 +1,6 @@
 -- What the service time of each visit of a route has to keep, and what keeps it.
-use Rattle.std.specs.Prelude.{◌≡◌, ℕ, ◌+◌, ◌-◌, ◌<◌, ◌≤◌, ◌↔◌, IsTrue, List, length, Option, Some, IsSomeAnd, slice_get, slice_index, slice_index_or}
+use Rattle.std.specs.Prelude.{◌≡◌, ℕ, ◌+◌, ◌-◌, ◌<◌, ◌≤◌, ◌↔◌, IsTrue, List, length, Option, Some, IsSomeAnd, slice_get}
+use Rattle.std.specs.Prelude.{slice_index, slice_index_or}
 use Rattle.pt_base.specs.declared.vehicle.Vehicle.{Vehicle}
 use Rattle.pt_feasible.specs.declared.limits.Limits.{Limits}
 use Rattle.pt_feasible.specs.declared.stop.Stop.{Stop}
@@ -25,7 +26,8 @@ pub record EndsInTime (vehicle : Vehicle) (stops : List Stop) (b : List ℕ) (k 
   pub route : k ≡ length stops + 1 → KeepsRouteDuration vehicle stops b
 
 -- what fitting times keep at one visit, but for the beginning of its window
-pub record FitsAt (minutes : ℕ → ℕ → Option ℕ) (vehicle : Vehicle) (stops : List Stop) (b : List ℕ) (k : ℕ) : Type 0 where
+pub record FitsAt (minutes : ℕ → ℕ → Option ℕ) (vehicle : Vehicle) (stops : List Stop) (b : List ℕ) (k : ℕ) :
+    Type 0 where
   pub in_window : (visit : Visit) → slice_get (visits vehicle stops) k ≡ Some visit → slice_index b k ≤ visit.hi
   pub driven : HasTimeToDrive minutes (visits vehicle stops) b k
   pub ended : EndsInTime vehicle stops b k
@@ -41,7 +43,8 @@ abbrev pub KeepsAll : List Limits → List ℕ → Type 0
 KeepsAll limits b = (k : ℕ) (d : Limits) → k < length limits → IsKept (length limits) b k (slice_index_or limits k d)
 
 -- the limits of a visit stand for what fitting times keep there, and look back
-pub record StandFor (minutes : ℕ → ℕ → Option ℕ) (vehicle : Vehicle) (stops : List Stop) (k : ℕ) (limits : Limits) : Type 0 where
+pub record StandFor (minutes : ℕ → ℕ → Option ℕ) (vehicle : Vehicle) (stops : List Stop) (k : ℕ) (limits : Limits) :
+    Type 0 where
   pub before : limits.since.visit ≤ k
   pub kept : (b : List ℕ) → IsKept (length stops + 2) b k limits ↔ FitsAt minutes vehicle stops b k
 
@@ -51,4 +54,5 @@ LookBack limits = (k : ℕ) (d : Limits) → k < length limits → (slice_index_
 
 -- no bound is after the end of its window
 abbrev pub AreInWindows : List Limits → List ℕ → Type 0
-AreInWindows limits bounds = (k : ℕ) (d : Limits) → k < length limits → slice_index bounds k ≤ (slice_index_or limits k d).latest
+AreInWindows limits bounds = (k : ℕ) (d : Limits) → k < length limits →
+    slice_index bounds k ≤ (slice_index_or limits k d).latest

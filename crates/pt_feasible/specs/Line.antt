@@ -9,12 +9,14 @@ use Rattle.pt_feasible.specs.Limits.{AreInWindows, StandFor}
 use Rattle.pt_feasible.specs.ServiceTimes.{TimesFit, IsNeverLater}
 use Rattle.pt_feasible.specs.Visit.{visits}
 
--- a line has a bound and limits for each visit: bounds within the windows that no fitting times come before, and limits that
--- stand for what these keep
+-- a line has a bound and limits for each visit: bounds within the windows that no fitting times come before, and limits
+-- that stand for what these keep
 pub record IsLineOf (minutes : ℕ → ℕ → Option ℕ) (vehicle : Vehicle) (stops : List Stop) (line : Line) : Type 0 where
   pub count : length line.earliest.items ≡ length stops + 2
   pub count_limits : length line.limits.items ≡ length stops + 2
   pub floor : (b : List ℕ) → TimesFit minutes vehicle stops b → IsNeverLater line.earliest.items b
-  pub opened : (k : ℕ) (visit : Visit) → slice_get (visits vehicle stops) k ≡ Some visit → visit.lo ≤ slice_index line.earliest.items k
+  pub opened : (k : ℕ) (visit : Visit) → slice_get (visits vehicle stops) k ≡ Some visit →
+      visit.lo ≤ slice_index line.earliest.items k
   pub in_windows : AreInWindows line.limits.items line.earliest.items
-  pub stand : (k : ℕ) (d : Limits) → k < length stops + 2 → StandFor minutes vehicle stops k (slice_index_or line.limits.items k d)
+  pub stand : (k : ℕ) (d : Limits) → k < length stops + 2 →
+      StandFor minutes vehicle stops k (slice_index_or line.limits.items k d)

@@ -1,5 +1,6 @@
 -- Driving times on plains, for tests: a vehicle drives one unit east or north, or both at once, in a minute.
-use Rattle.std.proofs.Common.{◌≡◌, ℕ, ◌+◌, ◌-◌, ◌/◌, ◌%◌, ◌≤◌, max, Bool, true, false, Option, Some, None, IfSome, IsSomeAnd, arith, refl, ap, ◌∙◌}
+use Rattle.std.proofs.Common.{◌≡◌, ℕ, ◌+◌, ◌-◌, ◌/◌, ◌%◌, ◌≤◌, max, Bool, true, false, Option, Some, None, IfSome}
+use Rattle.std.proofs.Common.{IsSomeAnd, arith, refl, ap, ◌∙◌}
 use Rattle.std.proofs.lemmas.Bool.{eqb-true, eq-eqb}
 use Rattle.std.proofs.lemmas.Option.{same_Some, none-some}
 use Rattle.std.specs.Prelude.{if◌then◌else◌, ◌==◌}
@@ -23,7 +24,8 @@ across a b = max (apart (east a) (east b)) (apart (north a) (north b))
 abbrev pub plain_minutes : ℕ → ℕ → Option ℕ
 plain_minutes a b = if a / 1_000_000 == b / 1_000_000 then Some (across a b) else None
 
-apart-triangle : (x y z u v w : ℕ) → max (apart x z) (apart u w) ≤ max (apart x y) (apart u v) + max (apart y z) (apart v w)
+apart-triangle : (x y z u v w : ℕ) →
+    max (apart x z) (apart u w) ≤ max (apart x y) (apart u v) + max (apart y z) (apart v w)
 apart-triangle x y z u v w = omega arith
 
 pub across-self : (a : ℕ) → across a a ≡ 0
@@ -41,15 +43,20 @@ pub plain-stays : (a : ℕ) → plain_minutes a a ≡ Some 0
 plain-stays a = rw (eq-eqb (a / 1_000_000) (a / 1_000_000) refl) (ap Some (across-self a))
 
 -- a way that is there has the minutes across
-some-across : (same : Bool) (a b m : ℕ) → (if same then Some (across a b) else None) ≡ Some m → (same ≡ true) × (across a b ≡ m)
+some-across : (same : Bool) (a b m : ℕ) → (if same then Some (across a b) else None) ≡ Some m →
+    (same ≡ true) × (across a b ≡ m)
 some-across true a b m way = (refl, same_Some (across a b) m way)
 some-across false a b m way = absurd (none-some m way)
 
 pub plain-within_a_day : (a b : ℕ) → IfSome (plain_minutes a b) (λ t. t ≤ 1439)
-plain-within_a_day a b = elim (a / 1_000_000 == b / 1_000_000) as (λ same. IfSome (if same then Some (across a b) else None) (λ t. t ≤ 1439)) [ true ↦ across-within a b | false ↦ tt ]
+plain-within_a_day a b =
+    elim (a / 1_000_000 == b / 1_000_000)
+    as (λ same. IfSome (if same then Some (across a b) else None) (λ t. t ≤ 1439))
+    [ true ↦ across-within a b | false ↦ tt ]
 
 -- a way over a third place is no shorter
-pub plain-triangle : (a b c m n : ℕ) → plain_minutes a b ≡ Some m → plain_minutes b c ≡ Some n → m + n ≤ 1439 → IsSomeAnd (plain_minutes a c) (λ t. t ≤ m + n)
+pub plain-triangle : (a b c m n : ℕ) → plain_minutes a b ≡ Some m → plain_minutes b c ≡ Some n → m + n ≤ 1439 →
+    IsSomeAnd (plain_minutes a c) (λ t. t ≤ m + n)
 plain-triangle a b c m n first second within =
     let one = some-across (a / 1_000_000 == b / 1_000_000) a b m first in
     let two = some-across (b / 1_000_000 == c / 1_000_000) b c n second in

@@ -1,6 +1,7 @@
 -- Service times of a route: the constraints of the dial-a-ride problem (Cordeau and Laporte 2003), in whole
 -- minutes of the day. `b` lists one time for each visit: leaving the depot, each stop in turn, back at the depot.
-use Rattle.std.specs.Prelude.{◌≡◌, ℕ, ◌+◌, ◌-◌, ◌≤◌, IsTrue, List, length, Option, Some, IsSomeAnd, slice_get, slice_index}
+use Rattle.std.specs.Prelude.{◌≡◌, ℕ, ◌+◌, ◌-◌, ◌≤◌, IsTrue, List, length, Option, Some, IsSomeAnd, slice_get}
+use Rattle.std.specs.Prelude.{slice_index}
 use Rattle.pt_base.specs.declared.vehicle.Vehicle.{Vehicle}
 use Rattle.pt_feasible.specs.declared.stop.Stop.{Stop}
 use Rattle.pt_feasible.specs.declared.visit.Visit.{Visit}
@@ -42,6 +43,7 @@ abbrev pub IsNeverLater : List ℕ → List ℕ → Type 0
 IsNeverLater a b = (k : ℕ) → slice_index a k ≤ slice_index b k
 
 -- the service times fit, and no fitting service times are earlier at any visit
-pub record IsLeastSchedule (minutes : ℕ → ℕ → Option ℕ) (vehicle : Vehicle) (stops : List Stop) (b : List ℕ) : Type 0 where
+pub record IsLeastSchedule (minutes : ℕ → ℕ → Option ℕ) (vehicle : Vehicle) (stops : List Stop) (b : List ℕ) :
+    Type 0 where
   pub fits : TimesFit minutes vehicle stops b
   pub least : (other : List ℕ) → TimesFit minutes vehicle stops other → IsNeverLater b other

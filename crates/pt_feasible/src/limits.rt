@@ -27,7 +27,9 @@ pub struct Since {
     pub most: u32,
 }
 
-/// The minutes of a visit's service and of the drive to the next one, and nothing after the last; `None` where there is no way.
+/// The minutes of a visit's service and of the drive to the next one, and nothing after the last.
+///
+/// `None` where there is no way.
 pub fn step_from<S: Stops, T: Times>(
     stops: &S,
     times: &T,

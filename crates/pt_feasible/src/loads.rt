@@ -1,5 +1,6 @@
-ghost use Rattle.std.specs.Prelude.{◌≤◌, ◌↔◌, length, IsTrue};
-ghost use Rattle.pt_feasible.specs.Loads.{LoadsFit};
+ghost use Rattle.std.specs.Prelude.{◌≡◌, ◌+◌, ◌<◌, ◌≤◌, ◌↔◌, length, take, IsTrue, IfSome, IfNone};
+ghost use Rattle.pt_feasible.specs.Load.{IsLoad};
+ghost use Rattle.pt_feasible.specs.Loads.{LoadsFit, load_aboard};
 
 use crate::{Load, MAX_STOPS, StopKind, Stops};
 use pt_base::Vehicle;
@@ -11,17 +12,29 @@ pub fn loads_fit<S: Stops>(stops: &S, vehicle: &Vehicle) -> bool
 {
     let mut aboard = Load::none();
     for k in 0..stops.len() {
-        let stop = stops.stop(k);
-        match stop.kind {
-            StopKind::Pickup => match aboard.plus(stop.load) {
-                Some(load) => aboard = load,
-                None => return false,
-            },
-            StopKind::Drop => aboard = aboard.minus(stop.load),
+        match aboard_after(stops, k, aboard) {
+            Some(load) => aboard = load,
+            None => return false,
         }
         if !aboard.fits(vehicle) {
             return false;
         }
     }
     true
+}
+
+/// Who is aboard after the stop with this number, by who was before it.
+///
+/// `None` where that is more than any vehicle carries.
+pub fn aboard_after<S: Stops>(stops: &S, k: usize, aboard: Load) -> Option<Load>
+    requires stop { k < length (S.stops stops.now) }
+    requires before { aboard ≡ load_aboard (take k (S.stops stops.now)) }
+    ensures after { IfSome result (λ load. load ≡ load_aboard (take (k + 1) (S.stops stops.now))) }
+    ensures none { IfNone result (¬ IsLoad (load_aboard (take (k + 1) (S.stops stops.now)))) }
+{
+    let stop = stops.stop(k);
+    match stop.kind {
+        StopKind::Pickup => aboard.plus(stop.load),
+        StopKind::Drop => Some(aboard.minus(stop.load)),
+    }
 }

@@ -27,8 +27,8 @@ pub fn least_times<L: Ledger>(line: Line, passes: &mut Passes<L>) -> Option<Sche
     ensures count { IfSome result (λ times. length times.items ≡ length line.earliest.items) }
     ensures rises { IfSome result (λ times. IsNeverLater line.earliest.items times.items) }
     ensures kept { IfSome result (λ times. KeepsAll line.limits.items times.items) }
-    ensures least { IfSome result (λ times. (b : List ℕ) → IsNeverLater line.earliest.items b → KeepsAll line.limits.items b
-        → IsNeverLater times.items b) }
+    ensures least { IfSome result (λ times. (b : List ℕ) → IsNeverLater line.earliest.items b
+        → KeepsAll line.limits.items b → IsNeverLater times.items b) }
     ensures none { IfNone result ((b : List ℕ) → length b ≡ length line.earliest.items
         → IsNeverLater line.earliest.items b → ¬ KeepsAll line.limits.items b) }
     ensures passes { passes.new ≤ passes.old + length line.limits.items + 1 }
@@ -74,7 +74,8 @@ fn raise_from(bounds: &mut [u16], limits: &[Limits], k: usize) -> Pass
     requires among { k < length limits.now }
     ensures raises { Raises limits.now bounds.old bounds.new result }
     ensures ended { result ≢ Pass.Broken → (d : Limits) →
-        slice_index bounds.old k ≤ slice_index bounds.new (slice_index_or limits.now k d).since.visit + (slice_index_or limits.now k d).since.most }
+        slice_index bounds.old k ≤ slice_index bounds.new (slice_index_or limits.now k d).since.visit
+        + (slice_index_or limits.now k d).since.most }
     ensures driven { result ≢ Pass.Broken → (d : Limits) → k + 1 < length limits.now →
         slice_index bounds.old k + (slice_index_or limits.now k d).step ≤ slice_index bounds.new (k + 1) }
 {

@@ -110,16 +110,16 @@ fn settles_one_trip(rt: HostRuntime) -> Result<(), Fail> {
 fn settles_from_a_floor(rt: HostRuntime) -> Result<(), Fail> {
     let route = a_to_b(rt.alloc(), 540, 660)?;
     let vehicle = vehicle(100, 1020)?;
-    let latest = latest_times(&route, &Plain, &vehicle);
+    let Some(earliest) = earliest_times(&route, &Plain, &vehicle) else {
+        return Err(Fail::new("no floor"));
+    };
+    assert_eq!(rt; earliest.times.as_slice(), [480, 540, 572, 614].as_slice());
+    let latest = latest_times(&route, &vehicle, earliest.steps.as_slice());
     assert_eq!(rt;
         (latest[0], latest[1], latest[2], latest[3]),
         (640, 660, 978, 1020)
     );
-    let Some(floor) = earliest_times(&route, &Plain, &vehicle) else {
-        return Err(Fail::new("no floor"));
-    };
-    assert_eq!(rt; floor.as_slice(), [480, 540, 572, 614].as_slice());
-    let schedule = settle_from(&route, &Plain, &vehicle, &floor).ok_or("no schedule")?;
+    let schedule = settle_from(&route, &Plain, &vehicle, &earliest.times).ok_or("no schedule")?;
     assert_eq!(rt; schedule.as_slice(), [514, 540, 572, 614].as_slice());
     Ok(())
 }

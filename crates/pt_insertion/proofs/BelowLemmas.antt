@@ -218,15 +218,6 @@ all_pickups minutes vehicle stops asked limit i best past is_best =
     (λ k l at possible. let among : l ≤ length stops = possible.among in let later : k ≤ l = possible.drop_later in omega arith)
     is_best
 
--- below a limit that is there, or where there is none
-pub within_limit : (limit : Option ℕ) (most added : ℕ) → limit ≡ Some most → added < most → IfSome limit (λ n. added < n)
-within_limit None most added e less = cc
-within_limit (Some n) most added e less = let same : n ≡ most = cc in omega arith
-
-pub without_limit : (limit : Option ℕ) (added : ℕ) → limit ≡ None → IfSome limit (λ n. added < n)
-without_limit None added e = tt
-without_limit (Some n) added e = cc
-
 -- the drops so far, where none from here on is possible
 pub all_drops_before : (minutes : ℕ → ℕ → Option ℕ) (vehicle : Vehicle) (stops : List Stop) (asked : Asked) (limit : Option ℕ) (i j : ℕ)
     (best : Option Chosen) → ((later : ℕ) → j ≤ later → ¬ IsPossible minutes vehicle stops asked i later) →
@@ -240,3 +231,35 @@ all_drops_before minutes vehicle stops asked limit i j best none is_best =
       | inr after ↦ absurd (none l after (subst (λ (n : ℕ). IsPossible minutes vehicle stops asked n l) at possible))
     ])
     is_best
+
+-- the pickups so far, where none from here on is possible
+pub all_pickups_before : (minutes : ℕ → ℕ → Option ℕ) (vehicle : Vehicle) (stops : List Stop) (asked : Asked) (limit : Option ℕ) (i : ℕ)
+    (best : Option Chosen) → ((later drop : ℕ) → i ≤ later → ¬ IsPossible minutes vehicle stops asked later drop) →
+    IsBestBelow minutes vehicle stops asked (λ pickup drop. pickup < i) limit best →
+    IsBestBelow minutes vehicle stops asked (λ pickup drop. ⊤) limit best
+all_pickups_before minutes vehicle stops asked limit i best none is_best =
+    best_among_all minutes vehicle stops asked (λ pickup drop. pickup < i) (λ pickup drop. ⊤) limit best
+    (λ k l at. tt)
+    (λ k l at possible. elim (cases_lt k i) [ inl before ↦ before | inr after ↦ absurd (none k l after possible) ])
+    is_best
+
+-- what is at least a number that is not below the limit does not come below it either
+never_below : (limit : Option ℕ) (least added : ℕ) → ¬ IfSome limit (λ most. least < most) → least ≤ added → IsSomeAnd limit (λ most. most ≤ added)
+never_below None least added above more = absurd (above tt)
+never_below (Some most) least added above more = elim (cases_lt least most) [ inl below ↦ absurd (above below) | inr from ↦ omega arith ]
+
+-- a pickup that alone adds as much driving as the limit has no better place
+pub none_below : (minutes : ℕ → ℕ → Option ℕ) (vehicle : Vehicle) (stops : List Stop) (asked : Asked) (limit : Option ℕ) (i least : ℕ)
+    (best : Option Chosen) → best ≡ None → ¬ IfSome limit (λ most. least < most) →
+    ((j : ℕ) → IsPossible minutes vehicle stops asked i j → least ≤ added_driving minutes vehicle stops asked i j) →
+    IsBestBelow minutes vehicle stops asked (λ pickup drop. pickup ≡ i) limit best
+none_below minutes vehicle stops asked limit i least best is_none above at_least =
+    subst (λ (choice : Option Chosen). IsBestBelow minutes vehicle stops asked (λ pickup drop. pickup ≡ i) limit choice) (sym is_none) (record {
+      none = λ pickup drop at. subst (λ (k : ℕ). IsPossible minutes vehicle stops asked k drop →
+          IsSomeAnd limit (λ most. most ≤ added_driving minutes vehicle stops asked k drop)) (sym at)
+          (λ possible. never_below limit least _ above (at_least drop possible));
+      chosen = tt;
+      among = tt;
+      below = tt;
+      least = tt;
+    })

@@ -8,6 +8,7 @@ pub mod RemovalLoads
 pub mod PlaceLemmas
 pub mod BetweenLemmas
 pub mod DetourLemmas
+pub mod RidingLemmas
 pub mod BelowLemmas
 pub mod DutiesLemmas
 pub mod AddedLemmas

@@ -8,3 +8,4 @@ pub mod TravelTimes
 pub mod SplicedStops
 pub mod BestBelow
 pub mod Bounds
+pub mod Riding

@@ -1,0 +1,95 @@
+ghost use Rattle.std.specs.Prelude.{◌≡◌, ℕ, ◌+◌, ◌<◌, ◌≤◌, ◌↔◌, Option, length, take, IsTrue, IfSome, IfNone};
+ghost use Rattle.pt_base.specs.Ranges.{last_minute};
+ghost use Rattle.pt_feasible.specs.Load.{load_sum, FitsWithin};
+ghost use Rattle.pt_feasible.specs.Loads.{load_aboard};
+ghost use Rattle.pt_feasible.specs.Route.{stops_of};
+ghost use Rattle.pt_insertion.specs.Insertion.{IsWithout};
+ghost use Rattle.pt_insertion.specs.Possible.{IsPossible};
+ghost use Rattle.pt_insertion.specs.Riding.{IsRiding};
+
+use crate::{Asked, Duty};
+use pt_base::{PlaceId, Vehicle};
+use pt_feasible::{Load, aboard_after, visit_at};
+use pt_travel::Times;
+
+/// A ride from its pickup on, at one of the places where the vehicle stops.
+#[derive(Clone, Copy, Debug, PartialEq, Eq)]
+pub struct Riding {
+    /// The origin, or the place of a stop after it.
+    pub place: PlaceId,
+    /// The minutes of driving and service from the end of the pickup to the end of the service there.
+    pub minutes: u32,
+    /// Who is aboard from there on, without the party that is asked for.
+    pub others: Load,
+}
+
+/// The ride as it begins after the first `i` stops; `None` where the vehicle has no room for the party.
+pub fn boarded(duty: &Duty<'_>, asked: &Asked, i: usize, others: Load) -> Option<Riding>
+    requires among { i ≤ length (stops_of duty.now.route.now) }
+    requires new_trip { IsWithout asked.now.trip (stops_of duty.now.route.now) }
+    requires others { others ≡ load_aboard (take i (stops_of duty.now.route.now)) }
+    ensures riding { (minutes : ℕ → ℕ → Option ℕ) → IfSome result (λ riding.
+        IsRiding minutes duty.now.vehicle.now (stops_of duty.now.route.now) asked.now i i riding) }
+    ensures none { (minutes : ℕ → ℕ → Option ℕ) → IfNone result ((j : ℕ) →
+        ¬ IsPossible minutes duty.now.vehicle.now (stops_of duty.now.route.now) asked.now i j) }
+{
+    if !has_room(duty.vehicle, others, asked.load) {
+        return None;
+    }
+    Some(Riding {
+        place: asked.origin,
+        minutes: 0,
+        others,
+    })
+}
+
+/// The ride one stop on; `None` where the vehicle is too full or the ride too long from there on.
+///
+/// No later drop is possible then. Driving and service alone count: a wait makes a ride no shorter.
+pub fn ride_on<T: Times>(
+    duty: &Duty<'_>,
+    asked: &Asked,
+    times: &T,
+    riding: Riding,
+    i: usize,
+    j: usize,
+) -> Option<Riding>
+    requires drop_later { i ≤ j }
+    requires stop { j < length (stops_of duty.now.route.now) }
+    requires new_trip { IsWithout asked.now.trip (stops_of duty.now.route.now) }
+    requires within_a_day { duty.now.vehicle.now.closes ≤ last_minute }
+    requires riding { IsRiding (T.minutes times.now) duty.now.vehicle.now
+        (stops_of duty.now.route.now) asked.now i j riding }
+    ensures riding { IfSome result (λ on.
+        IsRiding (T.minutes times.now) duty.now.vehicle.now (stops_of duty.now.route.now) asked.now i (j + 1) on) }
+    ensures none { IfNone result ((later : ℕ) → j + 1 ≤ later →
+        ¬ IsPossible (T.minutes times.now) duty.now.vehicle.now (stops_of duty.now.route.now) asked.now i later) }
+{
+    let Asked { goal, ride, .. } = *asked;
+    let here = visit_at(duty.route, duty.vehicle, j + 1);
+    let others = aboard_after(duty.route, j, riding.others)?;
+    let drive = times.minutes(riding.place, here.place)?;
+    let rest = times.minutes(here.place, goal)?;
+    let minutes = riding.minutes + u32::from(drive) + u32::from(here.service);
+    if minutes + u32::from(rest) > u32::from(ride) {
+        return None;
+    }
+    if !has_room(duty.vehicle, others, asked.load) {
+        return None;
+    }
+    Some(Riding {
+        place: here.place,
+        minutes,
+        others,
+    })
+}
+
+/// Whether the vehicle carries both together.
+fn has_room(vehicle: &Vehicle, others: Load, party: Load) -> bool
+    ensures { IsTrue result ↔ FitsWithin (load_sum others party) vehicle.now }
+{
+    match others.plus(party) {
+        Some(load) => load.fits(vehicle),
+        None => false,
+    }
+}
