@@ -81,7 +81,7 @@ abbrev pub IsNumberedTo : ℕ → Trip → Type 0
 IsNumberedTo last trip = trip.id ≤ last
 
 -- Each line speaks of the tables that it needs and of no other, so that a write of another table leaves it as it is.
--- The ranges of a place and of the policy are in their types.
+-- The ranges of a place, a vehicle, a trip and the policy are fields of their records, so that every state keeps them.
 pub record IsSound (s : State) : Type 0 where
   pub callers : IsTable caller_key most_callers s.callers
   pub digests : Each HasDigest s.callers

@@ -47,6 +47,12 @@ field_name field.Accessible = codes "accessible"
 field_name field.Days = codes "days"
 field_name field.First = codes "first"
 field_name field.Last = codes "last"
+field_name field.FromDay = codes "from_day"
+field_name field.Depot = codes "depot"
+field_name field.Capacity = codes "capacity"
+field_name field.Opens = codes "opens"
+field_name field.Closes = codes "closes"
+field_name field.Duration = codes "duration"
 
 -- the name of a fault
 abbrev pub fault_name : RequestFault → List ℕ

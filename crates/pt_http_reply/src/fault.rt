@@ -61,6 +61,12 @@ pub enum FieldName {
     Days,
     First,
     Last,
+    FromDay,
+    Depot,
+    Capacity,
+    Opens,
+    Closes,
+    Duration,
 }
 
 impl FieldName {
@@ -103,6 +109,12 @@ impl FieldName {
             FieldName::Days => "days",
             FieldName::First => "first",
             FieldName::Last => "last",
+            FieldName::FromDay => "from_day",
+            FieldName::Depot => "depot",
+            FieldName::Capacity => "capacity",
+            FieldName::Opens => "opens",
+            FieldName::Closes => "closes",
+            FieldName::Duration => "duration",
         }
     }
 }

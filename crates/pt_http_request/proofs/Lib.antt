@@ -3,4 +3,5 @@ pub mod NumberLemmas
 pub mod TargetLemmas
 pub mod EntryLemmas
 pub mod SettingsLemmas
+pub mod VehicleLemmas
 pub mod MessageLemmas

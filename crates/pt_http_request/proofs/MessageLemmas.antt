@@ -30,6 +30,7 @@ use Rattle.pt_http_request.proofs.EntryLemmas.{SpellsNumber-unique, SpellsDay-un
 use Rattle.pt_http_request.proofs.SettingsLemmas.{policy-same, place-same}
 use Rattle.pt_http_request.proofs.ListLemmas.{some-same, value-unique, error-unique, value-or-error}
 use Rattle.pt_http_request.proofs.TargetLemmas.{IsTarget-route}
+use Rattle.pt_http_request.proofs.VehicleLemmas.{SpellsVehicle-unique, vehicle_or_fault, vehicle_fault-unique}
 
 -- ---- targets
 
@@ -49,6 +50,9 @@ IsTarget-unique path.Routes one two a b x y = absurd x
 IsTarget-unique path.Riders one two (target.Write writes.Riders) (target.Write writes.Riders) x y = refl
 IsTarget-unique path.Riders one two (target.Write writes.Riders) b x y = absurd y
 IsTarget-unique path.Riders one two a b x y = absurd x
+IsTarget-unique path.Vehicles one two (target.Write writes.Vehicles) (target.Write writes.Vehicles) x y = refl
+IsTarget-unique path.Vehicles one two (target.Write writes.Vehicles) b x y = absurd y
+IsTarget-unique path.Vehicles one two a b x y = absurd x
 IsTarget-unique path.Entries (Some rider) two (target.Write (writes.Entries id)) (target.Write (writes.Entries other)) x y = ap (λ (i : ℕ). target.Write (writes.Entries i)) (SpellsNumber-unique _ _ rider id other x.0 y.0)
 IsTarget-unique path.Entries (Some rider) two (target.Write (writes.Entries id)) b x y = absurd y
 IsTarget-unique path.Entries one two a b x y = absurd x
@@ -101,6 +105,9 @@ SpellsFields-unique writes.Routes body one other a b = absurd a
 SpellsFields-unique writes.Riders body (write.PutRider one) (write.PutRider other) a b = ap write.PutRider (value-unique _ _ _ a b)
 SpellsFields-unique writes.Riders body (write.PutRider one) other a b = absurd b
 SpellsFields-unique writes.Riders body one other a b = absurd a
+SpellsFields-unique writes.Vehicles body (write.PutVehicle one) (write.PutVehicle other) a b = ap write.PutVehicle (SpellsVehicle-unique body one other a b)
+SpellsFields-unique writes.Vehicles body (write.PutVehicle one) other a b = absurd b
+SpellsFields-unique writes.Vehicles body one other a b = absurd a
 SpellsFields-unique (writes.Entries id) body (write.Enter rider one) (write.Enter other_rider other) a b =
     ap (λ (i : ℕ). write.Enter i one) (a.0 ∙ sym b.0) ∙ ap (λ e. write.Enter other_rider e) (SpellsEntry-unique body one other a.1 b.1)
 SpellsFields-unique (writes.Entries id) body (write.Enter rider one) other a b = absurd b
@@ -117,6 +124,8 @@ fields_or_fault writes.Routes body (write.PutRoute route) name a wrong = value-o
 fields_or_fault writes.Routes body one name a wrong = absurd a
 fields_or_fault writes.Riders body (write.PutRider rider) name a wrong = value-or-error _ _ _ a wrong
 fields_or_fault writes.Riders body one name a wrong = absurd a
+fields_or_fault writes.Vehicles body (write.PutVehicle vehicle) name a wrong = vehicle_or_fault body vehicle name a wrong
+fields_or_fault writes.Vehicles body one name a wrong = absurd a
 fields_or_fault (writes.Entries id) body (write.Enter rider one) name a wrong = entry_or_fault body one name a.1 wrong
 fields_or_fault (writes.Entries id) body one name a wrong = absurd a
 
@@ -126,6 +135,7 @@ field_fault-unique writes.Policy body one other a b = error-unique _ _ _ a b
 field_fault-unique writes.Places body one other a b = error-unique _ _ _ a b
 field_fault-unique writes.Routes body one other a b = error-unique _ _ _ a b
 field_fault-unique writes.Riders body one other a b = error-unique _ _ _ a b
+field_fault-unique writes.Vehicles body one other a b = vehicle_fault-unique body one other a b
 field_fault-unique (writes.Entries id) body one other a b = entry_fault-unique body one other a b
 
 -- ---- writes

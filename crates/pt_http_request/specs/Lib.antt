@@ -7,6 +7,7 @@ pub mod Entries
 pub mod Policy
 pub mod Places
 pub mod Routes
+pub mod Vehicles
 pub mod Targets
 pub mod Headers
 pub mod Messages

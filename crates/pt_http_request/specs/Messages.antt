@@ -21,6 +21,7 @@ use Rattle.pt_http_request.specs.Entries.{SpellsEntry, IsEntryFault}
 use Rattle.pt_http_request.specs.Policy.{policy_in, settled}
 use Rattle.pt_http_request.specs.Places.{place_in, fields_of}
 use Rattle.pt_http_request.specs.Routes.{route_in}
+use Rattle.pt_http_request.specs.Vehicles.{SpellsVehicle, IsVehicleFault}
 use Rattle.pt_http_request.specs.Headers.{key_in, IsNumberIn}
 use Rattle.pt_http_request.specs.declared.fault.MessageFault.{MessageFault}
 use Rattle.pt_http_request.specs.declared.fault.MessageFault.TheVariants.{Refused, Memory}
@@ -53,6 +54,7 @@ SpellsFields writes.Policy body (write.PutPolicy policy) = policy_in body ≡ Ok
 SpellsFields writes.Places body (write.PutPlace place) = place_in body ≡ Ok (fields_of place)
 SpellsFields writes.Routes body (write.PutRoute route) = route_in body ≡ Ok route
 SpellsFields writes.Riders body (write.PutRider rider) = rider_in body ≡ Ok rider
+SpellsFields writes.Vehicles body (write.PutVehicle vehicle) = SpellsVehicle body vehicle
 SpellsFields (writes.Entries id) body (write.Enter rider entry) = (rider ≡ id) × SpellsEntry body entry
 SpellsFields _ _ _ = ⊥
 
@@ -63,6 +65,7 @@ IsFieldFault writes.Policy body name = policy_in body ≡ Err name
 IsFieldFault writes.Places body name = place_in body ≡ Err name
 IsFieldFault writes.Routes body name = route_in body ≡ Err name
 IsFieldFault writes.Riders body name = rider_in body ≡ Err name
+IsFieldFault writes.Vehicles body name = IsVehicleFault body name
 IsFieldFault (writes.Entries id) body name = IsEntryFault body name
 
 -- a write as its header lines and its body give it: JSON, key, number, fields

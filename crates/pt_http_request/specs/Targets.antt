@@ -28,11 +28,12 @@ abbrev pub desk_routes : RowsOf (RouteOf Path)
 desk_routes =
     with_route (parse_route (codes "/riders/{rider}/standing/{day}")) path.Standing
     (with_route (parse_route (codes "/riders/{rider}/entries")) path.Entries
+    (with_route (parse_route (codes "/vehicles")) path.Vehicles
     (with_route (parse_route (codes "/riders")) path.Riders
     (with_route (parse_route (codes "/routes")) path.Routes
     (with_route (parse_route (codes "/places")) path.Places
     (with_route (parse_route (codes "/policy")) path.Policy
-    (with_route (parse_route (codes "/callers")) path.Callers []))))))
+    (with_route (parse_route (codes "/callers")) path.Callers [])))))))
 
 -- the parts of a path that the parameters of its route took, in order
 abbrev pub parts_of : RouteOf Path → List ℕ → List (List ℕ)
@@ -50,6 +51,7 @@ IsTarget path.Policy one two (target.Write writes.Policy) = Unit {0}
 IsTarget path.Places one two (target.Write writes.Places) = Unit {0}
 IsTarget path.Routes one two (target.Write writes.Routes) = Unit {0}
 IsTarget path.Riders one two (target.Write writes.Riders) = Unit {0}
+IsTarget path.Vehicles one two (target.Write writes.Vehicles) = Unit {0}
 IsTarget path.Entries (Some rider) two (target.Write (writes.Entries id)) = SpellsId rider id
 IsTarget path.Standing (Some rider) (Some day) (target.Read (read.Standing id number)) =
     SpellsId rider id × SpellsDay day number

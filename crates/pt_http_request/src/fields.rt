@@ -5,7 +5,7 @@ ghost use Rattle.pt_http_request.specs.Fields.{number_within, whole_at, text_at,
 ghost use Rattle.pt_http_request.specs.Fields.{digest_at, SpellsDay, IsDayAt};
 
 use hex::FromHex;
-use pt_base::{Day, Id};
+use pt_base::{Day, Id, LAST_MINUTE, Minute};
 use pt_desk::Digest;
 use pt_http_reply::FieldName;
 use serde_json::Value;
@@ -97,4 +97,12 @@ pub(crate) fn number_within(
         return Err(name);
     }
     Ok(number as u32)
+}
+
+/// The minute of the day at a field of an object, or the field as a fault.
+pub(crate) fn minute_at(body: &Value, name: FieldName) -> Result<Minute, FieldName>
+    ensures { result ≡ number_within name 0 1_439 (view body.now) }
+{
+    let number = number_within(body, name, 0, LAST_MINUTE)?;
+    Minute::of(number).ok_or(name)
 }

@@ -23,3 +23,4 @@ mod routes;
 mod targets;
 #[cfg(test)]
 mod tests;
+mod vehicles;

@@ -18,6 +18,7 @@ use crate::policy::policy_of;
 use crate::riders::rider_of;
 use crate::routes::route_of;
 use crate::targets::{Path, Target, WriteTarget, target_at};
+use crate::vehicles::vehicle_of;
 use httparse::spans::HeaderSpan;
 use matchit::Router;
 use pt_desk::{Read, Request, Write};
@@ -64,6 +65,7 @@ fn fields_from(alloc: Global, target: WriteTarget, body: &Value) -> Result<Write
         WriteTarget::Places => Ok(Write::PutPlace(place_of(body)?)),
         WriteTarget::Routes => Ok(Write::PutRoute(route_of(alloc, body)?)),
         WriteTarget::Riders => Ok(Write::PutRider(rider_of(body)?)),
+        WriteTarget::Vehicles => Ok(Write::PutVehicle(vehicle_of(body)?)),
         WriteTarget::Entries(rider) => {
             let entry = entry_of(alloc, body)?;
             Ok(Write::Enter { rider, entry })

@@ -5,15 +5,14 @@ ghost use Rattle.pt_base.specs.Place.{IsOnPlane};
 ghost use Rattle.pt_base.specs.Weekday.{number_of};
 ghost use Rattle.pt_http_reply.specs.declared.fault.FieldName.TheVariants.{Points};
 ghost use Rattle.pt_http_request.specs.Faults.{OnField, OnRefused};
-ghost use Rattle.pt_http_request.specs.Fields.{number_within};
 ghost use Rattle.pt_http_request.specs.Places.{coordinate_from};
 ghost use Rattle.pt_http_request.specs.Routes.{values_of, each, point_from, points_at, weekday_from, set_of, days_at};
 ghost use Rattle.pt_http_request.specs.Routes.{route_in};
 
 use crate::fault::MessageFault;
-use crate::fields::{id_at, number_within, truth_at};
+use crate::fields::{id_at, minute_at, number_within, truth_at};
 use crate::places::coordinate_from;
-use pt_base::{LAST_MINUTE, Minute, Point, Weekday, Weekdays};
+use pt_base::{Point, Weekday, Weekdays};
 use pt_corridor::{FixedRoute, MAX_POINTS, MAX_WIDTH, MIN_POINTS, MIN_WIDTH};
 use pt_http_reply::{FieldName, RequestFault};
 use serde_json::Value;
@@ -95,19 +94,11 @@ fn days_from(numbers: &[Value]) -> Option<Weekdays>
     Some(days)
 }
 
-/// The weekdays on which a route runs.
-fn days_of(body: &Value) -> Option<Weekdays>
+/// The weekdays that an object lists.
+pub(crate) fn days_of(body: &Value) -> Option<Weekdays>
     ensures { result ≡ days_at (view body.now) }
 {
     days_from(values_of(body.get(FieldName::Days.text())?)?)
-}
-
-/// The minute of the day at a field of an object, or the field as a fault.
-fn minute_at(body: &Value, name: FieldName) -> Result<Minute, FieldName>
-    ensures { result ≡ number_within name 0 1_439 (view body.now) }
-{
-    let number = number_within(body, name, 0, LAST_MINUTE)?;
-    Minute::of(number).ok_or(name)
 }
 
 /// The fixed route that an object spells, or its first bad field.

@@ -19,6 +19,7 @@ pub enum Path {
     Places,
     Routes,
     Riders,
+    Vehicles,
     Entries,
     Standing,
 }
@@ -45,6 +46,8 @@ pub enum WriteTarget {
     Routes,
     /// The records of riders.
     Riders,
+    /// The agency's vehicles.
+    Vehicles,
     /// A rider's case file.
     Entries(RiderId),
 }
@@ -59,6 +62,7 @@ pub fn desk_router(alloc: Global) -> Result<Router<Path>, InsertError>
     router.insert("/places", Path::Places)?;
     router.insert("/routes", Path::Routes)?;
     router.insert("/riders", Path::Riders)?;
+    router.insert("/vehicles", Path::Vehicles)?;
     router.insert("/riders/{rider}/entries", Path::Entries)?;
     router.insert("/riders/{rider}/standing/{day}", Path::Standing)?;
     Ok(router)
@@ -90,6 +94,7 @@ fn target_from(path: Path, one: Option<&str>, two: Option<&str>) -> Option<Targe
         Path::Places => Some(Target::Write(WriteTarget::Places)),
         Path::Routes => Some(Target::Write(WriteTarget::Routes)),
         Path::Riders => Some(Target::Write(WriteTarget::Riders)),
+        Path::Vehicles => Some(Target::Write(WriteTarget::Vehicles)),
         Path::Entries => Some(Target::Write(WriteTarget::Entries(id_from(one?)?))),
         Path::Standing => {
             let rider = id_from(one?)?;
