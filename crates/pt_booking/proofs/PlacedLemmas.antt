@@ -1,10 +1,11 @@
 -- What follows of the vehicle's new route, and of the rules, from the best place.
-use Rattle.std.proofs.Common.{◌≡◌, ℕ, ◌+◌, ◌<◌, ◌≤◌, List, [], ◌∷◌, length, Any, All, AllPairs, Contains, Option, Some, None, IsSome, IfNone, Result, Ok, Err, IsErr, IfErr, inl, inr, refl, sym, subst, ◌∙◌, ◌↔◌, arith}
+use Rattle.std.proofs.Common.{◌≡◌, ℕ, ◌+◌, ◌<◌, ◌≤◌, List, [], ◌∷◌, length, Any, All, AllPairs, Contains, Option, Some, None, IsSome, IfNone, Result, Ok, Err, IsErr, inl, inr, refl, sym, ap, subst, ◌∙◌, ◌↔◌, arith}
 use Rattle.std.proofs.lemmas.Bool.{false≢true}
 use Rattle.std.proofs.lemmas.List.Elements.{All-map}
 use Rattle.pt_base.specs.declared.fault.Fault.{Fault}
 use Rattle.pt_base.specs.declared.rule.Rule.{Rule}
 use Rattle.pt_base.specs.declared.rule.Rule.TheVariants.{NoVehicle}
+use Rattle.pt_base.specs.declared.trip.Trip.{Trip}
 use Rattle.pt_base.specs.declared.vehicle.Vehicle.{Vehicle}
 use Rattle.pt_feasible.specs.Loads.{LoadsFit}
 use Rattle.pt_feasible.specs.Route.{stops_of}
@@ -19,15 +20,16 @@ use Rattle.pt_insertion.specs.declared.asked.Asked.{Asked}
 use Rattle.pt_insertion.specs.declared.chosen.Chosen.{Chosen}
 use Rattle.pt_insertion.specs.declared.duty.Duty.{Duty}
 use Rattle.pt_insertion.proofs.InsertionLemmas.{length-with_trip}
-use Rattle.pt_booking.specs.Booking.{promised_at, planned_pickup, IsNewRoute}
-use Rattle.pt_booking.specs.Planning.{OnDuty, on_duty, asked_within, asked_for, SomeVehicleCan, IsBestPlace, booking_rules}
+use Rattle.pt_booking.specs.Booking.{promised_at, planned_pickup, IsAllowed, IsNewRoute, IsTripIn, IsTripOf}
+use Rattle.pt_booking.specs.Planning.{OnDuty, on_duty, asked_for, asked_of, SomeVehicleCan, IsBestPlace, booking_rules}
 use Rattle.pt_booking.specs.Request.{Request}
 use Rattle.pt_booking.specs.Rules.{IsFirstFailing, riders_rules}
 use Rattle.pt_booking.specs.declared.booking.Decision.{Decision}
 use Rattle.pt_booking.specs.declared.booking.Decision.TheVariants.{Denied}
+use Rattle.pt_booking.specs.declared.window.Window.{Window}
 use Rattle.pt_booking.proofs.DutyLemmas.{Any-map, no_any, same-duty}
 use Rattle.pt_booking.proofs.RuleLemmas.{first-unique, first-behind}
-use Rattle.pt_booking.proofs.WindowLemmas.{pickup-visit, moved-loads, moved-least}
+use Rattle.pt_booking.proofs.WindowLemmas.{moved, pickup-visit, moved-loads, moved-least}
 
 -- what a duty lends
 abbrev lent : Duty → OnDuty
@@ -74,29 +76,35 @@ planned minutes vehicle stops asked chosen choice =
       to = window.1;
     }
 
+-- the trip as its route has it is what was asked for, with its pickup in the promised window
+asked_of-trip : (minutes : ℕ → ℕ → Option ℕ) (request : Request) (vehicle : ℕ) (promised : Window) (trip : Trip) →
+    IsTripIn minutes request vehicle promised trip → asked_of trip ≡ moved (asked_for minutes request) promised
+asked_of-trip minutes request vehicle promised trip kept = cc
+
 -- the route with the trip under its promised window
-pub new-route : (minutes : ℕ → ℕ → Option ℕ) (duties : List Duty) (duty : Duty) (request : Request) (chosen : Chosen) (stops : List Stop) →
+pub new-route : (minutes : ℕ → ℕ → Option ℕ) (duties : List Duty) (duty : Duty) (request : Request) (chosen : Chosen) (trip : Trip) (stops : List Stop) →
     Contains duties duty → duty.vehicle.now.id ≡ chosen.vehicle →
     IsChosenIn minutes duty.vehicle.now (stops_of duty.route.now) (asked_for minutes request) chosen →
-    stops ≡ with_trip (asked_within minutes request (promised_at request chosen)) chosen.i chosen.j (stops_of duty.route.now) →
-    Any (λ d. IsNewRoute minutes d request chosen stops) (on_duty duties)
-new-route minutes duties duty request chosen stops among number choice is =
+    IsTripOf minutes request chosen trip → stops ≡ with_trip (asked_of trip) chosen.i chosen.j (stops_of duty.route.now) →
+    Any (λ d. IsNewRoute minutes d trip chosen stops) (on_duty duties)
+new-route minutes duties duty request chosen trip stops among number choice kept is =
+    let old = stops_of duty.route.now in
     let asked = asked_for minutes request in
     let promised = promised_at request chosen in
     let possible = choice.possible in
-    let times = planned minutes duty.vehicle.now (stops_of duty.route.now) asked chosen choice in
-    let loads : LoadsFit duty.vehicle.now (with_trip (asked_within minutes request promised) chosen.i chosen.j (stops_of duty.route.now)) =
-    moved-loads asked promised chosen.i chosen.j (stops_of duty.route.now) possible.drop_later possible.among duty.vehicle.now possible.loads in
-    let schedule : IsLeastSchedule minutes duty.vehicle.now (with_trip (asked_within minutes request promised) chosen.i chosen.j (stops_of duty.route.now)) chosen.schedule.items =
-    moved-least minutes duty.vehicle.now asked promised chosen.i chosen.j (stops_of duty.route.now) chosen.schedule.items
+    let times = planned minutes duty.vehicle.now old asked chosen choice in
+    let there : stops ≡ with_trip (moved asked promised) chosen.i chosen.j old =
+    is ∙ ap (λ (a : Asked). with_trip a chosen.i chosen.j old) (asked_of-trip minutes request chosen.vehicle promised trip kept) in
+    let loads = moved-loads asked promised chosen.i chosen.j old possible.drop_later possible.among duty.vehicle.now possible.loads in
+    let schedule = moved-least minutes duty.vehicle.now asked promised chosen.i chosen.j old chosen.schedule.items
     possible.drop_later possible.among choice.schedule (omega (arith, times.from)) (omega (arith, times.to)) (omega arith) (omega arith) in
-    let new : IsNewRoute minutes (lent duty) request chosen stops = record {
+    let new : IsNewRoute minutes (lent duty) trip chosen stops = record {
       vehicle = number;
       stops_with_trip = is;
-      loads = subst (λ (s : List Stop). LoadsFit duty.vehicle.now s) (sym is) loads;
-      schedule = subst (λ (s : List Stop). IsLeastSchedule minutes duty.vehicle.now s chosen.schedule.items) (sym is) schedule;
+      loads = subst (λ (s : List Stop). LoadsFit duty.vehicle.now s) (sym there) loads;
+      schedule = subst (λ (s : List Stop). IsLeastSchedule minutes duty.vehicle.now s chosen.schedule.items) (sym there) schedule;
     } in
-    Any-map (λ (d : OnDuty). IsNewRoute minutes d request chosen stops) lent duties (among.0, duty, among.1, among.2, new)
+    Any-map (λ (d : OnDuty). IsNewRoute minutes d trip chosen stops) lent duties (among.0, duty, among.1, among.2, new)
 
 module _ (minutes : ℕ → ℕ → Option ℕ) (duties : List Duty) (request : Request) (asked : Asked) (is : asked ≡ asked_for minutes request) where
   pub chosen-for : (chosen : Chosen) → IsChosenAmong minutes duties asked chosen → IsChosenAmong minutes duties (asked_for minutes request) chosen
@@ -160,7 +168,14 @@ refused-not-denied rules result rule none refused =
     not-denied rules result rule none
     (λ same. let ok : IsErr {E = Fault} (Ok (Denied rule)) = subst (λ (r : Result Decision Fault). IsErr r) same refused in absurd (false≢true ok))
 
--- a fact holds of whatever was refused
-pub always-if-refused : (P : Type 0) (result : Result Decision Fault) → P → IfErr result (λ _. P)
-always-if-refused P (Ok decision) holds = tt
-always-if-refused P (Err fault) holds = holds
+-- a fact that holds anyway holds exactly where the trip is booked or memory was refused
+pub allowed-if-refused : (P : Type 0) (result : Result Decision Fault) → IsErr result → P → IsAllowed result ↔ P
+allowed-if-refused P (Ok decision) refused holds = absurd (false≢true refused)
+allowed-if-refused P (Err fault) refused holds = (λ _. holds, λ _. tt)
+
+-- where a rule fails, not all hold
+pub not-allowed : (rules : List (Rule × Type 0)) (rule : Rule) → IsFirstFailing rules (Some rule) → ⊥ ↔ IsFirstFailing rules None
+not-allowed rules rule first = (
+  λ never. absurd never,
+  λ none. let is : Some rule ≡ None = first-unique rules _ _ first none in cc is,
+)

@@ -1,5 +1,6 @@
 -- A trip that is booked, and its vehicle's new route.
-use Rattle.std.specs.Prelude.{◌≡◌, ℕ, ◌+◌, ◌↔◌, Bool, IsTrue, List, Option, slice_index}
+use Rattle.std.specs.Prelude.{◌≡◌, ℕ, ◌+◌, ◌↔◌, Bool, IsTrue, List, Option, Result, Ok, Err, slice_index}
+use Rattle.pt_base.specs.declared.fault.Fault.{Fault}
 use Rattle.pt_base.specs.declared.trip.Trip.{Trip}
 use Rattle.pt_base.specs.declared.trip_status.TripStatus.TheVariants as status
 use Rattle.pt_corridor.specs.Corridor.{HasOneRoute}
@@ -9,7 +10,7 @@ use Rattle.pt_feasible.specs.declared.stop.Stop.{Stop}
 use Rattle.pt_insertion.specs.Insertion.{with_trip}
 use Rattle.pt_insertion.specs.declared.chosen.Chosen.{Chosen}
 use Rattle.pt_party.specs.Fare.{fare_of}
-use Rattle.pt_booking.specs.Planning.{OnDuty, ride_limit, asked_within}
+use Rattle.pt_booking.specs.Planning.{OnDuty, asked_of, ride_limit}
 use Rattle.pt_booking.specs.Request.{Request}
 use Rattle.pt_booking.specs.Window.{wished_window, promised_window}
 use Rattle.pt_booking.specs.declared.booking.Booking.{Booking}
@@ -49,16 +50,22 @@ pub record IsTripIn (minutes : ℕ → ℕ → Option ℕ) (request : Request) (
 abbrev pub IsTripOf : (ℕ → ℕ → Option ℕ) → Request → Chosen → Trip → Type 0
 IsTripOf minutes request chosen trip = IsTripIn minutes request chosen.vehicle (promised_at request chosen) trip
 
--- the new route of the chosen vehicle: its old stops with the trip's two at the chosen places, the pickup in the promised
--- window; its loads fit, and the schedule of the choice is its least
-pub record IsNewRoute (minutes : ℕ → ℕ → Option ℕ) (duty : OnDuty) (request : Request) (chosen : Chosen)
-    (stops : List Stop) : Type 0 where
+-- the new route of the chosen vehicle: its old stops with the trip's two at the chosen places, under the promised window; its
+-- loads fit, and the schedule of the choice is its least
+pub record IsNewRoute (minutes : ℕ → ℕ → Option ℕ) (duty : OnDuty) (trip : Trip) (chosen : Chosen) (stops : List Stop) : Type 0 where
   pub vehicle : duty.vehicle.id ≡ chosen.vehicle
-  pub stops_with_trip : stops ≡ with_trip (asked_within minutes request (promised_at request chosen)) chosen.i chosen.j duty.stops
+  pub stops_with_trip : stops ≡ with_trip (asked_of trip) chosen.i chosen.j duty.stops
   pub loads : LoadsFit duty.vehicle stops
   pub schedule : IsLeastSchedule minutes duty.vehicle stops chosen.schedule.items
 
+-- the trip is booked, or only memory for its new route was refused
+abbrev pub IsAllowed : Result Decision Fault → Type 0
+IsAllowed (Ok (Booked booking)) = Unit {0}
+IsAllowed (Ok (Denied rule)) = ⊥
+IsAllowed (Err fault) = Unit {0}
+
 -- a fact of what is booked
-abbrev pub IfBooked : Decision → (Booking → Type 0) → Type 0
-IfBooked (Booked booking) P = P booking
-IfBooked (Denied rule) P = Unit {0}
+abbrev pub IfBooked : Result Decision Fault → (Booking → Type 0) → Type 0
+IfBooked (Ok (Booked booking)) P = P booking
+IfBooked (Ok (Denied rule)) P = Unit {0}
+IfBooked (Err fault) P = Unit {0}

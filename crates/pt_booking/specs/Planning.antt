@@ -3,6 +3,7 @@ use Rattle.std.specs.Prelude.{ℕ, ◌+◌, List, [], ◌∷◌, ◌++◌, map, 
 use Rattle.pt_base.specs.Ranges.{last_minute}
 use Rattle.pt_base.specs.declared.rule.Rule.{Rule}
 use Rattle.pt_base.specs.declared.rule.Rule.TheVariants.{NoVehicle}
+use Rattle.pt_base.specs.declared.trip.Trip.{Trip}
 use Rattle.pt_base.specs.declared.vehicle.Vehicle.{Vehicle}
 use Rattle.pt_feasible.specs.Load.{load_of}
 use Rattle.pt_feasible.specs.Route.{stops_of}
@@ -16,7 +17,6 @@ use Rattle.pt_party.specs.Party.{persons_of}
 use Rattle.pt_booking.specs.Request.{Request, party_of}
 use Rattle.pt_booking.specs.Rules.{riders_rules}
 use Rattle.pt_booking.specs.Window.{wished_window}
-use Rattle.pt_booking.specs.declared.window.Window.{Window}
 
 -- a vehicle on duty on the trip's day, and the stops of its route of that day
 pub record OnDuty : Type 0 where
@@ -31,23 +31,34 @@ on_duty duties = map (λ duty. record { vehicle = duty.vehicle.now; stops = stop
 abbrev pub ride_limit : (ℕ → ℕ → Option ℕ) → Request → ℕ
 ride_limit minutes request = unwrap_or (minutes request.wish.from request.wish.to) 0 + request.policy.extra_ride
 
--- the trip with its pickup in this window, and its drop by the minute that the rider names, or within the day
-abbrev pub asked_within : (ℕ → ℕ → Option ℕ) → Request → Window → Asked
-asked_within minutes request window = record {
+-- what is asked of the vehicles: the trip with its pickup in the wished window, and its drop by the minute that the rider
+-- names, or within the day
+abbrev pub asked_for : (ℕ → ℕ → Option ℕ) → Request → Asked
+asked_for minutes request = record {
   trip = request.trip;
   origin = request.wish.from;
   goal = request.wish.to;
-  lo = window.from;
-  hi = window.to;
+  lo = (wished_window request.wish.pickup).from;
+  hi = (wished_window request.wish.pickup).to;
   latest = unwrap_or request.wish.by last_minute;
   service = request.policy.service;
   ride = ride_limit minutes request;
   load = load_of (persons_of (party_of request.wish));
 }
 
--- the trip with its pickup in the wished window
-abbrev pub asked_for : (ℕ → ℕ → Option ℕ) → Request → Asked
-asked_for minutes request = asked_within minutes request (wished_window request.wish.pickup)
+-- a booked trip as its vehicle's route has it: its pickup in the promised window, and what was settled when it was booked
+abbrev pub asked_of : Trip → Asked
+asked_of trip = record {
+  trip = trip.id;
+  origin = trip.wish.from;
+  goal = trip.wish.to;
+  lo = trip.window_from;
+  hi = trip.window_to;
+  latest = unwrap_or trip.wish.by last_minute;
+  service = trip.service;
+  ride = trip.ride;
+  load = load_of (persons_of (party_of trip.wish));
+}
 
 -- some vehicle on duty can take the trip: there are places in its route, and service times, that meet every limit
 -- (Cordeau and Laporte 2003)

@@ -13,8 +13,10 @@ ghost use Rattle.pt_booking.specs.Planning.{asked_for, booking_rules, on_duty, I
 ghost use Rattle.pt_booking.specs.Request.{party_of, request_of};
 ghost use Rattle.pt_booking.specs.Rules.{IsFirstFailing};
 
-use crate::planning::{asked_within, ride_limit};
-use crate::{TripRequest, Window, asked_for, promised_window, riders_denial, wished_window};
+use crate::planning::ride_limit;
+use crate::{
+    TripRequest, Window, asked_for, asked_of, promised_window, riders_denial, wished_window,
+};
 use pt_base::{Fault, Minute, Rule, Trip, TripStatus, VehicleId};
 use pt_corridor::one_route;
 use pt_feasible::Route;
@@ -58,19 +60,16 @@ pub fn book<T: Times>(
     // No vehicle is the last of the rules: it says that nothing is possible in any route.
     ensures denied { (rule : Rule) → (result ≡ Ok (Decision.Denied rule)) ↔ IsFirstFailing
         (booking_rules (T.minutes times.now) (on_duty duties.now) (request_of request.now)) (Some rule) }
-    ensures allowed { IfOk result (λ decision. spec.IfBooked decision (λ _. IsFirstFailing
-        (booking_rules (T.minutes times.now) (on_duty duties.now) (request_of request.now)) None)) }
-    ensures place { IfOk result (λ decision. spec.IfBooked decision (λ booking. IsBestPlace (T.minutes times.now)
-        (on_duty duties.now) (asked_for (T.minutes times.now) (request_of request.now)) booking.chosen)) }
-    ensures trip { IfOk result (λ decision. spec.IfBooked decision (λ booking.
-        spec.IsTripOf (T.minutes times.now) (request_of request.now) booking.chosen booking.trip)) }
-    ensures route { IfOk result (λ decision. spec.IfBooked decision (λ booking. Any (λ duty. spec.IsNewRoute
-        (T.minutes times.now) duty (request_of request.now) booking.chosen (stops_of booking.route)) (on_duty duties.now))) }
-
-    // Want of memory comes only where the trip can be booked.
+    ensures allowed { spec.IsAllowed result ↔ IsFirstFailing
+        (booking_rules (T.minutes times.now) (on_duty duties.now) (request_of request.now)) None }
     ensures memory { IfErr result (λ error. error ≡ fault memory_refused) }
-    ensures memory_allowed { IfErr result (λ _. IsFirstFailing
-        (booking_rules (T.minutes times.now) (on_duty duties.now) (request_of request.now)) None) }
+
+    ensures place { spec.IfBooked result (λ booking. IsBestPlace (T.minutes times.now) (on_duty duties.now)
+        (asked_for (T.minutes times.now) (request_of request.now)) booking.chosen) }
+    ensures trip { spec.IfBooked result (λ booking.
+        spec.IsTripOf (T.minutes times.now) (request_of request.now) booking.chosen booking.trip) }
+    ensures route { spec.IfBooked result (λ booking. Any (λ duty. spec.IsNewRoute
+        (T.minutes times.now) duty booking.trip booking.chosen (stops_of booking.route)) (on_duty duties.now)) }
 {
     if let Some(rule) = riders_denial(request) {
         return Ok(Decision::Denied(rule));
@@ -104,15 +103,14 @@ fn placed_at<T: Times>(
     ensures trip { IfOk result (λ placed.
         spec.IsTripOf (T.minutes times.now) (request_of request.now) chosen.now placed.0) }
     ensures route { IfOk result (λ placed. Any (λ duty. spec.IsNewRoute
-        (T.minutes times.now) duty (request_of request.now) chosen.now (stops_of placed.1)) (on_duty duties.now)) }
+        (T.minutes times.now) duty placed.0 chosen.now (stops_of placed.1)) (on_duty duties.now)) }
     ensures memory { IfErr result (λ error. error ≡ fault memory_refused) }
 {
     let duty = duty_of(duties, chosen.vehicle).unwrap();
-    let pickup = planned_pickup(chosen);
-    let promised = promised_window(wished_window(request.wish.pickup), pickup);
-    let asked = asked_within(request, times, &promised);
-    let route = duty.route.inserted(alloc, &asked, chosen)?;
-    Ok((trip_at(request, times, chosen.vehicle, &promised), route))
+    let promised = promised_at(request, chosen);
+    let trip = trip_at(request, times, chosen.vehicle, &promised);
+    let route = duty.route.inserted(alloc, &asked_of(&trip), chosen)?;
+    Ok((trip, route))
 }
 
 /// The trip in this vehicle's route, with this window promised.
@@ -152,14 +150,15 @@ fn duty_of<'a>(duties: &[Duty<'a>], vehicle: VehicleId) -> Option<Duty<'a>>
     None
 }
 
-/// The minute for which the pickup is planned.
-fn planned_pickup(chosen: &Chosen) -> Minute
+/// The window that is promised at the chosen place.
+fn promised_at(request: &TripRequest<'_>, chosen: &Chosen) -> Window
     requires there { chosen.now.i + 1 < length chosen.now.schedule.items }
     requires within_a_day { slice_index chosen.now.schedule.items (chosen.now.i + 1) ≤ last_minute }
-    ensures { result ≡ spec.planned_pickup chosen.now }
+    ensures { result ≡ spec.promised_at (request_of request.now) chosen.now }
 {
-    let minute = chosen.schedule.as_slice()[chosen.i + 1];
-    Minute::of(u32::from(minute)).unwrap()
+    let planned = chosen.schedule.as_slice()[chosen.i + 1];
+    let pickup = Minute::of(u32::from(planned)).unwrap();
+    promised_window(wished_window(request.wish.pickup), pickup)
 }
 
 /// The fare of one person, in cents.

@@ -3,7 +3,7 @@
 #![tactic(auto)]
 
 pub use booking::{Booking, Decision, book};
-pub use planning::asked_for;
+pub use planning::{asked_for, asked_of};
 pub use request::{TripRequest, party_of};
 pub use riders::riders_denial;
 pub use window::{Window, promised_window, wished_window};
@@ -12,4 +12,6 @@ mod booking;
 mod planning;
 mod request;
 mod riders;
+#[cfg(test)]
+mod tests;
 mod window;
