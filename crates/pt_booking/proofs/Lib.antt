@@ -1,0 +1,4 @@
+pub mod RuleLemmas
+pub mod WindowLemmas
+pub mod DutyLemmas
+pub mod PlacedLemmas

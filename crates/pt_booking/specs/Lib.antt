@@ -1,0 +1,5 @@
+pub mod Request
+pub mod Window
+pub mod Rules
+pub mod Planning
+pub mod Booking

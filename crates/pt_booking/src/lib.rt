@@ -1,0 +1,17 @@
+//! The decision on a booking: the first rule of 49 CFR Part 37 that a trip request fails, or the trip as it is booked and its
+//! vehicle's new route.
+#![tactic(auto)]
+
+pub use booking::{Booking, Decision, book};
+pub use planning::{asked_for, asked_of};
+pub use request::{TripRequest, party_of};
+pub use riders::riders_denial;
+pub use window::{Window, promised_window, wished_window};
+
+mod booking;
+mod planning;
+mod request;
+mod riders;
+#[cfg(test)]
+mod tests;
+mod window;

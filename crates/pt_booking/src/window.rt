@@ -1,0 +1,53 @@
+ghost use Rattle.std.specs.Prelude.{◌≡◌, ◌+◌, ◌-◌, min};
+ghost use Rattle.pt_base.specs.Ranges.{last_minute};
+ghost use Rattle.pt_booking.specs.Window as spec;
+
+use pt_base::{LAST_MINUTE, Minute};
+
+/// How many minutes from the wished one a pickup may be planned.
+const WISHED_LEEWAY: u16 = 60;
+
+/// How many minutes from the planned one a pickup may come.
+const PROMISED_LEEWAY: u16 = 15;
+
+/// From which to which minute of the day a pickup may begin.
+#[derive(Clone, Copy, Debug, PartialEq, Eq)]
+pub struct Window {
+    pub from: Minute,
+    pub to: Minute,
+}
+
+/// The window in which a pickup is planned that is wished for at this minute.
+pub fn wished_window(wish: Minute) -> Window
+    ensures { result ≡ spec.wished_window wish }
+{
+    Window {
+        from: earlier(wish, WISHED_LEEWAY),
+        to: later(wish, WISHED_LEEWAY),
+    }
+}
+
+/// The window that is promised for a pickup that is planned for this minute.
+pub fn promised_window(wished: Window, pickup: Minute) -> Window
+    ensures { result ≡ spec.promised_window wished pickup }
+{
+    Window {
+        from: earlier(pickup, PROMISED_LEEWAY).max(wished.from),
+        to: later(pickup, PROMISED_LEEWAY).min(wished.to),
+    }
+}
+
+/// The minute so many minutes earlier, or midnight.
+fn earlier(minute: Minute, minutes: u16) -> Minute
+    ensures { result ≡ minute - minutes }
+{
+    Minute::of(minute.number().saturating_sub(u32::from(minutes))).unwrap()
+}
+
+/// The minute so many minutes later, or the last of the day.
+fn later(minute: Minute, minutes: u16) -> Minute
+    ensures { result ≡ min (minute + minutes) last_minute }
+{
+    let number = minute.number() + u32::from(minutes);
+    Minute::of(number.min(LAST_MINUTE)).unwrap()
+}
