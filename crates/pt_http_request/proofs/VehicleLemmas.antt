@@ -39,16 +39,16 @@ SpellsVehicle-unique body one other a b =
 
 pub vehicle_or_fault : (body : Data) (one : Vehicle) (name : FieldName) → SpellsVehicle body one → IsVehicleFault body name → ⊥
 vehicle_or_fault body one name a (inl wrong) = value-or-error _ _ _ a.number wrong
-vehicle_or_fault body one name a (inr (inl wrong)) = wrong.1.1 (one.from_day, a.first_day)
-vehicle_or_fault body one name a (inr (inr wrong)) = value-or-error _ _ _ a.duty wrong.1.1
+vehicle_or_fault body one name a (inr (inl wrong)) = wrong.2 (one.from_day, a.first_day)
+vehicle_or_fault body one name a (inr (inr wrong)) = value-or-error _ _ _ a.duty wrong.2
 
 pub vehicle_fault-unique : (body : Data) (one other : FieldName) → IsVehicleFault body one → IsVehicleFault body other → one ≡ other
 vehicle_fault-unique body one other (inl a) (inl b) = error-unique _ _ _ a b
 vehicle_fault-unique body one other (inl a) (inr (inl b)) = absurd (value-or-error _ _ _ b.0.1 a)
 vehicle_fault-unique body one other (inl a) (inr (inr b)) = absurd (value-or-error _ _ _ b.0.1 a)
 vehicle_fault-unique body one other (inr (inl a)) (inl b) = absurd (value-or-error _ _ _ a.0.1 b)
-vehicle_fault-unique body one other (inr (inl a)) (inr (inl b)) = a.1.0 ∙ sym b.1.0
-vehicle_fault-unique body one other (inr (inl a)) (inr (inr b)) = absurd (a.1.1 b.1.0)
+vehicle_fault-unique body one other (inr (inl a)) (inr (inl b)) = a.1 ∙ sym b.1
+vehicle_fault-unique body one other (inr (inl a)) (inr (inr b)) = absurd (a.2 b.1)
 vehicle_fault-unique body one other (inr (inr a)) (inl b) = absurd (value-or-error _ _ _ a.0.1 b)
-vehicle_fault-unique body one other (inr (inr a)) (inr (inl b)) = absurd (b.1.1 a.1.0)
-vehicle_fault-unique body one other (inr (inr a)) (inr (inr b)) = error-unique _ _ _ a.1.1 b.1.1
+vehicle_fault-unique body one other (inr (inr a)) (inr (inl b)) = absurd (b.2 a.1)
+vehicle_fault-unique body one other (inr (inr a)) (inr (inr b)) = error-unique _ _ _ a.2 b.2
