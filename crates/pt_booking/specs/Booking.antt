@@ -34,7 +34,8 @@ abbrev pub promised_at : Request → Chosen → Window
 promised_at request chosen = promised_window (wished_window request.wish.pickup) (planned_pickup chosen)
 
 -- the trip as it is kept: the wish, and what is settled now for a vehicle and a promised window
-pub record IsTripIn (minutes : ℕ → ℕ → Option ℕ) (request : Request) (vehicle : ℕ) (promised : Window) (trip : Trip) : Type 0 where
+pub record IsTripIn (minutes : ℕ → ℕ → Option ℕ) (request : Request) (vehicle : ℕ) (promised : Window)
+    (trip : Trip) : Type 0 where
   pub number : trip.id ≡ request.trip
   pub rider : trip.rider ≡ request.rider.id
   pub wish : trip.wish ≡ request.wish
@@ -50,9 +51,10 @@ pub record IsTripIn (minutes : ℕ → ℕ → Option ℕ) (request : Request) (
 abbrev pub IsTripOf : (ℕ → ℕ → Option ℕ) → Request → Chosen → Trip → Type 0
 IsTripOf minutes request chosen trip = IsTripIn minutes request chosen.vehicle (promised_at request chosen) trip
 
--- the new route of the chosen vehicle: its old stops with the trip's two at the chosen places, under the promised window; its
--- loads fit, and the schedule of the choice is its least
-pub record IsNewRoute (minutes : ℕ → ℕ → Option ℕ) (duty : OnDuty) (trip : Trip) (chosen : Chosen) (stops : List Stop) : Type 0 where
+-- the new route of the chosen vehicle: its old stops with the trip's two at the chosen places, under the promised window;
+-- its loads fit, and the schedule of the choice is its least
+pub record IsNewRoute (minutes : ℕ → ℕ → Option ℕ) (duty : OnDuty) (trip : Trip) (chosen : Chosen)
+    (stops : List Stop) : Type 0 where
   pub vehicle : duty.vehicle.id ≡ chosen.vehicle
   pub stops_with_trip : stops ≡ with_trip (asked_of trip) chosen.i chosen.j duty.stops
   pub loads : LoadsFit duty.vehicle stops

@@ -44,7 +44,8 @@ pub enum Decision {
     Denied(Rule),
 }
 
-/// Books the trip at the best place in the routes of the vehicles on duty on its day, or denies it by the first rule that fails.
+/// Books the trip at the best place in the routes of the vehicles on duty on its day, or denies it by the first rule that
+/// fails.
 ///
 /// The fault is want of memory, which only the new route of a trip that can be booked takes.
 pub fn book<T: Times>(
