@@ -1,14 +1,17 @@
 ghost use Rattle.std.specs.Prelude.{◌≡◌, ◌≤◌, length, Option, is_some};
 ghost use Rattle.pt_desk_rules.specs.State.{State, caller_with, caller_of, kept_of, place_of, rider_of, route_of};
-ghost use Rattle.pt_desk_rules.specs.State.{file_of, tables_before, applied};
+ghost use Rattle.pt_desk_rules.specs.State.{file_of, tables_before, trip_of, plan_of, applied};
 ghost use Rattle.pt_desk_rules.specs.Fleet.{has_version};
 ghost use Rattle.pt_desk_rules.specs.Planned.{is_booked_from};
 ghost use Rattle.pt_desk_rules.specs.Travel.{table_on};
 ghost use Rattle.pt_desk.specs.Store.{Store, Reads, Commits};
 
-use pt_base::{CallerId, Day, Place, PlaceId, Policy, Rider, RiderId, RouteId, Vehicle, VehicleId};
+use pt_base::{
+    CallerId, Day, Place, PlaceId, Policy, Rider, RiderId, RouteId, Trip, TripId, Vehicle,
+    VehicleId,
+};
 use pt_corridor::FixedRoute;
-use pt_desk_rules::{Answer, Caller, Change, Digest, Kept, TravelTable};
+use pt_desk_rules::{Answer, Caller, Change, Digest, Kept, PlannedRoute, TravelTable};
 use pt_records::Rows;
 use pt_rights::CaseFile;
 use std::alloc::{AllocError, Global};
@@ -118,6 +121,23 @@ pub trait Keeper {
     /// Whether a trip of the vehicle, or of any where none is named, stands on the day or later.
     fn is_booked_from(&mut self, vehicle: Option<VehicleId>, day: Day) -> Result<bool, StoreFault>
         ensures reads { Reads (store self.old) (store self.new) (λ s. is_booked_from vehicle day s.trips) result };
+
+    /// The trip of this number.
+    fn trip(&mut self, id: TripId) -> Result<Option<Trip>, StoreFault>
+        ensures reads { Reads (store self.old) (store self.new) (trip_of id) result };
+
+    /// The number that was last given to a trip; 0 before the first.
+    fn last_trip(&mut self) -> Result<u32, StoreFault>
+        ensures reads { Reads (store self.old) (store self.new) (λ s. s.last_trip) result };
+
+    /// The route of a vehicle on a day, where it has stops.
+    fn planned_route(
+        &mut self,
+        alloc: Global,
+        vehicle: VehicleId,
+        day: Day,
+    ) -> Result<Option<PlannedRoute>, StoreFault>
+        ensures reads { Reads (store self.old) (store self.new) (plan_of vehicle day) result };
 
     /// Makes all of the change or nothing of it.
     fn commit(&mut self, change: Change) -> Result<(), StoreFault>

@@ -303,6 +303,32 @@ impl Keeper for ListKeeper {
         Ok(is_booked_from(self.trips.as_slice(), &vehicle, day))
     }
 
+    fn trip(&mut self, id: TripId) -> Result<Option<Trip>, StoreFault> {
+        Ok(self.trips.find(&Key::of(id.number())).copied())
+    }
+
+    fn last_trip(&mut self) -> Result<u32, StoreFault> {
+        match self.last_trip {
+            Some(id) => Ok(id.number()),
+            None => Ok(0),
+        }
+    }
+
+    fn planned_route(
+        &mut self,
+        alloc: Global,
+        vehicle: VehicleId,
+        day: Day,
+    ) -> Result<Option<PlannedRoute>, StoreFault> {
+        match self
+            .planned
+            .find(&Key::pair(vehicle.number(), day.number()))
+        {
+            Some(route) => Ok(Some(route.copy(alloc)?)),
+            None => Ok(None),
+        }
+    }
+
     fn commit(&mut self, change: Change) -> Result<(), StoreFault> {
         self.callers.reserve(&change.callers)?;
         self.kept.reserve(&change.kept)?;

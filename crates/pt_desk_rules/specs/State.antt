@@ -99,6 +99,13 @@ route_of id s = record_at route_key id s.routes
 abbrev pub rider_of : ℕ → State → Option Rider
 rider_of id s = record_at rider_key id s.riders
 
+abbrev pub trip_of : ℕ → State → Option Trip
+trip_of id s = record_at trip_key id s.trips
+
+-- the route of a vehicle on a day, where it has stops
+abbrev pub plan_of : ℕ → ℕ → State → Option Plan
+plan_of vehicle day s = record_at planned_key (pair_key vehicle day) s.planned
+
 -- the keys of a rider's entries
 abbrev pub span_of : ℕ → Span
 span_of rider = record { from = pair_key rider 0; to = pair_key rider 4_294_967_295 }

@@ -1,6 +1,9 @@
+ghost use Rattle.std.specs.Prelude.{◌≡◌, IfOk};
+
 use pt_base::{Day, TripId, VehicleId};
 use pt_feasible::StopKind;
 use pt_records::{Key, Keyed};
+use std::alloc::{AllocError, Global};
 use std::marker::Model;
 
 /// A stop of a vehicle's route: all else of it stands in its trip.
@@ -28,6 +31,19 @@ impl Model for PlannedRoute {
       day = route.day;
       stops = route.stops.items;
     } };
+}
+
+impl PlannedRoute {
+    /// A copy.
+    pub fn copy(&self, alloc: Global) -> Result<Self, AllocError>
+        ensures value { IfOk result (λ copy. copy ≡ self.now) }
+    {
+        Ok(PlannedRoute {
+            vehicle: self.vehicle,
+            day: self.day,
+            stops: Vec::from_slice(alloc, &self.stops)?,
+        })
+    }
 }
 
 impl Keyed for PlannedRoute {
