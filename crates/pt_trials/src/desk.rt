@@ -6,6 +6,7 @@ use pt_base::{CallerId, Day, Minute, Residence, Rider, RiderId, Rule};
 use pt_desk::{Answer, Caller, Digest, ListKeeper, Read, Request, Role, Write, answer};
 use pt_rights::Standing;
 use std::alloc::Global;
+use std::process::Abort;
 use std::test::Fail;
 
 const SEED: u64 = 37_127;
@@ -354,37 +355,57 @@ fn plain_answer(answer: &Answer) -> Told {
     }
 }
 
-#[test]
-fn random_calls_are_answered_as_by_the_plain_desk(rt: HostRuntime) -> Result<(), Fail> {
-    let alloc = rt.alloc();
-    let mut keeper = ListKeeper::new(alloc, &[1])?;
-    let mut plain = PlainDesk::new(alloc)?;
+/// Asks both desks the same, and compares what they tell; how many entries there were.
+fn compare_calls(
+    rt: &impl Abort,
+    alloc: Global,
+    keeper: &mut ListKeeper,
+    plain: &mut PlainDesk,
+) -> Result<u32, Fail> {
     let mut dice = SEED;
     let mut today = BEGIN;
     let mut entered: u32 = 0;
     for call in 0..CALLS {
         today = today.saturating_add(throw(&mut dice, 3));
         let number = call.saturating_add(1).saturating_sub(throw(&mut dice, 4));
-        let asked = random_request(&mut dice, &plain, call, today);
-        let key = random_key(&mut dice, &plain, asked);
-        let now = (
-            Day::of(today).ok_or("a day")?,
-            Minute::of(480).ok_or("a minute")?,
-        );
-        let request = request(alloc, asked)?;
-        let Ok(answer) = answer(alloc, &mut keeper, now, &[key], number, &request) else {
-            return Err(Fail::new("memory"));
-        };
+        let asked = random_request(&mut dice, plain, call, today);
+        let key = random_key(&mut dice, plain, asked);
+        let told = ask(alloc, keeper, today, key, number, asked)?;
         let wanted = plain.ask(today, key, number, asked)?;
-        assert_eq!(rt;
-            plain_answer(&answer),
-            wanted,
-            "seed {SEED}, call {call}: {asked:?}"
-        );
+        assert_eq!(rt; told, wanted, "seed {SEED}, call {call}: {asked:?}");
         if matches!(wanted, Told::Entered(_)) {
             entered = entered.saturating_add(1);
         }
     }
+    Ok(entered)
+}
+
+/// What the desk tells.
+fn ask(
+    alloc: Global,
+    keeper: &mut ListKeeper,
+    today: u32,
+    key: u8,
+    number: u32,
+    asked: Asked,
+) -> Result<Told, Fail> {
+    let now = (
+        Day::of(today).ok_or("a day")?,
+        Minute::of(480).ok_or("a minute")?,
+    );
+    let request = request(alloc, asked)?;
+    match answer(alloc, keeper, now, &[key], number, &request) {
+        Ok(answer) => Ok(plain_answer(&answer)),
+        Err(_) => Err(Fail::new("memory")),
+    }
+}
+
+#[test]
+fn random_calls_are_answered_as_by_the_plain_desk(rt: HostRuntime) -> Result<(), Fail> {
+    let alloc = rt.alloc();
+    let mut keeper = ListKeeper::new(alloc, &[1])?;
+    let mut plain = PlainDesk::new(alloc)?;
+    let entered = compare_calls(&rt, alloc, &mut keeper, &mut plain)?;
     assert!(rt; 30 < entered, "{entered} entries");
     Ok(())
 }

@@ -5,7 +5,7 @@ use pt_base::{
 };
 use pt_desk::{Answer, Caller, Digest, Keeper, ListKeeper, Request, Role, Write, answer};
 use pt_desk_rules::on_duty;
-use pt_travel::{Raw, Times};
+use pt_travel::Raw;
 use std::alloc::Global;
 use std::process::Abort;
 use std::test::Fail;
@@ -247,6 +247,27 @@ fn compare(
     Ok(())
 }
 
+/// Asks both desks the same, and compares what they tell and keep after each call.
+fn compare_calls(
+    rt: &impl Abort,
+    alloc: Global,
+    keeper: &mut ListKeeper,
+    plain: &mut PlainFleet,
+) -> Result<(), Fail> {
+    let mut dice = SEED;
+    for call in 0..CALLS {
+        let put = random_put(&mut dice, call);
+        let told = ask(alloc, keeper, call.saturating_add(1), put)?;
+        assert_eq!(rt; told, plain.denial(put), "call {call}: {put:?}");
+        if told.is_none() {
+            plain.accept(put)?;
+        }
+        let day = BEGIN.saturating_add(throw(&mut dice, 32)).saturating_sub(1);
+        compare(rt, alloc, keeper, plain, day)?;
+    }
+    Ok(())
+}
+
 #[test]
 fn vehicles_and_tables_are_kept_as_by_the_plain_lists(rt: HostRuntime) -> Result<(), Fail> {
     let alloc = rt.alloc();
@@ -256,59 +277,46 @@ fn vehicles_and_tables_are_kept_as_by_the_plain_lists(rt: HostRuntime) -> Result
         versions: Vec::new(alloc),
         tables: Vec::new(alloc),
     };
-    let mut dice = SEED;
-    for call in 0..CALLS {
-        let put = random_put(&mut dice, call);
-        let told = ask(alloc, &mut keeper, call.saturating_add(1), put)?;
-        assert_eq!(rt; told, plain.denial(put), "call {call}: {put:?}");
-        if told.is_none() {
-            plain.accept(put)?;
-        }
-        let day = BEGIN.saturating_add(throw(&mut dice, 32)).saturating_sub(1);
-        compare(&rt, alloc, &mut keeper, &plain, day)?;
+    compare_calls(&rt, alloc, &mut keeper, &mut plain)
+}
+
+/// The calls that come to the 21st version, the 51st vehicle and the 51st table, each again after later ones were taken away.
+fn put_at_limit(call: u32) -> (Put, Option<Rule>) {
+    let full = Some(Rule::Full);
+    let unknown = Some(Rule::Unknown);
+    match call {
+        0 => (Put::Dispatcher, None),
+        1 => (Put::Place(1), None),
+        2..=21 => (Put::Vehicle(1, BEGIN + call - 2, true, 1), None),
+        22 => (Put::Vehicle(1, BEGIN + 20, true, 1), full),
+        23 => (Put::Vehicle(1, BEGIN + 18, true, 1), None),
+        24 => (Put::Vehicle(1, BEGIN + 20, true, 1), None),
+        25 => (Put::Vehicle(1, BEGIN + 21, true, 1), full),
+        26..=74 => (Put::Vehicle(call - 24, BEGIN, true, 1), None),
+        75 => (Put::Vehicle(51, BEGIN, true, 1), full),
+        76 => (Put::Vehicle(50, BEGIN, false, 1), None),
+        77..=126 => (Put::Table(BEGIN + call - 77, 1, 1, 5), None),
+        127 => (Put::Table(BEGIN + 50, 1, 1, 5), full),
+        128 => (Put::Table(BEGIN + 40, 1, 1, 5), None),
+        129 => (Put::Table(BEGIN + 41, 1, 1, 5), None),
+        130 => (Put::Table(BEGIN + 41, 1, 2, 5), unknown),
+        _ => (Put::Vehicle(50, BEGIN, true, 2), unknown),
     }
-    assert!(rt; plain.places.len() == 4, "places");
+}
+
+/// Asks what comes to the limits.
+fn ask_to_the_limits(rt: &impl Abort, alloc: Global, keeper: &mut ListKeeper) -> Result<(), Fail> {
+    for call in 0..132 {
+        let (put, wanted) = put_at_limit(call);
+        let told = ask(alloc, keeper, call + 1, put)?;
+        assert_eq!(rt; told, wanted, "{put:?}");
+    }
     Ok(())
 }
 
-/// The 21st version, the 51st vehicle and the 51st table, each again after later ones were taken away.
 #[test]
 fn limits_count_what_stands_after_the_write(rt: HostRuntime) -> Result<(), Fail> {
     let alloc = rt.alloc();
     let mut keeper = ListKeeper::new(alloc, &[ADMIN])?;
-    let mut number = 0;
-    let mut puts = Vec::new(alloc);
-    puts.push((Put::Dispatcher, None))?;
-    puts.push((Put::Place(1), None))?;
-    for day in 0..20 {
-        puts.push((Put::Vehicle(1, BEGIN + day, true, 1), None))?;
-    }
-    puts.push((Put::Vehicle(1, BEGIN + 20, true, 1), Some(Rule::Full)))?;
-    puts.push((Put::Vehicle(1, BEGIN + 18, true, 1), None))?;
-    puts.push((Put::Vehicle(1, BEGIN + 20, true, 1), None))?;
-    puts.push((Put::Vehicle(1, BEGIN + 21, true, 1), Some(Rule::Full)))?;
-    for id in 2..=50 {
-        puts.push((Put::Vehicle(id, BEGIN, true, 1), None))?;
-    }
-    puts.push((Put::Vehicle(51, BEGIN, true, 1), Some(Rule::Full)))?;
-    puts.push((Put::Vehicle(50, BEGIN, false, 1), None))?;
-    for day in 0..50 {
-        puts.push((Put::Table(BEGIN + day, 1, 1, 5), None))?;
-    }
-    puts.push((Put::Table(BEGIN + 50, 1, 1, 5), Some(Rule::Full)))?;
-    puts.push((Put::Table(BEGIN + 40, 1, 1, 5), None))?;
-    puts.push((Put::Table(BEGIN + 41, 1, 1, 5), None))?;
-    puts.push((Put::Table(BEGIN + 41, 1, 2, 5), Some(Rule::Unknown)))?;
-    puts.push((Put::Vehicle(50, BEGIN, true, 2), Some(Rule::Unknown)))?;
-    for (put, wanted) in puts {
-        number += 1;
-        let told = ask(alloc, &mut keeper, number, put)?;
-        assert_eq!(rt; told, wanted, "{put:?}");
-    }
-    let Ok(Some(table)) = keeper.travel_on(alloc, Day::of(BEGIN).ok_or("a day")?) else {
-        return Err(Fail::new("a table"));
-    };
-    let place = PlaceId::of(1).ok_or("a number")?;
-    assert_eq!(rt; table.times().minutes(place, place), Some(0));
-    Ok(())
+    ask_to_the_limits(&rt, alloc, &mut keeper)
 }
