@@ -1,9 +1,11 @@
-ghost use Rattle.std.specs.Prelude.{◌≡◌, ℕ, ◌⊎◌, ◌↔◌, List, [], ◌∷◌, ◌++◌, length, slice_index_or, IsTrue, IfOk, OnOk, IfErr};
+ghost use Rattle.std.specs.Prelude.{◌≡◌, ℕ, ◌⊎◌, ◌↔◌, List, [], ◌∷◌, ◌++◌, length, slice_index_or};
+ghost use Rattle.std.specs.Prelude.{IsTrue, IfOk, OnOk, IfErr};
 ghost use Rattle.csv.specs.Records.{fields_of};
 ghost use Rattle.pt_base.specs.Codes.{memory_refused, header_refused};
 ghost use Rattle.pt_travel.specs.Places.{list_of};
 ghost use Rattle.pt_travel.specs.Table.{Rises};
-ghost use Rattle.pt_travel.specs.Text.{HasFault, IsNextFault, IsReadSoFar, IsSound, Record, header, number_after, row_of};
+ghost use Rattle.pt_travel.specs.Text.{HasFault, IsNextFault, IsReadSoFar, IsSound, Record};
+ghost use Rattle.pt_travel.specs.Text.{header, number_after, row_of};
 
 use crate::places::Places;
 use crate::raw::Row;
@@ -21,9 +23,11 @@ pub fn take(
 ) -> Result<(), Fault>
     requires { Rises rows.old.items }
     ensures taken { OnOk result ((seen : List Record) → number ≡ number_after (length seen)
-        → IsReadSoFar (list_of places.now) seen rows.old.items → IsReadSoFar (list_of places.now) (seen ++ fields_of given.now ∷ []) rows.new.items) }
+        → IsReadSoFar (list_of places.now) seen rows.old.items
+        → IsReadSoFar (list_of places.now) (seen ++ fields_of given.now ∷ []) rows.new.items) }
     ensures faulty { IfErr result (λ fault. (fault ≡ record { code = memory_refused; row = 0 })
-        ⊎ ((seen : List Record) → number ≡ number_after (length seen) → IsReadSoFar (list_of places.now) seen rows.old.items
+        ⊎ ((seen : List Record) → number ≡ number_after (length seen)
+        → IsReadSoFar (list_of places.now) seen rows.old.items
         → IsNextFault (list_of places.now) seen (fields_of given.now) fault)) }
 {
     if number == 1 {
@@ -57,8 +61,10 @@ fn header(given: &ByteRecord) -> Result<(), Fault>
 
 // The row that a record reads as, or the code of what is wrong with it.
 fn row(given: &ByteRecord, places: &Places) -> Result<Row, u16>
-    ensures sound { IfOk result (λ row. IsSound (list_of places.now) (fields_of given.now) × (row ≡ row_of (fields_of given.now))) }
-    ensures faulty { IfErr result (λ code. (earlier : List Record) → HasFault (list_of places.now) earlier (fields_of given.now) code) }
+    ensures sound { IfOk result (λ row. IsSound (list_of places.now) (fields_of given.now)
+        × (row ≡ row_of (fields_of given.now))) }
+    ensures faulty { IfErr result (λ code. (earlier : List Record)
+        → HasFault (list_of places.now) earlier (fields_of given.now) code) }
 {
     if given.len() != 3 {
         return Err(TRAVEL_RECORD);
