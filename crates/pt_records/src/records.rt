@@ -1,6 +1,14 @@
 use crate::{Key, Keyed};
-use pt_base::{Place, Rider, Trip, Vehicle};
+use pt_base::{Day, Place, Rider, Trip, Vehicle};
 use pt_corridor::FixedRoute;
+
+impl Keyed for Day {
+    ghost key = { λ day. day };
+
+    fn key(&self) -> Key {
+        Key::of(self.number())
+    }
+}
 
 impl Keyed for Place {
     ghost key = { λ place. place.id };

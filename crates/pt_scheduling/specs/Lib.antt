@@ -1,0 +1,4 @@
+pub mod Plan
+pub mod Uses
+pub mod Routes
+pub mod Scheduling

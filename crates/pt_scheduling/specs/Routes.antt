@@ -1,0 +1,29 @@
+-- The routes of a day's vehicles, without one trip.
+use Rattle.std.specs.Prelude.{ℕ, ◌≤◌, List, length, map}
+use Rattle.pt_base.specs.declared.trip.Trip.{Trip}
+use Rattle.pt_base.specs.declared.vehicle.Vehicle.{Vehicle}
+use Rattle.pt_feasible.specs.declared.schedule.TheConstants.{MAX_STOPS}
+use Rattle.pt_feasible.specs.Pairing.{IsPaired}
+use Rattle.pt_feasible.specs.declared.stop.Stop.{Stop}
+use Rattle.pt_booking.specs.Planning.{OnDuty}
+use Rattle.pt_feasible.specs.Route.{stops_of}
+use Rattle.pt_scheduling.specs.declared.routes.DayRoute.{DayRoute}
+use Rattle.pt_scheduling.specs.Plan.{Plan, planned_stops, stops_among, without}
+
+-- the stops of a vehicle on a day but for those of this trip
+abbrev pub stops_without : ℕ → ℕ → List Trip → List Plan → ℕ → List Stop
+stops_without trip day trips plans vehicle = stops_among trips (without trip (planned_stops vehicle day plans))
+
+-- each of the vehicles with its stops
+abbrev pub routes_without : ℕ → ℕ → List Trip → List Plan → List Vehicle → List OnDuty
+routes_without trip day trips plans vehicles =
+    map (λ vehicle. record { vehicle = vehicle; stops = stops_without trip day trips plans vehicle.id }) vehicles
+
+-- no more stops than a route has room for, each pickup with its later drop
+pub record IsRoute (stops : List Stop) : Type 0 where
+  pub few : length stops ≤ MAX_STOPS
+  pub paired : IsPaired stops
+
+-- what is lent of a vehicle and its route
+abbrev pub day_route : DayRoute → OnDuty
+day_route there = record { vehicle = there.vehicle; stops = stops_of there.route }

@@ -1,0 +1,14 @@
+//! The plans of a day: each vehicle's stops as they are kept, the routes that they are, and a trip that is asked for put into
+//! the best of them.
+#![tactic(auto)]
+
+pub use planned::{PlannedRoute, PlannedStop};
+pub use scheduling::{DayPlans, Scheduled, schedule};
+pub use uses::days_of_use;
+
+mod planned;
+mod routes;
+mod scheduling;
+#[cfg(test)]
+mod tests;
+mod uses;
