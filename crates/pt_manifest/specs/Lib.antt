@@ -1,0 +1,4 @@
+pub mod Days
+pub mod Manifests
+pub mod Letters
+pub mod Export

@@ -1,0 +1,17 @@
+//! The texts that drivers carry and riders get: manifests, day sheets, letters of decisions, and the export of trips.
+#![tactic(auto)]
+
+pub use export::{status_text, trips_csv};
+pub use law::day_text_is_the_date;
+pub use letters::{Decision, Letter, decision_letter};
+pub use sheets::{DaySheet, Tour, TourStop, VehicleSheet};
+pub use tours::{day_sheet, manifest};
+
+mod export;
+mod law;
+mod letters;
+mod sheets;
+#[cfg(test)]
+mod tests;
+mod tours;
+mod writing;

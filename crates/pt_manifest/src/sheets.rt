@@ -1,0 +1,49 @@
+ghost use Rattle.std.specs.Prelude.{◌<◌, vec_len};
+
+use pt_base::{Day, Minute, PlaceId, RiderId, TripId, VehicleId};
+use pt_booking::Window;
+
+/// A stop of a tour.
+#[derive(Clone, Copy, Debug, PartialEq, Eq)]
+pub struct TourStop {
+    /// When service begins.
+    pub minute: Minute,
+    /// The promised window of a pickup; `None` at a drop.
+    pub window: Option<Window>,
+    pub trip: TripId,
+    pub rider: RiderId,
+    pub place: PlaceId,
+    /// How many persons are aboard after the stop.
+    pub aboard: u16,
+}
+
+/// A vehicle's way from its depot over at least one stop and back.
+#[derive(Debug, Drop, PartialEq, Eq)]
+pub struct Tour {
+    pub depot: PlaceId,
+    /// When the vehicle leaves its depot.
+    pub leaves: Minute,
+    /// The stops in their order.
+    pub stops: Vec<TourStop>,
+    /// When the vehicle is back.
+    pub returns: Minute,
+    ghost has_stops: { 0 < vec_len stops },
+}
+
+/// What a vehicle does on a day.
+#[derive(Debug, Drop, PartialEq, Eq)]
+pub struct VehicleSheet {
+    pub vehicle: VehicleId,
+    /// `None` where the vehicle has no stops, or is off duty.
+    pub tour: Option<Tour>,
+}
+
+/// What all vehicles do on a day.
+#[derive(Debug, Drop, PartialEq, Eq)]
+pub struct DaySheet {
+    pub day: Day,
+    /// The vehicles on duty, by rising number.
+    pub vehicles: Vec<VehicleSheet>,
+    /// How many trips of the day stand.
+    pub trips: usize,
+}
