@@ -1,3 +1,3 @@
-mod VisitLemmas
 pub mod FleetLemmas
+mod BookingLemmas
 pub mod SoundLemmas

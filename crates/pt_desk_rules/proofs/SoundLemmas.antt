@@ -1,6 +1,7 @@
 -- What a request leaves is sound where what it found is.
 use Rattle.std.proofs.Common.{rules, ◌≡◌, ℕ, ◌+◌, ◌<◌, ◌≤◌, ◌||◌, nat_lt, Bool, true, false, not, IsTrue, List, [], ◌∷◌, ◌++◌, length, map, take, min, Option, Some, None, is_some, Result, Ok, Err, arith, cond, refl, sym, ap, ◌∙◌, subst, inl, inr}
-use Rattle.std.specs.Prelude.{◌&&◌, find, filter, bytes_eq}
+use Rattle.pt_desk_rules.specs.declared.facts.WriteFacts.{WriteFacts}
+use Rattle.std.specs.Prelude.{◌&&◌, ◌==◌, find, filter, bytes_eq}
 use Rattle.std.proofs.lemmas.Bool.Decides.{nat_tests}
 use Rattle.std.proofs.lemmas.List.{length-map, length-take}
 use Rattle.std.proofs.Common.{length-append}
@@ -16,7 +17,7 @@ use Rattle.pt_base.specs.declared.rule.Rule.{Rule}
 use Rattle.pt_base.specs.declared.rule.Rule.TheVariants as rule
 use Rattle.pt_corridor.specs.Route.{Route, IsFixedRoute}
 use Rattle.pt_records.specs.Keys.{pair_key}
-use Rattle.pt_records.specs.Records.{put, take_away, within, is_within, record_at, Each, IsInOrder, IsTable}
+use Rattle.pt_records.specs.Records.{put, put_all, take_away, within, is_within, record_at, Each, IsInOrder, IsTable}
 use Rattle.pt_records.proofs.OrderLemmas.{Each-put, Each-weaker, Each-both, IsInOrder-put, record_at-put_same, record_at-put_other}
 use Rattle.pt_records.proofs.TableLemmas.{same_or_other, stays_there, found_by_key, below_is, IsTable-put, IsTable-add, IsTable-replace, Each-filter, IsInOrder-filter}
 use Rattle.pt_records.proofs.WithinLemmas.{within-put_other, within-put_last, Each-within}
@@ -24,21 +25,33 @@ use Rattle.pt_rights.specs.Admission.{admission_rules, is_resident}
 use Rattle.pt_rights.specs.Rules.{first_failing}
 use Rattle.pt_rights.specs.declared.entry.Entry.{Entry}
 use Rattle.pt_desk_rules.specs.Limits.{most_callers, most_places, most_routes, most_riders, most_entries, most_tables}
-use Rattle.pt_desk_rules.specs.State.{State, caller_with, rider_of, file_of, file_with, caller_key, kept_key, place_key, route_key, rider_key, entry_key, vehicle_key, travel_key, span_of, versions_from, tables_from, tables_before, entries_of, applied}
-use Rattle.pt_desk_rules.specs.Facts.{facts_of, has_subject}
+use Rattle.pt_desk_rules.specs.State.{State, caller_with, rider_of, trip_of, file_of, file_with, caller_key, kept_key, place_key, route_key, rider_key, entry_key, vehicle_key, travel_key, trip_key, span_of, versions_from, tables_from, tables_before, entries_of, applied}
+use Rattle.pt_desk_rules.specs.Facts.{cancel_facts, change_facts, facts_of, has_subject}
 use Rattle.pt_travel.specs.Chain.{Row}
 use Rattle.pt_desk_rules.proofs.FleetLemmas.{version_stays, fleet_stays}
 use Rattle.pt_desk_rules.specs.Fleet.{vehicle_count, versions_before, versions_of_others}
 use Rattle.pt_desk_rules.specs.Travel.{DatedTable}
 use Rattle.pt_desk_rules.specs.Rules.{rules_of, entry_rules, is_nobody_else, is_of_kind, is_nobody_of_another_kind, are_there, has_room_for}
-use Rattle.pt_desk_rules.specs.Deciding.{answer_of, change_of, decision_after, IsMade}
-use Rattle.pt_desk_rules.specs.Step.{state_after, write_left, is_new, step, left_by, leaves, sender, IsMadeWhere, IsMadeBy}
-use Rattle.pt_desk_rules.specs.Sound.{IsSound, IsSoundFile, IsIn, HasDigest, HasOneHolder, HasSubject, IsOfCaller, IsResidentIn, IsOfResident, HasAuthor, HasFirstDay, HasDepot, IsOfPlaces, AreNumberedFrom}
+use Rattle.pt_desk_rules.specs.Booking.{IsBooking}
+use Rattle.pt_desk_rules.specs.Deciding.{booked, IsCancelDecided, IsChangeDecided, IsDecidedBy, IsDecisionAfter, IsMade, IsMadeIf}
+use Rattle.pt_desk_rules.specs.Trips.{cancelled, plan_of_stops, plan_span}
+use Rattle.pt_scheduling.specs.Plan.{Plan, plan_key, stops_of_plan, without}
+use Rattle.pt_scheduling.specs.declared.scheduling.Scheduled.TheVariants as scheduled
+use Rattle.pt_base.specs.declared.trip.Trip.{Trip}
+use Rattle.pt_base.specs.declared.trip.Wish.{Wish}
+use Rattle.pt_records.specs.declared.span.Span.{Span}
+use Rattle.std.proofs.lemmas.Option.{same_Some}
+use Rattle.pt_desk_rules.specs.Step.{state_after, is_new, left_of, sender, IsOutcome, IsOutcomeBy, IsOutcomeIf}
+use Rattle.pt_desk_rules.specs.Sound.{IsSound, IsNumberedTo, IsSoundFile, IsIn, HasDigest, HasOneHolder, HasSubject, IsOfCaller, IsResidentIn, IsOfResident, HasAuthor, HasFirstDay, HasDepot, IsOfPlaces, AreNumberedFrom}
 use Rattle.pt_desk_rules.specs.declared.caller.Caller.{Caller}
 use Rattle.pt_desk_rules.specs.declared.caller.Kept.{Kept}
 use Rattle.pt_desk_rules.specs.declared.caller.Role.{Role}
 use Rattle.pt_desk_rules.specs.declared.caller.Role.TheVariants as role
+use Rattle.pt_desk_rules.specs.declared.change.Change.{Change}
 use Rattle.pt_desk_rules.specs.declared.change.FiledEntry.{FiledEntry}
+use Rattle.pt_desk_rules.specs.declared.deciding.Decision.{Decision}
+use Rattle.pt_desk_rules.specs.declared.deciding.Decision.TheVariants.{Accepted}
+use Rattle.pt_desk_rules.specs.declared.request.Answer.{Answer}
 use Rattle.pt_desk_rules.specs.declared.request.Request.{Request}
 use Rattle.pt_desk_rules.specs.declared.request.Request.TheVariants as request
 use Rattle.pt_desk_rules.specs.declared.request.Write.{Write}
@@ -275,33 +288,128 @@ put_travel_sound new s sound is room =
     (Each-filter (IsOfPlaces s.places) (λ table. not (is_within (travel_key table) (tables_from new.from_day))) s.travel sound.travel_of_places) is in
     search rules
 
+accepted_sound : (asked : Write) (s : State) (decided : Decision) (told : Answer) (change : Change) → decided ≡ Accepted told change → IsMadeIf decided asked → (IsMade asked → IsSound (applied change s))
+    → IsSound (state_after (left_of decided s) s)
+accepted_sound asked s decided told change is made sound =
+    subst (λ d. IsSound (state_after (left_of d s) s)) (sym is) (sound (subst (λ d. IsMadeIf d asked) is made))
+
+-- a later number is given, and no trip had it
+numbered_on : (last next : ℕ) → last ≤ next → (trips : List Trip) → Each (IsNumberedTo last) trips → Each (IsNumberedTo next) trips
+numbered_on last next le trips numbered = Each-weaker (IsNumberedTo last) (IsNumberedTo next) (λ trip below. omega arith) trips numbered
+
+book_sound : (trip : Trip) (plan : Plan) (s : State) → IsSound s → trip.id ≡ s.last_trip + 1
+    → IsSound (record s { trips = put trip_key trip s.trips; planned = put plan_key plan s.planned; last_trip = trip.id })
+book_sound trip plan s sound is =
+    let trips = IsInOrder-put trip_key trip s.trips sound.trips_in_order in
+    let numbered = Each-put (IsNumberedTo trip.id) trip_key trip s.trips (numbered_on s.last_trip trip.id (omega arith) s.trips sound.trips_numbered) (omega arith) in
+    let planned = IsInOrder-put plan_key plan s.planned sound.planned_in_order in
+    search rules
+
+put_all_order : (plans : List Plan) (there : List Plan) → IsInOrder plan_key there → IsInOrder plan_key (put_all plan_key plans there)
+put_all_order [] there order = order
+put_all_order (plan ∷ plans) there order = put_all_order plans (put plan_key plan there) (IsInOrder-put plan_key plan there order)
+
+edit_sound : (trip : Trip) (away : Span) (plans : List Plan) (s : State) → IsSound s → trip.id ≤ s.last_trip
+    → IsSound (record s { trips = put trip_key trip s.trips; planned = put_all plan_key plans (take_away plan_key away s.planned) })
+edit_sound trip away plans s sound below =
+    let trips = IsInOrder-put trip_key trip s.trips sound.trips_in_order in
+    let numbered = Each-put (IsNumberedTo s.last_trip) trip_key trip s.trips sound.trips_numbered below in
+    let planned = put_all_order plans (take_away plan_key away s.planned) (IsInOrder-filter plan_key (λ plan. not (is_within (plan_key plan) away)) s.planned sound.planned_in_order) in
+    search rules
+
+found_here : (P : Trip → Type 0) (test : Trip → Bool) (trip t : Trip) (ts : List Trip) (b : Bool) → test t ≡ b → P t → (find test ts ≡ Some trip → P trip) → find test (t ∷ ts) ≡ Some trip → P trip
+found_here P test trip t ts true same holds rest is = subst P (same_Some t trip (sym (ap (λ b. cond b (Some t) (find test ts)) same) ∙ is)) holds
+found_here P test trip t ts false same holds rest is = rest (sym (ap (λ b. cond b (Some t) (find test ts)) same) ∙ is)
+
+found_holds : (P : Trip → Type 0) (test : Trip → Bool) (trip : Trip) (trips : List Trip) → Each P trips → find test trips ≡ Some trip → P trip
+found_holds P test trip [] each is = absurd (cc)
+found_holds P test trip (t ∷ ts) each is = found_here P test trip t ts (test t) refl each.0 (found_holds P test trip ts each.1) is
+
+-- a trip that is there has a number that was given
+Each-found : (P : Trip → Type 0) (id : ℕ) (trip : Trip) (trips : List Trip) → Each P trips → record_at trip_key id trips ≡ Some trip → P trip
+Each-found P id trip trips each is = found_holds P (λ t. t.id == id) trip trips each is
+
+booking_sound : (kept : Kept) (today : ℕ) (rider : ℕ) (wish : Wish) (s : State) (decided : Decision) → IsSound s → IsIn caller_key s.callers kept.caller
+    → IsBooking (booked kept) (s.last_trip + 1) None today wish (facts_of (write.Book rider wish) s) decided → IsSound (state_after (left_of decided s) s)
+booking_sound kept today rider wish s decided sound there (scheduled.Denied rule, by, is) = subst (λ d. IsSound (state_after (left_of d s) s)) (sym is) sound
+booking_sound kept today rider wish s decided sound there (scheduled.Booked trip plan, (request, asked, (minutes, times, (none, (chosen, at)))), (told, confirms, is)) =
+    subst (λ d. IsSound (state_after (left_of d s) s)) (sym is)
+    (numbered_sound kept _ (book_sound trip plan s sound (at.trip_of.number ∙ asked.trip)) there)
+
+change_trip_sound : (kept : Kept) (today : ℕ) (found : Option Trip) (id : ℕ) (wish : Wish) (facts : WriteFacts) (s : State) (decided : Decision) → IsSound s → IsIn caller_key s.callers kept.caller
+    → trip_of id s ≡ found → IsChangeDecided found wish kept today facts decided → IsSound (state_after (left_of decided s) s)
+change_trip_sound kept today None id wish facts s decided sound there found changes = absurd changes
+change_trip_sound kept today (Some old) id wish facts s decided sound there found (scheduled.Denied rule, by, is) = subst (λ d. IsSound (state_after (left_of d s) s)) (sym is) sound
+change_trip_sound kept today (Some old) id wish facts s decided sound there found (scheduled.Booked trip plan, (request, asked, (minutes, times, (none, (chosen, at)))), (told, confirms, is)) =
+    subst (λ d. IsSound (state_after (left_of d s) s)) (sym is)
+    (numbered_sound kept _ (edit_sound trip (plan_span old) (plan_of_stops old (without old.id (stops_of_plan facts.booking.plan)) ++ plan ∷ []) s sound
+    (subst (λ (n : ℕ). n ≤ s.last_trip) (sym (at.trip_of.number ∙ asked.trip)) (Each-found (IsNumberedTo s.last_trip) id old s.trips sound.trips_numbered found))) there)
+
+cancel_sound : (kept : Kept) (found : Option Trip) (id : ℕ) (facts : WriteFacts) (s : State) (decided : Decision) → IsSound s → IsIn caller_key s.callers kept.caller
+    → trip_of id s ≡ found → IsCancelDecided found kept facts decided → IsSound (state_after (left_of decided s) s)
+cancel_sound kept None id facts s decided sound there found cancels = absurd cancels
+cancel_sound kept (Some trip) id facts s decided sound there found is =
+    subst (λ d. IsSound (state_after (left_of d s) s)) (sym is)
+    (numbered_sound kept _ (edit_sound (cancelled trip) (plan_span trip) (plan_of_stops trip (without trip.id (stops_of_plan facts.booking.plan))) s sound
+    (Each-found (IsNumberedTo s.last_trip) id trip s.trips sound.trips_numbered found)) there)
+
+-- the facts of a change and of a cancellation have the trip that is there
+change_trip : (found : Option Trip) (wish : Wish) (s : State) → (change_facts found wish s).booking.trip ≡ found
+change_trip None wish s = refl
+change_trip (Some trip) wish s = refl
+
+cancel_trip : (found : Option Trip) (s : State) → (cancel_facts found s).booking.trip ≡ found
+cancel_trip None s = refl
+cancel_trip (Some trip) s = refl
+
 -- what an accepted write makes of a sound state
-change_sound : (asked : Write) (me : Caller) (now : ℕ × ℕ) (number : ℕ) (s : State) → IsSound s → IsIn caller_key s.callers me.id → AllHold (rules_of asked me now (facts_of asked s)) → IsMade asked
-    → IsSound (applied (change_of asked (record { caller = me.id; number = number }) now.0 (facts_of asked s)) s)
-change_sound (write.PutCaller new) me now number s sound there hold made =
-    numbered_sound _ _ (put_caller_sound new s sound made hold.1.0 hold.1.1.0 hold.1.1.1.0) (stays_there caller_key me.id new s.callers there)
-change_sound (write.PutPolicy new) me now number s sound there hold made = numbered_sound _ _ (put_policy_sound new s sound) there
-change_sound (write.PutPlace new) me now number s sound there hold made = numbered_sound _ _ (put_place_sound new s sound hold.1.1.0) there
-change_sound (write.PutRoute new) me now number s sound there hold made = numbered_sound _ _ (put_route_sound new s sound made hold.1.0) there
-change_sound (write.PutRider new) me now number s sound there hold made = numbered_sound _ _ (put_rider_sound new s sound hold.1.0 hold.1.1.0) there
-change_sound (write.Enter rider entry) me now number s sound there hold made = numbered_sound _ _ (enter_sound rider entry me now s sound there hold) there
-change_sound (write.PutVehicle new) me now number s sound there hold made = numbered_sound _ _ (put_vehicle_sound new s sound made hold.1.0 hold.1.1.1.0) there
-change_sound (write.Travel day rows) me now number s sound there hold made =
-    numbered_sound _ _ (put_travel_sound (record { from_day = day; rows = rows }) s sound (made.1, hold.1.0) hold.1.1.1.0) there
+decided_sound : (asked : Write) (me : Caller) (now : ℕ × ℕ) (number : ℕ) (s : State) (decided : Decision) → IsSound s → IsIn caller_key s.callers me.id → AllHold (rules_of asked me now (facts_of asked s))
+    → IsDecidedBy asked (record { caller = me.id; number = number }) now.0 (facts_of asked s) decided → IsMadeIf decided asked → IsSound (state_after (left_of decided s) s)
+decided_sound (write.PutCaller new) me now number s decided sound there hold is made =
+    accepted_sound (write.PutCaller new) s decided _ _ is made (λ made. numbered_sound _ _ (put_caller_sound new s sound made hold.1.0 hold.1.1.0 hold.1.1.1.0) (stays_there caller_key me.id new s.callers there))
+decided_sound (write.PutPolicy new) me now number s decided sound there hold is made =
+    accepted_sound (write.PutPolicy new) s decided _ _ is made (λ made. numbered_sound _ _ (put_policy_sound new s sound) there)
+decided_sound (write.PutPlace new) me now number s decided sound there hold is made =
+    accepted_sound (write.PutPlace new) s decided _ _ is made (λ made. numbered_sound _ _ (put_place_sound new s sound hold.1.1.0) there)
+decided_sound (write.PutRoute new) me now number s decided sound there hold is made =
+    accepted_sound (write.PutRoute new) s decided _ _ is made (λ made. numbered_sound _ _ (put_route_sound new s sound made hold.1.0) there)
+decided_sound (write.PutRider new) me now number s decided sound there hold is made =
+    accepted_sound (write.PutRider new) s decided _ _ is made (λ made. numbered_sound _ _ (put_rider_sound new s sound hold.1.0 hold.1.1.0) there)
+decided_sound (write.Enter rider entry) me now number s decided sound there hold is made =
+    accepted_sound (write.Enter rider entry) s decided _ _ is made (λ made. numbered_sound _ _ (enter_sound rider entry me now s sound there hold) there)
+decided_sound (write.PutVehicle new) me now number s decided sound there hold is made =
+    accepted_sound (write.PutVehicle new) s decided _ _ is made (λ made. numbered_sound _ _ (put_vehicle_sound new s sound made hold.1.0 hold.1.1.1.0) there)
+decided_sound (write.Travel day rows) me now number s decided sound there hold is made =
+    accepted_sound (write.Travel day rows) s decided _ _ is made
+    (λ made. numbered_sound _ _ (put_travel_sound (record { from_day = day; rows = rows }) s sound (made.1, hold.1.0) hold.1.1.1.0) there)
+decided_sound (write.Book rider wish) me now number s decided sound there hold is made =
+    booking_sound (record { caller = me.id; number = number }) now.0 rider wish s decided sound there is
+decided_sound (write.Change trip wish) me now number s decided sound there hold is made =
+    change_trip_sound (record { caller = me.id; number = number }) now.0 (trip_of trip s) trip wish (facts_of (write.Change trip wish) s) s decided sound there refl
+    (subst (λ f. IsChangeDecided f wish (record { caller = me.id; number = number }) now.0 (facts_of (write.Change trip wish) s) decided) (change_trip (trip_of trip s) wish s) is)
+decided_sound (write.Cancel trip) me now number s decided sound there hold is made =
+    cancel_sound (record { caller = me.id; number = number }) (trip_of trip s) trip (facts_of (write.Cancel trip) s) s decided sound there refl
+    (subst (λ f. IsCancelDecided f (record { caller = me.id; number = number }) (facts_of (write.Cancel trip) s) decided) (cancel_trip (trip_of trip s) s) is)
 
-write_sound : (asked : Write) (me : Caller) (now : ℕ × ℕ) (number : ℕ) (s : State) (fresh : Bool) (first : Option Rule) → IsSound s → IsIn caller_key s.callers me.id
-    → first_failing (rules_of asked me now (facts_of asked s)) ≡ first → IsMadeWhere fresh (decision_after first asked me now number (facts_of asked s)) asked
-    → IsSound (state_after (write_left fresh (decision_after first asked me now number (facts_of asked s)) s) s)
-write_sound asked me now number s true None sound there is made = change_sound asked me now number s sound there (all_hold (rules_of asked me now (facts_of asked s)) is) made
-write_sound asked me now number s true (Some rule) sound there is made = sound
-write_sound asked me now number s false first sound there is made = sound
+after_sound : (asked : Write) (me : Caller) (now : ℕ × ℕ) (number : ℕ) (s : State) (first : Option Rule) (decided : Decision) → IsSound s → IsIn caller_key s.callers me.id
+    → first_failing (rules_of asked me now (facts_of asked s)) ≡ first → IsDecisionAfter first asked me now number (facts_of asked s) decided → IsMadeIf decided asked → IsSound (state_after (left_of decided s) s)
+after_sound asked me now number s (Some rule) decided sound there first is made = subst (λ d. IsSound (state_after (left_of d s) s)) (sym is) sound
+after_sound asked me now number s None decided sound there first is made =
+    decided_sound asked me now number s decided sound there (all_hold (rules_of asked me now (facts_of asked s)) first) is made
 
-by_sound : (digest : List ℕ) (found : Option Caller) (now : ℕ × ℕ) (number : ℕ) (asked : Request) (s : State) → caller_with digest s ≡ found → IsSound s → IsMadeBy found now number asked s → IsSound (state_after (left_by found now number asked s) s)
-by_sound digest None now number asked s is sound made = sound
-by_sound digest (Some me) now number (request.Read read) s is sound made = sound
-by_sound digest (Some me) now number (request.Write asked) s is sound made =
-    write_sound asked me now number s (is_new number me s) (first_failing (rules_of asked me now (facts_of asked s))) sound (found_by_key caller_key (λ caller. bytes_eq caller.digest digest) me s.callers is) refl made
+write_sound : (asked : Write) (me : Caller) (now : ℕ × ℕ) (number : ℕ) (s : State) (fresh : Bool) (told : Answer) (left : Option State) → IsSound s → IsIn caller_key s.callers me.id
+    → IsOutcomeIf fresh asked me now number s told left → IsSound (state_after left s)
+write_sound asked me now number s true told left sound there (decided, is, made, tells, leaves) =
+    subst (λ l. IsSound (state_after l s)) (sym leaves) (after_sound asked me now number s (first_failing (rules_of asked me now (facts_of asked s))) decided sound there refl is made)
+write_sound asked me now number s false told left sound there (tells, leaves) = subst (λ l. IsSound (state_after l s)) (sym leaves) sound
+
+by_sound : (digest : List ℕ) (found : Option Caller) (now : ℕ × ℕ) (number : ℕ) (asked : Request) (s : State) (told : Answer) (left : Option State) → caller_with digest s ≡ found → IsSound s
+    → IsOutcomeBy found now number asked s told left → IsSound (state_after left s)
+by_sound digest None now number asked s told left is sound (tells, leaves) = subst (λ l. IsSound (state_after l s)) (sym leaves) sound
+by_sound digest (Some me) now number (request.Read read) s told left is sound (tells, leaves) = subst (λ l. IsSound (state_after l s)) (sym leaves) sound
+by_sound digest (Some me) now number (request.Write asked) s told left is sound outcome =
+    write_sound asked me now number s (is_new number me s) told left sound (found_by_key caller_key (λ caller. bytes_eq caller.digest digest) me s.callers is) outcome
 
 -- a request leaves a sound state where it finds one
-pub request_sound : (key : List ℕ) (now : ℕ × ℕ) (number : ℕ) (asked : Request) (s : State) → IsSound s → IsMadeBy (sender key s) now number asked s → IsSound (state_after (leaves key now number asked s) s)
-request_sound key now number asked s sound made = by_sound (sha256 key) (sender key s) now number asked s refl sound made
+pub request_sound : (key : List ℕ) (now : ℕ × ℕ) (number : ℕ) (asked : Request) (s : State) (told : Answer) (left : Option State) → IsSound s → IsOutcome key now number asked s told left → IsSound (state_after left s)
+request_sound key now number asked s told left sound outcome = by_sound (sha256 key) (sender key s) now number asked s told left refl sound outcome

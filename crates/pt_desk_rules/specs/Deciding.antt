@@ -1,19 +1,26 @@
 -- What the rules make of a request, by the facts alone.
-use Rattle.std.specs.Prelude.{◌≡◌, ℕ, true, List, length, Option, Some, None}
+use Rattle.std.specs.Prelude.{◌≡◌, ℕ, ◌+◌, ◌<◌, ◌↔◌, Bool, IsTrue, List, length, Option, Some, None, is_some}
 use Rattle.pt_base.specs.Day.{IsDay}
 use Rattle.pt_base.specs.declared.rider.Residence.{Residence}
 use Rattle.pt_base.specs.declared.rider.Residence.TheVariants.{Resident, Visitor}
 use Rattle.pt_base.specs.declared.rider.Rider.{Rider}
 use Rattle.pt_base.specs.declared.rule.Rule.{Rule}
-use Rattle.pt_base.specs.declared.rule.Rule.TheVariants as rule
+use Rattle.pt_base.specs.declared.trip.Trip.{Trip}
+use Rattle.pt_base.specs.declared.trip.Wish.{Wish}
 use Rattle.pt_corridor.specs.Route.{IsFixedRoute}
 use Rattle.pt_rights.specs.Rules.{first_failing}
 use Rattle.pt_rights.specs.Standing.{standing_of}
 use Rattle.pt_rights.specs.Suspension.{is_suspended}
 use Rattle.pt_rights.specs.declared.entry.Entered.{Entered}
 use Rattle.pt_travel.specs.Table.{IsTable}
+use Rattle.pt_scheduling.specs.Plan.{Plan}
+use Rattle.pt_scheduling.specs.Uses.{AreUses}
+use Rattle.pt_visitors.specs.Periods.{MayUse}
+use Rattle.pt_desk_rules.specs.Booking.{IsBooking}
 use Rattle.pt_desk_rules.specs.State.{no_edit, puts_one, replaces, versions_from, tables_from}
 use Rattle.pt_desk_rules.specs.Rules.{rules_of, read_rules}
+use Rattle.pt_desk_rules.specs.Trips.{cancelled, gives_up, has_ends, moves_to}
+use Rattle.pt_desk_rules.specs.Limits.{last_trip_number}
 use Rattle.pt_desk_rules.specs.declared.caller.Caller.{Caller}
 use Rattle.pt_desk_rules.specs.declared.caller.Kept.{Kept}
 use Rattle.pt_desk_rules.specs.declared.change.Change.{Change}
@@ -45,46 +52,81 @@ keeping kept = record {
   last_trip = None;
 }
 
--- what an accepted write on the day today changes
-abbrev pub change_of : Write → Kept → ℕ → WriteFacts → Change
-change_of (write.PutCaller new) kept today facts = record (keeping kept) { callers = puts_one new }
-change_of (write.PutPolicy new) kept today facts = record (keeping kept) { policy = Some new }
-change_of (write.PutPlace new) kept today facts = record (keeping kept) { places = puts_one new }
-change_of (write.PutRoute new) kept today facts = record (keeping kept) { routes = puts_one new }
-change_of (write.PutRider new) kept today facts = record (keeping kept) { riders = puts_one new }
-change_of (write.Enter rider entry) kept today facts = record (keeping kept) {
-  entries = puts_one (record {
-    rider = rider;
-    position = length facts.file;
-    entered = record { entry = entry; day = today; author = kept.caller };
-  });
-}
-change_of (write.PutVehicle new) kept today facts =
-    record (keeping kept) { vehicles = replaces (versions_from new.id new.from_day) new }
-change_of (write.Travel day rows) kept today facts =
-    record (keeping kept) { travel = replaces (tables_from day) (record { from_day = day; rows = rows }) }
+-- what is made of a trip that is booked: the next number is given to it
+abbrev pub booked : Kept → Trip → Plan → Change
+booked kept trip plan =
+    record (keeping kept) { trips = puts_one trip; planned = puts_one plan; last_trip = Some trip.id }
 
--- what an accepted write is told
-abbrev pub answer_of : Write → WriteFacts → Answer
-answer_of (write.PutCaller new) facts = answer.Done
-answer_of (write.PutPolicy new) facts = answer.Done
-answer_of (write.PutPlace new) facts = answer.Done
-answer_of (write.PutRoute new) facts = answer.Done
-answer_of (write.PutRider new) facts = answer.Done
-answer_of (write.Enter rider entry) facts = answer.Entered (length facts.file)
-answer_of (write.PutVehicle new) facts = answer.Done
-answer_of (write.Travel day rows) facts = answer.Done
+-- of one that is changed: its stops are taken from where they were
+abbrev pub changed : Kept → Trip → Option Plan → Trip → Plan → Change
+changed kept old left new plan = record (keeping kept) { trips = puts_one new; planned = moves_to old left plan }
 
--- the decision where the first failing rule, if any, is this one
-abbrev pub decision_after : Option Rule → Write → Caller → (ℕ × ℕ) → ℕ → WriteFacts → Decision
-decision_after (Some first) asked me now number facts = Denied first
-decision_after None asked me now number facts =
-    Accepted (answer_of asked facts) (change_of asked (record { caller = me.id; number = number }) now.0 facts)
+-- and of one that is cancelled
+abbrev pub given_up : Kept → Trip → Option Plan → Change
+given_up kept trip left =
+    record (keeping kept) { trips = puts_one (cancelled trip); planned = gives_up trip left }
+
+-- the change of a trip that is there: it is asked for anew under its number, as if it were not booked
+abbrev pub IsChangeDecided : Option Trip → Wish → Kept → ℕ → WriteFacts → Decision → Type 0
+IsChangeDecided None wish kept today facts decided = ⊥
+IsChangeDecided (Some trip) wish kept today facts decided =
+    IsBooking (changed kept trip facts.booking.plan) trip.id (Some trip.id) today wish facts decided
+
+abbrev pub IsCancelDecided : Option Trip → Kept → WriteFacts → Decision → Type 0
+IsCancelDecided None kept facts decided = ⊥
+IsCancelDecided (Some trip) kept facts decided = decided ≡ Accepted answer.Done (given_up kept trip facts.booking.plan)
+
+-- What is decided on the day today where none of a write's own rules fails: what it is told, and what it changes. The
+-- rules of a trip that is asked for come after those.
+abbrev pub IsDecidedBy : Write → Kept → ℕ → WriteFacts → Decision → Type 0
+IsDecidedBy (write.PutCaller new) kept today facts decided =
+    decided ≡ Accepted answer.Done (record (keeping kept) { callers = puts_one new })
+IsDecidedBy (write.PutPolicy new) kept today facts decided =
+    decided ≡ Accepted answer.Done (record (keeping kept) { policy = Some new })
+IsDecidedBy (write.PutPlace new) kept today facts decided =
+    decided ≡ Accepted answer.Done (record (keeping kept) { places = puts_one new })
+IsDecidedBy (write.PutRoute new) kept today facts decided =
+    decided ≡ Accepted answer.Done (record (keeping kept) { routes = puts_one new })
+IsDecidedBy (write.PutRider new) kept today facts decided =
+    decided ≡ Accepted answer.Done (record (keeping kept) { riders = puts_one new })
+IsDecidedBy (write.Enter rider entry) kept today facts decided =
+    decided ≡ Accepted (answer.Entered (length facts.file)) (record (keeping kept) {
+      entries = puts_one (record {
+        rider = rider;
+        position = length facts.file;
+        entered = record { entry = entry; day = today; author = kept.caller };
+      });
+    })
+IsDecidedBy (write.PutVehicle new) kept today facts decided =
+    decided ≡ Accepted answer.Done
+    (record (keeping kept) { vehicles = replaces (versions_from new.id new.from_day) new })
+IsDecidedBy (write.Travel day rows) kept today facts decided =
+    decided ≡ Accepted answer.Done
+    (record (keeping kept) { travel = replaces (tables_from day) (record { from_day = day; rows = rows }) })
+IsDecidedBy (write.Book rider wish) kept today facts decided =
+    IsBooking (booked kept) (facts.booking.last_trip + 1) None today wish facts decided
+IsDecidedBy (write.Change trip wish) kept today facts decided = IsChangeDecided facts.booking.trip wish kept today facts decided
+IsDecidedBy (write.Cancel trip) kept today facts decided = IsCancelDecided facts.booking.trip kept facts decided
+
+-- where none of its own rules fails, what a trip needs is there
+abbrev pub IsReady : Write → WriteFacts → Type 0
+IsReady (write.Book rider wish) facts =
+    IsTrue (is_some facts.rider) × IsTrue (has_ends wish facts.places) × (facts.booking.last_trip < last_trip_number)
+IsReady (write.Change trip wish) facts =
+    IsTrue (is_some facts.booking.trip) × IsTrue (is_some facts.rider) × IsTrue (has_ends wish facts.places)
+IsReady (write.Cancel trip) facts = IsTrue (is_some facts.booking.trip)
+IsReady _ facts = Unit {0}
+
+-- the decision where the first failing of a write's own rules, if any, is this one
+abbrev pub IsDecisionAfter : Option Rule → Write → Caller → (ℕ × ℕ) → ℕ → WriteFacts → Decision → Type 0
+IsDecisionAfter (Some first) asked me now number facts decided = decided ≡ Denied first
+IsDecisionAfter None asked me now number facts decided =
+    IsDecidedBy asked (record { caller = me.id; number = number }) now.0 facts decided
 
 -- the decision on a write by this caller with a new number, at this moment
-abbrev pub decision : Write → Caller → (ℕ × ℕ) → ℕ → WriteFacts → Decision
-decision asked me now number facts =
-    decision_after (first_failing (rules_of asked me now facts)) asked me now number facts
+abbrev pub IsDecision : Write → Caller → (ℕ × ℕ) → ℕ → WriteFacts → Decision → Type 0
+IsDecision asked me now number facts decided =
+    IsDecisionAfter (first_failing (rules_of asked me now facts)) asked me now number facts decided
 
 -- A digest that is put has 32 bytes, a fixed route and a travel table are such, and a first day is a day.
 abbrev pub IsMade : Write → Type 0
@@ -96,32 +138,40 @@ IsMade (write.PutRider new) = Unit {0}
 IsMade (write.Enter rider entry) = Unit {0}
 IsMade (write.PutVehicle new) = IsDay new.from_day
 IsMade (write.Travel day rows) = IsDay day × IsTable rows
+IsMade (write.Book rider wish) = Unit {0}
+IsMade (write.Change trip wish) = Unit {0}
+IsMade (write.Cancel trip) = Unit {0}
 
 -- what is accepted is made
 abbrev pub IsMadeIf : Decision → Write → Type 0
 IsMadeIf (Denied first) asked = Unit {0}
 IsMadeIf (Accepted answer change) asked = IsMade asked
 
--- what is told of a rider of this kind on a day: of a visitor, whether the day may be used (37.127(e)), and any day
--- may, so long as no trips are booked; of a resident, what the case file gives
-abbrev pub told_of_kind : Residence → List Entered → ℕ → ℕ → Answer
-told_of_kind Visitor file today day = answer.Visitor true
-told_of_kind Resident file today day = answer.Standing (standing_of file today day) (is_suspended file day)
+-- what is told of a rider of this kind on a day: of a visitor, whether the day may be used beside the days of the
+-- visitor's trips (37.127(e)); of a resident, what the case file gives
+abbrev pub IsToldOfKind : Residence → List Entered → List Trip → ℕ → ℕ → Answer → Type 0
+IsToldOfKind Visitor file trips today day told =
+    (uses : List ℕ) × AreUses None trips uses × (may_use : Bool) × (IsTrue may_use ↔ MayUse uses day)
+    × (told ≡ answer.Visitor may_use)
+IsToldOfKind Resident file trips today day told =
+    told ≡ answer.Standing (standing_of file today day) (is_suspended file day)
 
--- what is told of the standing of a rider, if there is one
-abbrev pub told_standing : Option Rider → List Entered → ℕ → ℕ → Answer
-told_standing None file today day = answer.Denied rule.Unknown
-told_standing (Some there) file today day = told_of_kind there.kind file today day
+-- what is told of the standing of a rider, who is there
+abbrev pub IsToldStanding : Option Rider → List Entered → List Trip → ℕ → ℕ → Answer → Type 0
+IsToldStanding None file trips today day told = ⊥
+IsToldStanding (Some there) file trips today day told = IsToldOfKind there.kind file trips today day told
 
 -- what a read is told on the day today, where no rule fails
-abbrev pub told_read : Read → ℕ → ReadFacts → Answer
-told_read (read.Standing rider day) today facts = told_standing facts.rider facts.file today day
+abbrev pub IsToldRead : Read → ℕ → ReadFacts → Answer → Type 0
+IsToldRead (read.Standing rider day) today facts told =
+    IsToldStanding facts.rider facts.file facts.trips today day told
+IsToldRead (read.Trips rider) today facts told = told ≡ answer.Trips facts.trips
 
 -- what a read is told where the first failing rule, if any, is this one
-abbrev pub told_after : Option Rule → Read → ℕ → ReadFacts → Answer
-told_after (Some first) asked today facts = answer.Denied first
-told_after None asked today facts = told_read asked today facts
+abbrev pub IsToldAfter : Option Rule → Read → ℕ → ReadFacts → Answer → Type 0
+IsToldAfter (Some first) asked today facts told = told ≡ answer.Denied first
+IsToldAfter None asked today facts told = IsToldRead asked today facts told
 
 -- what a read by this caller is told at this moment
-abbrev pub told : Read → Caller → (ℕ × ℕ) → ReadFacts → Answer
-told asked me now facts = told_after (first_failing (read_rules asked me facts)) asked now.0 facts
+abbrev pub IsTold : Read → Caller → (ℕ × ℕ) → ReadFacts → Answer → Type 0
+IsTold asked me now facts told = IsToldAfter (first_failing (read_rules asked me facts)) asked now.0 facts told

@@ -2,19 +2,40 @@
 use Rattle.std.specs.Prelude.{ℕ, Bool, true, false, List, [], length, Option, Some, None, is_some}
 use Rattle.pt_base.specs.declared.policy.Policy.{Policy}
 use Rattle.pt_base.specs.declared.rider.Rider.{Rider}
+use Rattle.pt_base.specs.declared.trip.Trip.{Trip}
+use Rattle.pt_base.specs.declared.trip.Wish.{Wish}
 use Rattle.pt_base.specs.declared.vehicle.Vehicle.{Vehicle}
 use Rattle.pt_records.specs.Records.{record_at}
 use Rattle.pt_desk_rules.specs.Fleet.{has_version}
-use Rattle.pt_desk_rules.specs.Planned.{is_booked_from}
-use Rattle.pt_desk_rules.specs.State.{State, caller_with, caller_of, place_of, route_of, rider_of, file_of, rider_key, tables_before}
+use Rattle.pt_desk_rules.specs.Planned.{is_booked_from, planned_on, trips_of, trips_on}
+use Rattle.pt_desk_rules.specs.State.{State, caller_with, caller_of, place_of, plan_of, route_of, rider_of, trip_of, file_of, rider_key, tables_before}
+use Rattle.pt_desk_rules.specs.Travel.{table_on}
 use Rattle.pt_desk_rules.specs.declared.caller.Role.{Role}
 use Rattle.pt_desk_rules.specs.declared.caller.Role.TheVariants as role
+use Rattle.pt_scheduling.specs.Plan.{Plan}
+use Rattle.pt_desk_rules.specs.declared.facts.BookingFacts.{BookingFacts}
+use Rattle.pt_desk_rules.specs.declared.facts.DayFacts.{DayFacts}
 use Rattle.pt_desk_rules.specs.declared.facts.ReadFacts.{ReadFacts}
 use Rattle.pt_desk_rules.specs.declared.facts.WriteFacts.{WriteFacts}
 use Rattle.pt_desk_rules.specs.declared.request.Read.{Read}
 use Rattle.pt_desk_rules.specs.declared.request.Read.TheVariants as read
 use Rattle.pt_desk_rules.specs.declared.request.Write.{Write}
 use Rattle.pt_desk_rules.specs.declared.request.Write.TheVariants as write
+
+-- nothing planned
+abbrev pub no_day : DayFacts
+no_day = record { travel = None; trips = []; plans = [] }
+
+abbrev pub no_booking : BookingFacts
+no_booking = record { trip = None; plan = None; routes = []; last_trip = 0; trips = []; day = no_day }
+
+-- what is planned for a day, and the travel table that holds then
+abbrev pub day_of : ℕ → State → DayFacts
+day_of day s = record {
+  travel = table_on day s.travel;
+  trips = trips_on day s.trips;
+  plans = planned_on day s.planned;
+}
 
 -- the policy alone
 abbrev pub no_facts : Policy → WriteFacts
@@ -35,6 +56,7 @@ no_facts policy = record {
   vehicles = [];
   tables_before = 0;
   is_booked = false;
+  booking = no_booking;
 }
 
 -- the rider or the vehicle that a role speaks of is there
@@ -42,6 +64,46 @@ abbrev pub has_subject : Role → List Rider → List Vehicle → Bool
 has_subject (role.Rider rider) riders vehicles = is_some (record_at rider_key rider riders)
 has_subject (role.Driver vehicle) riders vehicles = has_version vehicle vehicles
 has_subject _ riders vehicles = true
+
+-- what every booking looks at
+abbrev pub agency_facts : State → WriteFacts
+agency_facts s = record (no_facts s.policy) { places = s.places; vehicles = s.vehicles }
+
+-- the plan that has the stops of a trip, if there is one
+abbrev pub plan_for : Option Trip → State → Option Plan
+plan_for None s = None
+plan_for (Some trip) s = plan_of trip.vehicle trip.wish.day s
+
+-- what a rider's wish for a day looks at, where it stands for this trip, if any
+abbrev pub booking_facts : ℕ → ℕ → Option Trip → State → BookingFacts
+booking_facts rider day old s = record {
+  trip = old;
+  plan = plan_for old s;
+  routes = s.routes;
+  last_trip = s.last_trip;
+  trips = trips_of rider s.trips;
+  day = day_of day s;
+}
+
+abbrev pub wish_facts : ℕ → Wish → Option Trip → State → WriteFacts
+wish_facts rider wish old s = record (agency_facts s) {
+  rider = rider_of rider s;
+  file = file_of rider s;
+  booking = booking_facts rider wish.day old s;
+}
+
+-- what the change of a trip looks at, if it is there
+abbrev pub change_facts : Option Trip → Wish → State → WriteFacts
+change_facts None wish s = agency_facts s
+change_facts (Some trip) wish s = wish_facts trip.rider wish (Some trip) s
+
+-- and what its cancellation looks at
+abbrev pub cancel_facts : Option Trip → State → WriteFacts
+cancel_facts None s = no_facts s.policy
+cancel_facts (Some trip) s = record (no_facts s.policy) {
+  rider = rider_of trip.rider s;
+  booking = record no_booking { trip = Some trip; plan = plan_for (Some trip) s };
+}
 
 -- what the state says on what a write's rules look at
 abbrev pub facts_of : Write → State → WriteFacts
@@ -70,7 +132,12 @@ facts_of (write.Travel day rows) s = record (no_facts s.policy) {
   tables_before = length (tables_before day s.travel);
   is_booked = is_booked_from None day s.trips;
 }
+facts_of (write.Book rider wish) s = wish_facts rider wish None s
+facts_of (write.Change trip wish) s = change_facts (trip_of trip s) wish s
+facts_of (write.Cancel trip) s = cancel_facts (trip_of trip s) s
 
 -- and on what a read's rules look at
 abbrev pub read_facts_of : Read → State → ReadFacts
-read_facts_of (read.Standing rider day) s = record { rider = rider_of rider s; file = file_of rider s }
+read_facts_of (read.Standing rider day) s =
+    record { rider = rider_of rider s; file = file_of rider s; trips = trips_of rider s.trips }
+read_facts_of (read.Trips rider) s = record { rider = rider_of rider s; file = []; trips = trips_of rider s.trips }

@@ -9,3 +9,5 @@ pub mod Step
 pub mod Sound
 pub mod Planned
 pub mod Travel
+pub mod Trips
+pub mod Booking

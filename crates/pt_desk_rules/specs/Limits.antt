@@ -23,3 +23,7 @@ most_versions = 20
 
 abbrev pub most_tables : ℕ
 most_tables = 50
+
+-- the last number that a trip can have
+abbrev pub last_trip_number : ℕ
+last_trip_number = 4_294_967_295

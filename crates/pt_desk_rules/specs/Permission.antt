@@ -1,6 +1,7 @@
 -- Who may make which request.
-use Rattle.std.specs.Prelude.{ℕ, Bool, true, false, ◌==◌, ◌&&◌, Option, is_some}
+use Rattle.std.specs.Prelude.{ℕ, Bool, true, false, ◌==◌, ◌&&◌, Option, Some, None, is_some}
 use Rattle.pt_base.specs.declared.rider.Rider.{Rider}
+use Rattle.pt_base.specs.declared.trip.Trip.{Trip}
 use Rattle.pt_rights.specs.declared.entry.Entry.{Entry}
 use Rattle.pt_rights.specs.declared.entry.Entry.TheVariants as entry
 use Rattle.pt_desk_rules.specs.declared.caller.Role.{Role}
@@ -63,3 +64,21 @@ may_enter entry.Overturn rider found = is_officer
 may_enter (entry.Notice basis) rider found = is_clerk
 may_enter entry.NoticeHeard rider found = is_officer
 may_enter (entry.Suspend starts ends reasons) rider found = is_officer
+
+-- a clerk, a dispatcher, or the rider whose trips they are
+abbrev pub may_book : ℕ → Option Rider → Role → Bool
+may_book rider found (role.Rider own) = is_own own rider found
+may_book rider found role.Clerk = true
+may_book rider found role.Dispatcher = true
+may_book rider found _ = false
+
+-- a clerk or a dispatcher
+abbrev pub is_counter : Role → Bool
+is_counter role.Clerk = true
+is_counter role.Dispatcher = true
+is_counter _ = false
+
+-- a trip that is not there is nobody's own
+abbrev pub may_alter : Option Trip → Option Rider → Role → Bool
+may_alter None found role = is_counter role
+may_alter (Some trip) found role = may_book trip.rider found role

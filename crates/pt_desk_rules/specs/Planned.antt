@@ -1,15 +1,9 @@
--- The trips that are planned.
-use Rattle.std.specs.Prelude.{ℕ, ◌==◌, ◌&&◌, nat_le, Bool, true, List, Option, Some, None}
+-- The trips that are planned, by rider, by day, and by vehicle.
+use Rattle.std.specs.Prelude.{ℕ, ◌==◌, ◌&&◌, nat_le, Bool, true, List, filter, Option, Some, None}
 use Rattle.std.specs.List.{list_any}
 use Rattle.pt_base.specs.TripStatus.{stands}
 use Rattle.pt_base.specs.declared.trip.Trip.{Trip}
-use Rattle.pt_desk_rules.specs.declared.planned.PlannedStop.{PlannedStop}
-
--- the stops of a vehicle on a day, in their order
-pub record Plan : Type 0 where
-  pub vehicle : ℕ
-  pub day : ℕ
-  pub stops : List PlannedStop
+use Rattle.pt_scheduling.specs.Plan.{Plan}
 
 -- the trip is the vehicle's, where one is named
 abbrev pub is_of : Option ℕ → Trip → Bool
@@ -23,3 +17,15 @@ is_standing_from vehicle day trip = stands trip.status && nat_le day trip.wish.d
 -- some trip is so
 abbrev pub is_booked_from : Option ℕ → ℕ → List Trip → Bool
 is_booked_from vehicle day trips = list_any (is_standing_from vehicle day) trips
+
+-- the trips of a rider, whatever came of them
+abbrev pub trips_of : ℕ → List Trip → List Trip
+trips_of rider trips = filter (λ trip. trip.rider == rider) trips
+
+-- the trips of a day
+abbrev pub trips_on : ℕ → List Trip → List Trip
+trips_on day trips = filter (λ trip. trip.wish.day == day) trips
+
+-- what is planned for the vehicles on a day
+abbrev pub planned_on : ℕ → List Plan → List Plan
+planned_on day plans = filter (λ plan. plan.day == day) plans

@@ -13,9 +13,10 @@ use Rattle.pt_rights.specs.Admission.{admission_rules, is_resident}
 use Rattle.pt_rights.specs.declared.entry.Entry.{Entry}
 use Rattle.pt_travel.specs.Chain.{Row}
 use Rattle.pt_desk_rules.specs.Fleet.{vehicle_count, versions_before, versions_of_others}
-use Rattle.pt_desk_rules.specs.Limits.{most_callers, most_places, most_routes, most_riders, most_entries, most_vehicles, most_versions, most_tables}
-use Rattle.pt_desk_rules.specs.Permission.{is_admin, is_clerk, is_dispatcher, may_enter, may_see_standing}
+use Rattle.pt_desk_rules.specs.Limits.{most_callers, most_places, most_routes, most_riders, most_entries, most_vehicles, most_versions, most_tables, last_trip_number}
+use Rattle.pt_desk_rules.specs.Permission.{is_admin, is_clerk, is_dispatcher, may_alter, may_book, may_enter, may_see_standing}
 use Rattle.pt_desk_rules.specs.State.{place_key}
+use Rattle.pt_desk_rules.specs.Trips.{has_ends, is_cancellable, is_changeable}
 use Rattle.pt_desk_rules.specs.declared.caller.Caller.{Caller}
 use Rattle.pt_desk_rules.specs.declared.facts.ReadFacts.{ReadFacts}
 use Rattle.pt_desk_rules.specs.declared.facts.WriteFacts.{WriteFacts}
@@ -96,10 +97,30 @@ rules_of (write.Travel day rows) me now facts =
     ∷ (rule.Booked, not facts.is_booked)
     ∷ (rule.Full, nat_lt facts.tables_before most_tables)
     ∷ []
+-- the rules of the trip itself come after these
+rules_of (write.Book rider wish) me now facts =
+    (rule.Caller, may_book rider facts.rider me.role)
+    ∷ (rule.Unknown, is_some facts.rider && has_ends wish facts.places)
+    ∷ (rule.Full, nat_lt facts.booking.last_trip last_trip_number)
+    ∷ []
+rules_of (write.Change trip wish) me now facts =
+    (rule.Caller, may_alter facts.booking.trip facts.rider me.role)
+    ∷ (rule.Unknown, is_some facts.booking.trip && is_some facts.rider && has_ends wish facts.places)
+    ∷ (rule.Over, is_changeable now.0 facts.booking.trip)
+    ∷ []
+rules_of (write.Cancel trip) me now facts =
+    (rule.Caller, may_alter facts.booking.trip facts.rider me.role)
+    ∷ (rule.Unknown, is_some facts.booking.trip)
+    ∷ (rule.Over, is_cancellable now facts.booking.trip)
+    ∷ []
 
 -- the rules of a read by this caller
 abbrev pub read_rules : Read → Caller → ReadFacts → List (Rule × Bool)
 read_rules (read.Standing rider day) me facts =
     (rule.Caller, may_see_standing rider facts.rider me.role)
+    ∷ (rule.Unknown, is_some facts.rider)
+    ∷ []
+read_rules (read.Trips rider) me facts =
+    (rule.Caller, may_book rider facts.rider me.role)
     ∷ (rule.Unknown, is_some facts.rider)
     ∷ []

@@ -8,9 +8,10 @@ use Rattle.pt_base.specs.declared.vehicle.Vehicle.{Vehicle}
 use Rattle.pt_corridor.specs.Route.{IsFixedRoute}
 use Rattle.pt_records.specs.Records.{Each, IsInOrder, IsTable, record_at}
 use Rattle.pt_rights.specs.Admission.{is_resident}
+use Rattle.pt_scheduling.specs.Plan.{plan_key}
 use Rattle.pt_travel.specs.Table as Travel
 use Rattle.pt_desk_rules.specs.Limits.{most_callers, most_places, most_routes, most_riders, most_entries, most_vehicles, most_versions, most_tables}
-use Rattle.pt_desk_rules.specs.State.{State, caller_key, kept_key, place_key, route_key, rider_key, entry_key, vehicle_key, travel_key, trip_key, planned_key, entries_of}
+use Rattle.pt_desk_rules.specs.State.{State, caller_key, kept_key, place_key, route_key, rider_key, entry_key, vehicle_key, travel_key, trip_key, entries_of}
 use Rattle.pt_desk_rules.specs.Facts.{has_subject}
 use Rattle.pt_desk_rules.specs.Fleet.{vehicle_count, versions_of}
 use Rattle.pt_desk_rules.specs.Rules.{are_there}
@@ -105,4 +106,4 @@ pub record IsSound (s : State) : Type 0 where
   pub travel_of_places : Each (IsOfPlaces s.places) s.travel
   pub trips_in_order : IsInOrder trip_key s.trips
   pub trips_numbered : Each (IsNumberedTo s.last_trip) s.trips
-  pub planned_in_order : IsInOrder planned_key s.planned
+  pub planned_in_order : IsInOrder plan_key s.planned

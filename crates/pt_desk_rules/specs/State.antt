@@ -11,8 +11,8 @@ use Rattle.pt_records.specs.Keys.{pair_key}
 use Rattle.pt_records.specs.Records.{Edit, edited, record_at, take_away, within}
 use Rattle.pt_records.specs.declared.span.Span.{Span}
 use Rattle.pt_rights.specs.declared.entry.Entered.{Entered}
+use Rattle.pt_scheduling.specs.Plan.{Plan, plan_key}
 use Rattle.pt_desk_rules.specs.Limits.{most_entries}
-use Rattle.pt_desk_rules.specs.Planned.{Plan}
 use Rattle.pt_desk_rules.specs.Travel.{DatedTable}
 use Rattle.pt_desk_rules.specs.declared.caller.Caller.{Caller}
 use Rattle.pt_desk_rules.specs.declared.caller.Kept.{Kept}
@@ -77,9 +77,6 @@ travel_key table = table.from_day
 abbrev pub trip_key : Trip → ℕ
 trip_key trip = trip.id
 
-abbrev pub planned_key : Plan → ℕ
-planned_key plan = pair_key plan.vehicle plan.day
-
 -- the caller whose key has this digest
 abbrev pub caller_with : List ℕ → State → Option Caller
 caller_with digest s = find (λ caller. bytes_eq caller.digest digest) s.callers
@@ -104,7 +101,7 @@ trip_of id s = record_at trip_key id s.trips
 
 -- the route of a vehicle on a day, where it has stops
 abbrev pub plan_of : ℕ → ℕ → State → Option Plan
-plan_of vehicle day s = record_at planned_key (pair_key vehicle day) s.planned
+plan_of vehicle day s = record_at plan_key (pair_key vehicle day) s.planned
 
 -- the keys of a rider's entries
 abbrev pub span_of : ℕ → Span
@@ -147,6 +144,6 @@ applied change s = record {
   vehicles = edited vehicle_key change.vehicles s.vehicles;
   travel = edited travel_key change.travel s.travel;
   trips = edited trip_key change.trips s.trips;
-  planned = edited planned_key change.planned s.planned;
+  planned = edited plan_key change.planned s.planned;
   last_trip = unwrap_or change.last_trip s.last_trip;
 }

@@ -1,10 +1,10 @@
 -- What each request is told, and what it leaves.
-use Rattle.std.specs.Prelude.{ℕ, Bool, true, false, nat_lt, List, Option, Some, None}
+use Rattle.std.specs.Prelude.{◌≡◌, ℕ, Bool, true, false, nat_lt, List, Option, Some, None}
 use Rattle.sha2.specs.Sha256.{sha256}
 use Rattle.pt_base.specs.declared.rule.Rule.TheVariants as rule
 use Rattle.pt_desk_rules.specs.State.{State, caller_with, kept_of, applied}
 use Rattle.pt_desk_rules.specs.Facts.{facts_of, read_facts_of}
-use Rattle.pt_desk_rules.specs.Deciding.{decision, told, IsMadeIf}
+use Rattle.pt_desk_rules.specs.Deciding.{IsDecision, IsTold, IsMadeIf}
 use Rattle.pt_desk_rules.specs.declared.caller.Caller.{Caller}
 use Rattle.pt_desk_rules.specs.declared.caller.Kept.{Kept}
 use Rattle.pt_desk_rules.specs.declared.deciding.Decision.{Decision}
@@ -26,68 +26,48 @@ abbrev pub state_after : Option State → State → State
 state_after None s = s
 state_after (Some new) s = new
 
--- the answer to a read by this caller
-abbrev pub read_answer : Read → Caller → (ℕ × ℕ) → State → Answer
-read_answer asked me now s = told asked me now (read_facts_of asked s)
-
--- what a write with a new number is told where the rules decide so, and any other number
-abbrev pub write_told : Bool → Decision → Answer
-write_told false decided = answer.Denied rule.Number
-write_told true (Denied first) = answer.Denied first
-write_told true (Accepted answer change) = answer
+-- what a write is told where the rules decide so
+abbrev pub told_of : Decision → Answer
+told_of (Denied first) = answer.Denied first
+told_of (Accepted told change) = told
 
 -- and the state that it commits, if any: a denial changes nothing
-abbrev pub write_left : Bool → Decision → State → Option State
-write_left true (Accepted answer change) s = Some (applied change s)
-write_left _ _ s = None
+abbrev pub left_of : Decision → State → Option State
+left_of (Denied first) s = None
+left_of (Accepted told change) s = Some (applied change s)
 
 -- the number of the write is above the caller's last one
 abbrev pub is_new : ℕ → Caller → State → Bool
 is_new number me s = is_above number (kept_of me.id s)
 
--- the decision on a write over the state
-abbrev pub step : Write → Caller → (ℕ × ℕ) → ℕ → State → Decision
-step asked me now number s = decision asked me now number (facts_of asked s)
+-- what a read is told, and that it commits nothing
+abbrev pub IsReadOutcome : Read → Caller → (ℕ × ℕ) → State → Answer → Option State → Type 0
+IsReadOutcome asked me now s told left = IsTold asked me now (read_facts_of asked s) told × (left ≡ None)
 
-abbrev pub write_answer : Write → Caller → (ℕ × ℕ) → ℕ → State → Answer
-write_answer asked me now number s = write_told (is_new number me s) (step asked me now number s)
+-- what a write is told by the rules, and what it commits
+abbrev pub IsDecidedOutcome : Write → Caller → (ℕ × ℕ) → ℕ → State → Answer → Option State → Type 0
+IsDecidedOutcome asked me now number s told left =
+    (decided : Decision) × IsDecision asked me now number (facts_of asked s) decided × IsMadeIf decided asked
+    × (told ≡ told_of decided) × (left ≡ left_of decided s)
 
-abbrev pub write_leaves : Write → Caller → (ℕ × ℕ) → ℕ → State → Option State
-write_leaves asked me now number s = write_left (is_new number me s) (step asked me now number s) s
+-- the same of a write with a new number; with any other it is denied
+abbrev pub IsOutcomeIf : Bool → Write → Caller → (ℕ × ℕ) → ℕ → State → Answer → Option State → Type 0
+IsOutcomeIf false asked me now number s told left = (told ≡ answer.Denied rule.Number) × (left ≡ None)
+IsOutcomeIf true asked me now number s told left = IsDecidedOutcome asked me now number s told left
 
--- the answer to a request by whoever has the key
-abbrev pub answer_by : Option Caller → (ℕ × ℕ) → ℕ → Request → State → Answer
-answer_by None now number asked s = answer.Denied rule.Key
-answer_by (Some me) now number (request.Read read) s = read_answer read me now s
-answer_by (Some me) now number (request.Write write) s = write_answer write me now number s
+abbrev pub IsWriteOutcome : Write → Caller → (ℕ × ℕ) → ℕ → State → Answer → Option State → Type 0
+IsWriteOutcome asked me now number s told left = IsOutcomeIf (is_new number me s) asked me now number s told left
 
--- and the state that it commits, if any
-abbrev pub left_by : Option Caller → (ℕ × ℕ) → ℕ → Request → State → Option State
-left_by None now number asked s = None
-left_by (Some me) now number (request.Read read) s = None
-left_by (Some me) now number (request.Write write) s = write_leaves write me now number s
+-- the same of a request by whoever has the key
+abbrev pub IsOutcomeBy : Option Caller → (ℕ × ℕ) → ℕ → Request → State → Answer → Option State → Type 0
+IsOutcomeBy None now number asked s told left = (told ≡ answer.Denied rule.Key) × (left ≡ None)
+IsOutcomeBy (Some me) now number (request.Read read) s told left = IsReadOutcome read me now s told left
+IsOutcomeBy (Some me) now number (request.Write write) s told left = IsWriteOutcome write me now number s told left
 
 -- the caller who holds the key
 abbrev pub sender : List ℕ → State → Option Caller
 sender key s = caller_with (sha256 key) s
 
--- the answer to a request that comes with this key and number at this moment
-abbrev pub answer_to : List ℕ → (ℕ × ℕ) → ℕ → Request → State → Answer
-answer_to key now number asked s = answer_by (sender key s) now number asked s
-
--- and the state that it commits, if any
-abbrev pub leaves : List ℕ → (ℕ × ℕ) → ℕ → Request → State → Option State
-leaves key now number asked s = left_by (sender key s) now number asked s
-
--- what a write with a new number puts is made, where it is accepted
-abbrev pub IsMadeWhere : Bool → Decision → Write → Type 0
-IsMadeWhere false decided asked = Unit {0}
-IsMadeWhere true decided asked = IsMadeIf decided asked
-
-abbrev pub IsWriteMade : Write → Caller → (ℕ × ℕ) → ℕ → State → Type 0
-IsWriteMade asked me now number s = IsMadeWhere (is_new number me s) (step asked me now number s) asked
-
-abbrev pub IsMadeBy : Option Caller → (ℕ × ℕ) → ℕ → Request → State → Type 0
-IsMadeBy None now number asked s = Unit {0}
-IsMadeBy (Some me) now number (request.Read read) s = Unit {0}
-IsMadeBy (Some me) now number (request.Write write) s = IsWriteMade write me now number s
+-- what a request is told that comes with this key and number at this moment, and the state that it commits, if any
+abbrev pub IsOutcome : List ℕ → (ℕ × ℕ) → ℕ → Request → State → Answer → Option State → Type 0
+IsOutcome key now number asked s told left = IsOutcomeBy (sender key s) now number asked s told left

@@ -1,11 +1,12 @@
 ghost use Rattle.std.specs.Prelude.{◌≡◌, [], ◌∷◌, None, IfOk};
 ghost use Rattle.pt_desk_rules.specs.State.{no_edit, puts_one};
 
-use crate::{Caller, Kept, PlannedRoute, TravelTable};
+use crate::{Caller, Kept, TravelTable};
 use pt_base::{Place, Policy, Rider, RiderId, Trip, TripId, Vehicle};
 use pt_corridor::FixedRoute;
 use pt_records::{Edits, Key, Keyed};
 use pt_rights::Entered;
+use pt_scheduling::PlannedRoute;
 use std::alloc::{AllocError, Global};
 
 /// An entry of a rider's case file.

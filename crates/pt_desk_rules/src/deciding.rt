@@ -1,12 +1,20 @@
-ghost use Rattle.std.specs.Prelude.{◌≡◌, IfOk};
+ghost use Rattle.std.specs.Prelude.{◌≡◌, Some, length, IfOk};
 ghost use Rattle.pt_base.specs.Day.{IsDay};
-ghost use Rattle.pt_desk_rules.specs.Deciding.{answer_of, change_of, decision, IsMade, IsMadeIf};
-ghost use Rattle.pt_desk_rules.specs.State.{versions_from, tables_from};
+ghost use Rattle.pt_desk_rules.specs.Deciding.{keeping, IsReady, IsDecidedBy, IsDecision, IsMade, IsMadeIf};
+ghost use Rattle.pt_corridor.specs.Route.{IsFixedRoute};
+ghost use Rattle.pt_travel.specs.Table.{IsTable};
+ghost use Rattle.pt_desk_rules.specs.declared.deciding.Decision.TheVariants.{Accepted};
+ghost use Rattle.pt_desk_rules.specs.declared.request.Answer.TheVariants.{Done};
+ghost use Rattle.pt_desk_rules.specs.declared.request.Write.TheVariants.{Enter};
+ghost use Rattle.pt_desk_rules.specs.State.{puts_one, replaces, versions_from, tables_from};
 
+use crate::booking::{decide_booking, decide_cancel, decide_change};
 use crate::{Answer, Caller, Change, FiledEntry, Kept, TravelTable, Write, WriteFacts, denial};
-use pt_base::{Day, Minute, Rule, Vehicle};
+use pt_base::{Day, Minute, Place, Policy, Rider, RiderId, Rule, Vehicle};
+use pt_corridor::FixedRoute;
 use pt_records::{Key, Span};
-use pt_rights::Entered;
+use pt_rights::{Entered, Entry};
+use pt_travel::Raw;
 use std::alloc::{AllocError, Global};
 
 /// What the rules make of a write.
@@ -16,22 +24,6 @@ pub enum Decision {
     Denied(Rule),
     /// What it is told, and what it changes.
     Accepted { answer: Answer, change: Change },
-}
-
-/// What an accepted write is told.
-fn answer_of(facts: &WriteFacts, write: &Write) -> Answer
-    ensures value { result ≡ answer_of write.now facts.now }
-{
-    match write {
-        Write::PutCaller(_)
-        | Write::PutPolicy(_)
-        | Write::PutPlace(_)
-        | Write::PutRoute(_)
-        | Write::PutRider(_)
-        | Write::PutVehicle(_)
-        | Write::Travel { .. } => Answer::Done,
-        Write::Enter { .. } => Answer::Entered(facts.file.len() as u32),
-    }
 }
 
 /// The keys of a vehicle's versions that a new one replaces.
@@ -56,48 +48,146 @@ fn tables_from(day: Day) -> Span
     }
 }
 
-/// What an accepted write of the day `today` changes, beside the number that is kept.
-fn change_of(
+/// A write that is accepted, and told no more than that it is done.
+fn done(change: Change) -> Decision
+    ensures { result ≡ Accepted Done change }
+{
+    Decision::Accepted {
+        answer: Answer::Done,
+        change,
+    }
+}
+
+fn put_caller(alloc: Global, kept: Kept, new: &Caller) -> Result<Decision, AllocError>
+    ensures decided { IfOk result (λ decided.
+        decided ≡ Accepted Done (record (keeping kept) { callers = puts_one new.now })) }
+    ensures digest { IfOk result (λ _. length new.now.digest ≡ 32) }
+{
+    let mut change = Change::keeping(alloc, kept)?;
+    let Caller { id, role, digest } = new.copied();
+    change.callers.put(Caller { id, role, digest })?;
+    Ok(done(change))
+}
+
+fn put_policy(alloc: Global, kept: Kept, new: &Policy) -> Result<Decision, AllocError>
+    ensures decided { IfOk result (λ decided.
+        decided ≡ Accepted Done (record (keeping kept) { policy = Some new.now })) }
+{
+    let mut change = Change::keeping(alloc, kept)?;
+    change.policy = Some(*new);
+    Ok(done(change))
+}
+
+fn put_place(alloc: Global, kept: Kept, new: &Place) -> Result<Decision, AllocError>
+    ensures decided { IfOk result (λ decided.
+        decided ≡ Accepted Done (record (keeping kept) { places = puts_one new.now })) }
+{
+    let mut change = Change::keeping(alloc, kept)?;
+    change.places.put(*new)?;
+    Ok(done(change))
+}
+
+fn put_route(alloc: Global, kept: Kept, new: &FixedRoute) -> Result<Decision, AllocError>
+    ensures decided { IfOk result (λ decided.
+        decided ≡ Accepted Done (record (keeping kept) { routes = puts_one new.now })) }
+    ensures route { IfOk result (λ _. IsFixedRoute new.now) }
+{
+    let mut change = Change::keeping(alloc, kept)?;
+    change.routes.put(new.clone()?)?;
+    Ok(done(change))
+}
+
+fn put_rider(alloc: Global, kept: Kept, new: &Rider) -> Result<Decision, AllocError>
+    ensures decided { IfOk result (λ decided.
+        decided ≡ Accepted Done (record (keeping kept) { riders = puts_one new.now })) }
+{
+    let mut change = Change::keeping(alloc, kept)?;
+    change.riders.put(*new)?;
+    Ok(done(change))
+}
+
+fn enter(
+    alloc: Global,
+    facts: &WriteFacts,
+    kept: Kept,
+    today: Day,
+    rider: RiderId,
+    entry: &Entry,
+) -> Result<Decision, AllocError>
+    ensures { IfOk result (λ decided. IsDecidedBy (Enter rider entry.now) kept today facts.now decided) }
+{
+    let position = facts.file.len() as u32;
+    let mut change = Change::keeping(alloc, kept)?;
+    change.entries.put(FiledEntry {
+        rider,
+        position,
+        entered: Entered {
+            entry: entry.clone()?,
+            day: today,
+            author: kept.caller,
+        },
+    })?;
+    Ok(Decision::Accepted {
+        answer: Answer::Entered(position),
+        change,
+    })
+}
+
+fn put_vehicle(alloc: Global, kept: Kept, new: &Vehicle) -> Result<Decision, AllocError>
+    ensures decided { IfOk result (λ decided. decided ≡ Accepted Done
+        (record (keeping kept) { vehicles = replaces (versions_from new.now.id new.now.from_day) new.now })) }
+    ensures day { IfOk result (λ _. IsDay new.now.from_day) }
+{
+    let mut change = Change::keeping(alloc, kept)?;
+    change.vehicles.take_away(versions_from(new))?;
+    change.vehicles.put(*new)?;
+    Ok(done(change))
+}
+
+fn put_travel(alloc: Global, kept: Kept, day: Day, rows: &Raw) -> Result<Decision, AllocError>
+    ensures decided { IfOk result (λ decided. decided ≡ Accepted Done (record (keeping kept) {
+      travel = replaces (tables_from day) (record { from_day = day; rows = rows.now });
+    })) }
+    ensures table { IfOk result (λ _. IsDay day × IsTable rows.now) }
+{
+    let mut change = Change::keeping(alloc, kept)?;
+    change.travel.take_away(tables_from(day))?;
+    change
+        .travel
+        .put(TravelTable::of(alloc, day, rows.copy(alloc)?)?)?;
+    Ok(done(change))
+}
+
+/// Decides a write that none of its own rules denies.
+fn decide_by(
     alloc: Global,
     facts: &WriteFacts,
     kept: Kept,
     today: Day,
     write: &Write,
-) -> Result<Change, AllocError>
-    ensures value { IfOk result (λ change. change ≡ change_of write.now kept today facts.now) }
+) -> Result<Decision, AllocError>
+    requires ready { IsReady write.now facts.now }
+    ensures decided { IfOk result (λ decided. IsDecidedBy write.now kept today facts.now decided) }
     ensures made { IfOk result (λ _. IsMade write.now) }
 {
-    let mut change = Change::keeping(alloc, kept)?;
     match write {
-        Write::PutCaller(new) => {
-            let Caller { id, role, digest } = new.copied();
-            change.callers.put(Caller { id, role, digest })?;
-        }
-        Write::PutPolicy(new) => change.policy = Some(*new),
-        Write::PutPlace(new) => change.places.put(*new)?,
-        Write::PutRoute(new) => change.routes.put(new.clone()?)?,
-        Write::PutRider(new) => change.riders.put(*new)?,
-        Write::Enter { rider, entry } => change.entries.put(FiledEntry {
-            rider: *rider,
-            position: facts.file.len() as u32,
-            entered: Entered {
-                entry: entry.clone()?,
-                day: today,
-                author: kept.caller,
-            },
-        })?,
-        Write::PutVehicle(new) => {
-            change.vehicles.take_away(versions_from(new))?;
-            change.vehicles.put(*new)?;
-        }
-        Write::Travel { day, rows } => {
-            change.travel.take_away(tables_from(*day))?;
-            change
-                .travel
-                .put(TravelTable::of(alloc, *day, rows.copy(alloc)?)?)?;
-        }
+        Write::PutCaller(new) => put_caller(alloc, kept, new),
+        Write::PutPolicy(new) => put_policy(alloc, kept, new),
+        Write::PutPlace(new) => put_place(alloc, kept, new),
+        Write::PutRoute(new) => put_route(alloc, kept, new),
+        Write::PutRider(new) => put_rider(alloc, kept, new),
+        Write::Enter { rider, entry } => enter(alloc, facts, kept, today, *rider, entry),
+        Write::PutVehicle(new) => put_vehicle(alloc, kept, new),
+        Write::Travel { day, rows } => put_travel(alloc, kept, *day, rows),
+        Write::Book { rider: _, wish } => decide_booking(alloc, facts, kept, today, wish),
+        Write::Change { trip: _, wish } => decide_change(alloc, facts, kept, today, wish),
+        Write::Cancel(_) => decide_cancel(
+            alloc,
+            kept,
+            facts.booking.trip.as_ref().unwrap(),
+            &facts.booking.plan,
+        ),
     }
-    Ok(change)
 }
 
 /// Decides a write with a new number by the rules, for this caller at the moment `now`.
@@ -109,9 +199,10 @@ pub fn decide(
     number: u32,
     write: &Write,
 ) -> Result<Decision, AllocError>
-    ensures value { IfOk result (λ decided. decided ≡ decision write.now me.now now number facts.now) }
+    ensures decided { IfOk result (λ decided. IsDecision write.now me.now now number facts.now decided) }
     ensures made { IfOk result (λ decided. IsMadeIf decided write.now) }
 {
+    let (today, _) = now;
     if let Some(rule) = denial(facts, me, now, write) {
         return Ok(Decision::Denied(rule));
     }
@@ -119,8 +210,5 @@ pub fn decide(
         caller: me.id,
         number,
     };
-    Ok(Decision::Accepted {
-        answer: answer_of(facts, write),
-        change: change_of(alloc, facts, kept, now.0, write)?,
-    })
+    decide_by(alloc, facts, kept, today, write)
 }

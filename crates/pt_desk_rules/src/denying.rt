@@ -6,10 +6,11 @@ ghost use Rattle.pt_records.specs.Records.{record_at};
 ghost use Rattle.pt_desk_rules.specs.declared.request.Write.TheVariants.{Enter};
 
 use crate::fleet::{other_vehicle_count, version_count_before};
-use crate::permission::may_enter;
+use crate::permission::{may_alter, may_book, may_enter};
+use crate::trips::{has_ends, is_cancellable, is_changeable};
 use crate::{
-    Caller, MOST_CALLERS, MOST_PLACES, MOST_RIDERS, MOST_ROUTES, MOST_TABLES, MOST_VEHICLES,
-    MOST_VERSIONS, Write, WriteFacts,
+    Caller, LAST_TRIP_NUMBER, MOST_CALLERS, MOST_PLACES, MOST_RIDERS, MOST_ROUTES, MOST_TABLES,
+    MOST_VEHICLES, MOST_VERSIONS, Write, WriteFacts,
 };
 use pt_base::{CallerId, Day, Minute, Place, PlaceId, Residence, Rider, RiderId, Rule, Vehicle};
 use pt_records::{Key, Rows};
@@ -41,7 +42,7 @@ fn are_there(rows: &[Row], places: &Rows<Place>) -> bool
 }
 
 /// Whether the place of this number is there.
-fn is_there(id: PlaceId, places: &Rows<Place>) -> bool
+pub(crate) fn is_there(id: PlaceId, places: &Rows<Place>) -> bool
     ensures value { result ≡ is_some (record_at place_key id places.now) }
 {
     places.find(&Key::of(id.number())).is_some()
@@ -150,6 +151,35 @@ pub fn denial(facts: &WriteFacts, me: &Caller, now: (Day, Minute), write: &Write
             (Rule::Unknown, are_there(rows.rows(), &facts.places)),
             (Rule::Booked, !facts.is_booked),
             (Rule::Full, facts.tables_before < MOST_TABLES),
+        ]),
+        Write::Book { rider, wish } => first_failing(&[
+            (Rule::Caller, may_book(me.role, *rider, &facts.rider)),
+            (
+                Rule::Unknown,
+                facts.rider.is_some() && has_ends(wish, &facts.places),
+            ),
+            (Rule::Full, facts.booking.last_trip < LAST_TRIP_NUMBER),
+        ]),
+        Write::Change { trip: _, wish } => first_failing(&[
+            (
+                Rule::Caller,
+                may_alter(me.role, &facts.booking.trip, &facts.rider),
+            ),
+            (
+                Rule::Unknown,
+                facts.booking.trip.is_some()
+                    && facts.rider.is_some()
+                    && has_ends(wish, &facts.places),
+            ),
+            (Rule::Over, is_changeable(now.0, &facts.booking.trip)),
+        ]),
+        Write::Cancel(_) => first_failing(&[
+            (
+                Rule::Caller,
+                may_alter(me.role, &facts.booking.trip, &facts.rider),
+            ),
+            (Rule::Unknown, facts.booking.trip.is_some()),
+            (Rule::Over, is_cancellable(now, &facts.booking.trip)),
         ]),
     }
 }

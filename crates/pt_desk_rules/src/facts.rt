@@ -1,10 +1,12 @@
 ghost use Rattle.std.specs.Prelude.{◌≡◌};
-ghost use Rattle.pt_desk_rules.specs.Facts.{no_facts};
+ghost use Rattle.pt_desk_rules.specs.Facts.{no_booking, no_day, no_facts};
 
-use crate::Caller;
-use pt_base::{Place, Policy, Rider, Vehicle};
+use crate::{Caller, TravelTable};
+use pt_base::{Place, Policy, Rider, Trip, Vehicle};
+use pt_corridor::FixedRoute;
 use pt_records::Rows;
 use pt_rights::CaseFile;
+use pt_scheduling::PlannedRoute;
 use std::alloc::Global;
 
 /// What the rules of a write look at. What a write has no use for is left at nothing.
@@ -38,6 +40,65 @@ pub struct WriteFacts {
     pub tables_before: usize,
     /// Whether some trip that stands depends on what the write replaces.
     pub is_booked: bool,
+    /// What trips stand on.
+    pub booking: BookingFacts,
+}
+
+/// What the rules of a trip look at.
+#[derive(Debug, Drop)]
+pub struct BookingFacts {
+    /// The trip of which the write speaks.
+    pub trip: Option<Trip>,
+    /// What is planned for that trip's vehicle on its day.
+    pub plan: Option<PlannedRoute>,
+    /// All fixed routes.
+    pub routes: Rows<FixedRoute>,
+    /// The number that was last given to a trip; 0 before the first.
+    pub last_trip: u32,
+    /// The trips of the rider of whom the write speaks.
+    pub trips: Rows<Trip>,
+    /// What is planned for the day that is wished for.
+    pub day: DayFacts,
+}
+
+impl BookingFacts {
+    /// Nothing.
+    pub fn none(alloc: Global) -> Self
+        ensures value { result ≡ no_booking }
+    {
+        BookingFacts {
+            trip: None,
+            plan: None,
+            routes: Rows::none(alloc),
+            last_trip: 0,
+            trips: Rows::none(alloc),
+            day: DayFacts::none(alloc),
+        }
+    }
+}
+
+/// What is planned for a day.
+#[derive(Debug, Drop)]
+pub struct DayFacts {
+    /// The travel table that holds on the day.
+    pub travel: Option<TravelTable>,
+    /// The trips of the day.
+    pub trips: Rows<Trip>,
+    /// The stops of the vehicles that have any.
+    pub plans: Rows<PlannedRoute>,
+}
+
+impl DayFacts {
+    /// Nothing.
+    fn none(alloc: Global) -> Self
+        ensures value { result ≡ no_day }
+    {
+        DayFacts {
+            travel: None,
+            trips: Rows::none(alloc),
+            plans: Rows::none(alloc),
+        }
+    }
 }
 
 impl WriteFacts {
@@ -62,6 +123,7 @@ impl WriteFacts {
             vehicles: Rows::none(alloc),
             tables_before: 0,
             is_booked: false,
+            booking: BookingFacts::none(alloc),
         }
     }
 }
@@ -73,4 +135,6 @@ pub struct ReadFacts {
     pub rider: Option<Rider>,
     /// That rider's case file.
     pub file: CaseFile,
+    /// That rider's trips, by rising number.
+    pub trips: Rows<Trip>,
 }

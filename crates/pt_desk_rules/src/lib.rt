@@ -5,16 +5,18 @@ pub use caller::{Caller, Digest, Kept, Role};
 pub use change::{Change, FiledEntry};
 pub use deciding::{Decision, decide};
 pub use denying::denial;
-pub use facts::{ReadFacts, WriteFacts};
+pub use facts::{BookingFacts, DayFacts, ReadFacts, WriteFacts};
 pub use fleet::on_duty;
 pub use limits::{
-    MOST_CALLERS, MOST_PLACES, MOST_RIDERS, MOST_ROUTES, MOST_TABLES, MOST_VEHICLES, MOST_VERSIONS,
+    LAST_TRIP_NUMBER, MOST_CALLERS, MOST_PLACES, MOST_RIDERS, MOST_ROUTES, MOST_TABLES,
+    MOST_VEHICLES, MOST_VERSIONS,
 };
-pub use planned::{PlannedRoute, PlannedStop};
-pub use request::{Answer, Read, Request, Write};
+pub use pt_scheduling::{PlannedRoute, PlannedStop};
+pub use request::{Answer, Confirmation, Read, Request, Write};
 pub use telling::tell;
 pub use travel::{TravelTable, table_on};
 
+mod booking;
 mod caller;
 mod change;
 mod deciding;
@@ -23,7 +25,7 @@ mod facts;
 mod fleet;
 mod limits;
 mod permission;
-mod planned;
 mod request;
 mod telling;
 mod travel;
+mod trips;

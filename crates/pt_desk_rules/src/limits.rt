@@ -16,5 +16,8 @@ pub const MOST_VERSIONS: usize = 20;
 /// The most travel tables that the desk keeps.
 pub const MOST_TABLES: usize = 50;
 
+/// The last number that a trip can have.
+pub const LAST_TRIP_NUMBER: u32 = 4_294_967_295;
+
 /// The most riders that the desk keeps.
 pub const MOST_RIDERS: usize = 100_000;

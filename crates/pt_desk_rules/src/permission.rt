@@ -1,8 +1,9 @@
 ghost use Rattle.std.specs.Prelude.{◌≡◌};
-ghost use Rattle.pt_desk_rules.specs.Permission.{is_admin, is_clerk, is_dispatcher, is_examiner, is_officer, is_own, may_appeal, may_enter, may_see_standing};
+ghost use Rattle.pt_desk_rules.specs.Permission.{is_admin, is_clerk, is_counter, is_dispatcher, is_examiner, is_officer, is_own};
+ghost use Rattle.pt_desk_rules.specs.Permission.{may_alter, may_appeal, may_book, may_enter, may_see_standing};
 
 use crate::Role;
-use pt_base::{Rider, RiderId};
+use pt_base::{Rider, RiderId, Trip};
 use pt_rights::Entry;
 
 impl Role {
@@ -25,6 +26,13 @@ impl Role {
         ensures { result ≡ is_dispatcher self }
     {
         matches!(self, Role::Dispatcher)
+    }
+
+    /// Whether it is a clerk's or a dispatcher's.
+    fn is_counter(self) -> bool
+        ensures { result ≡ is_counter self }
+    {
+        matches!(self, Role::Clerk | Role::Dispatcher)
     }
 
     /// Whether it is an examiner's.
@@ -85,5 +93,26 @@ pub(crate) fn may_see_standing(role: Role, rider: RiderId, found: &Option<Rider>
         Role::Rider(own) => is_own(own, rider, found),
         Role::Clerk | Role::Examiner | Role::Officer => true,
         Role::Dispatcher | Role::Driver(_) | Role::Admin => false,
+    }
+}
+
+/// Whether the caller may book for the rider, and see the rider's trips.
+pub(crate) fn may_book(role: Role, rider: RiderId, found: &Option<Rider>) -> bool
+    ensures { result ≡ may_book rider found.now role }
+{
+    match role {
+        Role::Rider(own) => is_own(own, rider, found),
+        Role::Clerk | Role::Dispatcher => true,
+        Role::Examiner | Role::Officer | Role::Driver(_) | Role::Admin => false,
+    }
+}
+
+/// Whether the caller may change or cancel the trip, whose rider's record is given. A trip that is not there is nobody's own.
+pub(crate) fn may_alter(role: Role, trip: &Option<Trip>, found: &Option<Rider>) -> bool
+    ensures { result ≡ may_alter trip.now found.now role }
+{
+    match trip {
+        Some(there) => may_book(role, there.rider, found),
+        None => role.is_counter(),
     }
 }

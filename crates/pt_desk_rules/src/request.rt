@@ -1,6 +1,11 @@
+ghost use Rattle.std.specs.Prelude.{◌≤◌};
+
 use crate::Caller;
-use pt_base::{Day, Place, Policy, Rider, RiderId, Rule, Vehicle};
+use pt_base::{
+    Day, Minute, Place, Policy, Rider, RiderId, Rule, Trip, TripId, Vehicle, VehicleId, Wish,
+};
 use pt_corridor::FixedRoute;
+use pt_records::Rows;
 use pt_rights::{Entry, Standing};
 use pt_travel::Raw;
 
@@ -16,6 +21,8 @@ pub enum Request {
 pub enum Read {
     /// Asks for a rider's standing on a day.
     Standing { rider: RiderId, day: Day },
+    /// Asks for all trips of a rider.
+    Trips(RiderId),
 }
 
 /// A request that may change something, and comes with the caller's number for it.
@@ -37,10 +44,32 @@ pub enum Write {
     PutVehicle(Vehicle),
     /// Puts a travel table that holds from a day on, in place of the tables of that day and later.
     Travel { day: Day, rows: Raw },
+    /// Books a trip.
+    Book { rider: RiderId, wish: Wish },
+    /// Books a trip anew under its number, and gives up what was booked.
+    Change { trip: TripId, wish: Wish },
+    /// Gives a trip up.
+    Cancel(TripId),
+}
+
+/// What a rider is told of a trip that is booked.
+#[derive(Clone, Copy, Debug, PartialEq, Eq)]
+pub struct Confirmation {
+    pub trip: TripId,
+    pub vehicle: VehicleId,
+    /// The promised window, from which to which minute the pickup may begin.
+    pub window_from: Minute,
+    pub window_to: Minute,
+    /// The fare of one person, in cents.
+    pub fare: u32,
+    /// What the rider and companions pay together, in cents.
+    pub due: u32,
+    ghost fare_in_range: { fare ≤ 100_000 },
+    ghost due_in_range: { due ≤ 200_000 },
 }
 
 /// What the rules make of a request.
-#[derive(Debug, Drop, PartialEq, Eq)]
+#[derive(Debug, Drop)]
 pub enum Answer {
     /// It is done.
     Done,
@@ -50,6 +79,10 @@ pub enum Answer {
     Standing { standing: Standing, suspended: bool },
     /// Whether the visitor may use the day.
     Visitor { may_use: bool },
+    /// The trip is booked.
+    Booked(Confirmation),
+    /// The rider's trips by rising number, cancelled ones too.
+    Trips(Rows<Trip>),
     /// The first rule that it breaks. Nothing is changed.
     Denied(Rule),
 }

@@ -1,44 +1,90 @@
-ghost use Rattle.std.specs.Prelude.{◌≡◌, true};
-ghost use Rattle.pt_desk_rules.specs.Deciding.{told_of_kind, told};
+ghost use Rattle.std.specs.Prelude.{◌↔◌, ℕ, IsTrue, List, None, IfOk};
+ghost use Rattle.pt_scheduling.specs.Uses.{AreUses};
+ghost use Rattle.pt_visitors.specs.Periods.{MayUse};
+ghost use Rattle.pt_desk_rules.specs.declared.request.Read.TheVariants.{Standing, Trips};
+ghost use Rattle.pt_desk_rules.specs.Deciding.{IsToldOfKind, IsTold};
 
-use crate::permission::may_see_standing;
+use crate::permission::{may_book, may_see_standing};
 use crate::{Answer, Caller, Read, ReadFacts};
-use pt_base::{Day, Minute, Residence, Rule};
-use pt_rights::CaseFile;
+use pt_base::{Day, Minute, Residence, RiderId, Rule, Trip};
+use pt_scheduling::days_of_use;
 use pt_visitors::visitor_may;
+use std::alloc::{AllocError, Global};
 
-/// Whether a visitor may use the day. No trips are booked, so there are no days of use.
-fn visitor_may_use(day: Day) -> bool
-    ensures { result ≡ true }
+/// Whether a visitor with these trips may use the day.
+fn visitor_may_use(alloc: Global, trips: &[Trip], day: Day) -> Result<bool, AllocError>
+    ensures { IfOk result (λ may_use. (uses : List ℕ) × AreUses None trips.now uses × (IsTrue may_use ↔ MayUse uses day)) }
 {
-    visitor_may(&[], day)
+    let uses = days_of_use(alloc, trips, &None)?;
+    Ok(visitor_may(uses.as_slice(), day))
 }
 
 /// What is told of a rider of this kind on a day.
-fn told_of_kind(kind: Residence, file: &CaseFile, today: Day, day: Day) -> Answer
-    ensures { result ≡ told_of_kind kind file.now today day }
+fn told_of_kind(
+    alloc: Global,
+    kind: Residence,
+    facts: &ReadFacts,
+    today: Day,
+    day: Day,
+) -> Result<Answer, AllocError>
+    ensures { IfOk result (λ told. IsToldOfKind kind facts.now.file facts.now.trips today day told) }
 {
     match kind {
-        Residence::Visitor => Answer::Visitor {
-            may_use: visitor_may_use(day),
-        },
-        Residence::Resident => Answer::Standing {
-            standing: file.standing(today, day),
-            suspended: file.suspended(day),
-        },
+        Residence::Visitor => Ok(Answer::Visitor {
+            may_use: visitor_may_use(alloc, facts.trips.as_slice(), day)?,
+        }),
+        Residence::Resident => Ok(Answer::Standing {
+            standing: facts.file.standing(today, day),
+            suspended: facts.file.suspended(day),
+        }),
+    }
+}
+
+/// What is told of the rider's standing on a day.
+fn tell_standing(
+    alloc: Global,
+    facts: &ReadFacts,
+    me: &Caller,
+    now: (Day, Minute),
+    rider: RiderId,
+    day: Day,
+) -> Result<Answer, AllocError>
+    ensures { IfOk result (λ told. IsTold (Standing rider day) me.now now facts.now told) }
+{
+    if !may_see_standing(me.role, rider, &facts.rider) {
+        return Ok(Answer::Denied(Rule::Caller));
+    }
+    match &facts.rider {
+        Some(there) => told_of_kind(alloc, there.kind, facts, now.0, day),
+        None => Ok(Answer::Denied(Rule::Unknown)),
+    }
+}
+
+/// What is told of the rider's trips.
+fn tell_trips(facts: ReadFacts, me: &Caller, rider: RiderId) -> Answer
+    ensures { (now : ℕ × ℕ) → IsTold (Trips rider) me.now now facts result }
+{
+    if !may_book(me.role, rider, &facts.rider) {
+        return Answer::Denied(Rule::Caller);
+    }
+    match facts.rider {
+        Some(_) => Answer::Trips(facts.trips),
+        None => Answer::Denied(Rule::Unknown),
     }
 }
 
 /// What a read by this caller is told at the moment `now`.
-pub fn tell(facts: &ReadFacts, me: &Caller, now: (Day, Minute), read: &Read) -> Answer
-    ensures value { result ≡ told read.now me.now now facts.now }
+pub fn tell(
+    alloc: Global,
+    facts: ReadFacts,
+    me: &Caller,
+    now: (Day, Minute),
+    read: &Read,
+) -> Result<Answer, AllocError>
+    ensures value { IfOk result (λ told. IsTold read.now me.now now facts told) }
 {
-    let Read::Standing { rider, day } = *read;
-    if !may_see_standing(me.role, rider, &facts.rider) {
-        return Answer::Denied(Rule::Caller);
+    match *read {
+        Read::Standing { rider, day } => tell_standing(alloc, &facts, me, now, rider, day),
+        Read::Trips(rider) => Ok(tell_trips(facts, me, rider)),
     }
-    let Some(there) = &facts.rider else {
-        return Answer::Denied(Rule::Unknown);
-    };
-    told_of_kind(there.kind, &facts.file, now.0, day)
 }

@@ -1,0 +1,15 @@
+use Rattle.std.proofs.Common.{ℕ, ◌+◌, None, sym, ◌∙◌, refl}
+use Rattle.pt_desk_rules.specs.Deciding.{booked}
+use Rattle.pt_desk_rules.proofs.BookingLemmas.{denied, confirmed, booked_made}
+use Rattle.pt_desk_rules.proofs.booking.decide_booking.Goals as goal
+
+pub returns-in-Denied : goal.returns-in-Denied
+returns-in-Denied c =
+    denied (booked c.args.kept) (c.args.facts.now.booking.last_trip + 1) c.unwrap-number.result None c.args.today c.args.wish.now c.args.facts.now c.in_ok-rule.field-0 c.in-Denied.rule
+    (rw c.unwrap-number.ensures at c.of.ensures.value) c.in-Denied.is c.in_ok-rule.ensures
+
+pub returns-in_ok-put-in-Booked-2 : goal.returns-in_ok-put-in-Booked-2
+returns-in_ok-put-in-Booked-2 c =
+    confirmed (booked c.args.kept) (c.args.facts.now.booking.last_trip + 1) c.unwrap-number.result None c.args.today c.args.wish.now c.args.facts.now c.in_ok-rule.field-0 c.in-Booked.trip c.in-Booked.plan
+    _ c.confirmed.result (rw c.unwrap-number.ensures at c.of.ensures.value) c.in-Booked.is c.in_ok-rule.ensures (booked_made c.in_ok-change-in-Booked.change c.args.kept c.put.new.self c.put-in-Booked.new.self c.in-Booked.trip c.in-Booked.plan
+    c.in_ok-change-in-Booked.ensures.value c.in_ok-put-in-Booked.ensures.value c.in_ok-put-in-Booked-2.ensures.value) c.confirmed.ensures

@@ -1,0 +1,171 @@
+ghost use Rattle.std.specs.Prelude.{◌≡◌, ◌+◌, ◌<◌, None, Some, IsTrue, is_some, IfOk};
+ghost use Rattle.std.specs.List.Sorted.{IsStrictlyIncreasing};
+ghost use Rattle.pt_booking.specs.Request.{request_of};
+ghost use Rattle.pt_scheduling.specs.Routes.{routes_without};
+ghost use Rattle.pt_desk_rules.specs.Booking.{IsAnswered, IsBooking, IsScheduledBy, rows_of};
+ghost use Rattle.pt_desk_rules.specs.Deciding.{booked, changed, given_up, IsChangeDecided};
+ghost use Rattle.pt_desk_rules.specs.declared.deciding.Decision.TheVariants.{Accepted};
+ghost use Rattle.pt_desk_rules.specs.declared.request.Answer.TheVariants.{Booked, Done};
+ghost use Rattle.pt_desk_rules.specs.declared.request.Confirmation.{Confirmation};
+ghost use Rattle.pt_desk_rules.specs.Limits.{last_trip_number};
+ghost use Rattle.pt_desk_rules.specs.State.{place_key};
+ghost use Rattle.pt_desk_rules.specs.Trips.{has_ends, IsConfirmation};
+ghost use Rattle.pt_records.specs.Records.{record_at};
+
+use crate::trips::{cancelled, confirmation_of, giving_up, moving};
+use crate::{Answer, Change, DayFacts, Decision, Kept, TravelTable, WriteFacts, on_duty};
+use pt_base::{Day, Place, PlaceId, Trip, TripId, Vehicle, Wish};
+use pt_booking::TripRequest;
+use pt_records::{Key, Rows};
+use pt_scheduling::{DayPlans, PlannedRoute, Scheduled, days_of_use, schedule};
+use pt_travel::Raw;
+use std::alloc::{AllocError, Global};
+
+/// Schedules a request over what is planned for its day.
+fn schedule_on(
+    alloc: Global,
+    day: &DayFacts,
+    vehicles: &[Vehicle],
+    request: &TripRequest<'_>,
+) -> Result<Scheduled, AllocError>
+    requires uses { IsStrictlyIncreasing request.now.uses.now }
+    ensures { IfOk result (λ scheduled. IsScheduledBy (rows_of day.now.travel)
+        (routes_without request.now.trip request.now.wish.day day.now.trips day.now.plans vehicles.now)
+        (request_of request.now) scheduled) }
+{
+    let plans = DayPlans {
+        vehicles,
+        trips: &day.trips,
+        plans: &day.plans,
+    };
+    if let Some(table) = &day.travel {
+        return schedule(alloc, request, &plans, table.times());
+    }
+    let no_rows = Raw::of(Vec::new(alloc)).unwrap();
+    let table = TravelTable::of(alloc, request.wish.day, no_rows)?;
+    schedule(alloc, request, &plans, table.times())
+}
+
+/// The place of this number.
+fn place_at(places: &Rows<Place>, id: PlaceId) -> Place
+    requires { IsTrue (is_some (record_at place_key id places.now)) }
+    ensures { record_at place_key id places.now ≡ Some result }
+{
+    *places.find(&Key::of(id.number())).unwrap()
+}
+
+/// Schedules a wish for a trip of this number; the trip that is left out makes no day of use.
+fn answer_wish(
+    alloc: Global,
+    facts: &WriteFacts,
+    trip: TripId,
+    left_out: &Option<TripId>,
+    today: Day,
+    wish: &Wish,
+) -> Result<Scheduled, AllocError>
+    requires rider { IsTrue (is_some facts.now.rider) }
+    requires ends { IsTrue (has_ends wish.now facts.now.places) }
+    ensures { IfOk result (λ scheduled. IsAnswered trip left_out.now today wish.now facts.now scheduled) }
+{
+    let rider = facts.rider.unwrap();
+    let (from, to) = (
+        place_at(&facts.places, wish.from),
+        place_at(&facts.places, wish.to),
+    );
+    let uses = days_of_use(alloc, facts.booking.trips.as_slice(), left_out)?;
+    let vehicles = on_duty(alloc, facts.vehicles.as_slice(), wish.day)?;
+    let request = TripRequest {
+        trip,
+        rider: &rider,
+        file: &facts.file,
+        uses: uses.as_slice(),
+        policy: &facts.policy,
+        routes: facts.booking.routes.as_slice(),
+        from: &from,
+        to: &to,
+        today,
+        wish: *wish,
+    };
+    schedule_on(alloc, &facts.booking.day, &vehicles, &request)
+}
+
+/// A trip that is booked is confirmed.
+fn confirmed(trip: &Trip, change: Change) -> Decision
+    ensures { (told : Confirmation) × IsConfirmation trip.now told × (result ≡ Accepted (Booked told) change) }
+{
+    Decision::Accepted {
+        answer: Answer::Booked(confirmation_of(trip)),
+        change,
+    }
+}
+
+/// Decides a booking: its trip gets the next number.
+pub(crate) fn decide_booking(
+    alloc: Global,
+    facts: &WriteFacts,
+    kept: Kept,
+    today: Day,
+    wish: &Wish,
+) -> Result<Decision, AllocError>
+    requires rider { IsTrue (is_some facts.now.rider) }
+    requires ends { IsTrue (has_ends wish.now facts.now.places) }
+    requires number { facts.now.booking.last_trip < last_trip_number }
+    ensures { IfOk result (λ decided.
+        IsBooking (booked kept) (facts.now.booking.last_trip + 1) None today wish.now facts.now decided) }
+{
+    let number = TripId::of(facts.booking.last_trip + 1).unwrap();
+    match answer_wish(alloc, facts, number, &None, today, wish)? {
+        Scheduled::Denied(rule) => Ok(Decision::Denied(rule)),
+        Scheduled::Booked { trip, plan } => {
+            let mut change = Change::keeping(alloc, kept)?;
+            change.trips.put(trip)?;
+            change.planned.put(plan)?;
+            change.last_trip = Some(trip.id);
+            Ok(confirmed(&trip, change))
+        }
+    }
+}
+
+/// Decides the change of a trip: it is asked for anew, as if it were not booked, and keeps its number.
+pub(crate) fn decide_change(
+    alloc: Global,
+    facts: &WriteFacts,
+    kept: Kept,
+    today: Day,
+    wish: &Wish,
+) -> Result<Decision, AllocError>
+    requires trip { IsTrue (is_some facts.now.booking.trip) }
+    requires rider { IsTrue (is_some facts.now.rider) }
+    requires ends { IsTrue (has_ends wish.now facts.now.places) }
+    ensures { IfOk result (λ decided. IsChangeDecided facts.now.booking.trip wish.now kept today facts.now decided) }
+{
+    let old = facts.booking.trip.unwrap();
+    match answer_wish(alloc, facts, old.id, &Some(old.id), today, wish)? {
+        Scheduled::Denied(rule) => Ok(Decision::Denied(rule)),
+        Scheduled::Booked { trip, plan } => {
+            let mut change = Change::keeping(alloc, kept)?;
+            change.trips.put(trip)?;
+            change.planned = moving(alloc, &old, &facts.booking.plan, plan)?;
+            Ok(confirmed(&trip, change))
+        }
+    }
+}
+
+/// Decides the cancellation of a trip.
+pub(crate) fn decide_cancel(
+    alloc: Global,
+    kept: Kept,
+    trip: &Trip,
+    plan: &Option<PlannedRoute>,
+) -> Result<Decision, AllocError>
+    ensures { IfOk result (λ decided. decided ≡ Accepted Done (given_up kept trip.now plan.now)) }
+{
+    let mut change = Change::keeping(alloc, kept)?;
+    let wish: Wish = trip.wish;
+    change.trips.put(cancelled(trip, wish))?;
+    change.planned = giving_up(alloc, trip, plan)?;
+    Ok(Decision::Accepted {
+        answer: Answer::Done,
+        change,
+    })
+}

@@ -1,0 +1,128 @@
+ghost use Rattle.std.specs.Prelude.{◌≡◌, ◌==◌, ◌&&◌, ◌||◌, nat_lt, IfOk};
+ghost use Rattle.pt_desk_rules.specs.Trips.{has_ends, is_cancellable, is_changeable, cancelled, plan_span};
+ghost use Rattle.pt_desk_rules.specs.Trips.{gives_up, moves_to, IsConfirmation};
+
+use crate::Confirmation;
+use crate::denying::is_there;
+use pt_base::{Day, Minute, Place, Trip, TripStatus, Wish};
+use pt_booking::party_of;
+use pt_party::due;
+use pt_records::{Edits, Key, Rows, Span};
+use pt_scheduling::PlannedRoute;
+use std::alloc::{AllocError, Global};
+
+/// Whether both places of the wish are there.
+pub(crate) fn has_ends(wish: &Wish, places: &Rows<Place>) -> bool
+    ensures { result ≡ has_ends wish.now places.now }
+{
+    is_there(wish.from, places) && is_there(wish.to, places)
+}
+
+/// Whether the trip may be changed today.
+pub(crate) fn is_changeable(today: Day, trip: &Option<Trip>) -> bool
+    ensures { result ≡ is_changeable today trip.now }
+{
+    match trip {
+        Some(there) => there.status == TripStatus::Booked && today < there.wish.day,
+        None => false,
+    }
+}
+
+/// Whether the trip may be cancelled at the moment `now`.
+pub(crate) fn is_cancellable(now: (Day, Minute), trip: &Option<Trip>) -> bool
+    ensures { result ≡ is_cancellable now trip.now }
+{
+    match trip {
+        Some(there) => there.status == TripStatus::Booked && is_to_come(now, there),
+        None => false,
+    }
+}
+
+/// Whether the trip's promised window has not begun.
+fn is_to_come(now: (Day, Minute), trip: &Trip) -> bool
+    ensures { result ≡ (nat_lt now.0 trip.now.wish.day
+        || (now.0 == trip.now.wish.day && nat_lt now.1 trip.now.window_from)) }
+{
+    let (day, minute) = now;
+    day < trip.wish.day || (day == trip.wish.day && minute < trip.window_from)
+}
+
+/// What is told of a trip that is booked.
+pub(crate) fn confirmation_of(trip: &Trip) -> Confirmation
+    ensures { IsConfirmation trip.now result }
+{
+    Confirmation {
+        trip: trip.id,
+        vehicle: trip.vehicle,
+        window_from: trip.window_from,
+        window_to: trip.window_to,
+        fare: trip.fare,
+        due: due(trip.fare, party_of(&trip.wish)),
+    }
+}
+
+/// The trip, given up.
+pub(crate) fn cancelled(trip: &Trip, wish: Wish) -> Trip
+    requires { wish ≡ trip.now.wish }
+    ensures { result ≡ cancelled trip.now }
+{
+    Trip {
+        id: trip.id,
+        rider: trip.rider,
+        wish,
+        fare: trip.fare,
+        service: trip.service,
+        ride: trip.ride,
+        vehicle: trip.vehicle,
+        window_from: trip.window_from,
+        window_to: trip.window_to,
+        status: TripStatus::Cancelled,
+    }
+}
+
+/// The key of the plan that has the trip's stops.
+fn plan_span(trip: &Trip) -> Span
+    ensures { result ≡ plan_span trip.now }
+{
+    Span {
+        from: Key::pair(trip.vehicle.number(), trip.wish.day.number()),
+        to: Key::pair(trip.vehicle.number(), trip.wish.day.number()),
+    }
+}
+
+/// Takes the trip's stops out of the plan that has them.
+pub(crate) fn giving_up(
+    alloc: Global,
+    trip: &Trip,
+    plan: &Option<PlannedRoute>,
+) -> Result<Edits<PlannedRoute>, AllocError>
+    ensures value { IfOk result (λ edits. edits ≡ gives_up trip.now plan.now) }
+{
+    let mut edits = Edits::none(alloc);
+    edits.take_away(plan_span(trip))?;
+    if let Some(there) = plan {
+        let stops = there.stops_without(alloc, trip.id)?;
+        if !stops.is_empty() {
+            edits.put(PlannedRoute {
+                vehicle: trip.vehicle,
+                day: trip.wish.day,
+                stops,
+            })?;
+        }
+    }
+    Ok(edits)
+}
+
+/// The same, with a new plan beside what is left.
+pub(crate) fn moving(
+    alloc: Global,
+    trip: &Trip,
+    plan: &Option<PlannedRoute>,
+    new: PlannedRoute,
+) -> Result<Edits<PlannedRoute>, AllocError>
+    ensures value { IfOk result (λ edits. edits ≡ moves_to trip.now plan.now new) }
+{
+    let mut edits = giving_up(alloc, trip, plan)?;
+    edits.put(new)?;
+    Ok(edits)
+}
