@@ -2,3 +2,5 @@ mod StoreLemmas
 mod SoundLemmas
 mod FileLemmas
 mod RunLemmas
+mod AnswerLemmas
+mod ReadLemmas

@@ -1,5 +1,5 @@
 -- One call more of a run.
-use Rattle.std.proofs.Common.{◌≡◌, ℕ, zero, suc, ◌<◌, ◌≤◌, List, [], ◌∷◌, Result, Ok, Err, length, drop, get_or, drop-cons, add-one, ◌+◌, arith, refl, sym, ap, ◌∙◌, subst}
+use Rattle.std.proofs.Common.{◌≡◌, ℕ, zero, suc, ◌<◌, ◌≤◌, List, [], ◌∷◌, Result, Ok, Err, length, drop, get_or, drop-cons, add-one, ◌+◌, arith, refl, sym, ap, ◌∙◌, subst, inl, inr, Option}
 use Rattle.std.proofs.lemmas.List.{drop_all}
 use Rattle.pt_desk_rules.specs.State.{State}
 use Rattle.pt_desk.specs.Store.{Fails}
@@ -7,7 +7,7 @@ use Rattle.pt_desk.specs.declared.keeper.StoreFault.{StoreFault}
 use Rattle.pt_desk.specs.declared.keeper.StoreFault.TheVariants.{Memory, Store}
 use Rattle.pt_desk_rules.specs.declared.request.Answer.{Answer}
 use Rattle.pt_desk.specs.declared.running.Call.{Call}
-use Rattle.pt_desk.specs.Run.{AnswersCall, Runs, AreRefused, GoesOn}
+use Rattle.pt_desk.specs.Run.{AnswersCall, IsOutcomeOf, Runs, AreRefused, GoesOn}
 
 abbrev Reply : Type 0
 Reply = Result Answer StoreFault
@@ -16,8 +16,10 @@ Reply = Result Answer StoreFault
 answered : (call : Call) (calls : List Call) (reply : Reply) (replies : List Reply) (old mid new : State) → AnswersCall 0 call old mid reply → (◌≡◌ {A = Reply} reply (Err Store) → ⊥) → Runs mid calls replies new
     → Runs old (call ∷ calls) (reply ∷ replies) new
 answered call calls (Err Store) replies old mid new told fine rest = absurd (fine refl)
-answered call calls (Err Memory) replies old mid new told fine rest = subst (λ s. Runs s calls replies new) (told refl) rest
-answered call calls (Ok answer) replies old mid new told fine rest = (told.0, subst (λ s. Runs s calls replies new) told.1 rest)
+answered call calls (Err Memory) replies old mid new (told, left, tells, by) fine rest = subst (λ s. Runs s calls replies new) (tells refl) rest
+answered call calls (Ok answer) replies old mid new (told, left, tells, (inl is)) fine rest =
+    (left, subst (λ (a : Answer). IsOutcomeOf call old a left) (sym tells.0) is, subst (λ s. Runs s calls replies new) tells.1 rest)
+answered call calls (Ok answer) replies old mid new (told, left, tells, (inr fault)) fine rest = absurd fault.0
 
 refused : (call : Call) (calls : List Call) (reply : Reply) (replies : List Reply) (old new : State) → ◌≡◌ {A = Reply} reply (Err Store) → AreRefused calls replies → Runs old (call ∷ calls) (reply ∷ replies) new
 refused call calls reply replies old new is rest = subst (λ r. Runs old (call ∷ calls) (r ∷ replies) new) (sym is) rest

@@ -1,25 +1,34 @@
 -- An answer leaves a sound state so.
-use Rattle.std.proofs.Common.{◌≡◌, ◌<◌, ℕ, List, Option, Result, Ok, Err, OnOk, arith, refl, sym, subst}
+use Rattle.std.proofs.Common.{◌≡◌, ◌<◌, ◌⊎◌, ℕ, List, Option, None, Result, Ok, Err, arith, refl, sym, subst, inl, inr}
 use Rattle.pt_desk_rules.specs.State.{State}
-use Rattle.pt_desk_rules.specs.Step.{state_after, leaves, sender, IsMadeBy}
+use Rattle.pt_desk_rules.specs.Step.{state_after, IsOutcome}
 use Rattle.pt_desk_rules.specs.Sound.{IsSound}
+use Rattle.pt_desk_rules.specs.declared.request.Answer.{Answer}
 use Rattle.pt_desk_rules.specs.declared.request.Request.{Request}
 use Rattle.pt_desk_rules.proofs.SoundLemmas.{request_sound}
-use Rattle.pt_desk.specs.Store.{Store, Goes, Tells}
+use Rattle.pt_desk.specs.Store.{Store, Answers, Tells, IsFault}
 use Rattle.pt_desk.specs.declared.keeper.StoreFault.{StoreFault}
 use Rattle.pt_desk.specs.declared.keeper.StoreFault.TheVariants.{Memory, Store as failed}
 
-answered : {X : Type 0} (before after : Store) (value : X) (left : Option State) (result : Result X StoreFault) (made : Type 0) → Tells after.shut before.content after.content value left result → OnOk result made
-    → after.shut ≡ 0 → (◌≡◌ {A = Result X StoreFault} result (Err failed) → ⊥) → IsSound before.content → (made → IsSound (state_after left before.content)) → IsSound after.content
-answered before after value left (Ok x) made tells is serves fine sound then = subst IsSound (sym tells.1) (then is)
-answered before after value left (Err Memory) made tells is serves fine sound then = subst IsSound (sym (tells serves)) sound
-answered before after value left (Err failed) made tells is serves fine sound then = absurd (fine refl)
+abbrev Reply : Type 0
+Reply = Result Answer StoreFault
+
+answered : (before after : Store) (told : Answer) (left : Option State) (reply : Reply) → Tells after.shut before.content after.content told left reply
+    → after.shut ≡ 0 → (◌≡◌ {A = Reply} reply (Err failed) → ⊥) → IsSound before.content → (IsSound (state_after left before.content) ⊎ IsFault reply) → IsSound after.content
+answered before after told left (Ok x) tells serves fine sound (inl then) = subst IsSound (sym tells.1) then
+answered before after told left (Ok x) tells serves fine sound (inr fault) = absurd fault
+answered before after told left (Err Memory) tells serves fine sound by = subst IsSound (sym (tells serves)) sound
+answered before after told left (Err failed) tells serves fine sound by = absurd (fine refl)
+
+allowed_sound : (key : List ℕ) (now : ℕ × ℕ) (number : ℕ) (asked : Request) (s : State) (told : Answer) (left : Option State) (reply : Reply) → IsSound s
+    → IsOutcome key now number asked s told left ⊎ (IsFault reply × (left ≡ None)) → IsSound (state_after left s) ⊎ IsFault reply
+allowed_sound key now number asked s told left reply sound (inl is) = inl (request_sound key now number asked s told left sound is)
+allowed_sound key now number asked s told left reply sound (inr fault) = inr fault.0
 
 -- while the store serves
-pub answered_sound : {X : Type 0} (before after : Store) (value : X) (key : List ℕ) (now : ℕ × ℕ) (number : ℕ) (asked : Request) (result : Result X StoreFault)
-    → Goes before after value (leaves key now number asked before.content) result → (after.doubt ≡ 0 → OnOk result (IsMadeBy (sender key before.content) now number asked before.content))
+pub answered_sound : (before after : Store) (key : List ℕ) (now : ℕ × ℕ) (number : ℕ) (asked : Request) (reply : Reply)
+    → Answers before after (IsOutcome key now number asked) reply
     → after.doubt ≡ 0 → after.shut ≡ 0 → after.failures ≡ 0 → IsSound before.content → IsSound after.content
-answered_sound before after value key now number asked result goes made clean serves none sound =
-    answered before after value (leaves key now number asked before.content) result (IsMadeBy (sender key before.content) now number asked before.content)
-    (goes.holds clean).tells (made clean) serves (λ is. let some = goes.told is in absurd (omega arith)) sound
-    (λ made. request_sound key now number asked before.content sound made)
+answered_sound before after key now number asked reply (told, left, goes, by) clean serves none sound =
+    answered before after told left reply (goes.holds clean).tells serves (λ is. let some = goes.told is in absurd (omega arith)) sound
+    (allowed_sound key now number asked before.content told left reply sound (by clean))

@@ -13,7 +13,7 @@ crash_on a b left o stood (inr new) = inr new
 crash_on a b left o stood (inl old) = elim (stood old) [ inl was ↦ inl was | inr none ↦ absurd none ]
 
 -- what is read stands
-read_tells : {X : Type 0} (shut : ℕ) (a b : State) (v x : X) → Tells shut a b v None (Ok x) → (x ≡ v) × (b ≡ a)
+pub read_tells : {X : Type 0} (shut : ℕ) (a b : State) (v x : X) → Tells shut a b v None (Ok x) → (x ≡ v) × (b ≡ a)
 read_tells shut a b v x tells = tells
 
 served : (n : ℕ) → (n < 1) ⊎ (0 < n)

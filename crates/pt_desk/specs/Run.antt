@@ -1,27 +1,20 @@
 -- Whole runs.
 use Rattle.std.specs.Prelude.{◌≡◌, ℕ, ◌<◌, List, [], ◌∷◌, Option, Result, Ok, Err}
 use Rattle.pt_desk_rules.specs.State.{State}
-use Rattle.pt_desk_rules.specs.Step.{answer_to, leaves, state_after}
+use Rattle.pt_desk_rules.specs.Step.{IsOutcome, state_after}
 use Rattle.pt_desk_rules.specs.declared.request.Answer.{Answer}
-use Rattle.pt_desk.specs.Store.{Tells}
+use Rattle.pt_desk.specs.Store.{TellsBy}
 use Rattle.pt_desk.specs.declared.keeper.StoreFault.{StoreFault}
 use Rattle.pt_desk.specs.declared.keeper.StoreFault.TheVariants.{Memory, Store}
 use Rattle.pt_desk.specs.declared.running.Call.{Call}
 
--- the answer to a call by the rules, and the state that it commits, if any
-abbrev pub answer_to_call : Call → State → Answer
-answer_to_call call s = answer_to call.key.items call.now call.number call.request s
-
-abbrev pub left_by_call : Call → State → Option State
-left_by_call call s = leaves call.key.items call.now call.number call.request s
-
--- the state after a call that was answered by the rules
-abbrev pub after_call : Call → State → State
-after_call call s = state_after (left_by_call call s) s
+-- what a call is told by the rules, and the state that it commits, if any
+abbrev pub IsOutcomeOf : Call → State → Answer → Option State → Type 0
+IsOutcomeOf call s told left = IsOutcome call.key.items call.now call.number call.request s told left
 
 -- the call is answered by the rules, or is refused for want of memory and changes nothing
 abbrev pub AnswersCall : ℕ → Call → State → State → Result Answer StoreFault → Type 0
-AnswersCall shut call old new reply = Tells shut old new (answer_to_call call old) (left_by_call call old) reply
+AnswersCall shut call old new reply = TellsBy shut old new (IsOutcomeOf call) reply
 
 -- the store has failed, and each of these calls is told so
 abbrev pub AreRefused : List Call → List (Result Answer StoreFault) → Type 0
@@ -36,7 +29,7 @@ Runs old [] [] new = new ≡ old
 Runs old (call ∷ calls) (Err Store ∷ replies) new = AreRefused calls replies
 Runs old (call ∷ calls) (Err Memory ∷ replies) new = Runs old calls replies new
 Runs old (call ∷ calls) (Ok told ∷ replies) new =
-    (told ≡ answer_to_call call old) × Runs (after_call call old) calls replies new
+    (left : Option State) × IsOutcomeOf call old told left × Runs (state_after left old) calls replies new
 Runs old [] (reply ∷ replies) new = ⊥
 Runs old (call ∷ calls) [] new = ⊥
 

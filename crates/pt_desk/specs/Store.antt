@@ -54,9 +54,24 @@ pub record Goes {X : Type 0} (before after : Store) (value : X) (left : Option S
   pub settled : IsSettled before → IsSettled after
   pub holds : after.doubt ≡ 0 → Holds before after value left result
 
--- calls that answer this of the content, and commit this, if anything
-abbrev pub Answers : {X : Type 0} → Store → Store → (State → X) → (State → Option State) → Result X StoreFault → Type 0
-Answers before after told left result = Goes before after (told before.content) (left before.content) result
+-- memory was refused, or the store failed
+abbrev pub IsFault : {X : Type 0} → Result X StoreFault → Type 0
+IsFault (Ok x) = ⊥
+IsFault (Err fault) = Unit {0}
+
+-- what they answer, and the content that stands, is by one of these outcomes of the content before, or a fault came before
+-- anything was decided
+abbrev pub TellsBy : {X : Type 0} → ℕ → State → State → (State → X → Option State → Type 0) → Result X StoreFault → Type 0
+TellsBy {X} shut old new IsOutcome result =
+    (told : X) × (left : Option State) × Tells shut old new told left result
+    × (IsOutcome old told left ⊎ (IsFault result × (left ≡ None)))
+
+-- Calls that answer and commit as these outcomes of the content allow, where the store is clean. A fault may come before
+-- anything is decided: then nothing is committed.
+abbrev pub Answers : {X : Type 0} → Store → Store → (State → X → Option State → Type 0) → Result X StoreFault → Type 0
+Answers {X} before after IsOutcome result =
+    (told : X) × (left : Option State) × Goes before after told left result
+    × (after.doubt ≡ 0 → IsOutcome before.content told left ⊎ (IsFault result × (left ≡ None)))
 
 -- calls that only read
 abbrev pub Reads : {X : Type 0} → Store → Store → (State → X) → Result X StoreFault → Type 0

@@ -1,9 +1,9 @@
-ghost use Rattle.std.specs.Prelude.{◌≡◌, ◌<◌, ◌≤◌, ℕ, true, Option, Some, None, Err, OnOk};
+ghost use Rattle.std.specs.Prelude.{◌≡◌, ◌<◌, ◌≤◌, ℕ, Option, None, Err};
 ghost use Rattle.pt_desk_rules.specs.State.{State, kept_of};
-ghost use Rattle.pt_desk_rules.specs.Step.{is_above, read_answer, write_told, write_left, step};
-ghost use Rattle.pt_desk_rules.specs.Step.{write_answer, write_leaves, IsWriteMade, answer_to, leaves, IsMadeBy, sender};
-ghost use Rattle.pt_desk_rules.specs.Deciding.{IsMadeIf};
-ghost use Rattle.pt_desk.specs.Store.{Store, Answers, Reads, Fails, IsSoundKept};
+ghost use Rattle.pt_desk_rules.specs.Step.{is_above, told_of, left_of};
+ghost use Rattle.pt_desk_rules.specs.Step.{IsReadOutcome, IsDecidedOutcome, IsWriteOutcome, IsOutcome};
+ghost use Rattle.pt_desk_rules.specs.declared.request.Answer.{Answer};
+ghost use Rattle.pt_desk.specs.Store.{Store, Answers, Goes, Reads, Fails, IsSoundKept};
 
 use crate::gathering::{gather, gather_read};
 use crate::{Keeper, Reply, StoreFault};
@@ -27,16 +27,16 @@ fn answer_read<K: Keeper>(
     now: (Day, Minute),
     read: &Read,
 ) -> Reply
-    ensures reads { Reads (K.store keeper.old) (K.store keeper.new) (read_answer read.now me.now now) result }
+    ensures goes { Answers (K.store keeper.old) (K.store keeper.new) (IsReadOutcome read.now me.now now) result }
 {
     let facts = gather_read(alloc, keeper, read)?;
-    Ok(tell(&facts, me, now, read))
+    Ok(tell(alloc, facts, me, now, read)?)
 }
 
 /// Tells what was decided, and commits the change of an accepted write.
 fn carry_out<K: Keeper>(keeper: &mut K, decision: Decision) -> Reply
-    ensures goes { Answers (K.store keeper.old) (K.store keeper.new)
-        (λ _. write_told true decision) (write_left true decision) result }
+    ensures goes { Goes (K.store keeper.old) (K.store keeper.new) (told_of decision)
+        (left_of decision (K.store keeper.old).content) result }
 {
     match decision {
         Decision::Denied(rule) => Ok(Answer::Denied(rule)),
@@ -57,10 +57,7 @@ fn answer_new<K: Keeper>(
     write: &Write,
 ) -> Reply
     ensures goes { Answers (K.store keeper.old) (K.store keeper.new)
-        (λ s. write_told true (step write.now me.now now number s))
-        (λ s. write_left true (step write.now me.now now number s) s) result }
-    ensures made { (K.store keeper.new).doubt ≡ 0
-        → OnOk result (IsMadeIf (step write.now me.now now number (K.store keeper.old).content) write.now) }
+        (IsDecidedOutcome write.now me.now now number) result }
 {
     let facts = gather(alloc, keeper, write)?;
     let decision = decide(alloc, &facts, me, now, number, write)?;
@@ -76,10 +73,7 @@ fn answer_write<K: Keeper>(
     number: u32,
     write: &Write,
 ) -> Reply
-    ensures goes { Answers (K.store keeper.old) (K.store keeper.new)
-        (write_answer write.now me.now now number) (write_leaves write.now me.now now number) result }
-    ensures made { (K.store keeper.new).doubt ≡ 0
-        → OnOk result (IsWriteMade write.now me.now now number (K.store keeper.old).content) }
+    ensures goes { Answers (K.store keeper.old) (K.store keeper.new) (IsWriteOutcome write.now me.now now number) result }
 {
     if !is_new(keeper, me.id, number)? {
         return Ok(Answer::Denied(Rule::Number));
@@ -96,11 +90,7 @@ fn answer_by_rules<K: Keeper>(
     number: u32,
     request: &Request,
 ) -> Reply
-    ensures goes { Answers (K.store keeper.old) (K.store keeper.new)
-        (answer_to key.now now number request.now) (leaves key.now now number request.now) result }
-    ensures made { (K.store keeper.new).doubt ≡ 0
-        → OnOk result (IsMadeBy (sender key.now (K.store keeper.old).content) now number request.now
-        (K.store keeper.old).content) }
+    ensures goes { Answers (K.store keeper.old) (K.store keeper.new) (IsOutcome key.now now number request.now) result }
 {
     let Some(me) = keeper.caller_with(&Digest::of_key(key))? else {
         return Ok(Answer::Denied(Rule::Key));
@@ -116,7 +106,7 @@ fn answer_by_rules<K: Keeper>(
 /// `now` is the moment at which it comes, `key` the caller's key, and `number` the caller's number for it, which
 /// only a write needs. The error is the store's, or want of memory, and then nothing is changed. Where the store is
 /// shut as the call ends, it has failed, or the error is want of memory and the store serves no more.
-#[tactic(auto, using(crate::proofs::SoundLemmas::answered_sound, crate::proofs::StoreLemmas::leaves_nothing))]
+#[tactic(auto, using(crate::proofs::SoundLemmas::answered_sound, crate::proofs::AnswerLemmas::quiet))]
 pub fn answer<K: Keeper>(
     alloc: Global,
     keeper: &mut K,
@@ -125,11 +115,11 @@ pub fn answer<K: Keeper>(
     number: u32,
     request: &Request,
 ) -> Reply
-    ensures goes { Answers (K.store keeper.old) (K.store keeper.new)
-        (answer_to key.now now number request.now) (leaves key.now now number request.now) result }
+    ensures goes { Answers (K.store keeper.old) (K.store keeper.new) (IsOutcome key.now now number request.now) result }
     ensures fails { Fails (K.store keeper.old).failures (K.store keeper.new).failures result }
-    // What commits nothing leaves just the state before at a crash.
-    ensures quiet { leaves key.now now number request.now (K.store keeper.old).content ≡ None → (o : Option State)
+    // What commits nothing, whatever it is told, leaves just the state before at a crash.
+    ensures quiet { ((told : Answer) (left : Option State) →
+        IsOutcome key.now now number request.now (K.store keeper.old).content told left → left ≡ None) → (o : Option State)
         → (K.store keeper.new).doubt ≡ 0 → (K.store keeper.new).found o → (K.store keeper.old).found o }
     // A sound state is left sound.
     ensures sound { IsSoundKept (K.store keeper.old) (K.store keeper.new) }

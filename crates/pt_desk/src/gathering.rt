@@ -1,13 +1,17 @@
-ghost use Rattle.std.specs.Prelude.{◌≡◌, []};
+ghost use Rattle.std.specs.Prelude.{◌≡◌, [], Some, None};
 ghost use Rattle.pt_desk_rules.specs.Facts.{no_facts, facts_of, read_facts_of, has_subject};
-ghost use Rattle.pt_desk_rules.specs.State.{rider_of, file_of};
+ghost use Rattle.pt_desk_rules.specs.Facts.{agency_facts, booking_facts, plan_for, day_of, wish_facts, change_facts, cancel_facts};
+ghost use Rattle.pt_desk_rules.specs.declared.request.Read.TheVariants.{Standing, Trips};
+ghost use Rattle.pt_desk_rules.specs.State.{rider_of, file_of, trip_of};
 ghost use Rattle.pt_desk_rules.specs.declared.request.Write.TheVariants.{PutCaller, PutPlace, PutRoute, PutRider, PutVehicle, Travel};
 ghost use Rattle.pt_desk.specs.Store.{Store, Reads};
 
 use crate::{Keeper, StoreFault};
-use pt_base::{Day, Place, Rider, RiderId, Vehicle};
+use pt_base::{Day, Place, Rider, RiderId, Trip, TripId, Vehicle, Wish};
 use pt_corridor::FixedRoute;
-use pt_desk_rules::{Caller, Read, ReadFacts, Role, Write, WriteFacts};
+use pt_desk_rules::{
+    BookingFacts, Caller, DayFacts, PlannedRoute, Read, ReadFacts, Role, Write, WriteFacts,
+};
 use pt_rights::CaseFile;
 use std::alloc::Global;
 
@@ -146,6 +150,145 @@ fn gather_travel<K: Keeper>(
     })
 }
 
+/// What every booking looks at.
+fn gather_agency<K: Keeper>(alloc: Global, keeper: &mut K) -> Result<WriteFacts, StoreFault>
+    ensures reads { Reads (K.store keeper.old) (K.store keeper.new) agency_facts result }
+{
+    Ok(WriteFacts {
+        places: keeper.places(alloc)?,
+        vehicles: keeper.vehicles(alloc)?,
+        ..gather_policy(alloc, keeper)?
+    })
+}
+
+/// What is planned for a day.
+fn gather_day<K: Keeper>(alloc: Global, keeper: &mut K, day: Day) -> Result<DayFacts, StoreFault>
+    ensures reads { Reads (K.store keeper.old) (K.store keeper.new) (day_of day) result }
+{
+    let travel = keeper.travel_on(alloc, day)?;
+    let trips = keeper.trips_on(alloc, day)?;
+    let plans = keeper.planned_on(alloc, day)?;
+    Ok(DayFacts {
+        travel,
+        trips,
+        plans,
+    })
+}
+
+/// What is planned for the vehicle of a trip on its day, if there is one.
+fn gather_plan<K: Keeper>(
+    alloc: Global,
+    keeper: &mut K,
+    old: &Option<Trip>,
+) -> Result<Option<PlannedRoute>, StoreFault>
+    ensures reads { Reads (K.store keeper.old) (K.store keeper.new) (plan_for old.now) result }
+{
+    match old {
+        Some(trip) => keeper.planned_route(alloc, trip.vehicle, trip.wish.day),
+        None => Ok(None),
+    }
+}
+
+/// What a wish for this day looks at, where it stands for a trip that is there, if any.
+fn gather_booking<K: Keeper>(
+    alloc: Global,
+    keeper: &mut K,
+    rider: RiderId,
+    day: Day,
+    old: &Option<Trip>,
+) -> Result<BookingFacts, StoreFault>
+    ensures reads { Reads (K.store keeper.old) (K.store keeper.new) (booking_facts rider day old.now) result }
+{
+    let last_trip = keeper.last_trip()?;
+    let day = gather_day(alloc, keeper, day)?;
+    let trips = keeper.trips_of(alloc, rider)?;
+    let plan = gather_plan(alloc, keeper, old)?;
+    let routes = keeper.routes(alloc)?;
+    Ok(BookingFacts {
+        trip: *old,
+        plan,
+        routes,
+        last_trip,
+        trips,
+        day,
+    })
+}
+
+/// What a rider's wish looks at, where it stands for a trip that is there, if any.
+fn gather_wish<K: Keeper>(
+    alloc: Global,
+    keeper: &mut K,
+    rider: RiderId,
+    wish: &Wish,
+    old: &Option<Trip>,
+) -> Result<WriteFacts, StoreFault>
+    ensures reads { Reads (K.store keeper.old) (K.store keeper.new) (wish_facts rider wish.now old.now) result }
+{
+    let booking = gather_booking(alloc, keeper, rider, wish.day, old)?;
+    let (rider, file) = rider_with_file(alloc, keeper, rider)?;
+    Ok(WriteFacts {
+        rider,
+        file,
+        booking,
+        ..gather_agency(alloc, keeper)?
+    })
+}
+
+/// What the change of a trip looks at.
+fn gather_change<K: Keeper>(
+    alloc: Global,
+    keeper: &mut K,
+    trip: TripId,
+    wish: &Wish,
+) -> Result<WriteFacts, StoreFault>
+    ensures reads { Reads (K.store keeper.old) (K.store keeper.new)
+        (λ s. change_facts (trip_of trip s) wish.now s) result }
+{
+    let old = keeper.trip(trip)?;
+    match &old {
+        Some(there) => gather_wish(alloc, keeper, there.rider, wish, &old),
+        None => gather_agency(alloc, keeper),
+    }
+}
+
+/// What the cancellation of a trip looks at.
+fn gather_cancel<K: Keeper>(
+    alloc: Global,
+    keeper: &mut K,
+    trip: TripId,
+) -> Result<WriteFacts, StoreFault>
+    ensures reads { Reads (K.store keeper.old) (K.store keeper.new) (λ s. cancel_facts (trip_of trip s) s) result }
+{
+    let old = keeper.trip(trip)?;
+    match &old {
+        Some(there) => gather_there(alloc, keeper, there, &old),
+        None => gather_policy(alloc, keeper),
+    }
+}
+
+/// What the cancellation of this trip looks at.
+fn gather_there<K: Keeper>(
+    alloc: Global,
+    keeper: &mut K,
+    there: &Trip,
+    old: &Option<Trip>,
+) -> Result<WriteFacts, StoreFault>
+    requires { old.now ≡ Some there.now }
+    ensures reads { Reads (K.store keeper.old) (K.store keeper.new) (cancel_facts (Some there.now)) result }
+{
+    let rider = keeper.rider(there.rider)?;
+    let plan = gather_plan(alloc, keeper, old)?;
+    Ok(WriteFacts {
+        rider,
+        booking: BookingFacts {
+            trip: *old,
+            plan,
+            ..BookingFacts::none(alloc)
+        },
+        ..gather_policy(alloc, keeper)?
+    })
+}
+
 /// All that the rules of the write look at.
 pub(crate) fn gather<K: Keeper>(
     alloc: Global,
@@ -163,7 +306,36 @@ pub(crate) fn gather<K: Keeper>(
         Write::Enter { rider, entry: _ } => gather_file(alloc, keeper, *rider),
         Write::PutVehicle(new) => gather_vehicle(alloc, keeper, new),
         Write::Travel { day, rows: _ } => gather_travel(alloc, keeper, *day),
+        Write::Book { rider, wish } => gather_wish(alloc, keeper, *rider, wish, &None),
+        Write::Change { trip, wish } => gather_change(alloc, keeper, *trip, wish),
+        Write::Cancel(trip) => gather_cancel(alloc, keeper, *trip),
     }
+}
+
+fn gather_standing<K: Keeper>(
+    alloc: Global,
+    keeper: &mut K,
+    rider: RiderId,
+) -> Result<ReadFacts, StoreFault>
+    ensures reads { Reads (K.store keeper.old) (K.store keeper.new) (read_facts_of (Standing rider 0)) result }
+{
+    let trips = keeper.trips_of(alloc, rider)?;
+    let (rider, file) = rider_with_file(alloc, keeper, rider)?;
+    Ok(ReadFacts { rider, file, trips })
+}
+
+fn gather_trips<K: Keeper>(
+    alloc: Global,
+    keeper: &mut K,
+    rider: RiderId,
+) -> Result<ReadFacts, StoreFault>
+    ensures reads { Reads (K.store keeper.old) (K.store keeper.new) (read_facts_of (Trips rider)) result }
+{
+    Ok(ReadFacts {
+        rider: keeper.rider(rider)?,
+        file: CaseFile::new(alloc),
+        trips: keeper.trips_of(alloc, rider)?,
+    })
 }
 
 /// All that the rules of the read look at, and what it is told.
@@ -174,7 +346,8 @@ pub(crate) fn gather_read<K: Keeper>(
 ) -> Result<ReadFacts, StoreFault>
     ensures reads { Reads (K.store keeper.old) (K.store keeper.new) (read_facts_of read.now) result }
 {
-    let Read::Standing { rider, day: _ } = *read;
-    let (rider, file) = rider_with_file(alloc, keeper, rider)?;
-    Ok(ReadFacts { rider, file })
+    match *read {
+        Read::Standing { rider, day: _ } => gather_standing(alloc, keeper, rider),
+        Read::Trips(rider) => gather_trips(alloc, keeper, rider),
+    }
 }

@@ -2,7 +2,7 @@ ghost use Rattle.std.specs.Prelude.{◌≡◌, ◌≤◌, length, Option, is_som
 ghost use Rattle.pt_desk_rules.specs.State.{State, caller_with, caller_of, kept_of, place_of, rider_of, route_of};
 ghost use Rattle.pt_desk_rules.specs.State.{file_of, tables_before, trip_of, plan_of, applied};
 ghost use Rattle.pt_desk_rules.specs.Fleet.{has_version};
-ghost use Rattle.pt_desk_rules.specs.Planned.{is_booked_from};
+ghost use Rattle.pt_desk_rules.specs.Planned.{is_booked_from, planned_on, trips_of, trips_on};
 ghost use Rattle.pt_desk_rules.specs.Travel.{table_on};
 ghost use Rattle.pt_desk.specs.Store.{Store, Reads, Commits};
 
@@ -125,6 +125,18 @@ pub trait Keeper {
     /// The trip of this number.
     fn trip(&mut self, id: TripId) -> Result<Option<Trip>, StoreFault>
         ensures reads { Reads (store self.old) (store self.new) (trip_of id) result };
+
+    /// The trips of a rider, in order of their numbers.
+    fn trips_of(&mut self, alloc: Global, rider: RiderId) -> Result<Rows<Trip>, StoreFault>
+        ensures reads { Reads (store self.old) (store self.new) (λ s. trips_of rider s.trips) result };
+
+    /// The trips of a day, in order of their numbers.
+    fn trips_on(&mut self, alloc: Global, day: Day) -> Result<Rows<Trip>, StoreFault>
+        ensures reads { Reads (store self.old) (store self.new) (λ s. trips_on day s.trips) result };
+
+    /// The routes of a day that have stops, in order of their vehicles.
+    fn planned_on(&mut self, alloc: Global, day: Day) -> Result<Rows<PlannedRoute>, StoreFault>
+        ensures reads { Reads (store self.old) (store self.new) (λ s. planned_on day s.planned) result };
 
     /// The number that was last given to a trip; 0 before the first.
     fn last_trip(&mut self) -> Result<u32, StoreFault>

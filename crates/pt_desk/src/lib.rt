@@ -6,8 +6,8 @@ pub use answering::answer;
 pub use keeper::{Keeper, Reply, StoreFault};
 pub use list_keeper::ListKeeper;
 pub use pt_desk_rules::{
-    Answer, Caller, Change, Decision, Digest, FiledEntry, Kept, MOST_CALLERS, MOST_PLACES,
-    MOST_RIDERS, MOST_ROUTES, Read, ReadFacts, Request, Role, Write, WriteFacts,
+    Answer, Caller, Change, Confirmation, Decision, Digest, FiledEntry, Kept, MOST_CALLERS,
+    MOST_PLACES, MOST_RIDERS, MOST_ROUTES, Read, ReadFacts, Request, Role, Write, WriteFacts,
 };
 pub use running::{Call, run};
 

@@ -4,8 +4,10 @@ ghost use Rattle.pt_base.specs.Fault.{fault};
 ghost use Rattle.pt_base.specs.Codes.{memory_refused};
 ghost use Rattle.pt_desk_rules.specs.Limits.{most_entries};
 ghost use Rattle.pt_desk_rules.specs.Fleet.{has_version};
-ghost use Rattle.pt_desk_rules.specs.Planned.{is_booked_from, is_standing_from};
-ghost use Rattle.pt_desk_rules.specs.State.{span_of, entries_of, file_with, tables_before};
+ghost use Rattle.pt_desk_rules.specs.Planned.{is_booked_from, is_standing_from, planned_on, trips_of, trips_on};
+ghost use Rattle.pt_records.specs.Records.{IsInOrder};
+ghost use Rattle.pt_scheduling.specs.Plan.{plan_key};
+ghost use Rattle.pt_desk_rules.specs.State.{span_of, entries_of, file_with, tables_before, trip_key};
 
 use crate::{Keeper, StoreFault};
 use pt_base::{
@@ -175,6 +177,52 @@ fn is_booked_from(trips: &[Trip], vehicle: &Option<VehicleId>, day: Day) -> bool
     false
 }
 
+/// The trips of a rider.
+fn trips_of(alloc: Global, trips: &[Trip], rider: RiderId) -> Result<Rows<Trip>, AllocError>
+    requires order { IsInOrder trip_key trips.now }
+    ensures value { IfOk result (λ found. found ≡ trips_of rider trips.now) }
+{
+    let mut found = Vec::new(alloc);
+    for trip in trips {
+        if trip.rider == rider {
+            found.push(*trip)?;
+        }
+    }
+    Ok(Rows::of(found))
+}
+
+/// The trips of a day.
+fn trips_on(alloc: Global, trips: &[Trip], day: Day) -> Result<Rows<Trip>, AllocError>
+    requires order { IsInOrder trip_key trips.now }
+    ensures value { IfOk result (λ found. found ≡ trips_on day trips.now) }
+{
+    let mut found = Vec::new(alloc);
+    for trip in trips {
+        if trip.wish.day == day {
+            found.push(*trip)?;
+        }
+    }
+    Ok(Rows::of(found))
+}
+
+/// The routes of a day.
+fn planned_on(
+    alloc: Global,
+    plans: &[PlannedRoute],
+    day: Day,
+) -> Result<Rows<PlannedRoute>, AllocError>
+    requires order { IsInOrder plan_key plans.now }
+    ensures value { IfOk result (λ found. found ≡ planned_on day plans.now) }
+{
+    let mut found = Vec::new(alloc);
+    for plan in plans {
+        if plan.day == day {
+            found.push(plan.copy(alloc)?)?;
+        }
+    }
+    Ok(Rows::of(found))
+}
+
 /// The keys of a rider's entries.
 fn span_of(rider: RiderId) -> Span
     ensures value { result ≡ span_of rider }
@@ -305,6 +353,18 @@ impl Keeper for ListKeeper {
 
     fn trip(&mut self, id: TripId) -> Result<Option<Trip>, StoreFault> {
         Ok(self.trips.find(&Key::of(id.number())).copied())
+    }
+
+    fn trips_of(&mut self, alloc: Global, rider: RiderId) -> Result<Rows<Trip>, StoreFault> {
+        Ok(trips_of(alloc, self.trips.as_slice(), rider)?)
+    }
+
+    fn trips_on(&mut self, alloc: Global, day: Day) -> Result<Rows<Trip>, StoreFault> {
+        Ok(trips_on(alloc, self.trips.as_slice(), day)?)
+    }
+
+    fn planned_on(&mut self, alloc: Global, day: Day) -> Result<Rows<PlannedRoute>, StoreFault> {
+        Ok(planned_on(alloc, self.planned.as_slice(), day)?)
     }
 
     fn last_trip(&mut self) -> Result<u32, StoreFault> {

@@ -2,7 +2,7 @@ ghost use Rattle.std.specs.Prelude.{◌≡◌, ◌≤◌, IfOk, IfErr, OnErr};
 ghost use Rattle.pt_base.specs.Fault.{fault};
 ghost use Rattle.pt_base.specs.Codes.{memory_refused};
 ghost use Rattle.pt_desk.specs.Store.{Store, Answers, Fails, IsSettled, IsSoundKept};
-ghost use Rattle.pt_desk.specs.Run.{answer_to_call, left_by_call, GoesOn};
+ghost use Rattle.pt_desk.specs.Run.{IsOutcomeOf, GoesOn};
 
 use crate::{Keeper, Reply, answer};
 use pt_base::{Day, Fault, Minute};
@@ -22,7 +22,7 @@ pub struct Call {
 /// Answers one call by the rules.
 fn answer_call<K: Keeper>(alloc: Global, keeper: &mut K, call: &Call) -> Reply
     ensures goes { Answers (K.store keeper.old) (K.store keeper.new)
-        (answer_to_call call.entry.now) (left_by_call call.entry.now) result }
+        (IsOutcomeOf call.entry.now) result }
     ensures fails { Fails (K.store keeper.old).failures (K.store keeper.new).failures result }
     ensures sound { IsSoundKept (K.store keeper.old) (K.store keeper.new) }
 {

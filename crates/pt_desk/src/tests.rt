@@ -6,7 +6,7 @@ use pt_base::{
 use pt_corridor::FixedRoute;
 use pt_rights::Entry;
 use std::alloc::Global;
-use std::test::Fail;
+use std::process::Abort;
 
 const POLICY: Policy = Policy {
     base: 175,
@@ -19,53 +19,58 @@ const POLICY: Policy = Policy {
     span_days: 30,
 };
 
-fn clerk() -> Result<Write, Fail> {
-    Ok(Write::PutCaller(Caller {
-        id: CallerId::of(2).ok_or("a number")?,
+fn clerk() -> Write {
+    Write::PutCaller(Caller {
+        id: CallerId::of(2).unwrap(),
         role: Role::Clerk,
         digest: Digest::of_key(b"hello"),
-    }))
+    })
 }
 
-fn place() -> Result<Write, Fail> {
-    Ok(Write::PutPlace(Place {
-        id: PlaceId::of(1).ok_or("a number")?,
+fn place() -> Write {
+    Write::PutPlace(Place {
+        id: PlaceId::of(1).unwrap(),
         at: Point { x: 0, y: 0 },
         core: false,
-    }))
+    })
+}
+
+/// As many points as a fixed route may have.
+fn most_points(rt: &impl Abort, alloc: Global) -> Vec<Point> {
+    let mut points = Vec::new(alloc);
+    for x in 0..200 {
+        points.push(Point { x, y: 0 }).expect(rt, "memory");
+    }
+    points
 }
 
 /// A fixed route of as many points as one may have.
-fn longest_route(alloc: Global) -> Result<Write, Fail> {
-    let mut points = Vec::new(alloc);
-    for x in 0..200 {
-        points.push(Point { x, y: 0 })?;
-    }
-    let id = RouteId::of(1).ok_or("a number")?;
-    let first = Minute::of(360).ok_or("a minute")?;
-    let last = Minute::of(1_320).ok_or("a minute")?;
-    let days = Weekdays::all();
-    let route = FixedRoute::new(id, 3_960, points, true, days, first, last)?;
-    Ok(Write::PutRoute(route))
+fn longest_route(rt: &impl Abort, alloc: Global) -> Write {
+    let id = RouteId::of(1).unwrap();
+    let first = Minute::of(360).unwrap();
+    let last = Minute::of(1_320).unwrap();
+    let points = most_points(rt, alloc);
+    let route = FixedRoute::new(id, 3_960, points, true, Weekdays::all(), first, last);
+    Write::PutRoute(route.expect(rt, "a fixed route"))
 }
 
-fn rider() -> Result<RiderId, Fail> {
-    Ok(RiderId::of(7).ok_or("a number")?)
+fn rider() -> RiderId {
+    RiderId::of(7).unwrap()
 }
 
-fn resident() -> Result<Write, Fail> {
-    Ok(Write::PutRider(Rider {
-        id: rider()?,
+fn resident() -> Write {
+    Write::PutRider(Rider {
+        id: rider(),
         kind: Residence::Resident,
         attendant: false,
-    }))
+    })
 }
 
-fn complete() -> Result<Write, Fail> {
-    Ok(Write::Enter {
-        rider: rider()?,
+fn complete() -> Write {
+    Write::Enter {
+        rider: rider(),
         entry: Entry::Complete,
-    })
+    }
 }
 
 /// What the calls of the test below write.
@@ -79,12 +84,12 @@ enum Asked {
     Complete,
 }
 
-fn write_of(alloc: Global, asked: Asked) -> Result<Write, Fail> {
+fn write_of(rt: &impl Abort, alloc: Global, asked: Asked) -> Write {
     match asked {
         Asked::Clerk => clerk(),
-        Asked::Policy => Ok(Write::PutPolicy(POLICY)),
+        Asked::Policy => Write::PutPolicy(POLICY),
         Asked::Place => place(),
-        Asked::Route => longest_route(alloc),
+        Asked::Route => longest_route(rt, alloc),
         Asked::Resident => resident(),
         Asked::Complete => complete(),
     }
@@ -103,60 +108,71 @@ const FIRST: [(&str, u32, Asked); 9] = [
     ("hello", 4, Asked::Place),
 ];
 
-fn first_calls(alloc: Global) -> Result<Vec<Call>, Fail> {
-    let now = (
-        Day::parse("2025-02-17")?,
-        Minute::of(480).ok_or("a minute")?,
-    );
-    let mut calls = Vec::with_capacity(alloc, FIRST.len())?;
-    for (key, number, asked) in FIRST {
-        let key = Vec::from_slice(alloc, key.as_bytes())?;
-        let request = Request::Write(write_of(alloc, asked)?);
-        calls.push(Call {
-            now,
-            key,
-            number,
-            request,
-        })?;
+/// The rule by which a call is denied, if it is.
+fn wanted_denial(call: usize) -> Option<Rule> {
+    match call {
+        6 => Some(Rule::Application),
+        7 => Some(Rule::Number),
+        8 => Some(Rule::Caller),
+        _ => None,
     }
-    Ok(calls)
+}
+
+/// Whether it is what the call is to be answered.
+fn is_wanted(call: usize, reply: &Reply) -> bool {
+    match reply {
+        Ok(Answer::Denied(rule)) => Some(*rule) == wanted_denial(call),
+        Ok(Answer::Entered(position)) => call == 5 && *position == 0,
+        Ok(Answer::Done) => call < 5,
+        _ => false,
+    }
+}
+
+/// A call at eight in the morning.
+fn call(rt: &impl Abort, alloc: Global, key: &str, number: u32, asked: Asked) -> Call {
+    let day = Day::parse("2025-02-17").expect(rt, "a day");
+    Call {
+        now: (day, Minute::of(480).unwrap()),
+        key: Vec::from_slice(alloc, key.as_bytes()).expect(rt, "memory"),
+        number,
+        request: Request::Write(write_of(rt, alloc, asked)),
+    }
+}
+
+fn first_calls(rt: &impl Abort, alloc: Global) -> Vec<Call> {
+    let mut calls = Vec::new(alloc);
+    for (key, number, asked) in &FIRST {
+        let call = call(rt, alloc, key, *number, *asked);
+        calls.push(call).expect(rt, "memory");
+    }
+    calls
+}
+
+fn first_replies(rt: &impl Abort, alloc: Global, keeper: &mut ListKeeper) -> Vec<Reply> {
+    let calls = first_calls(rt, alloc);
+    run(alloc, keeper, &calls).expect(rt, "memory")
+}
+
+fn compare_replies(rt: &impl Abort, replies: &[Reply]) {
+    assert_eq!(rt; replies.len(), FIRST.len());
+    for (call, reply) in replies.iter().enumerate() {
+        assert!(rt; is_wanted(call, reply), "call {call}");
+    }
+}
+
+/// Compares what is kept after the first calls.
+fn compare_kept(rt: &impl Abort, alloc: Global, keeper: &mut ListKeeper) {
+    assert_eq!(rt; keeper.policy().ok(), Some(POLICY));
+    let places = keeper.places(alloc).expect(rt, "places").as_slice().len();
+    let routes = keeper.routes(alloc).expect(rt, "routes").as_slice().len();
+    let entries = keeper.case_file(alloc, rider()).expect(rt, "entries").len();
+    assert_eq!(rt; (places, routes, entries), (1, 1, 1));
 }
 
 #[test]
-fn each_write_is_answered_and_kept(rt: HostRuntime) -> Result<(), Fail> {
+fn each_write_is_answered_and_kept(rt: HostRuntime) {
     let alloc = rt.alloc();
-    let mut keeper = ListKeeper::new(alloc, b"abc")?;
-    let replies = run(alloc, &mut keeper, &first_calls(alloc)?)?;
-    let wanted: [Reply; 9] = [
-        Ok(Answer::Done),
-        Ok(Answer::Done),
-        Ok(Answer::Done),
-        Ok(Answer::Done),
-        Ok(Answer::Done),
-        Ok(Answer::Entered(0)),
-        Ok(Answer::Denied(Rule::Application)),
-        Ok(Answer::Denied(Rule::Number)),
-        Ok(Answer::Denied(Rule::Caller)),
-    ];
-    assert_eq!(rt; replies.as_slice(), wanted.as_slice());
-    assert_eq!(rt; keeper.policy().ok(), Some(POLICY));
-    assert_eq!(rt;
-        keeper
-            .places(alloc)
-            .map_or(0, |found| found.as_slice().len()),
-        1
-    );
-    assert_eq!(rt;
-        keeper
-            .routes(alloc)
-            .map_or(0, |found| found.as_slice().len()),
-        1
-    );
-    assert_eq!(rt;
-        keeper
-            .case_file(alloc, rider()?)
-            .map_or(0, |file| file.len()),
-        1
-    );
-    Ok(())
+    let mut keeper = ListKeeper::new(alloc, b"abc").expect(&rt, "memory");
+    compare_replies(&rt, &first_replies(&rt, alloc, &mut keeper));
+    compare_kept(&rt, alloc, &mut keeper);
 }

@@ -1,5 +1,7 @@
 use Rattle.std.proofs.Common.{◌≡◌, ◌≤◌, ◌∷◌, ◌++◌, [], arith, append-nil, append_assoc}
 use Rattle.std.proofs.lemmas.Grind.{common_steps}
+use Rattle.pt_desk.specs.Run.{IsOutcomeOf}
+use Rattle.pt_desk.proofs.AnswerLemmas.{tells_by}
 use Rattle.pt_desk.proofs.RunLemmas.{goes_on_at, ended}
 use Rattle.pt_desk.proofs.running.run.Goals as goal
 
@@ -11,7 +13,8 @@ loop-call-preserved g c =
     let i = c.loop-call.call-index in
     let calls = c.args.calls.now in
     let reply = c.answer_call-reply.result in
-    let goes = c.answer_call-reply.ensures.goes in
+    let answers = c.answer_call-reply.ensures.goes in
+    let goes = answers.2 in
     let cleaner : before.doubt ≤ after.doubt = goes.clean in
     let serving : before.shut ≤ after.shut = goes.serves in
     let growing : before.failures ≤ after.failures = goes.grows in
@@ -26,7 +29,7 @@ loop-call-preserved g c =
       rest = λ clean whole rest new left.
           let was : before.doubt ≡ 0 = omega arith in
           let served : before.shut ≡ 0 = omega arith in
-          let on = goes_on_at calls i c.call-item.result reply rest before.content after.content new before.failures after.failures after.shut c.loop-call-test.true c.call-item.is c.answer_call-reply.ensures.fails (goes.holds clean).tells whole left in
+          let on = goes_on_at calls i c.call-item.result reply rest before.content after.content new before.failures after.failures after.shut c.loop-call-test.true c.call-item.is c.answer_call-reply.ensures.fails (tells_by before after (IsOutcomeOf c.call-item.result) reply answers clean) whole left in
           rw (pushed, append_assoc) (c.loop-call.invariant.rest was served (reply ∷ rest) new on);
     }
 

@@ -1,0 +1,126 @@
+-- Answers by the outcomes that the rules allow.
+use Rattle.std.proofs.Common.{◌≡◌, ◌<◌, ◌≤◌, ◌⊎◌, inl, inr, ℕ, Option, Some, None, Result, Ok, Err, arith, refl, sym, subst}
+use Rattle.std.specs.Result.{IsErrAnd}
+use Rattle.pt_desk_rules.specs.State.{State}
+use Rattle.pt_desk.specs.Store.{Store, Answers, Goes, Holds, IsFault, Tells, TellsBy}
+use Rattle.pt_desk.specs.declared.keeper.StoreFault.{StoreFault}
+use Rattle.pt_desk.specs.declared.keeper.StoreFault.TheVariants.{Memory, Store as failed}
+use Rattle.pt_desk.proofs.StoreLemmas.{reads_then, read_tells, leaves_nothing}
+
+abbrev Outcome : Type 0 → Type 1
+Outcome X = State → X → Option State → Type 0
+
+-- what was read before calls that then answer
+pub read_then : {X Y : Type 0} (a b c : Store) (x v : X) (Is Is' : Outcome Y) (r : Result Y StoreFault) → Goes a b v None (Ok x) → Answers b c Is r
+    → (x ≡ v → (w : Y) (left : Option State) → Is a.content w left → Is' a.content w left) → Answers a c Is' r
+read_then a b c x v Is Is' r first (told, left, goes, by) gives = (
+  told,
+  left,
+  reads_then a b c x v told told left left r first goes (λ _ _ _. (refl, refl)),
+  (λ clean.
+      let up : b.doubt ≤ c.doubt = goes.clean in
+      let was : b.doubt ≡ 0 = omega arith in
+      let read = read_tells b.shut a.content b.content v x (first.holds was).tells in
+      elim (by clean) [
+        | inl is ↦ inl (gives read.0 told left (subst (λ s. Is s told left) read.1 is))
+        | inr fault ↦ inr fault
+      ]),
+)
+
+-- what was read, and is told
+pub read_told : {X Y : Type 0} (a b : Store) (x v : X) (w : Y) (Is : Outcome Y) → Goes a b v None (Ok x) → (x ≡ v → Is a.content w None) → Answers a b Is (Ok w)
+read_told {X} {Y} a b x v w Is first is =
+    let fine : (◌≡◌ {A = Result Y StoreFault} (Ok w) (Err failed) → ⊥) = λ same. absurd (cc) in
+    let fine' : (◌≡◌ {A = Result X StoreFault} (Ok x) (Err failed) → ⊥) = λ same. absurd (cc) in (
+      w,
+      None,
+      record {
+        clean = first.clean;
+        serves = first.serves;
+        grows = first.grows;
+        told = λ same. absurd (fine same);
+        stays = λ none some. absurd (fine' (first.stays none some));
+        settled = first.settled;
+        holds = λ clean. record { tells = (refl, ((first.holds clean).tells).1); crash = (first.holds clean).crash; durable = tt };
+      },
+      (λ clean. inl (is (((first.holds clean).tells).0))),
+    )
+
+same_fault : {X Y : Type 0} (e : StoreFault) → ◌≡◌ {A = Result Y StoreFault} (Err e) (Err failed) → ◌≡◌ {A = Result X StoreFault} (Err e) (Err failed)
+same_fault e same = let is : e ≡ failed = cc in cc
+
+fault_tells : {X Y : Type 0} (shut : ℕ) (old new : State) (v : X) (w : Y) (e : StoreFault) → Tells {X = X} shut old new v None (Err e) → Tells {X = Y} shut old new w None (Err e)
+fault_tells shut old new v w Memory tells = tells
+fault_tells shut old new v w failed tells = tt
+
+-- a fault while something is read
+pub read_fault : {X Y : Type 0} (a b : Store) (v : X) (w : Y) (e : StoreFault) (Is : Outcome Y) → Goes {X = X} a b v None (Err e) → Answers {X = Y} a b Is (Err e)
+read_fault {X} {Y} a b v w e Is first = (
+  w,
+  None,
+  record {
+    clean = first.clean;
+    serves = first.serves;
+    grows = first.grows;
+    told = λ same. first.told (same_fault {X = X} {Y = Y} e same);
+    stays = λ none some. same_fault {X = Y} {Y = X} e (first.stays none some);
+    settled = first.settled;
+    holds = λ clean. record { tells = fault_tells b.shut a.content b.content v w e (first.holds clean).tells; crash = (first.holds clean).crash; durable = tt };
+  },
+  (λ _. inr (tt, refl)),
+)
+
+-- memory that is refused after something was read
+pub read_memory : {X Y : Type 0} (a b : Store) (x v : X) (w : Y) (Is : Outcome Y) → Goes a b v None (Ok x) → Answers {X = Y} a b Is (Err Memory)
+read_memory {X} {Y} a b x v w Is first =
+    let fine : (◌≡◌ {A = Result Y StoreFault} (Err Memory) (Err failed) → ⊥) = λ same. absurd (cc) in
+    let fine' : (◌≡◌ {A = Result X StoreFault} (Ok x) (Err failed) → ⊥) = λ same. absurd (cc) in (
+      w,
+      None,
+      record {
+        clean = first.clean;
+        serves = first.serves;
+        grows = first.grows;
+        told = λ same. absurd (fine same);
+        stays = λ none some. absurd (fine' (first.stays none some));
+        settled = first.settled;
+        holds = λ clean. record { tells = λ _. ((first.holds clean).tells).1; crash = (first.holds clean).crash; durable = tt };
+      },
+      (λ _. inr (tt, refl)),
+    )
+
+-- calls that go as one outcome has it
+pub goes_by : {X : Type 0} (a b : Store) (told : X) (left : Option State) (Is : Outcome X) (r : Result X StoreFault) → Goes a b told left r → Is a.content told left → Answers a b Is r
+goes_by a b told left Is r goes is = (told, left, goes, λ _. inl is)
+
+-- what they tell, where the store is clean
+pub tells_by : {X : Type 0} (a b : Store) (Is : Outcome X) (r : Result X StoreFault) → Answers a b Is r → b.doubt ≡ 0 → TellsBy b.shut a.content b.content Is r
+tells_by a b Is r (told, left, goes, by) clean = (told, left, (goes.holds clean).tells, by clean)
+
+-- what commits nothing leaves no more at a crash than there was
+pub quiet : {X : Type 0} (a b : Store) (Is : Outcome X) (r : Result X StoreFault) → Answers a b Is r → ((told : X) (left : Option State) → Is a.content told left → left ≡ None)
+    → (o : Option State) → b.doubt ≡ 0 → b.found o → a.found o
+quiet a b Is r (told, left, goes, by) none o clean found =
+    leaves_nothing a b told left r o goes (elim (by clean) [ inl is ↦ none told left is | inr fault ↦ fault.1 ]) clean found
+
+-- a fault as `?` hands it on
+pub handed : {Y : Type 0} (P : Result Y StoreFault → Type 0) (e : StoreFault) (r : Result Y StoreFault) → IsErrAnd r (λ error. error ≡ e) → P (Err e) → P r
+handed P e (Ok y) is holds = absurd is
+handed {Y} P e (Err error) is holds = subst (λ (f : StoreFault). P (Err f)) (sym is) holds
+
+-- a store that has failed before is not asked
+pub shut_out : {X : Type 0} (a : Store) (w : X) (Is : Outcome X) → 0 < a.failures → Answers a a Is (Err failed)
+shut_out a w Is some = (
+  w,
+  None,
+  record {
+    clean = omega arith;
+    serves = omega arith;
+    grows = omega arith;
+    told = λ _. some;
+    stays = λ _ _. refl;
+    settled = λ settled. settled;
+    holds = λ _. record { tells = tt; crash = λ o found. inl found; durable = tt };
+  },
+  (λ _. inr (tt, refl)),
+)

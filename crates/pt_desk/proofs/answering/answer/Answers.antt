@@ -1,0 +1,16 @@
+use Rattle.std.proofs.Common.{◌≡◌, ◌<◌, ◌≤◌, ℕ, None, Err, refl, arith}
+use Rattle.pt_desk_rules.specs.Step.{IsOutcome}
+use Rattle.pt_desk_rules.specs.declared.request.Answer.TheVariants.{Done}
+use Rattle.pt_desk.proofs.AnswerLemmas.{shut_out}
+use Rattle.pt_desk.proofs.SoundLemmas.{answered_sound}
+use Rattle.pt_desk.proofs.answering.answer.Goals as goal
+
+pub returns-then-failures-gt0-clause-goes : goal.returns-then-failures-gt0-clause-goes
+returns-then-failures-gt0-clause-goes g c =
+    shut_out (g.K.Keeper.store c.args.keeper.now) Done (IsOutcome c.args.key.now c.args.now c.args.number c.args.request.now)
+    (let value : c.failures.result ≡ (g.K.Keeper.store c.args.keeper.now).failures = c.failures.ensures.value in omega (arith, value, c.if-failures-gt0.true))
+
+pub returns-clause-sound : goal.returns-clause-sound
+returns-clause-sound g c =
+    answered_sound (g.K.Keeper.store c.args.keeper.now) (g.K.Keeper.store c.answer_by_rules.new.keeper) c.args.key.now c.args.now c.args.number c.args.request.now c.answer_by_rules.result
+    c.answer_by_rules.ensures.goes

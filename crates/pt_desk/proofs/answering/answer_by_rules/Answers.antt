@@ -1,0 +1,62 @@
+use Rattle.std.proofs.Common.{◌≡◌, ◌∙◌, refl, sym, ap, subst, Ok, Err, Some, None, Option, true, false, ℕ, List}
+use Rattle.pt_desk_rules.specs.declared.request.Request.{Request}
+use Rattle.pt_base.specs.declared.rule.Rule.TheVariants.{Key, Number}
+use Rattle.pt_desk_rules.specs.Deciding.{IsDecision, IsTold}
+use Rattle.pt_desk_rules.specs.State.{State, kept_of, caller_with}
+use Rattle.pt_desk_rules.specs.Step.{told_of, left_of, is_above, IsReadOutcome, IsDecidedOutcome, IsOutcomeIf, IsWriteOutcome, IsOutcomeBy, IsOutcome}
+use Rattle.pt_desk_rules.specs.declared.request.Answer.{Answer}
+use Rattle.pt_desk_rules.specs.declared.request.Answer.TheVariants.{Done, Denied}
+use Rattle.pt_desk.specs.Store.{Answers}
+use Rattle.pt_desk.specs.declared.keeper.StoreFault.TheVariants.{Memory}
+use Rattle.pt_desk.proofs.AnswerLemmas.{read_then, read_told, read_fault, read_memory, goes_by, handed}
+use Rattle.pt_desk.proofs.answering.answer_by_rules.Goals as goal
+
+pub returns-in_err-me : goal.returns-in_err-me
+returns-in_err-me g c =
+    let a = g.K.Keeper.store c.args.keeper.now in
+    let b = g.K.Keeper.store c.caller_with.new.self in
+    let Is = IsOutcome c.args.key.now c.args.now c.args.number c.args.request.now in
+    record {
+      goes = handed (λ r. Answers a b Is r) c.in_err-me.field-0.0 c.from_residual.result c.from_residual.ensures.1
+          (read_fault a b _ Done c.in_err-me.field-0.0 Is c.in_err-me.ensures.reads);
+    }
+
+pub returns-in_default : goal.returns-in_default
+returns-in_default g c =
+    let a = g.K.Keeper.store c.args.keeper.now in
+    let b = g.K.Keeper.store c.caller_with.new.self in
+    let Is = IsOutcome c.args.key.now c.args.now c.args.number c.args.request.now in
+    let denied : IsOutcomeBy None c.args.now c.args.number c.args.request.now a.content (Denied Key) None = (refl, refl) in
+    record {
+      goes = read_told a b c.in_ok-me.field-0 (caller_with c.of_key.result a.content) (Denied Key) Is c.in_ok-me.ensures.reads
+          (λ is. subst (λ found. IsOutcomeBy found c.args.now c.args.number c.args.request.now a.content (Denied Key) None)
+          (sym c.in_default.is ∙ is ∙ ap (λ (digest : List ℕ). caller_with digest a.content) c.of_key.ensures.value) denied);
+    }
+
+pub returns-in-Read : goal.returns-in-Read
+returns-in-Read g c =
+    let a = g.K.Keeper.store c.args.keeper.now in
+    let b = g.K.Keeper.store c.caller_with.new.self in
+    let d = g.K.Keeper.store c.answer_read.new.keeper in
+    let Is = IsOutcome c.args.key.now c.args.now c.args.number c.args.request.now in
+    let IsRead = IsReadOutcome c.in-Read.read c.in-Some.me c.args.now in
+    record {
+      goes = read_then a b d c.in_ok-me.field-0 (caller_with c.of_key.result a.content) IsRead Is c.answer_read.result c.in_ok-me.ensures.reads c.answer_read.ensures.goes
+          (λ is told left outcome. subst (λ found. IsOutcomeBy found c.args.now c.args.number c.args.request.now a.content told left)
+          (sym c.in-Some.is ∙ is ∙ ap (λ (digest : List ℕ). caller_with digest a.content) c.of_key.ensures.value)
+          (subst (λ (asked : Request). IsOutcomeBy (Some c.in-Some.me) c.args.now c.args.number asked a.content told left) (sym c.in-Read.is) outcome));
+    }
+
+pub returns-in-Write : goal.returns-in-Write
+returns-in-Write g c =
+    let a = g.K.Keeper.store c.args.keeper.now in
+    let b = g.K.Keeper.store c.caller_with.new.self in
+    let d = g.K.Keeper.store c.answer_write.new.keeper in
+    let Is = IsOutcome c.args.key.now c.args.now c.args.number c.args.request.now in
+    let IsWritten = IsWriteOutcome c.in-Write.write c.in-Some.me c.args.now c.args.number in
+    record {
+      goes = read_then a b d c.in_ok-me.field-0 (caller_with c.of_key.result a.content) IsWritten Is c.answer_write.result c.in_ok-me.ensures.reads c.answer_write.ensures.goes
+          (λ is told left outcome. subst (λ found. IsOutcomeBy found c.args.now c.args.number c.args.request.now a.content told left)
+          (sym c.in-Some.is ∙ is ∙ ap (λ (digest : List ℕ). caller_with digest a.content) c.of_key.ensures.value)
+          (subst (λ (asked : Request). IsOutcomeBy (Some c.in-Some.me) c.args.now c.args.number asked a.content told left) (sym c.in-Write.is) outcome));
+    }

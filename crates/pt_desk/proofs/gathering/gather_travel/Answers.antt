@@ -1,0 +1,17 @@
+use Rattle.std.specs.Prelude.{is_some, length, Option, Some, None}
+use Rattle.pt_desk_rules.specs.Facts.{no_facts, has_subject, agency_facts, booking_facts, day_of, wish_facts}
+use Rattle.pt_desk_rules.specs.Planned.{is_booked_from, planned_on, trips_of, trips_on}
+use Rattle.pt_desk_rules.specs.State.{State, caller_of, caller_with, file_of, place_of, plan_of, rider_of, route_of, tables_before}
+use Rattle.pt_desk_rules.specs.Travel.{table_on}
+use Rattle.pt_desk.proofs.ReadLemmas.{reads_pair, reads_map}
+use Rattle.pt_desk.proofs.gathering.gather_travel.Goals as goal
+
+pub returns : goal.returns
+returns g c = record {
+  reads =
+      (reads_map _ _ _ _ (λ found. record found.1.1.1 { places = found.0; tables_before = found.1.0; is_booked = found.1.1.0 })
+      (reads_pair _ _ _ (λ (s : State). s.places) (λ (s : State). (length (tables_before c.args.day s.travel), (is_booked_from None c.args.day s.trips, no_facts s.policy))) _ _ c.in_ok-places.ensures.reads
+      (reads_pair _ _ _ (λ (s : State). length (tables_before c.args.day s.travel)) (λ (s : State). (is_booked_from None c.args.day s.trips, no_facts s.policy)) _ _ c.in_ok-table_count_before.ensures.reads
+      (reads_pair _ _ _ (λ (s : State). is_booked_from None c.args.day s.trips) (λ (s : State). no_facts s.policy) _ _ c.in_ok-is_booked_from.ensures.reads
+      c.in_ok-gather_policy.ensures.reads))));
+}
