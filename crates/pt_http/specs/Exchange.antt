@@ -4,9 +4,9 @@ use Rattle.pt_base.specs.Fault.{fault}
 use Rattle.pt_base.specs.declared.fault.Fault.{Fault}
 use Rattle.pt_base.specs.Codes.{memory_refused, read_failed}
 use Rattle.pt_base.specs.declared.rule.Rule.TheVariants.{Key}
-use Rattle.pt_desk.specs.Store.{Store, Tells, Fails}
+use Rattle.pt_desk.specs.Store.{Store, TellsBy, Fails}
 use Rattle.pt_desk_rules.specs.State.{State}
-use Rattle.pt_desk_rules.specs.Step.{answer_to, leaves}
+use Rattle.pt_desk_rules.specs.Step.{IsOutcome}
 use Rattle.pt_desk.specs.declared.keeper.StoreFault.{StoreFault}
 use Rattle.pt_desk_rules.specs.declared.request.Answer.{Answer}
 use Rattle.pt_desk_rules.specs.declared.request.Answer.TheVariants.{Denied}
@@ -33,8 +33,7 @@ desk_of store = record { content = store.content; failures = store.failures }
 -- nothing
 abbrev pub AnswersWith : Option (List ℕ) → ℕ → (ℕ × ℕ) → Message → Desk → Desk → Result Answer StoreFault → Type 0
 AnswersWith (Some key) shut now message old new told =
-    Tells shut old.content new.content (answer_to key now message.number message.request old.content)
-    (leaves key now message.number message.request old.content) told
+    TellsBy shut old.content new.content (IsOutcome key now message.number message.request) told
     × Fails old.failures new.failures told
 AnswersWith None shut now message old new told = (told ≡ Ok (Denied Key)) × (new ≡ old)
 

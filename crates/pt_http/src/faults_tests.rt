@@ -1,13 +1,13 @@
 use crate::answer_bytes;
-use crate::tests::{PUT_CLERK, Pieces, eight_in_the_morning, plain_reply};
+use crate::tests::{DONE, PUT_CLERK, Pieces, eight_in_the_morning};
 use pt_base::fault::{READ_FAILED, WRITE_FAILED};
 use pt_base::{CallerId, Fault};
 use pt_desk::{Keeper, ListKeeper};
 use pt_http_inbox::Inbox;
 use std::alloc::Global;
 use std::io;
-use std::io::{ErrorKind, Write};
-use std::test::Fail;
+use std::io::{ErrorKind, Read, Write};
+use std::process::Abort;
 
 /// Takes so many bytes and then fails, or fails to see them off.
 #[derive(Drop)]
@@ -37,74 +37,92 @@ impl Write for Narrow {
 }
 
 /// Whether the clerk has been put.
-fn has_clerk(keeper: &mut ListKeeper) -> Result<bool, Fail> {
-    let id = CallerId::of(2).ok_or("a number")?;
-    let clerk = keeper.caller(id).ok().ok_or("callers")?;
-    Ok(clerk.is_some())
+fn has_clerk(rt: &impl Abort, keeper: &mut ListKeeper) -> bool {
+    let clerk = keeper.caller(CallerId::of(2).unwrap());
+    clerk.expect(rt, "callers").is_some()
+}
+
+/// What is told of one request from a reader, answered to a writer.
+fn told<R: Read + Drop, W: Write>(
+    rt: &impl Abort,
+    alloc: Global,
+    keeper: &mut ListKeeper,
+    reader: R,
+    out: &mut W,
+) -> Result<(), Fault> {
+    let now = eight_in_the_morning(rt);
+    let mut inbox = Inbox::new(alloc, reader).expect(rt, "memory");
+    answer_bytes(alloc, keeper, now, &mut inbox, out)
+}
+
+/// What a new desk tells of one request, and whether it has the clerk then.
+fn told_by_new_desk<R: Read + Drop, W: Write>(
+    rt: &impl Abort,
+    alloc: Global,
+    reader: R,
+    out: &mut W,
+) -> (Result<(), Fault>, bool) {
+    let mut keeper = ListKeeper::new(alloc, b"abc").expect(rt, "memory");
+    let told = told(rt, alloc, &mut keeper, reader, out);
+    (told, has_clerk(rt, &mut keeper))
+}
+
+/// Answers what comes before the reader fails, and compares what is told, kept and replied.
+fn compare_reader(rt: &impl Abort, alloc: Global, request: &[u8]) {
+    let end = request.len();
+    let reader = Pieces {
+        rest: request,
+        size: 64,
+        fails: true,
+    };
+    let mut out = Vec::new(alloc);
+    let (told, is_put) = told_by_new_desk(rt, alloc, reader, &mut out);
+    let came = end == PUT_CLERK.len();
+    let expected = if came {
+        Ok(())
+    } else {
+        Err(Fault::of(READ_FAILED))
+    };
+    assert_eq!(rt;
+        (told, is_put, out.is_empty()),
+        (expected, came, !came),
+        "{end} bytes"
+    );
 }
 
 #[test]
-fn a_reader_that_fails_at_each_byte(rt: HostRuntime) -> Result<(), Fail> {
+fn a_reader_that_fails_at_each_byte(rt: HostRuntime) {
     let alloc = rt.alloc();
     let request = PUT_CLERK.as_bytes();
     for end in 0..=request.len() {
-        let mut keeper = ListKeeper::new(alloc, b"abc")?;
-        let reader = Pieces {
-            rest: &request[..end],
-            size: 64,
-            fails: true,
-        };
-        let mut inbox = Inbox::new(alloc, reader)?;
-        let mut out = Vec::new(alloc);
-        let told = answer_bytes(
-            alloc,
-            &mut keeper,
-            eight_in_the_morning()?,
-            &mut inbox,
-            &mut out,
-        );
-        let came = end == request.len();
-        let expected = if came {
-            Ok(())
-        } else {
-            Err(Fault::of(READ_FAILED))
-        };
-        assert_eq!(rt; told, expected, "{end} bytes");
-        assert_eq!(rt; has_clerk(&mut keeper)?, came, "{end} bytes");
-        assert_eq!(rt; out.is_empty(), !came, "{end} bytes");
+        compare_reader(&rt, alloc, &request[..end]);
     }
-    Ok(())
+}
+
+/// Answers to a writer that takes so many bytes, and compares what is told, kept and written.
+fn compare_writer(rt: &impl Abort, alloc: Global, reply: &[u8], written: usize) {
+    let room = written.min(reply.len());
+    let mut out = Narrow {
+        bytes: Vec::new(alloc),
+        room,
+        is_stuck: written > reply.len(),
+    };
+    let (told, is_put) = told_by_new_desk(rt, alloc, PUT_CLERK.as_bytes(), &mut out);
+    let expected = if written == reply.len() {
+        Ok(())
+    } else {
+        Err(Fault::of(WRITE_FAILED))
+    };
+    assert_eq!(rt; (told, is_put), (expected, true), "writer {written}");
+    assert_eq!(rt; out.bytes.as_slice(), &reply[..room]);
 }
 
 #[test]
-fn a_writer_that_fails_at_each_byte(rt: HostRuntime) -> Result<(), Fail> {
+fn a_writer_that_fails_at_each_byte(rt: HostRuntime) {
     let alloc = rt.alloc();
-    let reply = plain_reply(alloc, "200 OK", "13", "{\"done\":true}")?;
+    let reply = DONE.as_bytes();
     // The last writer takes the whole reply, and fails to see it off.
     for written in 0..=reply.len() + 1 {
-        let mut keeper = ListKeeper::new(alloc, b"abc")?;
-        let mut inbox = Inbox::new(alloc, PUT_CLERK.as_bytes())?;
-        let room = written.min(reply.len());
-        let mut out = Narrow {
-            bytes: Vec::new(alloc),
-            room,
-            is_stuck: written > reply.len(),
-        };
-        let told = answer_bytes(
-            alloc,
-            &mut keeper,
-            eight_in_the_morning()?,
-            &mut inbox,
-            &mut out,
-        );
-        let expected = if written == reply.len() {
-            Ok(())
-        } else {
-            Err(Fault::of(WRITE_FAILED))
-        };
-        assert_eq!(rt; told, expected, "writer {written}");
-        assert!(rt; has_clerk(&mut keeper)?, "writer {written}");
-        assert_eq!(rt; out.bytes.as_slice(), &reply.as_bytes()[..room]);
+        compare_writer(&rt, alloc, reply, written);
     }
-    Ok(())
 }

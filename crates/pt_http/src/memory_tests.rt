@@ -2,14 +2,14 @@ use crate::answer_bytes;
 use crate::tests::{COMPLETE, PUT_CLERK, PUT_RIDER, STANDING, eight_in_the_morning};
 use arrayvec::ArrayVec;
 use pt_base::fault::MEMORY;
-use pt_base::{CallerId, Fault};
+use pt_base::{CallerId, Day, Fault, Minute};
 use pt_desk::{Keeper, ListKeeper};
 use pt_http_inbox::Inbox;
 use std::alloc::Global;
-use std::test::Fail;
+use std::process::Abort;
 
 /// What an exchange of the test below could change.
-#[derive(Debug, Drop, PartialEq, Eq)]
+#[derive(Clone, Copy, PartialEq, Eq)]
 struct Snapshot {
     callers: usize,
     riders: usize,
@@ -17,21 +17,21 @@ struct Snapshot {
     numbers: [u32; 2],
 }
 
-fn last_number(keeper: &mut ListKeeper, caller: u32) -> Result<u32, Fail> {
-    let id = CallerId::of(caller).ok_or("a number")?;
-    let kept = keeper.kept(id).ok().ok_or("a number")?;
-    match kept {
-        Some(last) => Ok(last.number),
-        None => Ok(0),
+fn last_number(rt: &impl Abort, keeper: &mut ListKeeper, caller: CallerId) -> u32 {
+    match keeper.kept(caller).expect(rt, "a number") {
+        Some(last) => last.number,
+        None => 0,
     }
 }
 
-fn seen(keeper: &mut ListKeeper) -> Result<Snapshot, Fail> {
-    Ok(Snapshot {
-        callers: keeper.caller_count().ok().ok_or("callers")?,
-        riders: keeper.rider_count().ok().ok_or("riders")?,
-        numbers: [last_number(keeper, 1)?, last_number(keeper, 2)?],
-    })
+fn seen(rt: &impl Abort, keeper: &mut ListKeeper) -> Snapshot {
+    let admin = last_number(rt, keeper, CallerId::of(1).unwrap());
+    let clerk = last_number(rt, keeper, CallerId::of(2).unwrap());
+    Snapshot {
+        callers: keeper.caller_count().expect(rt, "callers"),
+        riders: keeper.rider_count().expect(rt, "riders"),
+        numbers: [admin, clerk],
+    }
 }
 
 fn inbox_with<'b>(alloc: Global, request: &'b str) -> Result<Inbox<&'b [u8]>, Fault> {
@@ -42,45 +42,103 @@ fn least_desk(alloc: Global) -> Result<ListKeeper, Fault> {
     ListKeeper::new(alloc, b"abc").or_else(|_| ListKeeper::new(alloc, b"abc"))
 }
 
-/// The reply to a request, made again after a refusal of memory that has to change nothing.
-fn replied(
+/// What a first try comes to.
+#[derive(Clone, Copy)]
+enum FirstTry {
+    Answered,
+    /// The request was read, and the reply names the refusal of memory.
+    Denied,
+    /// Nothing was replied.
+    Unheard,
+}
+
+/// What is told of one try.
+fn told(
+    alloc: Global,
+    keeper: &mut ListKeeper,
+    now: (Day, Minute),
+    inbox: &mut Inbox<&[u8]>,
+    out: &mut ArrayVec<u8, 512>,
+) -> Result<(), Fault> {
+    answer_bytes(alloc, keeper, now, inbox, out)
+}
+
+/// Tries once. A refusal of memory has to change nothing.
+fn first_try(
+    rt: &impl Abort,
+    alloc: Global,
+    keeper: &mut ListKeeper,
+    inbox: &mut Inbox<&[u8]>,
+    out: &mut ArrayVec<u8, 512>,
+) -> FirstTry {
+    let before = seen(rt, keeper);
+    let told = told(alloc, keeper, eight_in_the_morning(rt), inbox, out);
+    if told == Ok(()) && !out.ends_with(b"{\"denied\":\"desk.memory\"}") {
+        return FirstTry::Answered;
+    }
+    let named = told.is_ok() || (told == Err(Fault::of(MEMORY)) && out.is_empty());
+    let same = named && seen(rt, keeper) == before;
+    assert!(rt; same, "a refusal that changes nothing");
+    if told.is_ok() {
+        FirstTry::Denied
+    } else {
+        FirstTry::Unheard
+    }
+}
+
+/// Replies to a request that is in the inbox, once more after a refusal of memory.
+fn reply_from<'b>(
+    rt: &impl Abort,
+    alloc: Global,
+    keeper: &mut ListKeeper,
+    request: &'b str,
+    inbox: &mut Inbox<&'b [u8]>,
+    out: &mut ArrayVec<u8, 512>,
+) {
+    match first_try(rt, alloc, keeper, inbox, out) {
+        FirstTry::Answered => return,
+        FirstTry::Denied => {
+            *inbox = inbox_with(alloc, request).expect(rt, "memory");
+            out.clear();
+        }
+        FirstTry::Unheard => {}
+    }
+    let now = eight_in_the_morning(rt);
+    told(alloc, keeper, now, inbox, out).expect(rt, request);
+}
+
+/// Replies to a request, and compares the reply's body.
+fn compare_reply(
+    rt: &impl Abort,
     alloc: Global,
     keeper: &mut ListKeeper,
     request: &str,
-) -> Result<ArrayVec<u8, 512>, Fail> {
-    let now = eight_in_the_morning()?;
-    let before = seen(keeper)?;
-    let mut inbox = inbox_with(alloc, request)?;
+    body: &str,
+) {
+    let mut inbox = inbox_with(alloc, request).expect(rt, "memory");
     let mut out = ArrayVec::new();
-    let told = answer_bytes(alloc, keeper, now, &mut inbox, &mut out);
-    if told == Ok(()) && !out.ends_with(b"{\"denied\":\"desk.memory\"}") {
-        return Ok(out);
+    reply_from(rt, alloc, keeper, request, &mut inbox, &mut out);
+    assert!(rt; out.ends_with(body.as_bytes()), "{request}");
+}
+
+/// Requests, and how their replies end.
+const EXCHANGES: [(&str, &str); 4] = [
+    (PUT_CLERK, "{\"done\":true}"),
+    (PUT_RIDER, "{\"done\":true}"),
+    (COMPLETE, "{\"entered\":0}"),
+    (STANDING, "{\"standing\":\"none\",\"suspended\":false}"),
+];
+
+fn compare_replies(rt: &impl Abort, alloc: Global, keeper: &mut ListKeeper) {
+    for (request, body) in &EXCHANGES {
+        compare_reply(rt, alloc, keeper, request, body);
     }
-    let named = told.is_ok() || (told == Err(Fault::of(MEMORY)) && out.is_empty());
-    let same = named && seen(keeper)? == before;
-    same.then_some(()).ok_or("a refusal that changes nothing")?;
-    if told.is_ok() {
-        // The request was read and answered.
-        inbox = inbox_with(alloc, request)?;
-        out.clear();
-    }
-    answer_bytes(alloc, keeper, now, &mut inbox, &mut out)?;
-    Ok(out)
 }
 
 /// Passes with any one allocation refused: `rt try --test --fail-alloc N`.
 #[test]
-fn a_refusal_of_memory_is_named_and_changes_nothing(rt: HostRuntime) -> Result<(), Fail> {
+fn a_refusal_of_memory_is_named_and_changes_nothing(rt: HostRuntime) {
     let alloc = rt.alloc();
-    let mut keeper = least_desk(alloc)?;
-    for (request, body) in [
-        (PUT_CLERK, "{\"done\":true}"),
-        (PUT_RIDER, "{\"done\":true}"),
-        (COMPLETE, "{\"entered\":0}"),
-        (STANDING, "{\"standing\":\"none\",\"suspended\":false}"),
-    ] {
-        let reply = replied(alloc, &mut keeper, request)?;
-        assert!(rt; reply.ends_with(body.as_bytes()), "{request}");
-    }
-    Ok(())
+    let mut keeper = least_desk(alloc).expect(&rt, "memory");
+    compare_replies(&rt, alloc, &mut keeper);
 }

@@ -1,8 +1,7 @@
 use pt_base::{Day, Minute};
-use std::alloc::Global;
 use std::io;
 use std::io::{ErrorKind, Read};
-use std::test::Fail;
+use std::process::Abort;
 
 /// The admin `abc` puts the clerk `hello`.
 pub(crate) const PUT_CLERK: &str =
@@ -38,20 +37,11 @@ impl Read for Pieces<'_> {
     }
 }
 
-/// A reply with no line of its own.
-pub(crate) fn plain_reply(
-    alloc: Global,
-    status: &str,
-    length: &str,
-    body: &str,
-) -> Result<String, Fail> {
-    Ok(format!(in alloc;
-        "HTTP/1.1 {status}\r\nContent-Type: application/json\r\nContent-Length: {length}\r\nConnection: close\r\n\r\n{body}"
-    )?)
-}
+/// The reply to a write that is done.
+pub(crate) const DONE: &str =
+    "HTTP/1.1 200 OK\r\nContent-Type: application/json\r\nContent-Length: 13\r\nConnection: close\r\n\r\n{\"done\":true}";
 
-pub(crate) fn eight_in_the_morning() -> Result<(Day, Minute), Fail> {
-    let day = Day::parse("2025-02-17")?;
-    let minute = Minute::of(480).ok_or("a minute")?;
-    Ok((day, minute))
+pub(crate) fn eight_in_the_morning(rt: &impl Abort) -> (Day, Minute) {
+    let day = Day::parse("2025-02-17").expect(rt, "a day");
+    (day, Minute::of(480).unwrap())
 }

@@ -1,58 +1,53 @@
 -- A reply has one text.
-use Rattle.std.proofs.Common.{◌≡◌, ◌≤◌, List, [], ◌++◌, codes, length, ℕ, Option, Some, None, unwrap_or, Ok, Err, ℤ, pos, refl, sym, ap, ◌∙◌, arith, append_assoc, append-nil}
+use Rattle.std.proofs.Common.{◌≡◌, ◌≤◌, List, [], ◌++◌, codes, length, ℕ, Option, Some, None, unwrap_or, Ok, Err, Bool, pos, refl, sym, ap, ◌∙◌, arith, append_assoc, append-nil}
 use denote.Ref.{Bor}
 use Rattle.std.specs.Prelude.{option_map}
 use Rattle.http.specs.StatusCode.{reason_phrase}
 use Rattle.pt_base.specs.declared.rule.Rule.TheVariants as rule
 use Rattle.pt_http_reply.specs.declared.fault.RequestFault.TheVariants as fault
-use Rattle.pt_base.proofs.CalendarLemmas.{IsDateText-text}
-use Rattle.pt_base.specs.DateText.{IsDateText}
 use Rattle.pt_rights.specs.declared.case_file.Standing.{Standing}
 use Rattle.pt_rights.specs.declared.case_file.Standing.TheVariants as standing
+use Rattle.pt_desk.specs.declared.keeper.StoreFault.TheVariants.{Memory, Store}
 use Rattle.pt_desk_rules.specs.declared.request.Answer.{Answer}
 use Rattle.pt_desk_rules.specs.declared.request.Answer.TheVariants as answer
-use Rattle.pt_http_reply.specs.Body.{IsUntil, IsUntilOfStanding, body_of}
+use Rattle.pt_http_reply.proofs.TripLemmas.{IsDateText-unique, trips_body-unique}
+use Rattle.pt_http_reply.specs.Body.{granted_body, IsStandingBody, IsAnswerBody, IsBody}
 use Rattle.pt_http_reply.specs.Reply.{bytes_in}
-use Rattle.pt_http_reply.specs.Response.{IsReplyText, reply_text, head_text, status_of}
+use Rattle.pt_http_reply.specs.Response.{IsReplyText, reply_text, status_of}
 use Rattle.pt_http_reply.specs.declared.body.Body.{Body}
 use Rattle.pt_http_reply.specs.declared.body.Body.TheVariants.{Fixed}
 use Rattle.pt_http_reply.specs.declared.response.Response.{Response}
 use Rattle.pt_http_reply.specs.declared.response.Response.TheVariants as response
 
--- a day has one text
-IsDateText-unique : (number : ℤ) (a b : List ℕ) → IsDateText number a → IsDateText number b → a ≡ b
-IsDateText-unique number a b is other = sym is.spelled ∙ IsDateText-text is.date number b is.day other
+standing_body-unique : (s : Standing) (suspended : Bool) (a b : List ℕ) → IsStandingBody s suspended a → IsStandingBody s suspended b → a ≡ b
+standing_body-unique standing.Presumed suspended a b is other = is ∙ sym other
+standing_body-unique standing.AppealOverdue suspended a b is other = is ∙ sym other
+standing_body-unique standing.None suspended a b is other = is ∙ sym other
+standing_body-unique (standing.Granted grant) suspended a b is other =
+    is.2 ∙ ap (granted_body grant suspended) (IsDateText-unique (pos grant.until) is.0 other.0 is.1 other.1) ∙ sym other.2
 
-until_of_standing : (s : Standing) (a b : List ℕ) → IsUntilOfStanding s a → IsUntilOfStanding s b → a ≡ b
-until_of_standing standing.Presumed a b is other = is ∙ sym other
-until_of_standing standing.AppealOverdue a b is other = is ∙ sym other
-until_of_standing standing.None a b is other = is ∙ sym other
-until_of_standing (standing.Granted grant) a b is other = IsDateText-unique (pos grant.until) a b is other
+answer_body-unique : (told : Answer) (a b : List ℕ) → IsAnswerBody told a → IsAnswerBody told b → a ≡ b
+answer_body-unique answer.Done a b is other = is ∙ sym other
+answer_body-unique (answer.Entered place) a b is other = is ∙ sym other
+answer_body-unique (answer.Standing standing suspended) a b is other = standing_body-unique standing suspended a b is other
+answer_body-unique (answer.Visitor may_use) a b is other = is ∙ sym other
+answer_body-unique (answer.Booked told) a b is other = is ∙ sym other
+answer_body-unique (answer.Trips trips) a b is other = trips_body-unique trips a b is other
+answer_body-unique (answer.Denied rule) a b is other = is ∙ sym other
 
-until_of_answer : (told : Answer) (a b : List ℕ) → IsUntil (response.Answered (Ok told)) a → IsUntil (response.Answered (Ok told)) b → a ≡ b
-until_of_answer answer.Done a b is other = is ∙ sym other
-until_of_answer (answer.Entered place) a b is other = is ∙ sym other
-until_of_answer (answer.Standing standing suspended) a b is other = until_of_standing standing a b is other
-until_of_answer (answer.Visitor may_use) a b is other = is ∙ sym other
-until_of_answer (answer.Denied rule) a b is other = is ∙ sym other
-
-until_of : (reply : Response) (a b : List ℕ) → IsUntil reply a → IsUntil reply b → a ≡ b
-until_of (response.Answered (Ok told)) a b is other = until_of_answer told a b is other
-until_of (response.Answered (Err failed)) a b is other = is ∙ sym other
-until_of (response.Refused refused) a b is other = is ∙ sym other
+body-unique : (reply : Response) (a b : List ℕ) → IsBody reply a → IsBody reply b → a ≡ b
+body-unique (response.Answered (Ok told)) a b is other = answer_body-unique told a b is other
+body-unique (response.Answered (Err Memory)) a b is other = is ∙ sym other
+body-unique (response.Answered (Err Store)) a b is other = is ∙ sym other
+body-unique (response.Refused refused) a b is other = is ∙ sym other
 
 pub IsReplyText-unique : (reply : Response) (a b : List ℕ) → IsReplyText reply a → IsReplyText reply b → a ≡ b
 IsReplyText-unique reply a b is other =
-    is.text ∙ ap (reply_text reply) (until_of reply is.until other.until is.last_day other.last_day) ∙ sym other.text
+    is.text ∙ ap (reply_text reply) (body-unique reply is.body other.body is.told other.told) ∙ sym other.text
 
 -- a body behind its head is the reply
-pub reply_formed : (reply : Response) (body all until : List ℕ) → IsUntil reply until → body ≡ body_of reply until
-    → all ≡ head_text reply (length body) ++ body → IsReplyText reply all
-reply_formed reply body all until day is_body is_all = record {
-  until = until;
-  last_day = day;
-  text = is_all ∙ ap (λ b. head_text reply (length b) ++ b) is_body;
-}
+pub reply_formed : (reply : Response) (body all : List ℕ) → IsBody reply body → all ≡ reply_text reply body → IsReplyText reply all
+reply_formed reply body all told is_all = record { body = body; told = told; text = is_all }
 
 -- ---- parts one after another
 

@@ -12,7 +12,7 @@ abbrev pub method_name : AllowedMethod → List ℕ
 method_name Get = codes "GET"
 method_name Post = codes "POST"
 
--- a header or a field of a body as a request spells it
+-- a header of a request, or a field of a body, as it is spelled
 abbrev pub field_name : FieldName → List ℕ
 field_name field.DeskKey = codes "Desk-Key"
 field_name field.DeskNumber = codes "Desk-Number"
@@ -53,6 +53,19 @@ field_name field.Capacity = codes "capacity"
 field_name field.Opens = codes "opens"
 field_name field.Closes = codes "closes"
 field_name field.Duration = codes "duration"
+field_name field.Rider = codes "rider"
+field_name field.Day = codes "day"
+field_name field.Wish = codes "wish"
+field_name field.From = codes "from"
+field_name field.To = codes "to"
+field_name field.By = codes "by"
+field_name field.Companions = codes "companions"
+field_name field.Due = codes "due"
+field_name field.Trip = codes "trip"
+field_name field.Vehicle = codes "vehicle"
+field_name field.WindowFrom = codes "window_from"
+field_name field.WindowTo = codes "window_to"
+field_name field.Status = codes "status"
 
 -- the name of a fault
 abbrev pub fault_name : RequestFault → List ℕ

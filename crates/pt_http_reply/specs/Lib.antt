@@ -1,6 +1,8 @@
 pub mod Status
 pub mod ContentType
 pub mod Fault
+pub mod Json
+pub mod Trips
 pub mod Body
 pub mod Response
 pub mod Reply

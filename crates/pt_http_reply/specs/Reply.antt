@@ -1,5 +1,5 @@
 -- How a reply is held before it is written.
-use Rattle.std.specs.Prelude.{◌≡◌, ◌≤◌, ◌⊎◌, ℕ, List, [], ◌++◌, length, Bool, true, false, Ok, Err}
+use Rattle.std.specs.Prelude.{◌≡◌, ◌≤◌, ◌⊎◌, ℕ, List, ◌++◌, length, Bool, true, false, Ok, Err}
 use Rattle.pt_desk.specs.declared.keeper.StoreFault.TheVariants.{Memory}
 use Rattle.pt_desk_rules.specs.declared.request.Answer.{Answer}
 use Rattle.pt_desk_rules.specs.declared.request.Answer.TheVariants as answer
@@ -13,6 +13,7 @@ use Rattle.pt_http_reply.specs.declared.response.Response.TheVariants as respons
 abbrev pub is_of_read : Answer → Bool
 is_of_read (answer.Standing standing suspended) = true
 is_of_read (answer.Visitor may_use) = true
+is_of_read (answer.Trips trips) = true
 is_of_read _ = false
 
 abbrev pub is_told : Response → Bool
@@ -26,7 +27,7 @@ bytes_in (Grown text) = text.items
 
 -- one in fixed room leaves room for a head
 abbrev pub IsShort : Body → Type 0
-IsShort (Fixed text) = length text ≤ 60
+IsShort (Fixed text) = length text ≤ 200
 IsShort (Grown text) = Unit {0}
 
 -- it stands in fixed room

@@ -2,7 +2,7 @@
 use Rattle.std.specs.Prelude.{◌≡◌, ℕ, List, [], ◌++◌, length, codes, decimal, Ok, Err}
 use Rattle.pt_base.specs.declared.rule.Rule.TheVariants.{Key}
 use Rattle.pt_desk_rules.specs.declared.request.Answer.TheVariants as answer
-use Rattle.pt_http_reply.specs.Body.{body_of, IsUntil}
+use Rattle.pt_http_reply.specs.Body.{IsBody}
 use Rattle.pt_http_reply.specs.ContentType.{type_text}
 use Rattle.pt_http_reply.specs.declared.content_type.ContentType.{ContentType}
 use Rattle.pt_http_reply.specs.declared.content_type.ContentType.TheVariants.{Json}
@@ -44,12 +44,12 @@ head_text reply body_length =
     ++ line (codes "Connection: close")
     ++ line []
 
--- a reply in bytes, where `until` is the text of a grant's last day
+-- a reply in bytes: its head and its body
 abbrev pub reply_text : Response → List ℕ → List ℕ
-reply_text reply until = head_text reply (length (body_of reply until)) ++ body_of reply until
+reply_text reply body = head_text reply (length body) ++ body
 
 -- the bytes are the reply's
 pub record IsReplyText (reply : Response) (bytes : List ℕ) : Type 0 where
-  pub until : List ℕ
-  pub last_day : IsUntil reply until
-  pub text : bytes ≡ reply_text reply until
+  pub body : List ℕ
+  pub told : IsBody reply body
+  pub text : bytes ≡ reply_text reply body

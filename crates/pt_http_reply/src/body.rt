@@ -1,8 +1,9 @@
-ghost use Rattle.std.specs.Prelude.{◌≡◌, ◌≤◌, ◌++◌, ℕ, List, false, true, length, codes, decimal, IfOk, OnErr};
-ghost use Rattle.pt_http_reply.specs.Body.{body_of, denial_body, fault_body, IsUntil};
+ghost use Rattle.std.specs.Prelude.{◌≡◌, ◌≤◌, ◌++◌, false, true, length, codes, decimal, IfOk, OnErr};
+ghost use Rattle.pt_http_reply.specs.Body.{denial_body, fault_body, IsBody};
 ghost use Rattle.pt_http_reply.specs.Reply.{bytes_in, IsShort, IsFixed, is_told};
 
 use crate::standing::{standing_body, visitor_body};
+use crate::trips::{confirmation_body, trips_body};
 use crate::{ReplyBuffer, RequestFault, Response};
 use itoa::Buffer;
 use pt_base::Fault;
@@ -20,8 +21,7 @@ pub(crate) enum Body {
 
 /// The body of the reply. The error is want of memory for what a read is told.
 pub(crate) fn body_of(alloc: Global, response: &Response) -> Result<Body, Fault>
-    ensures text { IfOk result (λ body. (until : List ℕ) × IsUntil response.now until
-        × (bytes_in body ≡ body_of response.now until)) }
+    ensures text { IfOk result (λ body. IsBody response.now (bytes_in body)) }
     ensures short { IfOk result IsShort }
     ensures fixed { is_told response.now ≡ false → IfOk result IsFixed }
     ensures memory { OnErr result (is_told response.now ≡ true) }
@@ -43,6 +43,10 @@ pub(crate) fn body_of(alloc: Global, response: &Response) -> Result<Body, Fault>
         ) => Ok(Body::Grown(standing_body(alloc, standing, *suspended)?)),
         Response::Answered(Ok(Answer::Visitor { may_use })) => {
             Ok(Body::Grown(visitor_body(alloc, *may_use)?))
+        }
+        Response::Answered(Ok(Answer::Booked(told))) => Ok(Body::Fixed(confirmation_body(told))),
+        Response::Answered(Ok(Answer::Trips(trips))) => {
+            Ok(Body::Grown(trips_body(alloc, trips)?))
         }
         Response::Answered(Ok(Answer::Denied(rule))) => Ok(Body::Fixed(denial_body(rule.name()))),
         Response::Answered(Err(StoreFault::Memory)) => Ok(Body::Fixed(denial_body("desk.memory"))),

@@ -23,7 +23,7 @@ impl AllowedMethod {
     }
 }
 
-/// A header, or a field of a body, that a request must have in a given form.
+/// A header of a request, which must have it in a given form, or a field of a body, of a request or of a reply.
 #[derive(Clone, Copy, Debug, PartialEq, Eq)]
 pub enum FieldName {
     /// The header with the caller's key.
@@ -67,10 +67,23 @@ pub enum FieldName {
     Opens,
     Closes,
     Duration,
+    Rider,
+    Day,
+    Wish,
+    From,
+    To,
+    By,
+    Companions,
+    Due,
+    Trip,
+    Vehicle,
+    WindowFrom,
+    WindowTo,
+    Status,
 }
 
 impl FieldName {
-    /// The name as a request spells it.
+    /// The name as it is spelled.
     pub fn text(self) -> &'static str
         ensures value { result.now ≡ field_name self }
         ensures short { length result.now ≤ 11 }
@@ -115,6 +128,19 @@ impl FieldName {
             FieldName::Opens => "opens",
             FieldName::Closes => "closes",
             FieldName::Duration => "duration",
+            FieldName::Rider => "rider",
+            FieldName::Day => "day",
+            FieldName::Wish => "wish",
+            FieldName::From => "from",
+            FieldName::To => "to",
+            FieldName::By => "by",
+            FieldName::Companions => "companions",
+            FieldName::Due => "due",
+            FieldName::Trip => "trip",
+            FieldName::Vehicle => "vehicle",
+            FieldName::WindowFrom => "window_from",
+            FieldName::WindowTo => "window_to",
+            FieldName::Status => "status",
         }
     }
 }

@@ -13,9 +13,11 @@ mod body;
 mod buffer;
 mod content_type;
 mod fault;
+mod json;
 mod reply_bytes;
 mod response;
 mod standing;
 mod status;
 #[cfg(test)]
 mod tests;
+mod trips;

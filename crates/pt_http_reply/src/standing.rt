@@ -1,8 +1,9 @@
 ghost use Rattle.std.specs.Prelude.{◌≡◌, ◌++◌, ℕ, List, pos, IfOk, OnOk};
 ghost use Rattle.pt_base.specs.DateText.{IsDateText};
-ghost use Rattle.pt_http_reply.specs.Body.{condition_json, conditions_text, named_standing_body, standing_body};
-ghost use Rattle.pt_http_reply.specs.Body.{visitor_body, truth_text, IsUntilOfStanding};
+ghost use Rattle.pt_http_reply.specs.Body.{condition_json, conditions_text, named_standing_body, granted_body};
+ghost use Rattle.pt_http_reply.specs.Body.{visitor_body, IsStandingBody};
 
+use crate::json::{push, truth_text};
 use pt_base::Fault;
 use pt_conditions::condition_text;
 use pt_rights::{Condition, Conditions, Grant, Standing};
@@ -14,8 +15,7 @@ pub(crate) fn standing_body(
     standing: &Standing,
     suspended: bool,
 ) -> Result<Vec<u8>, Fault>
-    ensures { IfOk result (λ body. (until : List ℕ) × IsUntilOfStanding standing.now until
-        × (body.items ≡ standing_body standing.now suspended until)) }
+    ensures { IfOk result (λ body. IsStandingBody standing.now suspended body.items) }
 {
     match standing {
         Standing::Presumed => named_body(alloc, "presumed", suspended),
@@ -49,7 +49,7 @@ fn named_body(alloc: Global, name: &str, suspended: bool) -> Result<Vec<u8>, Fau
 /// The body that tells of a grant.
 fn granted_body(alloc: Global, grant: &Grant, suspended: bool) -> Result<Vec<u8>, Fault>
     ensures { IfOk result (λ body. (until : List ℕ) × IsDateText (pos grant.now.until) until
-        × (body.items ≡ standing_body (Standing.Granted grant.now) suspended until)) }
+        × (body.items ≡ granted_body grant.now suspended until)) }
 {
     let mut body = Vec::new(alloc);
     push(b"{\"conditions\":[", &mut body)?;
@@ -60,13 +60,6 @@ fn granted_body(alloc: Global, grant: &Grant, suspended: bool) -> Result<Vec<u8>
     grant.until.write(&mut body)?;
     push(b"\"}", &mut body)?;
     Ok(body)
-}
-
-/// `true` or `false`.
-fn truth_text(value: bool) -> &'static [u8]
-    ensures { result.now ≡ truth_text value }
-{
-    if value { b"true" } else { b"false" }
 }
 
 /// The conditions as JSON texts, with a comma between each two.
@@ -89,12 +82,4 @@ fn write_condition(condition: Condition, out: &mut Vec<u8>) -> Result<(), Fault>
     push(b"\"", out)?;
     push(condition_text(condition).as_slice(), out)?;
     push(b"\"", out)
-}
-
-/// Adds bytes at the end.
-fn push(text: &[u8], out: &mut Vec<u8>) -> Result<(), Fault>
-    ensures { OnOk result (out.new.items ≡ out.old.items ++ text.now) }
-{
-    out.extend_from_slice(text)?;
-    Ok(())
 }

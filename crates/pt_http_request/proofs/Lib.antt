@@ -4,4 +4,5 @@ pub mod TargetLemmas
 pub mod EntryLemmas
 pub mod SettingsLemmas
 pub mod VehicleLemmas
+pub mod WishLemmas
 pub mod MessageLemmas

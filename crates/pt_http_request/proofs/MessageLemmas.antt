@@ -3,6 +3,7 @@ use Rattle.std.proofs.Common.{◌≡◌, ℕ, List, Option, Some, refl, ap, sym,
 use Rattle.std.specs.Prelude.{codes, Result, Ok, Err, IfOk, IfErr}
 use Rattle.matchit.specs.Router.{RouteOf}
 use Rattle.matchit.specs.Rows.{RowsOf}
+use Rattle.pt_base.specs.declared.trip.Wish.{Wish}
 use Rattle.pt_desk_rules.specs.declared.request.Read.{Read}
 use Rattle.pt_desk_rules.specs.declared.request.Read.TheVariants as read
 use Rattle.pt_desk_rules.specs.declared.request.Request.TheVariants as request
@@ -31,6 +32,7 @@ use Rattle.pt_http_request.proofs.SettingsLemmas.{policy-same, place-same}
 use Rattle.pt_http_request.proofs.ListLemmas.{some-same, value-unique, error-unique, value-or-error}
 use Rattle.pt_http_request.proofs.TargetLemmas.{IsTarget-route}
 use Rattle.pt_http_request.proofs.VehicleLemmas.{SpellsVehicle-unique, vehicle_or_fault, vehicle_fault-unique}
+use Rattle.pt_http_request.proofs.WishLemmas.{SpellsWish-unique, wish_or_fault, wish_fault-unique, booked_rider-unique, booking_or_fault, booking_fault-unique}
 
 -- ---- targets
 
@@ -61,6 +63,18 @@ IsTarget-unique path.Standing (Some rider) (Some day) (target.Read (read.Standin
     ∙ ap (λ (d : ℕ). target.Read (read.Standing other d)) (SpellsDay-unique day number other_number x.1 y.1)
 IsTarget-unique path.Standing (Some rider) (Some day) (target.Read (read.Standing id number)) b x y = absurd y
 IsTarget-unique path.Standing one two a b x y = absurd x
+IsTarget-unique path.RiderTrips (Some rider) two (target.Read (read.Trips id)) (target.Read (read.Trips other)) x y = ap (λ (i : ℕ). target.Read (read.Trips i)) (SpellsNumber-unique _ _ rider id other x.0 y.0)
+IsTarget-unique path.RiderTrips (Some rider) two (target.Read (read.Trips id)) b x y = absurd y
+IsTarget-unique path.RiderTrips one two a b x y = absurd x
+IsTarget-unique path.Trips one two (target.Write writes.Trips) (target.Write writes.Trips) x y = refl
+IsTarget-unique path.Trips one two (target.Write writes.Trips) b x y = absurd y
+IsTarget-unique path.Trips one two a b x y = absurd x
+IsTarget-unique path.Change (Some trip) two (target.Write (writes.Change id)) (target.Write (writes.Change other)) x y = ap (λ (i : ℕ). target.Write (writes.Change i)) (SpellsNumber-unique _ _ trip id other x.0 y.0)
+IsTarget-unique path.Change (Some trip) two (target.Write (writes.Change id)) b x y = absurd y
+IsTarget-unique path.Change one two a b x y = absurd x
+IsTarget-unique path.Cancel (Some trip) two (target.Write (writes.Cancel id)) (target.Write (writes.Cancel other)) x y = ap (λ (i : ℕ). target.Write (writes.Cancel i)) (SpellsNumber-unique _ _ trip id other x.0 y.0)
+IsTarget-unique path.Cancel (Some trip) two (target.Write (writes.Cancel id)) b x y = absurd y
+IsTarget-unique path.Cancel one two a b x y = absurd x
 
 pub SpellsTarget-unique : (routes : RowsOf (RouteOf Path)) (text : List ℕ) (one other : Target) → SpellsTarget routes text one → SpellsTarget routes text other → one ≡ other
 SpellsTarget-unique routes text one other a b =
@@ -112,6 +126,17 @@ SpellsFields-unique (writes.Entries id) body (write.Enter rider one) (write.Ente
     ap (λ (i : ℕ). write.Enter i one) (a.0 ∙ sym b.0) ∙ ap (λ e. write.Enter other_rider e) (SpellsEntry-unique body one other a.1 b.1)
 SpellsFields-unique (writes.Entries id) body (write.Enter rider one) other a b = absurd b
 SpellsFields-unique (writes.Entries id) body one other a b = absurd a
+SpellsFields-unique writes.Trips body (write.Book rider one) (write.Book same other) a b =
+    ap (λ (i : ℕ). write.Book i one) (booked_rider-unique body rider same one other a b) ∙ ap (λ (w : Wish). write.Book same w) (SpellsWish-unique body one other a.wished b.wished)
+SpellsFields-unique writes.Trips body (write.Book rider one) other a b = absurd b
+SpellsFields-unique writes.Trips body one other a b = absurd a
+SpellsFields-unique (writes.Change id) body (write.Change trip one) (write.Change same other) a b =
+    ap (λ (i : ℕ). write.Change i one) (a.0 ∙ sym b.0) ∙ ap (λ (w : Wish). write.Change same w) (SpellsWish-unique body one other a.1 b.1)
+SpellsFields-unique (writes.Change id) body (write.Change trip one) other a b = absurd b
+SpellsFields-unique (writes.Change id) body one other a b = absurd a
+SpellsFields-unique (writes.Cancel id) body (write.Cancel one) (write.Cancel other) a b = ap (λ (i : ℕ). write.Cancel i) (a ∙ sym b)
+SpellsFields-unique (writes.Cancel id) body (write.Cancel one) other a b = absurd b
+SpellsFields-unique (writes.Cancel id) body one other a b = absurd a
 
 fields_or_fault : (asked : WriteTarget) (body : Data) (one : Write) (name : FieldName) → SpellsFields asked body one → IsFieldFault asked body name → ⊥
 fields_or_fault writes.Callers body (write.PutCaller caller) name a wrong = value-or-error _ _ _ a wrong
@@ -128,6 +153,11 @@ fields_or_fault writes.Vehicles body (write.PutVehicle vehicle) name a wrong = v
 fields_or_fault writes.Vehicles body one name a wrong = absurd a
 fields_or_fault (writes.Entries id) body (write.Enter rider one) name a wrong = entry_or_fault body one name a.1 wrong
 fields_or_fault (writes.Entries id) body one name a wrong = absurd a
+fields_or_fault writes.Trips body (write.Book rider wish) name a wrong = booking_or_fault body rider wish name a wrong
+fields_or_fault writes.Trips body one name a wrong = absurd a
+fields_or_fault (writes.Change id) body (write.Change trip wish) name a wrong = wish_or_fault body wish name a.1 wrong
+fields_or_fault (writes.Change id) body one name a wrong = absurd a
+fields_or_fault (writes.Cancel id) body one name a wrong = absurd wrong
 
 field_fault-unique : (asked : WriteTarget) (body : Data) (one other : FieldName) → IsFieldFault asked body one → IsFieldFault asked body other → one ≡ other
 field_fault-unique writes.Callers body one other a b = error-unique _ _ _ a b
@@ -137,6 +167,9 @@ field_fault-unique writes.Routes body one other a b = error-unique _ _ _ a b
 field_fault-unique writes.Riders body one other a b = error-unique _ _ _ a b
 field_fault-unique writes.Vehicles body one other a b = vehicle_fault-unique body one other a b
 field_fault-unique (writes.Entries id) body one other a b = entry_fault-unique body one other a b
+field_fault-unique writes.Trips body one other a b = booking_fault-unique body one other a b
+field_fault-unique (writes.Change id) body one other a b = wish_fault-unique body one other a b
+field_fault-unique (writes.Cancel id) body one other a b = absurd a
 
 -- ---- writes
 

@@ -16,6 +16,7 @@ use Rattle.pt_desk_rules.specs.declared.request.Read.TheVariants as read
 -- a route to a standing takes a day as its second part
 day_of_two : (rider day : List ℕ) (asked : Target) → IsTarget path.Standing (Some rider) (Some day) asked → (number : ℕ) × SpellsDay day number
 day_of_two rider day (target.Read (read.Standing id number)) named = (number, named.1)
+day_of_two rider day (target.Read (read.Trips id)) named = absurd named
 day_of_two rider day (target.Write goes) named = absurd named
 
 pub day_of_standing : (which : Path) (one two : Option (List ℕ)) (rider day : List ℕ) (asked : Target) → which ≡ path.Standing → one ≡ Some rider → two ≡ Some day → IsTarget which one two asked → (number : ℕ) × SpellsDay day number

@@ -8,6 +8,7 @@ pub mod Policy
 pub mod Places
 pub mod Routes
 pub mod Vehicles
+pub mod Trips
 pub mod Targets
 pub mod Headers
 pub mod Messages

@@ -22,6 +22,7 @@ use Rattle.pt_http_request.specs.Policy.{policy_in, settled}
 use Rattle.pt_http_request.specs.Places.{place_in, fields_of}
 use Rattle.pt_http_request.specs.Routes.{route_in}
 use Rattle.pt_http_request.specs.Vehicles.{SpellsVehicle, IsVehicleFault}
+use Rattle.pt_http_request.specs.Trips.{SpellsWish, IsWishFault, SpellsBooking, IsBookingFault}
 use Rattle.pt_http_request.specs.Headers.{key_in, IsNumberIn}
 use Rattle.pt_http_request.specs.declared.fault.MessageFault.{MessageFault}
 use Rattle.pt_http_request.specs.declared.fault.MessageFault.TheVariants.{Refused, Memory}
@@ -56,6 +57,9 @@ SpellsFields writes.Routes body (write.PutRoute route) = route_in body ≡ Ok ro
 SpellsFields writes.Riders body (write.PutRider rider) = rider_in body ≡ Ok rider
 SpellsFields writes.Vehicles body (write.PutVehicle vehicle) = SpellsVehicle body vehicle
 SpellsFields (writes.Entries id) body (write.Enter rider entry) = (rider ≡ id) × SpellsEntry body entry
+SpellsFields writes.Trips body (write.Book rider wish) = SpellsBooking body rider wish
+SpellsFields (writes.Change id) body (write.Change trip wish) = (trip ≡ id) × SpellsWish body wish
+SpellsFields (writes.Cancel id) body (write.Cancel trip) = trip ≡ id
 SpellsFields _ _ _ = ⊥
 
 -- the field is the first of the body that keeps it from spelling one
@@ -67,6 +71,9 @@ IsFieldFault writes.Routes body name = route_in body ≡ Err name
 IsFieldFault writes.Riders body name = rider_in body ≡ Err name
 IsFieldFault writes.Vehicles body name = IsVehicleFault body name
 IsFieldFault (writes.Entries id) body name = IsEntryFault body name
+IsFieldFault writes.Trips body name = IsBookingFault body name
+IsFieldFault (writes.Change id) body name = IsWishFault body name
+IsFieldFault (writes.Cancel id) body name = ⊥
 
 -- a write as its header lines and its body give it: JSON, key, number, fields
 pub record SpellsWrite (asked : WriteTarget)

@@ -26,14 +26,18 @@ with_route (Err error) value rows = rows
 -- the routes of the desk
 abbrev pub desk_routes : RowsOf (RouteOf Path)
 desk_routes =
-    with_route (parse_route (codes "/riders/{rider}/standing/{day}")) path.Standing
+    with_route (parse_route (codes "/trips/{trip}/cancel")) path.Cancel
+    (with_route (parse_route (codes "/trips/{trip}/change")) path.Change
+    (with_route (parse_route (codes "/trips")) path.Trips
+    (with_route (parse_route (codes "/riders/{rider}/trips")) path.RiderTrips
+    (with_route (parse_route (codes "/riders/{rider}/standing/{day}")) path.Standing
     (with_route (parse_route (codes "/riders/{rider}/entries")) path.Entries
     (with_route (parse_route (codes "/vehicles")) path.Vehicles
     (with_route (parse_route (codes "/riders")) path.Riders
     (with_route (parse_route (codes "/routes")) path.Routes
     (with_route (parse_route (codes "/places")) path.Places
     (with_route (parse_route (codes "/policy")) path.Policy
-    (with_route (parse_route (codes "/callers")) path.Callers [])))))))
+    (with_route (parse_route (codes "/callers")) path.Callers [])))))))))))
 
 -- the parts of a path that the parameters of its route took, in order
 abbrev pub parts_of : RouteOf Path → List ℕ → List (List ℕ)
@@ -55,6 +59,10 @@ IsTarget path.Vehicles one two (target.Write writes.Vehicles) = Unit {0}
 IsTarget path.Entries (Some rider) two (target.Write (writes.Entries id)) = SpellsId rider id
 IsTarget path.Standing (Some rider) (Some day) (target.Read (read.Standing id number)) =
     SpellsId rider id × SpellsDay day number
+IsTarget path.RiderTrips (Some rider) two (target.Read (read.Trips id)) = SpellsId rider id
+IsTarget path.Trips one two (target.Write writes.Trips) = Unit {0}
+IsTarget path.Change (Some trip) two (target.Write (writes.Change id)) = SpellsId trip id
+IsTarget path.Cancel (Some trip) two (target.Write (writes.Cancel id)) = SpellsId trip id
 IsTarget _ _ _ _ = ⊥
 
 -- a path of ASCII names what its route names

@@ -23,4 +23,5 @@ mod routes;
 mod targets;
 #[cfg(test)]
 mod tests;
+mod trips;
 mod vehicles;

@@ -18,6 +18,7 @@ use crate::policy::policy_of;
 use crate::riders::rider_of;
 use crate::routes::route_of;
 use crate::targets::{Path, Target, WriteTarget, target_at};
+use crate::trips::{booking_of, wish_of};
 use crate::vehicles::vehicle_of;
 use httparse::spans::HeaderSpan;
 use matchit::Router;
@@ -70,6 +71,15 @@ fn fields_from(alloc: Global, target: WriteTarget, body: &Value) -> Result<Write
             let entry = entry_of(alloc, body)?;
             Ok(Write::Enter { rider, entry })
         }
+        WriteTarget::Trips => {
+            let (rider, wish) = booking_of(body)?;
+            Ok(Write::Book { rider, wish })
+        }
+        WriteTarget::Change(trip) => {
+            let wish = wish_of(body)?;
+            Ok(Write::Change { trip, wish })
+        }
+        WriteTarget::Cancel(trip) => Ok(Write::Cancel(trip)),
     }
 }
 

@@ -6,7 +6,7 @@ ghost use Rattle.pt_http_request.specs.declared.targets.Target.{Target};
 use crate::fields::day_from;
 use crate::numbers::id_from;
 use matchit::{InsertError, ParamsIter, Router};
-use pt_base::RiderId;
+use pt_base::{RiderId, TripId};
 use pt_desk::Read;
 use std::alloc::Global;
 use std::str;
@@ -22,6 +22,10 @@ pub enum Path {
     Vehicles,
     Entries,
     Standing,
+    RiderTrips,
+    Trips,
+    Change,
+    Cancel,
 }
 
 /// What the path of a request names.
@@ -50,6 +54,12 @@ pub enum WriteTarget {
     Vehicles,
     /// A rider's case file.
     Entries(RiderId),
+    /// The trips of riders.
+    Trips,
+    /// A booked trip, for what its rider wishes instead.
+    Change(TripId),
+    /// A booked trip that is given up.
+    Cancel(TripId),
 }
 
 /// A router over the paths of the desk.
@@ -65,6 +75,10 @@ pub fn desk_router(alloc: Global) -> Result<Router<Path>, InsertError>
     router.insert("/vehicles", Path::Vehicles)?;
     router.insert("/riders/{rider}/entries", Path::Entries)?;
     router.insert("/riders/{rider}/standing/{day}", Path::Standing)?;
+    router.insert("/riders/{rider}/trips", Path::RiderTrips)?;
+    router.insert("/trips", Path::Trips)?;
+    router.insert("/trips/{trip}/change", Path::Change)?;
+    router.insert("/trips/{trip}/cancel", Path::Cancel)?;
     Ok(router)
 }
 
@@ -101,6 +115,10 @@ fn target_from(path: Path, one: Option<&str>, two: Option<&str>) -> Option<Targe
             let day = day_from(two?)?;
             Some(Target::Read(Read::Standing { rider, day }))
         }
+        Path::RiderTrips => Some(Target::Read(Read::Trips(id_from(one?)?))),
+        Path::Trips => Some(Target::Write(WriteTarget::Trips)),
+        Path::Change => Some(Target::Write(WriteTarget::Change(id_from(one?)?))),
+        Path::Cancel => Some(Target::Write(WriteTarget::Cancel(id_from(one?)?))),
     }
 }
 

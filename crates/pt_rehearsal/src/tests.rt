@@ -10,13 +10,17 @@ use std::test::Fail;
 
 /// The admin `abc` puts the clerk `hello`.
 const PUT_CLERK: &str =
-    "POST /callers HTTP/1.1\r\nDesk-Key: abc\r\nDesk-Number: 1\r\nContent-Length: 111\r\n\r\n{\"id\":2,\"role\":\"clerk\",\"subject\":0,\"digest\":\"2cf24dba5fb0a30e26e83b2ac5b9e29e1b161e5c1fa7425e73043362938b9824\"}";
+    "POST /callers HTTP/1.1\r\nDesk-Key: abc\r\nDesk-Number: 1\r\nContent-Length: 111\r\n\r\n{\"id\":2,\
+     \"role\":\"clerk\",\"subject\":0,\
+     \"digest\":\"2cf24dba5fb0a30e26e83b2ac5b9e29e1b161e5c1fa7425e73043362938b9824\"}";
 
 const PUT_RIDER: &str =
-    "POST /riders HTTP/1.1\r\nDesk-Key: hello\r\nDesk-Number: 1\r\nContent-Length: 44\r\n\r\n{\"id\":7,\"kind\":\"resident\",\"attendant\":false}";
+    "POST /riders HTTP/1.1\r\nDesk-Key: hello\r\nDesk-Number: 1\r\nContent-Length: 44\r\n\r\n{\"id\":7,\
+     \"kind\":\"resident\",\"attendant\":false}";
 
 const COMPLETE: &str =
-    "POST /riders/7/entries HTTP/1.1\r\nDesk-Key: hello\r\nDesk-Number: 2\r\nContent-Length: 20\r\n\r\n{\"entry\":\"complete\"}";
+    "POST /riders/7/entries HTTP/1.1\r\nDesk-Key: hello\r\nDesk-Number: 2\r\nContent-Length: 20\r\n\r\n\
+     {\"entry\":\"complete\"}";
 
 const STANDING: &str =
     "GET /riders/7/standing/2025-03-14 HTTP/1.1\r\nDesk-Key: hello\r\nContent-Length: 0\r\n\r\n";
@@ -74,7 +78,8 @@ impl Read for Pieces<'_> {
 /// A reply with no line of its own.
 fn plain_reply(alloc: Global, status: &str, length: &str, body: &str) -> Result<String, Fail> {
     Ok(format!(in alloc;
-        "HTTP/1.1 {status}\r\nContent-Type: application/json\r\nContent-Length: {length}\r\nConnection: close\r\n\r\n{body}"
+        "HTTP/1.1 {status}\r\nContent-Type: application/json\r\nContent-Length: {length}\r\nConnection: close\r\n\
+         \r\n{body}"
     )?)
 }
 

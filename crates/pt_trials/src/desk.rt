@@ -71,6 +71,8 @@ enum Told {
     Entered(u32),
     Standing((&'static str, u32), bool),
     Visitor,
+    /// Something of trips, which nobody asks for here.
+    Trips,
     Denied(Rule),
 }
 
@@ -340,6 +342,7 @@ fn plain_answer(answer: &Answer) -> Told {
         Answer::Entered(place) => Told::Entered(*place),
         Answer::Denied(rule) => Told::Denied(*rule),
         Answer::Visitor { .. } => Told::Visitor,
+        Answer::Booked(_) | Answer::Trips(_) => Told::Trips,
         Answer::Standing {
             standing,
             suspended,

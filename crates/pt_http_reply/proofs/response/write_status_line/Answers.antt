@@ -1,4 +1,4 @@
-use Rattle.std.proofs.Common.{◌≡◌, ◌+◌, ◌++◌, ◌∷◌, [], codes, decimal, length, unwrap_or, ap, ◌∙◌, arith, length-append}
+use Rattle.std.proofs.Common.{◌≡◌, ◌+◌, ◌++◌, codes, decimal, length, unwrap_or, ap, ◌∙◌, arith, length-append}
 use Rattle.http.specs.StatusCode.{reason_phrase}
 use Rattle.pt_http_reply.proofs.ReplyLemmas.{five_parts, phrase_now}
 use Rattle.pt_http_reply.proofs.response.write_status_line.Goals as goal

@@ -1,4 +1,4 @@
-use Rattle.std.proofs.Common.{rules, ◌≡◌, sym, ◌∙◌, Ok, inl, inr}
+use Rattle.std.proofs.Common.{rules, ◌≡◌, Ok, inl, inr}
 use Rattle.std.proofs.lemmas.Result.{err_from_is_err_and}
 use Rattle.serde_json.specs.View.{view}
 use Rattle.pt_http_reply.specs.declared.fault.FieldName.TheVariants as field
