@@ -1,0 +1,96 @@
+-- No two requests have one spelling.
+use Rattle.std.proofs.Common.{◌≡◌, ℕ, ◌≤◌, List, [], ◌∷◌, ◌++◌, get_or, drop, refl, sym, ap, ◌∙◌, append_assoc, arith}
+use Rattle.std.specs.List.{All}
+use Rattle.pt_base.specs.declared.place.Place.{Place}
+use Rattle.pt_base.specs.declared.policy.Policy.{Policy}
+use Rattle.pt_base.specs.declared.rider.Residence.{Residence}
+use Rattle.pt_base.specs.declared.rider.Residence.TheVariants.{Resident, Visitor}
+use Rattle.pt_base.specs.declared.rider.Rider.{Rider}
+use Rattle.pt_base.specs.declared.trip.Wish.{Wish}
+use Rattle.pt_base.specs.declared.vehicle.Vehicle.{Vehicle}
+use Rattle.pt_corridor.specs.Route.{Route}
+use Rattle.pt_desk_rules.specs.declared.caller.Caller.{Caller}
+use Rattle.pt_desk_rules.specs.declared.request.Write.{Write}
+use Rattle.pt_desk_rules.specs.declared.request.Write.TheVariants as write
+use Rattle.pt_rights.specs.declared.entry.Entry.{Entry}
+use Rattle.pt_travel.specs.Chain.{Row}
+use Rattle.pt_travel.specs.Table.{IsTable}
+use Rattle.pt_spelling.specs.Fields.{number_bytes, numbers_bytes, truth_bytes, optional_bytes, list_bytes}
+use Rattle.pt_spelling.specs.Ranges.{IsWord, IsEntry, IsWish, IsRow, IsRequest}
+use Rattle.pt_spelling.specs.Requests.{kind_number, rider_bytes, entry_bytes, wish_bytes, row_bytes, spelling}
+use Rattle.pt_spelling.proofs.EntryLemmas.{entry-same}
+use Rattle.pt_spelling.proofs.FieldLemmas.{four_parts, byte-then, number-then, number-same, numbers-then, list-same, truth-then, optional-then}
+use Rattle.pt_spelling.proofs.SettingLemmas.{caller-same, policy-same, place-same, route-same, vehicle-same, row-then}
+use Rattle.pt_spelling.proofs.TableLemmas.{length-table}
+
+-- ---- riders and trips
+
+kind-same : (one other : Residence) → kind_number one ≡ kind_number other → one ≡ other
+kind-same Resident Resident e = refl
+kind-same Visitor Visitor e = refl
+kind-same one other e = absurd (omega arith)
+
+rider-same : (one other : Rider) → IsWord one.id → IsWord other.id → rider_bytes one ≡ rider_bytes other → one ≡ other
+rider-same one other ones others e =
+    let grouped : number_bytes one.id ++ (kind_number one.kind ∷ truth_bytes one.attendant) ≡ number_bytes other.id ++ (kind_number other.kind ∷ truth_bytes other.attendant) = simp append_assoc at e in
+    let id = number-then one.id other.id _ _ ones others grouped in
+    let kind = byte-then (kind_number one.kind) (kind_number other.kind) _ _ id.1 in
+    let attendant = truth-then one.attendant other.attendant [] [] (ap (λ (t : List ℕ). t ++ []) kind.1) in
+    let residence = kind-same one.kind other.kind kind.0 in
+    λ i. record { id = id.0 i; kind = residence i; attendant = attendant.0 i }
+
+wish-same : (one other : Wish) → IsWish one → IsWish other → wish_bytes one ≡ wish_bytes other → one ≡ other
+wish-same one other ones others e =
+    let ends : Wish → List ℕ = λ w. w.day ∷ w.pickup ∷ w.from ∷ w.to ∷ [] in
+    let parts : (w : Wish) → wish_bytes w ≡ numbers_bytes (ends w) ++ (optional_bytes w.by ++ (truth_bytes w.attendant ++ number_bytes w.companions)) = λ w. four_parts (numbers_bytes (ends w)) (optional_bytes w.by) (truth_bytes w.attendant) (number_bytes w.companions) in
+    let grouped : numbers_bytes (ends one) ++ (optional_bytes one.by ++ (truth_bytes one.attendant ++ number_bytes one.companions)) ≡ numbers_bytes (ends other) ++ (optional_bytes other.by ++ (truth_bytes other.attendant ++ number_bytes other.companions)) = sym (parts one) ∙ e ∙ parts other in
+    let front = numbers-then (ends one) (ends other) _ _ refl (ones.day, (ones.pickup, (ones.from, (ones.to, tt)))) (others.day, (others.pickup, (others.from, (others.to, tt)))) grouped in
+    let by = optional-then one.by other.by _ _ ones.by others.by front.1 in
+    let attendant = truth-then one.attendant other.attendant _ _ by.1 in
+    let companions = number-same one.companions other.companions ones.companions others.companions attendant.1 in
+    λ i. record { day = get_or (front.0 i) 0 0; pickup = get_or (front.0 i) 1 0; from = get_or (front.0 i) 2 0; to = get_or (front.0 i) 3 0; by = by.0 i; attendant = attendant.0 i; companions = companions i }
+
+-- ---- travel tables
+
+rows-fit : (rows : List Row) → IsTable rows → All IsRow rows → All (λ row. IsRow row × (row.2 ≤ 1439)) rows
+rows-fit rows table fits = λ k d below. (fits k d below, table.within_a_day k d below)
+
+table-same : (one other : List Row) → IsTable one × All IsRow one → IsTable other × All IsRow other → list_bytes row_bytes one ≡ list_bytes row_bytes other → one ≡ other
+table-same one other ones others e =
+    let few = length-table one ones.0 in
+    let others_few = length-table other others.0 in
+    list-same (λ (row : Row). IsRow row × (row.2 ≤ 1439)) row_bytes row-then one other (omega arith) (omega arith) (rows-fit one ones.0 ones.1) (rows-fit other others.0 others.1) e
+
+-- ---- requests
+
+entered-same : (rider id : ℕ) (one other : Entry) → IsWord rider × IsEntry one → IsWord id × IsEntry other → number_bytes rider ++ entry_bytes one ≡ number_bytes id ++ entry_bytes other → write.Enter rider one ≡ write.Enter id other
+entered-same rider id one other ones others e =
+    let number = number-then rider id (entry_bytes one) (entry_bytes other) ones.0 others.0 e in
+    let same = entry-same one other ones.1 others.1 number.1 in
+    λ i. write.Enter (number.0 i) (same i)
+
+wished-same : (make : ℕ → Wish → Write) (a b : ℕ) (one other : Wish) → IsWord a × IsWish one → IsWord b × IsWish other → number_bytes a ++ wish_bytes one ≡ number_bytes b ++ wish_bytes other → make a one ≡ make b other
+wished-same make a b one other ones others e =
+    let number = number-then a b (wish_bytes one) (wish_bytes other) ones.0 others.0 e in
+    let same = wish-same one other ones.1 others.1 number.1 in
+    λ i. make (number.0 i) (same i)
+
+travel-same : (a b : ℕ) (one other : List Row) → IsWord a × IsTable one × All IsRow one → IsWord b × IsTable other × All IsRow other → number_bytes a ++ list_bytes row_bytes one ≡ number_bytes b ++ list_bytes row_bytes other → write.Travel a one ≡ write.Travel b other
+travel-same a b one other ones others e =
+    let day = number-then a b (list_bytes row_bytes one) (list_bytes row_bytes other) ones.0 others.0 e in
+    let rows = table-same one other (ones.1, ones.2) (others.1, others.2) day.1 in
+    λ i. write.Travel (day.0 i) (rows i)
+
+pub spelling-injective : (one other : Write) → IsRequest one → IsRequest other → spelling one ≡ spelling other → one ≡ other
+spelling-injective (write.PutCaller a) (write.PutCaller b) ones others e = ap (λ (c : Caller). write.PutCaller c) (caller-same a b ones others (ap (drop 1) e))
+spelling-injective (write.PutPolicy a) (write.PutPolicy b) ones others e = ap (λ (p : Policy). write.PutPolicy p) (policy-same a b (ap (drop 1) e))
+spelling-injective (write.PutPlace a) (write.PutPlace b) ones others e = ap (λ (p : Place). write.PutPlace p) (place-same a b ones others (ap (drop 1) e))
+spelling-injective (write.PutRoute a) (write.PutRoute b) ones others e = ap (λ (r : Route). write.PutRoute r) (route-same a b ones others (ap (drop 1) e))
+spelling-injective (write.PutVehicle a) (write.PutVehicle b) ones others e = ap (λ (v : Vehicle). write.PutVehicle v) (vehicle-same a b ones others (ap (drop 1) e))
+spelling-injective (write.PutRider a) (write.PutRider b) ones others e = ap (λ (r : Rider). write.PutRider r) (rider-same a b ones others (ap (drop 1) e))
+spelling-injective (write.Enter rider a) (write.Enter id b) ones others e = entered-same rider id a b ones others (ap (drop 1) e)
+spelling-injective (write.Book rider a) (write.Book id b) ones others e = wished-same (λ n w. write.Book n w) rider id a b ones others (ap (drop 1) e)
+spelling-injective (write.Change trip a) (write.Change id b) ones others e = wished-same (λ n w. write.Change n w) trip id a b ones others (ap (drop 1) e)
+spelling-injective (write.Cancel a) (write.Cancel b) ones others e = ap (λ (n : ℕ). write.Cancel n) (number-same a b ones others (ap (drop 1) e))
+spelling-injective (write.Travel day a) (write.Travel other b) ones others e = travel-same day other a b ones others (ap (drop 1) e)
+spelling-injective one other ones others e = absurd (omega (arith, ap (λ (bytes : List ℕ). get_or bytes 0 0) e))

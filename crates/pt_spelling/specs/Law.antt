@@ -1,0 +1,10 @@
+-- What the spelling of a request is for.
+use Rattle.std.specs.Prelude.{◌≡◌}
+use Rattle.pt_desk_rules.specs.declared.request.Write.{Write}
+use Rattle.pt_spelling.specs.Ranges.{IsRequest}
+use Rattle.pt_spelling.specs.Requests.{spelling}
+
+-- no two requests have one spelling
+abbrev pub SpellingTellsRequest : Type 0
+SpellingTellsRequest =
+    (one other : Write) → IsRequest one → IsRequest other → spelling one ≡ spelling other → one ≡ other

@@ -1,0 +1,50 @@
+-- How what the sender of an accepted request is told is spelled in bytes.
+use Rattle.std.specs.Prelude.{◌≡◌, ℕ, ◌^◌, ◌<◌, ◌≤◌, List, [], ◌∷◌, Option, None, Some}
+use Rattle.pt_base.specs.Ranges.{last_minute}
+use Rattle.pt_desk_rules.specs.declared.request.Answer.{Answer}
+use Rattle.pt_desk_rules.specs.declared.request.Answer.TheVariants as answer
+use Rattle.pt_desk_rules.specs.declared.request.Confirmation.{Confirmation}
+use Rattle.pt_spelling.specs.Fields.{number_bytes, numbers_bytes}
+use Rattle.pt_spelling.specs.declared.replies.KeptReply.{KeptReply}
+use Rattle.pt_spelling.specs.declared.replies.KeptReply.TheVariants.{Done, Entered, Booked}
+
+-- the numbers that tell of a booked trip
+abbrev pub numbers_told : Confirmation → List ℕ
+numbers_told told = told.trip ∷ told.vehicle ∷ told.window_from ∷ told.window_to ∷ told.fare ∷ told.due ∷ []
+
+-- a reply: how it is told apart, and its numbers
+abbrev pub reply_spelling : KeptReply → List ℕ
+reply_spelling Done = 0 ∷ []
+reply_spelling (Entered position) = 1 ∷ number_bytes position
+reply_spelling (Booked told) = 2 ∷ numbers_bytes (numbers_told told)
+
+-- what is kept of what the desk answers: nothing of a denial or of what a read is told
+abbrev pub reply_of : Answer → Option KeptReply
+reply_of answer.Done = Some Done
+reply_of (answer.Entered position) = Some (Entered position)
+reply_of (answer.Booked told) = Some (Booked told)
+reply_of _ = None
+
+-- what the desk answers where the reply was kept
+abbrev pub answer_of : KeptReply → Answer
+answer_of Done = answer.Done
+answer_of (Entered position) = answer.Entered position
+answer_of (Booked told) = answer.Booked told
+
+-- the number of a record, in 32 bits
+abbrev pub IsId : ℕ → Type 0
+IsId id = (1 ≤ id) × (id < 2 ^ 32)
+
+-- a trip and a vehicle have numbers, and the window lies within a day; the ranges of the fares are part of what is told
+abbrev pub IsTold : Confirmation → Type 0
+IsTold told = IsId told.trip × IsId told.vehicle × (told.window_from ≤ last_minute) × (told.window_to ≤ last_minute)
+
+-- the numbers of a reply are in their ranges
+abbrev pub IsReply : KeptReply → Type 0
+IsReply Done = Unit {0}
+IsReply (Entered position) = position < 2 ^ 32
+IsReply (Booked told) = IsTold told
+
+-- the bytes spell this reply
+abbrev pub SpellsReply : List ℕ → KeptReply → Type 0
+SpellsReply bytes reply = IsReply reply × (bytes ≡ reply_spelling reply)

@@ -1,0 +1,16 @@
+//! The bytes in which the desk keeps a caller's last accepted request, and what the caller was told.
+#![tactic(auto)]
+
+pub use law::spelling_tells_its_request;
+pub use replies::{KeptReply, LONGEST_REPLY_SPELLING, read_reply, spell_reply};
+pub use requests::spell;
+
+mod fields;
+mod law;
+mod replies;
+mod requests;
+mod riders;
+mod settings;
+#[cfg(test)]
+mod tests;
+mod trips;

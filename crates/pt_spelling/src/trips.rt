@@ -1,0 +1,24 @@
+ghost use Rattle.std.specs.Prelude.{◌≡◌, ◌++◌, OnOk};
+ghost use Rattle.pt_spelling.specs.Ranges.{IsWish};
+ghost use Rattle.pt_spelling.specs.Requests.{wish_bytes};
+
+use crate::fields::{push_number, push_numbers, push_optional, push_truth};
+use pt_base::Wish;
+use std::alloc::AllocError;
+
+/// Adds the fields of a trip as a rider wishes it. The error is want of memory.
+pub(crate) fn push_wish(wish: &Wish, out: &mut Vec<u8>) -> Result<(), AllocError>
+    ensures text { OnOk result (out.new.items ≡ out.old.items ++ wish_bytes wish.now) }
+    ensures ranges { OnOk result (IsWish wish.now) }
+{
+    let numbers = [
+        wish.day.number(),
+        wish.pickup.number(),
+        wish.from.number(),
+        wish.to.number(),
+    ];
+    push_numbers(&numbers, out)?;
+    push_optional(wish.by, out)?;
+    push_truth(wish.attendant, out)?;
+    push_number(u32::from(wish.companions), out)
+}
