@@ -1,3 +1,5 @@
 mod ListLemmas
 mod ScheduledLemmas
 mod UseLemmas
+pub mod PlanLemmas
+pub mod RouteLemmas

@@ -1,6 +1,7 @@
 -- What is planned for a vehicle on a day: the stops of the trips that stand, each named by its trip.
-use Rattle.std.specs.Prelude.{ℕ, ◌==◌, not, List, [], ◌∷◌, filter, Option, Some, None}
+use Rattle.std.specs.Prelude.{◌≡◌, ℕ, ◌==◌, ◌≤◌, not, List, [], ◌∷◌, length, filter, Option, Some, None}
 use Rattle.pt_base.specs.declared.trip.Trip.{Trip}
+use Rattle.pt_feasible.specs.declared.schedule.TheConstants.{MAX_STOPS}
 use Rattle.pt_feasible.specs.declared.stop.Stop.{Stop}
 use Rattle.pt_feasible.specs.declared.stop.StopKind.{StopKind}
 use Rattle.pt_feasible.specs.declared.stop.StopKind.TheVariants.{Pickup, Drop}
@@ -51,3 +52,23 @@ stops_among trips (stop ∷ later) =
 -- a stop by its trip
 abbrev pub planned_stop : Stop → PlannedStop
 planned_stop stop = record { trip = stop.trip; kind = stop.kind }
+
+-- the stops of one trip
+abbrev pub stops_of_trip : ℕ → List PlannedStop → List PlannedStop
+stops_of_trip trip stops = filter (λ stop. stop.trip == trip) stops
+
+-- no stops, or a pickup and then a drop
+abbrev pub IsPair : List PlannedStop → Type 0
+IsPair [] = Unit {0}
+IsPair (stop ∷ []) = ⊥
+IsPair (first ∷ second ∷ []) = (first.kind ≡ Pickup) × (second.kind ≡ Drop)
+IsPair (first ∷ second ∷ third ∷ later) = ⊥
+
+-- no more stops than a route has room for, and of each trip none, or its pickup and then its drop (Cordeau and Laporte 2003)
+pub record IsPlannedRoute (stops : List PlannedStop) : Type 0 where
+  pub few : length stops ≤ MAX_STOPS
+  pub paired : (trip : ℕ) → IsPair (stops_of_trip trip stops)
+
+-- the stops of the plan are a route
+abbrev pub IsRoutePlan : Plan → Type 0
+IsRoutePlan plan = IsPlannedRoute plan.stops

@@ -32,11 +32,14 @@ pub record IsBookedAt (minutes : ℕ → ℕ → Option ℕ) (vehicles : List On
   pub trip_of : IsTripOf minutes request chosen trip
   pub plan_of : Any (λ duty. IsPlanWith minutes duty trip chosen plan) vehicles
 
+-- the same at some place
+abbrev pub IsBookedIn : (ℕ → ℕ → Option ℕ) → List OnDuty → Request → Trip → Plan → Type 0
+IsBookedIn minutes vehicles request trip plan = (chosen : Chosen) × IsBookedAt minutes vehicles request trip plan chosen
+
 -- booked at the best place where no rule fails, or denied by the first rule that fails: that it is, is said where each of
 -- the vehicles has a route
 abbrev pub IsScheduled : (ℕ → ℕ → Option ℕ) → List OnDuty → Request → Scheduled → Type 0
 IsScheduled minutes vehicles request (Denied rule) =
     AreRoutes request.trip vehicles → IsFirstFailing (booking_rules minutes vehicles request) (Some rule)
 IsScheduled minutes vehicles request (Booked trip plan) =
-    IsFirstFailing (booking_rules minutes vehicles request) None
-    × ((chosen : Chosen) × IsBookedAt minutes vehicles request trip plan chosen)
+    IsFirstFailing (booking_rules minutes vehicles request) None × IsBookedIn minutes vehicles request trip plan
