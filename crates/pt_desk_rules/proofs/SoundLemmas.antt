@@ -26,23 +26,30 @@ use Rattle.pt_rights.specs.Rules.{first_failing}
 use Rattle.pt_rights.specs.declared.entry.Entry.{Entry}
 use Rattle.pt_desk_rules.specs.Limits.{most_callers, most_places, most_routes, most_riders, most_entries, most_tables}
 use Rattle.pt_desk_rules.specs.State.{State, caller_with, rider_of, trip_of, file_of, file_with, caller_key, kept_key, place_key, route_key, rider_key, entry_key, vehicle_key, travel_key, trip_key, span_of, versions_from, tables_from, tables_before, entries_of, applied}
-use Rattle.pt_desk_rules.specs.Facts.{cancel_facts, change_facts, facts_of, has_subject}
+use Rattle.pt_desk_rules.specs.Facts.{cancel_facts, change_facts, facts_of, has_subject, plan_for}
 use Rattle.pt_travel.specs.Chain.{Row}
 use Rattle.pt_desk_rules.proofs.FleetLemmas.{version_stays, fleet_stays}
-use Rattle.pt_desk_rules.specs.Fleet.{vehicle_count, versions_before, versions_of_others}
+use Rattle.pt_desk_rules.specs.Fleet.{is_on_duty, on_duty, vehicle_count, versions_before, versions_of_others}
+use Rattle.pt_desk_rules.specs.Planned.{planned_on, trips_on}
 use Rattle.pt_desk_rules.specs.Travel.{DatedTable}
 use Rattle.pt_desk_rules.specs.Rules.{rules_of, entry_rules, is_nobody_else, is_of_kind, is_nobody_of_another_kind, are_there, has_room_for}
-use Rattle.pt_desk_rules.specs.Booking.{IsBooking}
+use Rattle.pt_desk_rules.specs.Booking.{routes_on, IsBooking}
 use Rattle.pt_desk_rules.specs.Deciding.{booked, IsCancelDecided, IsChangeDecided, IsDecidedBy, IsDecisionAfter, IsMade, IsMadeIf}
 use Rattle.pt_desk_rules.specs.Trips.{cancelled, plan_of_stops, plan_span}
-use Rattle.pt_scheduling.specs.Plan.{Plan, plan_key, stops_of_plan, without}
+use Rattle.pt_booking.specs.Request as request_of
+use Rattle.pt_scheduling.specs.Plan.{Plan, plan_key, planned_stops, stops_of_plan, without, IsPlannedRoute, IsRoutePlan}
+use Rattle.pt_scheduling.specs.Scheduling.{IsBookedIn}
+use Rattle.pt_scheduling.specs.declared.planned.PlannedStop.{PlannedStop}
+use Rattle.pt_scheduling.proofs.PlanLemmas.{any_kept, found_key}
+use Rattle.pt_scheduling.proofs.RouteLemmas.{booked_plan, booked_route, booked_trips, booked_vehicle, left_route, planned_route, Each-found}
+use Rattle.pt_desk_rules.proofs.PlannedLemmas.{left_standing, plans_after, plans_beside, put_stands, standing_without}
 use Rattle.pt_scheduling.specs.declared.scheduling.Scheduled.TheVariants as scheduled
 use Rattle.pt_base.specs.declared.trip.Trip.{Trip}
 use Rattle.pt_base.specs.declared.trip.Wish.{Wish}
 use Rattle.pt_records.specs.declared.span.Span.{Span}
 use Rattle.std.proofs.lemmas.Option.{same_Some}
 use Rattle.pt_desk_rules.specs.Step.{state_after, is_new, left_of, sender, IsOutcome, IsOutcomeBy, IsOutcomeIf}
-use Rattle.pt_desk_rules.specs.Sound.{IsSound, IsNumberedTo, IsSoundFile, IsIn, HasDigest, HasOneHolder, HasSubject, IsOfCaller, IsResidentIn, IsOfResident, HasAuthor, HasFirstDay, HasDepot, IsOfPlaces, AreNumberedFrom}
+use Rattle.pt_desk_rules.specs.Sound.{IsSound, IsNumberedTo, IsSoundFile, IsIn, HasDigest, HasOneHolder, HasSubject, IsOfCaller, IsResidentIn, IsOfResident, HasAuthor, HasFirstDay, HasDepot, HasPlaces, HasStandingTrips, HasVehicle, IsOfPlaces, IsOfRider, StandsIn, AreNumberedFrom}
 use Rattle.pt_desk_rules.specs.declared.caller.Caller.{Caller}
 use Rattle.pt_desk_rules.specs.declared.caller.Kept.{Kept}
 use Rattle.pt_desk_rules.specs.declared.caller.Role.{Role}
@@ -122,6 +129,8 @@ put_place_sound new s sound room =
     let table = IsTable-add place_key new s.places most_places sound.places room in
     let depots = Each-weaker (HasDepot s.places) (HasDepot (put place_key new s.places)) (λ version there. stays_there place_key version.depot new s.places there) s.vehicles sound.depots_there in
     let travel = Each-weaker (IsOfPlaces s.places) (IsOfPlaces (put place_key new s.places)) (λ table is. (is.0, rows_stay new s.places table.rows is.1)) s.travel sound.travel_of_places in
+    let ends = Each-weaker (HasPlaces s.places) (HasPlaces (put place_key new s.places))
+    (λ trip there. (stays_there place_key trip.wish.from new s.places there.0, stays_there place_key trip.wish.to new s.places there.1)) s.trips sound.trip_places_there in
     search rules
 
 put_route_sound : (new : Route) (s : State) → IsSound s → IsFixedRoute new → IsTrue (is_some (record_at route_key new.id s.routes) || nat_lt (length s.routes) most_routes) → IsSound (record s { routes = put route_key new s.routes })
@@ -160,6 +169,7 @@ put_rider_sound new s sound free room =
     let table = IsTable-put rider_key new s.riders most_riders sound.riders room in
     let subjects = Each-weaker (HasSubject s.riders s.vehicles) (HasSubject (put rider_key new s.riders) s.vehicles) (λ caller there. subject_stays new s.riders s.vehicles caller.role there) s.callers sound.subjects_there in
     let residents = Each-weaker (IsOfResident s.riders) (IsOfResident (put rider_key new s.riders)) (λ filed is. resident_stays s.riders new filed.rider free is) s.entries sound.entries_of_residents in
+    let riders = Each-weaker (IsOfRider s.riders) (IsOfRider (put rider_key new s.riders)) (λ trip there. stays_there rider_key trip.rider new s.riders there) s.trips sound.trips_of_riders in
     search rules
 
 -- the positions in a file are below its length
@@ -278,6 +288,7 @@ put_vehicle_sound new s sound day depot room =
     let depots = Each-put (HasDepot s.places) vehicle_key new left (Each-filter (HasDepot s.places) kept s.vehicles sound.depots_there) depot in
     let fleet = fleet_stays new s.vehicles day sound.first_days sound.fleet (below_is _ 20 rooms.0) (below_is _ 50 rooms.1) in
     let subjects = Each-weaker (HasSubject s.riders s.vehicles) (HasSubject s.riders (put vehicle_key new left)) (λ caller there. driver_stays new s.riders s.vehicles caller.role day sound.first_days there) s.callers sound.subjects_there in
+    let trips = Each-weaker (HasVehicle s.vehicles) (HasVehicle (put vehicle_key new left)) (λ trip there. version_stays new trip.vehicle s.vehicles day sound.first_days there) s.trips sound.trip_vehicles_there in
     search rules
 
 put_travel_sound : (new : DatedTable) (s : State) → IsSound s → IsOfPlaces s.places new → IsTrue (nat_lt (length (tables_before new.from_day s.travel)) most_tables)
@@ -297,61 +308,144 @@ accepted_sound asked s decided told change is made sound =
 numbered_on : (last next : ℕ) → last ≤ next → (trips : List Trip) → Each (IsNumberedTo last) trips → Each (IsNumberedTo next) trips
 numbered_on last next le trips numbered = Each-weaker (IsNumberedTo last) (IsNumberedTo next) (λ trip below. omega arith) trips numbered
 
-book_sound : (trip : Trip) (plan : Plan) (s : State) → IsSound s → trip.id ≡ s.last_trip + 1
+-- the records that a trip speaks of are there
+abbrev IsThere : State → Trip → Type 0
+IsThere s trip = IsOfRider s.riders trip × HasPlaces s.places trip × HasVehicle s.vehicles trip
+
+book_sound : (trip : Trip) (plan : Plan) (s : State) → IsSound s → trip.id ≡ s.last_trip + 1 → IsThere s trip → IsRoutePlan plan → HasStandingTrips (put trip_key trip s.trips) plan
     → IsSound (record s { trips = put trip_key trip s.trips; planned = put plan_key plan s.planned; last_trip = trip.id })
-book_sound trip plan s sound is =
+book_sound trip plan s sound is there route standing =
     let trips = IsInOrder-put trip_key trip s.trips sound.trips_in_order in
     let numbered = Each-put (IsNumberedTo trip.id) trip_key trip s.trips (numbered_on s.last_trip trip.id (omega arith) s.trips sound.trips_numbered) (omega arith) in
     let planned = IsInOrder-put plan_key plan s.planned sound.planned_in_order in
+    let routes = Each-put IsRoutePlan plan_key plan s.planned sound.planned_routes route in
+    let stand = Each-put (HasStandingTrips (put trip_key trip s.trips)) plan_key plan s.planned
+    (plans_after s.last_trip s.trips trip s.planned is sound.trips_numbered sound.planned_trips_stand) standing in
+    let riders = Each-put (IsOfRider s.riders) trip_key trip s.trips sound.trips_of_riders there.0 in
+    let ends = Each-put (HasPlaces s.places) trip_key trip s.trips sound.trip_places_there there.1 in
+    let vehicles = Each-put (HasVehicle s.vehicles) trip_key trip s.trips sound.trip_vehicles_there there.2 in
     search rules
 
 put_all_order : (plans : List Plan) (there : List Plan) → IsInOrder plan_key there → IsInOrder plan_key (put_all plan_key plans there)
 put_all_order [] there order = order
 put_all_order (plan ∷ plans) there order = put_all_order plans (put plan_key plan there) (IsInOrder-put plan_key plan there order)
 
-edit_sound : (trip : Trip) (away : Span) (plans : List Plan) (s : State) → IsSound s → trip.id ≤ s.last_trip
+put_all_each : (P : Plan → Type 0) (plans there : List Plan) → Each P plans → Each P there → Each P (put_all plan_key plans there)
+put_all_each P [] there new old = old
+put_all_each P (plan ∷ plans) there new old = put_all_each P plans (put plan_key plan there) new.1 (Each-put P plan_key plan there old new.0)
+
+-- what is left of a plan is a route, and so is a plan that is put beside it
+left_routes : (trip : Trip) (stops : List PlannedStop) → IsPlannedRoute stops → Each IsRoutePlan (plan_of_stops trip stops)
+left_routes trip [] route = tt
+left_routes trip (stop ∷ later) route = (route, tt)
+
+and_one : (P : Plan → Type 0) (plans : List Plan) (plan : Plan) → Each P plans → P plan → Each P (plans ++ plan ∷ [])
+and_one P [] plan each holds = (holds, tt)
+and_one P (first ∷ later) plan each holds = (each.0, and_one P later plan each.1 holds)
+
+edit_sound : (trip : Trip) (away : Span) (plans : List Plan) (s : State) → IsSound s → trip.id ≤ s.last_trip → IsThere s trip → Each IsRoutePlan plans
+    → Each (HasStandingTrips (put trip_key trip s.trips)) plans → Each (HasStandingTrips (put trip_key trip s.trips)) (take_away plan_key away s.planned)
     → IsSound (record s { trips = put trip_key trip s.trips; planned = put_all plan_key plans (take_away plan_key away s.planned) })
-edit_sound trip away plans s sound below =
+edit_sound trip away plans s sound below there new standing beside =
     let trips = IsInOrder-put trip_key trip s.trips sound.trips_in_order in
     let numbered = Each-put (IsNumberedTo s.last_trip) trip_key trip s.trips sound.trips_numbered below in
     let planned = put_all_order plans (take_away plan_key away s.planned) (IsInOrder-filter plan_key (λ plan. not (is_within (plan_key plan) away)) s.planned sound.planned_in_order) in
+    let stand = put_all_each (HasStandingTrips (put trip_key trip s.trips)) plans (take_away plan_key away s.planned) standing beside in
+    let routes = put_all_each IsRoutePlan plans (take_away plan_key away s.planned) new (Each-filter IsRoutePlan (λ plan. not (is_within (plan_key plan) away)) s.planned sound.planned_routes) in
+    let riders = Each-put (IsOfRider s.riders) trip_key trip s.trips sound.trips_of_riders there.0 in
+    let ends = Each-put (HasPlaces s.places) trip_key trip s.trips sound.trip_places_there there.1 in
+    let vehicles = Each-put (HasVehicle s.vehicles) trip_key trip s.trips sound.trip_vehicles_there there.2 in
     search rules
 
-found_here : (P : Trip → Type 0) (test : Trip → Bool) (trip t : Trip) (ts : List Trip) (b : Bool) → test t ≡ b → P t → (find test ts ≡ Some trip → P trip) → find test (t ∷ ts) ≡ Some trip → P trip
-found_here P test trip t ts true same holds rest is = subst P (same_Some t trip (sym (ap (λ b. cond b (Some t) (find test ts)) same) ∙ is)) holds
-found_here P test trip t ts false same holds rest is = rest (sym (ap (λ b. cond b (Some t) (find test ts)) same) ∙ is)
+-- the stops that stand of a plan without a trip
+left_there : (trip : Trip) (s : State) → IsSound s → IsPlannedRoute (without trip.id (stops_of_plan (plan_for (Some trip) s)))
+left_there trip s sound = left_route trip.id (stops_of_plan (plan_for (Some trip) s)) (planned_route trip.vehicle trip.wish.day s.planned sound.planned_routes)
 
-found_holds : (P : Trip → Type 0) (test : Trip → Bool) (trip : Trip) (trips : List Trip) → Each P trips → find test trips ≡ Some trip → P trip
-found_holds P test trip [] each is = absurd (cc)
-found_holds P test trip (t ∷ ts) each is = found_here P test trip t ts (test t) refl each.0 (found_holds P test trip ts each.1) is
+-- a trip that is booked for a day has a route in its plan
+booked_there : (minutes : ℕ → ℕ → Option ℕ) (number day : ℕ) (request : request_of.Request) (trip : Trip) (plan : Plan) (s : State) → IsSound s → request.trip ≡ number
+    → IsBookedIn minutes (routes_on number day s) request trip plan → IsRoutePlan plan
+booked_there minutes number day request trip plan s sound is booked =
+    booked_route minutes day (trips_on day s.trips) (planned_on day s.planned) (on_duty day s.vehicles) request trip plan
+    (Each-filter IsRoutePlan (λ plan. plan.day == day) s.planned sound.planned_routes)
+    (subst (λ (n : ℕ). IsBookedIn minutes (routes_on n day s) request trip plan) (sym is) booked)
 
--- a trip that is there has a number that was given
-Each-found : (P : Trip → Type 0) (id : ℕ) (trip : Trip) (trips : List Trip) → Each P trips → record_at trip_key id trips ≡ Some trip → P trip
-Each-found P id trip trips each is = found_holds P (λ t. t.id == id) trip trips each is
+-- the trips of its plan stand
+booked_stand : (minutes : ℕ → ℕ → Option ℕ) (number day : ℕ) (request : request_of.Request) (trip : Trip) (plan : Plan) (s : State) → IsSound s → request.trip ≡ number → trip.wish.day ≡ day
+    → IsBookedIn minutes (routes_on number day s) request trip plan → HasStandingTrips (put trip_key trip s.trips) plan
+booked_stand minutes number day request trip plan s sound is on booked =
+    let (vehicle, of_day, standing) = booked_plan minutes (routes_on number day s) request trip plan booked in
+    booked_trips (λ (n : ℕ). StandsIn (put trip_key trip s.trips) (plan_key plan) n) minutes day (trips_on day s.trips) (planned_on day s.planned) (on_duty day s.vehicles) request trip plan
+    (put_stands s.trips trip (plan_key plan) standing (rw (vehicle, of_day) refl))
+    (subst (λ (d : ℕ). Each (λ (stop : PlannedStop). StandsIn (put trip_key trip s.trips) (pair_key plan.vehicle d) stop.trip) (without request.trip (planned_stops plan.vehicle day (planned_on day s.planned))))
+    (sym on ∙ of_day)
+    (standing_without s.trips trip request.trip plan.vehicle day (planned_on day s.planned) booked.1.trip_of.number
+    (Each-filter (HasStandingTrips s.trips) (λ plan. plan.day == day) s.planned sound.planned_trips_stand)))
+    (subst (λ (n : ℕ). IsBookedIn minutes (routes_on n day s) request trip plan) (sym is) booked)
+
+-- what a booked trip speaks of is there
+booked_is_there : (minutes : ℕ → ℕ → Option ℕ) (number day rider : ℕ) (wish : Wish) (request : request_of.Request) (trip : Trip) (plan : Plan) (s : State) → request.trip ≡ number
+    → rider_of rider s ≡ Some request.rider → record_at place_key wish.from s.places ≡ Some request.from → record_at place_key wish.to s.places ≡ Some request.to → request.wish ≡ wish
+    → IsBookedIn minutes (routes_on number day s) request trip plan → IsThere s trip
+booked_is_there minutes number day rider wish request trip plan s is there from to wished booked =
+    let of_request : trip.wish ≡ wish = booked.1.trip_of.wish ∙ wished in (
+      subst (IsIn rider_key s.riders) (sym booked.1.trip_of.rider) (found_by_key rider_key (λ r. rider_key r == rider) request.rider s.riders there),
+      subst (λ (w : Wish). IsIn place_key s.places w.from × IsIn place_key s.places w.to) (sym of_request) (ap is_some from, ap is_some to),
+      any_kept (λ version. version.id == trip.vehicle) (is_on_duty day s.vehicles) s.vehicles
+          (booked_vehicle minutes day (trips_on day s.trips) (planned_on day s.planned) (on_duty day s.vehicles) request trip plan
+          (subst (λ (n : ℕ). IsBookedIn minutes (routes_on n day s) request trip plan) (sym is) booked)),
+    )
+
+on_day : (request : request_of.Request) (trip : Trip) (wish : Wish) → trip.wish ≡ request.wish → request.wish ≡ wish → trip.wish.day ≡ wish.day
+on_day request trip wish is wished = ap (λ (w : Wish). w.day) (is ∙ wished)
+
+-- a trip that is found is found by its own number
+found_again : (id : ℕ) (trip : Trip) (trips : List Trip) → record_at trip_key id trips ≡ Some trip → record_at trip_key trip.id trips ≡ Some trip
+found_again id trip trips found = subst (λ (n : ℕ). record_at trip_key n trips ≡ Some trip) (sym (found_key trip_key id trip trips found)) found
 
 booking_sound : (kept : Kept) (today : ℕ) (rider : ℕ) (wish : Wish) (s : State) (decided : Decision) → IsSound s → IsIn caller_key s.callers kept.caller
     → IsBooking (booked kept) (s.last_trip + 1) None today wish (facts_of (write.Book rider wish) s) decided → IsSound (state_after (left_of decided s) s)
 booking_sound kept today rider wish s decided sound there (scheduled.Denied rule, by, is) = subst (λ d. IsSound (state_after (left_of d s) s)) (sym is) sound
 booking_sound kept today rider wish s decided sound there (scheduled.Booked trip plan, (request, asked, (minutes, times, (none, (chosen, at)))), (told, confirms, is)) =
     subst (λ d. IsSound (state_after (left_of d s) s)) (sym is)
-    (numbered_sound kept _ (book_sound trip plan s sound (at.trip_of.number ∙ asked.trip)) there)
+    (numbered_sound kept _ (book_sound trip plan s sound (at.trip_of.number ∙ asked.trip)
+    (booked_is_there minutes (s.last_trip + 1) wish.day rider wish request trip plan s asked.trip asked.rider asked.from asked.to asked.wished (chosen, at))
+    (booked_there minutes (s.last_trip + 1) wish.day request trip plan s sound asked.trip (chosen, at))
+    (booked_stand minutes (s.last_trip + 1) wish.day request trip plan s sound asked.trip (on_day request trip wish at.trip_of.wish asked.wished) (chosen, at))) there)
 
-change_trip_sound : (kept : Kept) (today : ℕ) (found : Option Trip) (id : ℕ) (wish : Wish) (facts : WriteFacts) (s : State) (decided : Decision) → IsSound s → IsIn caller_key s.callers kept.caller
-    → trip_of id s ≡ found → IsChangeDecided found wish kept today facts decided → IsSound (state_after (left_of decided s) s)
-change_trip_sound kept today None id wish facts s decided sound there found changes = absurd changes
-change_trip_sound kept today (Some old) id wish facts s decided sound there found (scheduled.Denied rule, by, is) = subst (λ d. IsSound (state_after (left_of d s) s)) (sym is) sound
-change_trip_sound kept today (Some old) id wish facts s decided sound there found (scheduled.Booked trip plan, (request, asked, (minutes, times, (none, (chosen, at)))), (told, confirms, is)) =
+change_trip_sound : (kept : Kept) (today : ℕ) (found : Option Trip) (id : ℕ) (wish : Wish) (s : State) (decided : Decision) → IsSound s → IsIn caller_key s.callers kept.caller
+    → trip_of id s ≡ found → IsChangeDecided found wish kept today (change_facts found wish s) decided → IsSound (state_after (left_of decided s) s)
+change_trip_sound kept today None id wish s decided sound there found changes = absurd changes
+change_trip_sound kept today (Some old) id wish s decided sound there found (scheduled.Denied rule, by, is) = subst (λ d. IsSound (state_after (left_of d s) s)) (sym is) sound
+change_trip_sound kept today (Some old) id wish s decided sound there found (scheduled.Booked trip plan, (request, asked, (minutes, times, (none, (chosen, at)))), (told, confirms, is)) =
+    let left = without old.id (stops_of_plan (plan_for (Some old) s)) in
+    let new = and_one IsRoutePlan (plan_of_stops old left) plan (left_routes old left (left_there old s sound)) (booked_there minutes old.id wish.day request trip plan s sound asked.trip (chosen, at)) in
+    let number : trip.id ≡ old.id = at.trip_of.number ∙ asked.trip in
+    let here : record_at trip_key old.id s.trips ≡ Some old = found_again id old s.trips found in
+    let standing = and_one (HasStandingTrips (put trip_key trip s.trips)) (plan_of_stops old left) plan
+    (left_standing (put trip_key trip s.trips) old left (standing_without s.trips trip old.id old.vehicle old.wish.day s.planned number sound.planned_trips_stand))
+    (booked_stand minutes old.id wish.day request trip plan s sound asked.trip (on_day request trip wish at.trip_of.wish asked.wished) (chosen, at)) in
+    let below = subst (λ (n : ℕ). n ≤ s.last_trip) (sym (at.trip_of.number ∙ asked.trip)) (Each-found (IsNumberedTo s.last_trip) trip_key id old s.trips sound.trips_numbered found) in
     subst (λ d. IsSound (state_after (left_of d s) s)) (sym is)
-    (numbered_sound kept _ (edit_sound trip (plan_span old) (plan_of_stops old (without old.id (stops_of_plan facts.booking.plan)) ++ plan ∷ []) s sound
-    (subst (λ (n : ℕ). n ≤ s.last_trip) (sym (at.trip_of.number ∙ asked.trip)) (Each-found (IsNumberedTo s.last_trip) id old s.trips sound.trips_numbered found))) there)
+    (numbered_sound kept _ (edit_sound trip (plan_span old) (plan_of_stops old left ++ plan ∷ []) s sound below
+    (booked_is_there minutes old.id wish.day old.rider wish request trip plan s asked.trip asked.rider asked.from asked.to asked.wished (chosen, at)) new standing
+    (plans_beside s.trips old trip s.planned number here sound.planned_trips_stand)) there)
 
-cancel_sound : (kept : Kept) (found : Option Trip) (id : ℕ) (facts : WriteFacts) (s : State) (decided : Decision) → IsSound s → IsIn caller_key s.callers kept.caller
-    → trip_of id s ≡ found → IsCancelDecided found kept facts decided → IsSound (state_after (left_of decided s) s)
-cancel_sound kept None id facts s decided sound there found cancels = absurd cancels
-cancel_sound kept (Some trip) id facts s decided sound there found is =
+cancel_sound : (kept : Kept) (found : Option Trip) (id : ℕ) (s : State) (decided : Decision) → IsSound s → IsIn caller_key s.callers kept.caller
+    → trip_of id s ≡ found → IsCancelDecided found kept (cancel_facts found s) decided → IsSound (state_after (left_of decided s) s)
+cancel_sound kept None id s decided sound there found cancels = absurd cancels
+cancel_sound kept (Some trip) id s decided sound there found is =
+    let left = without trip.id (stops_of_plan (plan_for (Some trip) s)) in
     subst (λ d. IsSound (state_after (left_of d s) s)) (sym is)
-    (numbered_sound kept _ (edit_sound (cancelled trip) (plan_span trip) (plan_of_stops trip (without trip.id (stops_of_plan facts.booking.plan))) s sound
-    (Each-found (IsNumberedTo s.last_trip) id trip s.trips sound.trips_numbered found)) there)
+    (numbered_sound kept _ (edit_sound (cancelled trip) (plan_span trip) (plan_of_stops trip left) s sound
+    (Each-found (IsNumberedTo s.last_trip) trip_key id trip s.trips sound.trips_numbered found) (
+      Each-found (IsOfRider s.riders) trip_key id trip s.trips sound.trips_of_riders found,
+      Each-found (HasPlaces s.places) trip_key id trip s.trips sound.trip_places_there found,
+      Each-found (HasVehicle s.vehicles) trip_key id trip s.trips sound.trip_vehicles_there found,
+    )
+    (left_routes trip left (left_there trip s sound))
+    (left_standing (put trip_key (cancelled trip) s.trips) trip left
+    (standing_without s.trips (cancelled trip) trip.id trip.vehicle trip.wish.day s.planned refl sound.planned_trips_stand))
+    (plans_beside s.trips trip (cancelled trip) s.planned refl (found_again id trip s.trips found) sound.planned_trips_stand)) there)
 
 -- the facts of a change and of a cancellation have the trip that is there
 change_trip : (found : Option Trip) (wish : Wish) (s : State) → (change_facts found wish s).booking.trip ≡ found
@@ -385,10 +479,10 @@ decided_sound (write.Travel day rows) me now number s decided sound there hold i
 decided_sound (write.Book rider wish) me now number s decided sound there hold is made =
     booking_sound (record { caller = me.id; number = number }) now.0 rider wish s decided sound there is
 decided_sound (write.Change trip wish) me now number s decided sound there hold is made =
-    change_trip_sound (record { caller = me.id; number = number }) now.0 (trip_of trip s) trip wish (facts_of (write.Change trip wish) s) s decided sound there refl
+    change_trip_sound (record { caller = me.id; number = number }) now.0 (trip_of trip s) trip wish s decided sound there refl
     (subst (λ f. IsChangeDecided f wish (record { caller = me.id; number = number }) now.0 (facts_of (write.Change trip wish) s) decided) (change_trip (trip_of trip s) wish s) is)
 decided_sound (write.Cancel trip) me now number s decided sound there hold is made =
-    cancel_sound (record { caller = me.id; number = number }) (trip_of trip s) trip (facts_of (write.Cancel trip) s) s decided sound there refl
+    cancel_sound (record { caller = me.id; number = number }) (trip_of trip s) trip s decided sound there refl
     (subst (λ f. IsCancelDecided f (record { caller = me.id; number = number }) (facts_of (write.Cancel trip) s) decided) (cancel_trip (trip_of trip s) s) is)
 
 after_sound : (asked : Write) (me : Caller) (now : ℕ × ℕ) (number : ℕ) (s : State) (first : Option Rule) (decided : Decision) → IsSound s → IsIn caller_key s.callers me.id

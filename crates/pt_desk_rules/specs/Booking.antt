@@ -8,13 +8,14 @@ use Rattle.pt_booking.specs.Request.{Request}
 use Rattle.pt_records.specs.Records.{record_at}
 use Rattle.pt_scheduling.specs.Plan.{Plan}
 use Rattle.pt_scheduling.specs.Routes.{routes_without}
-use Rattle.pt_scheduling.specs.Scheduling.{IsScheduled}
+use Rattle.pt_scheduling.specs.Scheduling.{AreRoutes, IsScheduled}
 use Rattle.pt_scheduling.specs.Uses.{AreUses}
 use Rattle.pt_scheduling.specs.declared.scheduling.Scheduled.{Scheduled}
 use Rattle.pt_scheduling.specs.declared.scheduling.Scheduled.TheVariants as scheduled
 use Rattle.pt_travel.specs.Chain.{Row, IsTime}
 use Rattle.pt_desk_rules.specs.Fleet.{on_duty}
-use Rattle.pt_desk_rules.specs.State.{place_key}
+use Rattle.pt_desk_rules.specs.Planned.{planned_on, trips_on}
+use Rattle.pt_desk_rules.specs.State.{State, place_key}
 use Rattle.pt_desk_rules.specs.Travel.{DatedTable}
 use Rattle.pt_desk_rules.specs.Trips.{IsConfirmation}
 use Rattle.pt_desk_rules.specs.declared.change.Change.{Change}
@@ -52,6 +53,15 @@ AreTimes rows minutes = (from to : ℕ) → IsTime rows from to (minutes from to
 abbrev pub routes_for : ℕ → Wish → WriteFacts → List OnDuty
 routes_for number wish facts =
     routes_without number wish.day facts.booking.day.trips facts.booking.day.plans (on_duty wish.day facts.vehicles)
+
+-- the same of a state
+abbrev pub routes_on : ℕ → ℕ → State → List OnDuty
+routes_on number day s =
+    routes_without number day (trips_on day s.trips) (planned_on day s.planned) (on_duty day s.vehicles)
+
+-- the vehicles of every day have routes, which is what the first failing rule of a denial is said for
+abbrev pub HasRoutes : State → Type 0
+HasRoutes s = (number day : ℕ) → AreRoutes number (routes_on number day s)
 
 -- a denial is told; a trip that is booked is confirmed, and changes the tables so
 abbrev pub IsToldOf : (Trip → Plan → Change) → Scheduled → Decision → Type 0

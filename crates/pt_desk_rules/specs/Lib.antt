@@ -11,3 +11,4 @@ pub mod Planned
 pub mod Travel
 pub mod Trips
 pub mod Booking
+pub mod Privacy

@@ -1,19 +1,21 @@
 -- The states that the desk may be in: its limits, its orders and its references are kept.
 use Rattle.std.specs.Prelude.{◌≡◌, ℕ, ◌+◌, ◌≤◌, IsTrue, List, [], ◌∷◌, length, Some, is_some}
 use Rattle.pt_base.specs.Day.{IsDay}
+use Rattle.pt_base.specs.TripStatus.{stands}
 use Rattle.pt_base.specs.declared.place.Place.{Place}
 use Rattle.pt_base.specs.declared.rider.Rider.{Rider}
 use Rattle.pt_base.specs.declared.trip.Trip.{Trip}
 use Rattle.pt_base.specs.declared.vehicle.Vehicle.{Vehicle}
 use Rattle.pt_corridor.specs.Route.{IsFixedRoute}
+use Rattle.pt_records.specs.Keys.{pair_key}
 use Rattle.pt_records.specs.Records.{Each, IsInOrder, IsTable, record_at}
 use Rattle.pt_rights.specs.Admission.{is_resident}
-use Rattle.pt_scheduling.specs.Plan.{plan_key}
+use Rattle.pt_scheduling.specs.Plan.{Plan, plan_key, IsRoutePlan}
 use Rattle.pt_travel.specs.Table as Travel
 use Rattle.pt_desk_rules.specs.Limits.{most_callers, most_places, most_routes, most_riders, most_entries, most_vehicles, most_versions, most_tables}
 use Rattle.pt_desk_rules.specs.State.{State, caller_key, kept_key, place_key, route_key, rider_key, entry_key, vehicle_key, travel_key, trip_key, entries_of}
 use Rattle.pt_desk_rules.specs.Facts.{has_subject}
-use Rattle.pt_desk_rules.specs.Fleet.{vehicle_count, versions_of}
+use Rattle.pt_desk_rules.specs.Fleet.{has_version, vehicle_count, versions_of}
 use Rattle.pt_desk_rules.specs.Rules.{are_there}
 use Rattle.pt_desk_rules.specs.Travel.{DatedTable}
 use Rattle.pt_desk_rules.specs.declared.caller.Caller.{Caller}
@@ -81,6 +83,28 @@ IsOfPlaces places table = Travel.IsTable table.rows × IsTrue (are_there table.r
 abbrev pub IsNumberedTo : ℕ → Trip → Type 0
 IsNumberedTo last trip = trip.id ≤ last
 
+-- the rider of a trip is there
+abbrev pub IsOfRider : List Rider → Trip → Type 0
+IsOfRider riders trip = IsIn rider_key riders trip.rider
+
+-- and so are both its places
+abbrev pub HasPlaces : List Place → Trip → Type 0
+HasPlaces places trip = IsIn place_key places trip.wish.from × IsIn place_key places trip.wish.to
+
+-- and its vehicle
+abbrev pub HasVehicle : List Vehicle → Trip → Type 0
+HasVehicle vehicles trip = IsTrue (has_version trip.vehicle vehicles)
+
+-- the trip of this number stands in the vehicle and on the day of this key
+abbrev pub StandsIn : List Trip → ℕ → ℕ → Type 0
+StandsIn trips key number =
+    (trip : Trip) × (record_at trip_key number trips ≡ Some trip) × IsTrue (stands trip.status)
+    × (pair_key trip.vehicle trip.wish.day ≡ key)
+
+-- the stops of a plan are those of trips that stand in its vehicle on its day
+abbrev pub HasStandingTrips : List Trip → Plan → Type 0
+HasStandingTrips trips plan = Each (λ stop. StandsIn trips (plan_key plan) stop.trip) plan.stops
+
 -- Each line speaks of the tables that it needs and of no other, so that a write of another table leaves it as it is.
 -- The ranges of a place, a vehicle, a trip and the policy are fields of their records, so that every state keeps them.
 pub record IsSound (s : State) : Type 0 where
@@ -106,4 +130,9 @@ pub record IsSound (s : State) : Type 0 where
   pub travel_of_places : Each (IsOfPlaces s.places) s.travel
   pub trips_in_order : IsInOrder trip_key s.trips
   pub trips_numbered : Each (IsNumberedTo s.last_trip) s.trips
+  pub trips_of_riders : Each (IsOfRider s.riders) s.trips
+  pub trip_places_there : Each (HasPlaces s.places) s.trips
+  pub trip_vehicles_there : Each (HasVehicle s.vehicles) s.trips
   pub planned_in_order : IsInOrder plan_key s.planned
+  pub planned_routes : Each IsRoutePlan s.planned
+  pub planned_trips_stand : Each (HasStandingTrips s.trips) s.planned

@@ -7,6 +7,7 @@ pub use deciding::{Decision, decide};
 pub use denying::denial;
 pub use facts::{BookingFacts, DayFacts, ReadFacts, WriteFacts};
 pub use fleet::on_duty;
+pub use laws::{sound_states_have_routes, trips_are_private};
 pub use limits::{
     LAST_TRIP_NUMBER, MOST_CALLERS, MOST_PLACES, MOST_RIDERS, MOST_ROUTES, MOST_TABLES,
     MOST_VEHICLES, MOST_VERSIONS,
@@ -23,6 +24,7 @@ mod deciding;
 mod denying;
 mod facts;
 mod fleet;
+mod laws;
 mod limits;
 mod permission;
 mod request;

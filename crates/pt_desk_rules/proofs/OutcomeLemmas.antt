@@ -1,0 +1,89 @@
+-- Which requests commit nothing.
+use Rattle.std.proofs.Common.{◌≡◌, ◌∙◌, ℕ, ◌+◌, Bool, true, false, Option, Some, None, refl, sym, ap, subst}
+use Rattle.pt_base.specs.declared.rule.Rule.{Rule}
+use Rattle.pt_base.specs.declared.trip.Trip.{Trip}
+use Rattle.pt_base.specs.declared.trip.Wish.{Wish}
+use Rattle.pt_rights.specs.Rules.{first_failing}
+use Rattle.pt_scheduling.specs.Plan.{Plan}
+use Rattle.pt_scheduling.specs.declared.scheduling.Scheduled.TheVariants as scheduled
+use Rattle.pt_desk_rules.specs.Booking.{IsBooking}
+use Rattle.pt_desk_rules.specs.Deciding.{booked, changed, IsCancelDecided, IsChangeDecided, IsDecidedBy, IsDecisionAfter}
+use Rattle.pt_desk_rules.specs.Facts.{facts_of}
+use Rattle.pt_desk_rules.specs.Rules.{rules_of}
+use Rattle.pt_desk_rules.specs.State.{State}
+use Rattle.pt_desk_rules.specs.Step.{is_new, told_of, left_of, IsOutcomeBy, IsOutcomeIf}
+use Rattle.pt_desk_rules.specs.declared.caller.Caller.{Caller}
+use Rattle.pt_desk_rules.specs.declared.caller.Kept.{Kept}
+use Rattle.pt_desk_rules.specs.declared.change.Change.{Change}
+use Rattle.pt_desk_rules.specs.declared.deciding.Decision.{Decision}
+use Rattle.pt_desk_rules.specs.declared.deciding.Decision.TheVariants as decision
+use Rattle.pt_desk_rules.specs.declared.facts.WriteFacts.{WriteFacts}
+use Rattle.pt_desk_rules.specs.declared.request.Answer.{Answer}
+use Rattle.pt_desk_rules.specs.declared.request.Answer.TheVariants.{Done, Entered, Booked}
+use Rattle.pt_desk_rules.specs.declared.request.Read.{Read}
+use Rattle.pt_desk_rules.specs.declared.request.Request.{Request}
+use Rattle.pt_desk_rules.specs.declared.request.Request.TheVariants as request
+use Rattle.pt_desk_rules.specs.declared.request.Write.{Write}
+use Rattle.pt_desk_rules.specs.declared.request.Write.TheVariants as write
+
+-- what an accepted write is told
+abbrev pub is_of_write : Answer → Bool
+is_of_write Done = true
+is_of_write (Entered position) = true
+is_of_write (Booked told) = true
+is_of_write _ = false
+
+-- an acceptance is told as that of a write
+abbrev IsOfWrite : Decision → Type 0
+IsOfWrite (decision.Denied first) = Unit {0}
+IsOfWrite (decision.Accepted told change) = is_of_write told ≡ true
+
+booking_is : (change : Trip → Plan → Change) (number : ℕ) (left_out : Option ℕ) (today : ℕ) (wish : Wish) (facts : WriteFacts) (decided : Decision)
+    → IsBooking change number left_out today wish facts decided → IsOfWrite decided
+booking_is change number left_out today wish facts decided (scheduled.Denied rule, by, is) = subst IsOfWrite (sym is) tt
+booking_is change number left_out today wish facts decided (scheduled.Booked trip plan, by, (told, confirms, is)) = subst IsOfWrite (sym is) refl
+
+change_is : (found : Option Trip) (wish : Wish) (kept : Kept) (today : ℕ) (facts : WriteFacts) (decided : Decision) → IsChangeDecided found wish kept today facts decided → IsOfWrite decided
+change_is None wish kept today facts decided changes = absurd changes
+change_is (Some old) wish kept today facts decided changes = booking_is (changed kept old facts.booking.plan) old.id (Some old.id) today wish facts decided changes
+
+cancel_is : (found : Option Trip) (kept : Kept) (facts : WriteFacts) (decided : Decision) → IsCancelDecided found kept facts decided → IsOfWrite decided
+cancel_is None kept facts decided cancels = absurd cancels
+cancel_is (Some trip) kept facts decided is = subst IsOfWrite (sym is) refl
+
+decided_is : (asked : Write) (kept : Kept) (today : ℕ) (facts : WriteFacts) (decided : Decision) → IsDecidedBy asked kept today facts decided → IsOfWrite decided
+decided_is (write.Book rider wish) kept today facts decided is = booking_is (booked kept) (facts.booking.last_trip + 1) None today wish facts decided is
+decided_is (write.Change trip wish) kept today facts decided is = change_is facts.booking.trip wish kept today facts decided is
+decided_is (write.Cancel trip) kept today facts decided is = cancel_is facts.booking.trip kept facts decided is
+decided_is _ kept today facts decided is = subst IsOfWrite (sym is) refl
+
+decision_is : (first : Option Rule) (asked : Write) (me : Caller) (now : ℕ × ℕ) (number : ℕ) (facts : WriteFacts) (decided : Decision)
+    → IsDecisionAfter first asked me now number facts decided → IsOfWrite decided
+decision_is (Some first) asked me now number facts decided is = subst IsOfWrite (sym is) tt
+decision_is None asked me now number facts decided is = decided_is asked (record { caller = me.id; number = number }) now.0 facts decided is
+
+denial_changes_nothing : (decided : Decision) (s : State) → IsOfWrite decided → is_of_write (told_of decided) ≡ false → left_of decided s ≡ None
+denial_changes_nothing (decision.Denied first) s is other = refl
+denial_changes_nothing (decision.Accepted told change) s is other = absurd (cc)
+
+write_commits_nothing : (fresh : Bool) (asked : Write) (me : Caller) (now : ℕ × ℕ) (number : ℕ) (s : State) (told : Answer) (left : Option State)
+    → IsOutcomeIf fresh asked me now number s told left → is_of_write told ≡ false → left ≡ None
+write_commits_nothing false asked me now number s told left (tells, leaves) other = leaves
+write_commits_nothing true asked me now number s told left (decided, is, made, tells, leaves) other =
+    let facts = facts_of asked s in
+    leaves
+    ∙ denial_changes_nothing decided s (decision_is (first_failing (rules_of asked me now facts)) asked me now number facts decided is) (ap is_of_write (sym tells) ∙ other)
+
+-- what is not told as an accepted write is, as a denial, commits nothing
+pub commits_nothing : (caller : Option Caller) (now : ℕ × ℕ) (number : ℕ) (asked : Request) (s : State) (told : Answer) (left : Option State)
+    → IsOutcomeBy caller now number asked s told left → is_of_write told ≡ false → left ≡ None
+commits_nothing None now number asked s told left (tells, leaves) other = leaves
+commits_nothing (Some me) now number (request.Read read) s told left (tells, leaves) other = leaves
+commits_nothing (Some me) now number (request.Write asked) s told left outcome other =
+    write_commits_nothing (is_new number me s) asked me now number s told left outcome other
+
+-- nor does a read
+pub read_commits_nothing : (caller : Option Caller) (now : ℕ × ℕ) (number : ℕ) (asked : Read) (s : State) (told : Answer) (left : Option State)
+    → IsOutcomeBy caller now number (request.Read asked) s told left → left ≡ None
+read_commits_nothing None now number asked s told left (tells, leaves) = leaves
+read_commits_nothing (Some me) now number asked s told left (tells, leaves) = leaves
