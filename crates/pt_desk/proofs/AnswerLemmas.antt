@@ -1,10 +1,12 @@
 -- Answers by the outcomes that the rules allow.
-use Rattle.std.proofs.Common.{◌≡◌, ◌<◌, ◌≤◌, ◌⊎◌, inl, inr, ℕ, Option, Some, None, Result, Ok, Err, arith, refl, sym, subst}
+use Rattle.std.proofs.Common.{◌≡◌, ◌∙◌, ◌<◌, ◌≤◌, inl, inr, ℕ, Option, None, Result, Ok, Err, IfOk, OnOk, arith, ap, refl, sym, subst}
 use Rattle.std.specs.Result.{IsErrAnd}
 use Rattle.pt_desk_rules.specs.State.{State}
-use Rattle.pt_desk.specs.Store.{Store, Answers, Goes, Holds, IsFault, Tells, TellsBy}
+use Rattle.pt_desk_rules.specs.Step.{state_after}
+use Rattle.pt_desk.specs.Store.{Store, Answers, ChangesNothing, Goes, Tells, TellsBy}
 use Rattle.pt_desk.specs.declared.keeper.StoreFault.{StoreFault}
 use Rattle.pt_desk.specs.declared.keeper.StoreFault.TheVariants.{Memory, Store as failed}
+use Rattle.pt_desk.proofs.ReadLemmas.{fault_of, reads_map}
 use Rattle.pt_desk.proofs.StoreLemmas.{reads_then, read_tells, leaves_nothing}
 
 abbrev Outcome : Type 0 → Type 1
@@ -29,46 +31,11 @@ read_then a b c x v Is Is' r first (told, left, goes, by) gives = (
 
 -- what was read, and is told
 pub read_told : {X Y : Type 0} (a b : Store) (x v : X) (w : Y) (Is : Outcome Y) → Goes a b v None (Ok x) → (x ≡ v → Is a.content w None) → Answers a b Is (Ok w)
-read_told {X} {Y} a b x v w Is first is =
-    let fine : (◌≡◌ {A = Result Y StoreFault} (Ok w) (Err failed) → ⊥) = λ same. absurd (cc) in
-    let fine' : (◌≡◌ {A = Result X StoreFault} (Ok x) (Err failed) → ⊥) = λ same. absurd (cc) in (
-      w,
-      None,
-      record {
-        clean = first.clean;
-        serves = first.serves;
-        grows = first.grows;
-        told = λ same. absurd (fine same);
-        stays = λ none some. absurd (fine' (first.stays none some));
-        settled = first.settled;
-        holds = λ clean. record { tells = (refl, ((first.holds clean).tells).1); crash = (first.holds clean).crash; durable = tt };
-      },
-      (λ clean. inl (is (((first.holds clean).tells).0))),
-    )
-
-same_fault : {X Y : Type 0} (e : StoreFault) → ◌≡◌ {A = Result Y StoreFault} (Err e) (Err failed) → ◌≡◌ {A = Result X StoreFault} (Err e) (Err failed)
-same_fault e same = let is : e ≡ failed = cc in cc
-
-fault_tells : {X Y : Type 0} (shut : ℕ) (old new : State) (v : X) (w : Y) (e : StoreFault) → Tells {X = X} shut old new v None (Err e) → Tells {X = Y} shut old new w None (Err e)
-fault_tells shut old new v w Memory tells = tells
-fault_tells shut old new v w failed tells = tt
+read_told a b x v w Is first is = (w, None, reads_map a b v x (λ _. w) first, (λ clean. inl (is (first.holds clean).tells.0)))
 
 -- a fault while something is read
 pub read_fault : {X Y : Type 0} (a b : Store) (v : X) (w : Y) (e : StoreFault) (Is : Outcome Y) → Goes {X = X} a b v None (Err e) → Answers {X = Y} a b Is (Err e)
-read_fault {X} {Y} a b v w e Is first = (
-  w,
-  None,
-  record {
-    clean = first.clean;
-    serves = first.serves;
-    grows = first.grows;
-    told = λ same. first.told (same_fault {X = X} {Y = Y} e same);
-    stays = λ none some. same_fault {X = Y} {Y = X} e (first.stays none some);
-    settled = first.settled;
-    holds = λ clean. record { tells = fault_tells b.shut a.content b.content v w e (first.holds clean).tells; crash = (first.holds clean).crash; durable = tt };
-  },
-  (λ _. inr (tt, refl)),
-)
+read_fault a b v w e Is first = (w, None, fault_of a b v w e first, (λ _. inr (tt, refl)))
 
 -- memory that is refused after something was read
 pub read_memory : {X Y : Type 0} (a b : Store) (x v : X) (w : Y) (Is : Outcome Y) → Goes a b v None (Ok x) → Answers {X = Y} a b Is (Err Memory)
@@ -97,11 +64,27 @@ goes_by a b told left Is r goes is = (told, left, goes, λ _. inl is)
 pub tells_by : {X : Type 0} (a b : Store) (Is : Outcome X) (r : Result X StoreFault) → Answers a b Is r → b.doubt ≡ 0 → TellsBy b.shut a.content b.content Is r
 tells_by a b Is r (told, left, goes, by) clean = (told, left, (goes.holds clean).tells, by clean)
 
--- what commits nothing leaves no more at a crash than there was
-pub quiet : {X : Type 0} (a b : Store) (Is : Outcome X) (r : Result X StoreFault) → Answers a b Is r → ((told : X) (left : Option State) → Is a.content told left → left ≡ None)
-    → (o : Option State) → b.doubt ≡ 0 → b.found o → a.found o
-quiet a b Is r (told, left, goes, by) none o clean found =
-    leaves_nothing a b told left r o goes (elim (by clean) [ inl is ↦ none told left is | inr fault ↦ fault.1 ]) clean found
+agrees : {X : Type 0} (shut : ℕ) (old new : State) (told : X) (left : Option State) (r : Result X StoreFault) → Tells shut old new told left r → IfOk r (λ x. x ≡ told)
+agrees shut old new told left (Ok x) tells = tells.0
+agrees shut old new told left (Err fault) tells = tt
+
+stays : {X : Type 0} (shut : ℕ) (old new : State) (told : X) (left : Option State) (r : Result X StoreFault) → left ≡ None → Tells shut old new told left r → OnOk r (new ≡ old)
+stays shut old new told left (Ok x) none tells = tells.1 ∙ ap (λ left. state_after left old) none
+stays shut old new told left (Err fault) none tells = tt
+
+-- where each outcome that agrees with what is told commits nothing, nothing is changed
+pub changes_nothing : {X : Type 0} (a b : Store) (Is : Outcome X) (r : Result X StoreFault) → Answers a b Is r
+    → ((told : X) (left : Option State) → IfOk r (λ x. x ≡ told) → Is a.content told left → left ≡ None) → ChangesNothing a b r
+changes_nothing a b Is r (told, left, goes, by) none_by =
+    let none : b.doubt ≡ 0 → left ≡ None
+    = λ clean. elim (by clean) [
+      | inl is ↦ none_by told left (agrees b.shut a.content b.content told left r (goes.holds clean).tells) is
+      | inr fault ↦ fault.1
+    ] in
+    record {
+      content = λ clean. stays b.shut a.content b.content told left r (none clean) (goes.holds clean).tells;
+      found = λ clean o found. leaves_nothing a b told left r o goes (none clean) clean found;
+    }
 
 -- a fault as `?` hands it on
 pub handed : {Y : Type 0} (P : Result Y StoreFault → Type 0) (e : StoreFault) (r : Result Y StoreFault) → IsErrAnd r (λ error. error ≡ e) → P (Err e) → P r

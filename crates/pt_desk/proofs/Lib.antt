@@ -4,3 +4,4 @@ mod FileLemmas
 mod RunLemmas
 mod AnswerLemmas
 mod ReadLemmas
+mod QuietLemmas

@@ -1,12 +1,35 @@
--- Whole runs.
-use Rattle.std.specs.Prelude.{◌≡◌, ℕ, ◌<◌, List, [], ◌∷◌, Option, Result, Ok, Err}
+-- Requests, their replies, and whole runs.
+use Rattle.std.specs.Prelude.{◌≡◌, ◌⊎◌, ℕ, ◌<◌, List, [], ◌∷◌, Option, Result, Ok, Err, IsOk}
 use Rattle.pt_desk_rules.specs.State.{State}
 use Rattle.pt_desk_rules.specs.Step.{IsOutcome, state_after}
 use Rattle.pt_desk_rules.specs.declared.request.Answer.{Answer}
+use Rattle.pt_desk_rules.specs.declared.request.Answer.TheVariants.{Denied}
+use Rattle.pt_desk_rules.specs.declared.request.Request.{Request}
+use Rattle.pt_desk_rules.specs.declared.request.Request.TheVariants.{Read, Write}
 use Rattle.pt_desk.specs.Store.{TellsBy}
 use Rattle.pt_desk.specs.declared.keeper.StoreFault.{StoreFault}
 use Rattle.pt_desk.specs.declared.keeper.StoreFault.TheVariants.{Memory, Store}
 use Rattle.pt_desk.specs.declared.running.Call.{Call}
+
+-- a request that only asks
+abbrev pub IsRead : Request → Type 0
+IsRead (Read asked) = Unit {0}
+IsRead (Write asked) = ⊥
+
+-- a reply that names the rule by which a request is denied
+abbrev pub IsDenial : Result Answer StoreFault → Type 0
+IsDenial (Ok (Denied rule)) = Unit {0}
+IsDenial _ = ⊥
+
+-- the call is denied, or is a read that is answered
+abbrev pub IsOnlyTold : Call → Result Answer StoreFault → Type 0
+IsOnlyTold call reply = IsDenial reply ⊎ (IsRead call.request × IsOk reply)
+
+-- each of these calls is so
+abbrev pub AreOnlyTold : List Call → List (Result Answer StoreFault) → Type 0
+AreOnlyTold [] [] = Unit {0}
+AreOnlyTold (call ∷ calls) (reply ∷ replies) = IsOnlyTold call reply × AreOnlyTold calls replies
+AreOnlyTold _ _ = ⊥
 
 -- what a call is told by the rules, and the state that it commits, if any
 abbrev pub IsOutcomeOf : Call → State → Answer → Option State → Type 0

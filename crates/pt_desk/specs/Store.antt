@@ -1,5 +1,5 @@
 -- A store as contracts see it, and what calls make of it.
-use Rattle.std.specs.Prelude.{◌≡◌, ◌≤◌, ◌<◌, ◌⊎◌, ℕ, Option, Some, None, Result, Ok, Err}
+use Rattle.std.specs.Prelude.{◌≡◌, ◌≤◌, ◌<◌, ◌⊎◌, ℕ, Option, Some, None, Result, Ok, Err, OnOk}
 use Rattle.pt_desk_rules.specs.Sound.{IsSound}
 use Rattle.pt_desk_rules.specs.State.{State}
 use Rattle.pt_desk_rules.specs.Step.{state_after}
@@ -53,6 +53,12 @@ pub record Goes {X : Type 0} (before after : Store) (value : X) (left : Option S
   pub stays : before.failures < 1 → 0 < after.failures → result ≡ Err failed
   pub settled : IsSettled before → IsSettled after
   pub holds : after.doubt ≡ 0 → Holds before after value left result
+
+-- Where the store is clean, calls that answer leave the content as it was, and an opening after a crash finds nothing
+-- that it would not have found before them.
+pub record ChangesNothing {X E : Type 0} (before after : Store) (result : Result X E) : Type 0 where
+  pub content : after.doubt ≡ 0 → OnOk result (after.content ≡ before.content)
+  pub found : after.doubt ≡ 0 → (o : Option State) → after.found o → before.found o
 
 -- memory was refused, or the store failed
 abbrev pub IsFault : {X : Type 0} → Result X StoreFault → Type 0

@@ -3,7 +3,8 @@ ghost use Rattle.pt_desk_rules.specs.State.{State, kept_of};
 ghost use Rattle.pt_desk_rules.specs.Step.{is_above, told_of, left_of};
 ghost use Rattle.pt_desk_rules.specs.Step.{IsReadOutcome, IsDecidedOutcome, IsWriteOutcome, IsOutcome};
 ghost use Rattle.pt_desk_rules.specs.declared.request.Answer.{Answer};
-ghost use Rattle.pt_desk.specs.Store.{Store, Answers, Goes, Reads, Fails, IsSoundKept};
+ghost use Rattle.pt_desk.specs.Store.{Store, Answers, ChangesNothing, Goes, Reads, Fails, IsSoundKept};
+ghost use Rattle.pt_desk.specs.Run.{IsDenial, IsRead};
 
 use crate::gathering::{gather, gather_read};
 use crate::{Keeper, Reply, StoreFault};
@@ -106,7 +107,6 @@ fn answer_by_rules<K: Keeper>(
 /// `now` is the moment at which it comes, `key` the caller's key, and `number` the caller's number for it, which
 /// only a write needs. The error is the store's, or want of memory, and then nothing is changed. Where the store is
 /// shut as the call ends, it has failed, or the error is want of memory and the store serves no more.
-#[tactic(auto, using(crate::proofs::SoundLemmas::answered_sound, crate::proofs::AnswerLemmas::quiet))]
 pub fn answer<K: Keeper>(
     alloc: Global,
     keeper: &mut K,
@@ -117,6 +117,9 @@ pub fn answer<K: Keeper>(
 ) -> Reply
     ensures goes { Answers (K.store keeper.old) (K.store keeper.new) (IsOutcome key.now now number request.now) result }
     ensures fails { Fails (K.store keeper.old).failures (K.store keeper.new).failures result }
+    // A denial changes nothing. Nor does a read, whatever it is told.
+    ensures denied { IsDenial result → ChangesNothing (K.store keeper.old) (K.store keeper.new) result }
+    ensures read { IsRead request.now → ChangesNothing (K.store keeper.old) (K.store keeper.new) result }
     // What commits nothing, whatever it is told, leaves just the state before at a crash.
     ensures quiet { ((told : Answer) (left : Option State) →
         IsOutcome key.now now number request.now (K.store keeper.old).content told left → left ≡ None) → (o : Option State)

@@ -1,8 +1,8 @@
 ghost use Rattle.std.specs.Prelude.{◌≡◌, ◌≤◌, IfOk, IfErr, OnErr};
 ghost use Rattle.pt_base.specs.Fault.{fault};
 ghost use Rattle.pt_base.specs.Codes.{memory_refused};
-ghost use Rattle.pt_desk.specs.Store.{Store, Answers, Fails, IsSettled, IsSoundKept};
-ghost use Rattle.pt_desk.specs.Run.{IsOutcomeOf, GoesOn};
+ghost use Rattle.pt_desk.specs.Store.{Store, Answers, ChangesNothing, Fails, IsSettled, IsSoundKept};
+ghost use Rattle.pt_desk.specs.Run.{AreOnlyTold, GoesOn, IsOnlyTold, IsOutcomeOf};
 
 use crate::{Keeper, Reply, answer};
 use pt_base::{Day, Fault, Minute};
@@ -24,6 +24,8 @@ fn answer_call<K: Keeper>(alloc: Global, keeper: &mut K, call: &Call) -> Reply
     ensures goes { Answers (K.store keeper.old) (K.store keeper.new)
         (IsOutcomeOf call.entry.now) result }
     ensures fails { Fails (K.store keeper.old).failures (K.store keeper.new).failures result }
+    ensures only_told { IsOnlyTold call.entry.now result
+        → ChangesNothing (K.store keeper.old) (K.store keeper.new) result }
     ensures sound { IsSoundKept (K.store keeper.old) (K.store keeper.new) }
 {
     answer(
@@ -44,6 +46,9 @@ pub fn run<K: Keeper>(alloc: Global, keeper: &mut K, calls: &[Call]) -> Result<V
     ensures runs { (K.store keeper.new).doubt ≡ 0 → (K.store keeper.new).shut ≡ 0
         → IfOk result (λ replies. GoesOn (K.store keeper.old).failures (K.store keeper.old).content calls.now
         replies.items (K.store keeper.new).content) }
+    // A run of denials, and of reads that are answered, changes nothing.
+    ensures only_told { IfOk result (λ replies. AreOnlyTold calls.now replies.items
+        → ChangesNothing (K.store keeper.old) (K.store keeper.new) result) }
     ensures clean { (K.store keeper.old).doubt ≤ (K.store keeper.new).doubt }
     ensures serves { (K.store keeper.old).shut ≤ (K.store keeper.new).shut }
     ensures grows { (K.store keeper.old).failures ≤ (K.store keeper.new).failures }

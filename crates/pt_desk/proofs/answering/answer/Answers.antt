@@ -1,7 +1,8 @@
-use Rattle.std.proofs.Common.{◌≡◌, ◌<◌, ◌≤◌, ℕ, None, Err, refl, arith}
+use Rattle.std.proofs.Common.{◌≡◌, arith}
 use Rattle.pt_desk_rules.specs.Step.{IsOutcome}
 use Rattle.pt_desk_rules.specs.declared.request.Answer.TheVariants.{Done}
-use Rattle.pt_desk.proofs.AnswerLemmas.{shut_out}
+use Rattle.pt_desk.proofs.AnswerLemmas.{changes_nothing, shut_out}
+use Rattle.pt_desk.proofs.QuietLemmas.{denied, read}
 use Rattle.pt_desk.proofs.SoundLemmas.{answered_sound}
 use Rattle.pt_desk.proofs.answering.answer.Goals as goal
 
@@ -14,3 +15,18 @@ pub returns-clause-sound : goal.returns-clause-sound
 returns-clause-sound g c =
     answered_sound (g.K.Keeper.store c.args.keeper.now) (g.K.Keeper.store c.answer_by_rules.new.keeper) c.args.key.now c.args.now c.args.number c.args.request.now c.answer_by_rules.result
     c.answer_by_rules.ensures.goes
+
+pub returns-clause-denied : goal.returns-clause-denied
+returns-clause-denied g c =
+    denied (g.K.Keeper.store c.args.keeper.now) (g.K.Keeper.store c.answer_by_rules.new.keeper) c.args.key.now c.args.now c.args.number c.args.request.now c.answer_by_rules.result
+    c.answer_by_rules.ensures.goes
+
+pub returns-clause-read : goal.returns-clause-read
+returns-clause-read g c =
+    read (g.K.Keeper.store c.args.keeper.now) (g.K.Keeper.store c.answer_by_rules.new.keeper) c.args.key.now c.args.now c.args.number c.args.request.now c.answer_by_rules.result
+    c.answer_by_rules.ensures.goes
+
+pub returns-clause-quiet : goal.returns-clause-quiet
+returns-clause-quiet g c none o clean =
+    (changes_nothing (g.K.Keeper.store c.args.keeper.now) (g.K.Keeper.store c.answer_by_rules.new.keeper) (IsOutcome c.args.key.now c.args.now c.args.number c.args.request.now) c.answer_by_rules.result
+    c.answer_by_rules.ensures.goes (λ told left agrees is. none told left is)).found clean o

@@ -1,8 +1,8 @@
-use Rattle.std.proofs.Common.{◌≡◌, ◌≤◌, ◌∷◌, ◌++◌, [], arith, append-nil, append_assoc}
+use Rattle.std.proofs.Common.{◌≡◌, ◌≤◌, ◌∷◌, ◌++◌, [], arith, append-nil, append_assoc, refl, subst, sym}
 use Rattle.std.proofs.lemmas.Grind.{common_steps}
-use Rattle.pt_desk.specs.Run.{IsOutcomeOf}
+use Rattle.pt_desk.specs.Run.{AreOnlyTold, IsOutcomeOf}
 use Rattle.pt_desk.proofs.AnswerLemmas.{tells_by}
-use Rattle.pt_desk.proofs.RunLemmas.{goes_on_at, ended}
+use Rattle.pt_desk.proofs.RunLemmas.{goes_on_at, only_told_at, ended}
 use Rattle.pt_desk.proofs.running.run.Goals as goal
 
 pub loop-call-preserved : goal.loop-call-preserved
@@ -26,6 +26,10 @@ loop-call-preserved g c =
       grows = omega arith;
       settled = λ was. goes.settled (c.loop-call.invariant.settled was);
       sound = λ clean whole none sound. c.answer_call-reply.ensures.sound clean whole none (c.loop-call.invariant.sound (omega arith) (omega arith) (omega arith) sound);
+      only_told = λ rest told.
+          let joined : c.push.new.self.items ++ rest ≡ c.loop-call.replies.items ++ reply ∷ rest = rw (pushed, append_assoc) refl in
+          only_told_at calls i c.call-item.result reply rest (store c.args.keeper.now) before after c.loop-call-test.true c.call-item.is cleaner c.answer_call-reply.ensures.only_told
+          (c.loop-call.invariant.only_told (reply ∷ rest) (subst (λ replies. AreOnlyTold calls replies) joined told));
       rest = λ clean whole rest new left.
           let was : before.doubt ≡ 0 = omega arith in
           let served : before.shut ≡ 0 = omega arith in
@@ -37,3 +41,8 @@ pub returns-clause-runs : goal.returns-clause-runs
 returns-clause-runs g c clean whole =
     let s = g.K.Keeper.store c.loop-call.keeper in
     rw append-nil at (c.loop-call.invariant.rest clean whole [] s.content (ended s.failures s.content c.args.calls.now c.loop-call.call-index (omega arith)))
+
+pub returns-clause-only_told : goal.returns-clause-only_told
+returns-clause-only_told g c told =
+    let same = (c.loop-call.invariant.only_told [] (subst (λ replies. AreOnlyTold c.args.calls.now replies) (sym (append-nil c.loop-call.replies.items)) told)).0 in
+    record { content = same.content; found = same.found }

@@ -1,10 +1,11 @@
 use Rattle.std.proofs.Common.{◌≡◌, ◌+◌, ◌-◌, ◌≤◌, ◌++◌, List, Result, drop, length, vec_len, vec_capacity}
 use Rattle.pt_desk_rules.specs.State.{State}
 use Rattle.pt_desk_rules.specs.Sound.{IsSound}
-use Rattle.pt_desk.specs.Run.{GoesOn}
+use Rattle.pt_desk.specs.Run.{AreOnlyTold, GoesOn}
 use Rattle.pt_desk.specs.Store.{Store, IsSettled}
 use Rattle.pt_desk.specs.declared.keeper.StoreFault.{StoreFault}
 use Rattle.pt_desk_rules.specs.declared.request.Answer.{Answer}
+use Rattle.pt_desk.proofs.RunLemmas.{IsSame}
 use Rattle.pt_desk.proofs.running.run.Given as goal
 
 -- what is left completes the run, however it goes on
@@ -18,6 +19,7 @@ invariant-loop-call g l =
       grows : (store l.fn.keeper).failures ≤ (store l.keeper).failures;
       settled : IsSettled (store l.fn.keeper) → IsSettled (store l.keeper);
       sound : (store l.keeper).doubt ≡ 0 → (store l.keeper).shut ≡ 0 → (store l.keeper).failures ≡ 0 → IsSound (store l.fn.keeper).content → IsSound (store l.keeper).content;
+      only_told : (rest : List (Result Answer StoreFault)) → AreOnlyTold l.calls (l.replies.items ++ rest) → IsSame (store l.fn.keeper) (store l.keeper) × AreOnlyTold (drop l.call-index l.calls) rest;
       rest : (store l.keeper).doubt ≡ 0 → (store l.keeper).shut ≡ 0 → (rest : List (Result Answer StoreFault)) (new : State) → GoesOn (store l.keeper).failures (store l.keeper).content (drop l.call-index l.calls) rest new
           → GoesOn (store l.fn.keeper).failures (store l.fn.keeper).content l.calls (l.replies.items ++ rest) new;
     }

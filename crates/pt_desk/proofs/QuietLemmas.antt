@@ -1,0 +1,32 @@
+-- Requests that change nothing.
+use Rattle.std.proofs.Common.{◌≡◌, ℕ, false, List, Result, Ok, IfOk, ap, sym}
+use Rattle.pt_desk_rules.specs.Step.{sender, IsOutcome}
+use Rattle.pt_desk_rules.specs.declared.request.Answer.{Answer}
+use Rattle.pt_desk_rules.specs.declared.request.Answer.TheVariants.{Denied}
+use Rattle.pt_desk_rules.specs.declared.request.Request.{Request}
+use Rattle.pt_desk_rules.specs.declared.request.Request.TheVariants as request
+use Rattle.pt_desk_rules.proofs.OutcomeLemmas.{is_of_write, commits_nothing, read_commits_nothing}
+use Rattle.pt_desk.specs.Run.{IsDenial, IsRead}
+use Rattle.pt_desk.specs.Store.{Store, Answers, ChangesNothing}
+use Rattle.pt_desk.specs.declared.keeper.StoreFault.{StoreFault}
+use Rattle.pt_desk.proofs.AnswerLemmas.{changes_nothing}
+
+abbrev Reply : Type 0
+Reply = Result Answer StoreFault
+
+is_denied : (reply : Reply) (told : Answer) → IsDenial reply → IfOk reply (λ answer. answer ≡ told) → is_of_write told ≡ false
+is_denied (Ok (Denied rule)) told denial agrees = ap is_of_write (sym agrees)
+is_denied _ told denial agrees = absurd denial
+
+-- a denial
+pub denied : (a b : Store) (key : List ℕ) (now : ℕ × ℕ) (number : ℕ) (asked : Request) (reply : Reply) → Answers a b (IsOutcome key now number asked) reply → IsDenial reply → ChangesNothing a b reply
+denied a b key now number asked reply answers denial =
+    changes_nothing a b (IsOutcome key now number asked) reply answers
+    (λ told left agrees is. commits_nothing (sender key a.content) now number asked a.content told left is (is_denied reply told denial agrees))
+
+-- a read
+pub read : (a b : Store) (key : List ℕ) (now : ℕ × ℕ) (number : ℕ) (asked : Request) (reply : Reply) → Answers a b (IsOutcome key now number asked) reply → IsRead asked → ChangesNothing a b reply
+read a b key now number (request.Read asked) reply answers is_read =
+    changes_nothing a b (IsOutcome key now number (request.Read asked)) reply answers
+    (λ told left agrees is. read_commits_nothing (sender key a.content) now number asked a.content told left is)
+read a b key now number (request.Write asked) reply answers is_read = absurd is_read
