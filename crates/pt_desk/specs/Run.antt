@@ -57,6 +57,7 @@ Runs old [] (reply ∷ replies) new = ⊥
 Runs old (call ∷ calls) [] new = ⊥
 
 -- how a run goes on where the store has failed so often
-pub record GoesOn (failures : ℕ) (old : State) (calls : List Call) (replies : List (Result Answer StoreFault)) (new : State) : Type 0 where
+pub record GoesOn (failures : ℕ) (old : State) (calls : List Call) (replies : List (Result Answer StoreFault))
+    (new : State) : Type 0 where
   pub runs : failures ≡ 0 → Runs old calls replies new
   pub failed : 0 < failures → AreRefused calls replies

@@ -27,7 +27,8 @@ abbrev pub IsLeft : Option State → Option State → Type 0
 IsLeft None o = ⊥
 IsLeft (Some new) o = o ≡ Some new
 
--- what they answer, and the content that stands, where `left` is what they commit, if anything: on Ok all is done, for want of memory nothing
+-- what they answer, and the content that stands, where `left` is what they commit, if anything: on Ok all is done, for
+-- want of memory nothing
 abbrev pub Tells : {X : Type 0} → ℕ → State → State → X → Option State → Result X StoreFault → Type 0
 Tells shut old new value left (Ok x) = (x ≡ value) × (new ≡ state_after left old)
 Tells shut old new value left (Err Memory) = shut ≡ 0 → new ≡ old
@@ -39,13 +40,15 @@ IsDurable after (Some new) (Ok x) = (o : Option State) → after.found o → o �
 IsDurable after _ _ = Unit {0}
 
 -- what is said of the content, where the store is clean as the calls end
-pub record Holds {X : Type 0} (before after : Store) (value : X) (left : Option State) (result : Result X StoreFault) : Type 0 where
+pub record Holds {X : Type 0} (before after : Store) (value : X) (left : Option State)
+    (result : Result X StoreFault) : Type 0 where
   pub tells : Tells after.shut before.content after.content value left result
   pub crash : (o : Option State) → after.found o → before.found o ⊎ IsLeft left o
   pub durable : IsDurable after left result
 
 -- Calls that answer `value` and commit `left`, if anything: from none on, and any number of reads before a commit.
-pub record Goes {X : Type 0} (before after : Store) (value : X) (left : Option State) (result : Result X StoreFault) : Type 0 where
+pub record Goes {X : Type 0} (before after : Store) (value : X) (left : Option State)
+    (result : Result X StoreFault) : Type 0 where
   pub clean : before.doubt ≤ after.doubt
   pub serves : before.shut ≤ after.shut
   pub grows : before.failures ≤ after.failures
@@ -65,9 +68,10 @@ abbrev pub IsFault : {X : Type 0} → Result X StoreFault → Type 0
 IsFault (Ok x) = ⊥
 IsFault (Err fault) = Unit {0}
 
--- what they answer, and the content that stands, is by one of these outcomes of the content before, or a fault came before
--- anything was decided
-abbrev pub TellsBy : {X : Type 0} → ℕ → State → State → (State → X → Option State → Type 0) → Result X StoreFault → Type 0
+-- what they answer, and the content that stands, is by one of these outcomes of the content before, or a fault came
+-- before anything was decided
+abbrev pub TellsBy : {X : Type 0} → ℕ → State → State → (State → X → Option State → Type 0) → Result X StoreFault
+    → Type 0
 TellsBy {X} shut old new IsOutcome result =
     (told : X) × (left : Option State) × Tells shut old new told left result
     × (IsOutcome old told left ⊎ (IsFault result × (left ≡ None)))

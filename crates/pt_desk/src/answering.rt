@@ -74,7 +74,8 @@ fn answer_write<K: Keeper>(
     number: u32,
     write: &Write,
 ) -> Reply
-    ensures goes { Answers (K.store keeper.old) (K.store keeper.new) (IsWriteOutcome write.now me.now now number) result }
+    ensures goes { Answers (K.store keeper.old) (K.store keeper.new)
+        (IsWriteOutcome write.now me.now now number) result }
 {
     if !is_new(keeper, me.id, number)? {
         return Ok(Answer::Denied(Rule::Number));
@@ -122,8 +123,8 @@ pub fn answer<K: Keeper>(
     ensures read { IsRead request.now → ChangesNothing (K.store keeper.old) (K.store keeper.new) result }
     // What commits nothing, whatever it is told, leaves just the state before at a crash.
     ensures quiet { ((told : Answer) (left : Option State) →
-        IsOutcome key.now now number request.now (K.store keeper.old).content told left → left ≡ None) → (o : Option State)
-        → (K.store keeper.new).doubt ≡ 0 → (K.store keeper.new).found o → (K.store keeper.old).found o }
+        IsOutcome key.now now number request.now (K.store keeper.old).content told left → left ≡ None)
+        → (o : Option State) → (K.store keeper.new).doubt ≡ 0 → (K.store keeper.new).found o → (K.store keeper.old).found o }
     // A sound state is left sound.
     ensures sound { IsSoundKept (K.store keeper.old) (K.store keeper.new) }
 {

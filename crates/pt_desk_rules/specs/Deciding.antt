@@ -105,7 +105,8 @@ IsDecidedBy (write.Travel day rows) kept today facts decided =
     (record (keeping kept) { travel = replaces (tables_from day) (record { from_day = day; rows = rows }) })
 IsDecidedBy (write.Book rider wish) kept today facts decided =
     IsBooking (booked kept) (facts.booking.last_trip + 1) None today wish facts decided
-IsDecidedBy (write.Change trip wish) kept today facts decided = IsChangeDecided facts.booking.trip wish kept today facts decided
+IsDecidedBy (write.Change trip wish) kept today facts decided =
+    IsChangeDecided facts.booking.trip wish kept today facts decided
 IsDecidedBy (write.Cancel trip) kept today facts decided = IsCancelDecided facts.booking.trip kept facts decided
 
 -- where none of its own rules fails, what a trip needs is there

@@ -27,7 +27,8 @@ versions_before id day vehicles = filter (λ version. version.id == id && nat_lt
 
 -- a later version of the same vehicle, whose day has come
 abbrev pub is_newer : ℕ → Vehicle → Vehicle → Bool
-is_newer day version other = other.id == version.id && nat_lt version.from_day other.from_day && nat_le other.from_day day
+is_newer day version other =
+    other.id == version.id && nat_lt version.from_day other.from_day && nat_le other.from_day day
 
 -- the version's day has come, and that of no later version of its vehicle
 abbrev pub is_in_force : ℕ → List Vehicle → Vehicle → Bool

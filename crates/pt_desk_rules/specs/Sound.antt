@@ -43,7 +43,8 @@ IsOfCaller callers kept = IsIn caller_key callers kept.caller
 
 -- a resident's record is there
 abbrev pub IsResidentIn : List Rider → ℕ → Type 0
-IsResidentIn riders id = (rider : Rider) × (record_at rider_key id riders ≡ Some rider) × IsTrue (is_resident rider.kind)
+IsResidentIn riders id =
+    (rider : Rider) × (record_at rider_key id riders ≡ Some rider) × IsTrue (is_resident rider.kind)
 
 abbrev pub IsOfResident : List Rider → FiledEntry → Type 0
 IsOfResident riders filed = IsResidentIn riders filed.rider

@@ -100,7 +100,8 @@ fn entry_denial(
         .admits(there, entry, now.0, me.id, &[], &facts.policy)
 }
 
-/// The first rule by which a write with a new number is denied to the caller at the moment `now`; `None` where it is accepted.
+/// The first rule by which a write with a new number is denied to the caller at the moment `now`; `None` where it is
+/// accepted.
 pub fn denial(facts: &WriteFacts, me: &Caller, now: (Day, Minute), write: &Write) -> Option<Rule>
     ensures value { result ≡ first_failing (rules_of write.now me.now now facts.now) }
 {

@@ -107,7 +107,8 @@ pub(crate) fn may_book(role: Role, rider: RiderId, found: &Option<Rider>) -> boo
     }
 }
 
-/// Whether the caller may change or cancel the trip, whose rider's record is given. A trip that is not there is nobody's own.
+/// Whether the caller may change or cancel the trip, whose rider's record is given. A trip that is not there is nobody's
+/// own.
 pub(crate) fn may_alter(role: Role, trip: &Option<Trip>, found: &Option<Rider>) -> bool
     ensures { result ≡ may_alter trip.now found.now role }
 {

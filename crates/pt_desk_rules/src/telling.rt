@@ -13,7 +13,8 @@ use std::alloc::{AllocError, Global};
 
 /// Whether a visitor with these trips may use the day.
 fn visitor_may_use(alloc: Global, trips: &[Trip], day: Day) -> Result<bool, AllocError>
-    ensures { IfOk result (λ may_use. (uses : List ℕ) × AreUses None trips.now uses × (IsTrue may_use ↔ MayUse uses day)) }
+    ensures { IfOk result (λ may_use.
+        (uses : List ℕ) × AreUses None trips.now uses × (IsTrue may_use ↔ MayUse uses day)) }
 {
     let uses = days_of_use(alloc, trips, &None)?;
     Ok(visitor_may(uses.as_slice(), day))

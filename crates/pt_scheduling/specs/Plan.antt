@@ -64,7 +64,8 @@ IsPair (stop ∷ []) = ⊥
 IsPair (first ∷ second ∷ []) = (first.kind ≡ Pickup) × (second.kind ≡ Drop)
 IsPair (first ∷ second ∷ third ∷ later) = ⊥
 
--- no more stops than a route has room for, and of each trip none, or its pickup and then its drop (Cordeau and Laporte 2003)
+-- no more stops than a route has room for, and of each trip none, or its pickup and then its drop (Cordeau and Laporte
+-- 2003)
 pub record IsPlannedRoute (stops : List PlannedStop) : Type 0 where
   pub few : length stops ≤ MAX_STOPS
   pub paired : (trip : ℕ) → IsPair (stops_of_trip trip stops)

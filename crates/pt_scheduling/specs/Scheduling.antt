@@ -1,4 +1,5 @@
--- What comes of a trip that is asked for: a plan with the trip at the best place of the day, or the first rule that fails.
+-- What comes of a trip that is asked for: a plan with the trip at the best place of the day, or the first rule that
+-- fails.
 use Rattle.std.specs.Prelude.{◌≡◌, ℕ, ◌<◌, List, map, Any, All, AllPairs, Option, Some, None}
 use Rattle.pt_base.specs.declared.trip.Trip.{Trip}
 use Rattle.pt_feasible.specs.declared.stop.Stop.{Stop}
@@ -36,8 +37,8 @@ pub record IsBookedAt (minutes : ℕ → ℕ → Option ℕ) (vehicles : List On
 abbrev pub IsBookedIn : (ℕ → ℕ → Option ℕ) → List OnDuty → Request → Trip → Plan → Type 0
 IsBookedIn minutes vehicles request trip plan = (chosen : Chosen) × IsBookedAt minutes vehicles request trip plan chosen
 
--- booked at the best place where no rule fails, or denied by the first rule that fails: that it is, is said where each of
--- the vehicles has a route
+-- booked at the best place where no rule fails, or denied by the first rule that fails: that it is, is said where each
+-- of the vehicles has a route
 abbrev pub IsScheduled : (ℕ → ℕ → Option ℕ) → List OnDuty → Request → Scheduled → Type 0
 IsScheduled minutes vehicles request (Denied rule) =
     AreRoutes request.trip vehicles → IsFirstFailing (booking_rules minutes vehicles request) (Some rule)
