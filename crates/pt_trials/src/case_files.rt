@@ -329,9 +329,9 @@ fn random_tallies(alloc: Global, dice: &mut u64) -> Result<Vec<Tally>, Fail> {
 }
 
 /// How often each answer came.
-type Seen = Vec<(&'static str, u32)>;
+pub(crate) type Seen = Vec<(&'static str, u32)>;
 
-fn count(seen: &mut Seen, answer: &'static str) -> Result<(), Fail> {
+pub(crate) fn count(seen: &mut Seen, answer: &'static str) -> Result<(), Fail> {
     match seen.iter_mut().find(|(known, _)| *known == answer) {
         Some((_, times)) => *times = times.saturating_add(1),
         None => seen.push((answer, 1))?,

@@ -2,6 +2,8 @@
 #![tactic(auto)]
 
 #[cfg(test)]
+mod booking;
+#[cfg(test)]
 mod case_files;
 #[cfg(test)]
 mod corridor;
@@ -11,6 +13,12 @@ mod desk;
 mod fleet;
 #[cfg(test)]
 mod insertion;
+#[cfg(test)]
+mod plain_agency;
+#[cfg(test)]
+mod plain_routes;
+#[cfg(test)]
+mod second_desk;
 #[cfg(test)]
 mod service_times;
 #[cfg(test)]

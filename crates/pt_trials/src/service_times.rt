@@ -127,18 +127,26 @@ fn stops(alloc: Global, dice: &mut Dice) -> Result<Vec<Stop>, Fail> {
     Ok(stops)
 }
 
-/// One visit of the second way: where, from when to when, how long.
+/// One visit of the second way: the minutes of the drive to it, where there is a way; from when to when; how long.
 #[derive(Clone, Copy)]
-struct Visit {
-    place: PlaceId,
-    lo: u32,
-    hi: u32,
-    service: u32,
+pub(crate) struct Visit {
+    pub drive: Option<u32>,
+    pub lo: u32,
+    pub hi: u32,
+    pub service: u32,
 }
 
-fn depot(vehicle: &Vehicle) -> Visit {
+/// One ride: which visits it begins and ends with, and its most minutes with the service at its begin.
+#[derive(Clone, Copy)]
+pub(crate) struct Ride {
+    pub pickup: usize,
+    pub drop: usize,
+    pub most: u32,
+}
+
+fn depot(vehicle: &Vehicle, last: PlaceId) -> Visit {
     Visit {
-        place: vehicle.depot,
+        drive: Plain.minutes(last, vehicle.depot).map(u32::from),
         lo: vehicle.opens.number(),
         hi: vehicle.closes.number(),
         service: 0,
@@ -147,17 +155,35 @@ fn depot(vehicle: &Vehicle) -> Visit {
 
 fn visits(alloc: Global, stops: &[Stop], vehicle: &Vehicle) -> Result<Vec<Visit>, Fail> {
     let mut visits = Vec::new(alloc);
-    visits.push(depot(vehicle))?;
+    visits.push(depot(vehicle, vehicle.depot))?;
+    let mut last = vehicle.depot;
     for stop in stops {
         visits.push(Visit {
-            place: stop.place,
+            drive: Plain.minutes(last, stop.place).map(u32::from),
             lo: stop.lo.number(),
             hi: stop.hi.number(),
             service: u32::from(stop.service),
         })?;
+        last = stop.place;
     }
-    visits.push(depot(vehicle))?;
+    visits.push(depot(vehicle, last))?;
     Ok(visits)
+}
+
+fn rides(alloc: Global, stops: &[Stop]) -> Result<Vec<Ride>, Fail> {
+    let mut rides = Vec::new(alloc);
+    for i in 0..stops.len() {
+        for j in i..stops.len() {
+            if stops[i].trip == stops[j].trip && i != j {
+                rides.push(Ride {
+                    pickup: i.saturating_add(1),
+                    drop: j.saturating_add(1),
+                    most: u32::from(stops[i].service) + u32::from(stops[i].ride),
+                })?;
+            }
+        }
+    }
+    Ok(rides)
 }
 
 /// Raises the bound at a place to a number; whether it was lower.
@@ -181,43 +207,41 @@ fn raise_by_drives(bounds: &mut Vec<u32>, visits: &[Visit]) -> Option<bool> {
     let mut raised = false;
     for k in 1..visits.len() {
         let this = visits[k - 1];
-        let drive = Plain.minutes(this.place, visits[k].place)?;
         let next = bound(bounds, k - 1)
             .saturating_add(this.service)
-            .saturating_add(u32::from(drive));
+            .saturating_add(visits[k].drive?);
         raised |= raise(bounds, k, next);
     }
     Some(raised)
 }
 
-/// Raises the bounds as far as the ride limits and the duration ask.
-fn raise_by_rides(bounds: &mut Vec<u32>, stops: &[Stop], duration: u32) -> bool {
+/// Raises the bounds as far as the rides and the duration ask.
+fn raise_by_rides(bounds: &mut Vec<u32>, rides: &[Ride], duration: u32) -> bool {
     let mut raised = false;
-    for i in 0..stops.len() {
-        for j in i..stops.len() {
-            if stops[i].trip == stops[j].trip && i != j {
-                let drop = bound(bounds, j.saturating_add(1));
-                let ride = u32::from(stops[i].service) + u32::from(stops[i].ride);
-                raised |= raise(bounds, i.saturating_add(1), drop.saturating_sub(ride));
-            }
-        }
+    for ride in rides {
+        let drop = bound(bounds, ride.drop);
+        raised |= raise(bounds, ride.pickup, drop.saturating_sub(ride.most));
     }
-    let back = bound(bounds, stops.len().saturating_add(1));
+    let back = bounds.last().copied().unwrap_or(0);
     raised | raise(bounds, 0, back.saturating_sub(duration))
 }
 
 /// The least times by raising all bounds again and again, each in any order that comes.
-fn second_way(alloc: Global, stops: &[Stop], vehicle: &Vehicle) -> Result<Option<Vec<u32>>, Fail> {
-    let visits = visits(alloc, stops, vehicle)?;
+pub(crate) fn least_times(
+    alloc: Global,
+    visits: &[Visit],
+    rides: &[Ride],
+    duration: u32,
+) -> Result<Option<Vec<u32>>, Fail> {
     let mut bounds = Vec::new(alloc);
     for visit in visits.iter() {
         bounds.push(visit.lo)?;
     }
     for _ in 0..100_000 {
-        let Some(driven) = raise_by_drives(&mut bounds, &visits) else {
+        let Some(driven) = raise_by_drives(&mut bounds, visits) else {
             return Ok(None);
         };
-        let ridden = raise_by_rides(&mut bounds, stops, u32::from(vehicle.duration));
+        let ridden = raise_by_rides(&mut bounds, rides, duration);
         for (visit, bound) in visits.iter().zip(bounds.iter()) {
             if visit.hi < *bound {
                 return Ok(None);
@@ -228,6 +252,12 @@ fn second_way(alloc: Global, stops: &[Stop], vehicle: &Vehicle) -> Result<Option
         }
     }
     Ok(None)
+}
+
+fn second_way(alloc: Global, stops: &[Stop], vehicle: &Vehicle) -> Result<Option<Vec<u32>>, Fail> {
+    let visits = visits(alloc, stops, vehicle)?;
+    let rides = rides(alloc, stops)?;
+    least_times(alloc, &visits, &rides, u32::from(vehicle.duration))
 }
 
 /// Whether both ways agree, and whether there are times that fit.

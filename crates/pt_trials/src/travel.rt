@@ -42,7 +42,7 @@ fn table(alloc: Global, seed: &mut u32) -> Result<Vec<Row>, AllocError> {
 
 // The least totals of chains from one place, by Bellman and Ford: each round lets every row shorten
 // what its end has, and after as many rounds as there are places no row does.
-fn least_from(rows: &[Row], start: u32) -> [u32; 16] {
+pub(crate) fn least_from(rows: &[Row], start: u32) -> [u32; 16] {
     let mut least = [FAR; 16];
     least[(start % 16) as usize] = 0;
     for _round in 0..PLACES {
