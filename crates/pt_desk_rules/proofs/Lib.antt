@@ -1,6 +1,7 @@
 pub mod FleetLemmas
 mod BookingLemmas
 mod PlannedLemmas
+mod StandingLemmas
 pub mod SoundLemmas
 pub mod DutyLemmas
 pub mod PrivacyLemmas

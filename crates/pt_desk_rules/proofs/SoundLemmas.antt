@@ -7,6 +7,8 @@ use Rattle.std.proofs.lemmas.List.{length-map, length-take}
 use Rattle.std.proofs.Common.{length-append}
 use Rattle.std.proofs.lemmas.Slice.Eq.{bytes_eq-Decides}
 use Rattle.sha2.specs.Sha256.{sha256}
+use Rattle.pt_base.specs.Day.{IsDay}
+use Rattle.pt_base.specs.TripStatus.{stands}
 use Rattle.pt_base.specs.declared.place.Place.{Place}
 use Rattle.pt_base.specs.declared.policy.Policy.{Policy}
 use Rattle.pt_base.specs.declared.rider.Residence.{Residence}
@@ -41,7 +43,8 @@ use Rattle.pt_scheduling.specs.Plan.{Plan, plan_key, planned_stops, stops_of_pla
 use Rattle.pt_scheduling.specs.Scheduling.{IsBookedIn}
 use Rattle.pt_scheduling.specs.declared.planned.PlannedStop.{PlannedStop}
 use Rattle.pt_scheduling.proofs.PlanLemmas.{any_kept, found_key}
-use Rattle.pt_scheduling.proofs.RouteLemmas.{booked_plan, booked_route, booked_trips, booked_vehicle, left_route, planned_route, Each-found}
+use Rattle.pt_scheduling.proofs.RouteLemmas.{booked_has, booked_keeps, booked_plan, booked_route, booked_trips, booked_vehicle, has_trip, left_has, left_route, planned_route, Each-found}
+use Rattle.pt_desk_rules.proofs.StandingLemmas.{each_found, has_on, plans_left, put_planned, same_place, stays_beside, stays_planned, trip_on, Each-put_over}
 use Rattle.pt_desk_rules.proofs.PlannedLemmas.{left_standing, plans_after, plans_beside, put_stands, standing_without}
 use Rattle.pt_scheduling.specs.declared.scheduling.Scheduled.TheVariants as scheduled
 use Rattle.pt_base.specs.declared.trip.Trip.{Trip}
@@ -49,7 +52,7 @@ use Rattle.pt_base.specs.declared.trip.Wish.{Wish}
 use Rattle.pt_records.specs.declared.span.Span.{Span}
 use Rattle.std.proofs.lemmas.Option.{same_Some}
 use Rattle.pt_desk_rules.specs.Step.{state_after, is_new, left_of, sender, IsOutcome, IsOutcomeBy, IsOutcomeIf}
-use Rattle.pt_desk_rules.specs.Sound.{IsSound, IsNumberedTo, IsSoundFile, IsIn, HasDigest, HasOneHolder, HasSubject, IsOfCaller, IsResidentIn, IsOfResident, HasAuthor, HasFirstDay, HasDepot, HasPlaces, HasStandingTrips, HasVehicle, IsOfPlaces, IsOfRider, StandsIn, AreNumberedFrom}
+use Rattle.pt_desk_rules.specs.Sound.{IsSound, IsNumberedTo, IsSoundFile, IsIn, HasDigest, HasOneHolder, HasSubject, IsOfCaller, IsResidentIn, IsOfResident, HasAuthor, HasFirstDay, HasDepot, HasDay, HasPlaces, HasStandingTrips, HasVehicle, IsOfPlaces, IsOfRider, IsOnDay, IsPlanned, StandsIn, AreNumberedFrom}
 use Rattle.pt_desk_rules.specs.declared.caller.Caller.{Caller}
 use Rattle.pt_desk_rules.specs.declared.caller.Kept.{Kept}
 use Rattle.pt_desk_rules.specs.declared.caller.Role.{Role}
@@ -313,14 +316,17 @@ abbrev IsThere : State → Trip → Type 0
 IsThere s trip = IsOfRider s.riders trip × HasPlaces s.places trip × HasVehicle s.vehicles trip
 
 book_sound : (trip : Trip) (plan : Plan) (s : State) → IsSound s → trip.id ≡ s.last_trip + 1 → IsThere s trip → IsRoutePlan plan → HasStandingTrips (put trip_key trip s.trips) plan
+    → HasDay trip → IsOnDay plan → Each (IsPlanned (put plan_key plan s.planned)) (put trip_key trip s.trips)
     → IsSound (record s { trips = put trip_key trip s.trips; planned = put plan_key plan s.planned; last_trip = trip.id })
-book_sound trip plan s sound is there route standing =
+book_sound trip plan s sound is there route standing day on planned_all =
     let trips = IsInOrder-put trip_key trip s.trips sound.trips_in_order in
     let numbered = Each-put (IsNumberedTo trip.id) trip_key trip s.trips (numbered_on s.last_trip trip.id (omega arith) s.trips sound.trips_numbered) (omega arith) in
     let planned = IsInOrder-put plan_key plan s.planned sound.planned_in_order in
     let routes = Each-put IsRoutePlan plan_key plan s.planned sound.planned_routes route in
     let stand = Each-put (HasStandingTrips (put trip_key trip s.trips)) plan_key plan s.planned
     (plans_after s.last_trip s.trips trip s.planned is sound.trips_numbered sound.planned_trips_stand) standing in
+    let days = Each-put HasDay trip_key trip s.trips sound.trip_days day in
+    let on_days = Each-put IsOnDay plan_key plan s.planned sound.planned_days on in
     let riders = Each-put (IsOfRider s.riders) trip_key trip s.trips sound.trips_of_riders there.0 in
     let ends = Each-put (HasPlaces s.places) trip_key trip s.trips sound.trip_places_there there.1 in
     let vehicles = Each-put (HasVehicle s.vehicles) trip_key trip s.trips sound.trip_vehicles_there there.2 in
@@ -345,11 +351,14 @@ and_one P (first ∷ later) plan each holds = (each.0, and_one P later plan each
 
 edit_sound : (trip : Trip) (away : Span) (plans : List Plan) (s : State) → IsSound s → trip.id ≤ s.last_trip → IsThere s trip → Each IsRoutePlan plans
     → Each (HasStandingTrips (put trip_key trip s.trips)) plans → Each (HasStandingTrips (put trip_key trip s.trips)) (take_away plan_key away s.planned)
+    → HasDay trip → Each IsOnDay plans → Each (IsPlanned (put_all plan_key plans (take_away plan_key away s.planned))) (put trip_key trip s.trips)
     → IsSound (record s { trips = put trip_key trip s.trips; planned = put_all plan_key plans (take_away plan_key away s.planned) })
-edit_sound trip away plans s sound below there new standing beside =
+edit_sound trip away plans s sound below there new standing beside day on planned_all =
     let trips = IsInOrder-put trip_key trip s.trips sound.trips_in_order in
     let numbered = Each-put (IsNumberedTo s.last_trip) trip_key trip s.trips sound.trips_numbered below in
     let planned = put_all_order plans (take_away plan_key away s.planned) (IsInOrder-filter plan_key (λ plan. not (is_within (plan_key plan) away)) s.planned sound.planned_in_order) in
+    let days = Each-put HasDay trip_key trip s.trips sound.trip_days day in
+    let on_days = put_all_each IsOnDay plans (take_away plan_key away s.planned) on (Each-filter IsOnDay (λ plan. not (is_within (plan_key plan) away)) s.planned sound.planned_days) in
     let stand = put_all_each (HasStandingTrips (put trip_key trip s.trips)) plans (take_away plan_key away s.planned) standing beside in
     let routes = put_all_each IsRoutePlan plans (take_away plan_key away s.planned) new (Each-filter IsRoutePlan (λ plan. not (is_within (plan_key plan) away)) s.planned sound.planned_routes) in
     let riders = Each-put (IsOfRider s.riders) trip_key trip s.trips sound.trips_of_riders there.0 in
@@ -395,6 +404,103 @@ booked_is_there minutes number day rider wish request trip plan s is there from 
           (subst (λ (n : ℕ). IsBookedIn minutes (routes_on n day s) request trip plan) (sym is) booked)),
     )
 
+-- what is known of each trip that is kept
+abbrev IsKept : State → Trip → Type 0
+IsKept s trip = (record_at trip_key trip.id s.trips ≡ Some trip) × HasDay trip × IsPlanned s.planned trip × IsNumberedTo s.last_trip trip
+
+kept_each : (s : State) → IsSound s → Each (IsKept s) s.trips
+kept_each s sound =
+    Each-both (λ (t : Trip). record_at trip_key t.id s.trips ≡ Some t) (λ (t : Trip). HasDay t × IsPlanned s.planned t × IsNumberedTo s.last_trip t) (IsKept s)
+    (λ t found rest. (found, rest.0, rest.1, rest.2)) s.trips (each_found s.trips sound.trips_in_order)
+    (Each-both HasDay (λ (t : Trip). IsPlanned s.planned t × IsNumberedTo s.last_trip t) (λ (t : Trip). HasDay t × IsPlanned s.planned t × IsNumberedTo s.last_trip t)
+    (λ t day rest. (day, rest.0, rest.1)) s.trips sound.trip_days
+    (Each-both (IsPlanned s.planned) (IsNumberedTo s.last_trip) (λ (t : Trip). IsPlanned s.planned t × IsNumberedTo s.last_trip t) (λ t planned below. (planned, below)) s.trips
+    sound.standing_planned sound.trips_numbered))
+
+-- the plan of a trip that is booked has each trip that stood in its vehicle on its day
+booked_keeps_others : (minutes : ℕ → ℕ → Option ℕ) (number day : ℕ) (request : request_of.Request) (trip : Trip) (plan : Plan) (s : State) (other : Trip) → IsSound s → request.trip ≡ number → trip.id ≡ number
+    → trip.wish.day ≡ day → IsDay day → (other.id ≡ trip.id → ⊥) → IsKept s other → IsTrue (stands other.status) → IsBookedIn minutes (routes_on number day s) request trip plan
+    → pair_key other.vehicle other.wish.day ≡ plan_key plan → has_trip other.id plan.stops ≡ true
+booked_keeps_others minutes number day request trip plan s other sound is own on is_day differ kept standing booked same =
+    let (vehicle, of_day, stand) = booked_plan minutes (routes_on number day s) request trip plan booked in
+    let plan_day : plan.day ≡ day = sym of_day ∙ on in
+    let place = same_place other plan kept.1 (subst IsDay (sym plan_day) is_day) same in
+    let other_day : other.wish.day ≡ day = place.1 ∙ plan_day in
+    let there : has_trip other.id (planned_stops plan.vehicle day s.planned) ≡ true
+    = ap (λ (v : ℕ). has_trip other.id (planned_stops v day s.planned)) (sym place.0) ∙ ap (λ (d : ℕ). has_trip other.id (planned_stops other.vehicle d s.planned)) (sym other_day) ∙ kept.2 standing in
+    booked_keeps minutes day (trips_on day s.trips) (planned_on day s.planned) (on_duty day s.vehicles) request trip plan other (λ alike. differ (sym alike))
+    (trip_on day other s.trips other_day kept.0)
+    (left_has other.id request.trip (planned_stops plan.vehicle day (planned_on day s.planned)) (λ alike. differ (alike ∙ is ∙ sym own)) (has_on plan.vehicle day other.id s.planned is_day sound.planned_days there))
+    (subst (λ (n : ℕ). IsBookedIn minutes (routes_on n day s) request trip plan) (sym is) booked)
+
+-- and the trip itself
+booked_has_own : (minutes : ℕ → ℕ → Option ℕ) (number day : ℕ) (request : request_of.Request) (trip : Trip) (plan : Plan) (s : State) → request.trip ≡ number → trip.id ≡ number
+    → IsBookedIn minutes (routes_on number day s) request trip plan → has_trip trip.id plan.stops ≡ true
+booked_has_own minutes number day request trip plan s is own booked =
+    booked_has minutes day (trips_on day s.trips) (planned_on day s.planned) (on_duty day s.vehicles) request trip plan (own ∙ sym is)
+    (subst (λ (n : ℕ). IsBookedIn minutes (routes_on n day s) request trip plan) (sym is) booked)
+
+key_of_plan : (trip : Trip) (plan : Plan) → trip.vehicle ≡ plan.vehicle → trip.wish.day ≡ plan.day → pair_key trip.vehicle trip.wish.day ≡ plan_key plan
+key_of_plan trip plan vehicle day = rw (vehicle, day) refl
+
+next_number : (last id next : ℕ) → id ≤ last → next ≡ last + 1 → id ≡ next → ⊥
+next_number last id next below is same = omega arith
+
+-- with a trip that is booked, each trip that stands is planned
+book_planned : (minutes : ℕ → ℕ → Option ℕ) (day : ℕ) (request : request_of.Request) (trip : Trip) (plan : Plan) (s : State) → IsSound s → request.trip ≡ s.last_trip + 1 → trip.id ≡ s.last_trip + 1
+    → trip.wish.day ≡ day → IsDay day → IsBookedIn minutes (routes_on (s.last_trip + 1) day s) request trip plan → Each (IsPlanned (put plan_key plan s.planned)) (put trip_key trip s.trips)
+book_planned minutes day request trip plan s sound is own on is_day booked =
+    let (vehicle, of_day, stand) = booked_plan minutes (routes_on (s.last_trip + 1) day s) request trip plan booked in
+    Each-put (IsPlanned (put plan_key plan s.planned)) trip_key trip s.trips
+    (Each-weaker (IsKept s) (IsPlanned (put plan_key plan s.planned))
+    (λ t kept standing. stays_beside t plan s.planned
+    (booked_keeps_others minutes (s.last_trip + 1) day request trip plan s t sound is own on is_day (next_number s.last_trip t.id trip.id kept.3 own) kept standing booked) (kept.2 standing))
+    s.trips (kept_each s sound))
+    (λ standing. put_planned trip plan s.planned (key_of_plan trip plan vehicle of_day) (booked_has_own minutes (s.last_trip + 1) day request trip plan s is own booked))
+
+one_more_put : (old : Trip) (left : List PlannedStop) (plan : Plan) (there : List Plan)
+    → put_all plan_key (plan_of_stops old left ++ plan ∷ []) there ≡ put plan_key plan (put_all plan_key (plan_of_stops old left) there)
+one_more_put old [] plan there = refl
+one_more_put old (stop ∷ later) plan there = refl
+
+abbrev left_of_trip : Trip → State → List PlannedStop
+left_of_trip old s = without old.id (planned_stops old.vehicle old.wish.day s.planned)
+
+-- the same with a trip that is changed
+change_planned : (minutes : ℕ → ℕ → Option ℕ) (day : ℕ) (request : request_of.Request) (old trip : Trip) (plan : Plan) (s : State) → IsSound s → HasDay old → request.trip ≡ old.id → trip.id ≡ old.id
+    → trip.wish.day ≡ day → IsDay day → IsBookedIn minutes (routes_on old.id day s) request trip plan
+    → Each (IsPlanned (put_all plan_key (plan_of_stops old (left_of_trip old s) ++ plan ∷ []) (take_away plan_key (plan_span old) s.planned))) (put trip_key trip s.trips)
+change_planned minutes day request old trip plan s sound old_day is own on is_day booked =
+    let (vehicle, of_day, stand) = booked_plan minutes (routes_on old.id day s) request trip plan booked in
+    let there = plans_left old (left_of_trip old s) s.planned in
+    subst (λ plans. Each (IsPlanned plans) (put trip_key trip s.trips)) (sym (one_more_put old (left_of_trip old s) plan (take_away plan_key (plan_span old) s.planned)))
+    (Each-put_over (IsPlanned (put plan_key plan there)) trip_key trip s.trips sound.trips_in_order
+    (Each-weaker (IsKept s) (λ (t : Trip). (t.id ≡ trip.id → ⊥) → IsPlanned (put plan_key plan there) t)
+    (λ t kept differ standing. stays_beside t plan there
+    (booked_keeps_others minutes old.id day request trip plan s t sound is own on is_day differ kept standing booked)
+    (stays_planned old t s.planned old_day kept.1 (λ alike. differ (alike ∙ sym own)) (kept.2 standing)))
+    s.trips (kept_each s sound))
+    (λ standing. put_planned trip plan there (key_of_plan trip plan vehicle of_day) (booked_has_own minutes old.id day request trip plan s is own booked)))
+
+-- and where one is cancelled
+cancel_planned : (trip : Trip) (s : State) → IsSound s → HasDay trip
+    → Each (IsPlanned (put_all plan_key (plan_of_stops trip (left_of_trip trip s)) (take_away plan_key (plan_span trip) s.planned))) (put trip_key (cancelled trip) s.trips)
+cancel_planned trip s sound day =
+    Each-put_over (IsPlanned (plans_left trip (left_of_trip trip s) s.planned)) trip_key (cancelled trip) s.trips sound.trips_in_order
+    (Each-weaker (IsKept s) (λ (t : Trip). (t.id ≡ trip.id → ⊥) → IsPlanned (plans_left trip (left_of_trip trip s) s.planned) t)
+    (λ t kept differ standing. stays_planned trip t s.planned day kept.1 differ (kept.2 standing)) s.trips (kept_each s sound))
+    (λ standing. absurd (cc))
+
+left_on : (trip : Trip) (stops : List PlannedStop) → HasDay trip → Each IsOnDay (plan_of_stops trip stops)
+left_on trip [] day = tt
+left_on trip (stop ∷ later) day = (day, tt)
+
+-- a plan of a trip that is booked is on its day
+plan_on_day : (minutes : ℕ → ℕ → Option ℕ) (number day : ℕ) (request : request_of.Request) (trip : Trip) (plan : Plan) (s : State) → trip.wish.day ≡ day → IsDay day
+    → IsBookedIn minutes (routes_on number day s) request trip plan → IsOnDay plan
+plan_on_day minutes number day request trip plan s on is_day booked =
+    let (vehicle, of_day, stand) = booked_plan minutes (routes_on number day s) request trip plan booked in subst IsDay (sym on ∙ of_day) is_day
+
 on_day : (request : request_of.Request) (trip : Trip) (wish : Wish) → trip.wish ≡ request.wish → request.wish ≡ wish → trip.wish.day ≡ wish.day
 on_day request trip wish is wished = ap (λ (w : Wish). w.day) (is ∙ wished)
 
@@ -403,23 +509,31 @@ found_again : (id : ℕ) (trip : Trip) (trips : List Trip) → record_at trip_ke
 found_again id trip trips found = subst (λ (n : ℕ). record_at trip_key n trips ≡ Some trip) (sym (found_key trip_key id trip trips found)) found
 
 booking_sound : (kept : Kept) (today : ℕ) (rider : ℕ) (wish : Wish) (s : State) (decided : Decision) → IsSound s → IsIn caller_key s.callers kept.caller
-    → IsBooking (booked kept) (s.last_trip + 1) None today wish (facts_of (write.Book rider wish) s) decided → IsSound (state_after (left_of decided s) s)
-booking_sound kept today rider wish s decided sound there (scheduled.Denied rule, by, is) = subst (λ d. IsSound (state_after (left_of d s) s)) (sym is) sound
-booking_sound kept today rider wish s decided sound there (scheduled.Booked trip plan, (request, asked, (minutes, times, (none, (chosen, at)))), (told, confirms, is)) =
+    → IsMadeIf decided (write.Book rider wish) → IsBooking (booked kept) (s.last_trip + 1) None today wish (facts_of (write.Book rider wish) s) decided → IsSound (state_after (left_of decided s) s)
+booking_sound kept today rider wish s decided sound there made (scheduled.Denied rule, by, is) = subst (λ d. IsSound (state_after (left_of d s) s)) (sym is) sound
+booking_sound kept today rider wish s decided sound there made (scheduled.Booked trip plan, (request, asked, (minutes, times, (none, (chosen, at)))), (told, confirms, is)) =
+    let is_day : IsDay wish.day = subst (λ d. IsMadeIf d (write.Book rider wish)) is made in
+    let on = on_day request trip wish at.trip_of.wish asked.wished in
+    let own : trip.id ≡ s.last_trip + 1 = at.trip_of.number ∙ asked.trip in
     subst (λ d. IsSound (state_after (left_of d s) s)) (sym is)
-    (numbered_sound kept _ (book_sound trip plan s sound (at.trip_of.number ∙ asked.trip)
+    (numbered_sound kept _ (book_sound trip plan s sound own
     (booked_is_there minutes (s.last_trip + 1) wish.day rider wish request trip plan s asked.trip asked.rider asked.from asked.to asked.wished (chosen, at))
     (booked_there minutes (s.last_trip + 1) wish.day request trip plan s sound asked.trip (chosen, at))
-    (booked_stand minutes (s.last_trip + 1) wish.day request trip plan s sound asked.trip (on_day request trip wish at.trip_of.wish asked.wished) (chosen, at))) there)
+    (booked_stand minutes (s.last_trip + 1) wish.day request trip plan s sound asked.trip on (chosen, at))
+    (subst IsDay (sym on) is_day) (plan_on_day minutes (s.last_trip + 1) wish.day request trip plan s on is_day (chosen, at))
+    (book_planned minutes wish.day request trip plan s sound asked.trip own on is_day (chosen, at))) there)
 
 change_trip_sound : (kept : Kept) (today : ℕ) (found : Option Trip) (id : ℕ) (wish : Wish) (s : State) (decided : Decision) → IsSound s → IsIn caller_key s.callers kept.caller
-    → trip_of id s ≡ found → IsChangeDecided found wish kept today (change_facts found wish s) decided → IsSound (state_after (left_of decided s) s)
-change_trip_sound kept today None id wish s decided sound there found changes = absurd changes
-change_trip_sound kept today (Some old) id wish s decided sound there found (scheduled.Denied rule, by, is) = subst (λ d. IsSound (state_after (left_of d s) s)) (sym is) sound
-change_trip_sound kept today (Some old) id wish s decided sound there found (scheduled.Booked trip plan, (request, asked, (minutes, times, (none, (chosen, at)))), (told, confirms, is)) =
+    → IsMadeIf decided (write.Change id wish) → trip_of id s ≡ found → IsChangeDecided found wish kept today (change_facts found wish s) decided → IsSound (state_after (left_of decided s) s)
+change_trip_sound kept today None id wish s decided sound there made found changes = absurd changes
+change_trip_sound kept today (Some old) id wish s decided sound there made found (scheduled.Denied rule, by, is) = subst (λ d. IsSound (state_after (left_of d s) s)) (sym is) sound
+change_trip_sound kept today (Some old) id wish s decided sound there made found (scheduled.Booked trip plan, (request, asked, (minutes, times, (none, (chosen, at)))), (told, confirms, is)) =
     let left = without old.id (stops_of_plan (plan_for (Some old) s)) in
     let new = and_one IsRoutePlan (plan_of_stops old left) plan (left_routes old left (left_there old s sound)) (booked_there minutes old.id wish.day request trip plan s sound asked.trip (chosen, at)) in
     let number : trip.id ≡ old.id = at.trip_of.number ∙ asked.trip in
+    let is_day : IsDay wish.day = subst (λ d. IsMadeIf d (write.Change id wish)) is made in
+    let on = on_day request trip wish at.trip_of.wish asked.wished in
+    let old_day : HasDay old = Each-found HasDay trip_key id old s.trips sound.trip_days found in
     let here : record_at trip_key old.id s.trips ≡ Some old = found_again id old s.trips found in
     let standing = and_one (HasStandingTrips (put trip_key trip s.trips)) (plan_of_stops old left) plan
     (left_standing (put trip_key trip s.trips) old left (standing_without s.trips trip old.id old.vehicle old.wish.day s.planned number sound.planned_trips_stand))
@@ -428,7 +542,9 @@ change_trip_sound kept today (Some old) id wish s decided sound there found (sch
     subst (λ d. IsSound (state_after (left_of d s) s)) (sym is)
     (numbered_sound kept _ (edit_sound trip (plan_span old) (plan_of_stops old left ++ plan ∷ []) s sound below
     (booked_is_there minutes old.id wish.day old.rider wish request trip plan s asked.trip asked.rider asked.from asked.to asked.wished (chosen, at)) new standing
-    (plans_beside s.trips old trip s.planned number here sound.planned_trips_stand)) there)
+    (plans_beside s.trips old trip s.planned number here sound.planned_trips_stand)
+    (subst IsDay (sym on) is_day) (and_one IsOnDay (plan_of_stops old left) plan (left_on old left old_day) (plan_on_day minutes old.id wish.day request trip plan s on is_day (chosen, at)))
+    (change_planned minutes wish.day request old trip plan s sound old_day asked.trip number on is_day (chosen, at))) there)
 
 cancel_sound : (kept : Kept) (found : Option Trip) (id : ℕ) (s : State) (decided : Decision) → IsSound s → IsIn caller_key s.callers kept.caller
     → trip_of id s ≡ found → IsCancelDecided found kept (cancel_facts found s) decided → IsSound (state_after (left_of decided s) s)
@@ -445,7 +561,9 @@ cancel_sound kept (Some trip) id s decided sound there found is =
     (left_routes trip left (left_there trip s sound))
     (left_standing (put trip_key (cancelled trip) s.trips) trip left
     (standing_without s.trips (cancelled trip) trip.id trip.vehicle trip.wish.day s.planned refl sound.planned_trips_stand))
-    (plans_beside s.trips trip (cancelled trip) s.planned refl (found_again id trip s.trips found) sound.planned_trips_stand)) there)
+    (plans_beside s.trips trip (cancelled trip) s.planned refl (found_again id trip s.trips found) sound.planned_trips_stand)
+    (Each-found HasDay trip_key id trip s.trips sound.trip_days found) (left_on trip left (Each-found HasDay trip_key id trip s.trips sound.trip_days found))
+    (cancel_planned trip s sound (Each-found HasDay trip_key id trip s.trips sound.trip_days found))) there)
 
 -- the facts of a change and of a cancellation have the trip that is there
 change_trip : (found : Option Trip) (wish : Wish) (s : State) → (change_facts found wish s).booking.trip ≡ found
@@ -477,9 +595,9 @@ decided_sound (write.Travel day rows) me now number s decided sound there hold i
     accepted_sound (write.Travel day rows) s decided _ _ is made
     (λ made. numbered_sound _ _ (put_travel_sound (record { from_day = day; rows = rows }) s sound (made.1, hold.1.0) hold.1.1.1.0) there)
 decided_sound (write.Book rider wish) me now number s decided sound there hold is made =
-    booking_sound (record { caller = me.id; number = number }) now.0 rider wish s decided sound there is
+    booking_sound (record { caller = me.id; number = number }) now.0 rider wish s decided sound there made is
 decided_sound (write.Change trip wish) me now number s decided sound there hold is made =
-    change_trip_sound (record { caller = me.id; number = number }) now.0 (trip_of trip s) trip wish s decided sound there refl
+    change_trip_sound (record { caller = me.id; number = number }) now.0 (trip_of trip s) trip wish s decided sound there made refl
     (subst (λ f. IsChangeDecided f wish (record { caller = me.id; number = number }) now.0 (facts_of (write.Change trip wish) s) decided) (change_trip (trip_of trip s) wish s) is)
 decided_sound (write.Cancel trip) me now number s decided sound there hold is made =
     cancel_sound (record { caller = me.id; number = number }) (trip_of trip s) trip s decided sound there refl

@@ -129,7 +129,7 @@ abbrev pub IsDecision : Write → Caller → (ℕ × ℕ) → ℕ → WriteFacts
 IsDecision asked me now number facts decided =
     IsDecisionAfter (first_failing (rules_of asked me now facts)) asked me now number facts decided
 
--- A digest that is put has 32 bytes, a fixed route and a travel table are such, and a first day is a day.
+-- A digest that is put has 32 bytes, a fixed route and a travel table are such, and days are days.
 abbrev pub IsMade : Write → Type 0
 IsMade (write.PutCaller new) = length new.digest ≡ 32
 IsMade (write.PutPolicy new) = Unit {0}
@@ -139,8 +139,8 @@ IsMade (write.PutRider new) = Unit {0}
 IsMade (write.Enter rider entry) = Unit {0}
 IsMade (write.PutVehicle new) = IsDay new.from_day
 IsMade (write.Travel day rows) = IsDay day × IsTable rows
-IsMade (write.Book rider wish) = Unit {0}
-IsMade (write.Change trip wish) = Unit {0}
+IsMade (write.Book rider wish) = IsDay wish.day
+IsMade (write.Change trip wish) = IsDay wish.day
 IsMade (write.Cancel trip) = Unit {0}
 
 -- what is accepted is made

@@ -1,5 +1,6 @@
 -- The states that the desk may be in: its limits, its orders and its references are kept.
-use Rattle.std.specs.Prelude.{◌≡◌, ℕ, ◌+◌, ◌≤◌, IsTrue, List, [], ◌∷◌, length, Some, is_some}
+use Rattle.std.specs.List.{list_any}
+use Rattle.std.specs.Prelude.{◌≡◌, ℕ, ◌+◌, ◌≤◌, ◌==◌, IsTrue, List, [], ◌∷◌, length, Some, is_some}
 use Rattle.pt_base.specs.Day.{IsDay}
 use Rattle.pt_base.specs.TripStatus.{stands}
 use Rattle.pt_base.specs.declared.place.Place.{Place}
@@ -10,7 +11,7 @@ use Rattle.pt_corridor.specs.Route.{IsFixedRoute}
 use Rattle.pt_records.specs.Keys.{pair_key}
 use Rattle.pt_records.specs.Records.{Each, IsInOrder, IsTable, record_at}
 use Rattle.pt_rights.specs.Admission.{is_resident}
-use Rattle.pt_scheduling.specs.Plan.{Plan, plan_key, IsRoutePlan}
+use Rattle.pt_scheduling.specs.Plan.{Plan, plan_key, planned_stops, IsRoutePlan}
 use Rattle.pt_travel.specs.Table as Travel
 use Rattle.pt_desk_rules.specs.Limits.{most_callers, most_places, most_routes, most_riders, most_entries, most_vehicles, most_versions, most_tables}
 use Rattle.pt_desk_rules.specs.State.{State, caller_key, kept_key, place_key, route_key, rider_key, entry_key, vehicle_key, travel_key, trip_key, entries_of}
@@ -106,6 +107,19 @@ StandsIn trips key number =
 abbrev pub HasStandingTrips : List Trip → Plan → Type 0
 HasStandingTrips trips plan = Each (λ stop. StandsIn trips (plan_key plan) stop.trip) plan.stops
 
+-- the day of a trip is a day
+abbrev pub HasDay : Trip → Type 0
+HasDay trip = IsDay trip.wish.day
+
+-- and so is that of a plan
+abbrev pub IsOnDay : Plan → Type 0
+IsOnDay plan = IsDay plan.day
+
+-- where a trip stands, the plan of its vehicle on its day has it
+abbrev pub IsPlanned : List Plan → Trip → Type 0
+IsPlanned plans trip = IsTrue (stands trip.status) →
+    IsTrue (list_any (λ stop. stop.trip == trip.id) (planned_stops trip.vehicle trip.wish.day plans))
+
 -- Each line speaks of the tables that it needs and of no other, so that a write of another table leaves it as it is.
 -- The ranges of a place, a vehicle, a trip and the policy are fields of their records, so that every state keeps them.
 pub record IsSound (s : State) : Type 0 where
@@ -134,6 +148,9 @@ pub record IsSound (s : State) : Type 0 where
   pub trips_of_riders : Each (IsOfRider s.riders) s.trips
   pub trip_places_there : Each (HasPlaces s.places) s.trips
   pub trip_vehicles_there : Each (HasVehicle s.vehicles) s.trips
+  pub trip_days : Each HasDay s.trips
   pub planned_in_order : IsInOrder plan_key s.planned
   pub planned_routes : Each IsRoutePlan s.planned
   pub planned_trips_stand : Each (HasStandingTrips s.trips) s.planned
+  pub planned_days : Each IsOnDay s.planned
+  pub standing_planned : Each (IsPlanned s.planned) s.trips

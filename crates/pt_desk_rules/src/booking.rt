@@ -1,5 +1,6 @@
 ghost use Rattle.std.specs.Prelude.{◌≡◌, ◌+◌, ◌<◌, None, Some, IsTrue, is_some, IfOk};
 ghost use Rattle.std.specs.List.Sorted.{IsStrictlyIncreasing};
+ghost use Rattle.pt_base.specs.Day.{IsDay};
 ghost use Rattle.pt_booking.specs.Request.{request_of};
 ghost use Rattle.pt_scheduling.specs.Routes.{routes_without};
 ghost use Rattle.pt_desk_rules.specs.Booking.{IsAnswered, IsBooking, IsScheduledBy, rows_of};
@@ -44,6 +45,13 @@ fn schedule_on(
     let no_rows = Raw::of(Vec::new(alloc)).unwrap();
     let table = TravelTable::of(alloc, request.wish.day, no_rows)?;
     schedule(alloc, request, &plans, table.times())
+}
+
+/// The day of a wish is a day of the calendar, as its type has it.
+pub(crate) fn has_day(wish: &Wish)
+    ensures { IsDay wish.now.day }
+{
+    let _number = wish.day.number();
 }
 
 /// The place of this number.

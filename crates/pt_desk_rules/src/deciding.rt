@@ -8,7 +8,7 @@ ghost use Rattle.pt_desk_rules.specs.declared.request.Answer.TheVariants.{Done};
 ghost use Rattle.pt_desk_rules.specs.declared.request.Write.TheVariants.{Enter};
 ghost use Rattle.pt_desk_rules.specs.State.{puts_one, replaces, versions_from, tables_from};
 
-use crate::booking::{decide_booking, decide_cancel, decide_change};
+use crate::booking::{decide_booking, decide_cancel, decide_change, has_day};
 use crate::{Answer, Caller, Change, FiledEntry, Kept, TravelTable, Write, WriteFacts, denial};
 use pt_base::{Day, Minute, Place, Policy, Rider, RiderId, Rule, Vehicle};
 use pt_corridor::FixedRoute;
@@ -179,8 +179,14 @@ fn decide_by(
         Write::Enter { rider, entry } => enter(alloc, facts, kept, today, *rider, entry),
         Write::PutVehicle(new) => put_vehicle(alloc, kept, new),
         Write::Travel { day, rows } => put_travel(alloc, kept, *day, rows),
-        Write::Book { rider: _, wish } => decide_booking(alloc, facts, kept, today, wish),
-        Write::Change { trip: _, wish } => decide_change(alloc, facts, kept, today, wish),
+        Write::Book { rider: _, wish } => {
+            has_day(wish);
+            decide_booking(alloc, facts, kept, today, wish)
+        }
+        Write::Change { trip: _, wish } => {
+            has_day(wish);
+            decide_change(alloc, facts, kept, today, wish)
+        }
         Write::Cancel(_) => decide_cancel(
             alloc,
             kept,

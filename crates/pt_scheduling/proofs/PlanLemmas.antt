@@ -129,7 +129,7 @@ pair_step : (k : ℕ) (trips : List Trip) (a b : PlannedStop) (found : Option Tr
 pair_step k trips a b None is one two first second = inl (rw (one, two, is) refl)
 pair_step k trips a b (Some trip) is one two first second = inr (trip, rw (one, two, is, first, second) refl, found_key number_of k trip trips is)
 
-is_number : (n k : ℕ) → (n == k) ≡ true → n ≡ k
+pub is_number : (n k : ℕ) → (n == k) ≡ true → n ≡ k
 is_number n k same = grind (arith, nat_tests)
 
 passes : {X : Type 0} (test : X → Bool) (a : X) (xs : List X) → IsAmong a (filter test xs) → test a ≡ true

@@ -1,7 +1,9 @@
 -- Plans that are routes stay so: without a trip, and with the trip that is booked.
 use Rattle.std.proofs.Common.{◌≡◌, ◌≢◌, ◌⊎◌, ℕ, ◌+◌, ◌<◌, ◌≤◌, zero, suc, Bool, true, false, not, List, [], ◌∷◌, ◌++◌, length, map, take, drop, Option, Some, None, All, Any, AllPairs, get_or, cond, refl, sym, ap, ◌∙◌, subst, inl, inr, arith}
-use Rattle.std.specs.Prelude.{◌==◌, filter, find, slice_get}
+use Rattle.std.specs.Prelude.{◌==◌, ◌||◌, filter, find, slice_get}
+use Rattle.std.proofs.lemmas.Bool.{or_cases, or_left, or_right}
 use Rattle.std.proofs.lemmas.Bool.Decides.{nat_tests}
+use Rattle.std.proofs.lemmas.Map.Views.{any-filter_same}
 use Rattle.std.proofs.lemmas.List.{length-map, get_or-map, take-append-drop}
 use Rattle.std.proofs.lemmas.List.Elements.{All-map, filter-append}
 use Rattle.std.proofs.lemmas.List.Folds.{list_any-from_Any}
@@ -13,6 +15,7 @@ use Rattle.pt_booking.specs.Planning.{OnDuty, asked_for, asked_of}
 use Rattle.pt_booking.specs.Request.{Request}
 use Rattle.pt_feasible.specs.declared.schedule.TheConstants.{MAX_STOPS}
 use Rattle.pt_feasible.specs.declared.stop.Stop.{Stop}
+use Rattle.pt_feasible.specs.declared.stop.StopKind.{StopKind}
 use Rattle.pt_insertion.specs.Insertion.{with_trip, IsWithout}
 use Rattle.pt_insertion.specs.Asked.{pickup_stop, drop_stop}
 use Rattle.pt_insertion.specs.declared.asked.Asked.{Asked}
@@ -21,11 +24,11 @@ use Rattle.pt_insertion.proofs.InsertionLemmas.{length-with_trip}
 use Rattle.pt_records.specs.Keys.{pair_key}
 use Rattle.pt_records.specs.Records.{Each, record_at}
 use Rattle.pt_records.proofs.TableLemmas.{same_or_other, length-filter}
-use Rattle.pt_scheduling.specs.Plan.{after_stop, Plan, plan_key, planned_stop, planned_stops, stops_among, stops_of_plan, stops_of_trip, without, IsPair, IsPlannedRoute, IsRoutePlan}
+use Rattle.pt_scheduling.specs.Plan.{after_stop, trip_stop, Plan, plan_key, planned_stop, planned_stops, stops_among, stops_of_plan, stops_of_trip, without, IsPair, IsPlannedRoute, IsRoutePlan}
 use Rattle.pt_scheduling.specs.Routes.{routes_without, stops_without, IsRoute}
 use Rattle.pt_scheduling.specs.Scheduling.{AreRoutes, IsBookedIn}
 use Rattle.pt_scheduling.specs.declared.planned.PlannedStop.{PlannedStop}
-use Rattle.pt_scheduling.proofs.PlanLemmas.{among_kept_at, among_of_trip, eq_self, found_key, is_of, length-among, number_of, of_each, paired_among, pair_of, stop_trip}
+use Rattle.pt_scheduling.proofs.PlanLemmas.{among_kept_at, among_of_trip, eq_self, found_key, is_number, is_of, length-among, number_of, of_each, paired_among, pair_of, stop_trip}
 
 same_trip : (k t : ℕ) (stop : PlannedStop) (rest : List PlannedStop) (b : Bool) → k ≡ t → (stop.trip == t) ≡ b → stops_of_trip k rest ≡ [] → stops_of_trip k (cond (not b) (stop ∷ rest) rest) ≡ []
 same_trip k t stop rest true same is none = none
@@ -311,3 +314,89 @@ booked_plan minutes vehicles request trip plan (chosen, booked) =
       sym (ap (λ (p : Plan). p.day) plan_is),
       ap stands booked.trip_of.status,
     )
+
+abbrev pub has_trip : ℕ → List PlannedStop → Bool
+has_trip k stops = list_any (λ stop. stop.trip == k) stops
+
+any_filtered : (k : ℕ) (xs : List Stop) → list_any (is_of k) (filter (is_of k) xs) ≡ list_any (is_of k) xs
+any_filtered k xs = any-filter_same (is_of k) (is_of k) true (λ x is. is) xs
+
+any_mapped : (k : ℕ) (xs : List Stop) → has_trip k (map planned_stop xs) ≡ list_any (is_of k) xs
+any_mapped k [] = refl
+any_mapped k (x ∷ xs) = ap (λ b. (x.trip == k) || b) (any_mapped k xs)
+
+any_other : (asked : Asked) (k i j : ℕ) (xs : List Stop) → (asked.trip ≡ k → ⊥) → i ≤ j → list_any (is_of k) (with_trip asked i j xs) ≡ list_any (is_of k) xs
+any_other asked k i j xs other le = sym (any_filtered k (with_trip asked i j xs)) ∙ ap (list_any (is_of k)) (other_stops asked k i j xs other le) ∙ any_filtered k xs
+
+any_own : (asked : Asked) (i j : ℕ) (xs : List Stop) → filter (is_of asked.trip) xs ≡ [] → list_any (is_of asked.trip) (with_trip asked i j xs) ≡ true
+any_own asked i j xs none =
+    sym (any_filtered asked.trip (with_trip asked i j xs)) ∙ ap (list_any (is_of asked.trip)) (own_stops asked asked.trip i j xs refl none)
+    ∙ or_left (asked.trip == asked.trip) (list_any (is_of asked.trip) (drop_stop asked ∷ [])) (eq_self asked.trip)
+
+any_after : (k : ℕ) (found : Option Trip) (kind : StopKind) (rest : List Stop) → list_any (is_of k) rest ≡ true → list_any (is_of k) (after_stop found kind rest) ≡ true
+any_after k None kind rest some = some
+any_after k (Some trip) kind rest some = or_right (is_of k (trip_stop kind trip)) (list_any (is_of k) rest) some
+
+any_here : (k : ℕ) (trips : List Trip) (trip : Trip) (stop : PlannedStop) (rest : List Stop) → record_at number_of k trips ≡ Some trip → stop.trip ≡ k
+    → list_any (is_of k) (after_stop (record_at number_of stop.trip trips) stop.kind rest) ≡ true
+any_here k trips trip stop rest there same =
+    let found : record_at number_of stop.trip trips ≡ Some trip = ap (λ (n : ℕ). record_at number_of n trips) same ∙ there in
+    ap (λ f. list_any (is_of k) (after_stop f stop.kind rest)) found
+    ∙ or_left (is_of k (trip_stop stop.kind trip)) (list_any (is_of k) rest)
+    (ap (λ (n : ℕ). n == k) (stop_trip stop.kind trip ∙ found_key number_of k trip trips there) ∙ eq_self k)
+
+any_among : (k : ℕ) (trips : List Trip) (trip : Trip) (stops : List PlannedStop) → record_at number_of k trips ≡ Some trip → has_trip k stops ≡ true → list_any (is_of k) (stops_among trips stops) ≡ true
+any_among k trips trip [] there some = absurd (cc)
+any_among k trips trip (stop ∷ later) there some = elim (or_cases (stop.trip == k) (has_trip k later) some) [
+  | inl here ↦ any_here k trips trip stop (stops_among trips later) there (is_number stop.trip k here)
+  | inr rest ↦ any_after k (record_at number_of stop.trip trips) stop.kind (stops_among trips later) (any_among k trips trip later there rest)
+]
+
+-- the stops of a new plan: those of its vehicle's others, and the trip's two
+abbrev IsPlanOf : ℕ → List Trip → List Plan → Request → Trip → Plan → Type 0
+IsPlanOf day trips plans request trip plan =
+    (i : ℕ) × (j : ℕ) × (i ≤ j) × (plan.stops ≡ map planned_stop (with_trip (asked_of trip) i j (stops_among trips (without request.trip (planned_stops plan.vehicle day plans)))))
+
+new_plan : (minutes : ℕ → ℕ → Option ℕ) (day : ℕ) (trips : List Trip) (plans : List Plan) (vehicles : List Vehicle) (request : Request) (trip : Trip) (plan : Plan)
+    → IsBookedIn minutes (routes_without request.trip day trips plans vehicles) request trip plan → IsPlanOf day trips plans request trip plan
+new_plan minutes day trips plans vehicles request trip plan (chosen, booked) =
+    let (k, there, within, at, is_chosen) = booked.best.possible in
+    let (l, duty, below, stands, (stops, new, plan_is)) = booked.plan_of in
+    let vehicle = get_or vehicles l duty.vehicle in
+    let number : vehicle.id ≡ plan.vehicle
+    = sym (ap (λ (p : Plan). p.vehicle) plan_is ∙ sym new.vehicle ∙ ap (λ (v : Vehicle). v.id) (found_vehicle request.trip day trips plans vehicles l duty below stands)) in (
+      chosen.i,
+      chosen.j,
+      is_chosen.possible.drop_later,
+      ap (λ (p : Plan). p.stops) plan_is
+          ∙ ap (map planned_stop) (new.stops_with_trip ∙ ap (with_trip (asked_of trip) chosen.i chosen.j) (of_vehicle request.trip day trips plans vehicles l duty below stands
+          ∙ ap (λ (v : ℕ). stops_among trips (without request.trip (planned_stops v day plans))) number)),
+    )
+
+-- it has the trips that were there
+pub booked_keeps : (minutes : ℕ → ℕ → Option ℕ) (day : ℕ) (trips : List Trip) (plans : List Plan) (vehicles : List Vehicle) (request : Request) (trip : Trip) (plan : Plan) (other : Trip)
+    → (trip.id ≡ other.id → ⊥) → record_at number_of other.id trips ≡ Some other → has_trip other.id (without request.trip (planned_stops plan.vehicle day plans)) ≡ true
+    → IsBookedIn minutes (routes_without request.trip day trips plans vehicles) request trip plan → has_trip other.id plan.stops ≡ true
+booked_keeps minutes day trips plans vehicles request trip plan other differ there some booked =
+    let (i, j, le, is) = new_plan minutes day trips plans vehicles request trip plan booked in
+    let left = without request.trip (planned_stops plan.vehicle day plans) in
+    ap (has_trip other.id) is ∙ any_mapped other.id (with_trip (asked_of trip) i j (stops_among trips left)) ∙ any_other (asked_of trip) other.id i j (stops_among trips left) differ le
+    ∙ any_among other.id trips other left there some
+
+-- and the trip itself
+pub booked_has : (minutes : ℕ → ℕ → Option ℕ) (day : ℕ) (trips : List Trip) (plans : List Plan) (vehicles : List Vehicle) (request : Request) (trip : Trip) (plan : Plan) → trip.id ≡ request.trip
+    → IsBookedIn minutes (routes_without request.trip day trips plans vehicles) request trip plan → has_trip trip.id plan.stops ≡ true
+booked_has minutes day trips plans vehicles request trip plan number booked =
+    let (i, j, le, is) = new_plan minutes day trips plans vehicles request trip plan booked in
+    let planned = planned_stops plan.vehicle day plans in
+    let left = without request.trip planned in
+    ap (has_trip trip.id) is ∙ any_mapped trip.id (with_trip (asked_of trip) i j (stops_among trips left))
+    ∙ any_own (asked_of trip) i j (stops_among trips left) (among_of_trip trip.id trips left ∙ ap (stops_among trips) (none_left trip.id request.trip number planned))
+
+-- the other trips are still there without one
+pub left_has : (k trip : ℕ) (stops : List PlannedStop) → (k ≡ trip → ⊥) → has_trip k stops ≡ true → has_trip k (without trip stops) ≡ true
+left_has k trip stops other some =
+    any-filter_same (λ stop. stop.trip == k) (λ stop. not (stop.trip == trip)) true (λ stop is. is_kept stop.trip k trip is other) stops ∙ some
+  where
+    is_kept : (n k trip : ℕ) → (n == k) ≡ true → (k ≡ trip → ⊥) → not (n == trip) ≡ true
+    is_kept n k trip same other = grind (arith, nat_tests)
