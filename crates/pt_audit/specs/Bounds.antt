@@ -1,6 +1,7 @@
--- Lower bounds of service times, which follow from the constraints of the dial-a-ride problem (Cordeau and Laporte 2003).
--- `visits` are numbered from 0, the depot; `bound` gives each visit's lower bound in minutes of the day.
-use Rattle.std.specs.Prelude.{◌≡◌, ℕ, zero, suc, ◌+◌, ◌<◌, ◌≤◌, ◌==◌, max, if◌then◌else◌, IsTrue, List, [], ◌∷◌, length, take, Option, None, Some, IsSomeAnd, slice_get}
+-- Lower bounds of service times, which follow from the constraints of the dial-a-ride problem (Cordeau and Laporte
+-- 2003). `visits` are numbered from 0, the depot; `bound` gives each visit's lower bound in minutes of the day.
+use Rattle.std.specs.Prelude.{◌≡◌, ℕ, zero, suc, ◌+◌, ◌<◌, ◌≤◌, ◌==◌, max, if◌then◌else◌, IsTrue, List, [], ◌∷◌}
+use Rattle.std.specs.Prelude.{length, take, Option, None, Some, IsSomeAnd, slice_get}
 use Rattle.pt_base.specs.declared.vehicle.Vehicle.{Vehicle}
 use Rattle.pt_feasible.specs.declared.schedule.TheConstants.{MAX_STOPS}
 use Rattle.pt_feasible.specs.declared.stop.Stop.{Stop}
@@ -49,14 +50,16 @@ RidesTo stops bound (suc i) n = (j : ℕ) × (pickup : Stop) × (drop : Stop)
 
 -- a raise is right by the bounds that stand before it: no fitting service time at its visit is below its minute
 abbrev pub IsRightRaise : (ℕ → ℕ → Option ℕ) → Vehicle → List Stop → (ℕ → ℕ) → Raise → Type 0
-IsRightRaise minutes vehicle stops bound (raise.Window k n) = IsSomeAnd (slice_get (visits vehicle stops) k) (λ visit. n ≤ visit.lo)
+IsRightRaise minutes vehicle stops bound (raise.Window k n) =
+    IsSomeAnd (slice_get (visits vehicle stops) k) (λ visit. n ≤ visit.lo)
 IsRightRaise minutes vehicle stops bound (raise.Drive k n) = ArrivesFrom minutes vehicle stops bound k n
 IsRightRaise minutes vehicle stops bound (raise.Ride k n) = RidesTo stops bound k n
 IsRightRaise minutes vehicle stops bound (raise.Duration n) = n + vehicle.duration ≤ bound (length stops + 1)
 
 -- an end is right by the bounds that stand before it: a constraint is broken whatever the service times
 abbrev pub IsRightEnd : (ℕ → ℕ → Option ℕ) → Vehicle → List Stop → (ℕ → ℕ) → End → Type 0
-IsRightEnd minutes vehicle stops bound (end.Late k) = IsSomeAnd (slice_get (visits vehicle stops) k) (λ visit. visit.hi < bound k)
+IsRightEnd minutes vehicle stops bound (end.Late k) =
+    IsSomeAnd (slice_get (visits vehicle stops) k) (λ visit. visit.hi < bound k)
 IsRightEnd minutes vehicle stops bound (end.Overloaded k) =
     (k ≤ length stops) × ¬ FitsWithin (load_aboard (take k stops)) vehicle
 IsRightEnd minutes vehicle stops bound (end.NoWay k) =

@@ -30,7 +30,8 @@ cases_of_pickup asked vehicle stops i = map (case_at asked vehicle stops i) (num
 
 -- all cases of a vehicle, by their pickups and then by their drops
 abbrev pub cases_of_vehicle : Asked → Vehicle → List Stop → List Case
-cases_of_vehicle asked vehicle stops = flat_map (cases_of_pickup asked vehicle stops) (numbers_from 0 (length stops + 1))
+cases_of_vehicle asked vehicle stops =
+    flat_map (cases_of_pickup asked vehicle stops) (numbers_from 0 (length stops + 1))
 
 -- all cases of a day, vehicle by vehicle
 abbrev pub cases_of_day : Asked → List Duty → List Case

@@ -18,4 +18,5 @@ visit_as visit = record { place = visit.place; lo = visit.lo; hi = visit.hi; ser
 
 -- its case
 abbrev pub case_of : Insertion → Case
-case_of insertion = case_at insertion.asked.now insertion.vehicle.now (stops_of insertion.route.now) insertion.i insertion.j
+case_of insertion =
+    case_at insertion.asked.now insertion.vehicle.now (stops_of insertion.route.now) insertion.i insertion.j

@@ -1,5 +1,6 @@
 -- Logs as texts of ASCII: a line `AUDIT 1`, the lines of the log and a line `DONE`, each ended by a newline (byte 10).
-use Rattle.std.specs.Prelude.{◌≡◌, ◌≢◌, ℕ, ◌+◌, ◌-◌, ◌^◌, ◌≤◌, ◌⊎◌, ◌==◌, if◌then◌else◌, List, [], ◌∷◌, ◌++◌, length, min, All, codes, decimal, Option, None, Some}
+use Rattle.std.specs.Prelude.{◌≡◌, ◌≢◌, ℕ, ◌+◌, ◌-◌, ◌^◌, ◌≤◌, ◌⊎◌, ◌==◌, if◌then◌else◌, List, [], ◌∷◌, ◌++◌}
+use Rattle.std.specs.Prelude.{length, min, All, codes, decimal, Option, None, Some}
 use Rattle.std.specs.List.{flat_map}
 use Rattle.pt_audit.specs.declared.line.Line.{Line}
 use Rattle.pt_audit.specs.declared.line.Line.TheVariants as line
@@ -87,7 +88,8 @@ IsNoLog text = (lines : List Line) → ¬ IsLogText text lines
 
 -- the line of this first letter without numbers
 abbrev pub line_without : ℕ → Option Line
-line_without letter = if letter == 78 then Some line.NoDirect else if letter == 83 then Some (line.End end.TooLong) else None
+line_without letter =
+    if letter == 78 then Some line.NoDirect else if letter == 83 then Some (line.End end.TooLong) else None
 
 -- the line of this first letter with one number
 abbrev pub line_with_one : ℕ → ℕ → Option Line

@@ -1,8 +1,11 @@
-ghost use Rattle.std.specs.Prelude.{◌≡◌, ◌≢◌, ◌⊎◌, ◌↔◌, IsTrue, ℕ, ◌==◌, ◌≤◌, ◌++◌, List, Some, take, drop, length, position, IsNone, IsSomeAnd, IfSome, IfOk, IfErr};
+ghost use Rattle.std.specs.Prelude.{◌≡◌, ◌≢◌, ◌⊎◌, ◌↔◌, IsTrue, ℕ, ◌==◌, ◌≤◌, ◌++◌, List, Some, take, drop};
+ghost use Rattle.std.specs.Prelude.{length, position, IsNone, IsSomeAnd, IfSome, IfOk, IfErr};
 ghost use Rattle.pt_base.specs.Fault.{fault, fault_at};
 ghost use Rattle.pt_base.specs.Codes.{memory_refused, log_line_refused};
 ghost use Rattle.pt_audit.specs.declared.line.Line.{Line};
-ghost use Rattle.pt_audit.specs.Text.{opening, closing, IsLogText, IsNoLog, FailsAt, IsInForm, numbers_of, words_of, line_text, line_from, line_with_one, line_with_two, line_without};
+ghost use Rattle.pt_audit.specs.Text.{opening, closing, IsLogText, IsNoLog, FailsAt, IsInForm, numbers_of};
+ghost use Rattle.pt_audit.specs.Text.{words_of, line_text, line_from, line_with_one, line_with_two};
+ghost use Rattle.pt_audit.specs.Text.{line_without};
 
 use crate::text::line_text;
 use crate::{End, Line, Log, Raise};
@@ -14,7 +17,8 @@ use std::alloc::{AllocError, Global};
 /// The log of the text; or the first row that is not in form, or want of memory.
 pub fn read_log(alloc: Global, text: &[u8]) -> Result<Log, Fault>
     ensures log { IfOk result (λ log. IsLogText text.now log.lines.items) }
-    ensures fault { IfErr result (λ error. (error ≡ fault memory_refused) ⊎ ((error.code ≡ log_line_refused) × FailsAt text.now error.row)) }
+    ensures fault { IfErr result (λ error. (error ≡ fault memory_refused)
+        ⊎ ((error.code ≡ log_line_refused) × FailsAt text.now error.row)) }
     // so the fault never comes of a text that is a log
     ensures no_log { IfErr result (λ error. error.code ≡ log_line_refused → IsNoLog text.now) }
 {

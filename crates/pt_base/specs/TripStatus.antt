@@ -1,7 +1,8 @@
 -- The life of a trip.
 use Rattle.std.specs.Prelude.{Bool, true, false}
 use Rattle.pt_base.specs.declared.trip_status.TripStatus.{TripStatus}
-use Rattle.pt_base.specs.declared.trip_status.TripStatus.TheVariants.{Booked, Cancelled, Ridden, MissedRider, MissedOperator}
+use Rattle.pt_base.specs.declared.trip_status.TripStatus.TheVariants.{Booked, Cancelled, Ridden, MissedRider}
+use Rattle.pt_base.specs.declared.trip_status.TripStatus.TheVariants.{MissedOperator}
 
 -- a trip stands unless it was cancelled
 abbrev pub stands : TripStatus → Bool

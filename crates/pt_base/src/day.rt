@@ -1,4 +1,5 @@
-ghost use Rattle.std.specs.Prelude.{◌≡◌, ℕ, ◌+◌, ◌%◌, ◌≤◌, ◌↔◌, ◌++◌, List, ℤ, pos, ◌≤ℤ◌, Ok, Err, IsTrue, IsSome, IfSome, IfOk, IfErr, OnOk, OnErr};
+ghost use Rattle.std.specs.Prelude.{◌≡◌, ℕ, ◌+◌, ◌%◌, ◌≤◌, ◌↔◌, ◌++◌, List, ℤ, pos, ◌≤ℤ◌, Ok, Err, IsTrue};
+ghost use Rattle.std.specs.Prelude.{IsSome, IfSome, IfOk, IfErr, OnOk, OnErr};
 ghost use Rattle.std.specs.Int.{IsInRange};
 ghost use Rattle.jiff_core.specs.Date.{epoch_day};
 ghost use Rattle.pt_base.specs.DateText.{IsDateText, IsInMonth};

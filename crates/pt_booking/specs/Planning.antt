@@ -27,12 +27,13 @@ pub record OnDuty : Type 0 where
 abbrev pub on_duty : List Duty → List OnDuty
 on_duty duties = map (λ duty. record { vehicle = duty.vehicle.now; stops = stops_of duty.route.now }) duties
 
--- the most minutes of the ride: the direct time and the policy's extra minutes (our choice); with no way, only the latter
+-- the most minutes of the ride: the direct time and the policy's extra minutes (our choice); with no way, only the
+-- latter
 abbrev pub ride_limit : (ℕ → ℕ → Option ℕ) → Request → ℕ
 ride_limit minutes request = unwrap_or (minutes request.wish.from request.wish.to) 0 + request.policy.extra_ride
 
--- what is asked of the vehicles: the trip with its pickup in the wished window, and its drop by the minute that the rider
--- names, or within the day
+-- what is asked of the vehicles: the trip with its pickup in the wished window, and its drop by the minute that the
+-- rider names, or within the day
 abbrev pub asked_for : (ℕ → ℕ → Option ℕ) → Request → Asked
 asked_for minutes request = record {
   trip = request.trip;
@@ -46,7 +47,8 @@ asked_for minutes request = record {
   load = load_of (persons_of (party_of request.wish));
 }
 
--- a booked trip as its vehicle's route has it: its pickup in the promised window, and what was settled when it was booked
+-- a booked trip as its vehicle's route has it: its pickup in the promised window, and what was settled when it was
+-- booked
 abbrev pub asked_of : Trip → Asked
 asked_of trip = record {
   trip = trip.id;
@@ -67,7 +69,8 @@ SomeVehicleCan minutes vehicles asked =
     Any (λ duty. (i : ℕ) × (j : ℕ) × IsPossible minutes duty.vehicle duty.stops asked i j) vehicles
 
 -- no vehicle on duty has a better place for the trip
-pub record IsBestPlace (minutes : ℕ → ℕ → Option ℕ) (vehicles : List OnDuty) (asked : Asked) (chosen : Chosen) : Type 0 where
+pub record IsBestPlace (minutes : ℕ → ℕ → Option ℕ) (vehicles : List OnDuty) (asked : Asked) (chosen : Chosen)
+    : Type 0 where
   pub possible : Any (λ duty. IsChosenIn minutes duty.vehicle duty.stops asked chosen) vehicles
   pub least : All (λ duty. IsBestIn minutes duty.vehicle duty.stops asked chosen) vehicles
 

@@ -1,4 +1,5 @@
-ghost use Rattle.std.specs.Prelude.{◌≡◌, ◌≢◌, ◌+◌, ◌<◌, ◌≤◌, ◌↔◌, All, AllPairs, Any, Contains, IfSome, IfNone, IfOk, IfErr, None, Some, length, slice_index};
+ghost use Rattle.std.specs.Prelude.{◌≡◌, ◌≢◌, ◌+◌, ◌<◌, ◌≤◌, ◌↔◌, All, AllPairs, Any, Contains, IfSome, IfNone};
+ghost use Rattle.std.specs.Prelude.{IfOk, IfErr, None, Some, length, slice_index};
 ghost use Rattle.std.specs.List.Sorted.{IsStrictlyIncreasing};
 ghost use Rattle.pt_base.specs.Codes.{memory_refused};
 ghost use Rattle.pt_base.specs.Fault.{fault};
@@ -44,8 +45,8 @@ pub enum Decision {
     Denied(Rule),
 }
 
-/// Books the trip at the best place in the routes of the vehicles on duty on its day, or denies it by the first rule that
-/// fails.
+/// Books the trip at the best place in the routes of the vehicles on duty on its day, or denies it by the first rule
+/// that fails.
 ///
 /// The fault is want of memory, which only the new route of a trip that can be booked takes.
 pub fn book<T: Times>(

@@ -23,4 +23,5 @@ SpellsCondition text condition = IsCondition condition × (text ≡ condition_te
 
 -- no two conditions have one text
 abbrev pub TextTellsCondition : Type 0
-TextTellsCondition = (one other : Condition) → IsCondition one → IsCondition other → condition_text one ≡ condition_text other → one ≡ other
+TextTellsCondition = (one other : Condition) → IsCondition one → IsCondition other
+    → condition_text one ≡ condition_text other → one ≡ other

@@ -14,7 +14,8 @@ use Rattle.pt_rights.specs.declared.conditions.Condition.TheVariants as conditio
 abbrev pub IsInMonths : List ℕ → ℕ → Type 0
 IsInMonths months day = (month : ℕ) × Contains months month × IsInMonth (pos day) month
 
--- every route that runs then is farther than so many feet from the point: whether its place is in a core area does not matter
+-- every route that runs then is farther than so many feet from the point: whether its place is in a core area does
+-- not matter
 abbrev pub IsFarther : List Route → ℕ → ℕ → ℕ → Point → Type 0
 IsFarther routes day minute feet point =
     All (λ route. IsRunning day minute route → ¬ IsNearLine feet point route.points) routes

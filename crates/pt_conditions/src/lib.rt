@@ -1,5 +1,5 @@
-//! The conditions of a grant, under 49 CFR 37.123: which trips they cover, and how they read as texts in bodies, letters
-//! and tables.
+//! The conditions of a grant, under 49 CFR 37.123: which trips they cover, and how they read as texts in bodies,
+//! letters and tables.
 #![tactic(auto)]
 
 pub use law::condition_text_tells_its_condition;

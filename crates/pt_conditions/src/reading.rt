@@ -46,7 +46,8 @@ fn candidate(text: &str) -> Option<Condition>
 
 /// The one set of months whose numbers the text may be.
 fn months_from(text: &str) -> Option<Months>
-    ensures { (months : List Bool) → IsMonthSet months → text.now ≡ numbers_text (numbers_of months) → result ≡ Some months }
+    ensures { (months : List Bool) → IsMonthSet months → text.now ≡ numbers_text (numbers_of months)
+        → result ≡ Some months }
 {
     let mut numbers = ArrayVec::<u8, 12>::new();
     for part in text.split(',') {

@@ -50,7 +50,8 @@ fn granted(first: &str, second: &str) -> Result<Grant, Fail> {
     })
 }
 
-/// Which trips a grant of two conditions covers: along lists of routes, from a place so many feet north, in the core or not, to another.
+/// Which trips a grant of two conditions covers: along lists of routes, from a place so many feet north, in the core
+/// or not, to another.
 #[test]
 fn trips_that_conditions_cover(rt: HostRuntime) -> Result<(), Fail> {
     let ramps = vec![in rt.alloc(); route(rt.alloc(), true)?]?;

@@ -8,7 +8,8 @@ FallsShort feet from to = (from +ℤ pos feet) <ℤ to
 
 -- in one coordinate, both ends of a segment lie further than so many feet to one side
 abbrev pub IsBeyond : ℕ → ℤ → ℤ → ℤ → Type 0
-IsBeyond feet at start end = (FallsShort feet at start × FallsShort feet at end) ⊎ (FallsShort feet start at × FallsShort feet end at)
+IsBeyond feet at start end = (FallsShort feet at start × FallsShort feet at end)
+    ⊎ (FallsShort feet start at × FallsShort feet end at)
 
 -- a point is not in the box that goes so many feet around a segment
 abbrev pub IsOutsideBox : ℕ → Point → Point → Point → Type 0

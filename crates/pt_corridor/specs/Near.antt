@@ -6,7 +6,8 @@ use Rattle.pt_base.specs.declared.place.Point.{Point}
 abbrev pub squared_length : ℤ → ℤ → ℤ
 squared_length east north = east *ℤ east +ℤ north *ℤ north
 
--- p is within so many feet of the point that lies m/n of the way from a to b: n times their difference is no longer than n times the feet
+-- p is within so many feet of the point that lies m/n of the way from a to b: n times their difference is no longer
+-- than n times the feet
 abbrev pub IsNearPart : ℕ → Point → Point → Point → ℕ → ℕ → Type 0
 IsNearPart feet p a b m n =
     squared_length (pos n *ℤ (p.x -ℤ a.x) -ℤ pos m *ℤ (b.x -ℤ a.x)) (pos n *ℤ (p.y -ℤ a.y) -ℤ pos m *ℤ (b.y -ℤ a.y))

@@ -5,7 +5,8 @@ use Rattle.pt_base.specs.Place.{IsOnPlane}
 use Rattle.pt_base.specs.declared.place.Point.{Point}
 use Rattle.pt_base.specs.Codes.{points_refused, width_refused, coordinate_refused, hours_refused}
 
--- a fixed route: how far its corridor reaches on each side in feet, the points of its line, the weekdays from Monday on, and its first and last minute of the day
+-- a fixed route: how far its corridor reaches on each side in feet, the points of its line, the weekdays from Monday
+-- on, and its first and last minute of the day
 pub record Route : Type 0 where
   pub id : ℕ
   pub width : ℕ
@@ -51,4 +52,5 @@ IsFirst (f ∷ later) code = ((code ≡ f.0) × f.1) ⊎ (¬ f.1 × IsFirst late
 -- the faults of a fixed route in the order in which they are tried
 abbrev pub faults : Route → List (ℕ × Type 0)
 faults route =
-    (points_refused, ¬ HasPoints route) ∷ (width_refused, ¬ HasWidth route) ∷ (coordinate_refused, ¬ IsRouteOnPlane route) ∷ (hours_refused, ¬ HasHours route) ∷ []
+    (points_refused, ¬ HasPoints route) ∷ (width_refused, ¬ HasWidth route)
+    ∷ (coordinate_refused, ¬ IsRouteOnPlane route) ∷ (hours_refused, ¬ HasHours route) ∷ []

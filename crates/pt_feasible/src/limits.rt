@@ -1,4 +1,5 @@
-ghost use Rattle.std.specs.Prelude.{◌≡◌, ℕ, ◌+◌, ◌<◌, ◌≤◌, ◌↔◌, List, Some, length, slice_get, slice_index, IsTrue, IfSome, IfNone};
+ghost use Rattle.std.specs.Prelude.{◌≡◌, ℕ, ◌+◌, ◌<◌, ◌≤◌, ◌↔◌, List, Some, length, slice_get, slice_index};
+ghost use Rattle.std.specs.Prelude.{IsTrue, IfSome, IfNone};
 ghost use Rattle.pt_feasible.specs.declared.stop.Stop.{Stop};
 ghost use Rattle.pt_feasible.specs.Limits.{HasTimeToDrive, EndsInTime};
 ghost use Rattle.pt_feasible.specs.ServiceTimes.{KeepsDrivingTimes};

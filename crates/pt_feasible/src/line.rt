@@ -1,4 +1,5 @@
-ghost use Rattle.std.specs.Prelude.{◌≡◌, ℕ, ◌+◌, ◌<◌, ◌≤◌, List, Some, length, slice_get, slice_index, slice_index_or, IfSome, IfNone};
+ghost use Rattle.std.specs.Prelude.{◌≡◌, ℕ, ◌+◌, ◌<◌, ◌≤◌, List, Some, length, slice_get, slice_index};
+ghost use Rattle.std.specs.Prelude.{slice_index_or, IfSome, IfNone};
 ghost use Rattle.pt_feasible.specs.Line.{IsLineOf};
 ghost use Rattle.pt_feasible.specs.ServiceTimes.{TimesFit, IsNeverLater};
 

@@ -1,4 +1,5 @@
-ghost use Rattle.std.specs.Prelude.{◌≡◌, ◌≢◌, ℕ, ◌+◌, ◌<◌, ◌≤◌, List, length, sum, slice_index, slice_index_or, IfSome, IfNone};
+ghost use Rattle.std.specs.Prelude.{◌≡◌, ◌≢◌, ℕ, ◌+◌, ◌<◌, ◌≤◌, List, length, sum, slice_index, slice_index_or};
+ghost use Rattle.std.specs.Prelude.{IfSome, IfNone};
 ghost use Rattle.pt_feasible.specs.Limits.{KeepsAll, LookBack, AreInWindows};
 ghost use Rattle.pt_feasible.specs.Sweep.{Raises, IsWalkedTo};
 ghost use Rattle.pt_feasible.specs.ServiceTimes.{IsNeverLater};

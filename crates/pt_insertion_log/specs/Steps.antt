@@ -14,7 +14,8 @@ use Rattle.pt_insertion_log.specs.declared.steps.Step.TheVariants as step
 
 -- a right raise to a later minute
 abbrev pub Raises : (ℕ → ℕ → Option ℕ) → Vehicle → List Stop → (ℕ → ℕ) → Raise → Type 0
-Raises minutes vehicle stops bound raise = IsRightRaise minutes vehicle stops bound raise × (bound (visit_of raise) < minute_of raise)
+Raises minutes vehicle stops bound raise = IsRightRaise minutes vehicle stops bound raise
+    × (bound (visit_of raise) < minute_of raise)
 
 -- a step of a case: a right raise to a later minute, or a right end
 abbrev pub IsStep : (ℕ → ℕ → Option ℕ) → Vehicle → List Stop → (ℕ → ℕ) → Step → Type 0
@@ -36,7 +37,8 @@ IsRidden stops bound k = (i j : ℕ) (pickup drop : Stop) → k ≡ i + 1 →
     bound (j + 1) - (bound k + pickup.service) ≤ pickup.ride
 
 -- the bound of visit k lies in its window and keeps its constraints
-pub record IsKeptAt (minutes : ℕ → ℕ → Option ℕ) (vehicle : Vehicle) (stops : List Stop) (bound : ℕ → ℕ) (k : ℕ) : Type 0 where
+pub record IsKeptAt (minutes : ℕ → ℕ → Option ℕ) (vehicle : Vehicle) (stops : List Stop)
+    (bound : ℕ → ℕ) (k : ℕ) : Type 0 where
   pub not_early : (visit : Visit) → slice_get (visits vehicle stops) k ≡ Some visit → visit.lo ≤ bound k
   pub not_late : (visit : Visit) → slice_get (visits vehicle stops) k ≡ Some visit → bound k ≤ visit.hi
   pub within_a_day : bound k ≤ 1_439
@@ -51,4 +53,5 @@ IsLasting minutes vehicle stops end = IsRightEnd minutes vehicle stops (λ _. 0)
 -- the route is not too long, and at visit k there is a way on and room for those aboard
 abbrev pub IsClear : (ℕ → ℕ → Option ℕ) → Vehicle → List Stop → ℕ → Type 0
 IsClear minutes vehicle stops k =
-    ¬ IsLasting minutes vehicle stops end.TooLong × ¬ IsLasting minutes vehicle stops (end.NoWay k) × ¬ IsLasting minutes vehicle stops (end.Overloaded k)
+    ¬ IsLasting minutes vehicle stops end.TooLong × ¬ IsLasting minutes vehicle stops (end.NoWay k)
+    × ¬ IsLasting minutes vehicle stops (end.Overloaded k)

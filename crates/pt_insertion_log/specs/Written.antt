@@ -17,14 +17,16 @@ pub record WritesCases (minutes : ℕ → ℕ → Option ℕ) (cases : List Case
   pub right : (rest : List Line) → BeginsWithCases minutes cases (lines ++ rest) rest
 
 -- the lines of a right log were written
-pub record WritesLines (minutes : ℕ → ℕ → Option ℕ) (duties : List Duty) (asked : Asked) (old new : Option (List ℕ)) : Type 0 where
+pub record WritesLines (minutes : ℕ → ℕ → Option ℕ) (duties : List Duty) (asked : Asked)
+    (old new : Option (List ℕ)) : Type 0 where
   pub lines : List Line
   pub in_form : All IsInForm lines
   pub appended : Appends old new (flat_map line_text lines)
   pub right : IsRightLog minutes duties asked lines
 
 -- a right log was written
-pub record WritesRightLog (minutes : ℕ → ℕ → Option ℕ) (duties : List Duty) (asked : Asked) (old new : Option (List ℕ)) : Type 0 where
+pub record WritesRightLog (minutes : ℕ → ℕ → Option ℕ) (duties : List Duty) (asked : Asked)
+    (old new : Option (List ℕ)) : Type 0 where
   pub lines : List Line
   pub text : List ℕ
   pub right : IsRightLog minutes duties asked lines

@@ -1,4 +1,5 @@
-ghost use Rattle.std.specs.Prelude.{◌≡◌, ℕ, ◌+◌, ◌-◌, ◌<◌, ◌≤◌, Some, length, slice_get, slice_index, IsTrue, IsNone, IfSome, Option};
+ghost use Rattle.std.specs.Prelude.{◌≡◌, ℕ, ◌+◌, ◌-◌, ◌<◌, ◌≤◌, Some, length, slice_get, slice_index, IsTrue};
+ghost use Rattle.std.specs.Prelude.{IsNone, IfSome, Option};
 ghost use Rattle.pt_feasible.specs.declared.stop.Stop.{Stop};
 ghost use Rattle.pt_feasible.specs.Stop.{is_pickup, is_drop};
 ghost use Rattle.pt_audit.specs.declared.bounds.TheConstants.{MAX_VISITS};

@@ -23,7 +23,8 @@ pub fn next_step<T: Times>(insertion: &Insertion<'_>, times: &T, bounds: &Bounds
     ensures step { IfSome result (IsStep (T.minutes times.now) insertion.now.vehicle.now
         (inserted_stops insertion.now) (slice_index bounds.now)) }
     ensures none { IsNone result → (k : ℕ) → k < length (inserted_stops insertion.now) + 2 →
-        IsKeptAt (T.minutes times.now) insertion.now.vehicle.now (inserted_stops insertion.now) (slice_index bounds.now) k }
+        IsKeptAt (T.minutes times.now) insertion.now.vehicle.now (inserted_stops insertion.now)
+        (slice_index bounds.now) k }
 {
     for k in 0..insertion.len() + 2 {
         if let Some(step) = step_at(insertion, times, bounds, k) {

@@ -1,4 +1,5 @@
-ghost use Rattle.std.specs.Prelude.{◌≡◌, ℕ, ◌+◌, ◌<◌, ◌≤◌, [], ◌∷◌, ◌++◌, length, MatchResult, OnOk, vec_len, vec_capacity, insert, slice_set};
+ghost use Rattle.std.specs.Prelude.{◌≡◌, ℕ, ◌+◌, ◌<◌, ◌≤◌, [], ◌∷◌, ◌++◌, length, MatchResult, OnOk, vec_len};
+ghost use Rattle.std.specs.Prelude.{vec_capacity, insert, slice_set};
 ghost use Rattle.pt_records.specs.Records.{IsInOrder, put, put_all, take_away, take_all};
 
 use crate::searching::position_of;

@@ -5,7 +5,8 @@ use Rattle.std.specs.Option.{option_map_or}
 use Rattle.pt_rights.specs.declared.entry.Entry.{Entry}
 use Rattle.pt_rights.specs.declared.entry.Entry.TheVariants as kind
 use Rattle.pt_rights.specs.declared.entry.Entered.{Entered}
-use Rattle.pt_rights.specs.Kinds.{is_refusal, is_suspension, against_of, is_appeal, is_hearing, is_overturn, decides_appeal}
+use Rattle.pt_rights.specs.Kinds.{is_refusal, is_suspension, against_of, is_appeal, is_hearing, is_overturn}
+use Rattle.pt_rights.specs.Kinds.{decides_appeal}
 use Rattle.pt_rights.specs.Positions.{some_position, is_open, is_followed}
 use Rattle.pt_rights.specs.Limits.{days_to_appeal, days_to_decide}
 
@@ -33,7 +34,8 @@ some_pending_with appeals follows file =
 
 -- an entry may be appealed against when it is a refusal or a suspension, within 60 days, the 60th among them
 abbrev pub is_appealable : ℕ → Entered → Bool
-is_appealable today entered = (is_refusal entered.entry || is_suspension entered.entry) && nat_le today (entered.day + days_to_appeal)
+is_appealable today entered = (is_refusal entered.entry || is_suspension entered.entry)
+    && nat_le today (entered.day + days_to_appeal)
 
 -- the file has an appeal against the entry at the position
 abbrev pub is_appealed : List Entered → ℕ → Bool

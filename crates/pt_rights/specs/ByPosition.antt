@@ -2,14 +2,16 @@
 use Rattle.std.specs.Prelude.{◌≡◌, ℕ, ◌+◌, ◌<◌, ◌≤◌, true, false, List, Some, None, slice_get}
 use Rattle.pt_rights.specs.declared.entry.Grant.{Grant}
 use Rattle.pt_rights.specs.declared.entry.Entered.{Entered}
-use Rattle.pt_rights.specs.Kinds.{is_complete, is_decision, grant_of, is_refusal, against_of, is_hearing, is_overturn, decides_appeal, suspends}
+use Rattle.pt_rights.specs.Kinds.{is_complete, is_decision, grant_of, is_refusal, against_of, is_hearing}
+use Rattle.pt_rights.specs.Kinds.{is_overturn, decides_appeal, suspends}
 use Rattle.pt_rights.specs.Limits.{days_to_decide, days_to_presumption}
 
 -- an application stands at the position, and no decision stands after it
 pub record IsUnansweredAt (file : List Entered) (position : ℕ) (application : Entered) : Type 0 where
   pub here : slice_get file position ≡ Some application
   pub completes : is_complete application.entry ≡ true
-  pub undecided : (later : ℕ) (entered : Entered) → position < later → slice_get file later ≡ Some entered → is_decision entered.entry ≡ false
+  pub undecided : (later : ℕ) (entered : Entered) → position < later → slice_get file later ≡ Some entered
+      → is_decision entered.entry ≡ false
 
 -- some application is unanswered
 abbrev pub IsWaiting : List Entered → Type 0
@@ -18,24 +20,28 @@ IsWaiting file = (position : ℕ) × (application : Entered) × IsUnansweredAt f
 -- some unanswered application was completed 21 days ago or earlier (49 CFR 37.125(c))
 abbrev pub IsPresumed : List Entered → ℕ → Type 0
 IsPresumed file today =
-    (position : ℕ) × (application : Entered) × IsUnansweredAt file position application × (application.day + days_to_presumption ≤ today)
+    (position : ℕ) × (application : Entered) × IsUnansweredAt file position application
+    × (application.day + days_to_presumption ≤ today)
 
 -- this is granted at the position, and nothing is granted after it
 pub record IsLastGrantAt (file : List Entered) (position : ℕ) (granting : Entered) (grant : Grant) : Type 0 where
   pub here : slice_get file position ≡ Some granting
   pub grants : grant_of granting.entry ≡ Some grant
-  pub unreplaced : (later : ℕ) (entered : Entered) → position < later → slice_get file later ≡ Some entered → grant_of entered.entry ≡ None
+  pub unreplaced : (later : ℕ) (entered : Entered) → position < later → slice_get file later ≡ Some entered
+      → grant_of entered.entry ≡ None
 
 -- the last grant is this one, and has not run out on the day (37.125(e))
 abbrev pub IsGrantedFor : List Entered → ℕ → Grant → Type 0
 IsGrantedFor file day grant =
     (position : ℕ) × (granting : Entered) × IsLastGrantAt file position granting grant × (day ≤ grant.until)
 
--- an appeal against the entry at the position `against` stands at the position, and no decision of an appeal stands after it
+-- an appeal against the entry at the position `against` stands at the position, and no decision of an appeal stands
+-- after it
 pub record IsPendingAt (file : List Entered) (position against : ℕ) (appeal : Entered) : Type 0 where
   pub here : slice_get file position ≡ Some appeal
   pub appeals : against_of appeal.entry ≡ Some against
-  pub undecided : (later : ℕ) (entered : Entered) → position < later → slice_get file later ≡ Some entered → decides_appeal entered.entry ≡ false
+  pub undecided : (later : ℕ) (entered : Entered) → position < later → slice_get file later ≡ Some entered
+      → decides_appeal entered.entry ≡ false
 
 -- some appeal against the entry at the position is pending
 abbrev pub IsPendingAgainst : List Entered → ℕ → Type 0
@@ -43,7 +49,8 @@ IsPendingAgainst file against = (position : ℕ) × (appeal : Entered) × IsPend
 
 -- there is a refusal at the position
 abbrev pub IsRefusedAt : List Entered → ℕ → Type 0
-IsRefusedAt file position = (refusal : Entered) × (slice_get file position ≡ Some refusal) × (is_refusal refusal.entry ≡ true)
+IsRefusedAt file position = (refusal : Entered) × (slice_get file position ≡ Some refusal)
+    × (is_refusal refusal.entry ≡ true)
 
 -- an appeal was heard after the position, on a day that is 30 days before today or earlier
 abbrev pub IsHeardAfter : List Entered → ℕ → ℕ → Type 0
@@ -57,20 +64,23 @@ IsOverdue file today =
     (position : ℕ) × (against : ℕ) × (appeal : Entered)
     × IsPendingAt file position against appeal × IsRefusedAt file against × IsHeardAfter file position today
 
--- an appeal against the entry at the position `against` stands at the position, and the first decision of an appeal after
--- it, at the position `decided`, overturns
-pub record IsOverturnedAt (file : List Entered) (position against : ℕ) (appeal : Entered) (decided : ℕ) (decision : Entered) : Type 0 where
+-- an appeal against the entry at the position `against` stands at the position, and the first decision of an appeal
+-- after it, at the position `decided`, overturns
+pub record IsOverturnedAt (file : List Entered) (position against : ℕ) (appeal : Entered) (decided : ℕ)
+    (decision : Entered) : Type 0 where
   pub here : slice_get file position ≡ Some appeal
   pub appeals : against_of appeal.entry ≡ Some against
   pub after : position < decided
   pub there : slice_get file decided ≡ Some decision
   pub overturns : is_overturn decision.entry ≡ true
-  pub first : (between : ℕ) (entered : Entered) → position < between → between < decided → slice_get file between ≡ Some entered → decides_appeal entered.entry ≡ false
+  pub first : (between : ℕ) (entered : Entered) → position < between → between < decided
+      → slice_get file between ≡ Some entered → decides_appeal entered.entry ≡ false
 
 -- what stands at the position is overturned
 abbrev pub IsOverturned : List Entered → ℕ → Type 0
 IsOverturned file against =
-    (position : ℕ) × (appeal : Entered) × (decided : ℕ) × (decision : Entered) × IsOverturnedAt file position against appeal decided decision
+    (position : ℕ) × (appeal : Entered) × (decided : ℕ) × (decision : Entered)
+    × IsOverturnedAt file position against appeal decided decision
 
 -- some suspension holds on the day, no appeal against it is pending, and it is not overturned (37.125(h))
 abbrev pub IsSuspended : List Entered → ℕ → Type 0

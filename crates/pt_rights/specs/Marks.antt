@@ -14,7 +14,8 @@ abbrev pub has_come : ℕ → Option ℕ → ℕ → Bool
 has_come days since today = option_map_or (λ day. nat_le (day + days) today) since false
 
 -- the marks say what standing and admission ask of the entries
-pub record AreMarks (file : List Entered) (waiting : Option ℕ) (granted : Option Grant) (heard : Option ℕ) : Type 0 where
+pub record AreMarks (file : List Entered) (waiting : Option ℕ) (granted : Option Grant) (heard : Option ℕ)
+    : Type 0 where
   pub within : length file ≤ most_entries
   pub waits : is_waiting file ≡ is_some waiting
   pub presumes : (today : ℕ) → is_presumed file today ≡ has_come days_to_presumption waiting today

@@ -38,13 +38,15 @@ is_pattern tallies policy today =
 abbrev pub awaits_notice_hearing : List Entered → Bool
 awaits_notice_hearing file =
     some_position
-    (is_open (λ e. is_notice e.entry) (λ e. is_notice_hearing e.entry || (is_suspension e.entry || is_notice e.entry))) file
+    (is_open (λ e. is_notice e.entry)
+    (λ e. is_notice_hearing e.entry || (is_suspension e.entry || is_notice e.entry))) file
 
 -- a notice has a hearing after it, and no suspension and no notice
 abbrev pub may_suspend : List Entered → Bool
 may_suspend file =
     some_position
-    (is_followed (λ e. is_notice e.entry) (λ e. is_suspension e.entry || is_notice e.entry) (λ e. is_notice_hearing e.entry)) file
+    (is_followed (λ e. is_notice e.entry) (λ e. is_suspension e.entry || is_notice e.entry)
+    (λ e. is_notice_hearing e.entry)) file
 
 -- a suspension starts after its day, and lasts 1 to 30 days
 abbrev pub is_term : ℕ → ℕ → ℕ → Bool

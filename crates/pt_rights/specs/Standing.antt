@@ -22,7 +22,8 @@ is_waiting file = some_position is_unanswered file
 -- an application that was completed on day c and is unanswered on day c + 21 or later is presumed granted (37.125(c))
 abbrev pub is_presumed : List Entered → ℕ → Bool
 is_presumed file today =
-    some_position (λ entered later. is_unanswered entered later && nat_le (entered.day + days_to_presumption) today) file
+    some_position
+    (λ entered later. is_unanswered entered later && nat_le (entered.day + days_to_presumption) today) file
 
 -- the last grant of the file: a later grant replaces it, a refusal does not
 abbrev pub last_grant : List Entered → Option Grant

@@ -1,5 +1,6 @@
 ghost use Rattle.std.specs.Prelude.{◌≡◌, ℕ, ◌+◌, ◌&&◌, ◌||◌, not, ◌==◌, nat_le, option_copied};
-ghost use Rattle.pt_rights.specs.Appeals.{disputed, disputes, is_appealable, is_appealed, may_appeal, may_answer, some_pending, awaits_hearing, may_decide, is_overdue};
+ghost use Rattle.pt_rights.specs.Appeals.{disputed, disputes, is_appealable, is_appealed, may_appeal};
+ghost use Rattle.pt_rights.specs.Appeals.{may_answer, some_pending, awaits_hearing, may_decide, is_overdue};
 ghost use Rattle.pt_rights.specs.Kinds.{is_appeal, is_refusal, is_hearing, decides_appeal};
 ghost use Rattle.pt_rights.specs.Marks.{earlier, has_come};
 ghost use Rattle.pt_rights.specs.Limits.{days_to_decide};
@@ -33,7 +34,8 @@ fn disputes_refusal(entries: &[Entered], entry: &Entry) -> bool
 
 /// Whether the entry is an appeal that the decision may answer, by an author who did not decide before.
 fn is_answered(entries: &[Entered], entry: &Entry, decision: &Entry, author: CallerId) -> bool
-    ensures { result ≡ disputes (λ e. may_answer decision.now e.entry && not (e.author == author)) entries.now entry.now }
+    ensures { result
+        ≡ disputes (λ e. may_answer decision.now e.entry && not (e.author == author)) entries.now entry.now }
 {
     match disputed(entries, entry) {
         Some(before) => decision.may_answer(&before.entry) && before.author != author,
@@ -126,7 +128,8 @@ pub fn heard_since(entries: &[Entered]) -> Option<Day>
 /// The least day on which what is pending was heard, after an entry of this day that may decide or hear it.
 fn heard_after(heard: Option<Day>, pending: bool, entry: &Entry, day: Day) -> Option<Day>
     ensures { (today : ℕ) → has_come days_to_decide result today ≡ (not (decides_appeal entry.now)
-        && (has_come days_to_decide heard today || (pending && (is_hearing entry.now && nat_le (day + days_to_decide) today)))) }
+        && (has_come days_to_decide heard today
+        || (pending && (is_hearing entry.now && nat_le (day + days_to_decide) today)))) }
 {
     if entry.decides_appeal() {
         None

@@ -1,5 +1,6 @@
 ghost use Rattle.std.specs.Prelude.{◌≡◌};
-ghost use Rattle.pt_rights.specs.Notices.{is_missed, is_recent, recent, missed, is_pattern, awaits_notice_hearing, may_suspend, is_term};
+ghost use Rattle.pt_rights.specs.Notices.{is_missed, is_recent, recent, missed, is_pattern};
+ghost use Rattle.pt_rights.specs.Notices.{awaits_notice_hearing, may_suspend, is_term};
 
 use crate::walk::{followed_after, open_after};
 use crate::{Entered, Outcome, Tally};

@@ -27,7 +27,8 @@ pub fn is_suspended(entries: &[Entered], day: Day) -> bool
 
 /// For each position, whether an appeal against what stands there is pending or has overturned it.
 fn lifted_positions(entries: &[Entered]) -> [bool; POSITIONS]
-    ensures { (position : ℕ) → position < POSITIONS → slice_index_or result position false ≡ is_lifted entries.now position }
+    ensures { (position : ℕ) → position < POSITIONS
+        → slice_index_or result position false ≡ is_lifted entries.now position }
 {
     let mut lifted = [false; POSITIONS];
     // Whether an appeal here would be pending, or overturn.

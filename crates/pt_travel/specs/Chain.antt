@@ -5,7 +5,8 @@ use Rattle.std.specs.Prelude.{◌≡◌, ℕ, ◌<◌, ◌≤◌, List, [], ◌�
 abbrev pub Row : Type 0
 Row = ℕ × ℕ × ℕ
 
--- a list of rows of the table leads from one place to another: each row begins where the former ends, and no rows at all lead from a place to itself
+-- a list of rows of the table leads from one place to another: each row begins where the former ends, and no rows at
+-- all lead from a place to itself
 abbrev pub IsChain : List Row → ℕ → ℕ → List Row → Type 0
 IsChain table from to [] = from ≡ to
 IsChain table from to (row ∷ rows) = Contains table row × (row.0 ≡ from) × IsChain table row.1 to rows
@@ -20,7 +21,8 @@ IsLeastTotal table from to minutes =
     ((chain : List Row) × IsChain table from to chain × (total_of chain ≡ minutes))
     × ((chain : List Row) → IsChain table from to chain → minutes ≤ total_of chain)
 
--- the driving time by a table's chains: their least total, and none where each chain, if there is one, takes longer than 1439 minutes
+-- the driving time by a table's chains: their least total, and none where each chain, if there is one, takes longer
+-- than 1439 minutes
 abbrev pub IsTime : List Row → ℕ → ℕ → Option ℕ → Type 0
 IsTime table from to None = (chain : List Row) → IsChain table from to chain → 1439 < total_of chain
 IsTime table from to (Some minutes) = (minutes ≤ 1439) × IsLeastTotal table from to minutes

@@ -14,10 +14,13 @@ HasTriangles n lines = (i j k : ℕ) → i < n → j < n → k < n → entry lin
 abbrev pub IsCapped : List (List ℕ) → Type 0
 IsCapped lines = (i j : ℕ) → i < length lines → j < 100 → entry lines i j ≤ 1440
 
--- a row of the table stands in the matrix: no entry has grown, that of the row's places is at most its minutes, and no other entry has changed
+-- a row of the table stands in the matrix: no entry has grown, that of the row's places is at most its minutes, and
+-- no other entry has changed
 pub record PutsRow (places : List ℕ) (row : Row) (old new : List (List ℕ)) : Type 0 where
   pub size : length new ≡ length old
   pub shrinks : (i j : ℕ) → i < length old → j < 100 → entry new i j ≤ entry old i j
-  pub stands : (i j : ℕ) → i < length old → j < length old → slice_index places i ≡ row.0 → slice_index places j ≡ row.1 → entry new i j ≤ row.2
+  pub stands : (i j : ℕ) → i < length old → j < length old → slice_index places i ≡ row.0
+      → slice_index places j ≡ row.1 → entry new i j ≤ row.2
   pub others : (i j : ℕ) → i < length old → j < length old
-      → (entry new i j ≡ entry old i j) ⊎ ((slice_index places i ≡ row.0) × (slice_index places j ≡ row.1) × (entry new i j ≡ row.2))
+      → (entry new i j ≡ entry old i j) ⊎ ((slice_index places i ≡ row.0) × (slice_index places j ≡ row.1)
+      × (entry new i j ≡ row.2))

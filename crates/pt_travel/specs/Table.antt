@@ -8,7 +8,8 @@ ComesBefore row other = (row.0 < other.0) ⊎ ((row.0 ≡ other.0) × (row.1 < o
 
 -- each row comes before the next, so that no pair of places stands twice
 abbrev pub Rises : List Row → Type 0
-Rises rows = (k : ℕ) → k + 1 < length rows → ComesBefore (slice_index_or rows k (0, 0, 0)) (slice_index_or rows (k + 1) (0, 0, 0))
+Rises rows = (k : ℕ) → k + 1 < length rows
+    → ComesBefore (slice_index_or rows k (0, 0, 0)) (slice_index_or rows (k + 1) (0, 0, 0))
 
 -- each row begins and ends at one of these places
 abbrev pub NamesOnly : List ℕ → List Row → Type 0

@@ -1,11 +1,13 @@
 -- A travel table as a text of CSV: a header row, and a row of the table in each record below it.
-use Rattle.std.specs.Prelude.{◌≡◌, ◌≢◌, ℕ, ◌+◌, ◌-◌, ◌*◌, ◌^◌, ◌<◌, ◌≤◌, ◌⊎◌, ◌↔◌, List, [], ◌∷◌, ◌++◌, length, map, min, codes, slice_index_or, All, Contains}
+use Rattle.std.specs.Prelude.{◌≡◌, ◌≢◌, ℕ, ◌+◌, ◌-◌, ◌*◌, ◌^◌, ◌<◌, ◌≤◌, ◌⊎◌, ◌↔◌, List, [], ◌∷◌, ◌++◌, length}
+use Rattle.std.specs.Prelude.{map, min, codes, slice_index_or, All, Contains}
 use Rattle.std.specs.List.{fold}
 use Rattle.csv.specs.Reading.{AreRecords, Reached, default_config, strip_bom}
 use Rattle.csv.specs.declared.parser.State.{State}
 use Rattle.csv.specs.declared.parser.State.TheVariants as state
 use Rattle.pt_base.specs.declared.fault.Fault.{Fault}
-use Rattle.pt_base.specs.Codes.{record_refused, header_refused, place_refused, minutes_refused, pair_refused, places_refused}
+use Rattle.pt_base.specs.Codes.{record_refused, header_refused, place_refused, minutes_refused, pair_refused}
+use Rattle.pt_base.specs.Codes.{places_refused}
 use Rattle.pt_travel.specs.Chain.{Row}
 use Rattle.pt_travel.specs.Table.{Rises}
 
@@ -19,7 +21,8 @@ HasRecords text records = AreRecords default_config state.StartRecord (strip_bom
 
 -- these are the first records of a text
 abbrev pub BeginsWith : List ℕ → List Record → Type 0
-BeginsWith text records = (after : State) × (rest : List ℕ) × Reached default_config state.StartRecord (strip_bom text) records after rest
+BeginsWith text records = (after : State) × (rest : List ℕ)
+    × Reached default_config state.StartRecord (strip_bom text) records after rest
 
 -- the header row
 abbrev pub header : Record
@@ -64,7 +67,8 @@ Conflicts row other = (row.0 ≡ other.0) × (row.1 ≡ other.1) × (row.2 ≢ o
 -- the records below the header all read as rows, and no two conflict
 abbrev pub AreSound : List ℕ → List Record → Type 0
 AreSound places records =
-    All (IsSound places) records × ((row other : Row) → Contains (map row_of records) row → Contains (map row_of records) other → Conflicts row other → ⊥)
+    All (IsSound places) records × ((row other : Row) → Contains (map row_of records) row
+    → Contains (map row_of records) other → Conflicts row other → ⊥)
 
 -- the rows of these records in order, each once
 abbrev pub IsSortedFrom : List Record → List Row → Type 0
@@ -76,7 +80,8 @@ HasFault places earlier fields code =
     ((code ≡ record_refused) × (length fields ≢ 3))
     ⊎ ((code ≡ place_refused) × (length fields ≡ 3) × (NamesPlaces places fields → ⊥))
     ⊎ ((code ≡ minutes_refused) × (length fields ≡ 3) × NamesPlaces places fields × (IsMinutes (field fields 2) → ⊥))
-    ⊎ ((code ≡ pair_refused) × IsSound places fields × (other : Row) × Contains (map row_of earlier) other × Conflicts (row_of fields) other)
+    ⊎ ((code ≡ pair_refused) × IsSound places fields × (other : Row) × Contains (map row_of earlier) other
+    × Conflicts (row_of fields) other)
 
 -- what was read so far: nothing, or the header row and sound records below it, with their rows in order
 abbrev pub IsReadSoFar : List ℕ → List Record → List Row → Type 0
@@ -92,7 +97,8 @@ number_after count = min (count + 1) (2 ^ 32 - 1)
 abbrev pub IsNextFault : List ℕ → List Record → Record → Fault → Type 0
 IsNextFault places seen fields fault =
     ((seen ≡ []) × (fault ≡ record { code = header_refused; row = 1 }) × (fields ≢ header))
-    ⊎ ((records : List Record) × (seen ≡ header ∷ records) × AreSound places records × HasFault places records fields fault.code
+    ⊎ ((records : List Record) × (seen ≡ header ∷ records) × AreSound places records
+    × HasFault places records fields fault.code
     × (fault.row ≡ number_after (length seen)))
 
 -- a text reads as a table of these rows
@@ -111,7 +117,8 @@ LacksHeader text = HasRecords text [] ⊎ ((first : Record) × BeginsWith text (
 abbrev pub FailsAt : List ℕ → List ℕ → Fault → Type 0
 FailsAt text places fault =
     (earlier : List Record) × (fields : Record) × BeginsWith text (header ∷ earlier ++ (fields ∷ []))
-    × AreSound places earlier × HasFault places earlier fields fault.code × (fault.row ≡ number_after (length earlier + 1))
+    × AreSound places earlier × HasFault places earlier fields fault.code
+    × (fault.row ≡ number_after (length earlier + 1))
 
 -- the first fault of a text: too many places, then no header row, then that of the first record that is not sound
 abbrev pub IsFirstFault : List ℕ → List ℕ → Fault → Type 0

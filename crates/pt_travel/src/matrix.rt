@@ -1,4 +1,5 @@
-ghost use Rattle.std.specs.Prelude.{◌≡◌, ℕ, ◌+◌, ◌==◌, ◌<◌, ◌≤◌, [], length, min, All, IfOk, if◌then◌else◌, slice_index, slice_index_or};
+ghost use Rattle.std.specs.Prelude.{◌≡◌, ℕ, ◌+◌, ◌==◌, ◌<◌, ◌≤◌, [], length, min, All, IfOk, if◌then◌else◌};
+ghost use Rattle.std.specs.Prelude.{slice_index, slice_index_or};
 ghost use Rattle.pt_travel.specs.Matrix.{entry, IsCapped, PutsRow};
 ghost use Rattle.pt_travel.specs.Closure.{IsClosedOver};
 ghost use Rattle.pt_travel.specs.Places.{list_of};
@@ -67,7 +68,8 @@ pub fn shorten(lines: &mut Vec<Line>, k: usize)
     requires capped { IsCapped lines.old.items }
     ensures size { length lines.new.items ≡ length lines.old.items }
     ensures entries { (i j : ℕ) → i < length lines.old.items → j < 100
-        → entry lines.new.items i j ≡ min (entry lines.old.items i j) (entry lines.old.items i k + entry lines.old.items k j) }
+        → entry lines.new.items i j
+        ≡ min (entry lines.old.items i j) (entry lines.old.items i k + entry lines.old.items k j) }
 {
     let middle = lines[k];
     for line in lines.iter_mut() {
@@ -80,7 +82,8 @@ fn shorten_line(line: &mut Line, middle: &Line, k: usize)
     requires capped { (j : ℕ) → j < 100 → slice_index line.old j ≤ 1440 }
     requires middle_capped { (j : ℕ) → j < 100 → slice_index middle.now j ≤ 1440 }
     ensures size { length line.new ≡ 100 }
-    ensures entries { (j : ℕ) → j < 100 → slice_index line.new j ≡ min (slice_index line.old j) (slice_index line.old k + slice_index middle.now j) }
+    ensures entries { (j : ℕ) → j < 100
+        → slice_index line.new j ≡ min (slice_index line.old j) (slice_index line.old k + slice_index middle.now j) }
 {
     let first = line[k];
     for j in 0..MOST_PLACES {

@@ -66,7 +66,8 @@ fn read_rows(alloc: Global, text: &[u8], places: &Places) -> Result<Vec<Row>, Fa
 fn next_record(reader: &mut Reader<&[u8]>, given: &mut ByteRecord) -> Result<bool, Fault>
     requires untrimmed { reader_trim reader.old ≡ trim.None }
     requires ready { Ready reader.old }
-    ensures reads { IfOk result (λ found. ReadRecord (λ s. Some s.now) reader.old reader.new found (fields_of given.new)) }
+    ensures reads { IfOk result
+        (λ found. ReadRecord (λ s. Some s.now) reader.old reader.new found (fields_of given.new)) }
     ensures ready { IfOk result (λ found. found ≡ true → Ready reader.new) }
     ensures refused { IfErr result (λ fault. fault ≡ record { code = memory_refused; row = 0 }) }
 {

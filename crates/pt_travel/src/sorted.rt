@@ -12,9 +12,11 @@ use std::alloc::AllocError;
 pub fn put(rows: &mut Vec<Row>, row: Row, number: u32) -> Result<(), Fault>
     requires { Rises rows.old.items }
     ensures rises { OnOk result (Rises rows.new.items) }
-    ensures rows { OnOk result ((other : ℕ × ℕ × ℕ) → Contains rows.new.items other ↔ (Contains rows.old.items other ⊎ (other ≡ row))) }
+    ensures rows { OnOk result ((other : ℕ × ℕ × ℕ) → Contains rows.new.items other
+        ↔ (Contains rows.old.items other ⊎ (other ≡ row))) }
     ensures refused { IfErr result (λ fault. (fault ≡ record { code = memory_refused; row = 0 })
-        ⊎ ((fault ≡ record { code = pair_refused; row = number }) × (other : ℕ × ℕ × ℕ) × Contains rows.old.items other × Conflicts row other)) }
+        ⊎ ((fault ≡ record { code = pair_refused; row = number }) × (other : ℕ × ℕ × ℕ)
+        × Contains rows.old.items other × Conflicts row other)) }
 {
     let k = place_for(rows, &row);
     if k < rows.len() && same_places(&rows[k], &row) {

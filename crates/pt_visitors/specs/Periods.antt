@@ -12,7 +12,8 @@ pub record IsLeastFrom (days : List ℕ) (bound day : ℕ) : Type 0 where
   pub from : bound ≤ day
   pub least : (other : ℕ) → Contains days other → bound ≤ other → day ≤ other
 
--- the opening days are a chain: the least of all the days, and each time the least that is not below the former plus 365
+-- the opening days are a chain: the least of all the days, and each time the least that is not below the former plus
+-- 365
 pub data IsOpening (days : List ℕ) : ℕ → Type 0 where
   first : (opening : ℕ) → IsLeastFrom days 0 opening → IsOpening days opening
   next : (former opening : ℕ) → IsOpening days former → IsLeastFrom days (former + 365) opening → IsOpening days opening
