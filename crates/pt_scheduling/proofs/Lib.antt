@@ -3,3 +3,4 @@ mod ScheduledLemmas
 mod UseLemmas
 pub mod PlanLemmas
 pub mod RouteLemmas
+pub mod FeasibleLemmas

@@ -199,11 +199,11 @@ pairs_with asked i j trips stops k le paired none = subst IsPair (sym (map_of_tr
   ])
 ])
 
-abbrev stops_there : ℕ → ℕ → List Trip → List Plan → Vehicle → List Stop
+abbrev pub stops_there : ℕ → ℕ → List Trip → List Plan → Vehicle → List Stop
 stops_there trip day trips plans vehicle = stops_without trip day trips plans vehicle.id
 
 -- the route of the vehicle that is chosen is that of one of the vehicles
-of_vehicle : (trip day : ℕ) (trips : List Trip) (plans : List Plan) (vehicles : List Vehicle) (k : ℕ) (there : OnDuty) → k < length (routes_without trip day trips plans vehicles)
+pub of_vehicle : (trip day : ℕ) (trips : List Trip) (plans : List Plan) (vehicles : List Vehicle) (k : ℕ) (there : OnDuty) → k < length (routes_without trip day trips plans vehicles)
     → get_or (routes_without trip day trips plans vehicles) k there ≡ there → there.stops ≡ stops_there trip day trips plans (get_or vehicles k there.vehicle)
 of_vehicle trip day trips plans vehicles k there within at =
     let duty : Vehicle → OnDuty = λ vehicle. record { vehicle = vehicle; stops = stops_without trip day trips plans vehicle.id } in
@@ -235,7 +235,7 @@ booked_route minutes day trips plans vehicles request trip plan each (chosen, bo
     booked_stops minutes day trips plans vehicles request trip plan chosen duty.stops (get_or vehicles l duty.vehicle) stops each booked.trip_of.number is_chosen.possible.drop_later
     (of_vehicle request.trip day trips plans vehicles l duty below at) new.stops_with_trip (omega (arith, old, one, other, room)) (ap (λ (p : Plan). p.stops) plan_is)
 
-found_vehicle : (trip day : ℕ) (trips : List Trip) (plans : List Plan) (vehicles : List Vehicle) (k : ℕ) (there : OnDuty) → k < length (routes_without trip day trips plans vehicles)
+pub found_vehicle : (trip day : ℕ) (trips : List Trip) (plans : List Plan) (vehicles : List Vehicle) (k : ℕ) (there : OnDuty) → k < length (routes_without trip day trips plans vehicles)
     → get_or (routes_without trip day trips plans vehicles) k there ≡ there → there.vehicle ≡ get_or vehicles k there.vehicle
 found_vehicle trip day trips plans vehicles k there within at =
     let duty : Vehicle → OnDuty = λ vehicle. record { vehicle = vehicle; stops = stops_without trip day trips plans vehicle.id } in
@@ -277,7 +277,7 @@ each_drop P zero xs each = each
 each_drop P (suc n) [] each = tt
 each_drop P (suc n) (x ∷ xs) each = each_drop P n xs each.1
 
-each_with_trip : (P : Stop → Type 0) (asked : Asked) (i j : ℕ) (xs : List Stop) → P (pickup_stop asked) → P (drop_stop asked) → Each P xs → Each P (with_trip asked i j xs)
+pub each_with_trip : (P : Stop → Type 0) (asked : Asked) (i j : ℕ) (xs : List Stop) → P (pickup_stop asked) → P (drop_stop asked) → Each P xs → Each P (with_trip asked i j xs)
 unfolding with_trip
 each_with_trip P asked i j xs first second each =
     each_append P (take i xs ++ pickup_stop asked ∷ drop i (take j xs)) (drop_stop asked ∷ drop j xs)

@@ -1,9 +1,11 @@
 -- The routes of a day's vehicles, without one trip.
-use Rattle.std.specs.Prelude.{ℕ, ◌≤◌, List, length, map}
+use Rattle.std.specs.Prelude.{ℕ, ◌≤◌, List, Option, length, map}
 use Rattle.pt_base.specs.declared.trip.Trip.{Trip}
 use Rattle.pt_base.specs.declared.vehicle.Vehicle.{Vehicle}
 use Rattle.pt_feasible.specs.declared.schedule.TheConstants.{MAX_STOPS}
+use Rattle.pt_feasible.specs.Loads.{LoadsFit}
 use Rattle.pt_feasible.specs.Pairing.{IsPaired}
+use Rattle.pt_feasible.specs.ServiceTimes.{TimesFit}
 use Rattle.pt_feasible.specs.declared.stop.Stop.{Stop}
 use Rattle.pt_booking.specs.Planning.{OnDuty}
 use Rattle.pt_feasible.specs.Route.{stops_of}
@@ -23,6 +25,12 @@ routes_without trip day trips plans vehicles =
 pub record IsRoute (stops : List Stop) : Type 0 where
   pub few : length stops ≤ MAX_STOPS
   pub paired : IsPaired stops
+
+-- the vehicle can drive these stops: its loads fit, and there are service times that meet every limit (Cordeau and
+-- Laporte 2003)
+pub record IsFeasible (minutes : ℕ → ℕ → Option ℕ) (vehicle : Vehicle) (stops : List Stop) : Type 0 where
+  pub loads : LoadsFit vehicle stops
+  pub times : (b : List ℕ) × TimesFit minutes vehicle stops b
 
 -- what is lent of a vehicle and its route
 abbrev pub day_route : DayRoute → OnDuty
