@@ -4,7 +4,7 @@ use Rattle.std.proofs.Common.{◌≡◌, ℕ, ◌+◌, ◌*◌, ◌≤◌, List,
 use Rattle.std.specs.List.{AllByRecursion}
 use Rattle.std.proofs.Props.{props}
 use Rattle.std.proofs.lemmas.List.{take-append-drop, drop-drop, drop_all}
-use Rattle.pt_desk_rules.specs.declared.request.Confirmation.{Confirmation}
+use Rattle.pt_requests.specs.declared.request.Confirmation.{Confirmation}
 use Rattle.pt_spelling.specs.Fields.{number_bytes, numbers_bytes}
 use Rattle.pt_spelling.specs.Ranges.{IsWord}
 use Rattle.pt_spelling.specs.Replies.{numbers_told, IsTold, SpellsReply}

@@ -9,15 +9,17 @@ use Rattle.pt_base.specs.declared.rider.Rider.{Rider}
 use Rattle.pt_base.specs.declared.trip.Wish.{Wish}
 use Rattle.pt_base.specs.declared.vehicle.Vehicle.{Vehicle}
 use Rattle.pt_corridor.specs.Route.{Route}
-use Rattle.pt_desk_rules.specs.declared.caller.Caller.{Caller}
-use Rattle.pt_desk_rules.specs.declared.request.Write.{Write}
-use Rattle.pt_desk_rules.specs.declared.request.Write.TheVariants as write
+use Rattle.pt_requests.specs.declared.caller.Caller.{Caller}
+use Rattle.pt_requests.specs.declared.request.Write.{Write}
+use Rattle.pt_requests.specs.declared.request.Write.TheVariants as write
 use Rattle.pt_rights.specs.declared.entry.Entry.{Entry}
+use Rattle.pt_rights.specs.declared.tally.Outcome.{Outcome}
+use Rattle.pt_rights.specs.declared.tally.Outcome.TheVariants as outcome
 use Rattle.pt_travel.specs.Chain.{Row}
 use Rattle.pt_travel.specs.Table.{IsTable}
 use Rattle.pt_spelling.specs.Fields.{number_bytes, numbers_bytes, truth_bytes, optional_bytes, list_bytes}
 use Rattle.pt_spelling.specs.Ranges.{IsWord, IsEntry, IsWish, IsRow, IsRequest}
-use Rattle.pt_spelling.specs.Requests.{kind_number, rider_bytes, entry_bytes, wish_bytes, row_bytes, spelling}
+use Rattle.pt_spelling.specs.Requests.{kind_number, outcome_number, rider_bytes, entry_bytes, wish_bytes, row_bytes, spelling}
 use Rattle.pt_spelling.proofs.EntryLemmas.{entry-same}
 use Rattle.pt_spelling.proofs.FieldLemmas.{four_parts, byte-then, number-then, number-same, numbers-then, list-same, truth-then, optional-then}
 use Rattle.pt_spelling.proofs.SettingLemmas.{caller-same, policy-same, place-same, route-same, vehicle-same, row-then}
@@ -50,6 +52,12 @@ wish-same one other ones others e =
     let companions = number-same one.companions other.companions ones.companions others.companions attendant.1 in
     λ i. record { day = get_or (front.0 i) 0 0; pickup = get_or (front.0 i) 1 0; from = get_or (front.0 i) 2 0; to = get_or (front.0 i) 3 0; by = by.0 i; attendant = attendant.0 i; companions = companions i }
 
+outcome-same : (one other : Outcome) → outcome_number one ≡ outcome_number other → one ≡ other
+outcome-same outcome.Ridden outcome.Ridden e = refl
+outcome-same outcome.MissedRider outcome.MissedRider e = refl
+outcome-same outcome.MissedOperator outcome.MissedOperator e = refl
+outcome-same one other e = absurd (omega arith)
+
 -- ---- travel tables
 
 rows-fit : (rows : List Row) → IsTable rows → All IsRow rows → All (λ row. IsRow row × (row.2 ≤ 1439)) rows
@@ -75,6 +83,12 @@ wished-same make a b one other ones others e =
     let same = wish-same one other ones.1 others.1 number.1 in
     λ i. make (number.0 i) (same i)
 
+ended-same : (a b : ℕ) (one other : Outcome) → IsWord a → IsWord b → number_bytes a ++ outcome_number one ∷ [] ≡ number_bytes b ++ outcome_number other ∷ [] → write.Outcome a one ≡ write.Outcome b other
+ended-same a b one other ones others e =
+    let number = number-then a b (outcome_number one ∷ []) (outcome_number other ∷ []) ones others e in
+    let same = outcome-same one other (byte-then (outcome_number one) (outcome_number other) [] [] number.1).0 in
+    λ i. write.Outcome (number.0 i) (same i)
+
 travel-same : (a b : ℕ) (one other : List Row) → IsWord a × IsTable one × All IsRow one → IsWord b × IsTable other × All IsRow other → number_bytes a ++ list_bytes row_bytes one ≡ number_bytes b ++ list_bytes row_bytes other → write.Travel a one ≡ write.Travel b other
 travel-same a b one other ones others e =
     let day = number-then a b (list_bytes row_bytes one) (list_bytes row_bytes other) ones.0 others.0 e in
@@ -92,5 +106,6 @@ spelling-injective (write.Enter rider a) (write.Enter id b) ones others e = ente
 spelling-injective (write.Book rider a) (write.Book id b) ones others e = wished-same (λ n w. write.Book n w) rider id a b ones others (ap (drop 1) e)
 spelling-injective (write.Change trip a) (write.Change id b) ones others e = wished-same (λ n w. write.Change n w) trip id a b ones others (ap (drop 1) e)
 spelling-injective (write.Cancel a) (write.Cancel b) ones others e = ap (λ (n : ℕ). write.Cancel n) (number-same a b ones others (ap (drop 1) e))
+spelling-injective (write.Outcome trip a) (write.Outcome id b) ones others e = ended-same trip id a b ones others (ap (drop 1) e)
 spelling-injective (write.Travel day a) (write.Travel other b) ones others e = travel-same day other a b ones others (ap (drop 1) e)
 spelling-injective one other ones others e = absurd (omega (arith, ap (λ (bytes : List ℕ). get_or bytes 0 0) e))

@@ -10,9 +10,9 @@ use Rattle.pt_base.specs.declared.place.Point.{Point}
 use Rattle.pt_base.specs.declared.policy.Policy.{Policy}
 use Rattle.pt_base.specs.declared.vehicle.Vehicle.{Vehicle}
 use Rattle.pt_corridor.specs.Route.{Route}
-use Rattle.pt_desk_rules.specs.declared.caller.Caller.{Caller}
-use Rattle.pt_desk_rules.specs.declared.caller.Role.{Role}
-use Rattle.pt_desk_rules.specs.declared.caller.Role.TheVariants.{Rider, Clerk, Examiner, Officer, Dispatcher, Driver, Admin}
+use Rattle.pt_requests.specs.declared.caller.Caller.{Caller}
+use Rattle.pt_requests.specs.declared.caller.Role.{Role}
+use Rattle.pt_requests.specs.declared.caller.Role.TheVariants.{Rider, Clerk, Examiner, Officer, Dispatcher, Driver, Admin}
 use Rattle.pt_travel.specs.Chain.{Row}
 use Rattle.pt_spelling.specs.Fields.{number_bytes, numbers_bytes, truth_bytes, days_byte, list_bytes}
 use Rattle.pt_spelling.specs.Ranges.{IsWord, IsRole, IsCaller, IsRoute, IsVehicle, IsRow}

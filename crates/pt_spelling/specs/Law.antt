@@ -1,6 +1,6 @@
 -- What the spelling of a request is for.
 use Rattle.std.specs.Prelude.{◌≡◌}
-use Rattle.pt_desk_rules.specs.declared.request.Write.{Write}
+use Rattle.pt_requests.specs.declared.request.Write.{Write}
 use Rattle.pt_spelling.specs.Ranges.{IsRequest}
 use Rattle.pt_spelling.specs.Requests.{spelling}
 

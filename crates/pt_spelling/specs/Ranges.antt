@@ -3,11 +3,11 @@ use Rattle.std.specs.Prelude.{◌≡◌, ℕ, ◌^◌, ◌<◌, List, Bool, leng
 use Rattle.pt_base.specs.declared.trip.Wish.{Wish}
 use Rattle.pt_base.specs.declared.vehicle.Vehicle.{Vehicle}
 use Rattle.pt_corridor.specs.Route.{Route, IsFixedRoute}
-use Rattle.pt_desk_rules.specs.declared.caller.Caller.{Caller}
-use Rattle.pt_desk_rules.specs.declared.caller.Role.{Role}
-use Rattle.pt_desk_rules.specs.declared.caller.Role.TheVariants as role
-use Rattle.pt_desk_rules.specs.declared.request.Write.{Write}
-use Rattle.pt_desk_rules.specs.declared.request.Write.TheVariants as write
+use Rattle.pt_requests.specs.declared.caller.Caller.{Caller}
+use Rattle.pt_requests.specs.declared.caller.Role.{Role}
+use Rattle.pt_requests.specs.declared.caller.Role.TheVariants as role
+use Rattle.pt_requests.specs.declared.request.Write.{Write}
+use Rattle.pt_requests.specs.declared.request.Write.TheVariants as write
 use Rattle.pt_rights.specs.Conditions.{IsCondition, IsConditions}
 use Rattle.pt_rights.specs.Reasons.{IsReasons}
 use Rattle.pt_rights.specs.declared.entry.Entry.{Entry}
@@ -83,4 +83,5 @@ IsRequest (write.Enter rider entered) = IsWord rider × IsEntry entered
 IsRequest (write.Book rider wish) = IsWord rider × IsWish wish
 IsRequest (write.Change trip wish) = IsWord trip × IsWish wish
 IsRequest (write.Cancel trip) = IsWord trip
+IsRequest (write.Outcome trip outcome) = IsWord trip
 IsRequest (write.Travel day rows) = IsWord day × IsTable rows × All IsRow rows

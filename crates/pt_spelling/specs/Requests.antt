@@ -10,15 +10,17 @@ use Rattle.pt_base.specs.declared.trip.Wish.{Wish}
 use Rattle.pt_base.specs.declared.vehicle.Vehicle.{Vehicle}
 use Rattle.pt_conditions.specs.Texts.{condition_text}
 use Rattle.pt_corridor.specs.Route.{Route}
-use Rattle.pt_desk_rules.specs.declared.caller.Caller.{Caller}
-use Rattle.pt_desk_rules.specs.declared.caller.Role.{Role}
-use Rattle.pt_desk_rules.specs.declared.caller.Role.TheVariants as role
-use Rattle.pt_desk_rules.specs.declared.request.Write.{Write}
-use Rattle.pt_desk_rules.specs.declared.request.Write.TheVariants as write
+use Rattle.pt_requests.specs.declared.caller.Caller.{Caller}
+use Rattle.pt_requests.specs.declared.caller.Role.{Role}
+use Rattle.pt_requests.specs.declared.caller.Role.TheVariants as role
+use Rattle.pt_requests.specs.declared.request.Write.{Write}
+use Rattle.pt_requests.specs.declared.request.Write.TheVariants as write
 use Rattle.pt_rights.specs.declared.conditions.Condition.{Condition}
 use Rattle.pt_rights.specs.declared.entry.Entry.{Entry}
 use Rattle.pt_rights.specs.declared.entry.Entry.TheVariants as entry
 use Rattle.pt_rights.specs.declared.entry.Grant.{Grant}
+use Rattle.pt_rights.specs.declared.tally.Outcome.{Outcome}
+use Rattle.pt_rights.specs.declared.tally.Outcome.TheVariants as outcome
 use Rattle.pt_travel.specs.Chain.{Row}
 use Rattle.pt_spelling.specs.Fields.{number_bytes, numbers_bytes, signed_bytes, truth_bytes, days_byte, optional_bytes}
 use Rattle.pt_spelling.specs.Fields.{text_bytes, list_bytes}
@@ -120,6 +122,11 @@ wish_bytes wish =
     numbers_bytes (wish.day ∷ wish.pickup ∷ wish.from ∷ wish.to ∷ []) ++ optional_bytes wish.by
     ++ truth_bytes wish.attendant ++ number_bytes wish.companions
 
+abbrev pub outcome_number : Outcome → ℕ
+outcome_number outcome.Ridden = 0
+outcome_number outcome.MissedRider = 1
+outcome_number outcome.MissedOperator = 2
+
 -- ---- requests
 
 -- what tells the kinds of requests apart
@@ -134,6 +141,7 @@ tag_of (write.Enter rider entered) = 7
 tag_of (write.Book rider wish) = 8
 tag_of (write.Change trip wish) = 9
 tag_of (write.Cancel trip) = 10
+tag_of (write.Outcome trip outcome) = 11
 tag_of (write.Travel day rows) = 12
 
 abbrev pub fields_of : Write → List ℕ
@@ -147,6 +155,7 @@ fields_of (write.Enter rider entered) = number_bytes rider ++ entry_bytes entere
 fields_of (write.Book rider wish) = number_bytes rider ++ wish_bytes wish
 fields_of (write.Change trip wish) = number_bytes trip ++ wish_bytes wish
 fields_of (write.Cancel trip) = number_bytes trip
+fields_of (write.Outcome trip outcome) = number_bytes trip ++ outcome_number outcome ∷ []
 fields_of (write.Travel day rows) = number_bytes day ++ list_bytes row_bytes rows
 
 -- a request: its tag and its fields

@@ -4,6 +4,7 @@
 pub use law::spelling_tells_its_request;
 pub use replies::{KeptReply, LONGEST_REPLY_SPELLING, read_reply, spell_reply};
 pub use requests::spell;
+pub use spelling::Spelling;
 
 mod fields;
 mod law;
@@ -11,6 +12,7 @@ mod replies;
 mod requests;
 mod riders;
 mod settings;
+mod spelling;
 #[cfg(test)]
 mod tests;
 mod trips;

@@ -1,6 +1,6 @@
 ghost use Rattle.std.specs.Prelude.{◌≡◌, ◌≤◌, ◌+◌, ◌*◌, ◌++◌, Some, IfSome, length, take, drop};
 ghost use Rattle.std.specs.List.{AllByRecursion};
-ghost use Rattle.pt_desk_rules.specs.declared.request.Confirmation.{Confirmation};
+ghost use Rattle.pt_requests.specs.declared.request.Confirmation.{Confirmation};
 ghost use Rattle.pt_spelling.specs.Fields.{number_bytes, numbers_bytes};
 ghost use Rattle.pt_spelling.specs.Ranges.{IsWord};
 ghost use Rattle.pt_spelling.specs.Replies.{numbers_told, reply_spelling, reply_of, answer_of, IsTold, IsReply};
@@ -9,7 +9,7 @@ ghost use Rattle.pt_spelling.specs.declared.replies.TheConstants.{LONGEST_REPLY_
 
 use arrayvec::ArrayVec;
 use pt_base::{Minute, TripId, VehicleId};
-use pt_desk_rules::{Answer, Confirmation};
+use pt_requests::{Answer, Confirmation};
 
 /// How many bytes the spelling of a reply has at most.
 pub const LONGEST_REPLY_SPELLING: usize = 25;

@@ -1,27 +1,28 @@
 ghost use Rattle.std.specs.Prelude.{◌≡◌, ◌++◌, IfOk, OnOk};
-ghost use Rattle.pt_desk_rules.specs.declared.request.Write.{Write};
+ghost use Rattle.pt_requests.specs.declared.request.Write.{Write};
 ghost use Rattle.pt_spelling.specs.Ranges.{IsRequest};
 ghost use Rattle.pt_spelling.specs.Requests.{tag_of, fields_of, spelling};
 
+use crate::Spelling;
 use crate::fields::push_number;
 use crate::riders::{push_entry, push_rider};
 use crate::settings::{push_caller, push_place, push_policy, push_route, push_rows, push_vehicle};
-use crate::trips::push_wish;
-use pt_desk_rules::Write;
+use crate::trips::{outcome_number, push_wish};
+use pt_requests::Write;
 use std::alloc::{AllocError, Global};
 
-/// The bytes that spell a request. The error is want of memory.
-pub fn spell(alloc: Global, asked: &Write) -> Result<Vec<u8>, AllocError>
-    ensures value { IfOk result (λ bytes. bytes.items ≡ spelling asked.now) }
+/// The spelling of a request. The error is want of memory.
+pub fn spell(alloc: Global, asked: &Write) -> Result<Spelling, AllocError>
+    ensures value { IfOk result (λ spelled. spelled ≡ spelling asked.now) }
     ensures ranges { OnOk result (IsRequest asked.now) }
     // No other request has these bytes.
-    ensures only { IfOk result (λ bytes. (other : Write) → IsRequest other → bytes.items ≡ spelling other
+    ensures only { IfOk result (λ spelled. (other : Write) → IsRequest other → spelled ≡ spelling other
         → other ≡ asked.now) }
 {
     let mut bytes = Vec::new(alloc);
     bytes.push(tag_of(asked))?;
     push_fields(asked, &mut bytes)?;
-    Ok(bytes)
+    Ok(Spelling::of(bytes))
 }
 
 /// How a kind of request is told apart.
@@ -39,6 +40,7 @@ fn tag_of(asked: &Write) -> u8
         Write::Book { .. } => 8,
         Write::Change { .. } => 9,
         Write::Cancel(_) => 10,
+        Write::Outcome { .. } => 11,
         Write::Travel { .. } => 12,
     }
 }
@@ -68,6 +70,11 @@ fn push_fields(asked: &Write, out: &mut Vec<u8>) -> Result<(), AllocError>
             push_wish(wish, out)
         }
         Write::Cancel(trip) => push_number(trip.number(), out),
+        Write::Outcome { trip, outcome } => {
+            push_number(trip.number(), out)?;
+            out.push(outcome_number(*outcome))?;
+            Ok(())
+        }
         Write::Travel { day, rows } => {
             push_number(day.number(), out)?;
             push_rows(rows, out)

@@ -9,7 +9,7 @@ ghost use Rattle.pt_travel.specs.Table.{IsTable};
 use crate::fields::{push_days, push_number, push_numbers, push_signed, push_truth};
 use pt_base::{Place, Point, Policy, Vehicle};
 use pt_corridor::FixedRoute;
-use pt_desk_rules::{Caller, Role};
+use pt_requests::{Caller, Role};
 use pt_travel::{Raw, Row};
 use std::alloc::AllocError;
 

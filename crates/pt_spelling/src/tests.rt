@@ -6,8 +6,8 @@ use pt_base::{
     TripId, Vehicle, VehicleId, Weekday, Weekdays, Wish,
 };
 use pt_corridor::FixedRoute;
-use pt_desk_rules::{Caller, Confirmation, Digest, Role, Write};
-use pt_rights::{Condition, Conditions, Entry, Feet, Grant, Months, Reasons};
+use pt_requests::{Caller, Confirmation, Digest, Role, Write};
+use pt_rights::{Condition, Conditions, Entry, Feet, Grant, Months, Outcome, Reasons};
 use pt_travel::Raw;
 use std::alloc::Global;
 use std::process::Abort;
@@ -189,6 +189,10 @@ fn request(rt: &impl Abort, alloc: Global, name: &str) -> Write {
             wish: wish(rt, Some(minute(rt, 510)), false, 255),
         },
         "cancellation" => Write::Cancel(trip(rt, 4_294_967_295)),
+        "outcome" => Write::Outcome {
+            trip: trip(rt, 1),
+            outcome: Outcome::MissedOperator,
+        },
         _ => setting(rt, alloc, name),
     }
 }
@@ -245,14 +249,15 @@ fn requests_in_bytes(rt: HostRuntime) -> Result<(), Fail> {
             b"\x09\0\0\0\x01\0\0\x4E\xBE\0\0\x02\x1C\0\0\0\x02\0\0\0\x03\x01\0\0\x01\xFE\0\0\0\0\xFF".as_slice(),
         ),
         ("cancellation", b"\x0A\xFF\xFF\xFF\xFF".as_slice()),
+        ("outcome", b"\x0B\0\0\0\x01\x02".as_slice()),
         (
             "travel",
             b"\x0C\0\0\x4E\xB4\0\0\0\x02\0\0\0\x01\0\0\0\x02\0\0\0\x0C\0\0\0\x02\0\0\0\x01\0\0\x05\x9F".as_slice(),
         ),
     ] {
         let asked = request(&rt, rt.alloc(), name);
-        let bytes = spell(rt.alloc(), &asked)?;
-        assert_eq!(rt; bytes.as_slice(), expected, "{name}");
+        let spelled = spell(rt.alloc(), &asked)?;
+        assert_eq!(rt; spelled.bytes(), expected, "{name}");
     }
     Ok(())
 }
@@ -290,11 +295,11 @@ fn long_refusal(rt: &impl Abort, alloc: Global) -> Write {
 #[test]
 fn full_sizes(rt: HostRuntime) -> Result<(), Fail> {
     let route = spell(rt.alloc(), &long_route(&rt, rt.alloc()))?;
-    assert_eq!(rt; route.len(), 1_623);
+    assert_eq!(rt; route.bytes().len(), 1_623);
     let travel = spell(rt.alloc(), &long_travel(&rt, rt.alloc()))?;
-    assert_eq!(rt; travel.len(), 118_809);
+    assert_eq!(rt; travel.bytes().len(), 118_809);
     let refusal = spell(rt.alloc(), &long_refusal(&rt, rt.alloc()))?;
-    assert_eq!(rt; refusal.len(), 510);
+    assert_eq!(rt; refusal.bytes().len(), 510);
     Ok(())
 }
 

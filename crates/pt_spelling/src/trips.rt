@@ -1,9 +1,10 @@
 ghost use Rattle.std.specs.Prelude.{◌≡◌, ◌++◌, OnOk};
 ghost use Rattle.pt_spelling.specs.Ranges.{IsWish};
-ghost use Rattle.pt_spelling.specs.Requests.{wish_bytes};
+ghost use Rattle.pt_spelling.specs.Requests.{outcome_number, wish_bytes};
 
 use crate::fields::{push_number, push_numbers, push_optional, push_truth};
 use pt_base::Wish;
+use pt_rights::Outcome;
 use std::alloc::AllocError;
 
 /// Adds the fields of a trip as a rider wishes it. The error is want of memory.
@@ -21,4 +22,15 @@ pub(crate) fn push_wish(wish: &Wish, out: &mut Vec<u8>) -> Result<(), AllocError
     push_optional(wish.by, out)?;
     push_truth(wish.attendant, out)?;
     push_number(u32::from(wish.companions), out)
+}
+
+/// How the outcome of a trip is told apart.
+pub(crate) fn outcome_number(outcome: Outcome) -> u8
+    ensures { result ≡ outcome_number outcome }
+{
+    match outcome {
+        Outcome::Ridden => 0,
+        Outcome::MissedRider => 1,
+        Outcome::MissedOperator => 2,
+    }
 }

@@ -1,5 +1,5 @@
 use Rattle.std.proofs.Common.{Some, ap}
-use Rattle.pt_desk_rules.specs.declared.request.Confirmation.{Confirmation}
+use Rattle.pt_requests.specs.declared.request.Confirmation.{Confirmation}
 use Rattle.pt_spelling.proofs.ReplyLemmas.{told-same, told-is}
 use Rattle.pt_spelling.proofs.replies.confirmation_of.Goals as goal
 
