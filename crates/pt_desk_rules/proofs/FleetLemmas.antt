@@ -52,7 +52,7 @@ taken_step test x ys xs true out same = ap (λ zs. cond (test x) (x ∷ zs) zs) 
 taken_step test x ys xs false out same = same ∙ sym (ap (λ b. cond b (x ∷ filter test xs) (filter test xs)) (out refl))
 
 -- what passes a test, where all that is taken away does not
-filter-kept : {A : Type 0} (test kept : A → Bool) (P : A → Type 0) → ((x : A) → P x → kept x ≡ false → test x ≡ false) → (xs : List A) → Each P xs → filter test (filter kept xs) ≡ filter test xs
+pub filter-kept : {A : Type 0} (test kept : A → Bool) (P : A → Type 0) → ((x : A) → P x → kept x ≡ false → test x ≡ false) → (xs : List A) → Each P xs → filter test (filter kept xs) ≡ filter test xs
 filter-kept test kept P out [] each = refl
 filter-kept test kept P out (x ∷ xs) each = taken_step test x (filter kept xs) xs (kept x) (out x each.0) (filter-kept test kept P out xs each.1)
 
@@ -93,7 +93,7 @@ taken_is_own id day other first low taken = grind (arith, nat_tests)
 left_is_earlier : (id day other first : ℕ) → first ≤ 47_481 → (other == id) ≡ true → not (is_within (pair_key other first) (versions_from id day)) ≡ true → ((other == id) && nat_lt first day) ≡ true
 left_is_earlier id day other first low same left = grind (arith, nat_tests)
 
-abbrev fleet_with : Vehicle → List Vehicle → List Vehicle
+abbrev pub fleet_with : Vehicle → List Vehicle → List Vehicle
 fleet_with new vehicles = put vehicle_key new (take_away vehicle_key (versions_from new.id new.from_day) vehicles)
 
 Each-left : {A : Type 0} (P : A → Type 0) (x : A) (ys : List A) (b : Bool) → P x → Each P ys → Each P (cond b (x ∷ ys) ys)
@@ -103,6 +103,30 @@ Each-left P x ys false first rest = rest
 Each-kept : {A : Type 0} (P : A → Type 0) (kept : A → Bool) (xs : List A) → Each P xs → Each P (filter kept xs)
 Each-kept P kept [] each = tt
 Each-kept P kept (x ∷ xs) each = Each-left P x (filter kept xs) (kept x) each.0 (Each-kept P kept xs each.1)
+
+same_first_day : (id first other day : ℕ) → first ≤ 47_481 → day ≤ 47_481 → pair_key id first ≡ pair_key other day
+    → first ≡ day
+same_first_day id first other day low high same = omega arith
+
+taken_is_late : (id day other first : ℕ) → first ≤ 47_481
+    → not (is_within (pair_key other first) (versions_from id day)) ≡ false → day ≤ first
+taken_is_late id day other first low taken = grind (arith, nat_tests)
+
+-- a new version leaves those that pass a test, where none of its vehicle's of its day and later does
+pub kept_versions : (test : Vehicle → Bool) (new : Vehicle) (vehicles : List Vehicle) → HasFirstDay new
+    → Each HasFirstDay vehicles
+    → ((version : Vehicle) → version.id ≡ new.id → new.from_day ≤ version.from_day → test version ≡ false)
+    → filter test (fleet_with new vehicles) ≡ filter test vehicles
+kept_versions test new vehicles day days out =
+    let kept = λ (version : Vehicle). not (is_within (vehicle_key version) (versions_from new.id new.from_day)) in
+    filter-put_other vehicle_key test new HasFirstDay
+    (λ x first same. out x (same_vehicle x.id x.from_day new.id new.from_day first.1 day.1 same)
+    (let is = same_first_day x.id x.from_day new.id new.from_day first.1 day.1 same in omega arith))
+    (out new refl (omega arith))
+    (filter kept vehicles) (Each-kept HasFirstDay kept vehicles days)
+    ∙ filter-kept test kept HasFirstDay
+    (λ x first taken. out x (taken_is_own new.id new.from_day x.id x.from_day first.1 taken)
+    (taken_is_late new.id new.from_day x.id x.from_day first.1 taken)) vehicles days
 
 -- a new version leaves those of other vehicles
 pub others_stay : (new : Vehicle) (vehicles : List Vehicle) → HasFirstDay new → Each HasFirstDay vehicles → versions_of_others new.id (fleet_with new vehicles) ≡ versions_of_others new.id vehicles

@@ -2,7 +2,12 @@ pub mod FleetLemmas
 mod BookingLemmas
 mod PlannedLemmas
 mod StandingLemmas
+mod FitLemmas
+mod FiledLemmas
+mod EndLemmas
 pub mod SoundLemmas
 pub mod DutyLemmas
 pub mod PrivacyLemmas
 pub mod OutcomeLemmas
+pub mod NumberLemmas
+pub mod AgainLemmas

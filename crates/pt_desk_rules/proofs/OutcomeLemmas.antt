@@ -7,24 +7,28 @@ use Rattle.pt_rights.specs.Rules.{first_failing}
 use Rattle.pt_scheduling.specs.Plan.{Plan}
 use Rattle.pt_scheduling.specs.declared.scheduling.Scheduled.TheVariants as scheduled
 use Rattle.pt_desk_rules.specs.Booking.{IsBooking}
-use Rattle.pt_desk_rules.specs.Deciding.{booked, changed, IsCancelDecided, IsChangeDecided, IsDecidedBy, IsDecisionAfter}
+use Rattle.pt_rights.specs.declared.tally.Outcome.{Outcome}
+use Rattle.pt_desk_rules.specs.Deciding.{booked, changed, kept_in, IsCancelDecided, IsChangeDecided, IsEndDecided, IsDecidedBy, IsDecisionAfter}
 use Rattle.pt_desk_rules.specs.Facts.{facts_of}
 use Rattle.pt_desk_rules.specs.Rules.{rules_of}
 use Rattle.pt_desk_rules.specs.State.{State}
-use Rattle.pt_desk_rules.specs.Step.{is_new, told_of, left_of, IsOutcomeBy, IsOutcomeIf}
-use Rattle.pt_desk_rules.specs.declared.caller.Caller.{Caller}
-use Rattle.pt_desk_rules.specs.declared.caller.Kept.{Kept}
+use Rattle.pt_desk_rules.specs.Step.{arrival_in, sent_with, told_of, left_of, IsOutcomeBy, IsOutcomeAs}
+use Rattle.pt_requests.specs.declared.caller.Caller.{Caller}
+use Rattle.pt_desk_rules.specs.declared.kept.Arrival.{Arrival}
+use Rattle.pt_desk_rules.specs.declared.kept.Arrival.TheVariants.{New, Repeated, Stale}
+use Rattle.pt_desk_rules.specs.declared.kept.Kept.{Kept}
+use Rattle.pt_desk_rules.specs.declared.kept.Sent.{Sent}
 use Rattle.pt_desk_rules.specs.declared.change.Change.{Change}
 use Rattle.pt_desk_rules.specs.declared.deciding.Decision.{Decision}
 use Rattle.pt_desk_rules.specs.declared.deciding.Decision.TheVariants as decision
 use Rattle.pt_desk_rules.specs.declared.facts.WriteFacts.{WriteFacts}
-use Rattle.pt_desk_rules.specs.declared.request.Answer.{Answer}
-use Rattle.pt_desk_rules.specs.declared.request.Answer.TheVariants.{Done, Entered, Booked}
-use Rattle.pt_desk_rules.specs.declared.request.Read.{Read}
-use Rattle.pt_desk_rules.specs.declared.request.Request.{Request}
-use Rattle.pt_desk_rules.specs.declared.request.Request.TheVariants as request
-use Rattle.pt_desk_rules.specs.declared.request.Write.{Write}
-use Rattle.pt_desk_rules.specs.declared.request.Write.TheVariants as write
+use Rattle.pt_requests.specs.declared.request.Answer.{Answer}
+use Rattle.pt_requests.specs.declared.request.Answer.TheVariants.{Done, Entered, Booked}
+use Rattle.pt_requests.specs.declared.request.Read.{Read}
+use Rattle.pt_requests.specs.declared.request.Request.{Request}
+use Rattle.pt_requests.specs.declared.request.Request.TheVariants as request
+use Rattle.pt_requests.specs.declared.request.Write.{Write}
+use Rattle.pt_requests.specs.declared.request.Write.TheVariants as write
 
 -- what an accepted write is told
 abbrev pub is_of_write : Answer → Bool
@@ -34,7 +38,7 @@ is_of_write (Booked told) = true
 is_of_write _ = false
 
 -- an acceptance is told as that of a write
-abbrev IsOfWrite : Decision → Type 0
+abbrev pub IsOfWrite : Decision → Type 0
 IsOfWrite (decision.Denied first) = Unit {0}
 IsOfWrite (decision.Accepted told change) = is_of_write told ≡ true
 
@@ -51,28 +55,34 @@ cancel_is : (found : Option Trip) (kept : Kept) (facts : WriteFacts) (decided : 
 cancel_is None kept facts decided cancels = absurd cancels
 cancel_is (Some trip) kept facts decided is = subst IsOfWrite (sym is) refl
 
+end_is : (found : Option Trip) (outcome : Outcome) (kept : Kept) (decided : Decision) → IsEndDecided found outcome kept decided → IsOfWrite decided
+end_is None outcome kept decided ends = absurd ends
+end_is (Some trip) outcome kept decided is = subst IsOfWrite (sym is) refl
+
 decided_is : (asked : Write) (kept : Kept) (today : ℕ) (facts : WriteFacts) (decided : Decision) → IsDecidedBy asked kept today facts decided → IsOfWrite decided
 decided_is (write.Book rider wish) kept today facts decided is = booking_is (booked kept) (facts.booking.last_trip + 1) None today wish facts decided is
 decided_is (write.Change trip wish) kept today facts decided is = change_is facts.booking.trip wish kept today facts decided is
 decided_is (write.Cancel trip) kept today facts decided is = cancel_is facts.booking.trip kept facts decided is
+decided_is (write.Outcome trip outcome) kept today facts decided is = end_is facts.booking.trip outcome kept decided is
 decided_is _ kept today facts decided is = subst IsOfWrite (sym is) refl
 
-decision_is : (first : Option Rule) (asked : Write) (me : Caller) (now : ℕ × ℕ) (number : ℕ) (facts : WriteFacts) (decided : Decision)
-    → IsDecisionAfter first asked me now number facts decided → IsOfWrite decided
-decision_is (Some first) asked me now number facts decided is = subst IsOfWrite (sym is) tt
-decision_is None asked me now number facts decided is = decided_is asked (record { caller = me.id; number = number }) now.0 facts decided is
+pub decision_is : (first : Option Rule) (asked : Write) (me : Caller) (now : ℕ × ℕ) (sent : Sent) (facts : WriteFacts) (decided : Decision)
+    → IsDecisionAfter first asked me now sent facts decided → IsOfWrite decided
+decision_is (Some first) asked me now sent facts decided is = subst IsOfWrite (sym is) tt
+decision_is None asked me now sent facts decided is = decided_is asked (kept_in me.id sent decided) now.0 facts decided is
 
 denial_changes_nothing : (decided : Decision) (s : State) → IsOfWrite decided → is_of_write (told_of decided) ≡ false → left_of decided s ≡ None
 denial_changes_nothing (decision.Denied first) s is other = refl
 denial_changes_nothing (decision.Accepted told change) s is other = absurd (cc)
 
-write_commits_nothing : (fresh : Bool) (asked : Write) (me : Caller) (now : ℕ × ℕ) (number : ℕ) (s : State) (told : Answer) (left : Option State)
-    → IsOutcomeIf fresh asked me now number s told left → is_of_write told ≡ false → left ≡ None
-write_commits_nothing false asked me now number s told left (tells, leaves) other = leaves
-write_commits_nothing true asked me now number s told left (decided, is, made, tells, leaves) other =
+write_commits_nothing : (arrival : Arrival) (asked : Write) (me : Caller) (now : ℕ × ℕ) (number : ℕ) (s : State) (told : Answer) (left : Option State)
+    → IsOutcomeAs arrival asked me now number s told left → is_of_write told ≡ false → left ≡ None
+write_commits_nothing (Repeated reply) asked me now number s told left (tells, leaves) other = leaves
+write_commits_nothing Stale asked me now number s told left (tells, leaves) other = leaves
+write_commits_nothing New asked me now number s told left (decided, is, made, tells, leaves) other =
     let facts = facts_of asked s in
     leaves
-    ∙ denial_changes_nothing decided s (decision_is (first_failing (rules_of asked me now facts)) asked me now number facts decided is) (ap is_of_write (sym tells) ∙ other)
+    ∙ denial_changes_nothing decided s (decision_is (first_failing (rules_of asked me now facts)) asked me now (sent_with number asked) facts decided is) (ap is_of_write (sym tells) ∙ other)
 
 -- what is not told as an accepted write is, as a denial, commits nothing
 pub commits_nothing : (caller : Option Caller) (now : ℕ × ℕ) (number : ℕ) (asked : Request) (s : State) (told : Answer) (left : Option State)
@@ -80,7 +90,7 @@ pub commits_nothing : (caller : Option Caller) (now : ℕ × ℕ) (number : ℕ)
 commits_nothing None now number asked s told left (tells, leaves) other = leaves
 commits_nothing (Some me) now number (request.Read read) s told left (tells, leaves) other = leaves
 commits_nothing (Some me) now number (request.Write asked) s told left outcome other =
-    write_commits_nothing (is_new number me s) asked me now number s told left outcome other
+    write_commits_nothing (arrival_in s asked me number) asked me now number s told left outcome other
 
 -- nor does a read
 pub read_commits_nothing : (caller : Option Caller) (now : ℕ × ℕ) (number : ℕ) (asked : Read) (s : State) (told : Answer) (left : Option State)

@@ -35,7 +35,7 @@ pub put_stands : (trips : List Trip) (new : Trip) (key : ℕ) → stands new.sta
 put_stands trips new key standing at = (new, record_at-put_same trip_key new trips, standing, at)
 
 -- it has a number that was given
-stands_below : (last : ℕ) (trips : List Trip) (key number : ℕ) → Each (IsNumberedTo last) trips → StandsIn trips key number → number ≤ last
+pub stands_below : (last : ℕ) (trips : List Trip) (key number : ℕ) → Each (IsNumberedTo last) trips → StandsIn trips key number → number ≤ last
 stands_below last trips key number numbered (trip, there, standing, at) =
     subst (λ (n : ℕ). n ≤ last) (found_key trip_key number trip trips there) (Each-found (IsNumberedTo last) trip_key number trip trips numbered there)
 
@@ -50,7 +50,15 @@ plans_after last trips new plans is numbered each =
     (λ plan standing. Each-weaker (λ (stop : PlannedStop). StandsIn trips (plan_key plan) stop.trip) (λ (stop : PlannedStop). StandsIn (put trip_key new trips) (plan_key plan) stop.trip)
     (λ stop there. still_stands trips new (plan_key plan) stop.trip (is_later last stop.trip new.id (stands_below last trips (plan_key plan) stop.trip numbered there) is) there) plan.stops standing) plans each
 
-own_key : (k key : ℕ) → k ≡ key → not (is_within key (record { from = k; to = k })) ≡ true → ⊥
+-- a plan that has a stop of a trip is that of its vehicle and day
+pub place_of_old : (trips : List Trip) (old : Trip) (plan : Plan) (stop : PlannedStop) → stop.trip ≡ old.id
+    → record_at trip_key old.id trips ≡ Some old → StandsIn trips (plan_key plan) stop.trip
+    → pair_key old.vehicle old.wish.day ≡ plan_key plan
+place_of_old trips old plan stop same there (trip, found, standing, at) =
+    let one : trip ≡ old = same_Some trip old (sym found ∙ ap (λ (n : ℕ). record_at trip_key n trips) same ∙ there) in
+    sym (ap (λ (t : Trip). pair_key t.vehicle t.wish.day) one) ∙ at
+
+pub own_key : (k key : ℕ) → k ≡ key → not (is_within key (record { from = k; to = k })) ≡ true → ⊥
 own_key k key same left = grind (arith, nat_tests)
 
 -- where a trip is put over another and the other's plan is taken away, so do the plans that are left
@@ -59,12 +67,9 @@ pub plans_beside : (trips : List Trip) (old new : Trip) (plans : List Plan) → 
 plans_beside trips old new plans is there each =
     filter-gives (HasStandingTrips trips) (HasStandingTrips (put trip_key new trips)) (λ plan. not (is_within (plan_key plan) (plan_span old)))
     (λ plan standing left. Each-weaker (λ (stop : PlannedStop). StandsIn trips (plan_key plan) stop.trip) (λ (stop : PlannedStop). StandsIn (put trip_key new trips) (plan_key plan) stop.trip)
-    (λ stop on. still_stands trips new (plan_key plan) stop.trip (λ same. own_key (pair_key old.vehicle old.wish.day) (plan_key plan) (of_old plan stop (same ∙ is) on) left) on) plan.stops standing) plans each
-  where
-    of_old : (plan : Plan) (stop : PlannedStop) → stop.trip ≡ old.id → StandsIn trips (plan_key plan) stop.trip → pair_key old.vehicle old.wish.day ≡ plan_key plan
-    of_old plan stop same (trip, found, standing, at) =
-        let one : trip ≡ old = same_Some trip old (sym found ∙ ap (λ (n : ℕ). record_at trip_key n trips) same ∙ there) in
-        sym (ap (λ (t : Trip). pair_key t.vehicle t.wish.day) one) ∙ at
+    (λ stop on. still_stands trips new (plan_key plan) stop.trip
+    (λ same. own_key (pair_key old.vehicle old.wish.day) (plan_key plan)
+    (place_of_old trips old plan stop (same ∙ is) there on) left) on) plan.stops standing) plans each
 
 standing_found : (trips : List Trip) (key : ℕ) (plans : List Plan) (found : Option Plan) → record_at plan_key key plans ≡ found → Each (HasStandingTrips trips) plans
     → Each (λ stop. StandsIn trips key stop.trip) (stops_of_plan found)

@@ -9,11 +9,11 @@ use Rattle.pt_desk_rules.specs.Privacy.{AgreeOnTrips, TripsArePrivate}
 use Rattle.pt_desk_rules.specs.Rules.{read_rules}
 use Rattle.pt_desk_rules.specs.State.{State, rider_of}
 use Rattle.pt_desk_rules.specs.Step.{sender, IsOutcomeBy}
-use Rattle.pt_desk_rules.specs.declared.caller.Caller.{Caller}
+use Rattle.pt_requests.specs.declared.caller.Caller.{Caller}
 use Rattle.pt_desk_rules.specs.declared.facts.ReadFacts.{ReadFacts}
-use Rattle.pt_desk_rules.specs.declared.request.Answer.{Answer}
-use Rattle.pt_desk_rules.specs.declared.request.Read.TheVariants as read
-use Rattle.pt_desk_rules.specs.declared.request.Request.TheVariants as request
+use Rattle.pt_requests.specs.declared.request.Answer.{Answer}
+use Rattle.pt_requests.specs.declared.request.Read.TheVariants as read
+use Rattle.pt_requests.specs.declared.request.Request.TheVariants as request
 
 -- one thing is told of one rider's trips
 told_once : (first : Option Rule) (rider today : ℕ) (facts : ReadFacts) (told also : Answer) → IsToldAfter first (read.Trips rider) today facts told → IsToldAfter first (read.Trips rider) today facts also

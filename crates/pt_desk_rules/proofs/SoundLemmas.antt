@@ -32,11 +32,14 @@ use Rattle.pt_desk_rules.specs.Facts.{cancel_facts, change_facts, facts_of, has_
 use Rattle.pt_travel.specs.Chain.{Row}
 use Rattle.pt_desk_rules.proofs.FleetLemmas.{version_stays, fleet_stays}
 use Rattle.pt_desk_rules.specs.Fleet.{is_on_duty, on_duty, vehicle_count, versions_before, versions_of_others}
-use Rattle.pt_desk_rules.specs.Planned.{planned_on, trips_on}
+use Rattle.pt_desk_rules.specs.Planned.{is_booked_from, planned_on, trips_on}
 use Rattle.pt_desk_rules.specs.Travel.{DatedTable}
 use Rattle.pt_desk_rules.specs.Rules.{rules_of, entry_rules, is_nobody_else, is_of_kind, is_nobody_of_another_kind, are_there, has_room_for}
 use Rattle.pt_desk_rules.specs.Booking.{routes_on, IsBooking}
-use Rattle.pt_desk_rules.specs.Deciding.{booked, IsCancelDecided, IsChangeDecided, IsDecidedBy, IsDecisionAfter, IsMade, IsMadeIf}
+use Rattle.pt_rights.specs.declared.tally.Outcome.{Outcome}
+use Rattle.pt_desk_rules.specs.Outcomes.{awaits_outcome}
+use Rattle.pt_desk_rules.proofs.EndLemmas.{end_sound}
+use Rattle.pt_desk_rules.specs.Deciding.{booked, kept_in, IsCancelDecided, IsChangeDecided, IsEndDecided, IsDecidedBy, IsDecisionAfter, IsMade, IsMadeIf}
 use Rattle.pt_desk_rules.specs.Trips.{cancelled, plan_of_stops, plan_span}
 use Rattle.pt_booking.specs.Request as request_of
 use Rattle.pt_scheduling.specs.Plan.{Plan, plan_key, planned_stops, stops_of_plan, without, IsPlannedRoute, IsRoutePlan}
@@ -44,6 +47,12 @@ use Rattle.pt_scheduling.specs.Scheduling.{IsBookedIn}
 use Rattle.pt_scheduling.specs.declared.planned.PlannedStop.{PlannedStop}
 use Rattle.pt_scheduling.proofs.PlanLemmas.{any_kept, found_key}
 use Rattle.pt_scheduling.proofs.RouteLemmas.{booked_has, booked_keeps, booked_plan, booked_route, booked_trips, booked_vehicle, has_trip, left_has, left_route, planned_route, Each-found}
+use Rattle.pt_desk_rules.specs.Fleet.{ClosesInDay}
+use Rattle.pt_desk_rules.specs.Filed.{IsEntry, IsInPlace}
+use Rattle.pt_desk_rules.specs.Sound.{FitsIn, HasStops, HoldsFromDay, IsEntered}
+use Rattle.pt_desk_rules.proofs.FiledLemmas.{admitted_in_place, AllHold}
+use Rattle.pt_desk_rules.proofs.FitLemmas.{booked_fits, fit_after, fit_beside, has_stops, left_fits, left_has_stops}
+use Rattle.pt_desk_rules.proofs.FitLemmas.{travel_fits, vehicle_fits}
 use Rattle.pt_desk_rules.proofs.StandingLemmas.{each_found, has_on, plans_left, put_planned, same_place, stays_beside, stays_planned, trip_on, Each-put_over}
 use Rattle.pt_desk_rules.proofs.PlannedLemmas.{left_standing, plans_after, plans_beside, put_stands, standing_without}
 use Rattle.pt_scheduling.specs.declared.scheduling.Scheduled.TheVariants as scheduled
@@ -51,21 +60,24 @@ use Rattle.pt_base.specs.declared.trip.Trip.{Trip}
 use Rattle.pt_base.specs.declared.trip.Wish.{Wish}
 use Rattle.pt_records.specs.declared.span.Span.{Span}
 use Rattle.std.proofs.lemmas.Option.{same_Some}
-use Rattle.pt_desk_rules.specs.Step.{state_after, is_new, left_of, sender, IsOutcome, IsOutcomeBy, IsOutcomeIf}
+use Rattle.pt_desk_rules.specs.Step.{state_after, arrival_in, sent_with, left_of, sender, IsOutcome, IsOutcomeBy, IsOutcomeAs}
 use Rattle.pt_desk_rules.specs.Sound.{IsSound, IsNumberedTo, IsSoundFile, IsIn, HasDigest, HasOneHolder, HasSubject, IsOfCaller, IsResidentIn, IsOfResident, HasAuthor, HasFirstDay, HasDepot, HasDay, HasPlaces, HasStandingTrips, HasVehicle, IsOfPlaces, IsOfRider, IsOnDay, IsPlanned, StandsIn, AreNumberedFrom}
-use Rattle.pt_desk_rules.specs.declared.caller.Caller.{Caller}
-use Rattle.pt_desk_rules.specs.declared.caller.Kept.{Kept}
-use Rattle.pt_desk_rules.specs.declared.caller.Role.{Role}
-use Rattle.pt_desk_rules.specs.declared.caller.Role.TheVariants as role
+use Rattle.pt_requests.specs.declared.caller.Caller.{Caller}
+use Rattle.pt_desk_rules.specs.declared.kept.Arrival.{Arrival}
+use Rattle.pt_desk_rules.specs.declared.kept.Arrival.TheVariants.{New, Repeated, Stale}
+use Rattle.pt_desk_rules.specs.declared.kept.Kept.{Kept}
+use Rattle.pt_desk_rules.specs.declared.kept.Sent.{Sent}
+use Rattle.pt_requests.specs.declared.caller.Role.{Role}
+use Rattle.pt_requests.specs.declared.caller.Role.TheVariants as role
 use Rattle.pt_desk_rules.specs.declared.change.Change.{Change}
 use Rattle.pt_desk_rules.specs.declared.change.FiledEntry.{FiledEntry}
 use Rattle.pt_desk_rules.specs.declared.deciding.Decision.{Decision}
 use Rattle.pt_desk_rules.specs.declared.deciding.Decision.TheVariants.{Accepted}
-use Rattle.pt_desk_rules.specs.declared.request.Answer.{Answer}
-use Rattle.pt_desk_rules.specs.declared.request.Request.{Request}
-use Rattle.pt_desk_rules.specs.declared.request.Request.TheVariants as request
-use Rattle.pt_desk_rules.specs.declared.request.Write.{Write}
-use Rattle.pt_desk_rules.specs.declared.request.Write.TheVariants as write
+use Rattle.pt_requests.specs.declared.request.Answer.{Answer}
+use Rattle.pt_requests.specs.declared.request.Request.{Request}
+use Rattle.pt_requests.specs.declared.request.Request.TheVariants as request
+use Rattle.pt_requests.specs.declared.request.Write.{Write}
+use Rattle.pt_requests.specs.declared.request.Write.TheVariants as write
 
 held_by : (new x : Caller) (xs : List Caller) (b : Bool) → bytes_eq x.digest new.digest ≡ b → Each (HasOneHolder (x ∷ xs)) (x ∷ xs)
     → IsTrue (is_nobody_else new.id (cond b (Some x) (find (λ caller. bytes_eq caller.digest new.digest) xs)))
@@ -222,8 +234,9 @@ files_stay new entries order files at room rider =
     ]
 
 put_entry_sound : (new : FiledEntry) (s : State) → IsSound s → IsResidentIn s.riders new.rider → IsIn caller_key s.callers new.entered.author → new.position ≡ length (entries_of new.rider s.entries) → length (entries_of new.rider s.entries) < 200
-    → IsSound (record s { entries = put entry_key new s.entries })
-put_entry_sound new s sound resident author at room =
+    → IsEntered new → IsSound (record s { entries = put entry_key new s.entries })
+put_entry_sound new s sound resident author at room is =
+    let made = Each-put IsEntered entry_key new s.entries sound.entries_made is in
     let order = IsInOrder-put entry_key new s.entries sound.entries_in_order in
     let residents = Each-put (IsOfResident s.riders) entry_key new s.entries sound.entries_of_residents resident in
     let authors = Each-put (HasAuthor s.callers) entry_key new s.entries sound.authors_there author in
@@ -244,10 +257,6 @@ numbered_sound kept s sound there =
     let callers = Each-put (IsOfCaller s.callers) kept_key kept s.kept sound.kept_of_callers there in
     search rules
 
-abbrev AllHold : List (Rule × Bool) → Type 0
-AllHold [] = Unit {0}
-AllHold (first ∷ rest) = (first.1 ≡ true) × AllHold rest
-
 holds_first : (name : Rule) (holds : Bool) (rest : List (Rule × Bool)) → first_failing ((name, holds) ∷ rest) ≡ None → (holds ≡ true) × (first_failing rest ≡ None)
 holds_first name true rest none = (refl, none)
 holds_first name false rest none = absurd (cc)
@@ -262,13 +271,29 @@ admitted_resident : (found : Option Rider) (rider : ℕ) (entry : Entry) (me : C
 admitted_resident None rider entry me now s is there hold = absurd (cc)
 admitted_resident (Some found) rider entry me now s is there hold = (found, is, hold.0)
 
-enter_sound : (rider : ℕ) (entry : Entry) (me : Caller) (now : ℕ × ℕ) (s : State) → IsSound s → IsIn caller_key s.callers me.id → AllHold (rules_of (write.Enter rider entry) me now (facts_of (write.Enter rider entry) s))
+-- and it is in its place
+in_place : (found : Option Rider) (rider : ℕ) (entry : Entry) (me : Caller) (now : ℕ × ℕ) (s : State)
+    → is_some found ≡ true → AllHold (entry_rules found entry now.0 me.id (facts_of (write.Enter rider entry) s))
+    → IsInPlace (length (file_of rider s)) now.0 entry
+in_place None rider entry me now s there hold = absurd (cc)
+in_place (Some found) rider entry me now s there hold =
+    let facts = facts_of (write.Enter rider entry) s in
+    admitted_in_place facts.file entry now.0 me.id facts.tallies facts.policy hold.1
+
+enter_sound : (rider : ℕ) (entry : Entry) (me : Caller) (now : ℕ × ℕ) (s : State) → IsSound s
+    → IsIn caller_key s.callers me.id → AllHold (rules_of (write.Enter rider entry) me now
+    (facts_of (write.Enter rider entry) s)) → IsEntry entry → IsDay now.0
     → IsSound (record s { entries = put entry_key (record { rider = rider; position = length (file_of rider s); entered = record { entry = entry; day = now.0; author = me.id } }) s.entries })
-enter_sound rider entry me now s sound there hold =
+enter_sound rider entry me now s sound there hold is_entry on =
     let room = below_is (length (file_of rider s)) 200 hold.1.1.0 in
     let whole = whole_file rider s room in
     put_entry_sound (record { rider = rider; position = length (file_of rider s); entered = record { entry = entry; day = now.0; author = me.id } }) s sound
     (admitted_resident (rider_of rider s) rider entry me now s refl hold.1.0 hold.1.1.1) there whole (omega arith)
+    (record {
+      on_day = on;
+      ranges = is_entry;
+      in_place = in_place (rider_of rider s) rider entry me now s hold.1.0 hold.1.1.1;
+    })
 
 driver_stays : (new : Vehicle) (riders : List Rider) (vehicles : List Vehicle) (role : Role) → HasFirstDay new → Each HasFirstDay vehicles → IsTrue (has_subject role riders vehicles)
     → IsTrue (has_subject role riders (put vehicle_key new (take_away vehicle_key (versions_from new.id new.from_day) vehicles)))
@@ -280,32 +305,55 @@ driver_stays new riders vehicles role.Dispatcher day days there = there
 driver_stays new riders vehicles (role.Driver vehicle) day days there = version_stays new vehicle vehicles day days there
 driver_stays new riders vehicles role.Admin day days there = there
 
-put_vehicle_sound : (new : Vehicle) (s : State) → IsSound s → HasFirstDay new → HasDepot s.places new → IsTrue (has_room_for new s.vehicles)
+not_true : (b : Bool) → not b ≡ true → b ≡ false
+not_true true is = absurd (cc)
+not_true false is = refl
+
+put_vehicle_sound : (new : Vehicle) (s : State) → IsSound s → HasFirstDay new → ClosesInDay new
+    → HasDepot s.places new → is_booked_from (Some new.id) new.from_day s.trips ≡ false
+    → IsTrue (has_room_for new s.vehicles)
     → IsSound (record s { vehicles = put vehicle_key new (take_away vehicle_key (versions_from new.id new.from_day) s.vehicles) })
-put_vehicle_sound new s sound day depot room =
+put_vehicle_sound new s sound day closes depot free room =
     let kept = λ (version : Vehicle). not (is_within (vehicle_key version) (versions_from new.id new.from_day)) in
     let left = filter kept s.vehicles in
     let rooms = both_hold (nat_lt (length (versions_before new.id new.from_day s.vehicles)) 20) (nat_lt (vehicle_count (versions_of_others new.id s.vehicles)) 50) room in
     let order = IsInOrder-put vehicle_key new left (IsInOrder-filter vehicle_key kept s.vehicles sound.vehicles_in_order) in
     let days = Each-put HasFirstDay vehicle_key new left (Each-filter HasFirstDay kept s.vehicles sound.first_days) day in
+    let hours = Each-put ClosesInDay vehicle_key new left (Each-filter ClosesInDay kept s.vehicles sound.hours) closes
+    in
+    let fit = vehicle_fits new s sound day free in
     let depots = Each-put (HasDepot s.places) vehicle_key new left (Each-filter (HasDepot s.places) kept s.vehicles sound.depots_there) depot in
     let fleet = fleet_stays new s.vehicles day sound.first_days sound.fleet (below_is _ 20 rooms.0) (below_is _ 50 rooms.1) in
     let subjects = Each-weaker (HasSubject s.riders s.vehicles) (HasSubject s.riders (put vehicle_key new left)) (λ caller there. driver_stays new s.riders s.vehicles caller.role day sound.first_days there) s.callers sound.subjects_there in
     let trips = Each-weaker (HasVehicle s.vehicles) (HasVehicle (put vehicle_key new left)) (λ trip there. version_stays new trip.vehicle s.vehicles day sound.first_days there) s.trips sound.trip_vehicles_there in
     search rules
 
-put_travel_sound : (new : DatedTable) (s : State) → IsSound s → IsOfPlaces s.places new → IsTrue (nat_lt (length (tables_before new.from_day s.travel)) most_tables)
+put_travel_sound : (new : DatedTable) (s : State) → IsSound s → HoldsFromDay new → IsOfPlaces s.places new
+    → is_booked_from None new.from_day s.trips ≡ false
+    → IsTrue (nat_lt (length (tables_before new.from_day s.travel)) most_tables)
     → IsSound (record s { travel = put travel_key new (take_away travel_key (tables_from new.from_day) s.travel) })
-put_travel_sound new s sound is room =
+put_travel_sound new s sound day is free room =
+    let days = Each-put HoldsFromDay travel_key new (tables_before new.from_day s.travel)
+    (Each-filter HoldsFromDay (λ table. not (is_within (travel_key table) (tables_from new.from_day))) s.travel
+    sound.travel_days) day in
+    let fit = travel_fits new s sound free in
     let table = IsTable-replace travel_key (tables_from new.from_day) new s.travel most_tables sound.travel room in
     let of_places = Each-put (IsOfPlaces s.places) travel_key new (tables_before new.from_day s.travel)
     (Each-filter (IsOfPlaces s.places) (λ table. not (is_within (travel_key table) (tables_from new.from_day))) s.travel sound.travel_of_places) is in
     search rules
 
-accepted_sound : (asked : Write) (s : State) (decided : Decision) (told : Answer) (change : Change) → decided ≡ Accepted told change → IsMadeIf decided asked → (IsMade asked → IsSound (applied change s))
+accepted_on : (today : ℕ) (asked : Write) (s : State) (decided : Decision) (told : Answer) (change : Change)
+    → decided ≡ Accepted told change → IsMadeIf decided asked today
+    → (IsMade asked → IsDay today → IsSound (applied change s)) → IsSound (state_after (left_of decided s) s)
+accepted_on today asked s decided told change is made sound =
+    let both = subst (λ d. IsMadeIf d asked today) is made in
+    subst (λ d. IsSound (state_after (left_of d s) s)) (sym is) (sound both.0 both.1)
+
+accepted_sound : (today : ℕ) (asked : Write) (s : State) (decided : Decision) (told : Answer) (change : Change)
+    → decided ≡ Accepted told change → IsMadeIf decided asked today → (IsMade asked → IsSound (applied change s))
     → IsSound (state_after (left_of decided s) s)
-accepted_sound asked s decided told change is made sound =
-    subst (λ d. IsSound (state_after (left_of d s) s)) (sym is) (sound (subst (λ d. IsMadeIf d asked) is made))
+accepted_sound today asked s decided told change is made sound =
+    accepted_on today asked s decided told change is made (λ made on. sound made)
 
 -- a later number is given, and no trip had it
 numbered_on : (last next : ℕ) → last ≤ next → (trips : List Trip) → Each (IsNumberedTo last) trips → Each (IsNumberedTo next) trips
@@ -317,8 +365,12 @@ IsThere s trip = IsOfRider s.riders trip × HasPlaces s.places trip × HasVehicl
 
 book_sound : (trip : Trip) (plan : Plan) (s : State) → IsSound s → trip.id ≡ s.last_trip + 1 → IsThere s trip → IsRoutePlan plan → HasStandingTrips (put trip_key trip s.trips) plan
     → HasDay trip → IsOnDay plan → Each (IsPlanned (put plan_key plan s.planned)) (put trip_key trip s.trips)
+    → HasStops plan → FitsIn s.vehicles s.travel (put trip_key trip s.trips) plan
     → IsSound (record s { trips = put trip_key trip s.trips; planned = put plan_key plan s.planned; last_trip = trip.id })
-book_sound trip plan s sound is there route standing day on planned_all =
+book_sound trip plan s sound is there route standing day on planned_all some fits =
+    let have_stops = Each-put HasStops plan_key plan s.planned sound.planned_have_stops some in
+    let fit = Each-put (FitsIn s.vehicles s.travel (put trip_key trip s.trips)) plan_key plan s.planned
+    (fit_after trip s sound is) fits in
     let trips = IsInOrder-put trip_key trip s.trips sound.trips_in_order in
     let numbered = Each-put (IsNumberedTo trip.id) trip_key trip s.trips (numbered_on s.last_trip trip.id (omega arith) s.trips sound.trips_numbered) (omega arith) in
     let planned = IsInOrder-put plan_key plan s.planned sound.planned_in_order in
@@ -351,9 +403,16 @@ and_one P (first ∷ later) plan each holds = (each.0, and_one P later plan each
 
 edit_sound : (trip : Trip) (away : Span) (plans : List Plan) (s : State) → IsSound s → trip.id ≤ s.last_trip → IsThere s trip → Each IsRoutePlan plans
     → Each (HasStandingTrips (put trip_key trip s.trips)) plans → Each (HasStandingTrips (put trip_key trip s.trips)) (take_away plan_key away s.planned)
-    → HasDay trip → Each IsOnDay plans → Each (IsPlanned (put_all plan_key plans (take_away plan_key away s.planned))) (put trip_key trip s.trips)
+    → HasDay trip → Each IsOnDay plans → Each (IsPlanned (put_all plan_key plans (take_away plan_key away s.planned)))
+    (put trip_key trip s.trips) → Each HasStops plans
+    → Each (FitsIn s.vehicles s.travel (put trip_key trip s.trips)) plans
+    → Each (FitsIn s.vehicles s.travel (put trip_key trip s.trips)) (take_away plan_key away s.planned)
     → IsSound (record s { trips = put trip_key trip s.trips; planned = put_all plan_key plans (take_away plan_key away s.planned) })
-edit_sound trip away plans s sound below there new standing beside day on planned_all =
+edit_sound trip away plans s sound below there new standing beside day on planned_all some fits fits_beside =
+    let have_stops = put_all_each HasStops plans (take_away plan_key away s.planned) some
+    (Each-filter HasStops (λ plan. not (is_within (plan_key plan) away)) s.planned sound.planned_have_stops) in
+    let fit = put_all_each (FitsIn s.vehicles s.travel (put trip_key trip s.trips)) plans
+    (take_away plan_key away s.planned) fits fits_beside in
     let trips = IsInOrder-put trip_key trip s.trips sound.trips_in_order in
     let numbered = Each-put (IsNumberedTo s.last_trip) trip_key trip s.trips sound.trips_numbered below in
     let planned = put_all_order plans (take_away plan_key away s.planned) (IsInOrder-filter plan_key (λ plan. not (is_within (plan_key plan) away)) s.planned sound.planned_in_order) in
@@ -509,10 +568,10 @@ found_again : (id : ℕ) (trip : Trip) (trips : List Trip) → record_at trip_ke
 found_again id trip trips found = subst (λ (n : ℕ). record_at trip_key n trips ≡ Some trip) (sym (found_key trip_key id trip trips found)) found
 
 booking_sound : (kept : Kept) (today : ℕ) (rider : ℕ) (wish : Wish) (s : State) (decided : Decision) → IsSound s → IsIn caller_key s.callers kept.caller
-    → IsMadeIf decided (write.Book rider wish) → IsBooking (booked kept) (s.last_trip + 1) None today wish (facts_of (write.Book rider wish) s) decided → IsSound (state_after (left_of decided s) s)
+    → IsMadeIf decided (write.Book rider wish) today → IsBooking (booked kept) (s.last_trip + 1) None today wish (facts_of (write.Book rider wish) s) decided → IsSound (state_after (left_of decided s) s)
 booking_sound kept today rider wish s decided sound there made (scheduled.Denied rule, by, is) = subst (λ d. IsSound (state_after (left_of d s) s)) (sym is) sound
 booking_sound kept today rider wish s decided sound there made (scheduled.Booked trip plan, (request, asked, (minutes, times, (none, (chosen, at)))), (told, confirms, is)) =
-    let is_day : IsDay wish.day = subst (λ d. IsMadeIf d (write.Book rider wish)) is made in
+    let is_day : IsDay wish.day = (subst (λ d. IsMadeIf d (write.Book rider wish) today) is made).0 in
     let on = on_day request trip wish at.trip_of.wish asked.wished in
     let own : trip.id ≡ s.last_trip + 1 = at.trip_of.number ∙ asked.trip in
     subst (λ d. IsSound (state_after (left_of d s) s)) (sym is)
@@ -521,17 +580,21 @@ booking_sound kept today rider wish s decided sound there made (scheduled.Booked
     (booked_there minutes (s.last_trip + 1) wish.day request trip plan s sound asked.trip (chosen, at))
     (booked_stand minutes (s.last_trip + 1) wish.day request trip plan s sound asked.trip on (chosen, at))
     (subst IsDay (sym on) is_day) (plan_on_day minutes (s.last_trip + 1) wish.day request trip plan s on is_day (chosen, at))
-    (book_planned minutes wish.day request trip plan s sound asked.trip own on is_day (chosen, at))) there)
+    (book_planned minutes wish.day request trip plan s sound asked.trip own on is_day (chosen, at))
+    (has_stops trip.id plan.stops (booked_has_own minutes (s.last_trip + 1) wish.day request trip plan s asked.trip
+    own (chosen, at)))
+    (booked_fits minutes (s.last_trip + 1) wish.day request trip plan s sound asked.trip on is_day times
+    (chosen, at))) there)
 
 change_trip_sound : (kept : Kept) (today : ℕ) (found : Option Trip) (id : ℕ) (wish : Wish) (s : State) (decided : Decision) → IsSound s → IsIn caller_key s.callers kept.caller
-    → IsMadeIf decided (write.Change id wish) → trip_of id s ≡ found → IsChangeDecided found wish kept today (change_facts found wish s) decided → IsSound (state_after (left_of decided s) s)
+    → IsMadeIf decided (write.Change id wish) today → trip_of id s ≡ found → IsChangeDecided found wish kept today (change_facts found wish s) decided → IsSound (state_after (left_of decided s) s)
 change_trip_sound kept today None id wish s decided sound there made found changes = absurd changes
 change_trip_sound kept today (Some old) id wish s decided sound there made found (scheduled.Denied rule, by, is) = subst (λ d. IsSound (state_after (left_of d s) s)) (sym is) sound
 change_trip_sound kept today (Some old) id wish s decided sound there made found (scheduled.Booked trip plan, (request, asked, (minutes, times, (none, (chosen, at)))), (told, confirms, is)) =
     let left = without old.id (stops_of_plan (plan_for (Some old) s)) in
     let new = and_one IsRoutePlan (plan_of_stops old left) plan (left_routes old left (left_there old s sound)) (booked_there minutes old.id wish.day request trip plan s sound asked.trip (chosen, at)) in
     let number : trip.id ≡ old.id = at.trip_of.number ∙ asked.trip in
-    let is_day : IsDay wish.day = subst (λ d. IsMadeIf d (write.Change id wish)) is made in
+    let is_day : IsDay wish.day = (subst (λ d. IsMadeIf d (write.Change id wish) today) is made).0 in
     let on = on_day request trip wish at.trip_of.wish asked.wished in
     let old_day : HasDay old = Each-found HasDay trip_key id old s.trips sound.trip_days found in
     let here : record_at trip_key old.id s.trips ≡ Some old = found_again id old s.trips found in
@@ -544,7 +607,14 @@ change_trip_sound kept today (Some old) id wish s decided sound there made found
     (booked_is_there minutes old.id wish.day old.rider wish request trip plan s asked.trip asked.rider asked.from asked.to asked.wished (chosen, at)) new standing
     (plans_beside s.trips old trip s.planned number here sound.planned_trips_stand)
     (subst IsDay (sym on) is_day) (and_one IsOnDay (plan_of_stops old left) plan (left_on old left old_day) (plan_on_day minutes old.id wish.day request trip plan s on is_day (chosen, at)))
-    (change_planned minutes wish.day request old trip plan s sound old_day asked.trip number on is_day (chosen, at))) there)
+    (change_planned minutes wish.day request old trip plan s sound old_day asked.trip number on is_day (chosen, at))
+    (and_one HasStops (plan_of_stops old left) plan (left_has_stops old left)
+    (has_stops trip.id plan.stops (booked_has_own minutes old.id wish.day request trip plan s asked.trip number
+    (chosen, at))))
+    (and_one (FitsIn s.vehicles s.travel (put trip_key trip s.trips)) (plan_of_stops old left) plan
+    (left_fits old trip s sound old_day number)
+    (booked_fits minutes old.id wish.day request trip plan s sound asked.trip on is_day times (chosen, at)))
+    (fit_beside old trip s sound number here)) there)
 
 cancel_sound : (kept : Kept) (found : Option Trip) (id : ℕ) (s : State) (decided : Decision) → IsSound s → IsIn caller_key s.callers kept.caller
     → trip_of id s ≡ found → IsCancelDecided found kept (cancel_facts found s) decided → IsSound (state_after (left_of decided s) s)
@@ -563,10 +633,19 @@ cancel_sound kept (Some trip) id s decided sound there found is =
     (standing_without s.trips (cancelled trip) trip.id trip.vehicle trip.wish.day s.planned refl sound.planned_trips_stand))
     (plans_beside s.trips trip (cancelled trip) s.planned refl (found_again id trip s.trips found) sound.planned_trips_stand)
     (Each-found HasDay trip_key id trip s.trips sound.trip_days found) (left_on trip left (Each-found HasDay trip_key id trip s.trips sound.trip_days found))
-    (cancel_planned trip s sound (Each-found HasDay trip_key id trip s.trips sound.trip_days found))) there)
+    (cancel_planned trip s sound (Each-found HasDay trip_key id trip s.trips sound.trip_days found))
+    (left_has_stops trip left) (left_fits trip (cancelled trip) s sound
+    (Each-found HasDay trip_key id trip s.trips sound.trip_days found) refl)
+    (fit_beside trip (cancelled trip) s sound refl (found_again id trip s.trips found))) there)
+
+outcome_sound : (kept : Kept) (outcome : Outcome) (found : Option Trip) (id : ℕ) (s : State) (decided : Decision) → IsSound s → IsIn caller_key s.callers kept.caller
+    → trip_of id s ≡ found → IsTrue (awaits_outcome found) → IsEndDecided found outcome kept decided → IsSound (state_after (left_of decided s) s)
+outcome_sound kept outcome None id s decided sound there found booked ends = absurd ends
+outcome_sound kept outcome (Some trip) id s decided sound there found booked is =
+    subst (λ d. IsSound (state_after (left_of d s) s)) (sym is) (numbered_sound kept _ (end_sound outcome id trip s sound found booked) there)
 
 -- the facts of a change and of a cancellation have the trip that is there
-change_trip : (found : Option Trip) (wish : Wish) (s : State) → (change_facts found wish s).booking.trip ≡ found
+pub change_trip : (found : Option Trip) (wish : Wish) (s : State) → (change_facts found wish s).booking.trip ≡ found
 change_trip None wish s = refl
 change_trip (Some trip) wish s = refl
 
@@ -575,52 +654,59 @@ cancel_trip None s = refl
 cancel_trip (Some trip) s = refl
 
 -- what an accepted write makes of a sound state
-decided_sound : (asked : Write) (me : Caller) (now : ℕ × ℕ) (number : ℕ) (s : State) (decided : Decision) → IsSound s → IsIn caller_key s.callers me.id → AllHold (rules_of asked me now (facts_of asked s))
-    → IsDecidedBy asked (record { caller = me.id; number = number }) now.0 (facts_of asked s) decided → IsMadeIf decided asked → IsSound (state_after (left_of decided s) s)
-decided_sound (write.PutCaller new) me now number s decided sound there hold is made =
-    accepted_sound (write.PutCaller new) s decided _ _ is made (λ made. numbered_sound _ _ (put_caller_sound new s sound made hold.1.0 hold.1.1.0 hold.1.1.1.0) (stays_there caller_key me.id new s.callers there))
-decided_sound (write.PutPolicy new) me now number s decided sound there hold is made =
-    accepted_sound (write.PutPolicy new) s decided _ _ is made (λ made. numbered_sound _ _ (put_policy_sound new s sound) there)
-decided_sound (write.PutPlace new) me now number s decided sound there hold is made =
-    accepted_sound (write.PutPlace new) s decided _ _ is made (λ made. numbered_sound _ _ (put_place_sound new s sound hold.1.1.0) there)
-decided_sound (write.PutRoute new) me now number s decided sound there hold is made =
-    accepted_sound (write.PutRoute new) s decided _ _ is made (λ made. numbered_sound _ _ (put_route_sound new s sound made hold.1.0) there)
-decided_sound (write.PutRider new) me now number s decided sound there hold is made =
-    accepted_sound (write.PutRider new) s decided _ _ is made (λ made. numbered_sound _ _ (put_rider_sound new s sound hold.1.0 hold.1.1.0) there)
-decided_sound (write.Enter rider entry) me now number s decided sound there hold is made =
-    accepted_sound (write.Enter rider entry) s decided _ _ is made (λ made. numbered_sound _ _ (enter_sound rider entry me now s sound there hold) there)
-decided_sound (write.PutVehicle new) me now number s decided sound there hold is made =
-    accepted_sound (write.PutVehicle new) s decided _ _ is made (λ made. numbered_sound _ _ (put_vehicle_sound new s sound made hold.1.0 hold.1.1.1.0) there)
-decided_sound (write.Travel day rows) me now number s decided sound there hold is made =
-    accepted_sound (write.Travel day rows) s decided _ _ is made
-    (λ made. numbered_sound _ _ (put_travel_sound (record { from_day = day; rows = rows }) s sound (made.1, hold.1.0) hold.1.1.1.0) there)
-decided_sound (write.Book rider wish) me now number s decided sound there hold is made =
-    booking_sound (record { caller = me.id; number = number }) now.0 rider wish s decided sound there made is
-decided_sound (write.Change trip wish) me now number s decided sound there hold is made =
-    change_trip_sound (record { caller = me.id; number = number }) now.0 (trip_of trip s) trip wish s decided sound there made refl
-    (subst (λ f. IsChangeDecided f wish (record { caller = me.id; number = number }) now.0 (facts_of (write.Change trip wish) s) decided) (change_trip (trip_of trip s) wish s) is)
-decided_sound (write.Cancel trip) me now number s decided sound there hold is made =
-    cancel_sound (record { caller = me.id; number = number }) (trip_of trip s) trip s decided sound there refl
-    (subst (λ f. IsCancelDecided f (record { caller = me.id; number = number }) (facts_of (write.Cancel trip) s) decided) (cancel_trip (trip_of trip s) s) is)
+decided_sound : (asked : Write) (me : Caller) (now : ℕ × ℕ) (sent : Sent) (s : State) (decided : Decision) → IsSound s → IsIn caller_key s.callers me.id → AllHold (rules_of asked me now (facts_of asked s))
+    → IsDecidedBy asked (kept_in me.id sent decided) now.0 (facts_of asked s) decided → IsMadeIf decided asked now.0 → IsSound (state_after (left_of decided s) s)
+decided_sound (write.PutCaller new) me now sent s decided sound there hold is made =
+    accepted_sound now.0 (write.PutCaller new) s decided _ _ is made (λ made. numbered_sound _ _ (put_caller_sound new s sound made hold.1.0 hold.1.1.0 hold.1.1.1.0) (stays_there caller_key me.id new s.callers there))
+decided_sound (write.PutPolicy new) me now sent s decided sound there hold is made =
+    accepted_sound now.0 (write.PutPolicy new) s decided _ _ is made (λ made. numbered_sound _ _ (put_policy_sound new s sound) there)
+decided_sound (write.PutPlace new) me now sent s decided sound there hold is made =
+    accepted_sound now.0 (write.PutPlace new) s decided _ _ is made (λ made. numbered_sound _ _ (put_place_sound new s sound hold.1.1.0) there)
+decided_sound (write.PutRoute new) me now sent s decided sound there hold is made =
+    accepted_sound now.0 (write.PutRoute new) s decided _ _ is made (λ made. numbered_sound _ _ (put_route_sound new s sound made hold.1.0) there)
+decided_sound (write.PutRider new) me now sent s decided sound there hold is made =
+    accepted_sound now.0 (write.PutRider new) s decided _ _ is made (λ made. numbered_sound _ _ (put_rider_sound new s sound hold.1.0 hold.1.1.0) there)
+decided_sound (write.Enter rider entry) me now sent s decided sound there hold is made =
+    accepted_on now.0 (write.Enter rider entry) s decided _ _ is made
+    (λ made on. numbered_sound _ _ (enter_sound rider entry me now s sound there hold made on) there)
+decided_sound (write.PutVehicle new) me now sent s decided sound there hold is made =
+    accepted_sound now.0 (write.PutVehicle new) s decided _ _ is made
+    (λ made. numbered_sound _ _ (put_vehicle_sound new s sound made.0 made.1 hold.1.0
+    (not_true (is_booked_from (Some new.id) new.from_day s.trips) hold.1.1.0) hold.1.1.1.0) there)
+decided_sound (write.Travel day rows) me now sent s decided sound there hold is made =
+    accepted_sound now.0 (write.Travel day rows) s decided _ _ is made
+    (λ made. numbered_sound _ _ (put_travel_sound (record { from_day = day; rows = rows }) s sound made.0
+    (made.1, hold.1.0) (not_true (is_booked_from None day s.trips) hold.1.1.0) hold.1.1.1.0) there)
+decided_sound (write.Book rider wish) me now sent s decided sound there hold is made =
+    booking_sound (kept_in me.id sent decided) now.0 rider wish s decided sound there made is
+decided_sound (write.Change trip wish) me now sent s decided sound there hold is made =
+    change_trip_sound (kept_in me.id sent decided) now.0 (trip_of trip s) trip wish s decided sound there made refl
+    (subst (λ f. IsChangeDecided f wish (kept_in me.id sent decided) now.0 (facts_of (write.Change trip wish) s) decided) (change_trip (trip_of trip s) wish s) is)
+decided_sound (write.Cancel trip) me now sent s decided sound there hold is made =
+    cancel_sound (kept_in me.id sent decided) (trip_of trip s) trip s decided sound there refl
+    (subst (λ f. IsCancelDecided f (kept_in me.id sent decided) (facts_of (write.Cancel trip) s) decided) (cancel_trip (trip_of trip s) s) is)
+decided_sound (write.Outcome trip outcome) me now sent s decided sound there hold is made =
+    outcome_sound (kept_in me.id sent decided) outcome (trip_of trip s) trip s decided sound there refl hold.1.1.0 is
 
-after_sound : (asked : Write) (me : Caller) (now : ℕ × ℕ) (number : ℕ) (s : State) (first : Option Rule) (decided : Decision) → IsSound s → IsIn caller_key s.callers me.id
-    → first_failing (rules_of asked me now (facts_of asked s)) ≡ first → IsDecisionAfter first asked me now number (facts_of asked s) decided → IsMadeIf decided asked → IsSound (state_after (left_of decided s) s)
-after_sound asked me now number s (Some rule) decided sound there first is made = subst (λ d. IsSound (state_after (left_of d s) s)) (sym is) sound
-after_sound asked me now number s None decided sound there first is made =
-    decided_sound asked me now number s decided sound there (all_hold (rules_of asked me now (facts_of asked s)) first) is made
+after_sound : (asked : Write) (me : Caller) (now : ℕ × ℕ) (sent : Sent) (s : State) (first : Option Rule) (decided : Decision) → IsSound s → IsIn caller_key s.callers me.id
+    → first_failing (rules_of asked me now (facts_of asked s)) ≡ first → IsDecisionAfter first asked me now sent (facts_of asked s) decided → IsMadeIf decided asked now.0 → IsSound (state_after (left_of decided s) s)
+after_sound asked me now sent s (Some rule) decided sound there first is made = subst (λ d. IsSound (state_after (left_of d s) s)) (sym is) sound
+after_sound asked me now sent s None decided sound there first is made =
+    decided_sound asked me now sent s decided sound there (all_hold (rules_of asked me now (facts_of asked s)) first) is made
 
-write_sound : (asked : Write) (me : Caller) (now : ℕ × ℕ) (number : ℕ) (s : State) (fresh : Bool) (told : Answer) (left : Option State) → IsSound s → IsIn caller_key s.callers me.id
-    → IsOutcomeIf fresh asked me now number s told left → IsSound (state_after left s)
-write_sound asked me now number s true told left sound there (decided, is, made, tells, leaves) =
-    subst (λ l. IsSound (state_after l s)) (sym leaves) (after_sound asked me now number s (first_failing (rules_of asked me now (facts_of asked s))) decided sound there refl is made)
-write_sound asked me now number s false told left sound there (tells, leaves) = subst (λ l. IsSound (state_after l s)) (sym leaves) sound
+write_sound : (asked : Write) (me : Caller) (now : ℕ × ℕ) (number : ℕ) (s : State) (arrival : Arrival) (told : Answer) (left : Option State) → IsSound s → IsIn caller_key s.callers me.id
+    → IsOutcomeAs arrival asked me now number s told left → IsSound (state_after left s)
+write_sound asked me now number s New told left sound there (decided, is, made, tells, leaves) =
+    subst (λ l. IsSound (state_after l s)) (sym leaves) (after_sound asked me now (sent_with number asked) s (first_failing (rules_of asked me now (facts_of asked s))) decided sound there refl is made)
+write_sound asked me now number s (Repeated reply) told left sound there (tells, leaves) = subst (λ l. IsSound (state_after l s)) (sym leaves) sound
+write_sound asked me now number s Stale told left sound there (tells, leaves) = subst (λ l. IsSound (state_after l s)) (sym leaves) sound
 
 by_sound : (digest : List ℕ) (found : Option Caller) (now : ℕ × ℕ) (number : ℕ) (asked : Request) (s : State) (told : Answer) (left : Option State) → caller_with digest s ≡ found → IsSound s
     → IsOutcomeBy found now number asked s told left → IsSound (state_after left s)
 by_sound digest None now number asked s told left is sound (tells, leaves) = subst (λ l. IsSound (state_after l s)) (sym leaves) sound
 by_sound digest (Some me) now number (request.Read read) s told left is sound (tells, leaves) = subst (λ l. IsSound (state_after l s)) (sym leaves) sound
 by_sound digest (Some me) now number (request.Write asked) s told left is sound outcome =
-    write_sound asked me now number s (is_new number me s) told left sound (found_by_key caller_key (λ caller. bytes_eq caller.digest digest) me s.callers is) outcome
+    write_sound asked me now number s (arrival_in s asked me number) told left sound (found_by_key caller_key (λ caller. bytes_eq caller.digest digest) me s.callers is) outcome
 
 -- a request leaves a sound state where it finds one
 pub request_sound : (key : List ℕ) (now : ℕ × ℕ) (number : ℕ) (asked : Request) (s : State) (told : Answer) (left : Option State) → IsSound s → IsOutcome key now number asked s told left → IsSound (state_after left s)

@@ -22,8 +22,8 @@ use Rattle.pt_desk_rules.specs.declared.change.Change.{Change}
 use Rattle.pt_desk_rules.specs.declared.deciding.Decision.{Decision}
 use Rattle.pt_desk_rules.specs.declared.deciding.Decision.TheVariants.{Denied, Accepted}
 use Rattle.pt_desk_rules.specs.declared.facts.WriteFacts.{WriteFacts}
-use Rattle.pt_desk_rules.specs.declared.request.Answer.TheVariants as answer
-use Rattle.pt_desk_rules.specs.declared.request.Confirmation.{Confirmation}
+use Rattle.pt_requests.specs.declared.request.Answer.TheVariants as answer
+use Rattle.pt_requests.specs.declared.request.Confirmation.{Confirmation}
 
 -- the request that the facts make of a wish, for a trip of this number; an old trip that it stands for is left out of a
 -- visitor's days of use

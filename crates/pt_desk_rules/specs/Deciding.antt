@@ -1,5 +1,6 @@
 -- What the rules make of a request, by the facts alone.
 use Rattle.std.specs.Prelude.{◌≡◌, ℕ, ◌+◌, ◌<◌, ◌↔◌, Bool, IsTrue, List, length, Option, Some, None, is_some}
+use Rattle.std.specs.Option.{unwrap_or}
 use Rattle.pt_base.specs.Day.{IsDay}
 use Rattle.pt_base.specs.declared.rider.Residence.{Residence}
 use Rattle.pt_base.specs.declared.rider.Residence.TheVariants.{Resident, Visitor}
@@ -17,29 +18,51 @@ use Rattle.pt_scheduling.specs.Plan.{Plan}
 use Rattle.pt_scheduling.specs.Uses.{AreUses}
 use Rattle.pt_visitors.specs.Periods.{MayUse}
 use Rattle.pt_desk_rules.specs.Booking.{IsBooking}
+use Rattle.pt_desk_rules.specs.Filed.{IsEntry}
+use Rattle.pt_desk_rules.specs.Fleet.{ClosesInDay}
+use Rattle.pt_rights.specs.declared.tally.Outcome.{Outcome}
+use Rattle.pt_desk_rules.specs.Letters.{letter_at, IsToldLetter}
+use Rattle.pt_desk_rules.specs.Outcomes.{ended}
 use Rattle.pt_desk_rules.specs.State.{no_edit, puts_one, replaces, versions_from, tables_from}
 use Rattle.pt_desk_rules.specs.Rules.{rules_of, read_rules}
 use Rattle.pt_desk_rules.specs.Trips.{cancelled, gives_up, has_ends, moves_to}
 use Rattle.pt_desk_rules.specs.Limits.{last_trip_number}
-use Rattle.pt_desk_rules.specs.declared.caller.Caller.{Caller}
-use Rattle.pt_desk_rules.specs.declared.caller.Kept.{Kept}
+use Rattle.pt_requests.specs.declared.caller.Caller.{Caller}
+use Rattle.pt_desk_rules.specs.declared.kept.Kept.{Kept}
+use Rattle.pt_desk_rules.specs.declared.kept.Sent.{Sent}
+use Rattle.pt_spelling.specs.Replies.{reply_of}
+use Rattle.pt_spelling.specs.declared.replies.KeptReply.{KeptReply}
+use Rattle.pt_spelling.specs.declared.replies.KeptReply.TheVariants as reply
 use Rattle.pt_desk_rules.specs.declared.change.Change.{Change}
 use Rattle.pt_desk_rules.specs.declared.deciding.Decision.{Decision}
 use Rattle.pt_desk_rules.specs.declared.deciding.Decision.TheVariants.{Denied, Accepted}
 use Rattle.pt_desk_rules.specs.declared.facts.ReadFacts.{ReadFacts}
 use Rattle.pt_desk_rules.specs.declared.facts.WriteFacts.{WriteFacts}
-use Rattle.pt_desk_rules.specs.declared.request.Answer.{Answer}
-use Rattle.pt_desk_rules.specs.declared.request.Answer.TheVariants as answer
-use Rattle.pt_desk_rules.specs.declared.request.Read.{Read}
-use Rattle.pt_desk_rules.specs.declared.request.Read.TheVariants as read
-use Rattle.pt_desk_rules.specs.declared.request.Write.{Write}
-use Rattle.pt_desk_rules.specs.declared.request.Write.TheVariants as write
+use Rattle.pt_requests.specs.declared.request.Answer.{Answer}
+use Rattle.pt_requests.specs.declared.request.Answer.TheVariants as answer
+use Rattle.pt_requests.specs.declared.request.Read.{Read}
+use Rattle.pt_requests.specs.declared.request.Read.TheVariants as read
+use Rattle.pt_requests.specs.declared.request.Write.{Write}
+use Rattle.pt_requests.specs.declared.request.Write.TheVariants as write
 
--- a change of the kept number alone
-abbrev pub keeping : Kept → Change
-keeping kept = record {
+-- what is kept of a write by this caller, once it is told so
+abbrev pub kept_by : ℕ → Sent → KeptReply → Kept
+kept_by caller sent reply =
+    record { caller = caller; number = sent.number; request = sent.request; reply = reply }
+
+-- what an accepted write is told
+abbrev pub reply_in : Decision → KeptReply
+reply_in (Denied first) = reply.Done
+reply_in (Accepted told change) = unwrap_or (reply_of told) reply.Done
+
+-- what is kept of a write that is decided so
+abbrev pub kept_in : ℕ → Sent → Decision → Kept
+kept_in caller sent decided = kept_by caller sent (reply_in decided)
+
+abbrev pub no_change : Change
+no_change = record {
   callers = no_edit;
-  kept = puts_one kept;
+  kept = no_edit;
   policy = None;
   places = no_edit;
   routes = no_edit;
@@ -51,6 +74,10 @@ keeping kept = record {
   planned = no_edit;
   last_trip = None;
 }
+
+-- a change of what is kept of its write alone
+abbrev pub keeping : Kept → Change
+keeping kept = record no_change { kept = puts_one kept }
 
 -- what is made of a trip that is booked: the next number is given to it
 abbrev pub booked : Kept → Trip → Plan → Change
@@ -75,6 +102,12 @@ IsChangeDecided (Some trip) wish kept today facts decided =
 abbrev pub IsCancelDecided : Option Trip → Kept → WriteFacts → Decision → Type 0
 IsCancelDecided None kept facts decided = ⊥
 IsCancelDecided (Some trip) kept facts decided = decided ≡ Accepted answer.Done (given_up kept trip facts.booking.plan)
+
+-- the outcome of a trip that is there
+abbrev pub IsEndDecided : Option Trip → Outcome → Kept → Decision → Type 0
+IsEndDecided None outcome kept decided = ⊥
+IsEndDecided (Some trip) outcome kept decided =
+    decided ≡ Accepted answer.Done (record (keeping kept) { trips = puts_one (ended outcome trip) })
 
 -- What is decided on the day today where none of a write's own rules fails: what it is told, and what it changes. The
 -- rules of a trip that is asked for come after those.
@@ -108,6 +141,7 @@ IsDecidedBy (write.Book rider wish) kept today facts decided =
 IsDecidedBy (write.Change trip wish) kept today facts decided =
     IsChangeDecided facts.booking.trip wish kept today facts decided
 IsDecidedBy (write.Cancel trip) kept today facts decided = IsCancelDecided facts.booking.trip kept facts decided
+IsDecidedBy (write.Outcome trip outcome) kept today facts decided = IsEndDecided facts.booking.trip outcome kept decided
 
 -- where none of its own rules fails, what a trip needs is there
 abbrev pub IsReady : Write → WriteFacts → Type 0
@@ -116,37 +150,40 @@ IsReady (write.Book rider wish) facts =
 IsReady (write.Change trip wish) facts =
     IsTrue (is_some facts.booking.trip) × IsTrue (is_some facts.rider) × IsTrue (has_ends wish facts.places)
 IsReady (write.Cancel trip) facts = IsTrue (is_some facts.booking.trip)
+IsReady (write.Outcome trip outcome) facts = IsTrue (is_some facts.booking.trip)
 IsReady _ facts = Unit {0}
 
 -- the decision where the first failing of a write's own rules, if any, is this one
-abbrev pub IsDecisionAfter : Option Rule → Write → Caller → (ℕ × ℕ) → ℕ → WriteFacts → Decision → Type 0
-IsDecisionAfter (Some first) asked me now number facts decided = decided ≡ Denied first
-IsDecisionAfter None asked me now number facts decided =
-    IsDecidedBy asked (record { caller = me.id; number = number }) now.0 facts decided
+abbrev pub IsDecisionAfter : Option Rule → Write → Caller → (ℕ × ℕ) → Sent → WriteFacts → Decision → Type 0
+IsDecisionAfter (Some first) asked me now sent facts decided = decided ≡ Denied first
+IsDecisionAfter None asked me now sent facts decided =
+    IsDecidedBy asked (kept_in me.id sent decided) now.0 facts decided
 
 -- the decision on a write by this caller with a new number, at this moment
-abbrev pub IsDecision : Write → Caller → (ℕ × ℕ) → ℕ → WriteFacts → Decision → Type 0
-IsDecision asked me now number facts decided =
-    IsDecisionAfter (first_failing (rules_of asked me now facts)) asked me now number facts decided
+abbrev pub IsDecision : Write → Caller → (ℕ × ℕ) → Sent → WriteFacts → Decision → Type 0
+IsDecision asked me now sent facts decided =
+    IsDecisionAfter (first_failing (rules_of asked me now facts)) asked me now sent facts decided
 
--- A digest that is put has 32 bytes, a fixed route and a travel table are such, and days are days.
+-- A digest that is put has 32 bytes, a fixed route, a travel table and an entry are such, days are days, and a
+-- vehicle is back within its day.
 abbrev pub IsMade : Write → Type 0
 IsMade (write.PutCaller new) = length new.digest ≡ 32
 IsMade (write.PutPolicy new) = Unit {0}
 IsMade (write.PutPlace new) = Unit {0}
 IsMade (write.PutRoute new) = IsFixedRoute new
 IsMade (write.PutRider new) = Unit {0}
-IsMade (write.Enter rider entry) = Unit {0}
-IsMade (write.PutVehicle new) = IsDay new.from_day
+IsMade (write.Enter rider entry) = IsEntry entry
+IsMade (write.PutVehicle new) = IsDay new.from_day × ClosesInDay new
 IsMade (write.Travel day rows) = IsDay day × IsTable rows
 IsMade (write.Book rider wish) = IsDay wish.day
 IsMade (write.Change trip wish) = IsDay wish.day
 IsMade (write.Cancel trip) = Unit {0}
+IsMade (write.Outcome trip outcome) = Unit {0}
 
--- what is accepted is made
-abbrev pub IsMadeIf : Decision → Write → Type 0
-IsMadeIf (Denied first) asked = Unit {0}
-IsMadeIf (Accepted answer change) asked = IsMade asked
+-- what is accepted is made, on a day
+abbrev pub IsMadeIf : Decision → Write → ℕ → Type 0
+IsMadeIf (Denied first) asked today = Unit {0}
+IsMadeIf (Accepted answer change) asked today = IsMade asked × IsDay today
 
 -- what is told of a rider of this kind on a day: of a visitor, whether the day may be used beside the days of the
 -- visitor's trips (37.127(e)); of a resident, what the case file gives
@@ -167,6 +204,8 @@ abbrev pub IsToldRead : Read → ℕ → ReadFacts → Answer → Type 0
 IsToldRead (read.Standing rider day) today facts told =
     IsToldStanding facts.rider facts.file facts.trips today day told
 IsToldRead (read.Trips rider) today facts told = told ≡ answer.Trips facts.trips
+IsToldRead (read.Letter rider position) today facts told = IsToldLetter (letter_at facts.rider facts.file position) told
+IsToldRead (read.Export day) today facts told = told ≡ answer.Export facts.trips
 
 -- what a read is told where the first failing rule, if any, is this one
 abbrev pub IsToldAfter : Option Rule → Read → ℕ → ReadFacts → Answer → Type 0

@@ -7,20 +7,25 @@ use Rattle.pt_base.specs.declared.trip.Wish.{Wish}
 use Rattle.pt_base.specs.declared.vehicle.Vehicle.{Vehicle}
 use Rattle.pt_records.specs.Records.{record_at}
 use Rattle.pt_desk_rules.specs.Fleet.{has_version}
+use Rattle.pt_rights.specs.declared.entry.Entry.{Entry}
+use Rattle.pt_rights.specs.declared.entry.Entry.TheVariants as entry
+use Rattle.pt_rights.specs.declared.tally.Tally.{Tally}
+use Rattle.pt_desk_rules.specs.Outcomes.{tallies_of}
 use Rattle.pt_desk_rules.specs.Planned.{is_booked_from, planned_on, trips_of, trips_on}
-use Rattle.pt_desk_rules.specs.State.{State, caller_with, caller_of, place_of, plan_of, route_of, rider_of, trip_of, file_of, rider_key, tables_before}
+use Rattle.pt_desk_rules.specs.State.{State, caller_with, caller_of, place_of, plan_of, route_of, rider_of}
+use Rattle.pt_desk_rules.specs.State.{trip_of, file_of, rider_key, tables_before}
 use Rattle.pt_desk_rules.specs.Travel.{table_on}
-use Rattle.pt_desk_rules.specs.declared.caller.Role.{Role}
-use Rattle.pt_desk_rules.specs.declared.caller.Role.TheVariants as role
+use Rattle.pt_requests.specs.declared.caller.Role.{Role}
+use Rattle.pt_requests.specs.declared.caller.Role.TheVariants as role
 use Rattle.pt_scheduling.specs.Plan.{Plan}
 use Rattle.pt_desk_rules.specs.declared.facts.BookingFacts.{BookingFacts}
 use Rattle.pt_desk_rules.specs.declared.facts.DayFacts.{DayFacts}
 use Rattle.pt_desk_rules.specs.declared.facts.ReadFacts.{ReadFacts}
 use Rattle.pt_desk_rules.specs.declared.facts.WriteFacts.{WriteFacts}
-use Rattle.pt_desk_rules.specs.declared.request.Read.{Read}
-use Rattle.pt_desk_rules.specs.declared.request.Read.TheVariants as read
-use Rattle.pt_desk_rules.specs.declared.request.Write.{Write}
-use Rattle.pt_desk_rules.specs.declared.request.Write.TheVariants as write
+use Rattle.pt_requests.specs.declared.request.Read.{Read}
+use Rattle.pt_requests.specs.declared.request.Read.TheVariants as read
+use Rattle.pt_requests.specs.declared.request.Write.{Write}
+use Rattle.pt_requests.specs.declared.request.Write.TheVariants as write
 
 -- nothing planned
 abbrev pub no_day : DayFacts
@@ -44,6 +49,7 @@ no_facts policy = record {
   rider = None;
   rider_count = 0;
   file = [];
+  tallies = [];
   caller = None;
   holder = None;
   caller_count = 0;
@@ -105,6 +111,15 @@ cancel_facts (Some trip) s = record (no_facts s.policy) {
   booking = record no_booking { trip = Some trip; plan = plan_for (Some trip) s };
 }
 
+-- a notice looks at the outcomes of the rider's trips (37.125(h)), and no other entry does
+abbrev pub tallies_for : Entry → ℕ → State → List Tally
+tallies_for (entry.Notice basis) rider s = tallies_of (trips_of rider s.trips)
+tallies_for _ rider s = []
+
+-- what an outcome looks at: its trip
+abbrev pub trip_facts : ℕ → State → WriteFacts
+trip_facts trip s = record (no_facts s.policy) { booking = record no_booking { trip = trip_of trip s } }
+
 -- what the state says on what a write's rules look at
 abbrev pub facts_of : Write → State → WriteFacts
 facts_of (write.PutCaller new) s = record (no_facts s.policy) {
@@ -120,8 +135,11 @@ facts_of (write.PutRoute new) s =
     record (no_facts s.policy) { has_route = is_some (route_of new.id s); route_count = length s.routes }
 facts_of (write.PutRider new) s =
     record (no_facts s.policy) { rider = rider_of new.id s; rider_count = length s.riders }
-facts_of (write.Enter rider entry) s =
-    record (no_facts s.policy) { rider = rider_of rider s; file = file_of rider s }
+facts_of (write.Enter rider entry) s = record (no_facts s.policy) {
+  rider = rider_of rider s;
+  file = file_of rider s;
+  tallies = tallies_for entry rider s;
+}
 facts_of (write.PutVehicle new) s = record (no_facts s.policy) {
   has_place = is_some (place_of new.depot s);
   vehicles = s.vehicles;
@@ -135,9 +153,12 @@ facts_of (write.Travel day rows) s = record (no_facts s.policy) {
 facts_of (write.Book rider wish) s = wish_facts rider wish None s
 facts_of (write.Change trip wish) s = change_facts (trip_of trip s) wish s
 facts_of (write.Cancel trip) s = cancel_facts (trip_of trip s) s
+facts_of (write.Outcome trip outcome) s = trip_facts trip s
 
 -- and on what a read's rules look at
 abbrev pub read_facts_of : Read → State → ReadFacts
 read_facts_of (read.Standing rider day) s =
     record { rider = rider_of rider s; file = file_of rider s; trips = trips_of rider s.trips }
 read_facts_of (read.Trips rider) s = record { rider = rider_of rider s; file = []; trips = trips_of rider s.trips }
+read_facts_of (read.Letter rider position) s = record { rider = rider_of rider s; file = file_of rider s; trips = [] }
+read_facts_of (read.Export day) s = record { rider = None; file = []; trips = trips_on day s.trips }

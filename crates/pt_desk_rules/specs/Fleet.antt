@@ -1,9 +1,15 @@
 -- The agency's vehicles, each from day to day: a version of a vehicle is in force from its day until the next one's.
-use Rattle.std.specs.Prelude.{ℕ, ◌+◌, ◌==◌, ◌&&◌, nat_le, nat_lt, Bool, false, not, if◌then◌else◌, List, [], ◌∷◌, filter, slice_get}
+use Rattle.std.specs.Prelude.{ℕ, ◌+◌, ◌≤◌, ◌==◌, ◌&&◌, nat_le, nat_lt, Bool, false, not, if◌then◌else◌, List, []}
+use Rattle.std.specs.Prelude.{◌∷◌, filter, slice_get}
 use Rattle.std.specs.Option.{unwrap_or}
 use Rattle.std.specs.List.{list_any}
 use Rattle.pt_base.specs.Day.{weekday_of}
+use Rattle.pt_base.specs.Ranges.{last_minute}
 use Rattle.pt_base.specs.declared.vehicle.Vehicle.{Vehicle}
+
+-- it is back by the last minute of the day
+abbrev pub ClosesInDay : Vehicle → Type 0
+ClosesInDay version = version.closes ≤ last_minute
 
 -- some version of this vehicle is among these
 abbrev pub has_version : ℕ → List Vehicle → Bool

@@ -5,10 +5,15 @@ pub mod Fleet
 pub mod Permission
 pub mod Rules
 pub mod Deciding
+pub mod Arrival
 pub mod Step
 pub mod Sound
 pub mod Planned
 pub mod Travel
 pub mod Trips
+pub mod Filed
+pub mod Outcomes
+pub mod Letters
 pub mod Booking
 pub mod Privacy
+pub mod Numbers

@@ -4,8 +4,8 @@ use Rattle.pt_base.specs.declared.rider.Rider.{Rider}
 use Rattle.pt_base.specs.declared.trip.Trip.{Trip}
 use Rattle.pt_rights.specs.declared.entry.Entry.{Entry}
 use Rattle.pt_rights.specs.declared.entry.Entry.TheVariants as entry
-use Rattle.pt_desk_rules.specs.declared.caller.Role.{Role}
-use Rattle.pt_desk_rules.specs.declared.caller.Role.TheVariants as role
+use Rattle.pt_requests.specs.declared.caller.Role.{Role}
+use Rattle.pt_requests.specs.declared.caller.Role.TheVariants as role
 
 -- the caller is the admin
 abbrev pub is_admin : Role → Bool
@@ -77,6 +77,17 @@ abbrev pub is_counter : Role → Bool
 is_counter role.Clerk = true
 is_counter role.Dispatcher = true
 is_counter _ = false
+
+-- a dispatcher, or the driver of this vehicle
+abbrev pub may_run : ℕ → Role → Bool
+may_run vehicle (role.Driver own) = own == vehicle
+may_run vehicle role.Dispatcher = true
+may_run vehicle _ = false
+
+-- a trip that is not there is nobody's own
+abbrev pub may_end : Option Trip → Role → Bool
+may_end None role = is_dispatcher role
+may_end (Some trip) role = may_run trip.vehicle role
 
 -- a trip that is not there is nobody's own
 abbrev pub may_alter : Option Trip → Option Rider → Role → Bool

@@ -1,5 +1,6 @@
 -- The rules of each request by whoever sent it, in the order in which they are tried.
-use Rattle.std.specs.Prelude.{ℕ, Bool, true, false, not, ◌==◌, ◌&&◌, ◌||◌, nat_lt, List, [], ◌∷◌, length, Option, Some, None, is_some}
+use Rattle.std.specs.Prelude.{ℕ, Bool, true, false, not, ◌==◌, ◌&&◌, ◌||◌, nat_lt, List, [], ◌∷◌, length}
+use Rattle.std.specs.Prelude.{Option, Some, None, is_some}
 use Rattle.std.specs.List.{list_all}
 use Rattle.pt_base.specs.declared.place.Place.{Place}
 use Rattle.pt_base.specs.declared.rider.Residence.{Residence}
@@ -13,17 +14,21 @@ use Rattle.pt_rights.specs.Admission.{admission_rules, is_resident}
 use Rattle.pt_rights.specs.declared.entry.Entry.{Entry}
 use Rattle.pt_travel.specs.Chain.{Row}
 use Rattle.pt_desk_rules.specs.Fleet.{vehicle_count, versions_before, versions_of_others}
-use Rattle.pt_desk_rules.specs.Limits.{most_callers, most_places, most_routes, most_riders, most_entries, most_vehicles, most_versions, most_tables, last_trip_number}
-use Rattle.pt_desk_rules.specs.Permission.{is_admin, is_clerk, is_dispatcher, may_alter, may_book, may_enter, may_see_standing}
+use Rattle.pt_desk_rules.specs.Limits.{most_callers, most_places, most_routes, most_riders, most_entries}
+use Rattle.pt_desk_rules.specs.Limits.{most_vehicles, most_versions, most_tables, last_trip_number}
+use Rattle.pt_desk_rules.specs.Letters.{letter_at}
+use Rattle.pt_desk_rules.specs.Outcomes.{awaits_outcome, has_come}
+use Rattle.pt_desk_rules.specs.Permission.{is_admin, is_clerk, is_dispatcher, may_alter, may_book, may_end, may_enter}
+use Rattle.pt_desk_rules.specs.Permission.{may_see_standing}
 use Rattle.pt_desk_rules.specs.State.{place_key}
 use Rattle.pt_desk_rules.specs.Trips.{has_ends, is_cancellable, is_changeable}
-use Rattle.pt_desk_rules.specs.declared.caller.Caller.{Caller}
+use Rattle.pt_requests.specs.declared.caller.Caller.{Caller}
 use Rattle.pt_desk_rules.specs.declared.facts.ReadFacts.{ReadFacts}
 use Rattle.pt_desk_rules.specs.declared.facts.WriteFacts.{WriteFacts}
-use Rattle.pt_desk_rules.specs.declared.request.Read.{Read}
-use Rattle.pt_desk_rules.specs.declared.request.Read.TheVariants as read
-use Rattle.pt_desk_rules.specs.declared.request.Write.{Write}
-use Rattle.pt_desk_rules.specs.declared.request.Write.TheVariants as write
+use Rattle.pt_requests.specs.declared.request.Read.{Read}
+use Rattle.pt_requests.specs.declared.request.Read.TheVariants as read
+use Rattle.pt_requests.specs.declared.request.Write.{Write}
+use Rattle.pt_requests.specs.declared.request.Write.TheVariants as write
 
 -- each place of the rows is among these
 abbrev pub are_there : List Row → List Place → Bool
@@ -51,11 +56,11 @@ abbrev pub is_nobody_of_another_kind : Residence → Option Rider → Bool
 is_nobody_of_another_kind kind None = true
 is_nobody_of_another_kind kind (Some there) = is_of_kind kind there
 
--- an entry's own rules, by this author on the day today, for the rider who was found; no trip has an outcome yet
+-- an entry's own rules, by this author on the day today, for the rider who was found
 abbrev pub entry_rules : Option Rider → Entry → ℕ → ℕ → WriteFacts → List (Rule × Bool)
 entry_rules None entry today author facts = []
 entry_rules (Some there) entry today author facts =
-    admission_rules facts.file there entry today author [] facts.policy
+    admission_rules facts.file there entry today author facts.tallies facts.policy
 
 -- the rules of a write by this caller at this moment, each with whether it holds
 abbrev pub rules_of : Write → Caller → (ℕ × ℕ) → WriteFacts → List (Rule × Bool)
@@ -113,6 +118,12 @@ rules_of (write.Cancel trip) me now facts =
     ∷ (rule.Unknown, is_some facts.booking.trip)
     ∷ (rule.Over, is_cancellable now facts.booking.trip)
     ∷ []
+rules_of (write.Outcome trip outcome) me now facts =
+    (rule.Caller, may_end facts.booking.trip me.role)
+    ∷ (rule.Unknown, is_some facts.booking.trip)
+    ∷ (rule.Over, awaits_outcome facts.booking.trip)
+    ∷ (rule.Early, has_come now.0 facts.booking.trip)
+    ∷ []
 
 -- the rules of a read by this caller
 abbrev pub read_rules : Read → Caller → ReadFacts → List (Rule × Bool)
@@ -124,3 +135,8 @@ read_rules (read.Trips rider) me facts =
     (rule.Caller, may_book rider facts.rider me.role)
     ∷ (rule.Unknown, is_some facts.rider)
     ∷ []
+read_rules (read.Letter rider position) me facts =
+    (rule.Caller, may_see_standing rider facts.rider me.role)
+    ∷ (rule.Unknown, is_some (letter_at facts.rider facts.file position))
+    ∷ []
+read_rules (read.Export day) me facts = (rule.Caller, is_dispatcher me.role) ∷ []

@@ -1,6 +1,6 @@
 -- The states that the desk may be in: its limits, its orders and its references are kept.
 use Rattle.std.specs.List.{list_any}
-use Rattle.std.specs.Prelude.{◌≡◌, ℕ, ◌+◌, ◌≤◌, ◌==◌, IsTrue, List, [], ◌∷◌, length, Some, is_some}
+use Rattle.std.specs.Prelude.{◌≡◌, ℕ, ◌+◌, ◌<◌, ◌≤◌, ◌==◌, IsTrue, List, [], ◌∷◌, length, Any, Option, Some, is_some}
 use Rattle.pt_base.specs.Day.{IsDay}
 use Rattle.pt_base.specs.TripStatus.{stands}
 use Rattle.pt_base.specs.declared.place.Place.{Place}
@@ -8,19 +8,26 @@ use Rattle.pt_base.specs.declared.rider.Rider.{Rider}
 use Rattle.pt_base.specs.declared.trip.Trip.{Trip}
 use Rattle.pt_base.specs.declared.vehicle.Vehicle.{Vehicle}
 use Rattle.pt_corridor.specs.Route.{IsFixedRoute}
+use Rattle.pt_feasible.specs.declared.stop.Stop.{Stop}
 use Rattle.pt_records.specs.Keys.{pair_key}
 use Rattle.pt_records.specs.Records.{Each, IsInOrder, IsTable, record_at}
 use Rattle.pt_rights.specs.Admission.{is_resident}
-use Rattle.pt_scheduling.specs.Plan.{Plan, plan_key, planned_stops, IsRoutePlan}
+use Rattle.pt_scheduling.specs.Plan.{Plan, plan_key, planned_stops, stops_among, IsRoutePlan}
+use Rattle.pt_scheduling.specs.Routes.{IsFeasible}
+use Rattle.pt_travel.specs.Chain.{Row}
 use Rattle.pt_travel.specs.Table as Travel
-use Rattle.pt_desk_rules.specs.Limits.{most_callers, most_places, most_routes, most_riders, most_entries, most_vehicles, most_versions, most_tables}
-use Rattle.pt_desk_rules.specs.State.{State, caller_key, kept_key, place_key, route_key, rider_key, entry_key, vehicle_key, travel_key, trip_key, entries_of}
+use Rattle.pt_desk_rules.specs.Limits.{most_callers, most_places, most_routes, most_riders, most_entries}
+use Rattle.pt_desk_rules.specs.Limits.{most_vehicles, most_versions, most_tables}
+use Rattle.pt_desk_rules.specs.State.{State, caller_key, kept_key, place_key, route_key, rider_key, entry_key}
+use Rattle.pt_desk_rules.specs.State.{vehicle_key, travel_key, trip_key, entries_of}
 use Rattle.pt_desk_rules.specs.Facts.{has_subject}
-use Rattle.pt_desk_rules.specs.Fleet.{has_version, vehicle_count, versions_of}
+use Rattle.pt_desk_rules.specs.Filed.{IsEntry, IsInPlace}
+use Rattle.pt_desk_rules.specs.Booking.{rows_of, AreTimes}
+use Rattle.pt_desk_rules.specs.Fleet.{has_version, on_duty, vehicle_count, versions_of, ClosesInDay}
 use Rattle.pt_desk_rules.specs.Rules.{are_there}
-use Rattle.pt_desk_rules.specs.Travel.{DatedTable}
-use Rattle.pt_desk_rules.specs.declared.caller.Caller.{Caller}
-use Rattle.pt_desk_rules.specs.declared.caller.Kept.{Kept}
+use Rattle.pt_desk_rules.specs.Travel.{table_on, DatedTable}
+use Rattle.pt_requests.specs.declared.caller.Caller.{Caller}
+use Rattle.pt_desk_rules.specs.declared.kept.Kept.{Kept}
 use Rattle.pt_desk_rules.specs.declared.change.FiledEntry.{FiledEntry}
 
 -- a record with this key is there
@@ -54,6 +61,12 @@ IsOfResident riders filed = IsResidentIn riders filed.rider
 abbrev pub HasAuthor : List Caller → FiledEntry → Type 0
 HasAuthor callers filed = IsIn caller_key callers filed.entered.author
 
+-- its day is one, and it keeps to its ranges, and to its rules at its position and on its day
+pub record IsEntered (filed : FiledEntry) : Type 0 where
+  pub on_day : IsDay filed.entered.day
+  pub ranges : IsEntry filed.entered.entry
+  pub in_place : IsInPlace filed.position filed.entered.day filed.entered.entry
+
 -- the positions of these entries count up from this number, with no gap
 abbrev pub AreNumberedFrom : ℕ → List FiledEntry → Type 0
 AreNumberedFrom n [] = Unit {0}
@@ -76,6 +89,10 @@ HasDepot places version = IsIn place_key places version.depot
 pub record IsFleet (vehicles : List Vehicle) : Type 0 where
   pub few : vehicle_count vehicles ≤ most_vehicles
   pub few_versions : (id : ℕ) → length (versions_of id vehicles) ≤ most_versions
+
+-- a table's first day is a day
+abbrev pub HoldsFromDay : DatedTable → Type 0
+HoldsFromDay table = IsDay table.from_day
 
 -- the rows are a travel table's, and name places that are there
 abbrev pub IsOfPlaces : List Place → DatedTable → Type 0
@@ -120,6 +137,25 @@ abbrev pub IsPlanned : List Plan → Trip → Type 0
 IsPlanned plans trip = IsTrue (stands trip.status) →
     IsTrue (list_any (λ stop. stop.trip == trip.id) (planned_stops trip.vehicle trip.wish.day plans))
 
+-- a plan has stops
+abbrev pub HasStops : Plan → Type 0
+HasStops plan = 0 < length plan.stops
+
+-- by the driving times of these rows the vehicle can drive the stops
+abbrev pub CanDrive : List Row → List Stop → Vehicle → Type 0
+CanDrive rows stops vehicle =
+    (minutes : ℕ → ℕ → Option ℕ) × AreTimes rows minutes × IsFeasible minutes vehicle stops
+
+-- the version of this vehicle that is on duty on this day can drive the stops by the travel table that holds then
+abbrev pub CanServe : List Vehicle → List DatedTable → ℕ → ℕ → List Stop → Type 0
+CanServe vehicles travel id day stops =
+    Any (λ version. (version.id ≡ id) × CanDrive (rows_of (table_on day travel)) stops version) (on_duty day vehicles)
+
+-- the vehicle of a plan can drive the stops of its trips on its day
+abbrev pub FitsIn : List Vehicle → List DatedTable → List Trip → Plan → Type 0
+FitsIn vehicles travel trips plan =
+    CanServe vehicles travel plan.vehicle plan.day (stops_among trips plan.stops)
+
 -- Each line speaks of the tables that it needs and of no other, so that a write of another table leaves it as it is.
 -- The ranges of a place, a vehicle, a trip and the policy are fields of their records, so that every state keeps them.
 pub record IsSound (s : State) : Type 0 where
@@ -136,12 +172,15 @@ pub record IsSound (s : State) : Type 0 where
   pub entries_in_order : IsInOrder entry_key s.entries
   pub entries_of_residents : Each (IsOfResident s.riders) s.entries
   pub authors_there : Each (HasAuthor s.callers) s.entries
+  pub entries_made : Each IsEntered s.entries
   pub files : (rider : ℕ) → IsSoundFile (entries_of rider s.entries)
   pub vehicles_in_order : IsInOrder vehicle_key s.vehicles
   pub first_days : Each HasFirstDay s.vehicles
+  pub hours : Each ClosesInDay s.vehicles
   pub depots_there : Each (HasDepot s.places) s.vehicles
   pub fleet : IsFleet s.vehicles
   pub travel : IsTable travel_key most_tables s.travel
+  pub travel_days : Each HoldsFromDay s.travel
   pub travel_of_places : Each (IsOfPlaces s.places) s.travel
   pub trips_in_order : IsInOrder trip_key s.trips
   pub trips_numbered : Each (IsNumberedTo s.last_trip) s.trips
@@ -153,4 +192,6 @@ pub record IsSound (s : State) : Type 0 where
   pub planned_routes : Each IsRoutePlan s.planned
   pub planned_trips_stand : Each (HasStandingTrips s.trips) s.planned
   pub planned_days : Each IsOnDay s.planned
+  pub planned_have_stops : Each HasStops s.planned
+  pub planned_fit : Each (FitsIn s.vehicles s.travel s.trips) s.planned
   pub standing_planned : Each (IsPlanned s.planned) s.trips

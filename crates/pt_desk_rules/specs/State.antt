@@ -14,8 +14,8 @@ use Rattle.pt_rights.specs.declared.entry.Entered.{Entered}
 use Rattle.pt_scheduling.specs.Plan.{Plan, plan_key}
 use Rattle.pt_desk_rules.specs.Limits.{most_entries}
 use Rattle.pt_desk_rules.specs.Travel.{DatedTable}
-use Rattle.pt_desk_rules.specs.declared.caller.Caller.{Caller}
-use Rattle.pt_desk_rules.specs.declared.caller.Kept.{Kept}
+use Rattle.pt_requests.specs.declared.caller.Caller.{Caller}
+use Rattle.pt_desk_rules.specs.declared.kept.Kept.{Kept}
 use Rattle.pt_desk_rules.specs.declared.change.Change.{Change}
 use Rattle.pt_desk_rules.specs.declared.change.FiledEntry.{FiledEntry}
 

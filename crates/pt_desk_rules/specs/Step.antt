@@ -1,25 +1,25 @@
 -- What each request is told, and what it leaves.
-use Rattle.std.specs.Prelude.{◌≡◌, ℕ, Bool, true, false, nat_lt, List, Option, Some, None}
+use Rattle.std.specs.Prelude.{◌≡◌, ℕ, List, Option, Some, None}
 use Rattle.sha2.specs.Sha256.{sha256}
 use Rattle.pt_base.specs.declared.rule.Rule.TheVariants as rule
+use Rattle.pt_spelling.specs.Replies.{answer_of}
+use Rattle.pt_spelling.specs.Requests.{spelling}
+use Rattle.pt_desk_rules.specs.Arrival.{arrival_of}
 use Rattle.pt_desk_rules.specs.State.{State, caller_with, kept_of, applied}
 use Rattle.pt_desk_rules.specs.Facts.{facts_of, read_facts_of}
 use Rattle.pt_desk_rules.specs.Deciding.{IsDecision, IsTold, IsMadeIf}
-use Rattle.pt_desk_rules.specs.declared.caller.Caller.{Caller}
-use Rattle.pt_desk_rules.specs.declared.caller.Kept.{Kept}
+use Rattle.pt_requests.specs.declared.caller.Caller.{Caller}
+use Rattle.pt_desk_rules.specs.declared.kept.Arrival.{Arrival}
+use Rattle.pt_desk_rules.specs.declared.kept.Arrival.TheVariants.{New, Repeated, Stale}
+use Rattle.pt_desk_rules.specs.declared.kept.Sent.{Sent}
 use Rattle.pt_desk_rules.specs.declared.deciding.Decision.{Decision}
 use Rattle.pt_desk_rules.specs.declared.deciding.Decision.TheVariants.{Denied, Accepted}
-use Rattle.pt_desk_rules.specs.declared.request.Answer.{Answer}
-use Rattle.pt_desk_rules.specs.declared.request.Answer.TheVariants as answer
-use Rattle.pt_desk_rules.specs.declared.request.Read.{Read}
-use Rattle.pt_desk_rules.specs.declared.request.Request.{Request}
-use Rattle.pt_desk_rules.specs.declared.request.Request.TheVariants as request
-use Rattle.pt_desk_rules.specs.declared.request.Write.{Write}
-
--- above the number of the caller's last accepted write, if there is one, and above 0
-abbrev pub is_above : ℕ → Option Kept → Bool
-is_above number None = nat_lt 0 number
-is_above number (Some kept) = nat_lt kept.number number
+use Rattle.pt_requests.specs.declared.request.Answer.{Answer}
+use Rattle.pt_requests.specs.declared.request.Answer.TheVariants as answer
+use Rattle.pt_requests.specs.declared.request.Read.{Read}
+use Rattle.pt_requests.specs.declared.request.Request.{Request}
+use Rattle.pt_requests.specs.declared.request.Request.TheVariants as request
+use Rattle.pt_requests.specs.declared.request.Write.{Write}
 
 -- the state where this is committed, if anything
 abbrev pub state_after : Option State → State → State
@@ -36,9 +36,9 @@ abbrev pub left_of : Decision → State → Option State
 left_of (Denied first) s = None
 left_of (Accepted told change) s = Some (applied change s)
 
--- the number of the write is above the caller's last one
-abbrev pub is_new : ℕ → Caller → State → Bool
-is_new number me s = is_above number (kept_of me.id s)
+-- what comes with a write of this number
+abbrev pub sent_with : ℕ → Write → Sent
+sent_with number asked = record { number = number; request = spelling asked }
 
 -- what a read is told, and that it commits nothing
 abbrev pub IsReadOutcome : Read → Caller → (ℕ × ℕ) → State → Answer → Option State → Type 0
@@ -47,16 +47,24 @@ IsReadOutcome asked me now s told left = IsTold asked me now (read_facts_of aske
 -- what a write is told by the rules, and what it commits
 abbrev pub IsDecidedOutcome : Write → Caller → (ℕ × ℕ) → ℕ → State → Answer → Option State → Type 0
 IsDecidedOutcome asked me now number s told left =
-    (decided : Decision) × IsDecision asked me now number (facts_of asked s) decided × IsMadeIf decided asked
+    (decided : Decision) × IsDecision asked me now (sent_with number asked) (facts_of asked s) decided
+    × IsMadeIf decided asked now.0
     × (told ≡ told_of decided) × (left ≡ left_of decided s)
 
--- the same of a write with a new number; with any other it is denied
-abbrev pub IsOutcomeIf : Bool → Write → Caller → (ℕ × ℕ) → ℕ → State → Answer → Option State → Type 0
-IsOutcomeIf false asked me now number s told left = (told ≡ answer.Denied rule.Number) × (left ≡ None)
-IsOutcomeIf true asked me now number s told left = IsDecidedOutcome asked me now number s told left
+-- how a write with this number comes in beside the caller's last accepted one
+abbrev pub arrival_in : State → Write → Caller → ℕ → Arrival
+arrival_in s asked me number = arrival_of number (spelling asked) (kept_of me.id s)
+
+-- A new write is decided by the rules. The last accepted one is told again what it was told, whatever has changed
+-- since, and does nothing. Any other is denied.
+abbrev pub IsOutcomeAs : Arrival → Write → Caller → (ℕ × ℕ) → ℕ → State → Answer → Option State → Type 0
+IsOutcomeAs New asked me now number s told left = IsDecidedOutcome asked me now number s told left
+IsOutcomeAs (Repeated reply) asked me now number s told left = (told ≡ answer_of reply) × (left ≡ None)
+IsOutcomeAs Stale asked me now number s told left = (told ≡ answer.Denied rule.Number) × (left ≡ None)
 
 abbrev pub IsWriteOutcome : Write → Caller → (ℕ × ℕ) → ℕ → State → Answer → Option State → Type 0
-IsWriteOutcome asked me now number s told left = IsOutcomeIf (is_new number me s) asked me now number s told left
+IsWriteOutcome asked me now number s told left =
+    IsOutcomeAs (arrival_in s asked me number) asked me now number s told left
 
 -- the same of a request by whoever has the key
 abbrev pub IsOutcomeBy : Option Caller → (ℕ × ℕ) → ℕ → Request → State → Answer → Option State → Type 0

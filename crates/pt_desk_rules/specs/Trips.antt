@@ -1,5 +1,6 @@
 -- Trips that are booked, changed and cancelled.
-use Rattle.std.specs.Prelude.{◌≡◌, ℕ, ◌==◌, ◌&&◌, ◌||◌, nat_lt, Bool, true, false, List, [], ◌∷◌, ◌++◌, Option, Some, None, is_some}
+use Rattle.std.specs.Prelude.{◌≡◌, ℕ, ◌==◌, ◌&&◌, ◌||◌, nat_lt, Bool, true, false, List, [], ◌∷◌, ◌++◌, Option}
+use Rattle.std.specs.Prelude.{Some, None, is_some}
 use Rattle.pt_base.specs.declared.place.Place.{Place}
 use Rattle.pt_base.specs.declared.trip.Trip.{Trip}
 use Rattle.pt_base.specs.declared.trip.Wish.{Wish}
@@ -13,7 +14,7 @@ use Rattle.pt_records.specs.declared.span.Span.{Span}
 use Rattle.pt_scheduling.specs.Plan.{Plan, stops_of_plan, without}
 use Rattle.pt_scheduling.specs.declared.planned.PlannedStop.{PlannedStop}
 use Rattle.pt_desk_rules.specs.State.{place_key}
-use Rattle.pt_desk_rules.specs.declared.request.Confirmation.{Confirmation}
+use Rattle.pt_requests.specs.declared.request.Confirmation.{Confirmation}
 
 -- both places of a wish are there
 abbrev pub has_ends : Wish → List Place → Bool

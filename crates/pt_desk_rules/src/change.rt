@@ -1,4 +1,5 @@
-ghost use Rattle.std.specs.Prelude.{◌≡◌, [], ◌∷◌, None, IfOk};
+ghost use Rattle.std.specs.Prelude.{◌≡◌, IfOk};
+ghost use Rattle.pt_desk_rules.specs.Deciding.{no_change, keeping};
 ghost use Rattle.pt_desk_rules.specs.State.{no_edit, puts_one};
 
 use crate::{Caller, Kept, TravelTable};
@@ -38,24 +39,11 @@ pub struct Change {
 }
 
 impl Change {
-    /// A change that keeps the number of its write, and nothing more.
-    pub(crate) fn keeping(alloc: Global, kept: Kept) -> Result<Self, AllocError>
-        ensures value { IfOk result (λ change. change ≡ record {
-          callers = no_edit;
-          kept = puts_one kept;
-          policy = None;
-          places = no_edit;
-          routes = no_edit;
-          riders = no_edit;
-          entries = no_edit;
-          vehicles = no_edit;
-          travel = no_edit;
-          trips = no_edit;
-          planned = no_edit;
-          last_trip = None;
-        }) }
+    /// No change.
+    pub(crate) fn none(alloc: Global) -> Self
+        ensures value { result ≡ no_change }
     {
-        let mut change = Change {
+        Change {
             callers: Edits::none(alloc),
             kept: Edits::none(alloc),
             policy: None,
@@ -68,25 +56,27 @@ impl Change {
             trips: Edits::none(alloc),
             planned: Edits::none(alloc),
             last_trip: None,
-        };
-        change.kept.put(kept)?;
-        Ok(change)
+        }
     }
-}
 
-impl Keyed for Caller {
-    ghost key = { λ caller. caller.id };
-
-    fn key(&self) -> Key {
-        Key::of(self.id.number())
+    /// The same change, which keeps this too.
+    pub(crate) fn with(self, kept: Kept) -> Result<Self, AllocError>
+        requires { self.kept ≡ no_edit }
+        ensures value { IfOk result (λ change. change ≡ record self { kept = puts_one kept }) }
+    {
+        let mut edits = self.kept;
+        edits.put(kept)?;
+        Ok(Change {
+            kept: edits,
+            ..self
+        })
     }
-}
 
-impl Keyed for Kept {
-    ghost key = { λ kept. kept.caller };
-
-    fn key(&self) -> Key {
-        Key::of(self.caller.number())
+    /// A change that keeps what is kept of its write, and nothing more.
+    pub(crate) fn keeping(alloc: Global, kept: Kept) -> Result<Self, AllocError>
+        ensures value { IfOk result (λ change. change ≡ keeping kept) }
+    {
+        Change::none(alloc).with(kept)
     }
 }
 

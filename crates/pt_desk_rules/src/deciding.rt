@@ -1,19 +1,28 @@
 ghost use Rattle.std.specs.Prelude.{◌≡◌, Some, length, IfOk};
 ghost use Rattle.pt_base.specs.Day.{IsDay};
-ghost use Rattle.pt_desk_rules.specs.Deciding.{keeping, IsReady, IsDecidedBy, IsDecision, IsMade, IsMadeIf};
+ghost use Rattle.pt_desk_rules.specs.Deciding.{keeping, kept_by, kept_in, IsReady, IsDecidedBy, IsDecision};
+ghost use Rattle.pt_desk_rules.specs.Deciding.{IsMade, IsMadeIf};
 ghost use Rattle.pt_corridor.specs.Route.{IsFixedRoute};
 ghost use Rattle.pt_travel.specs.Table.{IsTable};
 ghost use Rattle.pt_desk_rules.specs.declared.deciding.Decision.TheVariants.{Accepted};
-ghost use Rattle.pt_desk_rules.specs.declared.request.Answer.TheVariants.{Done};
-ghost use Rattle.pt_desk_rules.specs.declared.request.Write.TheVariants.{Enter};
+ghost use Rattle.pt_requests.specs.declared.request.Answer.TheVariants.{Done};
+ghost use Rattle.pt_requests.specs.declared.request.Write.TheVariants.{Enter};
+ghost use Rattle.pt_desk_rules.specs.Filed.{IsEntry, IsGrant};
+ghost use Rattle.pt_rights.specs.Conditions.{IsCondition};
+ghost use Rattle.std.specs.Prelude.{All};
+ghost use Rattle.pt_desk_rules.specs.Fleet.{ClosesInDay};
 ghost use Rattle.pt_desk_rules.specs.State.{puts_one, replaces, versions_from, tables_from};
 
 use crate::booking::{decide_booking, decide_cancel, decide_change, has_day};
-use crate::{Answer, Caller, Change, FiledEntry, Kept, TravelTable, Write, WriteFacts, denial};
-use pt_base::{Day, Minute, Place, Policy, Rider, RiderId, Rule, Vehicle};
+use crate::outcomes::decide_outcome;
+use crate::{
+    Answer, Caller, Change, FiledEntry, Kept, KeptReply, Sent, TravelTable, Write, WriteFacts,
+    denial,
+};
+use pt_base::{CallerId, Day, Minute, Place, Policy, Rider, RiderId, Rule, Vehicle};
 use pt_corridor::FixedRoute;
 use pt_records::{Key, Span};
-use pt_rights::{Entered, Entry};
+use pt_rights::{Condition, Entered, Entry, Grant};
 use pt_travel::Raw;
 use std::alloc::{AllocError, Global};
 
@@ -106,25 +115,83 @@ fn put_rider(alloc: Global, kept: Kept, new: &Rider) -> Result<Decision, AllocEr
     Ok(done(change))
 }
 
+/// A condition's months and feet are such, as their types have it.
+fn is_condition(condition: Condition)
+    ensures { IsCondition condition }
+{
+    match condition {
+        Condition::Months(months) => {
+            let _numbers = months.numbers();
+        }
+        Condition::Farther(feet) => {
+            let _number = feet.number();
+        }
+        Condition::Always | Condition::NoLift => {}
+    }
+}
+
+fn are_conditions(conditions: &[Condition])
+    ensures { All IsCondition conditions.now }
+{
+    for condition in conditions {
+        is_condition(*condition);
+    }
+}
+
+/// A grant's last day and conditions are such, as their types have it.
+fn is_grant(grant: &Grant)
+    ensures { IsGrant grant.now }
+{
+    let _number = grant.until.number();
+    are_conditions(grant.conditions.as_slice());
+}
+
+/// The fields of an entry are such, as their types have it.
+fn keeps_ranges(entry: &Entry)
+    ensures { IsEntry entry.now }
+{
+    match entry {
+        Entry::Grant(grant) | Entry::AppealGranted(grant) => is_grant(grant),
+        Entry::Refuse(reasons) | Entry::AppealDenied(reasons) | Entry::Notice(reasons) => {
+            let _bytes = reasons.as_bytes();
+        }
+        Entry::Suspend {
+            starts,
+            ends,
+            reasons,
+        } => {
+            let _days = (starts.number(), ends.number());
+            let _bytes = reasons.as_bytes();
+        }
+        Entry::Complete
+        | Entry::Appeal { against: _ }
+        | Entry::Heard
+        | Entry::Overturn
+        | Entry::NoticeHeard => {}
+    }
+}
+
 fn enter(
     alloc: Global,
     facts: &WriteFacts,
-    kept: Kept,
+    me: CallerId,
+    sent: Sent,
     today: Day,
     rider: RiderId,
     entry: &Entry,
 ) -> Result<Decision, AllocError>
-    ensures { IfOk result (λ decided. IsDecidedBy (Enter rider entry.now) kept today facts.now decided) }
+    ensures { IfOk result (λ decided.
+        IsDecidedBy (Enter rider entry.now) (kept_in me sent decided) today facts.now decided) }
 {
     let position = facts.file.len() as u32;
-    let mut change = Change::keeping(alloc, kept)?;
+    let mut change = Change::keeping(alloc, sent.kept(me, KeptReply::Entered(position)))?;
     change.entries.put(FiledEntry {
         rider,
         position,
         entered: Entered {
             entry: entry.clone()?,
             day: today,
-            author: kept.caller,
+            author: me,
         },
     })?;
     Ok(Decision::Accepted {
@@ -133,11 +200,20 @@ fn enter(
     })
 }
 
+/// A vehicle is back by the last minute of a day, as the type of its hours has it.
+fn closes_in_day(new: &Vehicle)
+    ensures { ClosesInDay new.now }
+{
+    let _number = new.closes.number();
+}
+
 fn put_vehicle(alloc: Global, kept: Kept, new: &Vehicle) -> Result<Decision, AllocError>
     ensures decided { IfOk result (λ decided. decided ≡ Accepted Done
         (record (keeping kept) { vehicles = replaces (versions_from new.now.id new.now.from_day) new.now })) }
     ensures day { IfOk result (λ _. IsDay new.now.from_day) }
+    ensures hours { IfOk result (λ _. ClosesInDay new.now) }
 {
+    closes_in_day(new);
     let mut change = Change::keeping(alloc, kept)?;
     change.vehicles.take_away(versions_from(new))?;
     change.vehicles.put(*new)?;
@@ -162,38 +238,63 @@ fn put_travel(alloc: Global, kept: Kept, day: Day, rows: &Raw) -> Result<Decisio
 fn decide_by(
     alloc: Global,
     facts: &WriteFacts,
-    kept: Kept,
+    me: CallerId,
+    sent: Sent,
     today: Day,
     write: &Write,
 ) -> Result<Decision, AllocError>
     requires ready { IsReady write.now facts.now }
-    ensures decided { IfOk result (λ decided. IsDecidedBy write.now kept today facts.now decided) }
+    ensures decided { IfOk result (λ decided.
+        IsDecidedBy write.now (kept_in me sent decided) today facts.now decided) }
     ensures made { IfOk result (λ _. IsMade write.now) }
 {
     match write {
-        Write::PutCaller(new) => put_caller(alloc, kept, new),
-        Write::PutPolicy(new) => put_policy(alloc, kept, new),
-        Write::PutPlace(new) => put_place(alloc, kept, new),
-        Write::PutRoute(new) => put_route(alloc, kept, new),
-        Write::PutRider(new) => put_rider(alloc, kept, new),
-        Write::Enter { rider, entry } => enter(alloc, facts, kept, today, *rider, entry),
-        Write::PutVehicle(new) => put_vehicle(alloc, kept, new),
-        Write::Travel { day, rows } => put_travel(alloc, kept, *day, rows),
+        Write::PutCaller(new) => put_caller(alloc, sent.kept(me, KeptReply::Done), new),
+        Write::PutPolicy(new) => put_policy(alloc, sent.kept(me, KeptReply::Done), new),
+        Write::PutPlace(new) => put_place(alloc, sent.kept(me, KeptReply::Done), new),
+        Write::PutRoute(new) => put_route(alloc, sent.kept(me, KeptReply::Done), new),
+        Write::PutRider(new) => put_rider(alloc, sent.kept(me, KeptReply::Done), new),
+        Write::Enter { rider, entry } => {
+            keeps_ranges(entry);
+            enter(alloc, facts, me, sent, today, *rider, entry)
+        }
+        Write::PutVehicle(new) => put_vehicle(alloc, sent.kept(me, KeptReply::Done), new),
+        Write::Travel { day, rows } => put_travel(
+            alloc,
+            sent.kept(me, KeptReply::Done),
+            *day,
+            rows,
+        ),
         Write::Book { rider: _, wish } => {
             has_day(wish);
-            decide_booking(alloc, facts, kept, today, wish)
+            decide_booking(alloc, facts, me, sent, today, wish)
         }
         Write::Change { trip: _, wish } => {
             has_day(wish);
-            decide_change(alloc, facts, kept, today, wish)
+            decide_change(alloc, facts, me, sent, today, wish)
         }
         Write::Cancel(_) => decide_cancel(
             alloc,
-            kept,
+            sent.kept(me, KeptReply::Done),
             facts.booking.trip.as_ref().unwrap(),
             &facts.booking.plan,
         ),
+        Write::Outcome { trip: _, outcome } => {
+            decide_outcome(
+                alloc,
+                sent.kept(me, KeptReply::Done),
+                facts.booking.trip.as_ref().unwrap(),
+                *outcome,
+            )
+        }
     }
+}
+
+/// Today is a day, as its type has it.
+fn is_day(today: Day)
+    ensures { IsDay today }
+{
+    let _number = today.number();
 }
 
 /// Decides a write with a new number by the rules, for this caller at the moment `now`.
@@ -202,19 +303,16 @@ pub fn decide(
     facts: &WriteFacts,
     me: &Caller,
     now: (Day, Minute),
-    number: u32,
+    sent: Sent,
     write: &Write,
 ) -> Result<Decision, AllocError>
-    ensures decided { IfOk result (λ decided. IsDecision write.now me.now now number facts.now decided) }
-    ensures made { IfOk result (λ decided. IsMadeIf decided write.now) }
+    ensures decided { IfOk result (λ decided. IsDecision write.now me.now now sent facts.now decided) }
+    ensures made { IfOk result (λ decided. IsMadeIf decided write.now now.0) }
 {
     let (today, _) = now;
+    is_day(today);
     if let Some(rule) = denial(facts, me, now, write) {
         return Ok(Decision::Denied(rule));
     }
-    let kept = Kept {
-        caller: me.id,
-        number,
-    };
-    decide_by(alloc, facts, kept, today, write)
+    decide_by(alloc, facts, me.id, sent, today, write)
 }

@@ -1,12 +1,16 @@
 ghost use Rattle.std.specs.Prelude.{◌≡◌, is_some};
 ghost use Rattle.pt_rights.specs.Rules.{first_failing};
-ghost use Rattle.pt_desk_rules.specs.Rules.{rules_of, is_nobody_else, is_nobody_of_another_kind, are_there, has_room_for};
+ghost use Rattle.pt_desk_rules.specs.Rules.{rules_of, is_nobody_else, is_nobody_of_another_kind, are_there};
+ghost use Rattle.pt_desk_rules.specs.Rules.{has_room_for};
 ghost use Rattle.pt_desk_rules.specs.State.{place_key};
 ghost use Rattle.pt_records.specs.Records.{record_at};
-ghost use Rattle.pt_desk_rules.specs.declared.request.Write.TheVariants.{Enter};
+ghost use Rattle.pt_requests.specs.declared.request.Write.TheVariants.{Enter};
 
 use crate::fleet::{other_vehicle_count, version_count_before};
-use crate::permission::{may_alter, may_book, may_enter};
+use crate::outcomes::{awaits_outcome, has_come};
+use crate::permission::{
+    is_admin, is_clerk, is_dispatcher, may_alter, may_book, may_end, may_enter,
+};
 use crate::trips::{has_ends, is_cancellable, is_changeable};
 use crate::{
     Caller, LAST_TRIP_NUMBER, MOST_CALLERS, MOST_PLACES, MOST_RIDERS, MOST_ROUTES, MOST_TABLES,
@@ -95,9 +99,14 @@ fn entry_denial(
     if facts.file.is_full() {
         return Some(Rule::Full);
     }
-    facts
-        .file
-        .admits(there, entry, now.0, me.id, &[], &facts.policy)
+    facts.file.admits(
+        there,
+        entry,
+        now.0,
+        me.id,
+        facts.tallies.as_slice(),
+        &facts.policy,
+    )
 }
 
 /// The first rule by which a write with a new number is denied to the caller at the moment `now`; `None` where it is
@@ -105,7 +114,7 @@ fn entry_denial(
 pub fn denial(facts: &WriteFacts, me: &Caller, now: (Day, Minute), write: &Write) -> Option<Rule>
     ensures value { result ≡ first_failing (rules_of write.now me.now now facts.now) }
 {
-    let is_admin = me.role.is_admin();
+    let is_admin = is_admin(me.role);
     match write {
         Write::PutCaller(new) => first_failing(&[
             (Rule::Caller, is_admin),
@@ -130,7 +139,7 @@ pub fn denial(facts: &WriteFacts, me: &Caller, now: (Day, Minute), write: &Write
             ),
         ]),
         Write::PutRider(new) => first_failing(&[
-            (Rule::Caller, me.role.is_clerk()),
+            (Rule::Caller, is_clerk(me.role)),
             (
                 Rule::Exists,
                 is_nobody_of_another_kind(new.kind, facts.rider),
@@ -142,13 +151,13 @@ pub fn denial(facts: &WriteFacts, me: &Caller, now: (Day, Minute), write: &Write
         ]),
         Write::Enter { rider, entry } => entry_denial(facts, me, now, *rider, entry),
         Write::PutVehicle(new) => first_failing(&[
-            (Rule::Caller, me.role.is_dispatcher()),
+            (Rule::Caller, is_dispatcher(me.role)),
             (Rule::Unknown, facts.has_place),
             (Rule::Booked, !facts.is_booked),
             (Rule::Full, has_room_for(new, facts.vehicles.as_slice())),
         ]),
         Write::Travel { day: _, rows } => first_failing(&[
-            (Rule::Caller, me.role.is_dispatcher()),
+            (Rule::Caller, is_dispatcher(me.role)),
             (Rule::Unknown, are_there(rows.rows(), &facts.places)),
             (Rule::Booked, !facts.is_booked),
             (Rule::Full, facts.tables_before < MOST_TABLES),
@@ -181,6 +190,15 @@ pub fn denial(facts: &WriteFacts, me: &Caller, now: (Day, Minute), write: &Write
             ),
             (Rule::Unknown, facts.booking.trip.is_some()),
             (Rule::Over, is_cancellable(now, &facts.booking.trip)),
+        ]),
+        Write::Outcome {
+            trip: _,
+            outcome: _,
+        } => first_failing(&[
+            (Rule::Caller, may_end(me.role, &facts.booking.trip)),
+            (Rule::Unknown, facts.booking.trip.is_some()),
+            (Rule::Over, awaits_outcome(&facts.booking.trip)),
+            (Rule::Early, has_come(now.0, &facts.booking.trip)),
         ]),
     }
 }

@@ -1,7 +1,7 @@
 ghost use Rattle.std.specs.Prelude.{◌≡◌};
 ghost use Rattle.pt_desk_rules.specs.Facts.{no_booking, no_day, no_facts};
 
-use crate::{Caller, TravelTable};
+use crate::{Caller, Tallies, TravelTable};
 use pt_base::{Place, Policy, Rider, Trip, Vehicle};
 use pt_corridor::FixedRoute;
 use pt_records::Rows;
@@ -19,6 +19,8 @@ pub struct WriteFacts {
     pub rider_count: usize,
     /// That rider's case file.
     pub file: CaseFile,
+    /// How that rider's trips ended.
+    pub tallies: Tallies,
     /// The caller of the number that the write gives.
     pub caller: Option<Caller>,
     /// The caller who has the digest that the write gives.
@@ -111,6 +113,7 @@ impl WriteFacts {
             rider: None,
             rider_count: 0,
             file: CaseFile::new(alloc),
+            tallies: Tallies::none(alloc),
             caller: None,
             holder: None,
             caller_count: 0,
@@ -135,6 +138,6 @@ pub struct ReadFacts {
     pub rider: Option<Rider>,
     /// That rider's case file.
     pub file: CaseFile,
-    /// That rider's trips, by rising number.
+    /// The trips of which it speaks, by rising number.
     pub trips: Rows<Trip>,
 }

@@ -1,4 +1,6 @@
 ghost use Rattle.pt_desk_rules.specs.Booking.{HasRoutes};
+ghost use Rattle.pt_desk_rules.specs.Numbers.{AcceptedNumbersRise, AcceptedWritesAreKept, LastAcceptedIsKept};
+ghost use Rattle.pt_desk_rules.specs.Numbers.{DenialsAreTheSameAgain, RepeatsAreToldTheSame, WritesMayBeSentAgain};
 ghost use Rattle.pt_desk_rules.specs.Privacy.{TripsArePrivate};
 ghost use Rattle.pt_desk_rules.specs.Sound.{IsSound};
 ghost use Rattle.pt_desk_rules.specs.State.{State};
@@ -12,4 +14,35 @@ pub fn sound_states_have_routes()
 /// A law: what is told of a rider's trips depends on the caller, the rider's record and the rider's trips alone.
 pub fn trips_are_private()
     ensures { TripsArePrivate }
+{}
+
+/// A law: an accepted write is kept as its caller's last one, and its number is above that of the one before.
+pub fn accepted_writes_are_kept()
+    ensures { AcceptedWritesAreKept }
+{}
+
+/// A law: a caller's last accepted write, sent again, is told what it was told and changes nothing.
+pub fn repeats_are_told_the_same()
+    ensures { RepeatsAreToldTheSame }
+{}
+
+/// A law: the numbers of a caller's accepted writes rise.
+pub fn accepted_numbers_rise()
+    ensures { AcceptedNumbersRise }
+{}
+
+/// A law: what is kept of a caller is its last accepted write.
+pub fn last_accepted_is_kept()
+    ensures { LastAcceptedIsKept }
+{}
+
+/// A law: whoever does not know whether a write was accepted may send it again, under any key that is still the
+/// caller's: nothing happens twice.
+pub fn writes_may_be_sent_again()
+    ensures { WritesMayBeSentAgain }
+{}
+
+/// A law: a request that is denied, and comes again with nothing between, is denied by the same rule.
+pub fn denials_are_the_same_again()
+    ensures { DenialsAreTheSameAgain }
 {}

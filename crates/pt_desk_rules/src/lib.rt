@@ -1,33 +1,41 @@
 //! What the desk keeps, what may be asked of it, and what the rules make of each request, with no store in sight.
 #![tactic(auto)]
 
-pub use caller::{Caller, Digest, Kept, Role};
 pub use change::{Change, FiledEntry};
 pub use deciding::{Decision, decide};
 pub use denying::denial;
 pub use facts::{BookingFacts, DayFacts, ReadFacts, WriteFacts};
 pub use fleet::on_duty;
-pub use laws::{sound_states_have_routes, trips_are_private};
+pub use kept::{Arrival, Kept, Sent};
+pub use laws::{
+    accepted_numbers_rise, accepted_writes_are_kept, denials_are_the_same_again,
+    last_accepted_is_kept, repeats_are_told_the_same, sound_states_have_routes, trips_are_private,
+    writes_may_be_sent_again,
+};
 pub use limits::{
     LAST_TRIP_NUMBER, MOST_CALLERS, MOST_PLACES, MOST_RIDERS, MOST_ROUTES, MOST_TABLES,
     MOST_VEHICLES, MOST_VERSIONS,
 };
+pub use pt_requests::{Answer, Caller, Confirmation, Digest, Read, Request, Role, Write};
 pub use pt_scheduling::{PlannedRoute, PlannedStop};
-pub use request::{Answer, Confirmation, Read, Request, Write};
+pub use pt_spelling::{KeptReply, Spelling};
+pub use tallies::Tallies;
 pub use telling::tell;
 pub use travel::{TravelTable, table_on};
 
 mod booking;
-mod caller;
 mod change;
 mod deciding;
 mod denying;
 mod facts;
 mod fleet;
+mod kept;
 mod laws;
+mod letters;
 mod limits;
+mod outcomes;
 mod permission;
-mod request;
+mod tallies;
 mod telling;
 mod travel;
 mod trips;

@@ -1,53 +1,53 @@
 ghost use Rattle.std.specs.Prelude.{◌≡◌};
-ghost use Rattle.pt_desk_rules.specs.Permission.{is_admin, is_clerk, is_counter, is_dispatcher, is_examiner, is_officer, is_own};
-ghost use Rattle.pt_desk_rules.specs.Permission.{may_alter, may_appeal, may_book, may_enter, may_see_standing};
+ghost use Rattle.pt_desk_rules.specs.Permission.{is_admin, is_clerk, is_counter, is_dispatcher, is_examiner};
+ghost use Rattle.pt_desk_rules.specs.Permission.{is_officer, is_own};
+ghost use Rattle.pt_desk_rules.specs.Permission.{may_alter, may_appeal, may_book, may_end, may_enter, may_run};
+ghost use Rattle.pt_desk_rules.specs.Permission.{may_see_standing};
 
 use crate::Role;
-use pt_base::{Rider, RiderId, Trip};
+use pt_base::{Rider, RiderId, Trip, VehicleId};
 use pt_rights::Entry;
 
-impl Role {
-    /// Whether it is the admin's.
-    pub(crate) fn is_admin(self) -> bool
-        ensures { result ≡ is_admin self }
-    {
-        matches!(self, Role::Admin)
-    }
+/// Whether the role is the admin's.
+pub(crate) fn is_admin(role: Role) -> bool
+    ensures { result ≡ is_admin role }
+{
+    matches!(role, Role::Admin)
+}
 
-    /// Whether it is a clerk's.
-    pub(crate) fn is_clerk(self) -> bool
-        ensures { result ≡ is_clerk self }
-    {
-        matches!(self, Role::Clerk)
-    }
+/// Whether the role is a clerk's.
+pub(crate) fn is_clerk(role: Role) -> bool
+    ensures { result ≡ is_clerk role }
+{
+    matches!(role, Role::Clerk)
+}
 
-    /// Whether it is a dispatcher's.
-    pub(crate) fn is_dispatcher(self) -> bool
-        ensures { result ≡ is_dispatcher self }
-    {
-        matches!(self, Role::Dispatcher)
-    }
+/// Whether the role is a dispatcher's.
+pub(crate) fn is_dispatcher(role: Role) -> bool
+    ensures { result ≡ is_dispatcher role }
+{
+    matches!(role, Role::Dispatcher)
+}
 
-    /// Whether it is a clerk's or a dispatcher's.
-    fn is_counter(self) -> bool
-        ensures { result ≡ is_counter self }
-    {
-        matches!(self, Role::Clerk | Role::Dispatcher)
-    }
+/// Whether the role is a clerk's or a dispatcher's.
+fn is_counter(role: Role) -> bool
+    ensures { result ≡ is_counter role }
+{
+    matches!(role, Role::Clerk | Role::Dispatcher)
+}
 
-    /// Whether it is an examiner's.
-    fn is_examiner(self) -> bool
-        ensures { result ≡ is_examiner self }
-    {
-        matches!(self, Role::Examiner)
-    }
+/// Whether the role is an examiner's.
+fn is_examiner(role: Role) -> bool
+    ensures { result ≡ is_examiner role }
+{
+    matches!(role, Role::Examiner)
+}
 
-    /// Whether it is an officer's.
-    fn is_officer(self) -> bool
-        ensures { result ≡ is_officer self }
-    {
-        matches!(self, Role::Officer)
-    }
+/// Whether the role is an officer's.
+fn is_officer(role: Role) -> bool
+    ensures { result ≡ is_officer role }
+{
+    matches!(role, Role::Officer)
 }
 
 /// Whether the rider is the caller's own, and has this record.
@@ -74,14 +74,14 @@ pub(crate) fn may_enter(role: Role, rider: RiderId, found: &Option<Rider>, entry
 {
     match entry {
         Entry::Appeal { .. } => may_appeal(role, rider, found),
-        Entry::Complete | Entry::Notice(_) => role.is_clerk(),
-        Entry::Grant(_) | Entry::Refuse(_) => role.is_examiner(),
+        Entry::Complete | Entry::Notice(_) => is_clerk(role),
+        Entry::Grant(_) | Entry::Refuse(_) => is_examiner(role),
         Entry::Heard
         | Entry::AppealGranted(_)
         | Entry::AppealDenied(_)
         | Entry::Overturn
         | Entry::NoticeHeard
-        | Entry::Suspend { .. } => role.is_officer(),
+        | Entry::Suspend { .. } => is_officer(role),
     }
 }
 
@@ -107,13 +107,34 @@ pub(crate) fn may_book(role: Role, rider: RiderId, found: &Option<Rider>) -> boo
     }
 }
 
-/// Whether the caller may change or cancel the trip, whose rider's record is given. A trip that is not there is nobody's
-/// own.
+/// Whether the caller may change or cancel the trip, whose rider's record is given. A trip that is not there is
+/// nobody's own.
 pub(crate) fn may_alter(role: Role, trip: &Option<Trip>, found: &Option<Rider>) -> bool
     ensures { result ≡ may_alter trip.now found.now role }
 {
     match trip {
         Some(there) => may_book(role, there.rider, found),
-        None => role.is_counter(),
+        None => is_counter(role),
+    }
+}
+
+/// Whether the caller drives the vehicle, or dispatches.
+fn may_run(role: Role, vehicle: VehicleId) -> bool
+    ensures { result ≡ may_run vehicle role }
+{
+    match role {
+        Role::Driver(own) => own == vehicle,
+        Role::Dispatcher => true,
+        Role::Rider(_) | Role::Clerk | Role::Examiner | Role::Officer | Role::Admin => false,
+    }
+}
+
+/// Whether the caller may say how the trip ended. A trip that is not there is nobody's own.
+pub(crate) fn may_end(role: Role, trip: &Option<Trip>) -> bool
+    ensures { result ≡ may_end trip.now role }
+{
+    match trip {
+        Some(there) => may_run(role, there.vehicle),
+        None => is_dispatcher(role),
     }
 }

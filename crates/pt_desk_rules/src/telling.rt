@@ -1,10 +1,11 @@
 ghost use Rattle.std.specs.Prelude.{◌↔◌, ℕ, IsTrue, List, None, IfOk};
 ghost use Rattle.pt_scheduling.specs.Uses.{AreUses};
 ghost use Rattle.pt_visitors.specs.Periods.{MayUse};
-ghost use Rattle.pt_desk_rules.specs.declared.request.Read.TheVariants.{Standing, Trips};
+ghost use Rattle.pt_requests.specs.declared.request.Read.TheVariants.{Export, Standing, Trips};
 ghost use Rattle.pt_desk_rules.specs.Deciding.{IsToldOfKind, IsTold};
 
-use crate::permission::{may_book, may_see_standing};
+use crate::letters::tell_letter;
+use crate::permission::{is_dispatcher, may_book, may_see_standing};
 use crate::{Answer, Caller, Read, ReadFacts};
 use pt_base::{Day, Minute, Residence, RiderId, Rule, Trip};
 use pt_scheduling::days_of_use;
@@ -74,6 +75,16 @@ fn tell_trips(facts: ReadFacts, me: &Caller, rider: RiderId) -> Answer
     }
 }
 
+/// What is told of the trips of a day.
+fn tell_export(facts: ReadFacts, me: &Caller) -> Answer
+    ensures { (now : ℕ × ℕ) (day : ℕ) → IsTold (Export day) me.now now facts result }
+{
+    if !is_dispatcher(me.role) {
+        return Answer::Denied(Rule::Caller);
+    }
+    Answer::Export(facts.trips)
+}
+
 /// What a read by this caller is told at the moment `now`.
 pub fn tell(
     alloc: Global,
@@ -87,5 +98,7 @@ pub fn tell(
     match *read {
         Read::Standing { rider, day } => tell_standing(alloc, &facts, me, now, rider, day),
         Read::Trips(rider) => Ok(tell_trips(facts, me, rider)),
+        Read::Letter { rider, position } => tell_letter(&facts, me, rider, position),
+        Read::Export(_) => Ok(tell_export(facts, me)),
     }
 }

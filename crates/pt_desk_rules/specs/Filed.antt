@@ -1,0 +1,32 @@
+-- What an entry of a case file keeps to.
+use Rattle.std.specs.Prelude.{ℕ, ◌<◌, ◌≤◌, IsTrue, All}
+use Rattle.pt_base.specs.Day.{IsDay}
+use Rattle.pt_rights.specs.Conditions.{IsCondition, IsConditions}
+use Rattle.pt_rights.specs.Notices.{is_term}
+use Rattle.pt_rights.specs.Reasons.{IsReasons}
+use Rattle.pt_rights.specs.declared.entry.Entry.{Entry}
+use Rattle.pt_rights.specs.declared.entry.Entry.TheVariants as kind
+use Rattle.pt_rights.specs.declared.entry.Grant.{Grant}
+
+-- a grant's last day is a day, and it lists one to four conditions, each with its range
+abbrev pub IsGrant : Grant → Type 0
+IsGrant grant = IsDay grant.until × IsConditions grant.conditions × All IsCondition grant.conditions
+
+-- an entry's days are days, its reasons have 1 to 500 bytes, and what it grants is a grant
+abbrev pub IsEntry : Entry → Type 0
+IsEntry (kind.Grant grant) = IsGrant grant
+IsEntry (kind.Refuse reasons) = IsReasons reasons
+IsEntry (kind.AppealGranted grant) = IsGrant grant
+IsEntry (kind.AppealDenied reasons) = IsReasons reasons
+IsEntry (kind.Notice basis) = IsReasons basis
+IsEntry (kind.Suspend starts ends reasons) = IsDay starts × IsDay ends × IsReasons reasons
+IsEntry _ = Unit {0}
+
+-- At this position of a file and on this day: a grant's last day has not passed (49 CFR 37.125(e)), an appeal is
+-- against an earlier entry (37.125(g)), and a suspension starts later and lasts 1 to 30 days (37.125(h)).
+abbrev pub IsInPlace : ℕ → ℕ → Entry → Type 0
+IsInPlace position day (kind.Grant grant) = day ≤ grant.until
+IsInPlace position day (kind.AppealGranted grant) = day ≤ grant.until
+IsInPlace position day (kind.Appeal against) = against < position
+IsInPlace position day (kind.Suspend starts ends reasons) = IsTrue (is_term day starts ends)
+IsInPlace position day _ = Unit {0}

@@ -1,0 +1,123 @@
+-- What a caller may count on who numbers its writes, and sends one again where the reply was lost.
+use Rattle.std.specs.Prelude.{◌≡◌, ◌≢◌, ℕ, ◌<◌, ◌==◌, List, [], ◌∷◌, map, Option, Some, None, if◌then◌else◌}
+use Rattle.std.specs.Option.{unwrap_or}
+use Rattle.std.specs.List.{cons_option, last_or}
+use Rattle.std.specs.List.Sorted.{IsStrictlyIncreasing}
+use Rattle.pt_base.specs.declared.rule.Rule.{Rule}
+use Rattle.pt_spelling.specs.Replies.{answer_of, reply_of}
+use Rattle.pt_spelling.specs.Requests.{spelling}
+use Rattle.pt_desk_rules.specs.Deciding.{kept_by}
+use Rattle.pt_desk_rules.specs.Sound.{IsSound}
+use Rattle.pt_desk_rules.specs.State.{State, kept_of}
+use Rattle.pt_desk_rules.specs.Step.{sender, sent_with, state_after, IsOutcome}
+use Rattle.pt_desk_rules.specs.declared.kept.Kept.{Kept}
+use Rattle.pt_spelling.specs.declared.replies.KeptReply.{KeptReply}
+use Rattle.pt_spelling.specs.declared.replies.KeptReply.TheVariants.{Done}
+use Rattle.pt_requests.specs.declared.caller.Caller.{Caller}
+use Rattle.pt_requests.specs.declared.request.Answer.{Answer}
+use Rattle.pt_requests.specs.declared.request.Answer.TheVariants as answer
+use Rattle.pt_requests.specs.declared.request.Request.{Request}
+use Rattle.pt_requests.specs.declared.request.Request.TheVariants as request
+use Rattle.pt_requests.specs.declared.request.Write.{Write}
+
+-- the number of the write that is kept, 0 where none is
+abbrev pub number_of : Option Kept → ℕ
+number_of None = 0
+number_of (Some kept) = kept.number
+
+-- the number of a caller's last accepted write, 0 where none was accepted
+abbrev pub last_number : ℕ → State → ℕ
+last_number id s = number_of (kept_of id s)
+
+-- An accepted write is its caller's last one: its number is above that of the one before, and it is kept with its
+-- number, its spelling and what was told. What is kept of the other callers stays.
+pub record IsKept (me : Caller) (number : ℕ) (asked : Write) (told : Answer) (s new : State) : Type 0 where
+  pub above : last_number me.id s < number
+  pub kept : (reply : KeptReply) × (told ≡ answer_of reply)
+      × (kept_of me.id new ≡ Some (kept_by me.id (sent_with number asked) reply))
+  pub others_stay : (id : ℕ) → id ≢ me.id → kept_of id new ≡ kept_of id s
+
+-- each write that commits a state is kept so
+abbrev pub AcceptedWritesAreKept : Type 0
+AcceptedWritesAreKept = (key : List ℕ) (now : ℕ × ℕ) (number : ℕ) (asked : Write) (me : Caller) (s new : State)
+    (told : Answer) → sender key s ≡ Some me → IsOutcome key now number (request.Write asked) s told (Some new) →
+    IsKept me number asked told s new
+
+-- the last accepted write of the caller who has the key, sent again at any moment, is told what it was told, and
+-- commits nothing
+abbrev pub RepeatsAreToldTheSame : Type 0
+RepeatsAreToldTheSame = (key : List ℕ) (now : ℕ × ℕ) (asked : Write) (me : Caller) (kept : Kept) (s : State)
+    (told : Answer) (left : Option State) → sender key s ≡ Some me → kept_of me.id s ≡ Some kept →
+    kept.request ≡ spelling asked → IsOutcome key now kept.number (request.Write asked) s told left →
+    (told ≡ answer_of kept.reply) × (left ≡ None)
+
+-- a request that came, with what it was told and the state that it committed, if any
+pub record Call : Type 0 where
+  pub key : List ℕ
+  pub now : ℕ × ℕ
+  pub number : ℕ
+  pub asked : Request
+  pub told : Answer
+  pub left : Option State
+
+-- the requests came one after the other, the first of them in the state s, and `after` is the state that they leave
+abbrev pub AreCalls : State → List Call → State → Type 0
+AreCalls s [] after = after ≡ s
+AreCalls s (call ∷ later) after =
+    IsOutcome call.key call.now call.number call.asked s call.told call.left
+    × AreCalls (state_after call.left s) later after
+
+-- what is kept of a request with this number that this caller made: of a write that committed a state its number, its
+-- spelling and what was told, and nothing of any other
+abbrev pub kept_where : ℕ → ℕ → Request → Answer → Option State → Option Kept
+kept_where id number (request.Read read) told left = None
+kept_where id number (request.Write write) told None = None
+kept_where id number (request.Write write) told (Some new) =
+    Some (kept_by id (sent_with number write) (unwrap_or (reply_of told) Done))
+
+-- the same of a call by whoever has its key, where that is the caller with this number
+abbrev pub kept_from : ℕ → Option Caller → Call → Option Kept
+kept_from id None call = None
+kept_from id (Some me) call = if me.id == id then kept_where id call.number call.asked call.told call.left else None
+
+-- a caller's accepted writes among these calls, in their order
+abbrev pub accepted_writes : ℕ → State → List Call → List Kept
+accepted_writes id s [] = []
+accepted_writes id s (call ∷ later) =
+    cons_option (kept_from id (sender call.key s) call) (accepted_writes id (state_after call.left s) later)
+
+-- The numbers of a caller's accepted writes rise from one to the next, beginning with the last before these calls.
+abbrev pub AcceptedNumbersRise : Type 0
+AcceptedNumbersRise = (id : ℕ) (s after : State) (calls : List Call) → AreCalls s calls after →
+    IsStrictlyIncreasing (last_number id s ∷ map (λ kept. kept.number) (accepted_writes id s calls))
+
+-- What is kept of a caller is its last accepted write among the calls, or where there is none, what was kept before.
+abbrev pub LastAcceptedIsKept : Type 0
+LastAcceptedIsKept = (id : ℕ) (s after : State) (calls : List Call) → AreCalls s calls after →
+    kept_of id after ≡ last_or (kept_of id s) (accepted_writes id s calls)
+
+-- A write was accepted, and then other calls came, none of them a write of the same caller that was accepted.
+pub record IsLastOf (key : List ℕ) (now : ℕ × ℕ) (number : ℕ) (asked : Write) (me : Caller) (told : Answer)
+    (calls : List Call) (s after : State) : Type 0 where
+  pub committed : State
+  pub by : sender key s ≡ Some me
+  pub accepted : IsOutcome key now number (request.Write asked) s told (Some committed)
+  pub calls_since : AreCalls committed calls after
+  pub none_since : accepted_writes me.id committed calls ≡ []
+
+-- Whoever does not know whether a write was accepted may send it again with its number. If it was accepted and the
+-- caller made no other that was, then under a key that is still the caller's it is told the same, at any later moment
+-- and whatever others have changed since, and it changes nothing.
+abbrev pub WritesMayBeSentAgain : Type 0
+WritesMayBeSentAgain = (key with : List ℕ) (now later : ℕ × ℕ) (number : ℕ) (asked : Write) (me holder : Caller)
+    (told again : Answer) (calls : List Call) (s after : State) (left : Option State) →
+    IsLastOf key now number asked me told calls s after → sender with after ≡ Some holder → holder.id ≡ me.id →
+    IsOutcome with later number (request.Write asked) after again left → (again ≡ told) × (left ≡ None)
+
+-- A request that is denied in a sound state, and comes again at the same moment with nothing between, is denied by the
+-- same rule, and changes nothing.
+abbrev pub DenialsAreTheSameAgain : Type 0
+DenialsAreTheSameAgain = (key : List ℕ) (now : ℕ × ℕ) (number : ℕ) (asked : Request) (s : State) (rule : Rule)
+    (told : Answer) (left after : Option State) → IsSound s →
+    IsOutcome key now number asked s (answer.Denied rule) left →
+    IsOutcome key now number asked (state_after left s) told after → (told ≡ answer.Denied rule) × (after ≡ None)
