@@ -91,6 +91,24 @@ pub handed : {Y : Type 0} (P : Result Y StoreFault → Type 0) (e : StoreFault) 
 handed P e (Ok y) is holds = absurd is
 handed {Y} P e (Err error) is holds = subst (λ (f : StoreFault). P (Err f)) (sym is) holds
 
+-- memory that is refused before anything is asked
+pub no_memory : {X : Type 0} (a : Store) (w : X) (Is : Outcome X) → Answers {X = X} a a Is (Err Memory)
+no_memory {X} a w Is =
+    let fine : (◌≡◌ {A = Result X StoreFault} (Err Memory) (Err failed) → ⊥) = λ same. absurd (cc) in (
+      w,
+      None,
+      record {
+        clean = omega arith;
+        serves = omega arith;
+        grows = omega arith;
+        told = λ same. absurd (fine same);
+        stays = λ none some. absurd (omega arith);
+        settled = λ settled. settled;
+        holds = λ _. record { tells = λ _. refl; crash = λ o found. inl found; durable = tt };
+      },
+      (λ _. inr (tt, refl)),
+    )
+
 -- a store that has failed before is not asked
 pub shut_out : {X : Type 0} (a : Store) (w : X) (Is : Outcome X) → 0 < a.failures → Answers a a Is (Err failed)
 shut_out a w Is some = (

@@ -1,10 +1,10 @@
 -- Requests that change nothing.
 use Rattle.std.proofs.Common.{◌≡◌, ℕ, false, List, Result, Ok, IfOk, ap, sym}
 use Rattle.pt_desk_rules.specs.Step.{sender, IsOutcome}
-use Rattle.pt_desk_rules.specs.declared.request.Answer.{Answer}
-use Rattle.pt_desk_rules.specs.declared.request.Answer.TheVariants.{Denied}
-use Rattle.pt_desk_rules.specs.declared.request.Request.{Request}
-use Rattle.pt_desk_rules.specs.declared.request.Request.TheVariants as request
+use Rattle.pt_requests.specs.declared.request.Answer.{Answer}
+use Rattle.pt_requests.specs.declared.request.Answer.TheVariants.{Denied}
+use Rattle.pt_requests.specs.declared.request.Request.{Request}
+use Rattle.pt_requests.specs.declared.request.Request.TheVariants as request
 use Rattle.pt_desk_rules.proofs.OutcomeLemmas.{is_of_write, commits_nothing, read_commits_nothing}
 use Rattle.pt_desk.specs.Run.{IsDenial, IsRead}
 use Rattle.pt_desk.specs.Store.{Store, Answers, ChangesNothing}

@@ -5,7 +5,7 @@ use Rattle.pt_desk_rules.specs.State.{State}
 use Rattle.pt_desk.specs.Store.{Store, ChangesNothing, Fails}
 use Rattle.pt_desk.specs.declared.keeper.StoreFault.{StoreFault}
 use Rattle.pt_desk.specs.declared.keeper.StoreFault.TheVariants.{Memory, Store as failed}
-use Rattle.pt_desk_rules.specs.declared.request.Answer.{Answer}
+use Rattle.pt_requests.specs.declared.request.Answer.{Answer}
 use Rattle.pt_desk.specs.declared.running.Call.{Call}
 use Rattle.pt_desk.specs.Run.{AnswersCall, IsOnlyTold, IsOutcomeOf, Runs, AreOnlyTold, AreRefused, GoesOn}
 

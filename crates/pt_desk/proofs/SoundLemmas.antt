@@ -3,8 +3,8 @@ use Rattle.std.proofs.Common.{◌≡◌, ◌<◌, ◌⊎◌, ℕ, List, Option, 
 use Rattle.pt_desk_rules.specs.State.{State}
 use Rattle.pt_desk_rules.specs.Step.{state_after, IsOutcome}
 use Rattle.pt_desk_rules.specs.Sound.{IsSound}
-use Rattle.pt_desk_rules.specs.declared.request.Answer.{Answer}
-use Rattle.pt_desk_rules.specs.declared.request.Request.{Request}
+use Rattle.pt_requests.specs.declared.request.Answer.{Answer}
+use Rattle.pt_requests.specs.declared.request.Request.{Request}
 use Rattle.pt_desk_rules.proofs.SoundLemmas.{request_sound}
 use Rattle.pt_desk.specs.Store.{Store, Answers, Tells, IsFault}
 use Rattle.pt_desk.specs.declared.keeper.StoreFault.{StoreFault}

@@ -3,7 +3,7 @@ use Rattle.std.specs.Prelude.{◌≡◌, ℕ, List, [], ◌∷◌}
 use Rattle.sha2.specs.Sha256.{sha256}
 use Rattle.pt_base.specs.declared.policy.Policy.{Policy}
 use Rattle.pt_desk_rules.specs.State.{State}
-use Rattle.pt_desk_rules.specs.declared.caller.Role.TheVariants.{Admin}
+use Rattle.pt_requests.specs.declared.caller.Role.TheVariants.{Admin}
 
 -- the policy of an agency that has settled nothing
 pub record IsLeastPolicy (policy : Policy) : Type 0 where

@@ -2,10 +2,10 @@
 use Rattle.std.specs.Prelude.{◌≡◌, ◌⊎◌, ℕ, ◌<◌, List, [], ◌∷◌, Option, Result, Ok, Err, IsOk}
 use Rattle.pt_desk_rules.specs.State.{State}
 use Rattle.pt_desk_rules.specs.Step.{IsOutcome, state_after}
-use Rattle.pt_desk_rules.specs.declared.request.Answer.{Answer}
-use Rattle.pt_desk_rules.specs.declared.request.Answer.TheVariants.{Denied}
-use Rattle.pt_desk_rules.specs.declared.request.Request.{Request}
-use Rattle.pt_desk_rules.specs.declared.request.Request.TheVariants.{Read, Write}
+use Rattle.pt_requests.specs.declared.request.Answer.{Answer}
+use Rattle.pt_requests.specs.declared.request.Answer.TheVariants.{Denied}
+use Rattle.pt_requests.specs.declared.request.Request.{Request}
+use Rattle.pt_requests.specs.declared.request.Request.TheVariants.{Read, Write}
 use Rattle.pt_desk.specs.Store.{TellsBy}
 use Rattle.pt_desk.specs.declared.keeper.StoreFault.{StoreFault}
 use Rattle.pt_desk.specs.declared.keeper.StoreFault.TheVariants.{Memory, Store}

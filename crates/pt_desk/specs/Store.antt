@@ -76,8 +76,8 @@ TellsBy {X} shut old new IsOutcome result =
     (told : X) × (left : Option State) × Tells shut old new told left result
     × (IsOutcome old told left ⊎ (IsFault result × (left ≡ None)))
 
--- Calls that answer and commit as these outcomes of the content allow, where the store is clean. A fault may come before
--- anything is decided: then nothing is committed.
+-- Calls that answer and commit as these outcomes of the content allow, where the store is clean. A fault may come
+-- before anything is decided: then nothing is committed.
 abbrev pub Answers : {X : Type 0} → Store → Store → (State → X → Option State → Type 0) → Result X StoreFault → Type 0
 Answers {X} before after IsOutcome result =
     (told : X) × (left : Option State) × Goes before after told left result

@@ -1,24 +1,19 @@
 ghost use Rattle.std.specs.Prelude.{◌≡◌, ◌<◌, ◌≤◌, ℕ, Option, None, Err};
-ghost use Rattle.pt_desk_rules.specs.State.{State, kept_of};
-ghost use Rattle.pt_desk_rules.specs.Step.{is_above, told_of, left_of};
+ghost use Rattle.pt_desk_rules.specs.State.{State};
+ghost use Rattle.pt_desk_rules.specs.Step.{sent_with, told_of, left_of};
 ghost use Rattle.pt_desk_rules.specs.Step.{IsReadOutcome, IsDecidedOutcome, IsWriteOutcome, IsOutcome};
-ghost use Rattle.pt_desk_rules.specs.declared.request.Answer.{Answer};
+ghost use Rattle.pt_requests.specs.declared.request.Answer.{Answer};
 ghost use Rattle.pt_desk.specs.Store.{Store, Answers, ChangesNothing, Goes, Reads, Fails, IsSoundKept};
 ghost use Rattle.pt_desk.specs.Run.{IsDenial, IsRead};
 
 use crate::gathering::{gather, gather_read};
 use crate::{Keeper, Reply, StoreFault};
-use pt_base::{CallerId, Day, Minute, Rule};
-use pt_desk_rules::{Answer, Caller, Decision, Digest, Read, Request, Write, decide, tell};
+use pt_base::{Day, Minute, Rule};
+use pt_desk_rules::{
+    Answer, Arrival, Caller, Decision, Digest, Read, Request, Sent, Write, decide, tell,
+};
+use pt_spelling::spell;
 use std::alloc::Global;
-
-/// Whether a write's number is above the number of the caller's last accepted write.
-fn is_new<K: Keeper>(keeper: &mut K, me: CallerId, number: u32) -> Result<bool, StoreFault>
-    ensures reads { Reads (K.store keeper.old) (K.store keeper.new) (λ s. is_above number (kept_of me s)) result }
-{
-    let last = keeper.kept(me)?;
-    Ok(last.map_or(0, |kept| kept.number) < number)
-}
 
 /// Answers a read.
 fn answer_read<K: Keeper>(
@@ -54,14 +49,15 @@ fn answer_new<K: Keeper>(
     keeper: &mut K,
     me: &Caller,
     now: (Day, Minute),
-    number: u32,
+    sent: Sent,
     write: &Write,
 ) -> Reply
+    requires spelled { sent ≡ sent_with sent.number write.now }
     ensures goes { Answers (K.store keeper.old) (K.store keeper.new)
-        (IsDecidedOutcome write.now me.now now number) result }
+        (IsDecidedOutcome write.now me.now now sent.number) result }
 {
     let facts = gather(alloc, keeper, write)?;
-    let decision = decide(alloc, &facts, me, now, number, write)?;
+    let decision = decide(alloc, &facts, me, now, sent, write)?;
     carry_out(keeper, decision)
 }
 
@@ -77,10 +73,12 @@ fn answer_write<K: Keeper>(
     ensures goes { Answers (K.store keeper.old) (K.store keeper.new)
         (IsWriteOutcome write.now me.now now number) result }
 {
-    if !is_new(keeper, me.id, number)? {
-        return Ok(Answer::Denied(Rule::Number));
+    let request = spell(alloc, write)?;
+    match keeper.arrival(me.id, number, &request)? {
+        Arrival::New => answer_new(alloc, keeper, me, now, Sent { number, request }, write),
+        Arrival::Repeated(reply) => Ok(reply.answer()),
+        Arrival::Stale => Ok(Answer::Denied(Rule::Number)),
     }
-    answer_new(alloc, keeper, me, now, number, write)
 }
 
 /// Answers one request where the store may serve.
@@ -124,7 +122,8 @@ pub fn answer<K: Keeper>(
     // What commits nothing, whatever it is told, leaves just the state before at a crash.
     ensures quiet { ((told : Answer) (left : Option State) →
         IsOutcome key.now now number request.now (K.store keeper.old).content told left → left ≡ None)
-        → (o : Option State) → (K.store keeper.new).doubt ≡ 0 → (K.store keeper.new).found o → (K.store keeper.old).found o }
+        → (o : Option State) → (K.store keeper.new).doubt ≡ 0 → (K.store keeper.new).found o
+        → (K.store keeper.old).found o }
     // A sound state is left sound.
     ensures sound { IsSoundKept (K.store keeper.old) (K.store keeper.new) }
 {

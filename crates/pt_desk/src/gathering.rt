@@ -1,18 +1,21 @@
 ghost use Rattle.std.specs.Prelude.{◌≡◌, [], Some, None};
 ghost use Rattle.pt_desk_rules.specs.Facts.{no_facts, facts_of, read_facts_of, has_subject};
-ghost use Rattle.pt_desk_rules.specs.Facts.{agency_facts, booking_facts, plan_for, day_of, wish_facts, change_facts, cancel_facts};
-ghost use Rattle.pt_desk_rules.specs.declared.request.Read.TheVariants.{Standing, Trips};
+ghost use Rattle.pt_desk_rules.specs.Facts.{agency_facts, booking_facts, plan_for, day_of, wish_facts};
+ghost use Rattle.pt_desk_rules.specs.Facts.{change_facts, cancel_facts, tallies_for, trip_facts};
+ghost use Rattle.pt_requests.specs.declared.request.Read.TheVariants.{Export, Letter, Standing, Trips};
 ghost use Rattle.pt_desk_rules.specs.State.{rider_of, file_of, trip_of};
-ghost use Rattle.pt_desk_rules.specs.declared.request.Write.TheVariants.{PutCaller, PutPlace, PutRoute, PutRider, PutVehicle, Travel};
+ghost use Rattle.pt_requests.specs.declared.request.Write.TheVariants.{Enter, PutCaller, PutPlace, PutRoute};
+ghost use Rattle.pt_requests.specs.declared.request.Write.TheVariants.{PutRider, PutVehicle, Travel};
 ghost use Rattle.pt_desk.specs.Store.{Store, Reads};
 
 use crate::{Keeper, StoreFault};
 use pt_base::{Day, Place, Rider, RiderId, Trip, TripId, Vehicle, Wish};
 use pt_corridor::FixedRoute;
 use pt_desk_rules::{
-    BookingFacts, Caller, DayFacts, PlannedRoute, Read, ReadFacts, Role, Write, WriteFacts,
+    BookingFacts, Caller, DayFacts, PlannedRoute, Read, ReadFacts, Role, Tallies, Write, WriteFacts,
 };
-use pt_rights::CaseFile;
+use pt_records::Rows;
+use pt_rights::{CaseFile, Entry};
 use std::alloc::Global;
 
 /// Whether the rider or the vehicle is there that a role speaks of.
@@ -104,18 +107,38 @@ fn rider_with_file<K: Keeper>(
     Ok((keeper.rider(rider)?, keeper.case_file(alloc, rider)?))
 }
 
-fn gather_file<K: Keeper>(
+/// The outcomes that an entry looks at.
+fn gather_tallies<K: Keeper>(
     alloc: Global,
     keeper: &mut K,
     rider: RiderId,
-) -> Result<WriteFacts, StoreFault>
-    ensures reads { Reads (K.store keeper.old) (K.store keeper.new)
-        (λ s. record (no_facts s.policy) { rider = rider_of rider s; file = file_of rider s }) result }
+    entry: &Entry,
+) -> Result<Tallies, StoreFault>
+    ensures reads { Reads (K.store keeper.old) (K.store keeper.new) (tallies_for entry.now rider) result }
 {
+    match entry {
+        Entry::Notice(_) => {
+            let trips = keeper.trips_of(alloc, rider)?;
+            Ok(Tallies::of(alloc, trips.as_slice())?)
+        }
+        _ => Ok(Tallies::none(alloc)),
+    }
+}
+
+fn gather_entry<K: Keeper>(
+    alloc: Global,
+    keeper: &mut K,
+    rider: RiderId,
+    entry: &Entry,
+) -> Result<WriteFacts, StoreFault>
+    ensures reads { Reads (K.store keeper.old) (K.store keeper.new) (facts_of (Enter rider entry.now)) result }
+{
+    let tallies = gather_tallies(alloc, keeper, rider, entry)?;
     let (rider, file) = rider_with_file(alloc, keeper, rider)?;
     Ok(WriteFacts {
         rider,
         file,
+        tallies,
         ..gather_policy(alloc, keeper)?
     })
 }
@@ -289,6 +312,23 @@ fn gather_there<K: Keeper>(
     })
 }
 
+/// What the outcome of a trip looks at.
+fn gather_trip<K: Keeper>(
+    alloc: Global,
+    keeper: &mut K,
+    trip: TripId,
+) -> Result<WriteFacts, StoreFault>
+    ensures reads { Reads (K.store keeper.old) (K.store keeper.new) (trip_facts trip) result }
+{
+    Ok(WriteFacts {
+        booking: BookingFacts {
+            trip: keeper.trip(trip)?,
+            ..BookingFacts::none(alloc)
+        },
+        ..gather_policy(alloc, keeper)?
+    })
+}
+
 /// All that the rules of the write look at.
 pub(crate) fn gather<K: Keeper>(
     alloc: Global,
@@ -303,12 +343,13 @@ pub(crate) fn gather<K: Keeper>(
         Write::PutPlace(new) => gather_place(alloc, keeper, new),
         Write::PutRoute(new) => gather_route(alloc, keeper, new),
         Write::PutRider(new) => gather_rider(alloc, keeper, new),
-        Write::Enter { rider, entry: _ } => gather_file(alloc, keeper, *rider),
+        Write::Enter { rider, entry } => gather_entry(alloc, keeper, *rider, entry),
         Write::PutVehicle(new) => gather_vehicle(alloc, keeper, new),
         Write::Travel { day, rows: _ } => gather_travel(alloc, keeper, *day),
         Write::Book { rider, wish } => gather_wish(alloc, keeper, *rider, wish, &None),
         Write::Change { trip, wish } => gather_change(alloc, keeper, *trip, wish),
         Write::Cancel(trip) => gather_cancel(alloc, keeper, *trip),
+        Write::Outcome { trip, outcome: _ } => gather_trip(alloc, keeper, *trip),
     }
 }
 
@@ -338,6 +379,35 @@ fn gather_trips<K: Keeper>(
     })
 }
 
+fn gather_letter<K: Keeper>(
+    alloc: Global,
+    keeper: &mut K,
+    rider: RiderId,
+) -> Result<ReadFacts, StoreFault>
+    ensures reads { Reads (K.store keeper.old) (K.store keeper.new) (read_facts_of (Letter rider 0)) result }
+{
+    let (rider, file) = rider_with_file(alloc, keeper, rider)?;
+    Ok(ReadFacts {
+        rider,
+        file,
+        trips: Rows::none(alloc),
+    })
+}
+
+fn gather_export<K: Keeper>(
+    alloc: Global,
+    keeper: &mut K,
+    day: Day,
+) -> Result<ReadFacts, StoreFault>
+    ensures reads { Reads (K.store keeper.old) (K.store keeper.new) (read_facts_of (Export day)) result }
+{
+    Ok(ReadFacts {
+        rider: None,
+        file: CaseFile::new(alloc),
+        trips: keeper.trips_on(alloc, day)?,
+    })
+}
+
 /// All that the rules of the read look at, and what it is told.
 pub(crate) fn gather_read<K: Keeper>(
     alloc: Global,
@@ -349,5 +419,7 @@ pub(crate) fn gather_read<K: Keeper>(
     match *read {
         Read::Standing { rider, day: _ } => gather_standing(alloc, keeper, rider),
         Read::Trips(rider) => gather_trips(alloc, keeper, rider),
+        Read::Letter { rider, position: _ } => gather_letter(alloc, keeper, rider),
+        Read::Export(day) => gather_export(alloc, keeper, day),
     }
 }

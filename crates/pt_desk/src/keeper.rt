@@ -1,6 +1,7 @@
 ghost use Rattle.std.specs.Prelude.{◌≡◌, ◌≤◌, length, Option, is_some};
 ghost use Rattle.pt_desk_rules.specs.State.{State, caller_with, caller_of, kept_of, place_of, rider_of, route_of};
 ghost use Rattle.pt_desk_rules.specs.State.{file_of, tables_before, trip_of, plan_of, applied};
+ghost use Rattle.pt_desk_rules.specs.Arrival.{arrival_of};
 ghost use Rattle.pt_desk_rules.specs.Fleet.{has_version};
 ghost use Rattle.pt_desk_rules.specs.Planned.{is_booked_from, planned_on, trips_of, trips_on};
 ghost use Rattle.pt_desk_rules.specs.Travel.{table_on};
@@ -11,7 +12,7 @@ use pt_base::{
     VehicleId,
 };
 use pt_corridor::FixedRoute;
-use pt_desk_rules::{Answer, Caller, Change, Digest, Kept, PlannedRoute, TravelTable};
+use pt_desk_rules::{Answer, Arrival, Caller, Change, Digest, PlannedRoute, Spelling, TravelTable};
 use pt_records::Rows;
 use pt_rights::CaseFile;
 use std::alloc::{AllocError, Global};
@@ -58,9 +59,15 @@ pub trait Keeper {
     fn caller_count(&mut self) -> Result<usize, StoreFault>
         ensures reads { Reads (store self.old) (store self.new) (λ s. length s.callers) result };
 
-    /// The last accepted write of a caller.
-    fn kept(&mut self, caller: CallerId) -> Result<Option<Kept>, StoreFault>
-        ensures reads { Reads (store self.old) (store self.new) (kept_of caller) result };
+    /// How a write of a caller comes in, with this number and spelling, beside the caller's last accepted one.
+    fn arrival(
+        &mut self,
+        caller: CallerId,
+        number: u32,
+        request: &Spelling,
+    ) -> Result<Arrival, StoreFault>
+        ensures reads { Reads (store self.old) (store self.new)
+            (λ s. arrival_of number request.now (kept_of caller s)) result };
 
     /// The agency's policy.
     fn policy(&mut self) -> Result<Policy, StoreFault>

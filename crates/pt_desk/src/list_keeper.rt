@@ -16,7 +16,8 @@ use pt_base::{
 };
 use pt_corridor::FixedRoute;
 use pt_desk_rules::{
-    Caller, Change, Digest, FiledEntry, Kept, PlannedRoute, Role, TravelTable, table_on,
+    Arrival, Caller, Change, Digest, FiledEntry, Kept, PlannedRoute, Role, Spelling, TravelTable,
+    table_on,
 };
 use pt_records::{Edits, Key, Rows, Span, Table};
 use pt_rights::{CaseFile, Entered};
@@ -284,8 +285,14 @@ impl Keeper for ListKeeper {
         Ok(self.callers.as_slice().len())
     }
 
-    fn kept(&mut self, caller: CallerId) -> Result<Option<Kept>, StoreFault> {
-        Ok(self.kept.find(&Key::of(caller.number())).copied())
+    fn arrival(
+        &mut self,
+        caller: CallerId,
+        number: u32,
+        request: &Spelling,
+    ) -> Result<Arrival, StoreFault> {
+        let last = self.kept.find(&Key::of(caller.number()));
+        Ok(Arrival::of(number, request, last))
     }
 
     fn policy(&mut self) -> Result<Policy, StoreFault> {

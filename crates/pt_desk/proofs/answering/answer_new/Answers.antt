@@ -2,9 +2,10 @@ use Rattle.std.proofs.Common.{◌≡◌, ◌∙◌, refl, sym, ap, subst, Ok, Er
 use Rattle.pt_base.specs.declared.rule.Rule.TheVariants.{Key, Number}
 use Rattle.pt_desk_rules.specs.Deciding.{IsDecision, IsTold}
 use Rattle.pt_desk_rules.specs.State.{State, kept_of, caller_with}
-use Rattle.pt_desk_rules.specs.Step.{told_of, left_of, is_above, IsReadOutcome, IsDecidedOutcome, IsOutcomeIf, IsWriteOutcome, IsOutcomeBy, IsOutcome}
-use Rattle.pt_desk_rules.specs.declared.request.Answer.{Answer}
-use Rattle.pt_desk_rules.specs.declared.request.Answer.TheVariants.{Done, Denied}
+use Rattle.pt_desk_rules.specs.Step.{sent_with, told_of, left_of, IsReadOutcome, IsDecidedOutcome, IsWriteOutcome, IsOutcomeBy, IsOutcome}
+use Rattle.pt_requests.specs.declared.request.Answer.{Answer}
+use Rattle.pt_requests.specs.declared.request.Answer.TheVariants.{Done, Denied}
+use Rattle.pt_desk_rules.specs.declared.kept.Sent.{Sent}
 use Rattle.pt_desk.specs.Store.{Answers}
 use Rattle.pt_desk.specs.declared.keeper.StoreFault.TheVariants.{Memory}
 use Rattle.pt_desk.proofs.AnswerLemmas.{read_then, read_told, read_fault, read_memory, goes_by, handed}
@@ -14,7 +15,7 @@ pub returns-in_err-facts : goal.returns-in_err-facts
 returns-in_err-facts g c =
     let a = g.K.Keeper.store c.args.keeper.now in
     let b = g.K.Keeper.store c.gather.new.keeper in
-    let Is = IsDecidedOutcome c.args.write.now c.args.me.now c.args.now c.args.number in
+    let Is = IsDecidedOutcome c.args.write.now c.args.me.now c.args.now c.args.sent.number in
     record {
       goes = handed (λ r. Answers a b Is r) c.in_err-facts.field-0.0 c.from_residual.result c.from_residual.ensures.1
           (read_fault a b _ Done c.in_err-facts.field-0.0 Is c.in_err-facts.ensures.reads);
@@ -24,7 +25,7 @@ pub returns-in_err-decision : goal.returns-in_err-decision
 returns-in_err-decision g c =
     let a = g.K.Keeper.store c.args.keeper.now in
     let b = g.K.Keeper.store c.gather.new.keeper in
-    let Is = IsDecidedOutcome c.args.write.now c.args.me.now c.args.now c.args.number in
+    let Is = IsDecidedOutcome c.args.write.now c.args.me.now c.args.now c.args.sent.number in
     record {
       goes = handed (λ r. Answers a b Is r) Memory c.from_residual-in_err-decision.result c.from_residual-in_err-decision.ensures.1
           (read_memory a b c.in_ok-facts.facts _ Done Is c.in_ok-facts.ensures.reads);
@@ -36,14 +37,15 @@ returns g c =
     let b = g.K.Keeper.store c.gather.new.keeper in
     let d = g.K.Keeper.store c.carry_out.new.keeper in
     let decision = c.in_ok-decision.decision in
-    let Is = IsDecidedOutcome c.args.write.now c.args.me.now c.args.now c.args.number in
+    let Is = IsDecidedOutcome c.args.write.now c.args.me.now c.args.now c.args.sent.number in
     let IsCarried = λ (s : State) (told : Answer) (left : Option State). (told ≡ told_of decision) × (left ≡ left_of decision s) in
     record {
       goes = read_then a b d c.in_ok-facts.facts _ IsCarried Is c.carry_out.result c.in_ok-facts.ensures.reads
           (goes_by b d (told_of decision) (left_of decision b.content) IsCarried c.carry_out.result c.carry_out.ensures.goes (refl, refl))
           (λ is told left carried. (
             decision,
-            subst (λ facts. IsDecision c.args.write.now c.args.me.now c.args.now c.args.number facts decision) is c.in_ok-decision.ensures.decided,
+            subst (λ facts. IsDecision c.args.write.now c.args.me.now c.args.now (sent_with c.args.sent.number c.args.write.now) facts decision) is
+                (subst (λ (sent : Sent). IsDecision c.args.write.now c.args.me.now c.args.now sent c.in_ok-facts.facts decision) c.requires.spelled c.in_ok-decision.ensures.decided),
             c.in_ok-decision.ensures.made,
             carried.0,
             carried.1,

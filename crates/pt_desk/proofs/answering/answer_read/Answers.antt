@@ -2,9 +2,9 @@ use Rattle.std.proofs.Common.{◌≡◌, ◌∙◌, refl, sym, ap, subst, Ok, Er
 use Rattle.pt_base.specs.declared.rule.Rule.TheVariants.{Key, Number}
 use Rattle.pt_desk_rules.specs.Deciding.{IsDecision, IsTold}
 use Rattle.pt_desk_rules.specs.State.{State, kept_of, caller_with}
-use Rattle.pt_desk_rules.specs.Step.{told_of, left_of, is_above, IsReadOutcome, IsDecidedOutcome, IsOutcomeIf, IsWriteOutcome, IsOutcomeBy, IsOutcome}
-use Rattle.pt_desk_rules.specs.declared.request.Answer.{Answer}
-use Rattle.pt_desk_rules.specs.declared.request.Answer.TheVariants.{Done, Denied}
+use Rattle.pt_desk_rules.specs.Step.{sent_with, told_of, left_of, IsReadOutcome, IsDecidedOutcome, IsWriteOutcome, IsOutcomeBy, IsOutcome}
+use Rattle.pt_requests.specs.declared.request.Answer.{Answer}
+use Rattle.pt_requests.specs.declared.request.Answer.TheVariants.{Done, Denied}
 use Rattle.pt_desk.specs.Store.{Answers}
 use Rattle.pt_desk.specs.declared.keeper.StoreFault.TheVariants.{Memory}
 use Rattle.pt_desk.proofs.AnswerLemmas.{read_then, read_told, read_fault, read_memory, goes_by, handed}

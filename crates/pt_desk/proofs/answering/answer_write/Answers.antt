@@ -1,44 +1,70 @@
-use Rattle.std.proofs.Common.{◌≡◌, ◌∙◌, refl, sym, ap, subst, Ok, Err, None, Option, true, false}
-use Rattle.pt_base.specs.declared.rule.Rule.TheVariants.{Key, Number}
-use Rattle.pt_desk_rules.specs.Deciding.{IsDecision, IsTold}
-use Rattle.pt_desk_rules.specs.State.{State, kept_of, caller_with}
-use Rattle.pt_desk_rules.specs.Step.{told_of, left_of, is_above, IsReadOutcome, IsDecidedOutcome, IsOutcomeIf, IsWriteOutcome, IsOutcomeBy, IsOutcome}
-use Rattle.pt_desk_rules.specs.declared.request.Answer.{Answer}
-use Rattle.pt_desk_rules.specs.declared.request.Answer.TheVariants.{Done, Denied}
+use Rattle.std.proofs.Common.{◌≡◌, ◌∙◌, sym, ap, subst, refl, None, Option, List, ℕ}
+use Rattle.pt_base.specs.declared.rule.Rule.TheVariants.{Number}
+use Rattle.pt_spelling.specs.Replies.{answer_of}
+use Rattle.pt_spelling.specs.Requests.{spelling}
+use Rattle.pt_desk_rules.specs.Arrival.{arrival_of}
+use Rattle.pt_desk_rules.specs.State.{State, kept_of}
+use Rattle.pt_desk_rules.specs.Step.{arrival_in, IsDecidedOutcome, IsOutcomeAs, IsWriteOutcome}
+use Rattle.pt_desk_rules.specs.declared.kept.Arrival.{Arrival}
+use Rattle.pt_desk_rules.specs.declared.kept.Arrival.TheVariants.{Repeated, Stale}
+use Rattle.pt_requests.specs.declared.request.Answer.TheVariants.{Done, Denied}
 use Rattle.pt_desk.specs.Store.{Answers}
 use Rattle.pt_desk.specs.declared.keeper.StoreFault.TheVariants.{Memory}
-use Rattle.pt_desk.proofs.AnswerLemmas.{read_then, read_told, read_fault, read_memory, goes_by, handed}
+use Rattle.pt_desk.proofs.AnswerLemmas.{no_memory, read_then, read_told, read_fault, handed}
 use Rattle.pt_desk.proofs.answering.answer_write.Goals as goal
 
-pub returns-in_err-is_new : goal.returns-in_err-is_new
-returns-in_err-is_new g c =
+pub returns-in_err-request : goal.returns-in_err-request
+returns-in_err-request g c =
     let a = g.K.Keeper.store c.args.keeper.now in
-    let b = g.K.Keeper.store c.is_new.new.keeper in
+    let Is = IsWriteOutcome c.args.write.now c.args.me.now c.args.now c.args.number in
+    record { goes = handed (λ r. Answers a a Is r) Memory c.from_residual.result c.from_residual.ensures.1 (no_memory a Done Is) }
+
+pub returns-in_err-arrival : goal.returns-in_err-arrival
+returns-in_err-arrival g c =
+    let a = g.K.Keeper.store c.args.keeper.now in
+    let b = g.K.Keeper.store c.arrival.new.self in
     let Is = IsWriteOutcome c.args.write.now c.args.me.now c.args.now c.args.number in
     record {
-      goes = handed (λ r. Answers a b Is r) c.in_err-is_new.field-0.0 c.from_residual.result c.from_residual.ensures.1
-          (read_fault a b _ Done c.in_err-is_new.field-0.0 Is c.in_err-is_new.ensures.reads);
+      goes = handed (λ r. Answers a b Is r) c.in_err-arrival.field-0.0 c.from_residual-in_err-arrival.result c.from_residual-in_err-arrival.ensures.1
+          (read_fault a b _ Done c.in_err-arrival.field-0.0 Is c.in_err-arrival.ensures.reads);
     }
 
-pub returns-then-not-branch : goal.returns-then-not-branch
-returns-then-not-branch g c =
+pub returns-in-New : goal.returns-in-New
+returns-in-New g c =
     let a = g.K.Keeper.store c.args.keeper.now in
-    let b = g.K.Keeper.store c.is_new.new.keeper in
-    let Is = IsWriteOutcome c.args.write.now c.args.me.now c.args.now c.args.number in
-    let denied : IsOutcomeIf false c.args.write.now c.args.me.now c.args.now c.args.number a.content (Denied Number) None = (refl, refl) in
-    record {
-      goes = read_told a b c.in_ok-is_new.field-0 (is_above c.args.number (kept_of c.args.me.now.id a.content)) (Denied Number) Is c.in_ok-is_new.ensures.reads
-          (λ is. subst (λ fresh. IsOutcomeIf fresh c.args.write.now c.args.me.now c.args.now c.args.number a.content (Denied Number) None) (sym c.if-not-branch.true ∙ is) denied);
-    }
-
-pub returns : goal.returns
-returns g c =
-    let a = g.K.Keeper.store c.args.keeper.now in
-    let b = g.K.Keeper.store c.is_new.new.keeper in
+    let b = g.K.Keeper.store c.arrival.new.self in
     let d = g.K.Keeper.store c.answer_new.new.keeper in
+    let arrival = λ (request : List ℕ). arrival_of c.args.number request (kept_of c.args.me.now.id a.content) in
     let Is = IsWriteOutcome c.args.write.now c.args.me.now c.args.now c.args.number in
     let IsNew = IsDecidedOutcome c.args.write.now c.args.me.now c.args.now c.args.number in
     record {
-      goes = read_then a b d c.in_ok-is_new.field-0 (is_above c.args.number (kept_of c.args.me.now.id a.content)) IsNew Is c.answer_new.result c.in_ok-is_new.ensures.reads c.answer_new.ensures.goes
-          (λ is told left outcome. subst (λ fresh. IsOutcomeIf fresh c.args.write.now c.args.me.now c.args.now c.args.number a.content told left) (sym c.if-not-branch.false ∙ is) outcome);
+      goes = read_then a b d c.in_ok-arrival.field-0 (arrival c.in_ok-request.request) IsNew Is c.answer_new.result c.in_ok-arrival.ensures.reads c.answer_new.ensures.goes
+          (λ is told left outcome. subst (λ (comes : Arrival). IsOutcomeAs comes c.args.write.now c.args.me.now c.args.now c.args.number a.content told left)
+          (sym c.in-New.is ∙ is ∙ ap arrival c.in_ok-request.ensures.value) outcome);
+    }
+
+pub returns-in-Repeated : goal.returns-in-Repeated
+returns-in-Repeated g c =
+    let a = g.K.Keeper.store c.args.keeper.now in
+    let b = g.K.Keeper.store c.arrival.new.self in
+    let arrival = λ (request : List ℕ). arrival_of c.args.number request (kept_of c.args.me.now.id a.content) in
+    let Is = IsWriteOutcome c.args.write.now c.args.me.now c.args.now c.args.number in
+    let repeated : IsOutcomeAs (Repeated c.in-Repeated.reply) c.args.write.now c.args.me.now c.args.now c.args.number a.content c.answer.result None = (c.answer.ensures, refl) in
+    record {
+      goes = read_told a b c.in_ok-arrival.field-0 (arrival c.in_ok-request.request) c.answer.result Is c.in_ok-arrival.ensures.reads
+          (λ is. subst (λ (comes : Arrival). IsOutcomeAs comes c.args.write.now c.args.me.now c.args.now c.args.number a.content c.answer.result None)
+          (sym c.in-Repeated.is ∙ is ∙ ap arrival c.in_ok-request.ensures.value) repeated);
+    }
+
+pub returns-in-Stale : goal.returns-in-Stale
+returns-in-Stale g c =
+    let a = g.K.Keeper.store c.args.keeper.now in
+    let b = g.K.Keeper.store c.arrival.new.self in
+    let arrival = λ (request : List ℕ). arrival_of c.args.number request (kept_of c.args.me.now.id a.content) in
+    let Is = IsWriteOutcome c.args.write.now c.args.me.now c.args.now c.args.number in
+    let stale : IsOutcomeAs Stale c.args.write.now c.args.me.now c.args.now c.args.number a.content (Denied Number) None = (refl, refl) in
+    record {
+      goes = read_told a b c.in_ok-arrival.field-0 (arrival c.in_ok-request.request) (Denied Number) Is c.in_ok-arrival.ensures.reads
+          (λ is. subst (λ (comes : Arrival). IsOutcomeAs comes c.args.write.now c.args.me.now c.args.now c.args.number a.content (Denied Number) None)
+          (sym c.in-Stale.is ∙ is ∙ ap arrival c.in_ok-request.ensures.value) stale);
     }

@@ -4,7 +4,7 @@ use Rattle.pt_desk_rules.specs.Sound.{IsSound}
 use Rattle.pt_desk.specs.Run.{AreOnlyTold, GoesOn}
 use Rattle.pt_desk.specs.Store.{Store, IsSettled}
 use Rattle.pt_desk.specs.declared.keeper.StoreFault.{StoreFault}
-use Rattle.pt_desk_rules.specs.declared.request.Answer.{Answer}
+use Rattle.pt_requests.specs.declared.request.Answer.{Answer}
 use Rattle.pt_desk.proofs.RunLemmas.{IsSame}
 use Rattle.pt_desk.proofs.running.run.Given as goal
 
