@@ -1,9 +1,10 @@
 -- Requests at the front of an input, of which an inbox holds a part.
-use Rattle.std.proofs.Common.{◌≡◌, ℕ, ◌≤◌, ◌<◌, ◌+◌, ◌-◌, List, [], ◌++◌, length, take, drop, sym, ap, ◌∙◌, subst, arith, Option, Some, None, inl, inr, append_assoc, append-nil, length-append, length-drop, length-take}
+use Rattle.std.proofs.Common.{◌≡◌, ℕ, ◌≤◌, ◌<◌, ◌+◌, ◌-◌, List, [], ◌++◌, length, take, drop, sym, ap, ◌∙◌, subst, arith, Option, Some, None, append_assoc, append-nil, length-append, length-drop, length-take}
 use Rattle.std.proofs.lemmas.List.{take-append-drop, drop-append-le, drop-drop}
 use Rattle.std.proofs.Math.Seq.{take-append_seam}
 use Rattle.std.specs.Io.KnownBytes.{IsAtEnd}
 use Rattle.std.specs.Prelude.{IfSome}
+use Rattle.std.proofs.lemmas.Bool.{false≢true}
 use Rattle.httparse.specs.Grammar.{RequestHead, print_request}
 use Rattle.pt_http_inbox.specs.Head.{BeginsWithHead, IsHead}
 use Rattle.pt_http_inbox.specs.Inbox.{ReadsOn}
@@ -14,7 +15,7 @@ use Rattle.pt_http_reply.specs.declared.fault.RequestFault.TheVariants as fault
 use Rattle.pt_http_request.specs.Headers.{IsBodyLength}
 use Rattle.pt_http_request.specs.Messages.{IsMessageFault}
 use Rattle.pt_http_request.specs.Targets.{desk_routes}
-use Rattle.pt_http_request.proofs.MessageLemmas.{body_length_unique}
+use Rattle.pt_http_request.proofs.MessageLemmas.{body_length_unique, fault_of_parts}
 use Rattle.pt_http.specs.Input.{HasInput}
 use Rattle.pt_http.specs.Message.{HasNoBody, BeginsWithFault}
 use Rattle.pt_http.specs.Parts.{lines_of, IsWholeHead, BeginsWithParts}
@@ -24,9 +25,6 @@ use Rattle.pt_http_request.specs.Faults.{OnRefused}
 use Rattle.pt_http_request.specs.declared.fault.MessageFault.{MessageFault}
 use Rattle.pt_http_request.specs.declared.fault.MessageFault.TheVariants.{Refused}
 use Rattle.pt_http_request.specs.declared.targets.Path.{Path}
-use Rattle.pt_http_request.specs.declared.targets.Target.{Target}
-use Rattle.pt_http_request.specs.declared.targets.Target.TheVariants as target
-use Rattle.pt_http_request.specs.Messages.{IsRequestFault}
 use Rattle.pt_http.specs.Received.{IsSpelledBy, BeginsWith}
 use Rattle.pt_http.specs.declared.received.Received.{Received}
 use Rattle.pt_http.specs.declared.received.Received.TheVariants as received
@@ -130,28 +128,9 @@ pub refused_by : (routes : RowsOf (RouteOf Path)) (method whole : List ℕ) (lin
     → OnRefused (IsMessageFault routes method whole lines body) error → IsMessageFault desk_routes method whole lines body why
 refused_by routes method whole lines body error why is routed refused = rw (is, routed) at refused
 
--- a message that has its parts is not refused for its head or its length
-no_asked_head : (asked : Target) (method : List ℕ) (lines : List (List ℕ × List ℕ)) (body : List ℕ) → ¬ (IsRequestFault asked method lines body fault.Head)
-no_asked_head (target.Read asked) method lines body refused = refused
-no_asked_head (target.Write asked) method lines body (inl (is, not)) = absurd (cc (is))
-no_asked_head (target.Write asked) method lines body (inr (post, none)) = none
-
-no_asked_length : (asked : Target) (method : List ℕ) (lines : List (List ℕ × List ℕ)) (body : List ℕ) → ¬ (IsRequestFault asked method lines body fault.Length)
-no_asked_length (target.Read asked) method lines body refused = refused
-no_asked_length (target.Write asked) method lines body (inl (is, not)) = absurd (cc (is))
-no_asked_length (target.Write asked) method lines body (inr (post, none)) = none
-
-head_is_no_fault : (method whole : List ℕ) (lines : List (List ℕ × List ℕ)) (body : List ℕ) → ¬ (IsMessageFault desk_routes method whole lines body fault.Head)
-head_is_no_fault method whole lines body (inl (is, none)) = absurd (cc (is))
-head_is_no_fault method whole lines body (inr (asked, path, refused)) = no_asked_head asked method lines body refused
-
-length_is_no_fault : (method whole : List ℕ) (lines : List (List ℕ × List ℕ)) (body : List ℕ) → ¬ (IsMessageFault desk_routes method whole lines body fault.Length)
-length_is_no_fault method whole lines body (inl (is, none)) = absurd (cc (is))
-length_is_no_fault method whole lines body (inr (asked, path, refused)) = no_asked_length asked method lines body refused
-
 refused_parts : (bytes body rest : List ℕ) (head : RequestHead) (why : RequestFault) → BeginsWithParts bytes head body rest → IsMessageFault desk_routes head.method head.target (lines_of head) body why → BeginsWithFault bytes why rest
-refused_parts bytes body rest head fault.Head parts refused = absurd (head_is_no_fault head.method head.target (lines_of head) body refused)
-refused_parts bytes body rest head fault.Length parts refused = absurd (length_is_no_fault head.method head.target (lines_of head) body refused)
+refused_parts bytes body rest head fault.Head parts refused = absurd (false≢true (fault_of_parts desk_routes head.method head.target (lines_of head) body fault.Head refused))
+refused_parts bytes body rest head fault.Length parts refused = absurd (false≢true (fault_of_parts desk_routes head.method head.target (lines_of head) body fault.Length refused))
 refused_parts bytes body rest head fault.Path parts refused = record { head = head; body = body; parts = parts; refused = refused }
 refused_parts bytes body rest head (fault.Method allowed) parts refused = record { head = head; body = body; parts = parts; refused = refused }
 refused_parts bytes body rest head fault.Json parts refused = record { head = head; body = body; parts = parts; refused = refused }

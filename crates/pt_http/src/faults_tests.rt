@@ -107,14 +107,25 @@ fn compare_writer(rt: &impl Abort, alloc: Global, reply: &[u8], written: usize) 
         room,
         is_stuck: written > reply.len(),
     };
-    let (told, is_put) = told_by_new_desk(rt, alloc, PUT_CLERK.as_bytes(), &mut out);
+    let mut keeper = ListKeeper::new(alloc, b"abc").expect(rt, "memory");
+    let answered = told(rt, alloc, &mut keeper, PUT_CLERK.as_bytes(), &mut out);
     let expected = if written == reply.len() {
         Ok(())
     } else {
         Err(Fault::of(WRITE_FAILED))
     };
-    assert_eq!(rt; (told, is_put), (expected, true), "writer {written}");
+    let is_put = has_clerk(rt, &mut keeper);
+    assert_eq!(rt; (answered, is_put), (expected, true), "writer {written}");
     assert_eq!(rt; out.bytes.as_slice(), &reply[..room]);
+    compare_again(rt, alloc, &mut keeper, reply);
+}
+
+/// Sends the request again, whose reply was lost or not, and compares the reply.
+fn compare_again(rt: &impl Abort, alloc: Global, keeper: &mut ListKeeper, reply: &[u8]) {
+    let mut out = Vec::new(alloc);
+    let answered = told(rt, alloc, keeper, PUT_CLERK.as_bytes(), &mut out);
+    assert_eq!(rt; answered, Ok(()), "again");
+    assert_eq!(rt; out.as_slice(), reply);
 }
 
 #[test]

@@ -2,9 +2,11 @@ use crate::answer_bytes;
 use crate::tests::{COMPLETE, PUT_CLERK, PUT_RIDER, STANDING, eight_in_the_morning};
 use arrayvec::ArrayVec;
 use pt_base::fault::MEMORY;
-use pt_base::{CallerId, Day, Fault, Minute};
-use pt_desk::{Keeper, ListKeeper};
+use pt_base::{CallerId, Day, Fault, Minute, TripId};
+use pt_desk::{Keeper, ListKeeper, Write};
+use pt_desk_rules::Arrival;
 use pt_http_inbox::Inbox;
+use pt_spelling::spell;
 use std::alloc::Global;
 use std::process::Abort;
 
@@ -13,24 +15,35 @@ use std::process::Abort;
 struct Snapshot {
     callers: usize,
     riders: usize,
-    /// The last accepted numbers of the admin and of the clerk.
-    numbers: [u32; 2],
+    /// Whether the numbers are new that the admin and the clerk use.
+    numbers: [bool; 3],
 }
 
-fn last_number(rt: &impl Abort, keeper: &mut ListKeeper, caller: CallerId) -> u32 {
-    match keeper.kept(caller).expect(rt, "a number") {
-        Some(last) => last.number,
-        None => 0,
-    }
+/// Whether a write of the caller with this number would be a new one.
+fn is_new(
+    rt: &impl Abort,
+    alloc: Global,
+    keeper: &mut ListKeeper,
+    caller: CallerId,
+    number: u32,
+) -> bool {
+    let asked = Write::Cancel(TripId::of(1).unwrap());
+    let request = spell(alloc, &asked).or_else(|_| spell(alloc, &asked));
+    let request = request.expect(rt, "memory");
+    let arrival = keeper.arrival(caller, number, &request);
+    arrival.expect(rt, "an arrival") == Arrival::New
 }
 
-fn seen(rt: &impl Abort, keeper: &mut ListKeeper) -> Snapshot {
-    let admin = last_number(rt, keeper, CallerId::of(1).unwrap());
-    let clerk = last_number(rt, keeper, CallerId::of(2).unwrap());
+fn seen(rt: &impl Abort, alloc: Global, keeper: &mut ListKeeper) -> Snapshot {
+    let (admin, clerk) = (CallerId::of(1).unwrap(), CallerId::of(2).unwrap());
     Snapshot {
         callers: keeper.caller_count().expect(rt, "callers"),
         riders: keeper.rider_count().expect(rt, "riders"),
-        numbers: [admin, clerk],
+        numbers: [
+            is_new(rt, alloc, keeper, admin, 1),
+            is_new(rt, alloc, keeper, clerk, 1),
+            is_new(rt, alloc, keeper, clerk, 2),
+        ],
     }
 }
 
@@ -71,13 +84,13 @@ fn first_try(
     inbox: &mut Inbox<&[u8]>,
     out: &mut ArrayVec<u8, 512>,
 ) -> FirstTry {
-    let before = seen(rt, keeper);
+    let before = seen(rt, alloc, keeper);
     let told = told(alloc, keeper, eight_in_the_morning(rt), inbox, out);
     if told == Ok(()) && !out.ends_with(b"{\"denied\":\"desk.memory\"}") {
         return FirstTry::Answered;
     }
     let named = told.is_ok() || (told == Err(Fault::of(MEMORY)) && out.is_empty());
-    let same = named && seen(rt, keeper) == before;
+    let same = named && seen(rt, alloc, keeper) == before;
     assert!(rt; same, "a refusal that changes nothing");
     if told.is_ok() {
         FirstTry::Denied

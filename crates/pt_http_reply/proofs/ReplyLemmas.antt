@@ -8,8 +8,8 @@ use Rattle.pt_http_reply.specs.declared.fault.RequestFault.TheVariants as fault
 use Rattle.pt_rights.specs.declared.case_file.Standing.{Standing}
 use Rattle.pt_rights.specs.declared.case_file.Standing.TheVariants as standing
 use Rattle.pt_desk.specs.declared.keeper.StoreFault.TheVariants.{Memory, Store}
-use Rattle.pt_desk_rules.specs.declared.request.Answer.{Answer}
-use Rattle.pt_desk_rules.specs.declared.request.Answer.TheVariants as answer
+use Rattle.pt_requests.specs.declared.request.Answer.{Answer}
+use Rattle.pt_requests.specs.declared.request.Answer.TheVariants as answer
 use Rattle.pt_http_reply.proofs.TripLemmas.{IsDateText-unique, trips_body-unique}
 use Rattle.pt_http_reply.specs.Body.{granted_body, IsStandingBody, IsAnswerBody, IsBody}
 use Rattle.pt_http_reply.specs.Reply.{bytes_in}
@@ -33,6 +33,8 @@ answer_body-unique (answer.Standing standing suspended) a b is other = standing_
 answer_body-unique (answer.Visitor may_use) a b is other = is ∙ sym other
 answer_body-unique (answer.Booked told) a b is other = is ∙ sym other
 answer_body-unique (answer.Trips trips) a b is other = trips_body-unique trips a b is other
+answer_body-unique (answer.Letter letter) a b is other = is ∙ sym other
+answer_body-unique (answer.Export trips) a b is other = is ∙ sym other
 answer_body-unique (answer.Denied rule) a b is other = is ∙ sym other
 
 body-unique : (reply : Response) (a b : List ℕ) → IsBody reply a → IsBody reply b → a ≡ b

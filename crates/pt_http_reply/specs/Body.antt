@@ -1,4 +1,4 @@
--- Bodies of replies: compact JSON, keys in byte order.
+-- Bodies of replies: compact JSON, keys in byte order, and the texts that are carried and sent.
 use Rattle.std.specs.Prelude.{◌≡◌, ℕ, List, ◌++◌, Bool, true, false, map, codes, decimal, pos, Ok, Err}
 use Rattle.std.specs.List.{join_with_byte}
 use Rattle.pt_base.specs.DateText.{IsDateText}
@@ -9,8 +9,10 @@ use Rattle.pt_rights.specs.declared.conditions.Condition.{Condition}
 use Rattle.pt_rights.specs.declared.entry.Grant.{Grant}
 use Rattle.pt_conditions.specs.Texts.{condition_text}
 use Rattle.pt_desk.specs.declared.keeper.StoreFault.TheVariants.{Memory, Store}
-use Rattle.pt_desk_rules.specs.declared.request.Answer.{Answer}
-use Rattle.pt_desk_rules.specs.declared.request.Answer.TheVariants as answer
+use Rattle.pt_manifest.specs.Export.{trips_text}
+use Rattle.pt_manifest.specs.Letters.{letter_text}
+use Rattle.pt_requests.specs.declared.request.Answer.{Answer}
+use Rattle.pt_requests.specs.declared.request.Answer.TheVariants as answer
 use Rattle.pt_http_reply.specs.Fault.{fault_name, field_name}
 use Rattle.pt_http_reply.specs.Json.{truth_text, quoted}
 use Rattle.pt_http_reply.specs.Trips.{confirmation_body, IsTripsBody}
@@ -63,6 +65,8 @@ IsAnswerBody (answer.Standing standing suspended) body = IsStandingBody standing
 IsAnswerBody (answer.Visitor may_use) body = body ≡ visitor_body may_use
 IsAnswerBody (answer.Booked told) body = body ≡ confirmation_body told
 IsAnswerBody (answer.Trips trips) body = IsTripsBody trips body
+IsAnswerBody (answer.Letter letter) body = body ≡ letter_text letter
+IsAnswerBody (answer.Export trips) body = body ≡ trips_text trips
 IsAnswerBody (answer.Denied rule) body = body ≡ denial_body (name_of rule)
 
 -- bytes that are no request: of a field, its name too

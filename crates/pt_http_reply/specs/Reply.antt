@@ -1,8 +1,8 @@
 -- How a reply is held before it is written.
 use Rattle.std.specs.Prelude.{◌≡◌, ◌≤◌, ◌⊎◌, ℕ, List, ◌++◌, length, Bool, true, false, Ok, Err}
 use Rattle.pt_desk.specs.declared.keeper.StoreFault.TheVariants.{Memory}
-use Rattle.pt_desk_rules.specs.declared.request.Answer.{Answer}
-use Rattle.pt_desk_rules.specs.declared.request.Answer.TheVariants as answer
+use Rattle.pt_requests.specs.declared.request.Answer.{Answer}
+use Rattle.pt_requests.specs.declared.request.Answer.TheVariants as answer
 use Rattle.pt_http_reply.specs.declared.body.Body.{Body}
 use Rattle.pt_http_reply.specs.declared.body.Body.TheVariants.{Fixed, Grown}
 use Rattle.pt_http_reply.specs.declared.reply_bytes.ReplyBytes.{ReplyBytes}
@@ -14,6 +14,8 @@ abbrev pub is_of_read : Answer → Bool
 is_of_read (answer.Standing standing suspended) = true
 is_of_read (answer.Visitor may_use) = true
 is_of_read (answer.Trips trips) = true
+is_of_read (answer.Letter letter) = true
+is_of_read (answer.Export trips) = true
 is_of_read _ = false
 
 abbrev pub is_told : Response → Bool

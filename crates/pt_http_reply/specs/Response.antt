@@ -1,11 +1,11 @@
 -- Replies in bytes, as HTTP/1.1 messages (RFC 9112).
 use Rattle.std.specs.Prelude.{◌≡◌, ℕ, List, [], ◌++◌, length, codes, decimal, Ok, Err}
 use Rattle.pt_base.specs.declared.rule.Rule.TheVariants.{Key}
-use Rattle.pt_desk_rules.specs.declared.request.Answer.TheVariants as answer
+use Rattle.pt_requests.specs.declared.request.Answer.TheVariants as answer
 use Rattle.pt_http_reply.specs.Body.{IsBody}
 use Rattle.pt_http_reply.specs.ContentType.{type_text}
 use Rattle.pt_http_reply.specs.declared.content_type.ContentType.{ContentType}
-use Rattle.pt_http_reply.specs.declared.content_type.ContentType.TheVariants.{Json}
+use Rattle.pt_http_reply.specs.declared.content_type.ContentType.TheVariants.{Json, Text, Csv}
 use Rattle.pt_http_reply.specs.Fault.{method_name, status_of_fault}
 use Rattle.http.specs.StatusCode.{status_text}
 use Rattle.pt_http_reply.specs.Status.{status_of_rule}
@@ -22,6 +22,8 @@ status_of (response.Refused refused) = status_of_fault refused
 
 -- what the body of a reply is written in
 abbrev pub type_of : Response → ContentType
+type_of (response.Answered (Ok (answer.Letter letter))) = Text
+type_of (response.Answered (Ok (answer.Export trips))) = Csv
 type_of reply = Json
 
 -- a line of a head

@@ -8,6 +8,7 @@ use crate::{ReplyBuffer, RequestFault, Response};
 use itoa::Buffer;
 use pt_base::Fault;
 use pt_desk::{Answer, StoreFault};
+use pt_manifest::{decision_letter, trips_csv};
 use std::alloc::Global;
 
 /// The body of a reply.
@@ -47,6 +48,12 @@ pub(crate) fn body_of(alloc: Global, response: &Response) -> Result<Body, Fault>
         Response::Answered(Ok(Answer::Booked(told))) => Ok(Body::Fixed(confirmation_body(told))),
         Response::Answered(Ok(Answer::Trips(trips))) => {
             Ok(Body::Grown(trips_body(alloc, trips)?))
+        }
+        Response::Answered(Ok(Answer::Letter(letter))) => {
+            Ok(Body::Grown(decision_letter(alloc, letter)?))
+        }
+        Response::Answered(Ok(Answer::Export(trips))) => {
+            Ok(Body::Grown(trips_csv(alloc, trips.as_slice())?))
         }
         Response::Answered(Ok(Answer::Denied(rule))) => Ok(Body::Fixed(denial_body(rule.name()))),
         Response::Answered(Err(StoreFault::Memory)) => Ok(Body::Fixed(denial_body("desk.memory"))),

@@ -36,7 +36,11 @@ impl Response {
     pub fn content_type(&self) -> ContentType
         ensures { result ≡ type_of self.now }
     {
-        ContentType::Json
+        match self {
+            Response::Answered(Ok(Answer::Letter(_))) => ContentType::Text,
+            Response::Answered(Ok(Answer::Export(_))) => ContentType::Csv,
+            _ => ContentType::Json,
+        }
     }
 }
 

@@ -1,8 +1,9 @@
 pub mod ListLemmas
+pub mod ChoiceLemmas
 pub mod NumberLemmas
+pub mod DayLemmas
+pub mod ConditionLemmas
+pub mod FieldLemmas
 pub mod TargetLemmas
-pub mod EntryLemmas
 pub mod SettingsLemmas
-pub mod VehicleLemmas
-pub mod WishLemmas
 pub mod MessageLemmas

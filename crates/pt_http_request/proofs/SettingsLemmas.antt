@@ -1,60 +1,13 @@
--- Policies, places and what lists spell.
-use mathlib.Core.HLevel.{is_prop→PathP}
+-- What lists spell.
 use Rattle.std.proofs.Common.{◌≡◌, ◌∙◌, ℕ, zero, suc, ◌+◌, ◌<◌, List, [], ◌∷◌, ◌++◌, Option, Some, None, Bool, true, false, length, get_or, map, take, ap, sym, refl, arith}
 use Rattle.std.proofs.lemmas.List.{map-append, take_more, take_all}
-use Rattle.std.proofs.Props.{props}
-use Rattle.std.specs.Prelude.{◌≤◌, ◌==◌, ◌||◌, ℤ, option_map, option_and_then, slice_set}
-use Rattle.std.specs.Int.{IsInRange}
-use Rattle.pt_base.specs.Place.{IsOnPlane}
-use Rattle.pt_base.specs.declared.place.Place.{Place}
-use Rattle.pt_base.specs.declared.policy.Policy.{Policy}
+use Rattle.std.specs.Prelude.{◌≤◌, ◌==◌, ◌||◌, option_map, option_and_then, slice_set}
 use Rattle.pt_base.specs.Weekday.{number_of}
 use Rattle.pt_base.specs.declared.weekday.Weekday.{Weekday}
 use Rattle.pt_base.specs.declared.weekday.Weekday.TheVariants.{Monday, Tuesday, Wednesday, Thursday, Friday, Saturday, Sunday}
 use Rattle.serde_json.specs.Data.{Data}
 use Rattle.serde_json.specs.View.{items_of}
-use Rattle.pt_http_request.specs.Policy.{settled}
-use Rattle.pt_http_request.specs.Places.{fields_of}
 use Rattle.pt_http_request.specs.Routes.{values_in, each, point_of, is_among, set_of}
-
-at_most-prop : (most n : ℕ) → IsProp (n ≤ most)
-at_most-prop most n = hlevel props
-
-IsInRange-prop : (least most n : ℕ) → IsProp (IsInRange least most n)
-IsInRange-prop least most n = hlevel props
-
-IsOnPlane-prop : (x y : ℤ) → IsProp (IsOnPlane x y)
-IsOnPlane-prop x y = hlevel props
-
--- policies that settle on the same are one
-pub policy-same : (a b : Policy) → settled a ≡ settled b → a ≡ b
-policy-same a b same = λ i. record {
-  base = (same i).base;
-  transfer = (same i).transfer;
-  fare = (same i).fare;
-  service = (same i).service;
-  extra_ride = (same i).extra_ride;
-  min_missed = (same i).min_missed;
-  percent = (same i).percent;
-  span_days = (same i).span_days;
-  base_in_range = is_prop→PathP (λ j. (same j).base ≤ 100_000) (λ j. at_most-prop _ _) a.base_in_range b.base_in_range i;
-  transfer_in_range = is_prop→PathP (λ j. (same j).transfer ≤ 100_000) (λ j. at_most-prop _ _) a.transfer_in_range b.transfer_in_range i;
-  fare_in_range = is_prop→PathP (λ j. (same j).fare ≤ 100_000) (λ j. at_most-prop _ _) a.fare_in_range b.fare_in_range i;
-  service_in_range = is_prop→PathP (λ j. (same j).service ≤ 30) (λ j. at_most-prop _ _) a.service_in_range b.service_in_range i;
-  extra_ride_in_range = is_prop→PathP (λ j. (same j).extra_ride ≤ 240) (λ j. at_most-prop _ _) a.extra_ride_in_range b.extra_ride_in_range i;
-  min_missed_in_range = is_prop→PathP (λ j. IsInRange 1 1_000 (same j).min_missed) (λ j. IsInRange-prop _ _ _) a.min_missed_in_range b.min_missed_in_range i;
-  percent_in_range = is_prop→PathP (λ j. IsInRange 1 100 (same j).percent) (λ j. IsInRange-prop _ _ _) a.percent_in_range b.percent_in_range i;
-  span_days_in_range = is_prop→PathP (λ j. IsInRange 1 366 (same j).span_days) (λ j. IsInRange-prop _ _ _) a.span_days_in_range b.span_days_in_range i;
-}
-
--- places with the same fields are one
-pub place-same : (a b : Place) → fields_of a ≡ fields_of b → a ≡ b
-place-same a b same = λ i. record {
-  id = (same i).0;
-  at = (same i).1;
-  core = (same i).2;
-  on_plane = is_prop→PathP (λ j. IsOnPlane (same j).1.x (same j).1.y) (λ j. IsOnPlane-prop _ _) a.on_plane b.on_plane i;
-}
 
 -- ---- lists
 

@@ -1,8 +1,8 @@
 -- The caller that a body spells, field by field: the first field that is not as it should be is the fault.
 use Rattle.std.specs.Prelude.{◌==◌, ℕ, List, codes, bytes_eq, Result, Ok, Err, if◌then◌else◌}
-use Rattle.pt_desk_rules.specs.declared.caller.Caller.{Caller}
-use Rattle.pt_desk_rules.specs.declared.caller.Role.{Role}
-use Rattle.pt_desk_rules.specs.declared.caller.Role.TheVariants as role
+use Rattle.pt_requests.specs.declared.caller.Caller.{Caller}
+use Rattle.pt_requests.specs.declared.caller.Role.{Role}
+use Rattle.pt_requests.specs.declared.caller.Role.TheVariants as role
 use Rattle.serde_json.specs.Data.{Data}
 use Rattle.pt_http_request.specs.Fields.{whole_at, text_at, id_at, digest_at, ◌>>=◌}
 use Rattle.pt_http_reply.specs.declared.fault.FieldName.{FieldName}

@@ -1,17 +1,18 @@
 -- The entry of a case file that a body spells, field by field: the first field that is not as it should be is the
 -- fault.
-use Rattle.std.specs.Prelude.{◌≡◌, ◌⊎◌, ℕ, List, [], ◌∷◌, codes, bytes_eq, map, All, Option, Some, None, Result, Ok}
-use Rattle.std.specs.Prelude.{Err, if◌then◌else◌}
-use Rattle.pt_rights.specs.Conditions.{IsCondition, IsConditions}
+use Rattle.std.specs.Prelude.{ℕ, List, length, codes, bytes_eq, Option, Some, None, Result, Ok, if◌then◌else◌}
+use Rattle.std.specs.Prelude.{option_and_then}
+use Rattle.pt_rights.specs.Limits.{most_conditions}
 use Rattle.pt_rights.specs.declared.conditions.Condition.{Condition}
 use Rattle.pt_rights.specs.declared.entry.Entry.{Entry}
 use Rattle.pt_rights.specs.declared.entry.Entry.TheVariants as entry
 use Rattle.pt_rights.specs.declared.entry.Grant.{Grant}
-use Rattle.pt_conditions.specs.Texts.{condition_text}
-use Rattle.serde_json.specs.Data.{Data, string, array}
-use Rattle.serde_json.specs.Find.{get}
-use Rattle.serde_json.specs.View.{items_of}
-use Rattle.pt_http_request.specs.Fields.{text_at, number_within, IsDayAt, AreReasonsAt, needed, ◌>>=◌}
+use Rattle.serde_json.specs.Data.{Data}
+use Rattle.serde_json.specs.Find.{get, as_str}
+use Rattle.pt_http_request.specs.Conditions.{condition_from}
+use Rattle.pt_http_request.specs.Fields.{text_at, day_at, reasons_at, number_within, needed, result_map, ◌>>=◌}
+use Rattle.pt_http_request.specs.Numbers.{is_within}
+use Rattle.pt_http_request.specs.Routes.{each, values_of}
 use Rattle.pt_http_request.specs.declared.entries.EntryKind.{EntryKind}
 use Rattle.pt_http_request.specs.declared.entries.EntryKind.TheVariants as kind
 use Rattle.pt_http_reply.specs.Fault.{field_name}
@@ -40,77 +41,58 @@ kind_in body = do
   name ← text_at field.Entry body
   needed (kind_named name) field.Entry
 
--- how a condition is spelled
-abbrev pub spelling_of : Condition → Data
-spelling_of condition = string (condition_text condition)
+-- the condition that a value spells
+abbrev pub condition_in : Data → Option Condition
+condition_in value = option_and_then condition_from (as_str value)
 
--- the body lists these one to four conditions
-pub record HasConditions (body : Data) (conditions : List Condition) : Type 0 where
-  pub listed : get (field_name field.Conditions) body ≡ Some (array (items_of (map spelling_of conditions)))
-  pub in_range : IsConditions conditions
-  pub each : All IsCondition conditions
+-- the conditions, where they are one to four
+abbrev pub few : List Condition → Option (List Condition)
+few members = if is_within 1 most_conditions (length members) then Some members else None
 
--- the body spells this grant
-abbrev pub SpellsGrant : Data → Grant → Type 0
-SpellsGrant body grant = IsDayAt field.Until body grant.until × HasConditions body grant.conditions
+-- the conditions that a list spells
+abbrev pub conditions_from : List Data → Option (List Condition)
+conditions_from values = option_and_then few (each condition_in values)
+
+-- the conditions that a body lists
+abbrev pub conditions_at : Data → Option (List Condition)
+conditions_at body =
+    option_and_then conditions_from (option_and_then values_of (get (field_name field.Conditions) body))
+
+-- the grant that a body spells: until, conditions
+abbrev pub grant_in : Data → Result Grant FieldName
+grant_in body = do
+  until ← day_at field.Until body
+  conditions ← needed (conditions_at body) field.Conditions
+  Ok (record { until = until; conditions = conditions })
 
 -- the place in a case file of at most 200 entries, counted from 0, that an appeal is against
 abbrev pub place_in_file : Data → Result ℕ FieldName
 place_in_file body = number_within field.Against 0 199 body
 
--- a body of this kind spells this entry
-abbrev pub SpellsOfKind : EntryKind → Data → Entry → Type 0
-SpellsOfKind kind.Complete body entry.Complete = Unit {0}
-SpellsOfKind kind.Grant body (entry.Grant grant) = SpellsGrant body grant
-SpellsOfKind kind.Refuse body (entry.Refuse reasons) = AreReasonsAt field.Reasons body reasons
-SpellsOfKind kind.Appeal body (entry.Appeal against) = place_in_file body ≡ Ok against
-SpellsOfKind kind.Heard body entry.Heard = Unit {0}
-SpellsOfKind kind.AppealGranted body (entry.AppealGranted grant) = SpellsGrant body grant
-SpellsOfKind kind.AppealDenied body (entry.AppealDenied reasons) = AreReasonsAt field.Reasons body reasons
-SpellsOfKind kind.Overturn body entry.Overturn = Unit {0}
-SpellsOfKind kind.Notice body (entry.Notice basis) = AreReasonsAt field.Basis body basis
-SpellsOfKind kind.NoticeHeard body entry.NoticeHeard = Unit {0}
-SpellsOfKind kind.Suspend body (entry.Suspend starts ends reasons) =
-    IsDayAt field.Starts body starts × IsDayAt field.Ends body ends × AreReasonsAt field.Reasons body reasons
-SpellsOfKind _ _ _ = ⊥
+-- the suspension that a body spells: starts, ends, reasons
+abbrev pub suspension_in : Data → Result Entry FieldName
+suspension_in body = do
+  starts ← day_at field.Starts body
+  ends ← day_at field.Ends body
+  reasons ← reasons_at field.Reasons body
+  Ok (entry.Suspend starts ends reasons)
 
--- the body spells this entry: its kind, then the fields of that kind
-abbrev pub SpellsEntry : Data → Entry → Type 0
-SpellsEntry body asked = (which : EntryKind) × (kind_in body ≡ Ok which) × SpellsOfKind which body asked
+-- the entry of a kind that a body spells
+abbrev pub entry_of_kind : EntryKind → Data → Result Entry FieldName
+entry_of_kind kind.Complete body = Ok entry.Complete
+entry_of_kind kind.Grant body = result_map entry.Grant (grant_in body)
+entry_of_kind kind.Refuse body = result_map entry.Refuse (reasons_at field.Reasons body)
+entry_of_kind kind.Appeal body = result_map entry.Appeal (place_in_file body)
+entry_of_kind kind.Heard body = Ok entry.Heard
+entry_of_kind kind.AppealGranted body = result_map entry.AppealGranted (grant_in body)
+entry_of_kind kind.AppealDenied body = result_map entry.AppealDenied (reasons_at field.Reasons body)
+entry_of_kind kind.Overturn body = Ok entry.Overturn
+entry_of_kind kind.Notice body = result_map entry.Notice (reasons_at field.Basis body)
+entry_of_kind kind.NoticeHeard body = Ok entry.NoticeHeard
+entry_of_kind kind.Suspend body = suspension_in body
 
--- the fields of an entry of each kind, in their order
-abbrev pub entry_fields : EntryKind → List FieldName
-entry_fields kind.Complete = []
-entry_fields kind.Grant = field.Until ∷ field.Conditions ∷ []
-entry_fields kind.Refuse = field.Reasons ∷ []
-entry_fields kind.Appeal = field.Against ∷ []
-entry_fields kind.Heard = []
-entry_fields kind.AppealGranted = field.Until ∷ field.Conditions ∷ []
-entry_fields kind.AppealDenied = field.Reasons ∷ []
-entry_fields kind.Overturn = []
-entry_fields kind.Notice = field.Basis ∷ []
-entry_fields kind.NoticeHeard = []
-entry_fields kind.Suspend = field.Starts ∷ field.Ends ∷ field.Reasons ∷ []
-
--- the body has what this field of an entry must hold
-abbrev pub HasField : Data → FieldName → Type 0
-HasField body field.Until = (day : ℕ) × IsDayAt field.Until body day
-HasField body field.Conditions = (conditions : List Condition) × HasConditions body conditions
-HasField body field.Reasons = (reasons : List ℕ) × AreReasonsAt field.Reasons body reasons
-HasField body field.Against = (place : ℕ) × (place_in_file body ≡ Ok place)
-HasField body field.Basis = (basis : List ℕ) × AreReasonsAt field.Basis body basis
-HasField body field.Starts = (day : ℕ) × IsDayAt field.Starts body day
-HasField body field.Ends = (day : ℕ) × IsDayAt field.Ends body day
-HasField body _ = ⊥
-
--- the field is the first of these that the body lacks
-abbrev pub IsFirstFault : List FieldName → Data → FieldName → Type 0
-IsFirstFault [] body name = ⊥
-IsFirstFault (head ∷ later) body name =
-    ((name ≡ head) × ¬ (HasField body head)) ⊎ (HasField body head × IsFirstFault later body name)
-
--- the field is the first that keeps the body from spelling an entry
-abbrev pub IsEntryFault : Data → FieldName → Type 0
-IsEntryFault body name =
-    (kind_in body ≡ Err name)
-    ⊎ ((which : EntryKind) × (kind_in body ≡ Ok which) × IsFirstFault (entry_fields which) body name)
+-- the entry that a body spells: its kind, then the fields of that kind
+abbrev pub entry_in : Data → Result Entry FieldName
+entry_in body = do
+  which ← kind_in body
+  entry_of_kind which body

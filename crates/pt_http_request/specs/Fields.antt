@@ -1,26 +1,38 @@
 -- The fields of a JSON object by their names, and what each may hold.
-use Rattle.std.specs.Prelude.{◌≡◌, ℕ, ◌^◌, ◌&&◌, List, Bool, Option, Some, None, Result, Ok, Err, nat_lt, nat_le}
-use Rattle.std.specs.Prelude.{if◌then◌else◌, option_and_then, pos}
+use Rattle.std.specs.Prelude.{◌≡◌, ℕ, ◌&&◌, List, length, Bool, true, false, Option, Some, None, Result, Ok, Err}
+use Rattle.std.specs.Prelude.{if◌then◌else◌, option_and_then, refl}
+use Rattle.std.proofs.lemmas.Bool.{leb-true, and_parts}
+use Rattle.std.specs.Int.{IsInRange}
+use Rattle.std.specs.List.{list_all}
 use Rattle.hex.specs.Hex.{decode_sized}
 use Rattle.hex.specs.declared.error.FromHexError.{FromHexError}
-use Rattle.pt_base.specs.DateText.{IsDateText}
-use Rattle.pt_base.specs.Day.{IsDay}
-use Rattle.pt_rights.specs.Reasons.{IsReasons}
 use Rattle.serde_json.specs.Data.{Data}
 use Rattle.serde_json.specs.Find.{get, as_bool, as_number, as_u64, as_str}
+use Rattle.pt_http_request.specs.Days.{day_from}
+use Rattle.pt_http_request.specs.Numbers.{is_within, id_of}
 use Rattle.pt_http_reply.specs.Fault.{field_name}
 use Rattle.pt_http_reply.specs.declared.fault.FieldName.{FieldName}
 
 infixl 10 ◌>>=◌
--- the next field, where the ones before it are as they should be
-abbrev pub ◌>>=◌ : {A B : Type 0} → Result A FieldName → (A → Result B FieldName) → Result B FieldName
+-- what comes next, where what came before is as it should be
+abbrev pub ◌>>=◌ : {A B E : Type 0} → Result A E → (A → Result B E) → Result B E
 Ok value >>= next = next value
 Err fault >>= next = Err fault
 
--- the value of a field, or the field as a fault
-abbrev pub needed : {A : Type 0} → Option A → FieldName → Result A FieldName
-needed (Some value) name = Ok value
-needed None name = Err name
+-- what the value becomes, where there is one
+abbrev pub result_map : {A B E : Type 0} → (A → B) → Result A E → Result B E
+result_map make (Ok value) = Ok (make value)
+result_map make (Err fault) = Err fault
+
+-- the value, or a fault where there is none
+abbrev pub needed : {A E : Type 0} → Option A → E → Result A E
+needed (Some value) fault = Ok value
+needed None fault = Err fault
+
+-- what follows from a test that passed, or a fault where it fails
+abbrev pub tested : {A E : Type 0} (test : Bool) → (test ≡ true → A) → E → Result A E
+tested true make fault = Ok (make refl)
+tested false make fault = Err fault
 
 -- the whole number that a field holds: an integer that is not negative, written without fraction or exponent
 abbrev pub whole_at : FieldName → Data → Result ℕ FieldName
@@ -34,15 +46,11 @@ text_at name body = needed (option_and_then as_str (get (field_name name) body))
 abbrev pub truth_at : FieldName → Data → Result Bool FieldName
 truth_at name body = needed (option_and_then as_bool (get (field_name name) body)) name
 
--- the number, where it may number a record: 1 to 4,294,967,295
-abbrev pub id_from : ℕ → Option ℕ
-id_from number = if nat_lt 0 number && nat_lt number (2 ^ 32) then Some number else None
-
 -- the number of a record that a field holds
 abbrev pub id_at : FieldName → Data → Result ℕ FieldName
 id_at name body = do
   number ← whole_at name body
-  needed (id_from number) name
+  needed (id_of number) name
 
 -- the value of a result, if there is one
 abbrev pub value_of : {A : Type 0} → Result A FromHexError → Option A
@@ -59,26 +67,51 @@ digest_at name body = do
   text ← text_at name body
   needed (digest_from text) name
 
--- the text is the day with this number, of the years 2000 to 2099, as `YYYY-MM-DD`
-abbrev pub SpellsDay : List ℕ → ℕ → Type 0
-SpellsDay text day = IsDay day × IsDateText (pos day) text
+-- the day that a field holds
+abbrev pub day_at : FieldName → Data → Result ℕ FieldName
+day_at name body = do
+  text ← text_at name body
+  needed (day_from text) name
 
--- the field holds this day
-pub record IsDayAt (name : FieldName) (body : Data) (day : ℕ) : Type 0 where
-  pub text : List ℕ
-  pub holds : text_at name body ≡ Ok text
-  pub day_of_text : SpellsDay text day
+-- whether the text is 1 to 500 bytes of printable ASCII, from the space to the tilde
+abbrev pub are_reasons : List ℕ → Bool
+are_reasons text = is_within 1 500 (length text) && list_all (λ byte. is_within 0x20 0x7E byte) text
 
--- the field holds this text of reasons
-abbrev pub AreReasonsAt : FieldName → Data → List ℕ → Type 0
-AreReasonsAt name body reasons = (text_at name body ≡ Ok reasons) × IsReasons reasons
+-- the text, where it may be reasons
+abbrev pub reasons_from : List ℕ → Option (List ℕ)
+reasons_from text = if are_reasons text then Some text else None
+
+-- the reasons that a field holds
+abbrev pub reasons_at : FieldName → Data → Result (List ℕ) FieldName
+reasons_at name body = do
+  text ← text_at name body
+  needed (reasons_from text) name
 
 -- the number, where it lies in this range
 abbrev pub within : ℕ → ℕ → ℕ → Option ℕ
-within least most number = if nat_le least number && nat_le number most then Some number else None
+within least most number = if is_within least most number then Some number else None
 
--- the whole number of this range that a field holds, or the field as a fault
+-- the whole number of this range that a field holds
 abbrev pub number_within : FieldName → ℕ → ℕ → Data → Result ℕ FieldName
 number_within name least most body = do
   number ← whole_at name body
   needed (within least most number) name
+
+-- a number that is known to lie in this range
+pub record Ranged (least most : ℕ) : Type 0 where
+  pub number : ℕ
+  pub in_range : IsInRange least most number
+
+abbrev pub ranged : {least most : ℕ} (number : ℕ) → IsInRange least most number → Ranged least most
+ranged number in_range = record { number = number; in_range = in_range }
+
+pub in_range : (least most number : ℕ) → is_within least most number ≡ true → IsInRange least most number
+in_range least most number test =
+    let both = and_parts _ _ test in
+    (leb-true least number both.0, leb-true number most both.1)
+
+-- the same, known to lie in it
+abbrev pub ranged_at : FieldName → (least most : ℕ) → Data → Result (Ranged least most) FieldName
+ranged_at name least most body = do
+  number ← whole_at name body
+  tested (is_within least most number) (λ test. ranged number (in_range least most number test)) name

@@ -2,7 +2,8 @@
 use Rattle.std.specs.Prelude.{◌≡◌, ◌⊎◌, ◌<◌, ℕ, List, [], ◌∷◌, codes, map, filter, length, bytes_eq, Bool, Option, Some}
 use Rattle.std.specs.Prelude.{None, Result, Ok, Err}
 use Rattle.std.specs.Char.{to_ascii_lowercase}
-use Rattle.pt_http_request.specs.Numbers.{SpellsNumber}
+use Rattle.pt_http_request.specs.Fields.{needed}
+use Rattle.pt_http_request.specs.Numbers.{SpellsNumber, number_from}
 use Rattle.pt_http_reply.specs.declared.fault.FieldName.{FieldName}
 use Rattle.pt_http_reply.specs.declared.fault.FieldName.TheVariants as field
 use Rattle.pt_http_request.specs.declared.headers.Given.{Given}
@@ -42,8 +43,10 @@ key_from (value ∷ other ∷ values) = Err field.DeskKey
 abbrev pub key_in : List (List ℕ × List ℕ) → Result (Option (List ℕ)) FieldName
 key_in lines = key_from (values_named (codes "desk-key") lines)
 
--- the caller's number for a write: one header of 1 to 10 digits up to 4,294,967,295
-pub record IsNumberIn (lines : List (List ℕ × List ℕ)) (number : ℕ) : Type 0 where
-  pub value : List ℕ
-  pub once : values_named (codes "desk-number") lines ≡ value ∷ []
-  pub spelled : SpellsNumber 10 4_294_967_295 value number
+-- the caller's number for a write as the values of its header give it: one of 1 to 10 digits up to 4,294,967,295
+abbrev pub number_of : List (List ℕ) → Option ℕ
+number_of (value ∷ []) = number_from 10 4_294_967_295 value
+number_of _ = None
+
+abbrev pub number_in : List (List ℕ × List ℕ) → Result ℕ FieldName
+number_in lines = needed (number_of (values_named (codes "desk-number") lines)) field.DeskNumber

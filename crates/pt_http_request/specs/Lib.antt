@@ -1,5 +1,7 @@
-pub mod Fields
 pub mod Numbers
+pub mod Days
+pub mod Conditions
+pub mod Fields
 pub mod Faults
 pub mod Callers
 pub mod Riders

@@ -1,15 +1,17 @@
--- What a message asks, from the parts of its head and its body.
-use Rattle.std.specs.Prelude.{◌≡◌, ◌≢◌, ◌⊎◌, ℕ, List, [], ◌∷◌, codes, Option, Some, Result, Ok, Err, IsUtf8, IsSome}
-use Rattle.std.specs.Prelude.{option_map}
+-- What a message asks, from the parts of its head and its body: the first part that is not as it should be is the
+-- fault.
+use Rattle.std.specs.Prelude.{◌≡◌, ℕ, List, [], ◌∷◌, codes, bytes_eq, Option, Some, None, is_some, Result, Ok, Err}
+use Rattle.std.specs.Prelude.{option_map, option_and_then, if◌then◌else◌}
+use Rattle.std.specs.Str.{is_utf8}
 use Rattle.matchit.specs.Router.{RouteOf}
 use Rattle.matchit.specs.Rows.{RowsOf}
-use Rattle.pt_desk_rules.specs.declared.request.Read.{Read}
-use Rattle.pt_desk_rules.specs.declared.request.Request.TheVariants as request
-use Rattle.pt_desk_rules.specs.declared.request.Write.{Write}
-use Rattle.pt_desk_rules.specs.declared.request.Write.TheVariants as write
+use Rattle.pt_requests.specs.declared.request.Read.{Read}
+use Rattle.pt_requests.specs.declared.request.Request.{Request}
+use Rattle.pt_requests.specs.declared.request.Request.TheVariants as request
+use Rattle.pt_requests.specs.declared.request.Write.{Write}
+use Rattle.pt_requests.specs.declared.request.Write.TheVariants as write
 use Rattle.pt_http_reply.specs.declared.fault.AllowedMethod.TheVariants as way
 use Rattle.pt_http_reply.specs.declared.fault.FieldName.{FieldName}
-use Rattle.pt_http_reply.specs.declared.fault.FieldName.TheVariants as field
 use Rattle.pt_http_reply.specs.declared.fault.RequestFault.{RequestFault}
 use Rattle.pt_http_reply.specs.declared.fault.RequestFault.TheVariants as fault
 use Rattle.serde_json.specs.Data.{Data}
@@ -17,17 +19,18 @@ use Rattle.serde_json.specs.Find.{as_object}
 use Rattle.serde_json.specs.Read.{read}
 use Rattle.pt_http_request.specs.Callers.{caller_in}
 use Rattle.pt_http_request.specs.Riders.{rider_in}
-use Rattle.pt_http_request.specs.Entries.{SpellsEntry, IsEntryFault}
-use Rattle.pt_http_request.specs.Policy.{policy_in, settled}
-use Rattle.pt_http_request.specs.Places.{place_in, fields_of}
+use Rattle.pt_http_request.specs.Entries.{entry_in}
+use Rattle.pt_http_request.specs.Fields.{needed, result_map, ◌>>=◌}
+use Rattle.pt_http_request.specs.Policy.{policy_in}
+use Rattle.pt_http_request.specs.Places.{place_in}
 use Rattle.pt_http_request.specs.Routes.{route_in}
-use Rattle.pt_http_request.specs.Vehicles.{SpellsVehicle, IsVehicleFault}
-use Rattle.pt_http_request.specs.Trips.{SpellsWish, IsWishFault, SpellsBooking, IsBookingFault}
-use Rattle.pt_http_request.specs.Headers.{key_in, IsNumberIn}
+use Rattle.pt_http_request.specs.Vehicles.{vehicle_in}
+use Rattle.pt_http_request.specs.Trips.{wish_in, booking_in}
+use Rattle.pt_http_request.specs.Headers.{key_in, number_in}
 use Rattle.pt_http_request.specs.declared.fault.MessageFault.{MessageFault}
 use Rattle.pt_http_request.specs.declared.fault.MessageFault.TheVariants.{Refused, Memory}
 use Rattle.pt_http_request.specs.declared.message.Message.{Message}
-use Rattle.pt_http_request.specs.Targets.{SpellsTarget, path_of}
+use Rattle.pt_http_request.specs.Targets.{target_in, path_of}
 use Rattle.pt_http_request.specs.declared.targets.Path.{Path}
 use Rattle.pt_http_request.specs.declared.targets.Target.{Target}
 use Rattle.pt_http_request.specs.declared.targets.Target.TheVariants as target
@@ -39,115 +42,83 @@ abbrev pub body_text : List ℕ → List ℕ
 body_text [] = codes "{}"
 body_text (byte ∷ bytes) = byte ∷ bytes
 
--- the body spells this JSON object
-abbrev pub SpellsObject : List ℕ → Data → Type 0
-SpellsObject body found = IsUtf8 (body_text body) × (read (body_text body) ≡ Some found) × IsSome (as_object found)
+-- the value, where it is an object
+abbrev pub object_of : Data → Option Data
+object_of found = if is_some (as_object found) then Some found else None
 
--- the body spells none
-abbrev pub IsObjectFault : List ℕ → RequestFault → Type 0
-IsObjectFault body fault.Json = (found : Data) → ¬ (SpellsObject body found)
-IsObjectFault body _ = ⊥
+-- the JSON object that a text spells
+abbrev pub object_from : List ℕ → Option Data
+object_from text = if is_utf8 text then option_and_then object_of (read text) else None
 
--- the fields of the body spell this write to where the path leads
-abbrev pub SpellsFields : WriteTarget → Data → Write → Type 0
-SpellsFields writes.Callers body (write.PutCaller caller) = caller_in body ≡ Ok caller
-SpellsFields writes.Policy body (write.PutPolicy policy) = policy_in body ≡ Ok (settled policy)
-SpellsFields writes.Places body (write.PutPlace place) = place_in body ≡ Ok (fields_of place)
-SpellsFields writes.Routes body (write.PutRoute route) = route_in body ≡ Ok route
-SpellsFields writes.Riders body (write.PutRider rider) = rider_in body ≡ Ok rider
-SpellsFields writes.Vehicles body (write.PutVehicle vehicle) = SpellsVehicle body vehicle
-SpellsFields (writes.Entries id) body (write.Enter rider entry) = (rider ≡ id) × SpellsEntry body entry
-SpellsFields writes.Trips body (write.Book rider wish) = SpellsBooking body rider wish
-SpellsFields (writes.Change id) body (write.Change trip wish) = (trip ≡ id) × SpellsWish body wish
-SpellsFields (writes.Cancel id) body (write.Cancel trip) = trip ≡ id
-SpellsFields _ _ _ = ⊥
-
--- the field is the first of the body that keeps it from spelling one
-abbrev pub IsFieldFault : WriteTarget → Data → FieldName → Type 0
-IsFieldFault writes.Callers body name = caller_in body ≡ Err name
-IsFieldFault writes.Policy body name = policy_in body ≡ Err name
-IsFieldFault writes.Places body name = place_in body ≡ Err name
-IsFieldFault writes.Routes body name = route_in body ≡ Err name
-IsFieldFault writes.Riders body name = rider_in body ≡ Err name
-IsFieldFault writes.Vehicles body name = IsVehicleFault body name
-IsFieldFault (writes.Entries id) body name = IsEntryFault body name
-IsFieldFault writes.Trips body name = IsBookingFault body name
-IsFieldFault (writes.Change id) body name = IsWishFault body name
-IsFieldFault (writes.Cancel id) body name = ⊥
-
--- a write as its header lines and its body give it: JSON, key, number, fields
-pub record SpellsWrite (asked : WriteTarget)
-    (lines : List (List ℕ × List ℕ)) (body : List ℕ) (message : Message) : Type 0 where
-  pub found : Data
-  pub json : SpellsObject body found
-  pub key : key_in lines ≡ Ok (option_map (λ key. key.items) message.key)
-  pub number : IsNumberIn lines message.number
-  pub asks : Write
-  pub request : message.request ≡ request.Write asks
-  pub fields : SpellsFields asked found asks
-
--- the field, of the headers or the body, is the first that keeps a write from being one
-abbrev pub IsWriteFieldFault : WriteTarget → List (List ℕ × List ℕ) → Data → FieldName → Type 0
-IsWriteFieldFault asked lines found name =
-    (key_in lines ≡ Err name)
-    ⊎ (((key : Option (List ℕ)) × (key_in lines ≡ Ok key)) × (name ≡ field.DeskNumber)
-    × ((number : ℕ) → ¬ (IsNumberIn lines number)))
-    ⊎ (((key : Option (List ℕ)) × (key_in lines ≡ Ok key)) × ((number : ℕ) × IsNumberIn lines number)
-    × IsFieldFault asked found name)
-
--- the fault is the first that keeps a write from being one
-abbrev pub IsWriteFault : WriteTarget → List (List ℕ × List ℕ) → List ℕ → RequestFault → Type 0
-IsWriteFault asked lines body fault.Json = (found : Data) → ¬ (SpellsObject body found)
-IsWriteFault asked lines body (fault.Field name) =
-    (found : Data) × SpellsObject body found × IsWriteFieldFault asked lines found name
-IsWriteFault asked lines body _ = ⊥
+-- the write to where a path leads that the fields of a body spell, or the first field at fault
+abbrev pub write_in : WriteTarget → Data → Result Write FieldName
+write_in writes.Callers body = result_map write.PutCaller (caller_in body)
+write_in writes.Policy body = result_map write.PutPolicy (policy_in body)
+write_in writes.Places body = result_map write.PutPlace (place_in body)
+write_in writes.Routes body = result_map write.PutRoute (route_in body)
+write_in writes.Riders body = result_map write.PutRider (rider_in body)
+write_in writes.Vehicles body = result_map write.PutVehicle (vehicle_in body)
+write_in (writes.Entries rider) body = result_map (write.Enter rider) (entry_in body)
+write_in writes.Trips body = result_map (λ booking. write.Book booking.0 booking.1) (booking_in body)
+write_in (writes.Change trip) body = result_map (write.Change trip) (wish_in body)
+write_in (writes.Cancel trip) body = Ok (write.Cancel trip)
 
 -- ---- whole messages
 
--- a read as its method and header lines give it: key
-pub record SpellsRead (method : List ℕ)
-    (lines : List (List ℕ × List ℕ)) (asked : Read) (message : Message) : Type 0 where
-  pub get : method ≡ codes "GET"
-  pub key : key_in lines ≡ Ok (option_map (λ key. key.items) message.key)
-  pub number : message.number ≡ 0
-  pub request : message.request ≡ request.Read asked
+-- what a message sends: the caller's key, the number for a write, and the request
+abbrev pub Sent : Type 0
+Sent = Option (List ℕ) × ℕ × Request
 
--- the message to what its path names
-abbrev pub SpellsRequest : Target → List ℕ → List (List ℕ × List ℕ) → List ℕ → Message → Type 0
-SpellsRequest (target.Read asked) method lines body message = SpellsRead method lines asked message
-SpellsRequest (target.Write asked) method lines body message =
-    (method ≡ codes "POST") × SpellsWrite asked lines body message
+abbrev pub sent : Message → Sent
+sent message = (option_map (λ key. key.items) message.key, message.number, message.request)
 
--- the fault is the first that keeps a read from being one
-abbrev pub IsReadFault : List ℕ → List (List ℕ × List ℕ) → RequestFault → Type 0
-IsReadFault method lines (fault.Method needed) = (needed ≡ way.Get) × (method ≢ codes "GET")
-IsReadFault method lines (fault.Field name) = (method ≡ codes "GET") × (key_in lines ≡ Err name)
-IsReadFault method lines _ = ⊥
+-- a fault of a field as one of the message
+abbrev pub by_field : {A : Type 0} → Result A FieldName → Result A RequestFault
+by_field (Ok value) = Ok value
+by_field (Err name) = Err (fault.Field name)
 
--- the same of a write, its method included
-abbrev pub IsPostFault : WriteTarget → List ℕ → List (List ℕ × List ℕ) → List ℕ → RequestFault → Type 0
-IsPostFault asked method lines body why =
-    ((why ≡ fault.Method way.Post) × (method ≢ codes "POST"))
-    ⊎ ((method ≡ codes "POST") × IsWriteFault asked lines body why)
+-- what header lines send with a read: key
+abbrev pub read_with : List (List ℕ × List ℕ) → Read → Result Sent FieldName
+read_with lines asked = do
+  key ← key_in lines
+  Ok (key, 0, request.Read asked)
 
--- the fault is the first that keeps a message to what its path names from being a request
-abbrev pub IsRequestFault : Target → List ℕ → List (List ℕ × List ℕ) → List ℕ → RequestFault → Type 0
-IsRequestFault (target.Read asked) method lines body why = IsReadFault method lines why
-IsRequestFault (target.Write asked) method lines body why = IsPostFault asked method lines body why
+-- what header lines and an object send to where a write goes: key, number, fields
+abbrev pub write_with : List (List ℕ × List ℕ) → WriteTarget → Data → Result Sent FieldName
+write_with lines asked found = do
+  key ← key_in lines
+  number ← number_in lines
+  write ← write_in asked found
+  Ok (key, number, request.Write write)
 
--- the parts of a message spell this message
-pub record SpellsMessage (routes : RowsOf (RouteOf Path)) (method whole : List ℕ)
-    (lines : List (List ℕ × List ℕ)) (body : List ℕ) (message : Message) : Type 0 where
-  pub asked : Target
-  pub path : SpellsTarget routes (path_of whole) asked
-  pub request : SpellsRequest asked method lines body message
+-- what header lines and a body send to where a write goes: JSON first
+abbrev pub write_from : List (List ℕ × List ℕ) → WriteTarget → List ℕ → Result Sent RequestFault
+write_from lines asked body = do
+  found ← needed (object_from (body_text body)) fault.Json
+  by_field (write_with lines asked found)
 
--- the fault is the first that keeps the parts of a message from spelling one
+-- what a message sends to what its path names: method first
+abbrev pub request_in : List ℕ → List (List ℕ × List ℕ) → List ℕ → Target → Result Sent RequestFault
+request_in method lines body (target.Read asked) =
+    if bytes_eq method (codes "GET") then by_field (read_with lines asked) else Err (fault.Method way.Get)
+request_in method lines body (target.Write asked) =
+    if bytes_eq method (codes "POST") then write_from lines asked body else Err (fault.Method way.Post)
+
+-- what the parts of a message send: path first
+abbrev pub message_in : RowsOf (RouteOf Path) → List ℕ → List ℕ → List (List ℕ × List ℕ) → List ℕ
+    → Result Sent RequestFault
+message_in routes method whole lines body = do
+  asked ← needed (target_in routes (path_of whole)) fault.Path
+  request_in method lines body asked
+
+-- they spell this message
+abbrev pub SpellsMessage : RowsOf (RouteOf Path) → List ℕ → List ℕ → List (List ℕ × List ℕ) → List ℕ → Message → Type 0
+SpellsMessage routes method whole lines body message = message_in routes method whole lines body ≡ Ok (sent message)
+
+-- the fault is the first that keeps them from spelling one
 abbrev pub IsMessageFault : RowsOf (RouteOf Path) → List ℕ → List ℕ → List (List ℕ × List ℕ) → List ℕ → RequestFault
     → Type 0
-IsMessageFault routes method whole lines body why =
-    ((why ≡ fault.Path) × ((asked : Target) → ¬ (SpellsTarget routes (path_of whole) asked)))
-    ⊎ ((asked : Target) × SpellsTarget routes (path_of whole) asked × IsRequestFault asked method lines body why)
+IsMessageFault routes method whole lines body why = message_in routes method whole lines body ≡ Err why
 
 -- ---- what is read
 

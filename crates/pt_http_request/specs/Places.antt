@@ -1,36 +1,55 @@
 -- The place that a body spells, field by field: the first field that is not as it should be is the fault.
-use Rattle.std.specs.Prelude.{ℕ, ℤ, pos, neg_ℤ, int_le, ◌&&◌, Bool, Option, Some, None, Result, Ok, option_and_then}
-use Rattle.std.specs.Prelude.{if◌then◌else◌}
+use Rattle.std.specs.Prelude.{◌≡◌, ℤ, pos, neg_ℤ, int_le, ◌&&◌, Bool, true, Option, Some, None, Result, Ok}
+use Rattle.std.specs.Prelude.{option_and_then, if◌then◌else◌}
+use Rattle.std.proofs.lemmas.Bool.{and_parts}
+use Rattle.std.proofs.lemmas.Float.{T_from_true}
+use Rattle.std.specs.Int.Signed.{le_z_yes}
+use Rattle.pt_base.specs.Place.{IsCoordinate}
 use Rattle.pt_base.specs.declared.place.Place.{Place}
-use Rattle.pt_base.specs.declared.place.Point.{Point}
 use Rattle.serde_json.specs.Data.{Data}
 use Rattle.serde_json.specs.Find.{get, as_number, as_i64}
-use Rattle.pt_http_request.specs.Fields.{truth_at, id_at, needed, ◌>>=◌}
+use Rattle.pt_http_request.specs.Fields.{truth_at, id_at, needed, tested, ◌>>=◌}
 use Rattle.pt_http_reply.specs.Fault.{field_name}
 use Rattle.pt_http_reply.specs.declared.fault.FieldName.{FieldName}
 use Rattle.pt_http_reply.specs.declared.fault.FieldName.TheVariants as field
 
--- the coordinate, where it is of the plane
-abbrev pub on_plane : ℤ → Option ℤ
-on_plane feet = if int_le (neg_ℤ (pos 1_000_000)) feet && int_le feet (pos 1_000_000) then Some feet else None
+-- whether a coordinate is of the plane
+abbrev pub is_on_plane : ℤ → Bool
+is_on_plane feet = int_le (neg_ℤ (pos 1_000_000)) feet && int_le feet (pos 1_000_000)
 
--- the coordinate that a value spells: an integer, written without fraction or exponent
+-- the integer that a value spells, written without fraction or exponent
+abbrev pub integer_from : Data → Option ℤ
+integer_from value = option_and_then as_i64 (as_number value)
+
+-- the coordinate that a value spells
 abbrev pub coordinate_from : Data → Option ℤ
-coordinate_from value = option_and_then on_plane (option_and_then as_i64 (as_number value))
+coordinate_from value =
+    option_and_then (λ feet. if is_on_plane feet then Some feet else None) (integer_from value)
 
--- the coordinate that a field holds, or the field as a fault
-abbrev pub coordinate_at : FieldName → Data → Result ℤ FieldName
-coordinate_at name body = needed (option_and_then coordinate_from (get (field_name name) body)) name
+-- a coordinate that is known to be of the plane
+pub record Coordinate : Type 0 where
+  pub feet : ℤ
+  pub on_plane : IsCoordinate feet
 
--- a place's number, where it lies, and whether in a core area
-abbrev pub fields_of : Place → ℕ × Point × Bool
-fields_of place = (place.id, place.at, place.core)
+abbrev pub coordinate : (feet : ℤ) → IsCoordinate feet → Coordinate
+coordinate feet on_plane = record { feet = feet; on_plane = on_plane }
 
--- the same of the place that a body spells: id, x, y, core
-abbrev pub place_in : Data → Result (ℕ × Point × Bool) FieldName
+pub on_plane : (feet : ℤ) → is_on_plane feet ≡ true → IsCoordinate feet
+on_plane feet test =
+    let both = and_parts _ _ test in
+    (le_z_yes (T_from_true _ both.0), le_z_yes (T_from_true _ both.1))
+
+-- the coordinate that a field holds
+abbrev pub coordinate_at : FieldName → Data → Result Coordinate FieldName
+coordinate_at name body = do
+  feet ← needed (option_and_then integer_from (get (field_name name) body)) name
+  tested (is_on_plane feet) (λ test. coordinate feet (on_plane feet test)) name
+
+-- the place that a body spells: id, x, y, core
+abbrev pub place_in : Data → Result Place FieldName
 place_in body = do
   id ← id_at field.Id body
   x ← coordinate_at field.X body
   y ← coordinate_at field.Y body
   core ← truth_at field.Core body
-  Ok (id, record { x = x; y = y }, core)
+  Ok (record { id = id; at = record { x = x.feet; y = y.feet }; core = core; on_plane = (x.on_plane, y.on_plane) })

@@ -1,7 +1,9 @@
 -- What the path of a request names, by the routes of the desk as `matchit` finds them.
-use Rattle.std.specs.Prelude.{◌≡◌, ◌==◌, ℕ, List, [], ◌∷◌, codes, map, slice_get, Option, Some, Result, Ok, Err}
-use Rattle.std.specs.Prelude.{IsAscii, IsUtf8}
-use Rattle.std.specs.List.{before_first}
+use Rattle.std.specs.Prelude.{◌==◌, ℕ, List, [], ◌∷◌, codes, map, slice_get, Option, Some, None, Result, Ok, Err}
+use Rattle.std.specs.Prelude.{IsUtf8}
+use Rattle.std.specs.Prelude.{option_and_then, option_map, if◌then◌else◌}
+use Rattle.std.specs.Char.{is_ascii}
+use Rattle.std.specs.List.{before_first, list_all}
 use Rattle.matchit.specs.Order.{placed}
 use Rattle.matchit.specs.Params.{walk}
 use Rattle.matchit.specs.Route.{Scan, parse_route}
@@ -9,14 +11,14 @@ use Rattle.matchit.specs.Router.{RouteOf, route_from}
 use Rattle.matchit.specs.Rows.{RowsOf}
 use Rattle.matchit.specs.Seek.{first}
 use Rattle.matchit.specs.declared.error.InsertError.{InsertError}
-use Rattle.pt_http_request.specs.Fields.{SpellsDay}
-use Rattle.pt_http_request.specs.Numbers.{SpellsId}
+use Rattle.pt_http_request.specs.Days.{day_from}
+use Rattle.pt_http_request.specs.Numbers.{id_from}
 use Rattle.pt_http_request.specs.declared.targets.Path.{Path}
 use Rattle.pt_http_request.specs.declared.targets.Path.TheVariants as path
 use Rattle.pt_http_request.specs.declared.targets.Target.{Target}
 use Rattle.pt_http_request.specs.declared.targets.Target.TheVariants as target
 use Rattle.pt_http_request.specs.declared.targets.WriteTarget.TheVariants as writes
-use Rattle.pt_desk_rules.specs.declared.request.Read.TheVariants as read
+use Rattle.pt_requests.specs.declared.request.Read.TheVariants as read
 
 -- the rows with one route more
 abbrev pub with_route : Result Scan InsertError → Path → RowsOf (RouteOf Path) → RowsOf (RouteOf Path)
@@ -48,29 +50,36 @@ abbrev pub AreTexts : List (List ℕ × List ℕ) → Type 0
 AreTexts [] = Unit {0}
 AreTexts (part ∷ parts) = IsUtf8 part.1 × AreTexts parts
 
--- what a route names by the first two of its parts
-abbrev pub IsTarget : Path → Option (List ℕ) → Option (List ℕ) → Target → Type 0
-IsTarget path.Callers one two (target.Write writes.Callers) = Unit {0}
-IsTarget path.Policy one two (target.Write writes.Policy) = Unit {0}
-IsTarget path.Places one two (target.Write writes.Places) = Unit {0}
-IsTarget path.Routes one two (target.Write writes.Routes) = Unit {0}
-IsTarget path.Riders one two (target.Write writes.Riders) = Unit {0}
-IsTarget path.Vehicles one two (target.Write writes.Vehicles) = Unit {0}
-IsTarget path.Entries (Some rider) two (target.Write (writes.Entries id)) = SpellsId rider id
-IsTarget path.Standing (Some rider) (Some day) (target.Read (read.Standing id number)) =
-    SpellsId rider id × SpellsDay day number
-IsTarget path.RiderTrips (Some rider) two (target.Read (read.Trips id)) = SpellsId rider id
-IsTarget path.Trips one two (target.Write writes.Trips) = Unit {0}
-IsTarget path.Change (Some trip) two (target.Write (writes.Change id)) = SpellsId trip id
-IsTarget path.Cancel (Some trip) two (target.Write (writes.Cancel id)) = SpellsId trip id
-IsTarget _ _ _ _ = ⊥
+-- the number of a record, or the day, that a part spells, if it is there
+abbrev pub id_in : Option (List ℕ) → Option ℕ
+id_in part = option_and_then id_from part
 
--- a path of ASCII names what its route names
-pub record SpellsTarget (routes : RowsOf (RouteOf Path)) (text : List ℕ) (asked : Target) : Type 0 where
-  pub ascii : IsAscii text
-  pub route : RouteOf Path
-  pub found : first routes text ≡ Some route
-  pub names : IsTarget route.value (slice_get (parts_of route text) 0) (slice_get (parts_of route text) 1) asked
+abbrev pub day_in : Option (List ℕ) → Option ℕ
+day_in part = option_and_then day_from part
+
+-- what a route names by the first two of its parts
+abbrev pub target_from : Path → Option (List ℕ) → Option (List ℕ) → Option Target
+target_from path.Callers one two = Some (target.Write writes.Callers)
+target_from path.Policy one two = Some (target.Write writes.Policy)
+target_from path.Places one two = Some (target.Write writes.Places)
+target_from path.Routes one two = Some (target.Write writes.Routes)
+target_from path.Riders one two = Some (target.Write writes.Riders)
+target_from path.Vehicles one two = Some (target.Write writes.Vehicles)
+target_from path.Entries one two = option_map (λ rider. target.Write (writes.Entries rider)) (id_in one)
+target_from path.Standing one two =
+    option_and_then (λ rider. option_map (λ day. target.Read (read.Standing rider day)) (day_in two)) (id_in one)
+target_from path.RiderTrips one two = option_map (λ rider. target.Read (read.Trips rider)) (id_in one)
+target_from path.Trips one two = Some (target.Write writes.Trips)
+target_from path.Change one two = option_map (λ trip. target.Write (writes.Change trip)) (id_in one)
+target_from path.Cancel one two = option_map (λ trip. target.Write (writes.Cancel trip)) (id_in one)
+
+-- what a path names by the route that it takes
+abbrev pub target_by : List ℕ → RouteOf Path → Option Target
+target_by text route = target_from route.value (slice_get (parts_of route text) 0) (slice_get (parts_of route text) 1)
+
+-- what a path of ASCII names
+abbrev pub target_in : RowsOf (RouteOf Path) → List ℕ → Option Target
+target_in routes text = if list_all is_ascii text then option_and_then (target_by text) (first routes text) else None
 
 -- the path of a request's target: what stands before the first `?`
 abbrev pub path_of : List ℕ → List ℕ

@@ -1,5 +1,5 @@
 ghost use Rattle.std.specs.Prelude.{◌≡◌};
-ghost use Rattle.pt_desk_rules.specs.declared.caller.Role.{Role};
+ghost use Rattle.pt_requests.specs.declared.caller.Role.{Role};
 ghost use Rattle.serde_json.specs.View.{view};
 ghost use Rattle.pt_http_request.specs.Callers.{role_alone, role_named, caller_in};
 

@@ -1,12 +1,11 @@
-ghost use Rattle.std.specs.Prelude.{◌≡◌, ℕ, List, IfOk, IfErr};
+ghost use Rattle.std.specs.Prelude.{◌≡◌, Ok, Err, IfOk, IfErr};
 ghost use Rattle.serde_json.specs.View.{view};
-ghost use Rattle.pt_http_request.specs.Fields.{AreReasonsAt};
-ghost use Rattle.pt_http_request.specs.Entries.{kind_named, kind_in, place_in_file, SpellsGrant, SpellsOfKind};
-ghost use Rattle.pt_http_request.specs.Entries.{SpellsEntry, entry_fields, IsFirstFault, IsEntryFault};
-ghost use Rattle.pt_http_request.specs.declared.entries.EntryKind.{EntryKind};
+ghost use Rattle.pt_http_request.specs.Fields.{reasons_at};
+ghost use Rattle.pt_http_request.specs.Entries.{kind_named, kind_in, grant_in, place_in_file, suspension_in};
+ghost use Rattle.pt_http_request.specs.Entries.{entry_of_kind, entry_in};
 ghost use Rattle.pt_http_request.specs.Faults.{OnField, OnRefused};
 
-use crate::conditions::conditions_in;
+use crate::conditions::conditions_at;
 use crate::fault::MessageFault;
 use crate::fields::{day_at, number_within, text_at};
 use pt_http_reply::FieldName;
@@ -59,13 +58,10 @@ fn kind_of(body: &Value) -> Result<EntryKind, FieldName>
 
 /// The grant that an object spells, or its first bad field.
 fn grant_of(body: &Value) -> Result<Grant, FieldName>
-    ensures granted { IfOk result (SpellsGrant (view body.now)) }
-    ensures fault { IfErr result (IsFirstFault (entry_fields EntryKind.Grant) (view body.now)) }
+    ensures { result ≡ grant_in (view body.now) }
 {
     let until = day_at(body, FieldName::Until)?;
-    let Some(conditions) = conditions_in(body) else {
-        return Err(FieldName::Conditions);
-    };
+    let conditions = conditions_at(body).ok_or(FieldName::Conditions)?;
     Ok(Grant { until, conditions })
 }
 
@@ -79,9 +75,8 @@ fn place_of(body: &Value) -> Result<u8, FieldName>
 
 /// The reasons at a field of an object, or the field as a fault.
 fn reasons_at(alloc: Global, body: &Value, name: FieldName) -> Result<Reasons, MessageFault>
-    ensures reasons { IfOk result (AreReasonsAt name (view body.now)) }
-    ensures fault { IfErr result (OnRefused (OnField (λ bad.
-        (bad ≡ name) × ((reasons : List ℕ) → ¬ (AreReasonsAt name (view body.now) reasons))))) }
+    ensures reasons { IfOk result (λ reasons. reasons_at name (view body.now) ≡ Ok reasons) }
+    ensures fault { IfErr result (OnRefused (OnField (λ bad. reasons_at name (view body.now) ≡ Err bad))) }
 {
     let text = text_at(body, name)?;
     let bytes = Vec::from_slice(alloc, text.as_bytes())?;
@@ -91,8 +86,8 @@ fn reasons_at(alloc: Global, body: &Value, name: FieldName) -> Result<Reasons, M
 
 /// The suspension that an object spells, or its first bad field.
 fn suspension_of(alloc: Global, body: &Value) -> Result<Entry, MessageFault>
-    ensures suspension { IfOk result (SpellsOfKind EntryKind.Suspend (view body.now)) }
-    ensures fault { IfErr result (OnRefused (OnField (IsFirstFault (entry_fields EntryKind.Suspend) (view body.now)))) }
+    ensures suspension { IfOk result (λ entry. suspension_in (view body.now) ≡ Ok entry) }
+    ensures fault { IfErr result (OnRefused (OnField (λ name. suspension_in (view body.now) ≡ Err name))) }
 {
     let starts = day_at(body, FieldName::Starts)?;
     let ends = day_at(body, FieldName::Ends)?;
@@ -106,8 +101,8 @@ fn suspension_of(alloc: Global, body: &Value) -> Result<Entry, MessageFault>
 
 /// The entry of a kind that an object spells, or its first bad field.
 fn entry_of_kind(alloc: Global, kind: EntryKind, body: &Value) -> Result<Entry, MessageFault>
-    ensures entry { IfOk result (SpellsOfKind kind (view body.now)) }
-    ensures fault { IfErr result (OnRefused (OnField (IsFirstFault (entry_fields kind) (view body.now)))) }
+    ensures entry { IfOk result (λ entry. entry_of_kind kind (view body.now) ≡ Ok entry) }
+    ensures fault { IfErr result (OnRefused (OnField (λ name. entry_of_kind kind (view body.now) ≡ Err name))) }
 {
     match kind {
         EntryKind::Complete => Ok(Entry::Complete),
@@ -131,8 +126,8 @@ fn entry_of_kind(alloc: Global, kind: EntryKind, body: &Value) -> Result<Entry, 
 
 /// The entry that an object spells, or its first bad field.
 pub(crate) fn entry_of(alloc: Global, body: &Value) -> Result<Entry, MessageFault>
-    ensures entry { IfOk result (SpellsEntry (view body.now)) }
-    ensures fault { IfErr result (OnRefused (OnField (IsEntryFault (view body.now)))) }
+    ensures entry { IfOk result (λ entry. entry_in (view body.now) ≡ Ok entry) }
+    ensures fault { IfErr result (OnRefused (OnField (λ name. entry_in (view body.now) ≡ Err name))) }
 {
     let kind = kind_of(body)?;
     entry_of_kind(alloc, kind, body)

@@ -1,8 +1,10 @@
 ghost use Rattle.std.specs.Prelude.{◌≡◌, ℕ, Ok, Err, IfSome, IsNone, IfOk, IfErr};
 ghost use Rattle.std.specs.Int.{IsInRange};
 ghost use Rattle.serde_json.specs.View.{view};
-ghost use Rattle.pt_http_request.specs.Fields.{number_within, whole_at, text_at, truth_at, id_from, id_at, digest_from};
-ghost use Rattle.pt_http_request.specs.Fields.{digest_at, SpellsDay, IsDayAt};
+ghost use Rattle.pt_http_request.specs.Days.{SpellsDay, day_from};
+ghost use Rattle.pt_http_request.specs.Fields.{number_within, whole_at, text_at, truth_at, id_at, digest_from};
+ghost use Rattle.pt_http_request.specs.Fields.{digest_at, day_at, ranged, ranged_at};
+ghost use Rattle.pt_http_request.specs.Numbers.{id_of};
 
 use hex::FromHex;
 use pt_base::{Day, Id, LAST_MINUTE, Minute};
@@ -35,7 +37,7 @@ pub(crate) fn truth_at(object: &Value, name: FieldName) -> Result<bool, FieldNam
 
 /// The number, where it may number a record.
 fn id_from<Kind>(number: u64) -> Option<Id<Kind>>
-    ensures { result ≡ id_from number }
+    ensures { result ≡ id_of number }
 {
     let number = u32::try_from(number).ok()?;
     Id::of(number)
@@ -64,6 +66,7 @@ pub(crate) fn digest_at(object: &Value, name: FieldName) -> Result<Digest, Field
 
 /// The day that a text of the form `YYYY-MM-DD` spells.
 pub fn day_from(text: &str) -> Option<Day>
+    ensures value { result ≡ day_from text.now }
     ensures spelled { IfSome result (λ day. SpellsDay text.now day) }
     ensures none { IsNone result → (day : ℕ) → ¬ (SpellsDay text.now day) }
 {
@@ -72,14 +75,9 @@ pub fn day_from(text: &str) -> Option<Day>
 
 /// The day at a field of an object, or the field as a fault.
 pub(crate) fn day_at(object: &Value, name: FieldName) -> Result<Day, FieldName>
-    ensures holds { IfOk result (IsDayAt name (view object.now)) }
-    ensures fault { IfErr result (λ bad. (bad ≡ name) × ((day : ℕ) → ¬ (IsDayAt name (view object.now) day))) }
+    ensures { result ≡ day_at name (view object.now) }
 {
-    let text = text_at(object, name)?;
-    match day_from(text) {
-        Some(day) => Ok(day),
-        None => Err(name),
-    }
+    day_from(text_at(object, name)?).ok_or(name)
 }
 
 /// The whole number of this range at a field of an object, or the field as a fault.
@@ -97,6 +95,20 @@ pub(crate) fn number_within(
         return Err(name);
     }
     Ok(number as u32)
+}
+
+/// The same, for a type that keeps the range.
+pub(crate) fn ranged_at(
+    object: &Value,
+    name: FieldName,
+    least: u32,
+    most: u32,
+) -> Result<u32, FieldName>
+    ensures value { IfOk result (λ number. (in_range : IsInRange least most number)
+        × (ranged_at name least most (view object.now) ≡ Ok (ranged number in_range))) }
+    ensures fault { IfErr result (λ bad. ranged_at name least most (view object.now) ≡ Err bad) }
+{
+    number_within(object, name, least, most)
 }
 
 /// The minute of the day at a field of an object, or the field as a fault.

@@ -1,7 +1,8 @@
-ghost use Rattle.std.specs.Prelude.{◌≡◌, ℕ, List, map, length, All, IfOk, IfErr, IfSome, IsNone, Ok, Err, option_map};
+ghost use Rattle.std.specs.Prelude.{◌≡◌, ◌≤◌, ℕ, codes, map, length, All, IfOk, IfErr, IfSome, IsNone, Ok, Err};
+ghost use Rattle.std.specs.Prelude.{option_map};
 ghost use Rattle.httparse.specs.Spans.{IsHeaderWithin, header_bytes};
 ghost use Rattle.pt_http_request.specs.Faults.{OnField, OnRefused};
-ghost use Rattle.pt_http_request.specs.Headers.{same_name, values_named, IsGiven, IsBodyLength, key_in, IsNumberIn};
+ghost use Rattle.pt_http_request.specs.Headers.{same_name, values_named, IsGiven, IsBodyLength, key_in, number_of};
 
 use crate::fault::MessageFault;
 use crate::numbers::number_from;
@@ -80,8 +81,8 @@ pub(crate) fn key_of(
 /// The caller's number for a write.
 pub(crate) fn number_of(headers: &[HeaderSpan], bytes: &[u8]) -> Option<u64>
     requires { All (IsHeaderWithin (length bytes.now)) headers.now }
-    ensures number { IfSome result (IsNumberIn (map (header_bytes bytes.now) headers.now)) }
-    ensures none { IsNone result → (number : ℕ) → ¬ (IsNumberIn (map (header_bytes bytes.now) headers.now) number) }
+    ensures value { result ≡ number_of (values_named (codes "desk-number") (map (header_bytes bytes.now) headers.now)) }
+    ensures in_range { IfSome result (λ number. number ≤ 4_294_967_295) }
 {
     match value_of(headers, bytes, b"desk-number") {
         Given::Once(value) => number_from(value, 10, 4_294_967_295),

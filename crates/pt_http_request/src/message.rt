@@ -1,12 +1,12 @@
-ghost use Rattle.std.specs.Prelude.{◌≡◌, codes, map, length, All, IsUtf8, IfOk, IfErr};
+ghost use Rattle.std.specs.Prelude.{◌≡◌, [], map, length, All, IsUtf8, Some, None, Ok, Err, IfOk, IfErr};
 ghost use Rattle.httparse.specs.Spans.{IsHeaderWithin, header_bytes};
 ghost use Rattle.serde_json.specs.View.{view};
 ghost use Rattle.pt_http_request.specs.Faults.{OnField, OnRefused};
-ghost use Rattle.pt_http_request.specs.Messages.{SpellsObject, SpellsFields, IsFieldFault, SpellsWrite, IsWriteFault};
-ghost use Rattle.pt_http_request.specs.Messages.{IsObjectFault, SpellsRead, IsReadFault, IsPostFault, SpellsRequest};
-ghost use Rattle.pt_http_request.specs.Messages.{IsRequestFault, SpellsMessage, IsMessageFault, IsMessageRead};
-ghost use Rattle.pt_http_request.specs.Messages.{IsRefusedFor};
+ghost use Rattle.pt_http_request.specs.Messages.{body_text, object_from, write_in, sent, write_from, request_in};
+ghost use Rattle.pt_http_request.specs.Messages.{SpellsMessage, IsMessageFault, IsMessageRead, IsRefusedFor};
 ghost use Rattle.pt_http_reply.specs.declared.fault.RequestFault.{RequestFault};
+ghost use Rattle.pt_http_reply.specs.declared.fault.RequestFault.TheVariants.{Json};
+ghost use Rattle.pt_http_request.specs.declared.targets.Target.TheVariants as the_target;
 ghost use Rattle.pt_http_request.specs.declared.message.Message.{Message};
 
 use crate::callers::caller_of;
@@ -40,8 +40,9 @@ pub struct Message {
 
 /// The JSON object that a body spells.
 fn object_from(alloc: Global, body: &[u8]) -> Result<Value, MessageFault>
-    ensures found { IfOk result (λ value. SpellsObject body.now (view value)) }
-    ensures fault { IfErr result (OnRefused (IsObjectFault body.now)) }
+    ensures found { IfOk result (λ value. object_from (body_text body.now) ≡ Some (view value)) }
+    ensures fault { IfErr result (OnRefused (λ why. why ≡ Json)) }
+    ensures none { IfErr result (OnRefused (λ why. object_from (body_text body.now) ≡ None)) }
 {
     let bytes = if body.is_empty() { b"{}" } else { body };
     let Ok(text) = str::from_utf8(bytes) else {
@@ -57,8 +58,8 @@ fn object_from(alloc: Global, body: &[u8]) -> Result<Value, MessageFault>
 
 /// The write to where a path leads that the fields of a body spell.
 fn fields_from(alloc: Global, target: WriteTarget, body: &Value) -> Result<Write, MessageFault>
-    ensures write { IfOk result (SpellsFields target (view body.now)) }
-    ensures fault { IfErr result (OnRefused (OnField (IsFieldFault target (view body.now)))) }
+    ensures write { IfOk result (λ write. write_in target (view body.now) ≡ Ok write) }
+    ensures fault { IfErr result (OnRefused (OnField (λ name. write_in target (view body.now) ≡ Err name))) }
 {
     match target {
         WriteTarget::Callers => Ok(Write::PutCaller(caller_of(body)?)),
@@ -92,8 +93,10 @@ fn write_from(
     body: &[u8],
 ) -> Result<Message, MessageFault>
     requires { All (IsHeaderWithin (length bytes.now)) headers.now }
-    ensures write { IfOk result (SpellsWrite target (map (header_bytes bytes.now) headers.now) body.now) }
-    ensures fault { IfErr result (OnRefused (IsWriteFault target (map (header_bytes bytes.now) headers.now) body.now)) }
+    ensures write { IfOk result (λ message. write_from (map (header_bytes bytes.now) headers.now) target body.now
+        ≡ Ok (sent message)) }
+    ensures fault { IfErr result (OnRefused (λ why. write_from (map (header_bytes bytes.now) headers.now) target
+        body.now ≡ Err why)) }
 {
     let body = object_from(alloc, body)?;
     let key = key_of(alloc, headers, bytes)?;
@@ -117,8 +120,10 @@ fn read_from(
     bytes: &[u8],
 ) -> Result<Message, MessageFault>
     requires { All (IsHeaderWithin (length bytes.now)) headers.now }
-    ensures read { IfOk result (SpellsRead method.now (map (header_bytes bytes.now) headers.now) asked) }
-    ensures fault { IfErr result (OnRefused (IsReadFault method.now (map (header_bytes bytes.now) headers.now))) }
+    ensures read { IfOk result (λ message. request_in method.now (map (header_bytes bytes.now) headers.now) []
+        (the_target.Read asked) ≡ Ok (sent message)) }
+    ensures fault { IfErr result (OnRefused (λ why. request_in method.now (map (header_bytes bytes.now) headers.now) []
+        (the_target.Read asked) ≡ Err why)) }
 {
     if method != b"GET".as_slice() {
         return Err(MessageFault::Refused(RequestFault::Method(AllowedMethod::Get)));
@@ -141,10 +146,10 @@ fn post_from(
     body: &[u8],
 ) -> Result<Message, MessageFault>
     requires { All (IsHeaderWithin (length bytes.now)) headers.now }
-    ensures write { IfOk result (λ message. (method.now ≡ codes "POST")
-        × SpellsWrite target (map (header_bytes bytes.now) headers.now) body.now message) }
-    ensures fault { IfErr result (OnRefused (IsPostFault target method.now (map (header_bytes bytes.now) headers.now)
-        body.now)) }
+    ensures write { IfOk result (λ message. request_in method.now (map (header_bytes bytes.now) headers.now) body.now
+        (the_target.Write target) ≡ Ok (sent message)) }
+    ensures fault { IfErr result (OnRefused (λ why. request_in method.now (map (header_bytes bytes.now) headers.now)
+        body.now (the_target.Write target) ≡ Err why)) }
 {
     if method != b"POST".as_slice() {
         return Err(MessageFault::Refused(RequestFault::Method(AllowedMethod::Post)));
@@ -162,10 +167,10 @@ fn message_to(
     body: &[u8],
 ) -> Result<Message, MessageFault>
     requires { All (IsHeaderWithin (length bytes.now)) headers.now }
-    ensures message { IfOk result (SpellsRequest target method.now (map (header_bytes bytes.now) headers.now)
-        body.now) }
-    ensures fault { IfErr result (OnRefused (IsRequestFault target method.now
-        (map (header_bytes bytes.now) headers.now) body.now)) }
+    ensures message { IfOk result (λ message. request_in method.now (map (header_bytes bytes.now) headers.now)
+        body.now target ≡ Ok (sent message)) }
+    ensures fault { IfErr result (OnRefused (λ why. request_in method.now (map (header_bytes bytes.now) headers.now)
+        body.now target ≡ Err why)) }
 {
     match target {
         Target::Read(asked) => read_from(alloc, asked, method, headers, bytes),

@@ -1,11 +1,20 @@
-ghost use Rattle.std.specs.Prelude.{◌≡◌, ◌≤◌, ℕ, IfSome, IsNone};
-ghost use Rattle.pt_http_request.specs.Numbers.{SpellsNumber, SpellsId};
+ghost use Rattle.std.specs.Prelude.{◌≡◌, ℕ, IfSome, IsNone};
+ghost use Rattle.pt_http_request.specs.Numbers.{SpellsNumber, number_from, id_from};
 
 use pt_base::Id;
 use std::str;
 
 /// The number that one to so many digits spell, where it is at most this.
 pub fn number_from(bytes: &[u8], digits: usize, most: u64) -> Option<u64>
+    ensures value { result ≡ number_from digits most bytes.now }
+    ensures spelled { IfSome result (SpellsNumber digits most bytes.now) }
+    ensures none { IsNone result → (number : ℕ) → ¬ (SpellsNumber digits most bytes.now number) }
+{
+    spelled_number(bytes, digits, most)
+}
+
+/// The same, as the digits are read.
+fn spelled_number(bytes: &[u8], digits: usize, most: u64) -> Option<u64>
     ensures spelled { IfSome result (SpellsNumber digits most bytes.now) }
     ensures none { IsNone result → (number : ℕ) → ¬ (SpellsNumber digits most bytes.now number) }
 {
@@ -22,8 +31,7 @@ pub fn number_from(bytes: &[u8], digits: usize, most: u64) -> Option<u64>
 
 /// The number of a record that one to ten digits spell.
 pub(crate) fn id_from<Kind>(text: &str) -> Option<Id<Kind>>
-    ensures spelled { IfSome result (λ id. SpellsId text.now id) }
-    ensures none { IsNone result → (id : ℕ) → ¬ (SpellsId text.now id) }
+    ensures { result ≡ id_from text.now }
 {
     let number = number_from(text.as_bytes(), 10, 4_294_967_295)?;
     Id::of(number as u32)

@@ -1,7 +1,7 @@
 ghost use Rattle.std.specs.Prelude.{◌≡◌, IfOk, IfErr, IfSome, Some, None, Ok, Err};
 ghost use Rattle.serde_json.specs.View.{view};
 ghost use Rattle.pt_base.specs.Place.{IsCoordinate};
-ghost use Rattle.pt_http_request.specs.Places.{coordinate_from, coordinate_at, place_in, fields_of};
+ghost use Rattle.pt_http_request.specs.Places.{coordinate_from, coordinate, coordinate_at, place_in};
 
 use crate::fields::{id_at, truth_at};
 use pt_base::{Place, Point};
@@ -24,8 +24,9 @@ pub(crate) fn coordinate_from(value: &Value) -> Option<i32>
 
 /// The coordinate at a field of an object, or the field as a fault.
 fn coordinate_at(object: &Value, name: FieldName) -> Result<i32, FieldName>
-    ensures value { result ≡ coordinate_at name (view object.now) }
-    ensures on_plane { IfOk result IsCoordinate }
+    ensures value { IfOk result (λ feet. (on_plane : IsCoordinate feet)
+        × (coordinate_at name (view object.now) ≡ Ok (coordinate feet on_plane))) }
+    ensures fault { IfErr result (λ bad. coordinate_at name (view object.now) ≡ Err bad) }
 {
     let value = object.get(name.text()).ok_or(name)?;
     coordinate_from(value).ok_or(name)
@@ -33,8 +34,7 @@ fn coordinate_at(object: &Value, name: FieldName) -> Result<i32, FieldName>
 
 /// The place that an object spells, or its first bad field.
 pub(crate) fn place_of(body: &Value) -> Result<Place, FieldName>
-    ensures place { IfOk result (λ place. place_in (view body.now) ≡ Ok (fields_of place)) }
-    ensures fault { IfErr result (λ name. place_in (view body.now) ≡ Err name) }
+    ensures { result ≡ place_in (view body.now) }
 {
     let id = id_at(body, FieldName::Id)?;
     let x = coordinate_at(body, FieldName::X)?;

@@ -1,26 +1,24 @@
-ghost use Rattle.std.specs.Prelude.{◌≡◌, IfOk, IfErr, Ok, Err};
+ghost use Rattle.std.specs.Prelude.{◌≡◌};
 ghost use Rattle.serde_json.specs.View.{view};
-ghost use Rattle.pt_http_request.specs.Fields.{number_within};
-ghost use Rattle.pt_http_request.specs.Policy.{policy_in, settled};
+ghost use Rattle.pt_http_request.specs.Policy.{policy_in};
 
-use crate::fields::number_within;
+use crate::fields::ranged_at;
 use pt_base::Policy;
 use pt_http_reply::FieldName;
 use serde_json::Value;
 
 /// The policy that an object spells, or its first bad field.
 pub(crate) fn policy_of(body: &Value) -> Result<Policy, FieldName>
-    ensures policy { IfOk result (λ policy. policy_in (view body.now) ≡ Ok (settled policy)) }
-    ensures fault { IfErr result (λ name. policy_in (view body.now) ≡ Err name) }
+    ensures { result ≡ policy_in (view body.now) }
 {
-    let base = number_within(body, FieldName::Base, 0, 100_000)?;
-    let transfer = number_within(body, FieldName::Transfer, 0, 100_000)?;
-    let fare = number_within(body, FieldName::Fare, 0, 100_000)?;
-    let service = number_within(body, FieldName::Service, 0, 30)?;
-    let extra_ride = number_within(body, FieldName::ExtraRide, 0, 240)?;
-    let min_missed = number_within(body, FieldName::MinMissed, 1, 1_000)?;
-    let percent = number_within(body, FieldName::Percent, 1, 100)?;
-    let span_days = number_within(body, FieldName::SpanDays, 1, 366)?;
+    let base = ranged_at(body, FieldName::Base, 0, 100_000)?;
+    let transfer = ranged_at(body, FieldName::Transfer, 0, 100_000)?;
+    let fare = ranged_at(body, FieldName::Fare, 0, 100_000)?;
+    let service = ranged_at(body, FieldName::Service, 0, 30)?;
+    let extra_ride = ranged_at(body, FieldName::ExtraRide, 0, 240)?;
+    let min_missed = ranged_at(body, FieldName::MinMissed, 1, 1_000)?;
+    let percent = ranged_at(body, FieldName::Percent, 1, 100)?;
+    let span_days = ranged_at(body, FieldName::SpanDays, 1, 366)?;
     Ok(Policy {
         base,
         transfer,

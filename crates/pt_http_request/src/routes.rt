@@ -19,7 +19,7 @@ use serde_json::Value;
 use std::alloc::{AllocError, Global};
 
 /// The values of a list.
-fn values_of(value: &Value) -> Option<&[Value]>
+pub(crate) fn values_of(value: &Value) -> Option<&[Value]>
     ensures { option_map (λ values. map view values.now) result ≡ values_of (view value.now) }
 {
     match value.as_array() {

@@ -1,7 +1,6 @@
-ghost use Rattle.std.specs.Prelude.{◌≡◌, map, slice_get, IsUtf8, IfOk, IfSome, IsNone};
+ghost use Rattle.std.specs.Prelude.{◌≡◌, map, slice_get, IsUtf8, IfOk};
 ghost use Rattle.std.specs.Option.{option_copied};
-ghost use Rattle.pt_http_request.specs.Targets.{desk_routes, AreTexts, IsTarget, SpellsTarget, path_of};
-ghost use Rattle.pt_http_request.specs.declared.targets.Target.{Target};
+ghost use Rattle.pt_http_request.specs.Targets.{desk_routes, AreTexts, target_from, target_in, path_of};
 
 use crate::fields::day_from;
 use crate::numbers::id_from;
@@ -98,9 +97,7 @@ fn first_two<'v>(mut params: ParamsIter<'_, '_, 'v>) -> (Option<&'v str>, Option
 
 /// What a route names by the first two parts of its path.
 fn target_from(path: Path, one: Option<&str>, two: Option<&str>) -> Option<Target>
-    ensures target { IfSome result (IsTarget path (option_copied one.entry) (option_copied two.entry)) }
-    ensures none { IsNone result → (asked : Target)
-        → ¬ (IsTarget path (option_copied one.entry) (option_copied two.entry) asked) }
+    ensures { result ≡ target_from path (option_copied one.entry) (option_copied two.entry) }
 {
     match path {
         Path::Callers => Some(Target::Write(WriteTarget::Callers)),
@@ -124,8 +121,7 @@ fn target_from(path: Path, one: Option<&str>, two: Option<&str>) -> Option<Targe
 
 /// What a path names by these routes.
 fn target_of(router: &Router<Path>, path: &str) -> Option<Target>
-    ensures target { IfSome result (SpellsTarget router.now path.now) }
-    ensures none { IsNone result → (asked : Target) → ¬ (SpellsTarget router.now path.now asked) }
+    ensures { result ≡ target_in router.now path.now }
 {
     if !path.is_ascii() {
         return None;
@@ -150,8 +146,7 @@ fn path_from(whole: &str) -> &str
 /// What the target of a request names by these routes, by what stands before its first `?`.
 pub(crate) fn target_at(router: &Router<Path>, whole: &[u8]) -> Option<Target>
     requires { IsUtf8 whole.now }
-    ensures target { IfSome result (SpellsTarget router.now (path_of whole.now)) }
-    ensures none { IsNone result → (asked : Target) → ¬ (SpellsTarget router.now (path_of whole.now) asked) }
+    ensures { result ≡ target_in router.now (path_of whole.now) }
 {
     match str::from_utf8(whole) {
         Ok(text) => target_of(router, path_from(text)),

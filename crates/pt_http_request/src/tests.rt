@@ -27,7 +27,8 @@ fn read_at(
 ) -> Result<Message, MessageFault>
     ensures message { IfOk result (λ message. (head : RequestHead) × (rest : List ℕ) × ReadsRequest bytes.now head rest
         × SpellsMessage router.now head.method head.target (map name_and_value head.fields) body.now message) }
-    ensures spelled { (head : RequestHead) (rest : List ℕ) (size : ℕ) (message : Message) → ReadsRequest bytes.now head rest
+    ensures spelled { (head : RequestHead) (rest : List ℕ) (size : ℕ) (message : Message)
+        → ReadsRequest bytes.now head rest
         → length head.fields ≤ length headers.old → IsBodyLength (map name_and_value head.fields) size
         → SpellsMessage router.now head.method head.target (map name_and_value head.fields) body.now message
         → IsMessageRead message result }

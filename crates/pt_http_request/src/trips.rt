@@ -1,10 +1,9 @@
-ghost use Rattle.std.specs.Prelude.{◌≡◌, IfOk, IfErr, Ok, Err};
+ghost use Rattle.std.specs.Prelude.{◌≡◌};
 ghost use Rattle.serde_json.specs.View.{view};
-ghost use Rattle.pt_http_request.specs.Trips.{minute_if_any_at, journey_in, journey_of, SpellsWish, IsWishFault};
-ghost use Rattle.pt_http_request.specs.Trips.{SpellsBooking, IsBookingFault};
+ghost use Rattle.pt_http_request.specs.Trips.{minute_if_any_at, wish_in, booking_in};
 
 use crate::fields::{day_at, id_at, minute_at, number_within, truth_at};
-use pt_base::{Day, Minute, RiderId, Wish};
+use pt_base::{Minute, RiderId, Wish};
 use pt_http_reply::FieldName;
 use serde_json::Value;
 
@@ -18,12 +17,11 @@ fn minute_if_any_at(body: &Value, name: FieldName) -> Result<Option<Minute>, Fie
     }
 }
 
-/// A wish for a day, with the journey that an object spells, or its first bad field.
-fn with_journey(body: &Value, day: Day) -> Result<Wish, FieldName>
-    ensures day { IfOk result (λ wish. wish.day ≡ day) }
-    ensures journey { IfOk result (λ wish. journey_in (view body.now) ≡ Ok (journey_of wish)) }
-    ensures fault { IfErr result (λ name. journey_in (view body.now) ≡ Err name) }
+/// The wish that an object spells, or its first bad field.
+pub(crate) fn wish_of(body: &Value) -> Result<Wish, FieldName>
+    ensures { result ≡ wish_in (view body.now) }
 {
+    let day = day_at(body, FieldName::Day)?;
     let pickup = minute_at(body, FieldName::Wish)?;
     let from = id_at(body, FieldName::From)?;
     let to = id_at(body, FieldName::To)?;
@@ -41,19 +39,9 @@ fn with_journey(body: &Value, day: Day) -> Result<Wish, FieldName>
     })
 }
 
-/// The wish that an object spells, or its first bad field.
-pub(crate) fn wish_of(body: &Value) -> Result<Wish, FieldName>
-    ensures wish { IfOk result (SpellsWish (view body.now)) }
-    ensures fault { IfErr result (IsWishFault (view body.now)) }
-{
-    let day = day_at(body, FieldName::Day)?;
-    with_journey(body, day)
-}
-
 /// The rider and the wish that an object spells, or its first bad field.
 pub(crate) fn booking_of(body: &Value) -> Result<(RiderId, Wish), FieldName>
-    ensures booking { IfOk result (λ booking. SpellsBooking (view body.now) booking.0 booking.1) }
-    ensures fault { IfErr result (IsBookingFault (view body.now)) }
+    ensures { result ≡ booking_in (view body.now) }
 {
     let rider = id_at(body, FieldName::Rider)?;
     let wish = wish_of(body)?;

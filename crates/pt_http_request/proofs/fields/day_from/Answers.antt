@@ -1,3 +1,8 @@
+use Rattle.std.proofs.Common.{rules}
+use Rattle.std.specs.Prelude.{IfSome}
+use Rattle.pt_http_request.proofs.DayLemmas.{day_from-known, day_from-spelled}
+use Rattle.pt_http_request.proofs.ListLemmas.{read-known}
+use Rattle.pt_http_request.specs.Days.{SpellsDay, day_from}
 use Rattle.pt_http_request.proofs.fields.day_from.Goals as goal
 
 pub returns-clause-none : goal.returns-clause-none
@@ -6,3 +11,10 @@ returns-clause-none c = λ none day spelled.
     let some = rw read at c.ok.ensures.value in
     let wrong = rw some at none in
     cc
+
+pub returns-clause-value : goal.returns-clause-value
+returns-clause-value c =
+    let text = c.args.text.now in
+    let spelled : IfSome c.ok.result (λ day. SpellsDay c.args.text.now day) = search rules in
+    read-known (day_from text) (SpellsDay text) (day_from-known text) (day_from-spelled text) c.ok.result spelled
+    (returns-clause-none c)

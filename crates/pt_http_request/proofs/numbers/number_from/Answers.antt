@@ -1,9 +1,13 @@
-use Rattle.std.proofs.Common.{sym, ◌∙◌}
-use Rattle.pt_http_request.proofs.ListLemmas.{error-from_none}
-use Rattle.pt_http_request.proofs.NumberLemmas.{digits-utf8}
+use Rattle.pt_http_request.proofs.ListLemmas.{read-known}
+use Rattle.pt_http_request.proofs.NumberLemmas.{number_from-known, number_from-spelled}
+use Rattle.pt_http_request.specs.Numbers.{SpellsNumber, number_from}
 use Rattle.pt_http_request.proofs.numbers.number_from.Goals as goal
 
-pub returns-in_err-text-clause-none : goal.returns-in_err-text-clause-none
-returns-in_err-text-clause-none c = λ none number spelled.
-    let refused = error-from_none c.from_utf8.result _ _ (sym c.ok.ensures.value ∙ c.in_err-text.was) c.from_utf8.ensures.cases in
-    refused.1.0 (digits-utf8 c.args.bytes.now spelled.0.1)
+pub returns-clause-value : goal.returns-clause-value
+returns-clause-value c =
+    let digits = c.args.digits in
+    let most = c.args.most in
+    let text = c.args.bytes.now in
+    read-known (number_from digits most text) (SpellsNumber digits most text) (number_from-known digits most text)
+    (number_from-spelled digits most text)
+    c.spelled_number.result c.spelled_number.ensures.spelled c.spelled_number.ensures.none

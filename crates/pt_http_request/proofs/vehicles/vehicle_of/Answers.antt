@@ -1,13 +1,18 @@
-use Rattle.std.proofs.Common.{rules, ◌≡◌, Ok, inl, inr}
-use Rattle.std.proofs.lemmas.Result.{err_from_is_err_and}
+use Rattle.std.proofs.Common.{◌≡◌, Ok, Some, rules}
 use Rattle.serde_json.specs.View.{view}
 use Rattle.pt_http_reply.specs.declared.fault.FieldName.TheVariants as field
-use Rattle.pt_http_request.specs.Fields.{id_at}
+use Rattle.pt_http_request.proofs.FieldLemmas.{vehicle-read}
+use Rattle.pt_http_request.specs.Fields.{id_at, day_at, number_within}
+use Rattle.pt_http_request.specs.Routes.{days_at}
 use Rattle.pt_http_request.proofs.vehicles.vehicle_of.Goals as goal
 
-pub returns-in_err-from_day-clause-fault : goal.returns-in_err-from_day-clause-fault
-returns-in_err-from_day-clause-fault c =
-    let p = err_from_is_err_and c.from_residual-in_err-from_day.result c.from_residual-in_err-from_day.ensures.1 in
-    let fault = c.in_err-from_day.ensures.fault in
-    let known : id_at field.Id (view c.args.body.now) ≡ Ok c.in_ok-id.id = search rules in
-    rw (p.1, p.2) (inr (inl ((c.in_ok-id.id, known), fault.0, λ has. fault.1 has.0 has.1)))
+pub returns : goal.returns
+returns c =
+    let id : id_at field.Id (view c.args.body.now) ≡ Ok c.in_ok-id.id = search rules in
+    let from_day : day_at field.FromDay (view c.args.body.now) ≡ Ok c.in_ok-from_day.from_day = search rules in
+    let days : days_at (view c.args.body.now) ≡ Some c.in_ok-days.days = search rules in
+    let depot : id_at field.Depot (view c.args.body.now) ≡ Ok c.in_ok-depot.depot = search rules in
+    let opens : number_within field.Opens 0 1_439 (view c.args.body.now) ≡ Ok c.in_ok-opens.opens = search rules in
+    let closes : number_within field.Closes 0 1_439 (view c.args.body.now) ≡ Ok c.in_ok-closes.closes = search rules in
+    vehicle-read (view c.args.body.now) _ id from_day days depot c.in_ok-capacity.ensures.value opens closes
+    c.in_ok-duration.ensures.value
