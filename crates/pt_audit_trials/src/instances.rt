@@ -1,59 +1,12 @@
 //! Random vehicles, routes and trips.
-ghost use Rattle.std.specs.Prelude.{◌<◌};
-ghost use Rattle.pt_feasible.specs.Plain.{plain_minutes, plain-stays, plain-within_a_day, plain-triangle};
-
+use crate::Dice;
 use pt_base::{Day, Minute, PlaceId, TripId, Vehicle, VehicleId, Weekdays};
 use pt_feasible::{Load, Route};
 use pt_insertion::Asked;
-use pt_travel::Times;
 use std::alloc::Global;
 use std::test::Fail;
 
 const DEPOT: u32 = 20_020;
-
-/// Places told by their numbers, whose last six digits are three east and three north.
-pub struct Plain;
-
-impl Times for Plain {
-    ghost minutes = { λ _ a b. plain_minutes a b };
-
-    ghost stays = { λ _ a. plain-stays a };
-
-    ghost within_a_day = { λ _ a b. plain-within_a_day a b };
-
-    ghost triangle = { λ _ a b c m n. plain-triangle a b c m n };
-
-    fn minutes(&self, from: PlaceId, to: PlaceId) -> Option<u16> {
-        let (a, b) = (from.number(), to.number());
-        if a / 1_000_000 != b / 1_000_000 {
-            return None;
-        }
-        let east = (a / 1_000 % 1_000).abs_diff(b / 1_000 % 1_000);
-        let north = (a % 1_000).abs_diff(b % 1_000);
-        Some(east.max(north) as u16)
-    }
-}
-
-/// Numbers at random.
-#[derive(Drop)]
-pub struct Dice {
-    pub state: u64,
-}
-
-impl Dice {
-    /// A number below `sides`.
-    pub fn throw(&mut self, sides: u32) -> u32
-        requires { 0 < sides }
-        ensures { result < sides }
-    {
-        self.state = self
-            .state
-            .wrapping_mul(6_364_136_223_846_793_005)
-            .wrapping_add(1_442_695_040_888_963_407);
-        let high = (self.state >> 33) as u32;
-        high % sides
-    }
-}
 
 fn minute(number: u32) -> Result<Minute, Fail> {
     Ok(Minute::of(number.min(1439)).ok_or("minute")?)

@@ -1,5 +1,5 @@
 //! Whether a log is right, looked at plainly: each case's list of stops is made anew, and all numbers are wide.
-use crate::instances::Plain;
+use crate::Plain;
 use pt_audit::{End, Line, Raise, Visit};
 use pt_base::Vehicle;
 use pt_feasible::{Load, MAX_STOPS, Stop, StopKind, Stops};

@@ -1,7 +1,7 @@
 -- The line that leads each message of a rehearsal, and gives the moment at which the message comes.
 use Rattle.std.specs.Prelude.{◌≡◌, ◌≢◌, ℕ, List, ◌∷◌, ◌++◌, codes, All}
 use Rattle.std.specs.Str.Lines.{strip_carriage_return}
-use Rattle.pt_http_request.specs.Fields.{SpellsDay}
+use Rattle.pt_http_request.specs.Days.{SpellsDay}
 use Rattle.pt_http_request.specs.Numbers.{SpellsNumber}
 
 -- the text is `@`, a date and digits, with one space between them and none in the date

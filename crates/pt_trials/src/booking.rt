@@ -1,4 +1,4 @@
-//! Random calls that book, change and cancel trips, answered by the desk and by a second one over plain lists.
+//! Random calls that book, change, cancel and end trips, answered by the desk and by a second one over plain lists.
 use crate::case_files::{Seen, count, throw, told};
 use crate::plain_agency::{
     BEGIN, FILES, FIRST_TABLE, LINES, PLACES, PlainCondition, PlainLine, PlainPlace, PlainRider,
@@ -7,8 +7,8 @@ use crate::plain_agency::{
 };
 use crate::plain_routes::PlainTrip;
 use crate::second_desk::{
-    ADMIN, Asked, CLERK, DISPATCHER, EXAMINER, KeptStop, OWN, PlainConfirmation, SecondDesk, Told,
-    rows_of,
+    ADMIN, Accepted, Asked, CLERK, DISPATCHER, DRIVERS, EXAMINER, KeptStop, OWN, PlainConfirmation,
+    SecondDesk, Told, rows_of,
 };
 use pt_base::{
     CallerId, Day, Minute, Place, PlaceId, Point, Rider, RiderId, RouteId, Rule, Trip, TripId,
@@ -22,7 +22,7 @@ use pt_desk::{
 use pt_desk_rules::{PlannedRoute, TravelTable};
 use pt_feasible::StopKind;
 use pt_records::Edits;
-use pt_rights::{Condition, Conditions, Entered, Entry, Feet, Grant, Months};
+use pt_rights::{Condition, Conditions, Entered, Entry, Feet, Grant, Months, Outcome};
 use pt_travel::{Raw, Row};
 use std::alloc::Global;
 use std::process::Abort;
@@ -38,20 +38,23 @@ const PAUSE: u32 = CALLS / 2;
 /// How often each answer has to come, so that the comparison says something of it.
 const OFTEN: u32 = 20;
 
-/// What has to come: what is accepted, rides that others share, riders who ask about a trip that is not there, and each
-/// rule that may deny.
-const ANSWERS: [&str; 20] = [
+/// What has to come: what is accepted, rides that others share, writes that come again, riders who ask about a trip
+/// that is not there, and each rule that may deny.
+const ANSWERS: [&str; 23] = [
     "booked",
     "changed",
     "shared",
+    "again",
     "not there",
     "cancelled",
+    "ended",
     "told",
     "desk.key",
     "desk.number",
     "desk.caller",
     "desk.unknown",
     "desk.over",
+    "desk.early",
     "37.125",
     "37.127(e)",
     "37.125(h)",
@@ -114,6 +117,11 @@ fn put_callers(rt: &impl Abort, callers: &mut Edits<Caller>) {
     ];
     for (number, role) in counter {
         callers.put(caller(rt, number, role)).expect(rt, "memory");
+    }
+    for van in 1..=3 {
+        let role = Role::Driver(VehicleId::of(van).expect(rt, "a vehicle"));
+        let driver = caller(rt, van.saturating_add(DRIVERS), role);
+        callers.put(driver).expect(rt, "memory");
     }
     for rider in RIDERS {
         let role = Role::Rider(rider_id(rt, rider.id));
@@ -235,7 +243,7 @@ fn under(rt: &impl Abort, rider: u32, entry: Entry) -> Entry {
     }
 }
 
-/// Puts the case files as they are, since no notice is admitted while no trip has an outcome.
+/// Puts the case files as they are, since no notice is admitted before a trip has an outcome.
 fn put_entries(
     rt: &impl Abort,
     alloc: Global,
@@ -320,6 +328,10 @@ fn request(rt: &impl Abort, asked: Asked) -> Request {
             wish: wish(rt, &wished),
         }),
         Asked::Cancel(trip) => Request::Write(Write::Cancel(trip_id(rt, trip))),
+        Asked::Outcome(trip, outcome) => Request::Write(Write::Outcome {
+            trip: trip_id(rt, trip),
+            outcome,
+        }),
         Asked::Trips(rider) => Request::Read(Read::Trips(rider_id(rt, rider))),
     }
 }
@@ -503,16 +515,28 @@ fn random_change(dice: &mut u64, second: &SecondDesk, trip: u32, today: u32) -> 
     }
 }
 
+fn random_outcome(dice: &mut u64) -> Outcome {
+    match throw(dice, 3) {
+        0 => Outcome::Ridden,
+        1 => Outcome::MissedRider,
+        _ => Outcome::MissedOperator,
+    }
+}
+
 fn random_asked(dice: &mut u64, second: &SecondDesk, today: u32) -> Asked {
     let rider = [1, 2, 2, 3, 3, 3, 4, 4, 4, 5, 6, 7, 8, 9][throw(dice, 14) as usize];
     let soon = today.saturating_add(throw(dice, 3));
-    match throw(dice, 24) {
+    match throw(dice, 27) {
         0 => Asked::Policy(throw(dice, 3)),
         1 => Asked::Trips(rider),
         2 | 3 => Asked::Cancel(random_trip(dice, second, soon)),
         4..=8 => {
             let trip = random_trip(dice, second, soon.saturating_add(1));
             Asked::Change(trip, random_change(dice, second, trip, today))
+        }
+        9..=11 => {
+            let day = today.saturating_add(throw(dice, 2));
+            Asked::Outcome(random_trip(dice, second, day), random_outcome(dice))
         }
         _ => Asked::Book(rider, random_wish(dice, today)),
     }
@@ -531,10 +555,21 @@ fn at_turn(dice: &mut u64, second: &SecondDesk, asked: Asked, now: (u32, u32)) -
     }
 }
 
+/// The key of the driver of the trip's vehicle, of a dispatcher, or any.
+fn driver_key(dice: &mut u64, second: &SecondDesk, trip: u32) -> u32 {
+    let vehicle = second.trip(trip).map_or(1, |there| there.vehicle);
+    match throw(dice, 6) {
+        0..=3 => vehicle.saturating_add(DRIVERS),
+        4 => DISPATCHER,
+        _ => throw(dice, 20),
+    }
+}
+
 /// The key of a clerk or a dispatcher, of the rider's own caller, or any.
 fn random_key(dice: &mut u64, second: &SecondDesk, asked: Asked) -> u32 {
     let rider = match asked {
         Asked::Policy(_) => return ADMIN,
+        Asked::Outcome(trip, _) => return driver_key(dice, second, trip),
         Asked::Book(rider, _) | Asked::Trips(rider) => rider,
         Asked::Change(trip, _) | Asked::Cancel(trip) => {
             second.trip(trip).map_or(1, |there| there.rider)
@@ -548,7 +583,33 @@ fn random_key(dice: &mut u64, second: &SecondDesk, asked: Asked) -> u32 {
     }
 }
 
+/// The last accepted write of some key once more, if there is any.
+fn random_repeat(dice: &mut u64, second: &SecondDesk, now: (u32, u32)) -> Option<PlainCall> {
+    let kept = u32::try_from(second.accepted.len()).unwrap_or(1).max(1);
+    let last = second.accepted.get(throw(dice, kept) as usize)?;
+    let Accepted {
+        key,
+        number,
+        asked,
+        ..
+    } = *last;
+    Some(PlainCall {
+        now,
+        key,
+        number,
+        asked,
+    })
+}
+
+/// A call of the trial: one in eight is a repeat.
 fn random_call(dice: &mut u64, second: &SecondDesk, now: (u32, u32), turn: u32) -> PlainCall {
+    let repeat = match throw(dice, 8) {
+        0 => random_repeat(dice, second, now),
+        _ => None,
+    };
+    if let Some(again) = repeat {
+        return again;
+    }
     let asked = random_asked(dice, second, now.0);
     PlainCall {
         now: at_turn(dice, second, asked, now),
@@ -565,6 +626,7 @@ fn name(asked: Asked, told: &Told) -> &'static str {
         (Told::Booked(_), Asked::Change(_, _)) => "changed",
         (Told::Booked(_), _) => "booked",
         (Told::Done, Asked::Cancel(_)) => "cancelled",
+        (Told::Done, Asked::Outcome(_, _)) => "ended",
         (Told::Trips(_), _) => "told",
         _ => "done",
     }
@@ -608,9 +670,13 @@ fn compare_calls(
         let call = random_call(&mut dice, second, now, turn);
         now = call.now;
         let told = ask(rt, alloc, keeper, &call);
+        let kept = second.kept_reply(call.key, call.number, call.asked);
         let wanted = second.ask(now, call.key, call.number, call.asked)?;
         assert_eq!(rt; told, wanted, "seed {SEED}, call {turn}: {call:?}");
-        count_answer(seen, second, call.asked, &wanted)?;
+        match kept {
+            Some(_) => count(seen, "again")?,
+            None => count_answer(seen, second, call.asked, &wanted)?,
+        }
         let day = now.0.saturating_add(throw(&mut dice, 5));
         compare_routes(rt, alloc, keeper, second, day)?;
     }

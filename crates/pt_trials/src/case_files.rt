@@ -54,9 +54,9 @@ const STORY: [(Kind, &str); 14] = [
     (Kind::Grant, "grant"),
 ];
 
-/// An entry in plain numbers: `against` is an appeal's place, `starts` a suspension's first day, `until` its last day or a
-/// grant's.
-#[derive(Clone, Copy, Debug)]
+/// An entry in plain numbers: `against` is an appeal's place, `starts` a suspension's first day, `until` its last day
+/// or a grant's.
+#[derive(Clone, Copy, Debug, PartialEq, Eq)]
 pub(crate) struct Plain {
     pub kind: Kind,
     pub day: u32,
@@ -280,6 +280,35 @@ pub(crate) fn random_entry(dice: &mut u64, file: &[Plain], kind: Kind) -> Plain 
         against: if throw(dice, 2) == 0 { any } else { last },
         starts,
         until: if kind == Kind::Suspend { ends } else { until },
+    }
+}
+
+/// What is spelled of an entry that is asked for: its kind and what such an entry has, and 0 for the rest.
+pub(crate) fn spelled(entry: Plain) -> Plain {
+    let Plain {
+        kind,
+        against,
+        starts,
+        until,
+        ..
+    } = entry;
+    let bare = Plain {
+        kind,
+        day: 0,
+        author: 0,
+        against: 0,
+        starts: 0,
+        until: 0,
+    };
+    match kind {
+        Kind::Grant | Kind::AppealGranted => Plain { until, ..bare },
+        Kind::Appeal => Plain { against, ..bare },
+        Kind::Suspend => Plain {
+            starts,
+            until,
+            ..bare
+        },
+        _ => bare,
     }
 }
 

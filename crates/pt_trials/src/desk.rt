@@ -1,6 +1,6 @@
 //! Random calls of the desk, answered once more over plain lists.
 use crate::case_files::{
-    Kind, Plain, plain_denial, plain_standing, plain_suspension, random_entry, throw, told,
+    Kind, Plain, plain_denial, plain_standing, plain_suspension, random_entry, spelled, throw, told,
 };
 use pt_base::{CallerId, Day, Minute, Residence, Rider, RiderId, Rule};
 use pt_desk::{Answer, Caller, Digest, ListKeeper, Read, Request, Role, Write, answer};
@@ -56,7 +56,7 @@ enum Who {
 }
 
 /// What is asked, in plain numbers.
-#[derive(Clone, Copy, Debug)]
+#[derive(Clone, Copy, Debug, PartialEq, Eq)]
 enum Asked {
     PutCaller(u32, Who, u8),
     PutRider(u32, Residence),
@@ -76,12 +76,44 @@ enum Told {
     Denied(Rule),
 }
 
+/// A write that was accepted, and what it was told.
+#[derive(Clone, Copy)]
+struct Accepted {
+    number: u32,
+    asked: Asked,
+    told: Told,
+}
+
 #[derive(Clone, Copy)]
 struct PlainCaller {
     id: u32,
     who: Who,
     key: u8,
-    last: u32,
+    last: Option<Accepted>,
+}
+
+impl PlainCaller {
+    fn last_number(&self) -> u32 {
+        self.last.map_or(0, |last| last.number)
+    }
+
+    /// What the last accepted write was told, where this is that write again.
+    fn kept_reply(&self, number: u32, asked: Asked) -> Option<Told> {
+        match self.last {
+            Some(last) if last.number == number && is_same(last.asked, asked) => Some(last.told),
+            _ => None,
+        }
+    }
+}
+
+/// Whether both requests are spelled alike.
+fn is_same(one: Asked, other: Asked) -> bool {
+    match (one, other) {
+        (Asked::Enter(rider, entry), Asked::Enter(its_rider, its_entry)) => {
+            rider == its_rider && spelled(entry) == spelled(its_entry)
+        }
+        _ => one == other,
+    }
 }
 
 #[derive(Drop)]
@@ -97,6 +129,10 @@ struct PlainDesk {
     alloc: Global,
     callers: Vec<PlainCaller>,
     riders: Vec<PlainRider>,
+    /// How many entries were accepted.
+    entered: u32,
+    /// How many writes were told a kept reply.
+    repeated: u32,
 }
 
 impl PlainDesk {
@@ -105,12 +141,14 @@ impl PlainDesk {
             id: 1,
             who: Who::Admin,
             key: 1,
-            last: 0,
+            last: None,
         };
         Ok(PlainDesk {
             alloc,
             callers: vec![in alloc; admin]?,
             riders: Vec::new(alloc),
+            entered: 0,
+            repeated: 0,
         })
     }
 
@@ -171,7 +209,7 @@ impl PlainDesk {
                 return Ok(());
             }
         }
-        let last = 0;
+        let last = None;
         let new = PlainCaller { id, who, key, last };
         self.callers.push(new).map_err(|_| Fail::new("memory"))
     }
@@ -193,6 +231,7 @@ impl PlainDesk {
                 rider.file.push(entry).map_err(|_| Fail::new("memory"))?;
             }
         }
+        self.entered = self.entered.saturating_add(1);
         Ok(Told::Entered(place))
     }
 
@@ -218,6 +257,14 @@ impl PlainDesk {
         Ok(Told::Done)
     }
 
+    fn keep(&mut self, id: u32, last: Accepted) {
+        for caller in &mut self.callers {
+            if caller.id == id {
+                caller.last = Some(last);
+            }
+        }
+    }
+
     /// Answers a request; the author of an entry is whoever asks.
     fn ask(&mut self, today: u32, key: u8, number: u32, asked: Asked) -> Result<Told, Fail> {
         let Some(me) = self
@@ -228,6 +275,10 @@ impl PlainDesk {
         else {
             return Ok(Told::Denied(Rule::Key));
         };
+        if let Some(told) = me.kept_reply(number, asked) {
+            self.repeated = self.repeated.saturating_add(1);
+            return Ok(told);
+        }
         let asked = match asked {
             Asked::Enter(id, entry) => Asked::Enter(
                 id,
@@ -240,7 +291,7 @@ impl PlainDesk {
             asked => asked,
         };
         let writes = !matches!(asked, Asked::Standing(_, _));
-        if writes && number <= me.last {
+        if writes && number <= me.last_number() {
             return Ok(Told::Denied(Rule::Number));
         }
         if !self.may(me, asked) {
@@ -250,10 +301,13 @@ impl PlainDesk {
             return Ok(Told::Denied(rule));
         }
         let told = self.accept(today, asked)?;
-        for caller in &mut self.callers {
-            if writes && caller.id == me.id {
-                caller.last = number;
-            }
+        if writes {
+            let last = Accepted {
+                number,
+                asked,
+                told,
+            };
+            self.keep(me.id, last);
         }
         Ok(told)
     }
@@ -303,6 +357,37 @@ fn random_key(dice: &mut u64, plain: &PlainDesk, asked: Asked) -> u8 {
     }
 }
 
+/// One call: the key, the caller's number and what is asked.
+#[derive(Clone, Copy)]
+struct PlainCall {
+    key: u8,
+    number: u32,
+    asked: Asked,
+}
+
+/// The last accepted write of one of six callers once more, if it has one.
+fn random_repeat(dice: &mut u64, plain: &PlainDesk) -> Option<PlainCall> {
+    let caller = plain.callers.get(throw(dice, 6) as usize)?;
+    let Accepted { number, asked, .. } = caller.last?;
+    let key = caller.key;
+    Some(PlainCall { key, number, asked })
+}
+
+/// A call of the trial: after the first ones, one in eight is a repeat.
+fn random_call(dice: &mut u64, plain: &PlainDesk, call: u32, today: u32) -> PlainCall {
+    let repeat = match FIRST.get(call as usize) {
+        None if throw(dice, 8) == 0 => random_repeat(dice, plain),
+        _ => None,
+    };
+    if let Some(again) = repeat {
+        return again;
+    }
+    let number = call.saturating_add(1).saturating_sub(throw(dice, 4));
+    let asked = random_request(dice, plain, call, today);
+    let key = random_key(dice, plain, asked);
+    PlainCall { key, number, asked }
+}
+
 fn role(who: Who) -> Result<Role, Fail> {
     Ok(match who {
         Who::Admin => Role::Admin,
@@ -342,7 +427,7 @@ fn plain_answer(answer: &Answer) -> Told {
         Answer::Entered(place) => Told::Entered(*place),
         Answer::Denied(rule) => Told::Denied(*rule),
         Answer::Visitor { .. } => Told::Visitor,
-        Answer::Booked(_) | Answer::Trips(_) => Told::Trips,
+        Answer::Booked(_) | Answer::Trips(_) | Answer::Letter(_) | Answer::Export(_) => Told::Trips,
         Answer::Standing {
             standing,
             suspended,
@@ -358,29 +443,23 @@ fn plain_answer(answer: &Answer) -> Told {
     }
 }
 
-/// Asks both desks the same, and compares what they tell; how many entries there were.
+/// Asks both desks the same, and compares what they tell.
 fn compare_calls(
     rt: &impl Abort,
     alloc: Global,
     keeper: &mut ListKeeper,
     plain: &mut PlainDesk,
-) -> Result<u32, Fail> {
+) -> Result<(), Fail> {
     let mut dice = SEED;
     let mut today = BEGIN;
-    let mut entered: u32 = 0;
     for call in 0..CALLS {
         today = today.saturating_add(throw(&mut dice, 3));
-        let number = call.saturating_add(1).saturating_sub(throw(&mut dice, 4));
-        let asked = random_request(&mut dice, plain, call, today);
-        let key = random_key(&mut dice, plain, asked);
+        let PlainCall { key, number, asked } = random_call(&mut dice, plain, call, today);
         let told = ask(alloc, keeper, today, key, number, asked)?;
         let wanted = plain.ask(today, key, number, asked)?;
         assert_eq!(rt; told, wanted, "seed {SEED}, call {call}: {asked:?}");
-        if matches!(wanted, Told::Entered(_)) {
-            entered = entered.saturating_add(1);
-        }
     }
-    Ok(entered)
+    Ok(())
 }
 
 /// What the desk tells.
@@ -408,7 +487,15 @@ fn random_calls_are_answered_as_by_the_plain_desk(rt: HostRuntime) -> Result<(),
     let alloc = rt.alloc();
     let mut keeper = ListKeeper::new(alloc, &[1])?;
     let mut plain = PlainDesk::new(alloc)?;
-    let entered = compare_calls(&rt, alloc, &mut keeper, &mut plain)?;
-    assert!(rt; 30 < entered, "{entered} entries");
+    compare_calls(&rt, alloc, &mut keeper, &mut plain)?;
+    let PlainDesk {
+        entered,
+        repeated,
+        ..
+    } = plain;
+    assert!(rt;
+        30 < entered && 30 <= repeated,
+        "{entered} entries, {repeated} repeats"
+    );
     Ok(())
 }

@@ -280,7 +280,8 @@ fn vehicles_and_tables_are_kept_as_by_the_plain_lists(rt: HostRuntime) -> Result
     compare_calls(&rt, alloc, &mut keeper, &mut plain)
 }
 
-/// The calls that come to the 21st version, the 51st vehicle and the 51st table, each again after later ones were taken away.
+/// The calls that come to the 21st version, the 51st vehicle and the 51st table, each again after later ones were
+/// taken away.
 fn put_at_limit(call: u32) -> (Put, Option<Rule>) {
     let full = Some(Rule::Full);
     let unknown = Some(Rule::Unknown);

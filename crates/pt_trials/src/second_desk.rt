@@ -6,6 +6,7 @@ use crate::plain_agency::{
 };
 use crate::plain_routes::{PlainRoute, PlainStop, PlainTrip, best, with_trip};
 use pt_base::{PlaceId, Policy, Residence, Rule, TripStatus};
+use pt_rights::Outcome;
 use pt_travel::Row;
 use std::alloc::Global;
 use std::test::Fail;
@@ -19,10 +20,13 @@ pub(crate) const DISPATCHER: u32 = 3;
 
 pub(crate) const EXAMINER: u32 = 4;
 
+/// The keys of drivers come after this one, by the numbers of their vehicles.
+pub(crate) const DRIVERS: u32 = 4;
+
 pub(crate) const OWN: u32 = 10;
 
 /// What is asked, in plain numbers.
-#[derive(Clone, Copy, Debug)]
+#[derive(Clone, Copy, Debug, PartialEq, Eq)]
 pub(crate) enum Asked {
     /// The policy of this turn.
     Policy(u32),
@@ -31,6 +35,8 @@ pub(crate) enum Asked {
     /// The trip of this number anew.
     Change(u32, PlainWish),
     Cancel(u32),
+    /// How the trip of this number ended.
+    Outcome(u32, Outcome),
     Trips(u32),
 }
 
@@ -52,6 +58,15 @@ pub(crate) enum Told {
     Denied(Rule),
     /// Something that nobody asks for here.
     Another,
+}
+
+/// A write that was accepted, by whose key, and how its trip was confirmed if it booked one.
+#[derive(Clone, Copy)]
+pub(crate) struct Accepted {
+    pub key: u32,
+    pub number: u32,
+    pub asked: Asked,
+    pub booked: Option<PlainConfirmation>,
 }
 
 /// A stop of a vehicle on a day.
@@ -76,8 +91,8 @@ pub(crate) struct SecondDesk {
     policy: Policy,
     first: Minutes,
     second: Minutes,
-    /// The last accepted number of each key that has one.
-    numbers: Vec<(u32, u32)>,
+    /// The last accepted write of each key that has one.
+    pub accepted: Vec<Accepted>,
     trips: Vec<PlainTrip>,
     planned: Vec<KeptStop>,
     pub last_trip: u32,
@@ -96,6 +111,7 @@ pub(crate) fn rows_of(alloc: Global, drives: &[(u32, u32, u32)]) -> Result<Vec<R
 
 fn is_caller(key: u32) -> bool {
     [ADMIN, CLERK, DISPATCHER, EXAMINER].contains(&key)
+        || (DRIVERS + 1..=DRIVERS + 3).contains(&key)
         || rider_of(key.saturating_sub(OWN)).is_some()
 }
 
@@ -165,7 +181,7 @@ impl SecondDesk {
             policy: policy(0),
             first: minutes_by(alloc, &rows_of(alloc, &FIRST_TABLE)?)?,
             second: minutes_by(alloc, &rows_of(alloc, &SECOND_TABLE)?)?,
-            numbers: Vec::new(alloc),
+            accepted: Vec::new(alloc),
             trips: Vec::new(alloc),
             planned: Vec::new(alloc),
             last_trip: 0,
@@ -203,14 +219,26 @@ impl SecondDesk {
         }
     }
 
-    fn last_number(&self, key: u32) -> u32 {
-        let found = self.numbers.iter().find(|number| number.0 == key);
-        found.map_or(0, |number| number.1)
+    fn last_of(&self, key: u32) -> Option<Accepted> {
+        self.accepted.iter().find(|last| last.key == key).copied()
     }
 
-    fn keep_number(&mut self, key: u32, number: u32) -> Result<(), Fail> {
-        self.numbers.retain(|kept| kept.0 != key);
-        self.numbers.push((key, number))?;
+    fn last_number(&self, key: u32) -> u32 {
+        self.last_of(key).map_or(0, |last| last.number)
+    }
+
+    /// What the last accepted write of the key was told, where this is that write again.
+    pub(crate) fn kept_reply(&self, key: u32, number: u32, asked: Asked) -> Option<Told> {
+        let last = self.last_of(key)?;
+        if last.number != number || last.asked != asked {
+            return None;
+        }
+        Some(last.booked.map_or(Told::Done, Told::Booked))
+    }
+
+    fn keep(&mut self, new: Accepted) -> Result<(), Fail> {
+        self.accepted.retain(|last| last.key != new.key);
+        self.accepted.push(new)?;
         Ok(())
     }
 
@@ -222,6 +250,12 @@ impl SecondDesk {
                 Some(trip) => may_book(key, trip.rider),
                 None => is_counter(key),
             },
+            Asked::Outcome(id, _) => {
+                let driver = self
+                    .trip(id)
+                    .map(|trip| trip.vehicle.saturating_add(DRIVERS));
+                key == DISPATCHER || driver == Some(key)
+            }
         }
     }
 
@@ -231,22 +265,30 @@ impl SecondDesk {
             Asked::Book(rider, wish) => rider_of(rider).is_some() && ends_of(&wish).is_some(),
             Asked::Trips(rider) => rider_of(rider).is_some(),
             Asked::Change(id, wish) => self.trip(id).is_some() && ends_of(&wish).is_some(),
-            Asked::Cancel(id) => self.trip(id).is_some(),
+            Asked::Cancel(id) | Asked::Outcome(id, _) => self.trip(id).is_some(),
         }
     }
 
     fn is_over(&self, now: (u32, u32), asked: Asked) -> bool {
-        let (id, is_cancel) = match asked {
-            Asked::Change(id, _) => (id, false),
-            Asked::Cancel(id) => (id, true),
-            _ => return false,
+        let found = match asked {
+            Asked::Change(id, _) | Asked::Cancel(id) | Asked::Outcome(id, _) => self.trip(id),
+            _ => None,
         };
-        match self.trip(id) {
-            Some(trip) if is_cancel => {
-                trip.status != TripStatus::Booked || now >= (trip.wish.day, trip.window.0)
-            }
-            Some(trip) => trip.status != TripStatus::Booked || now.0 >= trip.wish.day,
-            None => false,
+        let Some(trip) = found else {
+            return false;
+        };
+        let is_past = match asked {
+            Asked::Change(_, _) => now.0 >= trip.wish.day,
+            Asked::Cancel(_) => now >= (trip.wish.day, trip.window.0),
+            _ => false,
+        };
+        trip.status != TripStatus::Booked || is_past
+    }
+
+    fn is_early(&self, today: u32, asked: Asked) -> bool {
+        match asked {
+            Asked::Outcome(id, _) => self.trip(id).is_some_and(|trip| today < trip.wish.day),
+            _ => false,
         }
     }
 
@@ -259,15 +301,17 @@ impl SecondDesk {
             (Rule::Caller, self.may(key, asked)),
             (Rule::Unknown, self.is_there(asked)),
             (Rule::Over, !self.is_over(now, asked)),
+            (Rule::Early, !self.is_early(now.0, asked)),
         ];
         rules.iter().find(|rule| !rule.1).map(|rule| rule.0)
     }
 
-    /// The days of a rider's other trips that are booked.
+    /// The days of a rider's other trips that are booked or were ridden.
     fn uses(&self, rider: u32, left_out: u32) -> Result<Vec<u32>, Fail> {
         let mut uses = Vec::new(self.alloc);
         for trip in &self.trips {
-            let is_use = trip.status == TripStatus::Booked && trip.id != left_out;
+            let is_used = [TripStatus::Booked, TripStatus::Ridden].contains(&trip.status);
+            let is_use = is_used && trip.id != left_out;
             if trip.rider == rider && is_use {
                 uses.push(trip.wish.day)?;
             }
@@ -431,6 +475,19 @@ impl SecondDesk {
         Told::Done
     }
 
+    fn end(&mut self, id: u32, outcome: Outcome) -> Told {
+        for trip in &mut self.trips {
+            if trip.id == id {
+                trip.status = match outcome {
+                    Outcome::Ridden => TripStatus::Ridden,
+                    Outcome::MissedRider => TripStatus::MissedRider,
+                    Outcome::MissedOperator => TripStatus::MissedOperator,
+                };
+            }
+        }
+        Told::Done
+    }
+
     fn tell_trips(&self, rider: u32) -> Result<Told, Fail> {
         let mut trips = Vec::new(self.alloc);
         for trip in &self.trips {
@@ -456,12 +513,13 @@ impl SecondDesk {
                 self.book(today, id, rider, wish)
             }
             Asked::Cancel(id) => Ok(self.cancel(id)),
+            Asked::Outcome(id, outcome) => Ok(self.end(id, outcome)),
             Asked::Trips(rider) => self.tell_trips(rider),
         }
     }
 
-    /// Answers a request.
-    pub(crate) fn ask(
+    /// Decides a request by the rules, and keeps it if it is a write that is accepted.
+    fn decide_anew(
         &mut self,
         now: (u32, u32),
         key: u32,
@@ -472,9 +530,31 @@ impl SecondDesk {
             return Ok(Told::Denied(rule));
         }
         let told = self.carry_out(now.0, asked)?;
-        if !matches!(told, Told::Denied(_) | Told::Trips(_)) {
-            self.keep_number(key, number)?;
-        }
+        let booked = match &told {
+            Told::Done => None,
+            Told::Booked(confirmed) => Some(*confirmed),
+            _ => return Ok(told),
+        };
+        self.keep(Accepted {
+            key,
+            number,
+            asked,
+            booked,
+        })?;
         Ok(told)
+    }
+
+    /// Answers a request: the last accepted write of its key is told again what it was told.
+    pub(crate) fn ask(
+        &mut self,
+        now: (u32, u32),
+        key: u32,
+        number: u32,
+        asked: Asked,
+    ) -> Result<Told, Fail> {
+        match self.kept_reply(key, number, asked) {
+            Some(told) => Ok(told),
+            None => self.decide_anew(now, key, number, asked),
+        }
     }
 }
