@@ -1,0 +1,2 @@
+pub mod LocalTimeLemmas
+pub mod ZoneLemmas

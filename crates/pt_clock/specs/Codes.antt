@@ -1,0 +1,6 @@
+-- The codes of faults of a zone.
+use Rattle.std.specs.Prelude.{ℕ}
+
+-- a text that is no POSIX rule of a zone
+abbrev pub no_such_zone : ℕ
+no_such_zone = 3

@@ -1,0 +1,8 @@
+//! What the clocks of an agency show at an instant.
+#![tactic(auto)]
+
+pub use local_time::now_in;
+
+mod local_time;
+#[cfg(test)]
+mod tests;

@@ -1,0 +1,52 @@
+ghost use Rattle.std.specs.Prelude.{◌≡◌, ℕ, ◌+◌, ◌*◌, ◌↔◌, ℤ, pos, Ok, Err, IsNone, IfSome, IfOk};
+ghost use Rattle.jiff.specs.Words.{epoch_day};
+ghost use Rattle.pt_base.specs.Codes.{date_out_of_range};
+ghost use Rattle.pt_base.specs.Day.{IsDay, IsOutside};
+ghost use Rattle.pt_base.specs.Fault.{fault};
+ghost use Rattle.pt_clock.specs.Codes.{no_such_zone};
+ghost use Rattle.pt_clock.specs.LocalTime.{IsZoneRule, IsLocalTime};
+
+use jiff::Timestamp;
+use jiff::civil::{Date, DateTime};
+use jiff::tz::TimeZone;
+use pt_base::fault::{DATE_OUT_OF_RANGE, NO_SUCH_ZONE};
+use pt_base::{Day, Fault, Minute};
+
+/// The day of a date; `None` outside 2000 to 2099.
+fn day_of(date: Date) -> Option<Day>
+    ensures outside { IsNone result ↔ IsOutside (epoch_day date) }
+    ensures value { IfSome result (λ day. epoch_day date ≡ pos day) }
+{
+    let number = date.to_plain().to_unix_epoch_day();
+    Day::of(u32::try_from(number).ok()?)
+}
+
+/// The minute of the day that a clock shows.
+fn minute_of(clock: DateTime) -> Minute
+    ensures { result ≡ clock.time.hour * 60 + clock.time.minute }
+{
+    let time = clock.to_plain().time;
+    Minute::of(u32::from(time.hour) * 60 + u32::from(time.minute)).unwrap()
+}
+
+/// The day and the minute that clocks of a zone show at an instant. The zone is given by its POSIX rule, such as
+/// `EST5EDT,M3.2.0,M11.1.0`. A text that is no such rule is the fault `NO_SUCH_ZONE`; with a rule, a day outside 2000
+/// to 2099 is `DATE_OUT_OF_RANGE`.
+pub fn now_in(zone: &str, instant: Timestamp) -> Result<(Day, Minute), Fault>
+    ensures local { IfOk result (λ now. IsLocalTime zone.now instant.nanosecond (pos now.0) now.1) }
+    // The clocks show nothing else.
+    ensures only { (day minute : ℕ) → IsDay day → IsLocalTime zone.now instant.nanosecond (pos day) minute
+        → result ≡ Ok (day, minute) }
+    ensures no_such_zone { (result ≡ Err (fault no_such_zone)) ↔ ¬ (IsZoneRule zone.now) }
+    ensures out_of_range { (result ≡ Err (fault date_out_of_range))
+        ↔ ((day : ℤ) × (minute : ℕ) × IsLocalTime zone.now instant.nanosecond day minute × IsOutside day) }
+{
+    let Ok(zone) = TimeZone::posix(zone) else {
+        return Err(Fault::of(NO_SUCH_ZONE));
+    };
+    let clock = zone.to_datetime(instant);
+    let Some(day) = day_of(clock.date()) else {
+        return Err(Fault::of(DATE_OUT_OF_RANGE));
+    };
+    Ok((day, minute_of(clock)))
+}

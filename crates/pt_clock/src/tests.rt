@@ -1,0 +1,59 @@
+use crate::now_in;
+use jiff::Timestamp;
+use pt_base::fault::{DATE_OUT_OF_RANGE, NO_SUCH_ZONE};
+use pt_base::{Day, Fault, Minute};
+use std::test::Fail;
+
+const EASTERN: &str = "EST5EDT,M3.2.0,M11.1.0";
+
+/// What a clock shows at an instant: at noon, before and after each change of the clock, before and after midnight, in
+/// the first and the last minute of 2000 to 2099, south of the equator, and at an offset that is no whole hour.
+#[test]
+fn days_and_minutes_of_zones(rt: HostRuntime) -> Result<(), Fail> {
+    for (zone, instant, day, minute) in [
+        (EASTERN, "2025-03-09T16:00:00Z", "2025-03-09", 720),
+        (EASTERN, "2025-03-09T06:59:59.999999999Z", "2025-03-09", 119),
+        (EASTERN, "2025-03-09T07:00:00Z", "2025-03-09", 180),
+        (EASTERN, "2025-11-02T05:59:59Z", "2025-11-02", 119),
+        (EASTERN, "2025-11-02T06:00:00Z", "2025-11-02", 60),
+        (EASTERN, "2025-03-10T03:59:59Z", "2025-03-09", 1_439),
+        (EASTERN, "2025-03-10T04:00:00Z", "2025-03-10", 0),
+        (EASTERN, "2000-01-01T05:00:00Z", "2000-01-01", 0),
+        (EASTERN, "2100-01-01T04:59:59Z", "2099-12-31", 1_439),
+        (
+            "AEST-10AEDT,M10.1.0,M4.1.0/3",
+            "2025-03-09T16:00:00Z",
+            "2025-03-10",
+            180,
+        ),
+        ("<+0545>-5:45", "2024-02-29T23:30:00Z", "2024-03-01", 315),
+    ] {
+        let expected = (Day::parse(day)?, Minute::of(minute).ok_or("minute")?);
+        let now = now_in(zone, instant.parse::<Timestamp>()?)?;
+        assert!(rt; now == expected, "{instant} in {zone}");
+    }
+    Ok(())
+}
+
+#[test]
+fn zones_and_instants_that_are_refused(rt: HostRuntime) -> Result<(), Fail> {
+    for (zone, instant, code) in [
+        (EASTERN, "2000-01-01T04:59:59.999999999Z", DATE_OUT_OF_RANGE),
+        (EASTERN, "2100-01-01T05:00:00Z", DATE_OUT_OF_RANGE),
+        (EASTERN, "1969-12-31T12:00:00Z", DATE_OUT_OF_RANGE),
+        ("x", "2025-03-09T16:00:00Z", NO_SUCH_ZONE),
+        ("x", "2100-01-01T05:00:00Z", NO_SUCH_ZONE),
+        ("", "2025-03-09T16:00:00Z", NO_SUCH_ZONE),
+        ("EST5EDT", "2025-03-09T16:00:00Z", NO_SUCH_ZONE),
+        (
+            "EST5EDT,M3.2.0,M11.1.0 ",
+            "2025-03-09T16:00:00Z",
+            NO_SUCH_ZONE,
+        ),
+        ("America/New_York", "2025-03-09T16:00:00Z", NO_SUCH_ZONE),
+    ] {
+        let now = now_in(zone, instant.parse::<Timestamp>()?);
+        assert!(rt; now == Err(Fault::of(code)), "{instant} in {zone}");
+    }
+    Ok(())
+}
