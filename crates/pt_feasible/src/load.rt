@@ -35,6 +35,14 @@ impl Load {
         Load { persons }
     }
 
+    /// How many persons it is.
+    pub fn persons(self) -> u16
+        ensures { self ≡ load_of result }
+    {
+        let Load { persons } = self;
+        persons
+    }
+
     /// Both together; `None` where that is more than any vehicle carries.
     pub fn plus(self, other: Load) -> Option<Self>
         ensures in_range { IsSome result ↔ IsLoad (load_sum self other) }

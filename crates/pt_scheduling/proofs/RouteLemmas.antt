@@ -66,7 +66,7 @@ left_route trip stops route = record {
 }
 
 -- a plan that is a route makes a route of the trips that are there
-among_route : (trips : List Trip) (stops : List PlannedStop) → IsPlannedRoute stops → IsRoute (stops_among trips stops)
+pub among_route : (trips : List Trip) (stops : List PlannedStop) → IsPlannedRoute stops → IsRoute (stops_among trips stops)
 among_route trips stops route = record {
   few = let fewer = length-among trips stops in omega (arith, route.few, fewer);
   paired = paired_among trips stops route.paired;

@@ -12,7 +12,11 @@ use Rattle.pt_feasible.specs.Route.{stops_of}
 use Rattle.pt_scheduling.specs.declared.routes.DayRoute.{DayRoute}
 use Rattle.pt_scheduling.specs.Plan.{Plan, planned_stops, stops_among, without}
 
--- the stops of a vehicle on a day but for those of this trip
+-- the stops of a vehicle on a day
+abbrev pub stops_on : ℕ → List Trip → List Plan → ℕ → List Stop
+stops_on day trips plans vehicle = stops_among trips (planned_stops vehicle day plans)
+
+-- the same but for those of this trip
 abbrev pub stops_without : ℕ → ℕ → List Trip → List Plan → ℕ → List Stop
 stops_without trip day trips plans vehicle = stops_among trips (without trip (planned_stops vehicle day plans))
 

@@ -3,6 +3,7 @@
 #![tactic(auto)]
 
 pub use planned::{PlannedRoute, PlannedStop};
+pub use routes::route_on;
 pub use scheduling::{DayPlans, Scheduled, schedule};
 pub use uses::days_of_use;
 

@@ -2,7 +2,7 @@ ghost use Rattle.std.specs.Prelude.{◌≡◌, ◌++◌, [], ◌∷◌, ℕ, map
 ghost use Rattle.pt_feasible.specs.Route.{stops_of};
 ghost use Rattle.pt_booking.specs.Planning.{on_duty};
 ghost use Rattle.pt_scheduling.specs.Plan.{after_stop, stops_among, planned_stops, trip_stop};
-ghost use Rattle.pt_scheduling.specs.Routes.{IsRoute, day_route, routes_without, stops_without};
+ghost use Rattle.pt_scheduling.specs.Routes.{IsRoute, day_route, routes_without, stops_on, stops_without};
 
 use crate::planned::stops_without;
 use crate::{DayPlans, PlannedRoute, PlannedStop};
@@ -56,6 +56,22 @@ fn planned_stops(plans: &Rows<PlannedRoute>, vehicle: VehicleId, day: Day) -> &[
         Some(plan) => &plan.stops,
         None => &[],
     }
+}
+
+/// The route of a vehicle on a day; `None` where its stops are no route.
+pub fn route_on(
+    alloc: Global,
+    day: Day,
+    trips: &Rows<Trip>,
+    plans: &Rows<PlannedRoute>,
+    vehicle: VehicleId,
+) -> Result<Option<Route>, AllocError>
+    ensures route { IfOk result (λ found. IfSome found (λ route.
+        stops_of route ≡ stops_on day trips.now plans.now vehicle)) }
+    ensures none { IfOk result (λ found. IfNone found (¬ IsRoute (stops_on day trips.now plans.now vehicle))) }
+{
+    let planned = planned_stops(plans, vehicle, day);
+    Ok(Route::of(stops_among(alloc, trips, planned)?))
 }
 
 /// The route of a vehicle on a day without this trip; `None` where its stops are no route.
