@@ -23,8 +23,7 @@ use Rattle.pt_scheduling.specs.Scheduling.{AreRoutes, IsScheduled}
 use Rattle.pt_scheduling.specs.Uses.{AreUses}
 use Rattle.pt_scheduling.specs.declared.scheduling.Scheduled.{Scheduled}
 use Rattle.pt_scheduling.specs.declared.scheduling.Scheduled.TheVariants as scheduled
-use Rattle.pt_travel.specs.Chain.{Row, IsTime}
-use Rattle.pt_desk_rules.specs.Booking.{routes_for, rows_of, AreTimes, HasRoutes, IsBooking, IsRequestBy, IsToldOf}
+use Rattle.pt_desk_rules.specs.Booking.{routes_for, rows_of, HasRoutes, IsBooking, IsRequestBy, IsToldOf}
 use Rattle.pt_desk_rules.specs.Deciding.{booked, changed, kept_in, IsCancelDecided, IsChangeDecided, IsEndDecided}
 use Rattle.pt_desk_rules.specs.Deciding.{IsDecidedBy, IsDecisionAfter, IsToldAfter, IsToldOfKind, IsToldRead}
 use Rattle.pt_desk_rules.specs.Deciding.{IsToldStanding}
@@ -35,6 +34,7 @@ use Rattle.pt_desk_rules.specs.Rules.{read_rules, rules_of}
 use Rattle.pt_desk_rules.specs.State.{State, trip_of}
 use Rattle.pt_desk_rules.specs.Step.{arrival_in, left_of, sender, sent_with, state_after, told_of}
 use Rattle.pt_desk_rules.specs.Step.{IsOutcome, IsOutcomeAs, IsOutcomeBy}
+use Rattle.pt_desk_rules.proofs.TourLemmas.{minutes_one}
 use Rattle.pt_desk_rules.proofs.DutyLemmas.{has_routes}
 use Rattle.pt_desk_rules.proofs.OutcomeLemmas.{commits_nothing, decision_is, is_of_write, IsOfWrite}
 use Rattle.pt_desk_rules.proofs.SoundLemmas.{change_trip}
@@ -124,22 +124,6 @@ uses_one : (left_out : Option ℕ) (trips : List Trip) (a b : List ℕ) → AreU
     → AreUses left_out trips b → a ≡ b
 uses_one left_out trips a b one two =
     rising_one a b one.rising two.rising (λ d. one.members d ∙ sym (two.members d))
-
--- the driving times by rows are these and no other
-time_one : (rows : List Row) (from to : ℕ) (a b : Option ℕ) → IsTime rows from to a → IsTime rows from to b → a ≡ b
-time_one rows from to None None one two = refl
-time_one rows from to None (Some n) one (within, ((chain, is, total), least)) =
-    absurd (let long = one chain is in omega arith)
-time_one rows from to (Some m) None (within, ((chain, is, total), least)) two =
-    absurd (let long = two chain is in omega arith)
-time_one rows from to (Some m) (Some n) (within, ((chain, is, total), least)) (also, ((other, it, sum), least_too)) =
-    let below = least other it in
-    let above = least_too chain is in
-    let same : m ≡ n = omega arith in
-    ap Some same
-
-minutes_one : (rows : List Row) (a b : ℕ → ℕ → Option ℕ) → AreTimes rows a → AreTimes rows b → a ≡ b
-minutes_one rows a b one two = λ i from to. time_one rows from to (a from to) (b from to) (one from to) (two from to) i
 
 -- the facts make one request of a wish
 request_one : (facts : WriteFacts) (number : ℕ) (left_out : Option ℕ) (today : ℕ) (wish : Wish) (a b : Request)
@@ -299,6 +283,8 @@ read_not_denied (read.Standing rider day) today facts rule is =
 read_not_denied (read.Trips rider) today facts rule is = absurd (cc)
 read_not_denied (read.Letter rider position) today facts rule is =
     letter_not_denied (letter_at facts.rider facts.file position) rule is
+read_not_denied (read.Manifest vehicle day) today facts rule (sheet, shows, is) = absurd (cc)
+read_not_denied (read.DaySheet day) today facts rule (sheet, shows, is) = absurd (cc)
 read_not_denied (read.Export day) today facts rule is = absurd (cc)
 
 read_one : (first : Option Rule) (asked : Read) (today : ℕ) (facts : ReadFacts) (rule : Rule) (told : Answer)

@@ -11,7 +11,7 @@ use Rattle.pt_scheduling.specs.Scheduling.{IsScheduled}
 use Rattle.pt_scheduling.specs.declared.scheduling.Scheduled.{Scheduled}
 use Rattle.pt_scheduling.specs.declared.scheduling.Scheduled.TheVariants as scheduled
 use Rattle.pt_travel.specs.Chain.{Row}
-use Rattle.pt_desk_rules.specs.Booking.{AreTimes, IsAnswered, IsBooking, IsRequestBy, IsScheduledBy, IsToldOf, routes_for, rows_of}
+use Rattle.pt_desk_rules.specs.Booking.{AreTimes, IsAnswered, IsBooking, IsRequestBy, IsScheduledBy, routes_for, rows_of}
 use Rattle.pt_desk_rules.specs.State.{puts_one}
 use Rattle.pt_desk_rules.specs.Deciding.{booked, changed, no_change, kept_by, kept_in, IsChangeDecided}
 use Rattle.pt_desk_rules.specs.Trips.{moves_to, IsConfirmation}

@@ -1,5 +1,5 @@
 -- The vehicles on duty on a day, each once, by rising number.
-use Rattle.std.proofs.Common.{◌≡◌, ℕ, ◌<◌, ◌≤◌, Bool, true, false, not, List, [], ◌∷◌, length, AllPairs, cond, refl, sym, ap, ◌∙◌, arith}
+use Rattle.std.proofs.Common.{◌≡◌, ℕ, ◌<◌, ◌≤◌, Bool, true, false, not, List, [], ◌∷◌, AllPairs, cond, refl, sym, ◌∙◌, arith}
 use Rattle.std.specs.Prelude.{◌==◌, ◌&&◌, nat_le, nat_lt, filter}
 use Rattle.std.specs.List.{list_any}
 use Rattle.std.proofs.lemmas.Bool.{and_parts, or_left, or_right}
@@ -19,10 +19,10 @@ use Rattle.pt_desk_rules.specs.Sound.{HasFirstDay, IsSound}
 use Rattle.pt_desk_rules.specs.State.{State, vehicle_key}
 
 -- a test that one of these passes is passed by some of them
-abbrev IsOneOf : List Vehicle → Vehicle → Type 0
+abbrev pub IsOneOf : List Vehicle → Vehicle → Type 0
 IsOneOf all version = (test : Vehicle → Bool) → test version ≡ true → list_any test all ≡ true
 
-each_one : (xs : List Vehicle) → Each (IsOneOf xs) xs
+pub each_one : (xs : List Vehicle) → Each (IsOneOf xs) xs
 each_one [] = tt
 each_one (x ∷ xs) = (
   λ test is. or_left (test x) (list_any test xs) is,
@@ -68,7 +68,7 @@ all_rise day all x (y ∷ ys) first on ones days above = (
   all_rise day all x ys first on ones.1 days.1 above.1,
 )
 
-abbrev id_of : Vehicle → ℕ
+abbrev pub id_of : Vehicle → ℕ
 id_of version = version.id
 
 first_on : (day : ℕ) (all : List Vehicle) (x : Vehicle) (xs : List Vehicle) (b : Bool) → is_on_duty day all x ≡ b → (is_on_duty day all x ≡ true → Each (λ y. is_on_duty day all y ≡ true → x.id < y.id) xs)
@@ -76,7 +76,7 @@ first_on : (day : ℕ) (all : List Vehicle) (x : Vehicle) (xs : List Vehicle) (b
 first_on day all x xs true is above rest = (Each-passes (is_on_duty day all) (λ y. x.id < y.id) xs (above is), rest)
 first_on day all x xs false is above rest = rest
 
-duty_order : (day : ℕ) (all xs : List Vehicle) → Each (IsOneOf all) xs → Each HasFirstDay xs → IsInOrder vehicle_key xs → IsInOrder id_of (filter (is_on_duty day all) xs)
+pub duty_order : (day : ℕ) (all xs : List Vehicle) → Each (IsOneOf all) xs → Each HasFirstDay xs → IsInOrder vehicle_key xs → IsInOrder id_of (filter (is_on_duty day all) xs)
 duty_order day all [] ones days order = tt
 duty_order day all (x ∷ xs) ones days order =
     first_on day all x xs (is_on_duty day all x) refl (λ on. all_rise day all x xs days.0 on ones.1 days.1 order.0) (duty_order day all xs ones.1 days.1 order.1)

@@ -1,5 +1,5 @@
 -- A sound state stays sound where a trip that is booked gets its outcome.
-use Rattle.std.proofs.Common.{rules, ◌≡◌, ℕ, ◌≤◌, Bool, true, IsTrue, List, [], ◌∷◌, Option, Some, refl, sym, ap, ◌∙◌, subst, inl, inr}
+use Rattle.std.proofs.Common.{rules, ◌≡◌, ℕ, true, IsTrue, List, [], ◌∷◌, Option, Some, refl, sym, ap, ◌∙◌, subst, inl, inr}
 use Rattle.std.proofs.lemmas.Option.{same_Some}
 use Rattle.pt_base.specs.TripStatus.{stands}
 use Rattle.pt_base.specs.declared.trip.Trip.{Trip}

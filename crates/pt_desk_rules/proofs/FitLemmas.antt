@@ -91,11 +91,11 @@ filter_both p q (x ∷ xs) = step p x (filter q xs) (filter (λ y. q y && p y) x
     step p x ys zs false same = same
 
 -- what holds of one of a list
-abbrev Some_of : {A : Type 0} → (A → Type 0) → List A → Type 0
+abbrev pub Some_of : {A : Type 0} → (A → Type 0) → List A → Type 0
 Some_of P [] = ⊥
 Some_of P (x ∷ xs) = P x ⊎ Some_of P xs
 
-some_at : {A : Type 0} (P : A → Type 0) (xs : List A) (k : ℕ) (a : A) → k < length xs → get_or xs k a ≡ a → P a
+pub some_at : {A : Type 0} (P : A → Type 0) (xs : List A) (k : ℕ) (a : A) → k < length xs → get_or xs k a ≡ a → P a
     → Some_of P xs
 some_at P [] k a within at holds = absurd (omega arith)
 some_at P (x ∷ xs) zero a within at holds = inl (subst P (sym at) holds)
@@ -184,7 +184,7 @@ table_stays new day tables lt =
 
 -- A version that is put leaves those of other vehicles and of earlier days on duty.
 
-is_no : (n k : ℕ) → (n ≡ k → ⊥) → (n == k) ≡ false
+pub is_no : (n k : ℕ) → (n ≡ k → ⊥) → (n == k) ≡ false
 is_no n k other = grind (arith, nat_tests)
 
 is_same : (n k : ℕ) → n ≡ k → (n == k) ≡ true

@@ -5,6 +5,8 @@ mod StandingLemmas
 mod FitLemmas
 mod FiledLemmas
 mod EndLemmas
+mod TourLemmas
+mod HasTourLemmas
 pub mod SoundLemmas
 pub mod DutyLemmas
 pub mod PrivacyLemmas

@@ -1,5 +1,5 @@
 -- The stops of plans are those of trips that stand.
-use Rattle.std.proofs.Common.{◌≡◌, ℕ, ◌+◌, ◌<◌, ◌≤◌, Bool, true, false, not, IsTrue, List, [], ◌∷◌, ◌++◌, Option, Some, None, cond, refl, sym, ap, ◌∙◌, subst, arith}
+use Rattle.std.proofs.Common.{◌≡◌, ℕ, ◌+◌, ◌≤◌, Bool, true, false, not, List, [], ◌∷◌, Option, Some, None, cond, refl, sym, ap, ◌∙◌, subst, arith}
 use Rattle.std.specs.Prelude.{◌==◌, filter}
 use Rattle.std.proofs.lemmas.Bool.Decides.{nat_tests}
 use Rattle.std.proofs.lemmas.Option.{same_Some}
@@ -7,7 +7,6 @@ use Rattle.pt_base.specs.TripStatus.{stands}
 use Rattle.pt_base.specs.declared.trip.Trip.{Trip}
 use Rattle.pt_records.specs.Keys.{pair_key}
 use Rattle.pt_records.specs.Records.{is_within, put, record_at, take_away, Each}
-use Rattle.pt_records.specs.declared.span.Span.{Span}
 use Rattle.pt_records.proofs.OrderLemmas.{Each-weaker, record_at-put_other, record_at-put_same}
 use Rattle.pt_scheduling.specs.Plan.{Plan, plan_key, planned_stops, stops_of_plan, without}
 use Rattle.pt_scheduling.specs.declared.planned.PlannedStop.{PlannedStop}

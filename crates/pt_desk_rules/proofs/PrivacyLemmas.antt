@@ -1,13 +1,12 @@
 -- A rider's trips are told by nothing but the caller, the rider's record and the trips.
-use Rattle.std.proofs.Common.{◌≡◌, ℕ, List, Option, Some, None, refl, sym, ap, ◌∙◌, subst}
+use Rattle.std.proofs.Common.{◌≡◌, ℕ, List, Option, Some, None, refl, sym, ◌∙◌, subst}
 use Rattle.pt_base.specs.declared.rule.Rule.{Rule}
 use Rattle.pt_rights.specs.Rules.{first_failing}
 use Rattle.pt_desk_rules.specs.Deciding.{IsTold, IsToldAfter}
 use Rattle.pt_desk_rules.specs.Facts.{read_facts_of}
-use Rattle.pt_desk_rules.specs.Planned.{trips_of}
 use Rattle.pt_desk_rules.specs.Privacy.{AgreeOnTrips, TripsArePrivate}
 use Rattle.pt_desk_rules.specs.Rules.{read_rules}
-use Rattle.pt_desk_rules.specs.State.{State, rider_of}
+use Rattle.pt_desk_rules.specs.State.{State}
 use Rattle.pt_desk_rules.specs.Step.{sender, IsOutcomeBy}
 use Rattle.pt_requests.specs.declared.caller.Caller.{Caller}
 use Rattle.pt_desk_rules.specs.declared.facts.ReadFacts.{ReadFacts}

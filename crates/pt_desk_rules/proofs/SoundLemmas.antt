@@ -1,6 +1,5 @@
 -- What a request leaves is sound where what it found is.
-use Rattle.std.proofs.Common.{rules, ◌≡◌, ℕ, ◌+◌, ◌<◌, ◌≤◌, ◌||◌, nat_lt, Bool, true, false, not, IsTrue, List, [], ◌∷◌, ◌++◌, length, map, take, min, Option, Some, None, is_some, Result, Ok, Err, arith, cond, refl, sym, ap, ◌∙◌, subst, inl, inr}
-use Rattle.pt_desk_rules.specs.declared.facts.WriteFacts.{WriteFacts}
+use Rattle.std.proofs.Common.{rules, ◌≡◌, ℕ, ◌+◌, ◌<◌, ◌≤◌, ◌||◌, nat_lt, Bool, true, false, not, IsTrue, List, [], ◌∷◌, ◌++◌, length, take, min, Option, Some, None, is_some, arith, cond, refl, sym, ap, ◌∙◌, subst, inl, inr}
 use Rattle.std.specs.Prelude.{◌&&◌, ◌==◌, find, filter, bytes_eq}
 use Rattle.std.proofs.lemmas.Bool.Decides.{nat_tests}
 use Rattle.std.proofs.lemmas.List.{length-map, length-take}
@@ -16,18 +15,17 @@ use Rattle.pt_base.specs.declared.rider.Residence.TheVariants.{Resident, Visitor
 use Rattle.pt_base.specs.declared.rider.Rider.{Rider}
 use Rattle.pt_base.specs.declared.vehicle.Vehicle.{Vehicle}
 use Rattle.pt_base.specs.declared.rule.Rule.{Rule}
-use Rattle.pt_base.specs.declared.rule.Rule.TheVariants as rule
 use Rattle.pt_corridor.specs.Route.{Route, IsFixedRoute}
 use Rattle.pt_records.specs.Keys.{pair_key}
-use Rattle.pt_records.specs.Records.{put, put_all, take_away, within, is_within, record_at, Each, IsInOrder, IsTable}
+use Rattle.pt_records.specs.Records.{put, put_all, take_away, is_within, record_at, Each, IsInOrder}
 use Rattle.pt_records.proofs.OrderLemmas.{Each-put, Each-weaker, Each-both, IsInOrder-put, record_at-put_same, record_at-put_other}
 use Rattle.pt_records.proofs.TableLemmas.{same_or_other, stays_there, found_by_key, below_is, IsTable-put, IsTable-add, IsTable-replace, Each-filter, IsInOrder-filter}
 use Rattle.pt_records.proofs.WithinLemmas.{within-put_other, within-put_last, Each-within}
-use Rattle.pt_rights.specs.Admission.{admission_rules, is_resident}
+use Rattle.pt_rights.specs.Admission.{is_resident}
 use Rattle.pt_rights.specs.Rules.{first_failing}
 use Rattle.pt_rights.specs.declared.entry.Entry.{Entry}
-use Rattle.pt_desk_rules.specs.Limits.{most_callers, most_places, most_routes, most_riders, most_entries, most_tables}
-use Rattle.pt_desk_rules.specs.State.{State, caller_with, rider_of, trip_of, file_of, file_with, caller_key, kept_key, place_key, route_key, rider_key, entry_key, vehicle_key, travel_key, trip_key, span_of, versions_from, tables_from, tables_before, entries_of, applied}
+use Rattle.pt_desk_rules.specs.Limits.{most_callers, most_places, most_routes, most_riders, most_tables}
+use Rattle.pt_desk_rules.specs.State.{State, caller_with, rider_of, trip_of, file_of, caller_key, kept_key, place_key, route_key, rider_key, entry_key, vehicle_key, travel_key, trip_key, span_of, versions_from, tables_from, tables_before, entries_of, applied}
 use Rattle.pt_desk_rules.specs.Facts.{cancel_facts, change_facts, facts_of, has_subject, plan_for}
 use Rattle.pt_travel.specs.Chain.{Row}
 use Rattle.pt_desk_rules.proofs.FleetLemmas.{version_stays, fleet_stays}
@@ -59,7 +57,6 @@ use Rattle.pt_scheduling.specs.declared.scheduling.Scheduled.TheVariants as sche
 use Rattle.pt_base.specs.declared.trip.Trip.{Trip}
 use Rattle.pt_base.specs.declared.trip.Wish.{Wish}
 use Rattle.pt_records.specs.declared.span.Span.{Span}
-use Rattle.std.proofs.lemmas.Option.{same_Some}
 use Rattle.pt_desk_rules.specs.Step.{state_after, arrival_in, sent_with, left_of, sender, IsOutcome, IsOutcomeBy, IsOutcomeAs}
 use Rattle.pt_desk_rules.specs.Sound.{IsSound, IsNumberedTo, IsSoundFile, IsIn, HasDigest, HasOneHolder, HasSubject, IsOfCaller, IsResidentIn, IsOfResident, HasAuthor, HasFirstDay, HasDepot, HasDay, HasPlaces, HasStandingTrips, HasVehicle, IsOfPlaces, IsOfRider, IsOnDay, IsPlanned, StandsIn, AreNumberedFrom}
 use Rattle.pt_requests.specs.declared.caller.Caller.{Caller}

@@ -1,13 +1,12 @@
 -- Each trip that stands is in the plan of its vehicle on its day.
-use Rattle.std.proofs.Common.{◌≡◌, ◌⊎◌, ℕ, ◌+◌, ◌<◌, ◌≤◌, Bool, true, false, not, IsTrue, List, [], ◌∷◌, ◌++◌, Option, Some, None, cond, refl, sym, ap, ◌∙◌, subst, inl, inr, arith}
-use Rattle.std.specs.Prelude.{◌==◌, filter, find}
+use Rattle.std.proofs.Common.{◌≡◌, ℕ, ◌<◌, ◌≤◌, Bool, true, false, List, [], ◌∷◌, Option, Some, None, cond, refl, sym, ap, ◌∙◌, inl, inr, arith}
+use Rattle.std.specs.Prelude.{◌==◌, filter}
 use Rattle.std.proofs.lemmas.Bool.Decides.{nat_tests}
 use Rattle.pt_base.specs.Day.{IsDay}
-use Rattle.pt_base.specs.TripStatus.{stands}
 use Rattle.pt_base.specs.declared.trip.Trip.{Trip}
 use Rattle.pt_records.specs.Keys.{pair_key}
 use Rattle.pt_records.specs.Records.{is_within, put, put_all, record_at, take_away, Each, IsInOrder}
-use Rattle.pt_records.proofs.OrderLemmas.{compared, record_at-here, record_at-past, record_at-put_other, record_at-put_same, Each-both, Each-weaker}
+use Rattle.pt_records.proofs.OrderLemmas.{compared, record_at-here, record_at-past, record_at-put_other, record_at-put_same, Each-both}
 use Rattle.pt_records.proofs.RecordLemmas.{put_past, put_over, put_before}
 use Rattle.pt_records.proofs.TableLemmas.{record_at-take_other, same_or_other}
 use Rattle.pt_scheduling.specs.Plan.{Plan, plan_key, planned_stops, stops_of_plan, without}
@@ -15,7 +14,7 @@ use Rattle.pt_scheduling.specs.declared.planned.PlannedStop.{PlannedStop}
 use Rattle.pt_scheduling.proofs.PlanLemmas.{found_key}
 use Rattle.pt_scheduling.proofs.RouteLemmas.{has_trip, left_has, Each-found}
 use Rattle.pt_desk_rules.specs.Planned.{planned_on, trips_on}
-use Rattle.pt_desk_rules.specs.Sound.{HasDay, IsNumberedTo, IsOnDay, IsPlanned}
+use Rattle.pt_desk_rules.specs.Sound.{HasDay, IsOnDay}
 use Rattle.pt_desk_rules.specs.State.{trip_key}
 use Rattle.pt_desk_rules.specs.Trips.{plan_of_stops, plan_span}
 
@@ -27,12 +26,12 @@ kept_step key k x y ys kept test false true is tested holds rest found = ap (λ 
 kept_step key k x y ys kept test false false is tested holds rest found = rest found
 
 -- a record that is found and passes a test is found among those that pass
-record_at-filter : {A : Type 0} (key : A → ℕ) (k : ℕ) (x : A) (test : A → Bool) (xs : List A) → test x ≡ true → record_at key k xs ≡ Some x → record_at key k (filter test xs) ≡ Some x
+pub record_at-filter : {A : Type 0} (key : A → ℕ) (k : ℕ) (x : A) (test : A → Bool) (xs : List A) → test x ≡ true → record_at key k xs ≡ Some x → record_at key k (filter test xs) ≡ Some x
 record_at-filter key k x test [] holds found = absurd (cc)
 record_at-filter key k x test (y ∷ ys) holds found =
     kept_step key k x y ys (filter test ys) test (key y == k) (test y) refl refl holds (record_at-filter key k x test ys holds) found
 
-is_same : (n k : ℕ) → n ≡ k → (n == k) ≡ true
+pub is_same : (n k : ℕ) → n ≡ k → (n == k) ≡ true
 is_same n k same = grind (arith, nat_tests)
 
 -- the trips of its day have a trip
@@ -40,10 +39,10 @@ pub trip_on : (day : ℕ) (trip : Trip) (trips : List Trip) → trip.wish.day �
 trip_on day trip trips on found = record_at-filter trip_key trip.id trip (λ t. t.wish.day == day) trips (is_same trip.wish.day day on) found
 
 -- a vehicle and a day are told by their key
-same_vehicle : (v d w e : ℕ) → d ≤ 47_481 → e ≤ 47_481 → pair_key v d ≡ pair_key w e → v ≡ w
+pub same_vehicle : (v d w e : ℕ) → d ≤ 47_481 → e ≤ 47_481 → pair_key v d ≡ pair_key w e → v ≡ w
 same_vehicle v d w e low high same = omega arith
 
-same_day : (v d w e : ℕ) → d ≤ 47_481 → e ≤ 47_481 → pair_key v d ≡ pair_key w e → d ≡ e
+pub same_day : (v d w e : ℕ) → d ≤ 47_481 → e ≤ 47_481 → pair_key v d ≡ pair_key w e → d ≡ e
 same_day v d w e low high same = omega arith
 
 plan_on : (vehicle day k : ℕ) (plans : List Plan) (found : Option Plan) → IsDay day → Each IsOnDay plans → record_at plan_key (pair_key vehicle day) plans ≡ found → has_trip k (stops_of_plan found) ≡ true

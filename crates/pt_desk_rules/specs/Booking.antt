@@ -1,6 +1,5 @@
 -- What is decided of a trip that is asked for, by the facts alone.
 use Rattle.std.specs.Prelude.{◌≡◌, ℕ, List, [], Option, Some, None}
-use Rattle.pt_base.specs.declared.rider.Rider.{Rider}
 use Rattle.pt_base.specs.declared.trip.Trip.{Trip}
 use Rattle.pt_base.specs.declared.trip.Wish.{Wish}
 use Rattle.pt_booking.specs.Planning.{OnDuty}

@@ -9,6 +9,8 @@ use Rattle.pt_base.specs.declared.rule.Rule.{Rule}
 use Rattle.pt_base.specs.declared.trip.Trip.{Trip}
 use Rattle.pt_base.specs.declared.trip.Wish.{Wish}
 use Rattle.pt_corridor.specs.Route.{IsFixedRoute}
+use Rattle.pt_manifest.specs.declared.sheets.DaySheet.{DaySheet}
+use Rattle.pt_manifest.specs.declared.sheets.VehicleSheet.{VehicleSheet}
 use Rattle.pt_rights.specs.Rules.{first_failing}
 use Rattle.pt_rights.specs.Standing.{standing_of}
 use Rattle.pt_rights.specs.Suspension.{is_suspended}
@@ -19,12 +21,13 @@ use Rattle.pt_scheduling.specs.Uses.{AreUses}
 use Rattle.pt_visitors.specs.Periods.{MayUse}
 use Rattle.pt_desk_rules.specs.Booking.{IsBooking}
 use Rattle.pt_desk_rules.specs.Filed.{IsEntry}
-use Rattle.pt_desk_rules.specs.Fleet.{ClosesInDay}
+use Rattle.pt_desk_rules.specs.Fleet.{duty_of, ClosesInDay}
 use Rattle.pt_rights.specs.declared.tally.Outcome.{Outcome}
 use Rattle.pt_desk_rules.specs.Letters.{letter_at, IsToldLetter}
 use Rattle.pt_desk_rules.specs.Outcomes.{ended}
 use Rattle.pt_desk_rules.specs.State.{no_edit, puts_one, replaces, versions_from, tables_from}
 use Rattle.pt_desk_rules.specs.Rules.{rules_of, read_rules}
+use Rattle.pt_desk_rules.specs.Tours.{IsDaySheet, IsManifestOf}
 use Rattle.pt_desk_rules.specs.Trips.{cancelled, gives_up, has_ends, moves_to}
 use Rattle.pt_desk_rules.specs.Limits.{last_trip_number}
 use Rattle.pt_requests.specs.declared.caller.Caller.{Caller}
@@ -205,6 +208,11 @@ IsToldRead (read.Standing rider day) today facts told =
     IsToldStanding facts.rider facts.file facts.trips today day told
 IsToldRead (read.Trips rider) today facts told = told ≡ answer.Trips facts.trips
 IsToldRead (read.Letter rider position) today facts told = IsToldLetter (letter_at facts.rider facts.file position) told
+IsToldRead (read.Manifest vehicle day) today facts told =
+    (sheet : VehicleSheet) × IsManifestOf vehicle day facts.day (duty_of vehicle day facts.vehicles) sheet
+    × (told ≡ answer.Manifest day sheet)
+IsToldRead (read.DaySheet day) today facts told =
+    (sheet : DaySheet) × IsDaySheet day facts.vehicles facts.day sheet × (told ≡ answer.DaySheet sheet)
 IsToldRead (read.Export day) today facts told = told ≡ answer.Export facts.trips
 
 -- what a read is told where the first failing rule, if any, is this one

@@ -155,10 +155,21 @@ facts_of (write.Change trip wish) s = change_facts (trip_of trip s) wish s
 facts_of (write.Cancel trip) s = cancel_facts (trip_of trip s) s
 facts_of (write.Outcome trip outcome) s = trip_facts trip s
 
+abbrev pub no_read_facts : ReadFacts
+no_read_facts = record { rider = None; file = []; trips = []; vehicles = []; day = no_day }
+
+-- what manifests look at
+abbrev pub tour_facts : ℕ → State → ReadFacts
+tour_facts day s = record no_read_facts { vehicles = s.vehicles; day = day_of day s }
+
 -- and on what a read's rules look at
 abbrev pub read_facts_of : Read → State → ReadFacts
 read_facts_of (read.Standing rider day) s =
-    record { rider = rider_of rider s; file = file_of rider s; trips = trips_of rider s.trips }
-read_facts_of (read.Trips rider) s = record { rider = rider_of rider s; file = []; trips = trips_of rider s.trips }
-read_facts_of (read.Letter rider position) s = record { rider = rider_of rider s; file = file_of rider s; trips = [] }
-read_facts_of (read.Export day) s = record { rider = None; file = []; trips = trips_on day s.trips }
+    record no_read_facts { rider = rider_of rider s; file = file_of rider s; trips = trips_of rider s.trips }
+read_facts_of (read.Trips rider) s =
+    record no_read_facts { rider = rider_of rider s; trips = trips_of rider s.trips }
+read_facts_of (read.Letter rider position) s =
+    record no_read_facts { rider = rider_of rider s; file = file_of rider s }
+read_facts_of (read.Manifest vehicle day) s = tour_facts day s
+read_facts_of (read.DaySheet day) s = tour_facts day s
+read_facts_of (read.Export day) s = record no_read_facts { trips = trips_on day s.trips }

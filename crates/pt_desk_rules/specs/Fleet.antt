@@ -1,6 +1,6 @@
 -- The agency's vehicles, each from day to day: a version of a vehicle is in force from its day until the next one's.
 use Rattle.std.specs.Prelude.{ℕ, ◌+◌, ◌≤◌, ◌==◌, ◌&&◌, nat_le, nat_lt, Bool, false, not, if◌then◌else◌, List, []}
-use Rattle.std.specs.Prelude.{◌∷◌, filter, slice_get}
+use Rattle.std.specs.Prelude.{◌∷◌, filter, find, slice_get, Option}
 use Rattle.std.specs.Option.{unwrap_or}
 use Rattle.std.specs.List.{list_any}
 use Rattle.pt_base.specs.Day.{weekday_of}
@@ -51,3 +51,7 @@ is_on_duty day vehicles version = is_in_force day vehicles version && has_weekda
 -- the vehicles on duty on a day, in the order of their versions
 abbrev pub on_duty : ℕ → List Vehicle → List Vehicle
 on_duty day vehicles = filter (is_on_duty day vehicles) vehicles
+
+-- the version of a vehicle that is on duty on a day, if one is
+abbrev pub duty_of : ℕ → ℕ → List Vehicle → Option Vehicle
+duty_of id day vehicles = find (λ version. version.id == id && is_on_duty day vehicles version) vehicles

@@ -15,5 +15,6 @@ pub mod Filed
 pub mod Outcomes
 pub mod Letters
 pub mod Booking
+pub mod Tours
 pub mod Privacy
 pub mod Numbers

@@ -1,5 +1,5 @@
 -- The rules of each request by whoever sent it, in the order in which they are tried.
-use Rattle.std.specs.Prelude.{ℕ, Bool, true, false, not, ◌==◌, ◌&&◌, ◌||◌, nat_lt, List, [], ◌∷◌, length}
+use Rattle.std.specs.Prelude.{ℕ, Bool, true, not, ◌==◌, ◌&&◌, ◌||◌, nat_lt, List, [], ◌∷◌, length}
 use Rattle.std.specs.Prelude.{Option, Some, None, is_some}
 use Rattle.std.specs.List.{list_all}
 use Rattle.pt_base.specs.declared.place.Place.{Place}
@@ -13,13 +13,13 @@ use Rattle.pt_records.specs.Records.{record_at}
 use Rattle.pt_rights.specs.Admission.{admission_rules, is_resident}
 use Rattle.pt_rights.specs.declared.entry.Entry.{Entry}
 use Rattle.pt_travel.specs.Chain.{Row}
-use Rattle.pt_desk_rules.specs.Fleet.{vehicle_count, versions_before, versions_of_others}
+use Rattle.pt_desk_rules.specs.Fleet.{has_version, vehicle_count, versions_before, versions_of_others}
 use Rattle.pt_desk_rules.specs.Limits.{most_callers, most_places, most_routes, most_riders, most_entries}
 use Rattle.pt_desk_rules.specs.Limits.{most_vehicles, most_versions, most_tables, last_trip_number}
 use Rattle.pt_desk_rules.specs.Letters.{letter_at}
 use Rattle.pt_desk_rules.specs.Outcomes.{awaits_outcome, has_come}
 use Rattle.pt_desk_rules.specs.Permission.{is_admin, is_clerk, is_dispatcher, may_alter, may_book, may_end, may_enter}
-use Rattle.pt_desk_rules.specs.Permission.{may_see_standing}
+use Rattle.pt_desk_rules.specs.Permission.{may_run, may_see_standing}
 use Rattle.pt_desk_rules.specs.State.{place_key}
 use Rattle.pt_desk_rules.specs.Trips.{has_ends, is_cancellable, is_changeable}
 use Rattle.pt_requests.specs.declared.caller.Caller.{Caller}
@@ -139,4 +139,9 @@ read_rules (read.Letter rider position) me facts =
     (rule.Caller, may_see_standing rider facts.rider me.role)
     ∷ (rule.Unknown, is_some (letter_at facts.rider facts.file position))
     ∷ []
+read_rules (read.Manifest vehicle day) me facts =
+    (rule.Caller, may_run vehicle me.role)
+    ∷ (rule.Unknown, has_version vehicle facts.vehicles)
+    ∷ []
+read_rules (read.DaySheet day) me facts = (rule.Caller, is_dispatcher me.role) ∷ []
 read_rules (read.Export day) me facts = (rule.Caller, is_dispatcher me.role) ∷ []

@@ -23,7 +23,6 @@ use pt_base::{CallerId, Day, Place, PlaceId, Trip, TripId, Vehicle, Wish};
 use pt_booking::TripRequest;
 use pt_records::{Key, Rows};
 use pt_scheduling::{DayPlans, PlannedRoute, Scheduled, days_of_use, schedule};
-use pt_travel::Raw;
 use std::alloc::{AllocError, Global};
 
 /// Schedules a request over what is planned for its day.
@@ -46,8 +45,7 @@ fn schedule_on(
     if let Some(table) = &day.travel {
         return schedule(alloc, request, &plans, table.times());
     }
-    let no_rows = Raw::of(Vec::new(alloc)).unwrap();
-    let table = TravelTable::of(alloc, request.wish.day, no_rows)?;
+    let table = TravelTable::none(alloc, request.wish.day)?;
     schedule(alloc, request, &plans, table.times())
 }
 

@@ -1,5 +1,5 @@
 ghost use Rattle.std.specs.Prelude.{◌≡◌};
-ghost use Rattle.pt_desk_rules.specs.Facts.{no_booking, no_day, no_facts};
+ghost use Rattle.pt_desk_rules.specs.Facts.{no_booking, no_day, no_facts, no_read_facts};
 
 use crate::{Caller, Tallies, TravelTable};
 use pt_base::{Place, Policy, Rider, Trip, Vehicle};
@@ -131,7 +131,7 @@ impl WriteFacts {
     }
 }
 
-/// What the rules of a read look at, and what it is told.
+/// What the rules of a read look at, and what it is told. What a read has no use for is left at nothing.
 #[derive(Debug, Drop)]
 pub struct ReadFacts {
     /// The rider of whom it speaks.
@@ -140,4 +140,23 @@ pub struct ReadFacts {
     pub file: CaseFile,
     /// The trips of which it speaks, by rising number.
     pub trips: Rows<Trip>,
+    /// All vehicles with their versions.
+    pub vehicles: Rows<Vehicle>,
+    /// What is planned for the day of which it speaks.
+    pub day: DayFacts,
+}
+
+impl ReadFacts {
+    /// Nothing.
+    pub fn none(alloc: Global) -> Self
+        ensures value { result ≡ no_read_facts }
+    {
+        ReadFacts {
+            rider: None,
+            file: CaseFile::new(alloc),
+            trips: Rows::none(alloc),
+            vehicles: Rows::none(alloc),
+            day: DayFacts::none(alloc),
+        }
+    }
 }

@@ -1,13 +1,14 @@
 ghost use Rattle.std.specs.Prelude.{◌≡◌, ◌==◌, ◌&&◌, not, length, IfOk};
 ghost use Rattle.std.specs.List.{list_any};
 ghost use Rattle.pt_desk_rules.specs.Fleet.{has_version, vehicle_count, versions_before, versions_of_others};
-ghost use Rattle.pt_desk_rules.specs.Fleet.{is_newer, is_on_duty, on_duty};
+ghost use Rattle.std.specs.Option.{option_copied};
+ghost use Rattle.pt_desk_rules.specs.Fleet.{duty_of, is_newer, is_on_duty, on_duty};
 
 use pt_base::{Day, Vehicle, VehicleId};
 use std::alloc::{AllocError, Global};
 
 /// Whether some version of this vehicle is among these.
-fn has_version(vehicles: &[Vehicle], id: VehicleId) -> bool
+pub(crate) fn has_version(vehicles: &[Vehicle], id: VehicleId) -> bool
     ensures value { result ≡ has_version id vehicles.now }
 {
     for version in vehicles {
@@ -71,6 +72,18 @@ fn is_on_duty(vehicles: &[Vehicle], version: &Vehicle, day: Day) -> bool
     version.from_day <= day
         && version.days.contains(day.weekday())
         && !has_newer(vehicles, version, day)
+}
+
+/// The version of a vehicle that is on duty on a day, if one is.
+pub(crate) fn duty_of(vehicles: &[Vehicle], id: VehicleId, day: Day) -> Option<&Vehicle>
+    ensures value { option_copied result ≡ duty_of id day vehicles.now }
+{
+    for version in vehicles {
+        if version.id == id && is_on_duty(vehicles, version, day) {
+            return Some(version);
+        }
+    }
+    None
 }
 
 /// The vehicles on duty on a day, each as it is then, in order of their numbers.

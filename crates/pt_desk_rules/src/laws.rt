@@ -4,11 +4,17 @@ ghost use Rattle.pt_desk_rules.specs.Numbers.{DenialsAreTheSameAgain, RepeatsAre
 ghost use Rattle.pt_desk_rules.specs.Privacy.{TripsArePrivate};
 ghost use Rattle.pt_desk_rules.specs.Sound.{IsSound};
 ghost use Rattle.pt_desk_rules.specs.State.{State};
+ghost use Rattle.pt_desk_rules.specs.Tours.{HasTours};
 
 /// A law: in a sound state the vehicles of every day have routes, so a wish that is denied fails the rule that is told,
 /// first of all rules.
 pub fn sound_states_have_routes()
     ensures { (s : State) → IsSound s → HasRoutes s }
+{}
+
+/// A law: in a sound state every vehicle that has stops on a day has its tour on the manifest.
+pub fn sound_states_have_tours()
+    ensures { (s : State) → IsSound s → HasTours s }
 {}
 
 /// A law: what is told of a rider's trips depends on the caller, the rider's record and the rider's trips alone.

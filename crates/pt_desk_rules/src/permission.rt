@@ -119,7 +119,7 @@ pub(crate) fn may_alter(role: Role, trip: &Option<Trip>, found: &Option<Rider>) 
 }
 
 /// Whether the caller drives the vehicle, or dispatches.
-fn may_run(role: Role, vehicle: VehicleId) -> bool
+pub(crate) fn may_run(role: Role, vehicle: VehicleId) -> bool
     ensures { result ≡ may_run vehicle role }
 {
     match role {

@@ -6,6 +6,7 @@ ghost use Rattle.pt_desk_rules.specs.Deciding.{IsToldOfKind, IsTold};
 
 use crate::letters::tell_letter;
 use crate::permission::{is_dispatcher, may_book, may_see_standing};
+use crate::tours::{tell_day_sheet, tell_manifest};
 use crate::{Answer, Caller, Read, ReadFacts};
 use pt_base::{Day, Minute, Residence, RiderId, Rule, Trip};
 use pt_scheduling::days_of_use;
@@ -99,6 +100,8 @@ pub fn tell(
         Read::Standing { rider, day } => tell_standing(alloc, &facts, me, now, rider, day),
         Read::Trips(rider) => Ok(tell_trips(facts, me, rider)),
         Read::Letter { rider, position } => tell_letter(&facts, me, rider, position),
+        Read::Manifest { vehicle, day } => tell_manifest(alloc, &facts, me, vehicle, day),
+        Read::DaySheet(day) => tell_day_sheet(alloc, &facts, me, day),
         Read::Export(_) => Ok(tell_export(facts, me)),
     }
 }

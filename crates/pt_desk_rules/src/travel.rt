@@ -1,4 +1,4 @@
-ghost use Rattle.std.specs.Prelude.{◌≡◌, ℕ, IfOk};
+ghost use Rattle.std.specs.Prelude.{◌≡◌, ℕ, [], IfOk};
 ghost use Rattle.pt_travel.specs.Chain.{IsTime};
 ghost use Rattle.pt_travel.specs.Table.{IsTable};
 ghost use Rattle.pt_travel.specs.Times.{time_in};
@@ -54,6 +54,14 @@ impl TravelTable {
             rows,
             times,
         })
+    }
+
+    /// A table of no rows, by which no way leads from one place to another.
+    pub(crate) fn none(alloc: Global, from_day: Day) -> Result<Self, AllocError>
+        ensures value { IfOk result (λ table. table ≡ record { from_day = from_day; rows = [] }) }
+    {
+        let no_rows = Raw::of(Vec::new(alloc)).unwrap();
+        TravelTable::of(alloc, from_day, no_rows)
     }
 
     /// A copy.

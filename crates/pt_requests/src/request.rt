@@ -5,7 +5,7 @@ use pt_base::{
     Day, Minute, Place, Policy, Rider, RiderId, Rule, Trip, TripId, Vehicle, VehicleId, Wish,
 };
 use pt_corridor::FixedRoute;
-use pt_manifest::Letter;
+use pt_manifest::{DaySheet, Letter, VehicleSheet};
 use pt_records::Rows;
 use pt_rights::{Entry, Outcome, Standing};
 use pt_travel::Raw;
@@ -26,6 +26,10 @@ pub enum Read {
     Trips(RiderId),
     /// Asks for the letter of the entry at this position of a rider's case file, counted from 0.
     Letter { rider: RiderId, position: u8 },
+    /// Asks for what a vehicle does on a day.
+    Manifest { vehicle: VehicleId, day: Day },
+    /// Asks for what all vehicles on duty do on a day.
+    DaySheet(Day),
     /// Asks for all trips of a day.
     Export(Day),
 }
@@ -92,6 +96,10 @@ pub enum Answer {
     Trips(Rows<Trip>),
     /// The letter that tells a decision.
     Letter(Letter),
+    /// What the vehicle does on the day.
+    Manifest { day: Day, sheet: VehicleSheet },
+    /// What the vehicles on duty do on the day, and how many of its trips stand.
+    DaySheet(DaySheet),
     /// The trips of the day by rising number, cancelled ones too.
     Export(Rows<Trip>),
     /// The first rule that it breaks. Nothing is changed.

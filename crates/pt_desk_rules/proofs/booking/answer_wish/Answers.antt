@@ -5,7 +5,7 @@ use Rattle.pt_booking.specs.Request.{Request}
 use Rattle.pt_scheduling.specs.Routes.{routes_without}
 use Rattle.pt_scheduling.specs.Uses.{AreUses}
 use Rattle.pt_desk_rules.specs.Fleet.{on_duty}
-use Rattle.pt_desk_rules.specs.Booking.{IsRequestBy, IsScheduledBy, rows_of}
+use Rattle.pt_desk_rules.specs.Booking.{IsScheduledBy, rows_of}
 use Rattle.pt_desk_rules.proofs.BookingLemmas.{answered}
 use Rattle.pt_desk_rules.proofs.booking.answer_wish.Goals as goal
 

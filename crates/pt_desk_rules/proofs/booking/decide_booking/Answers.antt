@@ -1,4 +1,4 @@
-use Rattle.std.proofs.Common.{ℕ, ◌+◌, None, Some, sym, ◌∙◌, refl}
+use Rattle.std.proofs.Common.{◌+◌, None, Some}
 use Rattle.pt_desk_rules.specs.Deciding.{booked, kept_by}
 use Rattle.pt_spelling.specs.declared.replies.KeptReply.TheVariants as reply
 use Rattle.pt_desk_rules.proofs.BookingLemmas.{denied, booked_decided, booked_made}

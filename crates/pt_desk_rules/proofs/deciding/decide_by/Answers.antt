@@ -1,5 +1,3 @@
-use Rattle.std.proofs.Common.{IfOk}
-use Rattle.pt_desk_rules.specs.Deciding.{IsDecidedBy}
 use Rattle.pt_desk_rules.proofs.deciding.decide_by.Goals as goal
 
 pub returns-in-Book-clause-decided : goal.returns-in-Book-clause-decided
