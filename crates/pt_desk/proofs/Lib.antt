@@ -5,3 +5,4 @@ mod RunLemmas
 mod AnswerLemmas
 mod ReadLemmas
 mod QuietLemmas
+mod PlaceLemmas

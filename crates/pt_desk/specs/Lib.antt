@@ -1,3 +1,4 @@
 pub mod Store
 pub mod Run
 pub mod LeastState
+pub mod Places

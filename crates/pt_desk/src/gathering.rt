@@ -1,7 +1,7 @@
 ghost use Rattle.std.specs.Prelude.{◌≡◌, [], Some, None};
 ghost use Rattle.pt_desk_rules.specs.Facts.{no_facts, facts_of, read_facts_of, has_subject};
 ghost use Rattle.pt_desk_rules.specs.Facts.{agency_facts, booking_facts, plan_for, day_of, wish_facts};
-ghost use Rattle.pt_desk_rules.specs.Facts.{change_facts, cancel_facts, tallies_for, trip_facts};
+ghost use Rattle.pt_desk_rules.specs.Facts.{change_facts, cancel_facts, tallies_for, tour_facts, trip_facts};
 ghost use Rattle.pt_requests.specs.declared.request.Read.TheVariants.{Export, Letter, Standing, Trips};
 ghost use Rattle.pt_desk_rules.specs.State.{rider_of, file_of, trip_of};
 ghost use Rattle.pt_requests.specs.declared.request.Write.TheVariants.{Enter, PutCaller, PutPlace, PutRoute};
@@ -14,7 +14,6 @@ use pt_corridor::FixedRoute;
 use pt_desk_rules::{
     BookingFacts, Caller, DayFacts, PlannedRoute, Read, ReadFacts, Role, Tallies, Write, WriteFacts,
 };
-use pt_records::Rows;
 use pt_rights::{CaseFile, Entry};
 use std::alloc::Global;
 
@@ -362,7 +361,12 @@ fn gather_standing<K: Keeper>(
 {
     let trips = keeper.trips_of(alloc, rider)?;
     let (rider, file) = rider_with_file(alloc, keeper, rider)?;
-    Ok(ReadFacts { rider, file, trips })
+    Ok(ReadFacts {
+        rider,
+        file,
+        trips,
+        ..ReadFacts::none(alloc)
+    })
 }
 
 fn gather_trips<K: Keeper>(
@@ -374,8 +378,8 @@ fn gather_trips<K: Keeper>(
 {
     Ok(ReadFacts {
         rider: keeper.rider(rider)?,
-        file: CaseFile::new(alloc),
         trips: keeper.trips_of(alloc, rider)?,
+        ..ReadFacts::none(alloc)
     })
 }
 
@@ -390,7 +394,7 @@ fn gather_letter<K: Keeper>(
     Ok(ReadFacts {
         rider,
         file,
-        trips: Rows::none(alloc),
+        ..ReadFacts::none(alloc)
     })
 }
 
@@ -402,9 +406,21 @@ fn gather_export<K: Keeper>(
     ensures reads { Reads (K.store keeper.old) (K.store keeper.new) (read_facts_of (Export day)) result }
 {
     Ok(ReadFacts {
-        rider: None,
-        file: CaseFile::new(alloc),
         trips: keeper.trips_on(alloc, day)?,
+        ..ReadFacts::none(alloc)
+    })
+}
+
+/// What manifests look at.
+fn gather_tours<K: Keeper>(alloc: Global, keeper: &mut K, day: Day) -> Result<ReadFacts, StoreFault>
+    ensures reads { Reads (K.store keeper.old) (K.store keeper.new) (tour_facts day) result }
+{
+    let vehicles = keeper.vehicles(alloc)?;
+    let day = gather_day(alloc, keeper, day)?;
+    Ok(ReadFacts {
+        vehicles,
+        day,
+        ..ReadFacts::none(alloc)
     })
 }
 
@@ -420,6 +436,8 @@ pub(crate) fn gather_read<K: Keeper>(
         Read::Standing { rider, day: _ } => gather_standing(alloc, keeper, rider),
         Read::Trips(rider) => gather_trips(alloc, keeper, rider),
         Read::Letter { rider, position: _ } => gather_letter(alloc, keeper, rider),
+        Read::Manifest { vehicle: _, day } => gather_tours(alloc, keeper, day),
+        Read::DaySheet(day) => gather_tours(alloc, keeper, day),
         Read::Export(day) => gather_export(alloc, keeper, day),
     }
 }

@@ -5,6 +5,7 @@
 pub use answering::answer;
 pub use keeper::{Keeper, Reply, StoreFault};
 pub use list_keeper::ListKeeper;
+pub use places::place_ids;
 pub use pt_desk_rules::{
     Answer, Caller, Change, Confirmation, Decision, Digest, FiledEntry, Kept, MOST_CALLERS,
     MOST_PLACES, MOST_RIDERS, MOST_ROUTES, Read, ReadFacts, Request, Role, Write, WriteFacts,
@@ -15,6 +16,7 @@ mod answering;
 mod gathering;
 mod keeper;
 mod list_keeper;
+mod places;
 mod running;
 #[cfg(test)]
 mod tests;

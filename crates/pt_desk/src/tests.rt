@@ -1,4 +1,6 @@
-use crate::{Answer, Call, Caller, Digest, Keeper, ListKeeper, Reply, Request, Role, Write, run};
+use crate::{
+    Answer, Call, Caller, Digest, Keeper, ListKeeper, Reply, Request, Role, Write, place_ids, run,
+};
 use pt_base::{
     CallerId, Day, Minute, Place, PlaceId, Point, Policy, Residence, Rider, RiderId, RouteId, Rule,
     Weekdays,
@@ -163,7 +165,7 @@ fn compare_replies(rt: &impl Abort, replies: &[Reply]) {
 /// Compares what is kept after the first calls.
 fn compare_kept(rt: &impl Abort, alloc: Global, keeper: &mut ListKeeper) {
     assert_eq!(rt; keeper.policy().ok(), Some(POLICY));
-    let places = keeper.places(alloc).expect(rt, "places").as_slice().len();
+    let places = place_ids(alloc, keeper).expect(rt, "places").len();
     let routes = keeper.routes(alloc).expect(rt, "routes").as_slice().len();
     let entries = keeper.case_file(alloc, rider()).expect(rt, "entries").len();
     assert_eq!(rt; (places, routes, entries), (1, 1, 1));
