@@ -34,6 +34,8 @@ answer_body-unique (answer.Visitor may_use) a b is other = is ∙ sym other
 answer_body-unique (answer.Booked told) a b is other = is ∙ sym other
 answer_body-unique (answer.Trips trips) a b is other = trips_body-unique trips a b is other
 answer_body-unique (answer.Letter letter) a b is other = is ∙ sym other
+answer_body-unique (answer.Manifest day sheet) a b is other = is ∙ sym other
+answer_body-unique (answer.DaySheet sheet) a b is other = is ∙ sym other
 answer_body-unique (answer.Export trips) a b is other = is ∙ sym other
 answer_body-unique (answer.Denied rule) a b is other = is ∙ sym other
 

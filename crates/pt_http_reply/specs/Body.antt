@@ -11,6 +11,7 @@ use Rattle.pt_conditions.specs.Texts.{condition_text}
 use Rattle.pt_desk.specs.declared.keeper.StoreFault.TheVariants.{Memory, Store}
 use Rattle.pt_manifest.specs.Export.{trips_text}
 use Rattle.pt_manifest.specs.Letters.{letter_text}
+use Rattle.pt_manifest.specs.Manifests.{day_sheet_text, manifest_text}
 use Rattle.pt_requests.specs.declared.request.Answer.{Answer}
 use Rattle.pt_requests.specs.declared.request.Answer.TheVariants as answer
 use Rattle.pt_http_reply.specs.Fault.{fault_name, field_name}
@@ -66,6 +67,8 @@ IsAnswerBody (answer.Visitor may_use) body = body ≡ visitor_body may_use
 IsAnswerBody (answer.Booked told) body = body ≡ confirmation_body told
 IsAnswerBody (answer.Trips trips) body = IsTripsBody trips body
 IsAnswerBody (answer.Letter letter) body = body ≡ letter_text letter
+IsAnswerBody (answer.Manifest day sheet) body = body ≡ manifest_text day sheet
+IsAnswerBody (answer.DaySheet sheet) body = body ≡ day_sheet_text sheet
 IsAnswerBody (answer.Export trips) body = body ≡ trips_text trips
 IsAnswerBody (answer.Denied rule) body = body ≡ denial_body (name_of rule)
 

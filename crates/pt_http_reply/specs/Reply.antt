@@ -15,6 +15,8 @@ is_of_read (answer.Standing standing suspended) = true
 is_of_read (answer.Visitor may_use) = true
 is_of_read (answer.Trips trips) = true
 is_of_read (answer.Letter letter) = true
+is_of_read (answer.Manifest day sheet) = true
+is_of_read (answer.DaySheet sheet) = true
 is_of_read (answer.Export trips) = true
 is_of_read _ = false
 

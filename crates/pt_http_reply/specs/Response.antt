@@ -23,6 +23,8 @@ status_of (response.Refused refused) = status_of_fault refused
 -- what the body of a reply is written in
 abbrev pub type_of : Response → ContentType
 type_of (response.Answered (Ok (answer.Letter letter))) = Text
+type_of (response.Answered (Ok (answer.Manifest day sheet))) = Text
+type_of (response.Answered (Ok (answer.DaySheet sheet))) = Text
 type_of (response.Answered (Ok (answer.Export trips))) = Csv
 type_of reply = Json
 

@@ -8,7 +8,7 @@ use crate::{ReplyBuffer, RequestFault, Response};
 use itoa::Buffer;
 use pt_base::Fault;
 use pt_desk::{Answer, StoreFault};
-use pt_manifest::{decision_letter, trips_csv};
+use pt_manifest::{day_sheet, decision_letter, manifest, trips_csv};
 use std::alloc::Global;
 
 /// The body of a reply.
@@ -51,6 +51,12 @@ pub(crate) fn body_of(alloc: Global, response: &Response) -> Result<Body, Fault>
         }
         Response::Answered(Ok(Answer::Letter(letter))) => {
             Ok(Body::Grown(decision_letter(alloc, letter)?))
+        }
+        Response::Answered(Ok(Answer::Manifest { day, sheet })) => {
+            Ok(Body::Grown(manifest(alloc, *day, sheet)?))
+        }
+        Response::Answered(Ok(Answer::DaySheet(sheet))) => {
+            Ok(Body::Grown(day_sheet(alloc, sheet)?))
         }
         Response::Answered(Ok(Answer::Export(trips))) => {
             Ok(Body::Grown(trips_csv(alloc, trips.as_slice())?))

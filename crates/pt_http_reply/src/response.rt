@@ -37,7 +37,9 @@ impl Response {
         ensures { result ≡ type_of self.now }
     {
         match self {
-            Response::Answered(Ok(Answer::Letter(_))) => ContentType::Text,
+            Response::Answered(
+                Ok(Answer::Letter(_) | Answer::Manifest { .. } | Answer::DaySheet(_)),
+            ) => ContentType::Text,
             Response::Answered(Ok(Answer::Export(_))) => ContentType::Csv,
             _ => ContentType::Json,
         }
