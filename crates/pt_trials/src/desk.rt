@@ -427,7 +427,12 @@ fn plain_answer(answer: &Answer) -> Told {
         Answer::Entered(place) => Told::Entered(*place),
         Answer::Denied(rule) => Told::Denied(*rule),
         Answer::Visitor { .. } => Told::Visitor,
-        Answer::Booked(_) | Answer::Trips(_) | Answer::Letter(_) | Answer::Export(_) => Told::Trips,
+        Answer::Booked(_)
+        | Answer::Trips(_)
+        | Answer::Letter(_)
+        | Answer::Manifest { .. }
+        | Answer::DaySheet(_)
+        | Answer::Export(_) => Told::Trips,
         Answer::Standing {
             standing,
             suspended,
