@@ -6,13 +6,23 @@ use Rattle.std.proofs.lemmas.Str.{IsUtf8-from_ascii, IsAscii-take, IsAscii-drop}
 use Rattle.std.proofs.lemmas.Str.Ascii.{IsAscii-nil}
 use Rattle.std.specs.Char.{is_ascii}
 use Rattle.std.specs.List.{list_all}
-use Rattle.std.specs.Prelude.{IsAscii, IsUtf8, leb, ◌&&◌, length, ◌-◌, slice_get}
+use Rattle.std.specs.Prelude.{IsAscii, IsUtf8, leb, ◌&&◌, length, ◌-◌, slice_get, Result, Ok, Err}
 use Rattle.matchit.specs.Params.{walk, part_of}
-use Rattle.matchit.specs.Router.{RouteOf}
+use Rattle.matchit.specs.Route.{Scan}
+use Rattle.matchit.specs.Router.{RouteOf, InsertsRead}
 use Rattle.matchit.specs.Rows.{RowsOf}
 use Rattle.matchit.specs.Seek.{first}
-use Rattle.pt_http_request.specs.Targets.{AreTexts, parts_of, target_from, target_in}
+use Rattle.matchit.specs.declared.error.InsertError.{InsertError}
+use Rattle.pt_http_request.specs.Targets.{AreTexts, with_route, parts_of, target_from, target_in}
 use Rattle.pt_http_request.specs.declared.targets.Path.{Path}
+
+-- an insertion that went well leaves the rows with one route more
+pub inserted : (scanned : Result Scan InsertError) (value : Path) (old new rows : RowsOf (RouteOf Path))
+    (result : Result (Unit {0}) InsertError) (done : Unit {0}) → InsertsRead scanned value old new result
+    → result ≡ Ok done → old ≡ rows → new ≡ with_route scanned value rows
+inserted (Ok s) value old new rows (Ok u) done is well same = is.1 ∙ ap (with_route (Ok s) value) same
+inserted (Ok s) value old new rows (Err e) done is well same = cc well
+inserted (Err e) value old new rows result done is well same = is.0 ∙ same
 
 -- a part of a text of ASCII is text
 part-utf8 : (text : List ℕ) (start end : ℕ) → IsAscii text → IsUtf8 (part_of text start end)

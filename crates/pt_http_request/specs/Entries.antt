@@ -11,7 +11,7 @@ use Rattle.serde_json.specs.Data.{Data}
 use Rattle.serde_json.specs.Find.{get, as_str}
 use Rattle.pt_http_request.specs.Conditions.{condition_from}
 use Rattle.pt_http_request.specs.Fields.{text_at, day_at, reasons_at, number_within, needed, result_map, ◌>>=◌}
-use Rattle.pt_http_request.specs.Numbers.{is_within}
+use Rattle.pt_http_request.specs.Numbers.{is_within, last_position}
 use Rattle.pt_http_request.specs.Routes.{each, values_of}
 use Rattle.pt_http_request.specs.declared.entries.EntryKind.{EntryKind}
 use Rattle.pt_http_request.specs.declared.entries.EntryKind.TheVariants as kind
@@ -65,9 +65,9 @@ grant_in body = do
   conditions ← needed (conditions_at body) field.Conditions
   Ok (record { until = until; conditions = conditions })
 
--- the place in a case file of at most 200 entries, counted from 0, that an appeal is against
+-- the position in a case file that an appeal is against
 abbrev pub place_in_file : Data → Result ℕ FieldName
-place_in_file body = number_within field.Against 0 199 body
+place_in_file body = number_within field.Against 0 last_position body
 
 -- the suspension that a body spells: starts, ends, reasons
 abbrev pub suspension_in : Data → Result Entry FieldName

@@ -25,7 +25,7 @@ use Rattle.pt_http_request.specs.Policy.{policy_in}
 use Rattle.pt_http_request.specs.Places.{place_in}
 use Rattle.pt_http_request.specs.Routes.{route_in}
 use Rattle.pt_http_request.specs.Vehicles.{vehicle_in}
-use Rattle.pt_http_request.specs.Trips.{wish_in, booking_in}
+use Rattle.pt_http_request.specs.Trips.{wish_in, booking_in, outcome_in}
 use Rattle.pt_http_request.specs.Headers.{key_in, number_in}
 use Rattle.pt_http_request.specs.declared.fault.MessageFault.{MessageFault}
 use Rattle.pt_http_request.specs.declared.fault.MessageFault.TheVariants.{Refused, Memory}
@@ -62,6 +62,7 @@ write_in (writes.Entries rider) body = result_map (write.Enter rider) (entry_in 
 write_in writes.Trips body = result_map (λ booking. write.Book booking.0 booking.1) (booking_in body)
 write_in (writes.Change trip) body = result_map (write.Change trip) (wish_in body)
 write_in (writes.Cancel trip) body = Ok (write.Cancel trip)
+write_in (writes.Outcome trip) body = result_map (write.Outcome trip) (outcome_in body)
 
 -- ---- whole messages
 

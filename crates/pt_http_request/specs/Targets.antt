@@ -12,7 +12,7 @@ use Rattle.matchit.specs.Rows.{RowsOf}
 use Rattle.matchit.specs.Seek.{first}
 use Rattle.matchit.specs.declared.error.InsertError.{InsertError}
 use Rattle.pt_http_request.specs.Days.{day_from}
-use Rattle.pt_http_request.specs.Numbers.{id_from}
+use Rattle.pt_http_request.specs.Numbers.{id_from, position_from}
 use Rattle.pt_http_request.specs.declared.targets.Path.{Path}
 use Rattle.pt_http_request.specs.declared.targets.Path.TheVariants as path
 use Rattle.pt_http_request.specs.declared.targets.Target.{Target}
@@ -28,7 +28,12 @@ with_route (Err error) value rows = rows
 -- the routes of the desk
 abbrev pub desk_routes : RowsOf (RouteOf Path)
 desk_routes =
-    with_route (parse_route (codes "/trips/{trip}/cancel")) path.Cancel
+    with_route (parse_route (codes "/days/{day}/trips.csv")) path.Export
+    (with_route (parse_route (codes "/days/{day}/sheet")) path.DaySheet
+    (with_route (parse_route (codes "/vehicles/{vehicle}/manifest/{day}")) path.Manifest
+    (with_route (parse_route (codes "/riders/{rider}/letters/{entry}")) path.Letter
+    (with_route (parse_route (codes "/trips/{trip}/outcome")) path.Outcome
+    (with_route (parse_route (codes "/trips/{trip}/cancel")) path.Cancel
     (with_route (parse_route (codes "/trips/{trip}/change")) path.Change
     (with_route (parse_route (codes "/trips")) path.Trips
     (with_route (parse_route (codes "/riders/{rider}/trips")) path.RiderTrips
@@ -39,7 +44,7 @@ desk_routes =
     (with_route (parse_route (codes "/routes")) path.Routes
     (with_route (parse_route (codes "/places")) path.Places
     (with_route (parse_route (codes "/policy")) path.Policy
-    (with_route (parse_route (codes "/callers")) path.Callers [])))))))))))
+    (with_route (parse_route (codes "/callers")) path.Callers []))))))))))))))))
 
 -- the parts of a path that the parameters of its route took, in order
 abbrev pub parts_of : RouteOf Path → List ℕ → List (List ℕ)
@@ -50,9 +55,12 @@ abbrev pub AreTexts : List (List ℕ × List ℕ) → Type 0
 AreTexts [] = Unit {0}
 AreTexts (part ∷ parts) = IsUtf8 part.1 × AreTexts parts
 
--- the number of a record, or the day, that a part spells, if it is there
+-- the number of a record, the position in a case file, or the day, that a part spells, if it is there
 abbrev pub id_in : Option (List ℕ) → Option ℕ
 id_in part = option_and_then id_from part
+
+abbrev pub position_in : Option (List ℕ) → Option ℕ
+position_in part = option_and_then position_from part
 
 abbrev pub day_in : Option (List ℕ) → Option ℕ
 day_in part = option_and_then day_from part
@@ -72,6 +80,14 @@ target_from path.RiderTrips one two = option_map (λ rider. target.Read (read.Tr
 target_from path.Trips one two = Some (target.Write writes.Trips)
 target_from path.Change one two = option_map (λ trip. target.Write (writes.Change trip)) (id_in one)
 target_from path.Cancel one two = option_map (λ trip. target.Write (writes.Cancel trip)) (id_in one)
+target_from path.Outcome one two = option_map (λ trip. target.Write (writes.Outcome trip)) (id_in one)
+target_from path.Letter one two =
+    option_and_then (λ rider. option_map (λ position. target.Read (read.Letter rider position)) (position_in two))
+    (id_in one)
+target_from path.Manifest one two =
+    option_and_then (λ vehicle. option_map (λ day. target.Read (read.Manifest vehicle day)) (day_in two)) (id_in one)
+target_from path.DaySheet one two = option_map (λ day. target.Read (read.DaySheet day)) (day_in one)
+target_from path.Export one two = option_map (λ day. target.Read (read.Export day)) (day_in one)
 
 -- what a path names by the route that it takes
 abbrev pub target_by : List ℕ → RouteOf Path → Option Target

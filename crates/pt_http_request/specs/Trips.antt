@@ -1,9 +1,13 @@
--- The trip that a body wishes, field by field: the first field that is not as it should be is the fault.
-use Rattle.std.specs.Prelude.{ℕ, Bool, true, Option, Some, None, is_some, Result, Ok, if◌then◌else◌}
+-- The trip that a body wishes, or how it ended, field by field: the first field that is not as it should be is the
+-- fault.
+use Rattle.std.specs.Prelude.{ℕ, List, codes, bytes_eq, Bool, true, Option, Some, None, is_some, Result, Ok}
+use Rattle.std.specs.Prelude.{if◌then◌else◌}
 use Rattle.pt_base.specs.declared.trip.Wish.{Wish}
+use Rattle.pt_rights.specs.declared.tally.Outcome.{Outcome}
+use Rattle.pt_rights.specs.declared.tally.Outcome.TheVariants as outcome
 use Rattle.serde_json.specs.Data.{Data}
 use Rattle.serde_json.specs.Find.{get, as_null}
-use Rattle.pt_http_request.specs.Fields.{truth_at, id_at, day_at, number_within, ◌>>=◌}
+use Rattle.pt_http_request.specs.Fields.{text_at, truth_at, id_at, day_at, number_within, needed, ◌>>=◌}
 use Rattle.pt_http_reply.specs.Fault.{field_name}
 use Rattle.pt_http_reply.specs.declared.fault.FieldName.{FieldName}
 use Rattle.pt_http_reply.specs.declared.fault.FieldName.TheVariants as field
@@ -47,3 +51,17 @@ booking_in body = do
   rider ← id_at field.Rider body
   wish ← wish_in body
   Ok (rider, wish)
+
+-- the outcome of this name
+abbrev pub outcome_named : List ℕ → Option Outcome
+outcome_named name =
+    if bytes_eq name (codes "ridden") then Some outcome.Ridden
+    else (if bytes_eq name (codes "missed-rider") then Some outcome.MissedRider
+    else (if bytes_eq name (codes "missed-operator") then Some outcome.MissedOperator
+    else None))
+
+-- the outcome that a body spells
+abbrev pub outcome_in : Data → Result Outcome FieldName
+outcome_in body = do
+  name ← text_at field.Outcome body
+  needed (outcome_named name) field.Outcome

@@ -8,8 +8,9 @@ ghost use Rattle.pt_http_request.specs.Faults.{OnField, OnRefused};
 use crate::conditions::conditions_at;
 use crate::fault::MessageFault;
 use crate::fields::{day_at, number_within, text_at};
+use crate::numbers::LAST_POSITION;
 use pt_http_reply::FieldName;
-use pt_rights::{Entry, Grant, MOST_ENTRIES, Reasons};
+use pt_rights::{Entry, Grant, Reasons};
 use serde_json::Value;
 use std::alloc::Global;
 
@@ -69,7 +70,7 @@ fn grant_of(body: &Value) -> Result<Grant, FieldName>
 fn place_of(body: &Value) -> Result<u8, FieldName>
     ensures { result ≡ place_in_file (view body.now) }
 {
-    let place = number_within(body, FieldName::Against, 0, MOST_ENTRIES as u32 - 1)?;
+    let place = number_within(body, FieldName::Against, 0, LAST_POSITION)?;
     Ok(place as u8)
 }
 

@@ -18,7 +18,7 @@ use crate::policy::policy_of;
 use crate::riders::rider_of;
 use crate::routes::route_of;
 use crate::targets::{Path, Target, WriteTarget, target_at};
-use crate::trips::{booking_of, wish_of};
+use crate::trips::{booking_of, outcome_of, wish_of};
 use crate::vehicles::vehicle_of;
 use httparse::spans::HeaderSpan;
 use matchit::Router;
@@ -81,6 +81,10 @@ fn fields_from(alloc: Global, target: WriteTarget, body: &Value) -> Result<Write
             Ok(Write::Change { trip, wish })
         }
         WriteTarget::Cancel(trip) => Ok(Write::Cancel(trip)),
+        WriteTarget::Outcome(trip) => {
+            let outcome = outcome_of(body)?;
+            Ok(Write::Outcome { trip, outcome })
+        }
     }
 }
 

@@ -1,8 +1,12 @@
 ghost use Rattle.std.specs.Prelude.{◌≡◌, ℕ, IfSome, IsNone};
-ghost use Rattle.pt_http_request.specs.Numbers.{SpellsNumber, number_from, id_from};
+ghost use Rattle.pt_http_request.specs.Numbers.{SpellsNumber, number_from, id_from, position_from};
 
 use pt_base::Id;
+use pt_rights::MOST_ENTRIES;
 use std::str;
+
+/// The last position that a case file may have, counted from 0.
+pub(crate) const LAST_POSITION: u32 = MOST_ENTRIES as u32 - 1;
 
 /// The number that one to so many digits spell, where it is at most this.
 pub fn number_from(bytes: &[u8], digits: usize, most: u64) -> Option<u64>
@@ -35,4 +39,12 @@ pub(crate) fn id_from<Kind>(text: &str) -> Option<Id<Kind>>
 {
     let number = number_from(text.as_bytes(), 10, 4_294_967_295)?;
     Id::of(number as u32)
+}
+
+/// The position in a case file, counted from 0, that one to ten digits spell.
+pub(crate) fn position_from(text: &str) -> Option<u8>
+    ensures { result ≡ position_from text.now }
+{
+    let position = number_from(text.as_bytes(), 10, u64::from(LAST_POSITION))?;
+    Some(position as u8)
 }

@@ -3,7 +3,7 @@ ghost use Rattle.std.specs.Option.{option_copied};
 ghost use Rattle.pt_http_request.specs.Targets.{desk_routes, AreTexts, target_from, target_in, path_of};
 
 use crate::fields::day_from;
-use crate::numbers::id_from;
+use crate::numbers::{id_from, position_from};
 use matchit::{InsertError, ParamsIter, Router};
 use pt_base::{RiderId, TripId};
 use pt_desk::Read;
@@ -25,6 +25,11 @@ pub enum Path {
     Trips,
     Change,
     Cancel,
+    Outcome,
+    Letter,
+    Manifest,
+    DaySheet,
+    Export,
 }
 
 /// What the path of a request names.
@@ -59,6 +64,8 @@ pub enum WriteTarget {
     Change(TripId),
     /// A booked trip that is given up.
     Cancel(TripId),
+    /// A booked trip that has ended.
+    Outcome(TripId),
 }
 
 /// A router over the paths of the desk.
@@ -78,6 +85,11 @@ pub fn desk_router(alloc: Global) -> Result<Router<Path>, InsertError>
     router.insert("/trips", Path::Trips)?;
     router.insert("/trips/{trip}/change", Path::Change)?;
     router.insert("/trips/{trip}/cancel", Path::Cancel)?;
+    router.insert("/trips/{trip}/outcome", Path::Outcome)?;
+    router.insert("/riders/{rider}/letters/{entry}", Path::Letter)?;
+    router.insert("/vehicles/{vehicle}/manifest/{day}", Path::Manifest)?;
+    router.insert("/days/{day}/sheet", Path::DaySheet)?;
+    router.insert("/days/{day}/trips.csv", Path::Export)?;
     Ok(router)
 }
 
@@ -116,6 +128,19 @@ fn target_from(path: Path, one: Option<&str>, two: Option<&str>) -> Option<Targe
         Path::Trips => Some(Target::Write(WriteTarget::Trips)),
         Path::Change => Some(Target::Write(WriteTarget::Change(id_from(one?)?))),
         Path::Cancel => Some(Target::Write(WriteTarget::Cancel(id_from(one?)?))),
+        Path::Outcome => Some(Target::Write(WriteTarget::Outcome(id_from(one?)?))),
+        Path::Letter => {
+            let rider = id_from(one?)?;
+            let position = position_from(two?)?;
+            Some(Target::Read(Read::Letter { rider, position }))
+        }
+        Path::Manifest => {
+            let vehicle = id_from(one?)?;
+            let day = day_from(two?)?;
+            Some(Target::Read(Read::Manifest { vehicle, day }))
+        }
+        Path::DaySheet => Some(Target::Read(Read::DaySheet(day_from(one?)?))),
+        Path::Export => Some(Target::Read(Read::Export(day_from(one?)?))),
     }
 }
 

@@ -1,10 +1,11 @@
 ghost use Rattle.std.specs.Prelude.{◌≡◌};
 ghost use Rattle.serde_json.specs.View.{view};
-ghost use Rattle.pt_http_request.specs.Trips.{minute_if_any_at, wish_in, booking_in};
+ghost use Rattle.pt_http_request.specs.Trips.{minute_if_any_at, wish_in, booking_in, outcome_named, outcome_in};
 
-use crate::fields::{day_at, id_at, minute_at, number_within, truth_at};
+use crate::fields::{day_at, id_at, minute_at, number_within, text_at, truth_at};
 use pt_base::{Minute, RiderId, Wish};
 use pt_http_reply::FieldName;
+use pt_rights::Outcome;
 use serde_json::Value;
 
 /// The minute of the day at a field of an object, or the field as a fault. A field that is missing or null has none.
@@ -46,4 +47,23 @@ pub(crate) fn booking_of(body: &Value) -> Result<(RiderId, Wish), FieldName>
     let rider = id_at(body, FieldName::Rider)?;
     let wish = wish_of(body)?;
     Ok((rider, wish))
+}
+
+/// The outcome of this name.
+fn outcome_named(name: &str) -> Option<Outcome>
+    ensures { result ≡ outcome_named name.now }
+{
+    match name {
+        "ridden" => Some(Outcome::Ridden),
+        "missed-rider" => Some(Outcome::MissedRider),
+        "missed-operator" => Some(Outcome::MissedOperator),
+        _ => None,
+    }
+}
+
+/// The outcome that an object spells, or that field as a fault.
+pub(crate) fn outcome_of(body: &Value) -> Result<Outcome, FieldName>
+    ensures { result ≡ outcome_in (view body.now) }
+{
+    outcome_named(text_at(body, FieldName::Outcome)?).ok_or(FieldName::Outcome)
 }

@@ -11,7 +11,8 @@ returns-in_err-weekday_from c =
     let no_day : weekday_from (view c.number-item.result) ≡ None
     = sym c.weekday_from.ensures ∙ ap (option_map number_of) c.in_err-weekday_from.was in
     let none : each weekday_from (map view c.args.numbers.now) ≡ None
-    = each-none weekday_from view c.args.numbers.now c.loop-number.number-index c.number-item.result c.loop-number-test.true c.number-item.is no_day in
+    = each-none weekday_from view c.args.numbers.now c.loop-number.number-index c.number-item.result
+    c.loop-number-test.true c.number-item.is no_day in
     search (rules, none)
 
 pub loop-number-preserved : goal.loop-number-preserved
@@ -30,5 +31,6 @@ loop-number-preserved c =
 pub returns : goal.returns
 returns c =
     let days = c.loop-number.invariant in
-    let all = read-all weekday_from view c.args.numbers.now c.loop-number.number-index days.0 c.loop-number-test.false days.1 in
+    let all = read-all weekday_from view c.args.numbers.now c.loop-number.number-index days.0 c.loop-number-test.false
+    days.1 in
     ap Some days.2 ∙ ap (option_map set_of) (sym all)

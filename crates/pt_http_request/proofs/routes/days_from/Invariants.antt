@@ -5,4 +5,5 @@ use Rattle.pt_http_request.proofs.routes.days_from.Given as goal
 
 abbrev pub invariant-loop-number : goal.invariant-loop-number
 invariant-loop-number l =
-    (days : List ℕ) × (map weekday_from (map view (take l.number-index l.numbers)) ≡ map Some days) × (l.days ≡ set_of days)
+    (days : List ℕ) × (map weekday_from (map view (take l.number-index l.numbers)) ≡ map Some days) ×
+    (l.days ≡ set_of days)

@@ -8,8 +8,10 @@ pub returns-in_err-point-clause-fault : goal.returns-in_err-point-clause-fault
 returns-in_err-point-clause-fault c =
     let no_point : point_from (view c.pair-item.result) ≡ None = search rules in
     let none : each point_from (map view c.args.pairs.now) ≡ None
-    = each-none point_from view c.args.pairs.now c.loop-pair.pair-index c.pair-item.result c.loop-pair-test.true c.pair-item.is no_point in
+    = each-none point_from view c.args.pairs.now c.loop-pair.pair-index c.pair-item.result c.loop-pair-test.true
+    c.pair-item.is no_point in
     search rules
 
 pub returns-clause-points : goal.returns-clause-points
-returns-clause-points c = read-all point_from view c.args.pairs.now c.loop-pair.pair-index c.loop-pair.points.items c.loop-pair-test.false c.loop-pair.invariant.read
+returns-clause-points c = read-all point_from view c.args.pairs.now c.loop-pair.pair-index c.loop-pair.points.items
+    c.loop-pair-test.false c.loop-pair.invariant.read
