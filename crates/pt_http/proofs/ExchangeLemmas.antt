@@ -9,15 +9,20 @@ use Rattle.pt_http.specs.declared.received.Received.{Received}
 use Rattle.pt_http.specs.declared.received.Received.TheVariants as received
 
 -- what was received is exchanged for the desk's response
-pub exchanged : (shut : ℕ) (now : ℕ × ℕ) (input : List ℕ) (came : Received) (old new : Desk) (reply : Response) (rest : List ℕ) → BeginsWith input came rest → Responds shut now came old new reply → Exchanges shut now input old new reply rest
-exchanged shut now input (received.Message message) old new (response.Answered told) rest begins responds = (message, begins, responds)
-exchanged shut now input (received.Message message) old new (response.Refused named) rest begins responds = absurd responds
+pub exchanged : (shut : ℕ) (now : ℕ × ℕ) (input : List ℕ) (came : Received) (old new : Desk) (reply : Response)
+    (rest : List ℕ) → BeginsWith input came rest → Responds shut now came old new reply
+    → Exchanges shut now input old new reply rest
+exchanged shut now input (received.Message message) old new (response.Answered told) rest begins responds
+    = (message, begins, responds)
+exchanged shut now input (received.Message message) old new (response.Refused named) rest begins responds
+    = absurd responds
 exchanged shut now input (received.Refused why) old new (response.Answered told) rest begins responds = absurd responds
 exchanged shut now input (received.Refused why) old new (response.Refused named) rest begins (is, same) =
     (subst (λ fault. BeginsWithFault input fault rest) (sym is) begins, same)
 
 -- the response ends the messages exactly where what was received does
-pub same_end : (shut : ℕ) (now : ℕ × ℕ) (came : Received) (old new : Desk) (reply : Response) → Responds shut now came old new reply
+pub same_end : (shut : ℕ) (now : ℕ × ℕ) (came : Received) (old new : Desk) (reply : Response)
+    → Responds shut now came old new reply
     → is_end came ≡ is_last reply
 same_end shut now (received.Message message) old new (response.Answered told) responds = refl
 same_end shut now (received.Message message) old new (response.Refused named) responds = absurd responds

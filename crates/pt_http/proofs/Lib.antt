@@ -1,4 +1,3 @@
-pub mod PartsLemmas
 pub mod ReceivedLemmas
 pub mod ExchangeLemmas
 pub mod ToldLemmas

@@ -1,5 +1,6 @@
 -- What a read is told leaves the desk as it was: so, where memory is wanting for it, the reply may say so.
-use Rattle.std.proofs.Common.{◌≡◌, ℕ, true, false, List, Option, Some, None, Ok, Err, refl, sym, ap, ◌∙◌, subst, inl, inr}
+use Rattle.std.proofs.Common.{◌≡◌, ℕ, true, false, List, Option, Some, None, Ok, Err, refl, sym, ap, ◌∙◌, subst, inl}
+use Rattle.std.proofs.Common.{inr}
 use Rattle.std.specs.Prelude.{option_map}
 use Rattle.pt_base.specs.declared.rule.Rule.TheVariants.{Key}
 use Rattle.pt_desk.specs.declared.keeper.StoreFault.TheVariants.{Memory}
@@ -24,13 +25,16 @@ of_read (Booked told) reads = absurd (cc)
 of_read _ reads = refl
 
 -- a message may be answered by want of memory where it is answered by what a read is told
-wants_memory : (key : Option (List ℕ)) (shut : ℕ) (now : ℕ × ℕ) (message : Message) (old new : Desk) (told : Answer) → is_of_read told ≡ true
+wants_memory : (key : Option (List ℕ)) (shut : ℕ) (now : ℕ × ℕ) (message : Message) (old new : Desk) (told : Answer)
+    → is_of_read told ≡ true
     → AnswersWith key shut now message old new (Ok told) → AnswersWith key shut now message old new (Err Memory)
-wants_memory None shut now message old new told reads (is, same) = let denied : told ≡ Denied Key = cc in absurd (cc (rw denied at reads))
+wants_memory None shut now message old new told reads (is, same) = let denied : told ≡ Denied Key
+    = cc in absurd (cc (rw denied at reads))
 wants_memory (Some key) shut now message old new told reads ((answer, left, tells, inr fault), fails) = absurd fault.0
 wants_memory (Some key) shut now message old new told reads ((answer, left, tells, inl is), fails) =
     let none : left ≡ None
-    = commits_nothing (sender key old.content) now message.number message.request old.content answer left is (of_read answer (ap is_of_read (sym tells.0) ∙ reads)) in
+    = commits_nothing (sender key old.content) now message.number message.request old.content answer left is
+    (of_read answer (ap is_of_read (sym tells.0) ∙ reads)) in
     let stays : new.content ≡ old.content = tells.1 ∙ ap (λ left. state_after left old.content) none in (
       (answer, None, (λ serves. stays), inr (tt, refl)),
       record {
@@ -40,18 +44,23 @@ wants_memory (Some key) shut now message old new told reads ((answer, left, tell
       },
     )
 
-told_or_wanting : (shut : ℕ) (now : ℕ × ℕ) (came : Received) (old new : Desk) (reply : Response) → is_told reply ≡ true → Responds shut now came old new reply
+told_or_wanting : (shut : ℕ) (now : ℕ × ℕ) (came : Received) (old new : Desk) (reply : Response) → is_told reply ≡ true
+    → Responds shut now came old new reply
     → Responds shut now came old new (response.Answered (Err Memory))
 told_or_wanting shut now (received.Message message) old new (response.Answered (Ok told)) reads responds =
     wants_memory (option_map (λ key. key.items) message.key) shut now message old new told reads responds
-told_or_wanting shut now (received.Message message) old new (response.Answered (Err failed)) reads responds = absurd (cc)
+told_or_wanting shut now (received.Message message) old new (response.Answered (Err failed)) reads responds
+    = absurd (cc)
 told_or_wanting shut now (received.Message message) old new (response.Refused named) reads responds = absurd responds
 told_or_wanting shut now (received.Refused why) old new (response.Answered told) reads responds = absurd responds
 told_or_wanting shut now (received.Refused why) old new (response.Refused named) reads responds = absurd (cc)
 
 -- what is sent is a response to what was received
-pub sent_responds : (shut : ℕ) (now : ℕ × ℕ) (came : Received) (old new : Desk) (reply sent : Response) → Responds shut now came old new reply → IsSent reply sent
+pub sent_responds : (shut : ℕ) (now : ℕ × ℕ) (came : Received) (old new : Desk) (reply sent : Response)
+    → Responds shut now came old new reply → IsSent reply sent
     → Responds shut now came old new sent
-sent_responds shut now came old new reply sent responds (inl same) = subst (λ (r : Response). Responds shut now came old new r) (sym same) responds
+sent_responds shut now came old new reply sent responds (inl same)
+    = subst (λ (r : Response). Responds shut now came old new r) (sym same) responds
 sent_responds shut now came old new reply sent responds (inr (reads, wanting)) =
-    subst (λ (r : Response). Responds shut now came old new r) (sym wanting) (told_or_wanting shut now came old new reply reads responds)
+    subst (λ (r : Response). Responds shut now came old new r) (sym wanting)
+    (told_or_wanting shut now came old new reply reads responds)

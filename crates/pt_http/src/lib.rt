@@ -9,7 +9,6 @@ mod exchanging;
 mod faults_tests;
 #[cfg(test)]
 mod memory_tests;
-mod parts;
 mod reading;
 mod received;
 #[cfg(test)]

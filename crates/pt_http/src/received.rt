@@ -4,18 +4,17 @@ ghost use Rattle.pt_http.specs.Input.{HasInput};
 ghost use Rattle.httparse.specs.Grammar.{RequestHead};
 ghost use Rattle.pt_base.specs.Fault.{fault};
 ghost use Rattle.pt_base.specs.Codes.{memory_refused};
-ghost use Rattle.pt_http.specs.Parts.{IsWholeHead};
+ghost use Rattle.pt_http.specs.Parts.{AreParts};
 ghost use Rattle.pt_http.specs.Received.{IsSpelledBy, BeginsWith, is_end};
 ghost use Rattle.pt_http_inbox.specs.Inbox.{reads_of};
 ghost use Rattle.pt_http_request.specs.Targets.{desk_routes};
 
-use crate::parts::{body_length_after, message_in};
 use matchit::Router;
 use pt_base::Fault;
 use pt_base::fault::MEMORY;
-use pt_http_inbox::Inbox;
+use pt_http_inbox::{Head, Inbox};
 use pt_http_reply::RequestFault;
-use pt_http_request::{Message, MessageFault, Path};
+use pt_http_request::{Message, MessageFault, Path, body_length, message_from};
 use std::alloc::Global;
 use std::io::Read;
 
@@ -28,18 +27,22 @@ pub(crate) enum Received {
     Refused(RequestFault),
 }
 
-/// What a head and its body spell. The error is want of memory.
+/// What a head, whose bytes are given, and its body spell. The error is want of memory.
 fn received_from(
     alloc: Global,
     router: &Router<Path>,
-    head: &[u8],
+    head: &Head,
+    bytes: &[u8],
     body: &[u8],
 ) -> Result<Received, Fault>
-    requires { router.now ≡ desk_routes }
-    ensures spelled { (whole : RequestHead) → IsWholeHead head.now whole → IfOk result (IsSpelledBy whole body.now) }
+    requires routes { router.now ≡ desk_routes }
+    requires parts { (whole : RequestHead) × AreParts bytes.now head.now whole }
+    ensures spelled { (whole : RequestHead) → AreParts bytes.now head.now whole
+        → IfOk result (IsSpelledBy whole body.now) }
     ensures memory { IfErr result (λ error. error ≡ fault memory_refused) }
 {
-    match message_in(alloc, router, head, body) {
+    let (method, target) = (head.method.of(bytes), head.target.of(bytes));
+    match message_from(alloc, router, method, target, &head.lines, bytes, body) {
         Ok(message) => Ok(Received::Message(message)),
         Err(MessageFault::Refused(fault)) => Ok(Received::Refused(fault)),
         Err(MessageFault::Memory) => Err(Fault::of(MEMORY)),
@@ -64,15 +67,16 @@ pub(crate) fn receive<R: Read + Drop>(
     let Some(head) = inbox.read_head()? else {
         return Ok(Received::Refused(RequestFault::Head));
     };
-    let Some(length) = body_length_after(&inbox.held()[..head]) else {
+    let Some(length) = body_length(&head.lines, &inbox.held()[..head.length]) else {
         return Ok(Received::Refused(RequestFault::Length));
     };
-    let end = head + length as usize;
+    let end = head.length + length as usize;
     if !inbox.read_up_to(end)? {
         return Ok(Received::Refused(RequestFault::Length));
     }
     let held = inbox.held();
-    let received = received_from(alloc, router, &held[..head], &held[head..end])?;
+    let (front, body) = (&held[..head.length], &held[head.length..end]);
+    let received = received_from(alloc, router, &head, front, body)?;
     inbox.finish_request(end);
     Ok(received)
 }

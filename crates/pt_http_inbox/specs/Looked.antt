@@ -5,6 +5,6 @@ use Rattle.pt_http_inbox.specs.declared.head.Front.{Front}
 use Rattle.pt_http_inbox.specs.declared.head.Front.TheVariants.{Head, Open, Never}
 
 abbrev pub Says : List ℕ → Front → Type 0
-Says bytes (Head count) = IsHead bytes count
+Says bytes (Head found) = IsHead bytes found
 Says bytes Open = HasNoHead bytes × (length bytes < longest_head)
 Says bytes Never = NeverHasHead bytes

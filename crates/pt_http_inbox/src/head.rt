@@ -1,9 +1,9 @@
-ghost use Rattle.std.specs.Prelude.{◌<◌, length};
-ghost use Rattle.pt_http_inbox.specs.Head.{IsHead, HasNoHead, NeverHasHead};
+ghost use Rattle.std.specs.Prelude.{◌≡◌, take};
 ghost use Rattle.pt_http_inbox.specs.Looked.{Says};
 
+use arrayvec::ArrayVec;
 use httparse::Status;
-use httparse::spans::{EMPTY_HEADER_SPAN, parse_request};
+use httparse::spans::{EMPTY_HEADER_SPAN, HeaderSpan, RequestSpans, Span, parse_request};
 
 /// How many bytes a head has at most, its empty line among them.
 pub const LONGEST_HEAD: usize = 8_192;
@@ -11,11 +11,41 @@ pub const LONGEST_HEAD: usize = 8_192;
 /// How many fields a head has at most.
 pub const MOST_FIELDS: usize = 64;
 
+/// Where the parts of a head are in its bytes.
+#[derive(Debug, Drop)]
+pub struct Head {
+    pub method: Span,
+    pub target: Span,
+    /// The names and values of its header lines.
+    pub lines: ArrayVec<HeaderSpan, MOST_FIELDS>,
+    /// How many bytes it has, its empty line among them.
+    pub length: usize,
+}
+
+impl Head {
+    /// The head of these spans, its lines the first of these.
+    fn of(spans: RequestSpans, headers: [HeaderSpan; MOST_FIELDS]) -> Self
+        ensures method { result.method ≡ spans.method }
+        ensures target { result.target ≡ spans.path }
+        ensures lines { result.lines.items ≡ take spans.headers headers }
+        ensures length { result.length ≡ spans.len }
+    {
+        let mut lines = ArrayVec::from(headers);
+        lines.truncate(spans.headers);
+        Head {
+            method: spans.method,
+            target: spans.path,
+            lines,
+            length: spans.len,
+        }
+    }
+}
+
 /// What stands at the front of some bytes.
-#[derive(Clone, Copy, Debug, PartialEq, Eq)]
+#[derive(Debug, Drop)]
 pub(crate) enum Front {
-    /// A head of so many bytes.
-    Head(usize),
+    /// A head.
+    Head(Head),
     /// No head yet: more bytes may end one.
     Open,
     /// No head, whatever follows.
@@ -27,9 +57,9 @@ pub(crate) fn front_of(bytes: &[u8]) -> Front
     ensures { Says bytes.now result }
 {
     let front = &bytes[..bytes.len().min(LONGEST_HEAD)];
-    let mut spans = [EMPTY_HEADER_SPAN; MOST_FIELDS];
-    match parse_request(front, &mut spans) {
-        Ok(Status::Complete(head)) => Front::Head(head.len),
+    let mut headers = [EMPTY_HEADER_SPAN; MOST_FIELDS];
+    match parse_request(front, &mut headers) {
+        Ok(Status::Complete(spans)) => Front::Head(Head::of(spans, headers)),
         Ok(Status::Partial) if bytes.len() < LONGEST_HEAD => Front::Open,
         Ok(Status::Partial) => Front::Never,
         Err(_) => Front::Never,

@@ -7,7 +7,7 @@ ghost use Rattle.pt_http_inbox.specs.Head.{IsHead, HasNoHead};
 ghost use Rattle.pt_http_inbox.specs.Reads.{most_reads};
 
 use crate::LONGEST_HEAD;
-use crate::head::{Front, front_of};
+use crate::head::{Front, Head, front_of};
 use arrayvec::ArrayVec;
 use pt_base::Fault;
 use pt_base::fault::READ_FAILED;
@@ -103,9 +103,9 @@ impl<R: Read + Drop> Inbox<R> {
         Err(Fault::of(READ_FAILED))
     }
 
-    /// Reads until a head stands at the front, and tells how many bytes it has; `None` where what comes begins
+    /// Reads until a head stands at the front, and tells where its parts are; `None` where what comes begins
     /// with no head. The error is a read that failed or was one too many.
-    pub fn read_head(&mut self) -> Result<Option<usize>, Fault>
+    pub fn read_head(&mut self) -> Result<Option<Head>, Fault>
         ensures reads { ReadsOn R.remaining self.old self.new }
         ensures head { IfOk result (λ found. IfSome found (IsHead (held self.new))) }
         ensures none { result ≡ Ok None → (more : List ℕ) → R.remaining (reader_of self.new) ≡ Some more
@@ -114,7 +114,7 @@ impl<R: Read + Drop> Inbox<R> {
     {
         for _ in 0..=MOST_READS {
             match front_of(self.held()) {
-                Front::Head(count) => return Ok(Some(count)),
+                Front::Head(head) => return Ok(Some(head)),
                 Front::Never => return Ok(None),
                 Front::Open => {
                     if !self.read_more()? {

@@ -8,7 +8,8 @@ pub returns-in_err-write_reply-clause-unheard : goal.returns-in_err-write_reply-
 returns-in_err-write_reply-clause-unheard g c = λ clean input has is.
     let came = c.in_ok-received.ensures.received input has in
     let reply = c.reply_to-response.result.0 in
-    let responds = sent_responds _ _ c.in_ok-received.received _ _ c.respond-response.result reply (c.respond-response.ensures.responds clean) c.reply_to-response.ensures.sent in (
+    let responds = sent_responds _ _ c.in_ok-received.received _ _ c.respond-response.result reply
+    (c.respond-response.ensures.responds clean) c.reply_to-response.ensures.sent in (
       reply,
       (
         came.0,
@@ -23,7 +24,8 @@ pub returns-clause-answered : goal.returns-clause-answered
 returns-clause-answered g c = λ clean input has.
     let came = c.in_ok-received.ensures.received input has in
     let reply = c.reply_to-response.result.0 in
-    let responds = sent_responds _ _ c.in_ok-received.received _ _ c.respond-response.result reply (c.respond-response.ensures.responds clean) c.reply_to-response.ensures.sent in (
+    let responds = sent_responds _ _ c.in_ok-received.received _ _ c.respond-response.result reply
+    (c.respond-response.ensures.responds clean) c.reply_to-response.ensures.sent in (
       came.0,
       came.1,
       exchanged _ _ input c.in_ok-received.received _ _ reply came.0 came.2 responds,
