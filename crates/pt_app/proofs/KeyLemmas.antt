@@ -16,8 +16,11 @@ key_in_rows None = refl
 key_in_rows (Some n) = refl
 
 -- the key stands among the matches of the subcommand
-pub key_from_matches : (a : App) (words : List Text) (m : ArgMatches) (rows : Option (List Row)) → a ≡ desk_words → HasMatchesOf a words m
-    → rows ≡ option_map (λ named. named.1) (subcommand_rows_of m) → option_and_then (first_of (codes "KEY")) rows ≡ rehearsal_key words
+pub key_from_matches : (a : App) (words : List Text) (m : ArgMatches) (rows : Option (List Row)) → a ≡ desk_words
+    → HasMatchesOf a words m
+    → rows ≡ option_map (λ named. named.1) (subcommand_rows_of m)
+    → option_and_then (first_of (codes "KEY")) rows ≡ rehearsal_key words
 key_from_matches a words m rows is matches from =
     let same : subcommand_rows_of m ≡ subcommand_of desk_words words = (rw is at matches desk_is_simple).1 in
-    ap (option_and_then (first_of (codes "KEY"))) (from ∙ ap (option_map (λ named. named.1)) same) ∙ sym (key_in_rows (subcommand_of desk_words words))
+    ap (option_and_then (first_of (codes "KEY"))) (from ∙ ap (option_map (λ named. named.1)) same)
+    ∙ sym (key_in_rows (subcommand_of desk_words words))

@@ -35,4 +35,5 @@ pub rehearsal_has_key : (words : List Text) (key : Text) → AsksRehearsal words
 rehearsal_has_key words key asks = rw asks.1 (key_of_plain asks.0 key (strips_none key asks.2) (no_dashes key asks.2))
 
 pub rehearsal_is_taken : (words : List Text) (key : Text) → AsksRehearsal words key → takes desk_words words ≡ true
-rehearsal_is_taken words key asks = rw asks.1 (plain_is_taken asks.0 key (strips_none key asks.2) (no_dashes key asks.2))
+rehearsal_is_taken words key asks = rw asks.1 (plain_is_taken asks.0 key (strips_none key asks.2)
+    (no_dashes key asks.2))

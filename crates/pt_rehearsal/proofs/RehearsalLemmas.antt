@@ -1,5 +1,6 @@
 -- Rehearsals, message by message.
-use Rattle.std.proofs.Common.{◌≡◌, ◌≢◌, ◌⊎◌, arith, ℕ, false, List, [], ◌∷◌, ◌++◌, refl, sym, ap, ◌∙◌, subst, append_assoc, append-nil, inl, inr}
+use Rattle.std.proofs.Common.{◌≡◌, ◌≢◌, ◌⊎◌, arith, ℕ, false, List, [], ◌∷◌, ◌++◌, refl, sym, ap, ◌∙◌, subst}
+use Rattle.std.proofs.Common.{append_assoc, append-nil, inl, inr}
 use Rattle.std.specs.Prelude.{Option}
 use Rattle.std.specs.Io.KnownBytes.{Appends}
 use Rattle.std.proofs.KnownBytes.{Appends-nil, Appends-trans}
@@ -15,16 +16,19 @@ use Rattle.pt_http.specs.Input.{HasInput}
 use Rattle.pt_rehearsal.specs.Rehearsal.{Exchanged, IsStep, Rehearses, HasBadLine}
 
 -- Where a rehearsal of this input stands: what comes after it completes it.
-pub record StandsAt {R : Type 0} (remaining : R → Option (List ℕ)) (input : List ℕ) (old : Desk) (before : Option (List ℕ)) (inbox : Inbox R) (now : Desk) (after : Option (List ℕ)) : Type 0 where
+pub record StandsAt {R : Type 0} (remaining : R → Option (List ℕ)) (input : List ℕ) (old : Desk)
+    (before : Option (List ℕ)) (inbox : Inbox R) (now : Desk) (after : Option (List ℕ)) : Type 0 where
   pub messages : List Exchanged
   pub written : List ℕ
   pub left : List ℕ
   pub has : HasInput remaining inbox left
-  pub goes : (later : List Exchanged) (more rest : List ℕ) (new : Desk) → Rehearses later left now more rest new → Rehearses (messages ++ later) input old (written ++ more) rest new
+  pub goes : (later : List Exchanged) (more rest : List ℕ) (new : Desk) → Rehearses later left now more rest new
+      → Rehearses (messages ++ later) input old (written ++ more) rest new
   pub appended : Appends before after written
 
 -- it begins
-pub begun : {R : Type 0} (remaining : R → Option (List ℕ)) (input : List ℕ) (old : Desk) (before : Option (List ℕ)) (inbox : Inbox R) → HasInput remaining inbox input → StandsAt remaining input old before inbox old before
+pub begun : {R : Type 0} (remaining : R → Option (List ℕ)) (input : List ℕ) (old : Desk) (before : Option (List ℕ))
+    (inbox : Inbox R) → HasInput remaining inbox input → StandsAt remaining input old before inbox old before
 begun remaining input old before inbox has = record {
   messages = [];
   written = [];
@@ -35,7 +39,8 @@ begun remaining input old before inbox has = record {
 }
 
 -- it may stop here
-pub stops : {R : Type 0} (remaining : R → Option (List ℕ)) (input : List ℕ) (old now : Desk) (before after : Option (List ℕ)) (inbox : Inbox R) → (stands : StandsAt remaining input old before inbox now after)
+pub stops : {R : Type 0} (remaining : R → Option (List ℕ)) (input : List ℕ) (old now : Desk)
+    (before after : Option (List ℕ)) (inbox : Inbox R) → (stands : StandsAt remaining input old before inbox now after)
     → Rehearses stands.messages input old stands.written stands.left now
 stops remaining input old now before after inbox stands =
     rw (append-nil stands.messages, append-nil stands.written) at (stands.goes [] [] stands.left now (refl, refl, refl))
@@ -44,7 +49,9 @@ stops remaining input old now before after inbox stands =
 abbrev pub one_more : ℕ → ℕ → Response → List ℕ → Exchanged
 one_more day minute reply text = record { day = day; minute = minute; reply = reply; text = text }
 
-pub step_of : (shut day minute : ℕ) (left between rest text : List ℕ) (now new : Desk) (reply : Response) → shut ≡ 0 → BeginsWithMoment left day minute between → Exchanges shut (day, minute) between now new reply rest → IsReplyText reply text
+pub step_of : (shut day minute : ℕ) (left between rest text : List ℕ) (now new : Desk) (reply : Response) → shut ≡ 0
+    → BeginsWithMoment left day minute between → Exchanges shut (day, minute) between now new reply rest
+    → IsReplyText reply text
     → IsStep (one_more day minute reply text) left now rest new
 step_of shut day minute left between rest text now new reply whole moment exchanged replied = record {
   after = between;
@@ -54,14 +61,28 @@ step_of shut day minute left between rest text now new reply whole moment exchan
 }
 
 -- it may stop after one message more
-pub ends : {R : Type 0} (remaining : R → Option (List ℕ)) (input rest : List ℕ) (old now new : Desk) (before after : Option (List ℕ)) (inbox : Inbox R) (one : Exchanged) → (stands : StandsAt remaining input old before inbox now after)
-    → IsStep one stands.left now rest new → Rehearses (stands.messages ++ one ∷ []) input old (stands.written ++ one.text) rest new
+pub ends : {R : Type 0} (remaining : R → Option (List ℕ)) (input rest : List ℕ) (old now new : Desk)
+    (before after : Option (List ℕ)) (inbox : Inbox R) (one : Exchanged)
+    → (stands : StandsAt remaining input old before inbox now after)
+    → IsStep one stands.left now rest new → Rehearses (stands.messages ++ one ∷ []) input old
+    (stands.written ++ one.text) rest new
 ends remaining input rest old now new before after inbox one stands step =
-    stands.goes (one ∷ []) one.text rest new (rest, new, [], step, (λ last. refl), (refl, refl, refl), sym (append-nil one.text))
+    stands.goes (one ∷ []) one.text rest new (
+      rest,
+      new,
+      [],
+      step,
+      (λ last. refl),
+      (refl, refl, refl),
+      sym
+          (append-nil one.text),
+    )
 
 -- the rehearsal goes on after a message that does not end it
-pub went_on : {R : Type 0} (remaining : R → Option (List ℕ)) (input rest : List ℕ) (old now new : Desk) (before after later : Option (List ℕ)) (inbox next : Inbox R) (one : Exchanged)
-    → (stands : StandsAt remaining input old before inbox now after) → IsStep one stands.left now rest new → is_last one.reply ≡ false → HasInput remaining next rest → Appends after later one.text
+pub went_on : {R : Type 0} (remaining : R → Option (List ℕ)) (input rest : List ℕ) (old now new : Desk)
+    (before after later : Option (List ℕ)) (inbox next : Inbox R) (one : Exchanged)
+    → (stands : StandsAt remaining input old before inbox now after) → IsStep one stands.left now rest new
+    → is_last one.reply ≡ false → HasInput remaining next rest → Appends after later one.text
     → StandsAt remaining input old before next new later
 went_on remaining input rest old now new before after later inbox next one stands step goes_on has appended = record {
   messages = stands.messages ++ one ∷ [];
@@ -70,7 +91,8 @@ went_on remaining input rest old now new before after later inbox next one stand
   has = has;
   goes = λ further more end final goes.
       let on : Rehearses (stands.messages ++ (one ∷ further)) input old (stands.written ++ (one.text ++ more)) end final
-      = stands.goes (one ∷ further) (one.text ++ more) end final (rest, new, more, step, (λ last. absurd (cc (last, goes_on))), goes, refl) in
+      = stands.goes (one ∷ further) (one.text ++ more) end final
+      (rest, new, more, step, (λ last. absurd (cc (last, goes_on))), goes, refl) in
       rw (sym (append_assoc stands.messages (one ∷ []) further), sym (append_assoc stands.written one.text more)) at on;
   appended = Appends-trans before after later stands.written one.text stands.appended appended;
 }
@@ -93,25 +115,46 @@ write_no_line error is line = let same : 47 ≡ 48 = code_of error 47 48 is line
 abbrev pub Stopped : List ℕ → Desk → Desk → Option (List ℕ) → Option (List ℕ) → Fault → Type 0
 Stopped input old new before after error =
     (messages : List Exchanged) × (written : List ℕ) × (rest : List ℕ) × Rehearses messages input old written rest new
-    × (error ≢ fault write_failed → Appends before after written) × (error ≡ fault moment_line_refused → HasBadLine rest)
+    × (error ≢ fault write_failed → Appends before after written) ×
+    (error ≡ fault moment_line_refused → HasBadLine rest)
 
 -- it ended where it stood
-pub stopped_here : {R : Type 0} (remaining : R → Option (List ℕ)) (input : List ℕ) (old now : Desk) (before after : Option (List ℕ)) (inbox : Inbox R) (error : Fault) → (stands : StandsAt remaining input old before inbox now after)
+pub stopped_here : {R : Type 0} (remaining : R → Option (List ℕ)) (input : List ℕ) (old now : Desk)
+    (before after : Option (List ℕ)) (inbox : Inbox R) (error : Fault)
+    → (stands : StandsAt remaining input old before inbox now after)
     → (error ≡ fault moment_line_refused → HasBadLine stands.left) → Stopped input old now before after error
-stopped_here remaining input old now before after inbox error stands line =
-    (stands.messages, stands.written, stands.left, stops remaining input old now before after inbox stands, (λ other. stands.appended), line)
+stopped_here remaining input old now before after inbox error stands line = (
+  stands.messages,
+  stands.written,
+  stands.left,
+  stops remaining input old now before after inbox stands,
+  (λ other. stands.appended),
+  line,
+)
 
 -- a message was asked for, and not answered
-pub stopped_unanswered : {R : Type 0} (remaining : R → Option (List ℕ)) (input : List ℕ) (old now new : Desk) (before after later : Option (List ℕ)) (inbox : Inbox R) (error : Fault) → StandsAt remaining input old before inbox now after
+pub stopped_unanswered : {R : Type 0} (remaining : R → Option (List ℕ)) (input : List ℕ) (old now new : Desk)
+    (before after later : Option (List ℕ)) (inbox : Inbox R) (error : Fault)
+    → StandsAt remaining input old before inbox now after
     → IsUnanswered error → new ≡ now → later ≡ after → Stopped input old new before later error
 stopped_unanswered remaining input old now new before after later inbox error stands unanswered same kept =
-    rw (same, kept) (stopped_here remaining input old now before after inbox error stands (λ line. absurd (unanswered_no_line error unanswered line)))
+    rw (same, kept) (stopped_here remaining input old now before after inbox error stands
+    (λ line. absurd (unanswered_no_line error unanswered line)))
 
 -- a message was answered, and its reply was not written
-pub stopped_unheard : {R : Type 0} (remaining : R → Option (List ℕ)) (input rest : List ℕ) (old now new : Desk) (before after later : Option (List ℕ)) (inbox : Inbox R) (one : Exchanged) (error : Fault)
-    → (stands : StandsAt remaining input old before inbox now after) → error ≡ fault write_failed → IsStep one stands.left now rest new → Stopped input old new before later error
-stopped_unheard remaining input rest old now new before after later inbox one error stands is step =
-    (stands.messages ++ one ∷ [], stands.written ++ one.text, rest, ends remaining input rest old now new before after inbox one stands step, (λ other. absurd (other is)), (λ line. absurd (write_no_line error is line)))
+pub stopped_unheard : {R : Type 0} (remaining : R → Option (List ℕ)) (input rest : List ℕ) (old now new : Desk)
+    (before after later : Option (List ℕ)) (inbox : Inbox R) (one : Exchanged) (error : Fault)
+    → (stands : StandsAt remaining input old before inbox now after) → error ≡ fault write_failed
+    → IsStep one stands.left now rest new → Stopped input old new before later error
+stopped_unheard remaining input rest old now new before after later inbox one error stands is step = (
+  stands.messages ++ one ∷ [],
+  stands.written ++ one.text,
+  rest,
+  ends remaining input rest old now new before after
+      inbox one stands step,
+  (λ other. absurd (other is)),
+  (λ line. absurd (write_no_line error is line)),
+)
 
 pub either : {P Q R : Type 0} → P ⊎ Q → (P → R) → (Q → R) → R
 either (inl p) one other = one p

@@ -6,7 +6,8 @@ use Rattle.pt_app.specs.CommandLine.{key_word, rehearse_words}
 use Rattle.pt_app.proofs.command_line.desk_command.Goals as goal
 
 abbrev desk_alone : App
-desk_alone = on_top (λ top. record top { subcommand_required = true; disable_help_subcommand = true }) (new_app (codes "desk"))
+desk_alone = on_top (λ top. record top { subcommand_required = true; disable_help_subcommand = true })
+    (new_app (codes "desk"))
 
 pub returns : goal.returns
 returns c =
@@ -16,4 +17,5 @@ returns c =
     c.in_ok-rehearse.ensures.shape (search rules) ∙ ap₂ with_rule about_is key_is in
     let alone_is : app_of c.disable_help_subcommand.result ≡ desk_alone = search rules in
     IfOk-weaker c.subcommand.result _ _
-    (λ command added. added.shape (search rules) ∙ ap₂ with_subcommand alone_is (ap (λ (a : App). a.top) rehearse_is)) c.subcommand.ensures
+    (λ command added. added.shape (search rules) ∙ ap₂ with_subcommand alone_is (ap (λ (a : App). a.top) rehearse_is))
+    c.subcommand.ensures

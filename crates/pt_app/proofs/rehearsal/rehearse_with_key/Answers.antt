@@ -22,5 +22,12 @@ returns-clause-stopped g c = λ bytes known.
       whole = sym (ap (λ (held : List ℕ). held ++ bytes) c.in_ok-inbox.ensures.empty);
     } in
     IfErr-weaker c.rehearse.result _ _
-    (λ error found. λ served. (found.0, found.1, found.2, (_, _, c.in_ok-keeper.ensures.least, refl, found.3), found.4, found.5))
+    (λ error found. λ served. (
+      found.0,
+      found.1,
+      found.2,
+      (_, _, c.in_ok-keeper.ensures.least, refl, found.3),
+      found.4,
+      found.5,
+    ))
     (c.rehearse.ensures.stopped refl refl bytes input)

@@ -4,7 +4,9 @@ use Rattle.std.proofs.lemmas.Result.{err_from_is_err_and}
 use Rattle.pt_http.specs.Exchange.{desk_of}
 use Rattle.pt_rehearsal.proofs.NextLemmas.{next_some, next_none, nothing_left}
 use Rattle.pt_http.proofs.ReceivedLemmas.{reads_input, none_left}
-use Rattle.pt_rehearsal.proofs.RehearsalLemmas.{begun, stops, ends, step_of, one_more, went_on, stopped_here, stopped_unanswered, stopped_unheard, either, read_no_line, read_code_no_line}
+use Rattle.pt_rehearsal.proofs.RehearsalLemmas.{begun, stops, ends, step_of, one_more, went_on, stopped_here}
+use Rattle.pt_rehearsal.proofs.RehearsalLemmas.{stopped_unanswered, stopped_unheard, either, read_no_line}
+use Rattle.pt_rehearsal.proofs.RehearsalLemmas.{read_code_no_line}
 use Rattle.pt_rehearsal.proofs.rehearsal.go_through.Goals as goal
 
 pub loop-init : goal.loop-init
@@ -19,12 +21,14 @@ pub returns-in_err-now-clause-stopped : goal.returns-in_err-now-clause-stopped
 returns-in_err-now-clause-stopped g c = λ clean whole input has.
     let st = c.loop.invariant.stands clean whole input has in
     let p = err_from_is_err_and c.from_residual.result c.from_residual.ensures.1 in
-    rw (p.1, p.2) (stopped_here _ input _ _ _ _ _ c.in_err-now.field-0.0 st (λ line. c.next_moment.ensures.line st.left st.has (c.in_err-now.was ∙ ap Err line)))
+    rw (p.1, p.2) (stopped_here _ input _ _ _ _ _ c.in_err-now.field-0.0 st
+    (λ line. c.next_moment.ensures.line st.left st.has (c.in_err-now.was ∙ ap Err line)))
 
 pub returns-in_default-clause-finished : goal.returns-in_default-clause-finished
 returns-in_default-clause-finished g c = λ clean whole input has.
     let st = c.loop.invariant.stands clean whole input has in
-    let empty = next_none g.R.Read.remaining c.next_moment.new.inbox st.left c.in_ok-now.field-0 c.in_default.is (c.in_ok-now.ensures.next st.left st.has) in
+    let empty = next_none g.R.Read.remaining c.next_moment.new.inbox st.left c.in_ok-now.field-0 c.in_default.is
+    (c.in_ok-now.ensures.next st.left st.has) in
     (st.messages, st.written, st.left, stops _ input _ _ _ _ _ st, st.appended, inl empty)
 
 pub returns-in_err-response-clause-stopped : goal.returns-in_err-response-clause-stopped
@@ -34,7 +38,8 @@ returns-in_err-response-clause-stopped g c = λ clean whole input has.
     let was : (store c.loop.keeper).doubt ≡ 0 = omega (arith, clean, c.exchange.ensures.clean) in
     let served : (store c.loop.keeper).shut ≡ 0 = omega (arith, whole, c.exchange.ensures.serves) in
     let st = c.loop.invariant.stands was served input has in
-    let next = next_some g.R.Read.remaining c.next_moment.new.inbox st.left c.in_ok-now.field-0 c.in-Some.now c.in-Some.is (c.in_ok-now.ensures.next st.left st.has) in
+    let next = next_some g.R.Read.remaining c.next_moment.new.inbox st.left c.in_ok-now.field-0 c.in-Some.now
+    c.in-Some.is (c.in_ok-now.ensures.next st.left st.has) in
     let error = c.in_err-response.field-0.0 in
     let p = err_from_is_err_and c.from_residual-in_err-response.result c.from_residual-in_err-response.ensures.1 in
     rw (p.1, p.2) (either c.in_err-response.ensures.fault
@@ -46,7 +51,8 @@ returns-in_err-response-clause-stopped g c = λ clean whole input has.
     let unheard = c.exchange.ensures.unheard clean next.0 next.1 (c.in_err-response.was ∙ ap Err write) in
     let text = unheard.2 in
     let one = one_more c.in-Some.now.0 c.in-Some.now.1 unheard.0 text.0 in
-    let step = step_of _ c.in-Some.now.0 c.in-Some.now.1 st.left next.0 unheard.1.0 text.0 _ _ unheard.0 whole next.2 unheard.1.2 text.1 in
+    let step = step_of _ c.in-Some.now.0 c.in-Some.now.1 st.left next.0 unheard.1.0 text.0 _ _ unheard.0 whole next.2
+    unheard.1.2 text.1 in
     stopped_unheard _ input unheard.1.0 _ _ _ _ _ _ _ one error st write step))
 
 pub returns-then-is_last-clause-finished : goal.returns-then-is_last-clause-finished
@@ -55,12 +61,14 @@ returns-then-is_last-clause-finished g c = λ clean whole input has.
     let was : (store c.loop.keeper).doubt ≡ 0 = omega (arith, clean, c.exchange.ensures.clean) in
     let served : (store c.loop.keeper).shut ≡ 0 = omega (arith, whole, c.exchange.ensures.serves) in
     let st = c.loop.invariant.stands was served input has in
-    let next = next_some g.R.Read.remaining c.next_moment.new.inbox st.left c.in_ok-now.field-0 c.in-Some.now c.in-Some.is (c.in_ok-now.ensures.next st.left st.has) in
+    let next = next_some g.R.Read.remaining c.next_moment.new.inbox st.left c.in_ok-now.field-0 c.in-Some.now
+    c.in-Some.is (c.in_ok-now.ensures.next st.left st.has) in
     let answered = c.in_ok-response.ensures.answered clean next.0 next.1 in
     let written = c.in_ok-response.ensures.written in
     let reply = c.in_ok-response.response in
     let one = one_more c.in-Some.now.0 c.in-Some.now.1 reply written.0 in
-    let step = step_of _ c.in-Some.now.0 c.in-Some.now.1 st.left next.0 answered.0 written.0 _ _ reply whole next.2 answered.2 written.1 in (
+    let step = step_of _ c.in-Some.now.0 c.in-Some.now.1 st.left next.0 answered.0 written.0 _ _ reply whole next.2
+    answered.2 written.1 in (
       st.messages ++ one ∷ [],
       st.written ++ written.0,
       answered.0,
@@ -80,30 +88,36 @@ loop-preserved g c =
           let was : (store c.loop.keeper).doubt ≡ 0 = omega (arith, clean, c.exchange.ensures.clean) in
           let served : (store c.loop.keeper).shut ≡ 0 = omega (arith, whole, c.exchange.ensures.serves) in
           let st = c.loop.invariant.stands was served input has in
-          let next = next_some g.R.Read.remaining c.next_moment.new.inbox st.left c.in_ok-now.field-0 c.in-Some.now c.in-Some.is (c.in_ok-now.ensures.next st.left st.has) in
+          let next = next_some g.R.Read.remaining c.next_moment.new.inbox st.left c.in_ok-now.field-0 c.in-Some.now
+          c.in-Some.is (c.in_ok-now.ensures.next st.left st.has) in
           let answered = c.in_ok-response.ensures.answered clean next.0 next.1 in
           let written = c.in_ok-response.ensures.written in
           let reply = c.in_ok-response.response in
           let one = one_more c.in-Some.now.0 c.in-Some.now.1 reply written.0 in
-          let step = step_of _ c.in-Some.now.0 c.in-Some.now.1 st.left next.0 answered.0 written.0 _ _ reply whole next.2 answered.2 written.1 in
-          went_on _ input answered.0 _ _ _ _ _ _ _ _ one st step (sym c.is_last.ensures ∙ c.if-is_last.false) answered.1 written.2;
+          let step = step_of _ c.in-Some.now.0 c.in-Some.now.1 st.left next.0 answered.0 written.0 _ _ reply whole
+          next.2 answered.2 written.1 in
+          went_on _ input answered.0 _ _ _ _ _ _ _ _ one st step (sym c.is_last.ensures ∙ c.if-is_last.false)
+          answered.1 written.2;
     }
 
 pub returns-in_err-read_up_to-clause-stopped : goal.returns-in_err-read_up_to-clause-stopped
 returns-in_err-read_up_to-clause-stopped g c = λ clean whole input has.
     let st = c.loop.invariant.stands clean whole input has in
     let p = err_from_is_err_and c.from_residual-in_err-read_up_to.result c.from_residual-in_err-read_up_to.ensures.1 in
-    rw (p.1, p.2) (stopped_here _ input _ _ _ _ _ c.in_err-read_up_to.field-0.0 st (λ line. absurd (read_no_line _ c.in_err-read_up_to.ensures.fault line)))
+    rw (p.1, p.2) (stopped_here _ input _ _ _ _ _ c.in_err-read_up_to.field-0.0 st
+    (λ line. absurd (read_no_line _ c.in_err-read_up_to.ensures.fault line)))
 
 pub returns-then-branch-clause-stopped : goal.returns-then-branch-clause-stopped
 returns-then-branch-clause-stopped g c = λ clean whole input has.
     let st = c.loop.invariant.stands clean whole input has in
-    stopped_here _ input _ _ _ _ _ c.of.result st (λ line. absurd (read_code_no_line c.of.result c.of.ensures.code line))
+    stopped_here _ input _ _ _ _ _ c.of.result st (λ line. absurd
+    (read_code_no_line c.of.result c.of.ensures.code line))
 
 pub returns-clause-finished : goal.returns-clause-finished
 returns-clause-finished g c = λ clean whole input has.
     let st = c.loop.invariant.stands clean whole input has in
-    let now = reads_input g.R.Read.remaining c.loop.inbox c.read_up_to.new.self st.left c.read_up_to.ensures.reads st.has in
+    let now = reads_input g.R.Read.remaining c.loop.inbox c.read_up_to.new.self st.left c.read_up_to.ensures.reads
+    st.has in
     let ended : c.read_up_to.result ≡ Ok false = c.in_ok-read_up_to.was ∙ ap Ok c.if-branch.false in
     let none = none_left _ now.left (c.read_up_to.ensures.end ended) now.known in
     let empty = nothing_left st.left _ now.left now.whole (c.read_up_to.ensures.short ended) none in
