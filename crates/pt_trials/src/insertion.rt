@@ -1,8 +1,6 @@
 //! The best place of random trips in random routes, by `best` and by a plain search of all places.
-ghost use Rattle.std.specs.Prelude.{◌<◌};
-ghost use Rattle.pt_feasible.specs.Plain.{plain_minutes, plain-stays, plain-within_a_day, plain-triangle};
-
-use pt_base::{Day, Minute, PlaceId, TripId, Vehicle, VehicleId, Weekdays};
+use crate::service_times::{Dice, Plain, minute};
+use pt_base::{Day, PlaceId, TripId, Vehicle, VehicleId, Weekdays};
 use pt_feasible::{Load, Route, Schedule, Stop, StopKind, Stops, loads_fit, settle};
 use pt_insertion::{Asked, Chosen, Duty, are_rising, are_without, best};
 use pt_travel::Times;
@@ -48,53 +46,6 @@ const SHAPES: [Shape; 3] = [
         often: 30,
     },
 ];
-
-/// Places told by their numbers, whose last six digits are three east and three north.
-struct Plain;
-
-impl Times for Plain {
-    ghost minutes = { λ _ a b. plain_minutes a b };
-
-    ghost stays = { λ _ a. plain-stays a };
-
-    ghost within_a_day = { λ _ a b. plain-within_a_day a b };
-
-    ghost triangle = { λ _ a b c m n. plain-triangle a b c m n };
-
-    fn minutes(&self, from: PlaceId, to: PlaceId) -> Option<u16> {
-        let (a, b) = (from.number(), to.number());
-        if a / 1_000_000 != b / 1_000_000 {
-            return None;
-        }
-        let east = (a / 1_000 % 1_000).abs_diff(b / 1_000 % 1_000);
-        let north = (a % 1_000).abs_diff(b % 1_000);
-        Some(east.max(north) as u16)
-    }
-}
-
-#[derive(Drop)]
-struct Dice {
-    state: u64,
-}
-
-impl Dice {
-    /// A number below `sides`.
-    fn throw(&mut self, sides: u32) -> u32
-        requires { 0 < sides }
-        ensures { result < sides }
-    {
-        self.state = self
-            .state
-            .wrapping_mul(6_364_136_223_846_793_005)
-            .wrapping_add(1_442_695_040_888_963_407);
-        let high = (self.state >> 33) as u32;
-        high % sides
-    }
-}
-
-fn minute(number: u32) -> Result<Minute, Fail> {
-    Ok(Minute::of(number.min(1439)).ok_or("minute")?)
-}
 
 /// A place of a plain, and one time in 400 of another plain.
 fn place(dice: &mut Dice, shape: Shape) -> Result<PlaceId, Fail> {

@@ -13,7 +13,7 @@ const SEED: u64 = 20_250_314;
 const CASES: u32 = 500;
 
 /// Places told by their numbers, whose last six digits are three east and three north.
-struct Plain;
+pub(crate) struct Plain;
 
 impl Times for Plain {
     ghost minutes = { λ _ a b. plain_minutes a b };
@@ -36,13 +36,13 @@ impl Times for Plain {
 }
 
 #[derive(Drop)]
-struct Dice {
-    state: u64,
+pub(crate) struct Dice {
+    pub state: u64,
 }
 
 impl Dice {
     /// A number below `sides`.
-    fn throw(&mut self, sides: u32) -> u32
+    pub(crate) fn throw(&mut self, sides: u32) -> u32
         requires { 0 < sides }
         ensures { result < sides }
     {
@@ -55,7 +55,7 @@ impl Dice {
     }
 }
 
-fn minute(number: u32) -> Result<Minute, Fail> {
+pub(crate) fn minute(number: u32) -> Result<Minute, Fail> {
     Ok(Minute::of(number.min(1439)).ok_or("minute")?)
 }
 
