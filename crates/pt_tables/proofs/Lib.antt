@@ -1,0 +1,9 @@
+pub mod PartLemmas
+pub mod StateLemmas
+pub mod CreateLemmas
+pub mod WriteLemmas
+pub mod InsertLemmas
+pub mod CastLemmas
+pub mod FirstRowLemmas
+pub mod NewLemmas
+pub mod LeastLemmas

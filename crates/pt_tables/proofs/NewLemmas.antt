@@ -1,0 +1,81 @@
+-- The tables of a new desk, and what a crash leaves of their making.
+use Rattle.std.proofs.Common.{◌≡◌, ℕ, List, [], ◌∷◌, map, flat_map, IsPermutation, IsTrue, true, false, refl, sym, ap, subst, ◌∙◌, arith}
+use Rattle.sqlite.specs.Store.{Ghosts}
+use Rattle.sqlite.specs.Held.{Held, state}
+use Rattle.sqlite.specs.Order.{Row}
+use Rattle.sqlite.specs.Effect.{Database}
+use Rattle.sqlite.specs.State.{State as Connected, KeepsCommit, HasCleanDisk, Survives, Shows}
+use Rattle.sqlite.specs.Table.{Table}
+use Rattle.sqlite.specs.Tree.{Trees}
+use Rattle.sqlite.proofs.Callers.{survives_begin}
+use Rattle.sqlite.proofs.StateLemmas.{survives_then}
+use Rattle.sqlite_keyed.proofs.ListLemmas.{IsPermutation-same}
+use Rattle.pt_base.specs.declared.policy.Policy.{Policy}
+use Rattle.pt_desk_rules.specs.State.{State}
+use Rattle.pt_tables.specs.Least.{first_admin, IsNew, HasNewRows}
+use Rattle.pt_tables.specs.Rows.{desk_row, caller_row, kept_row, place_row, route_row, vehicle_row, rider_row, entry_row, trip_row, stop_rows, travel_rows}
+use Rattle.pt_tables.specs.Schema.{desk_schema, no_schema, desk_table, callers_table, kept_table, places_table, fixed_table, vehicles_table, riders_table, entries_table, trips_table, stops_table, travel_table}
+use Rattle.pt_tables.specs.Tables.{columns_of, AreRows, HasRows, IsBlank, IsKept, Fills, Stands}
+
+-- a table with no row stands for no record
+none_there : (table : Table) (trees : Trees) (rows : List Row) → trees table.tree ≡ [] → rows ≡ [] → AreRows table trees rows
+none_there table trees rows empty none = IsPermutation-same _ rows (ap (map (columns_of table)) empty ∙ sym none)
+
+module _ (policy : Policy) (digest : List ℕ) (blank desked done : Database) (first : IsBlank blank) (desk : Fills desk_table (desk_row policy 0) blank desked)
+    (admin : Fills callers_table (caller_row (first_admin digest)) desked done) where
+  rows_of_new : (content : State) → IsNew policy digest content → HasRows content done.trees
+  rows_of_new content is = record {
+    desk = subst (λ rows. IsPermutation (map (columns_of desk_table) rows) (desk_row content.policy content.last_trip ∷ [])) (sym (admin.others.0 (λ e. cc)))
+        (subst (λ row. AreRows desk_table desked.trees (row ∷ [])) (sym is.desk) (desk.rows first.rows.0));
+    callers = subst (λ cs. AreRows callers_table done.trees (map caller_row cs)) (sym is.callers) (admin.rows (desk.others.1.0 (λ e. cc) ∙ first.rows.1.0));
+    kept = none_there kept_table done.trees (map kept_row content.kept) (admin.others.1.1.0 (λ e. cc) ∙ desk.others.1.1.0 (λ e. cc) ∙ first.rows.1.1.0) (ap (map kept_row) is.kept);
+    places = none_there places_table done.trees (map place_row content.places) (admin.others.1.1.1.0 (λ e. cc) ∙ desk.others.1.1.1.0 (λ e. cc) ∙ first.rows.1.1.1.0) (ap (map place_row) is.places);
+    fixed = none_there fixed_table done.trees (map route_row content.routes) (admin.others.1.1.1.1.0 (λ e. cc) ∙ desk.others.1.1.1.1.0 (λ e. cc) ∙ first.rows.1.1.1.1.0) (ap (map route_row) is.routes);
+    vehicles = none_there vehicles_table done.trees (map vehicle_row content.vehicles) (admin.others.1.1.1.1.1.0 (λ e. cc) ∙ desk.others.1.1.1.1.1.0 (λ e. cc) ∙ first.rows.1.1.1.1.1.0) (ap (map vehicle_row) is.vehicles);
+    riders = none_there riders_table done.trees (map rider_row content.riders) (admin.others.1.1.1.1.1.1.0 (λ e. cc) ∙ desk.others.1.1.1.1.1.1.0 (λ e. cc) ∙ first.rows.1.1.1.1.1.1.0) (ap (map rider_row) is.riders);
+    entries = none_there entries_table done.trees (map entry_row content.entries) (admin.others.1.1.1.1.1.1.1.0 (λ e. cc) ∙ desk.others.1.1.1.1.1.1.1.0 (λ e. cc) ∙ first.rows.1.1.1.1.1.1.1.0) (ap (map entry_row) is.entries);
+    trips = none_there trips_table done.trees (map trip_row content.trips) (admin.others.1.1.1.1.1.1.1.1.0 (λ e. cc) ∙ desk.others.1.1.1.1.1.1.1.1.0 (λ e. cc) ∙ first.rows.1.1.1.1.1.1.1.1.0) (ap (map trip_row) is.trips);
+    stops = none_there stops_table done.trees (flat_map stop_rows content.planned) (admin.others.1.1.1.1.1.1.1.1.1.0 (λ e. cc) ∙ desk.others.1.1.1.1.1.1.1.1.1.0 (λ e. cc) ∙ first.rows.1.1.1.1.1.1.1.1.1.0) (ap (flat_map stop_rows) is.planned);
+    travel = none_there travel_table done.trees (flat_map travel_rows content.travel) (admin.others.1.1.1.1.1.1.1.1.1.1.0 (λ e. cc) ∙ desk.others.1.1.1.1.1.1.1.1.1.1.0 (λ e. cc) ∙ first.rows.1.1.1.1.1.1.1.1.1.1.0) (ap (flat_map travel_rows) is.travel);
+  }
+
+  pub stands_new : (content : State) → IsNew policy digest content → Stands content done
+  stands_new content is = record { schema = admin.schema; rows = rows_of_new content is }
+
+module _ {S : Type 0} (g : Ghosts S) (old begun one two three : Held S) (policy : Policy) (digest : List ℕ) (is : begun ≡ record old { in_transaction = true }) (blank : old.schema ≡ no_schema)
+    (made_survives : Survives (state g begun) (state g one) (λ _. ⊥)) (desk_survives : Survives (state g one) (state g two) (λ _. ⊥)) (admin_survives : Survives (state g two) (state g three) (λ _. ⊥))
+    (made : HasCleanDisk (state g one) → IsTrue begun.in_transaction
+    → KeepsCommit (state g begun) (state g one) × IsTrue one.in_transaction × ((state g begun).now.schema ≡ no_schema → IsBlank (state g one).now))
+    (desk : HasCleanDisk (state g two) → IsTrue one.in_transaction
+    → KeepsCommit (state g one) (state g two) × IsTrue two.in_transaction × ((state g one).now.schema ≡ desk_schema → Fills desk_table (desk_row policy 0) (state g one).now (state g two).now))
+    (admin : HasCleanDisk (state g three) → IsTrue two.in_transaction
+    → KeepsCommit (state g two) (state g three) × IsTrue three.in_transaction
+    × ((state g two).now.schema ≡ desk_schema → Fills callers_table (caller_row (first_admin digest)) (state g two).now (state g three).now)) where
+  pub stand : HasCleanDisk (state g three) → (content : State) → IsNew policy digest content → Stands content (state g three).now
+  stand clean content new =
+      let clean_two : HasCleanDisk (state g two) = omega (arith, admin_survives.clean) in
+      let clean_one : HasCleanDisk (state g one) = omega (arith, desk_survives.clean) in
+      let inside : IsTrue begun.in_transaction = subst (λ (h : Held S). IsTrue h.in_transaction) (sym is) refl in
+      let first = made clean_one inside in
+      let second = desk clean_two first.1 in
+      let third = admin clean second.1 in
+      let none : (state g begun).now.schema ≡ no_schema = ap (λ (h : Held S). h.schema) is ∙ blank in
+      let empty = first.2 none in
+      let desked = second.2 empty.schema in
+      stands_new policy digest (state g one).now (state g two).now (state g three).now empty desked (third.2 desked.schema) content new
+
+  -- once it is committed
+  pub kept : (end : Connected) → HasCleanDisk (state g three) → Shows (state g three) end (state g three).now (state g three).now false → (content : State) → IsNew policy digest content → IsKept content end
+  kept end clean shows content new = record {
+    stands = λ here. subst (Stands content) (sym shows.now_is) (stand clean content new);
+    committed = λ here. shows.committed_is ∙ sym shows.now_is;
+  }
+
+  -- a crash leaves what stood before, or these rows
+  pub survive : (end : Connected) → Survives (state g three) end (λ db. db ≡ (state g three).now.trees) → Survives (state g old) end (HasNewRows policy digest)
+  survive end last =
+      let inside = survives_then (state g begun) (state g one) (state g two) (λ _. ⊥) (λ _. ⊥) (λ _. ⊥) (λ _ db nothing. nothing) (λ _ db nothing. nothing) made_survives desk_survives in
+      let all = survives_then (state g begun) (state g two) (state g three) (λ _. ⊥) (λ _. ⊥) (λ _. ⊥) (λ _ db nothing. nothing) (λ _ db nothing. nothing) inside admin_survives in
+      let from = survives_begin g old (state g three) (λ _. ⊥) (subst (λ h. Survives (state g h) (state g three) (λ _. ⊥)) is all) in
+      survives_then (state g old) (state g three) end (λ _. ⊥) (λ db. db ≡ (state g three).now.trees) (HasNewRows policy digest) (λ _ db nothing. absurd nothing)
+      (λ clean db same content new. subst (HasRows content) (sym same) (stand (omega (arith, last.clean)) content new).rows) from last

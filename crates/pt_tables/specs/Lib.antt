@@ -1,0 +1,6 @@
+pub mod Schema
+pub mod Rows
+pub mod Tables
+pub mod Least
+pub mod Mirror
+pub mod Faults
