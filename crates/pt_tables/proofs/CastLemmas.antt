@@ -1,9 +1,9 @@
 -- The values of a STRICT column are stored as they are.
-use Rattle.std.proofs.Common.{◌≡◌, ℕ, ℤ, List, Bool, true, false, cond, refl}
+use Rattle.std.proofs.Common.{◌≡◌, ℤ, Bool, true, false, cond, refl}
 use Rattle.sqlite.specs.declared.types.Value.{Value}
-use Rattle.sqlite.specs.declared.types.Value.TheVariants.{Null, Int, Text}
+use Rattle.sqlite.specs.declared.types.Value.TheVariants.{Null, Int}
 use Rattle.sqlite.specs.Cast.{cast}
-use Rattle.sqlite.specs.Kind.TheVariants.{Integer, Text as TextKind}
+use Rattle.sqlite.specs.Kind.TheVariants.{Integer}
 use Rattle.sqlite.specs.Ops.{unary}
 
 either : (b : Bool) (x : Value) → cond b x x ≡ x
@@ -17,7 +17,3 @@ cast_null = either _ Null
 pub cast_int : (n : ℤ) → cast Integer (Int n) ≡ Int n
 unfolding unary
 cast_int n = either _ (Int n)
-
-pub cast_text : (t : List ℕ) → cast TextKind (Text t) ≡ Text t
-unfolding unary
-cast_text t = refl

@@ -4,10 +4,7 @@ use Rattle.std.specs.Prelude.{slice_get}
 use Rattle.sqlite.specs.Order.{Row}
 use Rattle.sqlite.specs.Source.{Source}
 use Rattle.sqlite.specs.Command.{Command}
-use Rattle.sqlite.specs.Command.TheVariants.{Insert, InsertOr, Delete}
-use Rattle.sqlite_schema.specs.declared.command.Conflict.{Conflict}
-use Rattle.sqlite_schema.specs.declared.command.Upsert.{Upsert}
-use Rattle.sqlite_schema.specs.declared.program.Program.{Program}
+use Rattle.sqlite.specs.Command.TheVariants.{Insert}
 use Rattle.sqlite.specs.Table.{Table}
 use Rattle.sqlite.specs.Listing.{understood}
 use Rattle.sqlite.specs.Does.{Tally, Does, AtPlace, OnRows, WritesRows, Concludes}
@@ -64,16 +61,3 @@ module _ (text : List ℕ) (params : Row) (table : Table) (at : ℕ) (there : sl
       let w : Writes old new None (Insert at from) (statement_of text (understood desk_schema text)) params count = runs_as text params old new desk_schema has (Insert at from) is plain count h in
       placed old new params table at (Insert at from) w.tally there
       (subst (λ s. Does old.step_limit (mode_of old) params (record old.now { schema = s }) (statement_of text (understood desk_schema text)) None (Insert at from) (Ok (w.tally, new.now))) has w.changed)
-
-  pub inserted_or : (way : Conflict) (clauses : List Upsert) (from : Source) → command_of (understood desk_schema text) ≡ InsertOr at way from clauses → Wrote old new params table (InsertOr at way from clauses)
-  inserted_or way clauses from is =
-      let command = InsertOr at way from clauses in
-      let w : Writes old new None (InsertOr at way from clauses) (statement_of text (understood desk_schema text)) params count = runs_as text params old new desk_schema has (InsertOr at way from clauses) is plain count h in
-      placed old new params table at (InsertOr at way from clauses) w.tally there
-      (subst (λ s. Does old.step_limit (mode_of old) params (record old.now { schema = s }) (statement_of text (understood desk_schema text)) None (InsertOr at way from clauses) (Ok (w.tally, new.now))) has w.changed)
-
-  pub deleted : (q : Program) → command_of (understood desk_schema text) ≡ Delete at q → Wrote old new params table (Delete at q)
-  deleted q is =
-      let w : Writes old new None (Delete at q) (statement_of text (understood desk_schema text)) params count = runs_as text params old new desk_schema has (Delete at q) is plain count h in
-      placed old new params table at (Delete at q) w.tally there
-      (subst (λ s. Does old.step_limit (mode_of old) params (record old.now { schema = s }) (statement_of text (understood desk_schema text)) None (Delete at q) (Ok (w.tally, new.now))) has w.changed)
