@@ -116,10 +116,12 @@ pub head_more : (bytes more longer : List ℕ) (count : ℕ) (whole : RequestHea
     → HeadIs bytes count whole → HeadIs longer count whole
 head_more bytes more longer count whole is head =
     let rest : drop count longer ≡ drop count bytes ++ more = ap (drop count) is
-        ∙ drop-append-le count bytes more head.1 in
-    let grown : length longer ≡ length bytes + length more = ap length is ∙ length-append bytes more in
-    (subst (BeginsWithHead longer whole) (sym rest) (begins_more bytes more longer count whole is head), omega
-        (arith, grown, head.1))
+    ∙ drop-append-le count bytes more head.1 in
+    let grown : length longer ≡ length bytes + length more = ap length is ∙ length-append bytes more in (
+      subst (BeginsWithHead longer whole) (sym rest) (begins_more bytes more longer count whole is head),
+      omega
+          (arith, grown, head.1),
+    )
 
 -- the fields of the head give no length
 pub no_length : (bytes left input : List ℕ) (count : ℕ) (whole : RequestHead) → input ≡ bytes ++ left
@@ -137,7 +139,7 @@ pub short_body : (bytes left input : List ℕ) (count size : ℕ) (whole : Reque
 short_body bytes left input count size whole is ended few head taken =
     let none : length left ≡ 0 = ap length ended in
     let after : length (drop count bytes ++ left) ≡ length (drop count bytes) + length left
-        = length-append (drop count bytes) left in
+    = length-append (drop count bytes) left in
     record {
       head = whole;
       after = drop count bytes ++ left;
@@ -155,11 +157,11 @@ whole_parts bytes left input body count size whole is fits head taken is_body =
     let rest = drop (count + size) bytes in
     let split : drop count bytes ≡ body ++ rest
     = sym (take-append-drop size (drop count bytes)) ∙ ap (λ b. b ++ drop size (drop count bytes)) (sym is_body)
-        ∙ ap (λ r. body ++ r) (drop-drop size count bytes) in
+    ∙ ap (λ r. body ++ r) (drop-drop size count bytes) in
     let after : drop count bytes ++ left ≡ body ++ (rest ++ left) = ap (λ b. b ++ left) split
-        ∙ append_assoc body rest left in
+    ∙ append_assoc body rest left in
     let long : length body ≡ size = ap length is_body ∙ omega
-        (arith, fits, length-drop count bytes, length-take size (drop count bytes)) in
+    (arith, fits, length-drop count bytes, length-take size (drop count bytes)) in
     record {
       begins = subst (BeginsWithHead input whole) after (begins_more bytes left input count whole is head);
       body_length = subst (IsBodyLength (lines_of whole)) (sym long) taken;
@@ -174,7 +176,7 @@ body_between bytes count size =
 
 refused_parts : (bytes body rest : List ℕ) (head : RequestHead) (why : RequestFault)
     → BeginsWithParts bytes head body rest → IsMessageFault desk_routes head.method head.target (lines_of head) body
-        why → BeginsWithFault bytes why rest
+    why → BeginsWithFault bytes why rest
 refused_parts bytes body rest head fault.Head parts refused = absurd
     (false≢true (fault_of_parts desk_routes head.method head.target (lines_of head) body fault.Head refused))
 refused_parts bytes body rest head fault.Length parts refused

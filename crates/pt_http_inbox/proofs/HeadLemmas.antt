@@ -28,7 +28,7 @@ front_within : (front more text rest : List ℕ) → front ++ more ≡ text ++ r
     → front ≡ text ++ drop (length text) front
 front_within front more text rest same fits =
     let cut : take (length text) front ≡ text = sym (take-append-le (length text) front more fits)
-        ∙ ap (take (length text)) same ∙ take-append_seam text rest in
+    ∙ ap (take (length text)) same ∙ take-append_seam text rest in
     sym (take-append-drop (length text) front) ∙ ap (λ t. t ++ drop (length text) front) cut
 
 -- a span within the first n bytes covers the same bytes there
@@ -90,12 +90,15 @@ found_is_head bytes front more headers r found is split short room within (h, at
     }) in
     let same : take found.length front ≡ take found.length bytes
     = sym (take-append-le found.length front more (omega (arith, fits, is.length)))
-        ∙ ap (take found.length) (sym split) in
+    ∙ ap (take found.length) (sym split) in
     record {
       head = h;
       begins = record {
-        reads = (at.reads.0, whole ∙ ap (λ t. print_request h ++ t)
-            (sym after ∙ ap (λ n. drop n bytes) (sym is.length)));
+        reads = (
+          at.reads.0,
+          whole ∙ ap (λ t. print_request h ++ t)
+              (sym after ∙ ap (λ n. drop n bytes) (sym is.length)),
+        );
         short = omega (arith, at.len, fits, short);
         few = omega (arith, counted, room, length-take r.headers headers);
       };

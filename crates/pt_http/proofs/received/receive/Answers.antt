@@ -12,7 +12,7 @@ use Rattle.pt_http.proofs.received.receive.Goals as goal
 pub returns-in_default-clause-received : goal.returns-in_default-clause-received
 returns-in_default-clause-received g c = λ input has.
     let now = reads_input g.R.Read.remaining c.args.inbox.now c.read_head.new.self input c.read_head.ensures.reads has
-        in
+    in
     let none = c.read_head.ensures.none (c.in_ok-head.was ∙ ap Ok c.in_default.is) now.left now.known in
     (input, now, subst HasNoHead (sym now.whole) none)
 
@@ -21,7 +21,7 @@ returns-in_default-body_length-clause-received g c = λ input has.
     let bytes = held c.read_head.new.self in
     let found = c.in-Some.head in
     let now = reads_input g.R.Read.remaining c.args.inbox.now c.read_head.new.self input c.read_head.ensures.reads has
-        in
+    in
     let is = head_found _ bytes found c.in-Some.is c.in_ok-head.ensures.head in
     let there : AreParts (take found.length c.held.result.now) found is.head
     = subst (λ b. AreParts (take found.length b) found is.head) (sym c.held.ensures.value) (parts_in bytes found is) in
@@ -37,9 +37,9 @@ returns-then-not-branch-clause-received g c = λ input has.
     let found = c.in-Some.head in
     let size = c.in-Some-body_length.length in
     let first = reads_input g.R.Read.remaining c.args.inbox.now c.read_head.new.self input c.read_head.ensures.reads
-        has in
+    has in
     let now = reads_input g.R.Read.remaining c.read_head.new.self c.read_up_to.new.self input
-        c.read_up_to.ensures.reads first in
+    c.read_up_to.ensures.reads first in
     let is = head_found _ bytes found c.in-Some.is c.in_ok-head.ensures.head in
     let there : AreParts (take found.length c.held.result.now) found is.head
     = subst (λ b. AreParts (take found.length b) found is.head) (sym c.held.ensures.value) (parts_in bytes found is) in
@@ -49,9 +49,12 @@ returns-then-not-branch-clause-received g c = λ input has.
     let ended : c.read_up_to.result ≡ Ok false = c.in_ok-read_up_to.was ∙ ap Ok c.if-not-branch.true in
     let none = none_left _ _ (c.read_up_to.ensures.end ended) now.known in
     let later = head_more bytes c.read_up_to.ensures.reads.more longer found.length is.head
-        c.read_up_to.ensures.reads.appended (head_is bytes found is) in
-    (input, now, short_body longer now.left input found.length size is.head now.whole none
-        (c.read_up_to.ensures.short ended) later taken)
+    c.read_up_to.ensures.reads.appended (head_is bytes found is) in (
+      input,
+      now,
+      short_body longer now.left input found.length size is.head now.whole none
+          (c.read_up_to.ensures.short ended) later taken,
+    )
 
 pub returns-clause-received : goal.returns-clause-received
 returns-clause-received g c = λ input has.
@@ -62,9 +65,9 @@ returns-clause-received g c = λ input has.
     let size = c.in-Some-body_length.length in
     let more = c.read_up_to.ensures.reads.more in
     let first = reads_input g.R.Read.remaining c.args.inbox.now c.read_head.new.self input c.read_head.ensures.reads
-        has in
+    has in
     let now = reads_input g.R.Read.remaining c.read_head.new.self c.read_up_to.new.self input
-        c.read_up_to.ensures.reads first in
+    c.read_up_to.ensures.reads first in
     let is = head_found _ bytes found c.in-Some.is c.in_ok-head.ensures.head in
     let there : AreParts (take found.length c.held.result.now) found is.head
     = subst (λ b. AreParts (take found.length b) found is.head) (sym c.held.ensures.value) (parts_in bytes found is) in
@@ -73,16 +76,16 @@ returns-clause-received g c = λ input has.
     = subst (λ lines. IsBodyLength lines size) same c.in-Some-body_length.ensures.length in
     let came : c.read_up_to.result ≡ Ok true = c.in_ok-read_up_to.was ∙ ap Ok c.if-not-branch.false in
     let later = head_more bytes more longer count is.head c.read_up_to.ensures.reads.appended (head_is bytes found is)
-        in
+    in
     let again : AreParts (take count c.held-held.result.now) found is.head
     = subst (λ b. AreParts (take count b) found is.head) (sym c.held-held.ensures.value)
-      (parts_later bytes more longer found is c.read_up_to.ensures.reads.appended) in
+    (parts_later bytes more longer found is c.read_up_to.ensures.reads.appended) in
     let body = slice_range c.held-held.result.now count (count + size) in
     let is_body : body ≡ take size (drop count longer)
     = body_between c.held-held.result.now count size ∙ ap (λ b. take size (drop count b)) c.held-held.ensures.value in
     let rest = drop (count + size) longer ++ now.left in
     let parts = whole_parts longer now.left input body count size is.head now.whole (c.read_up_to.ensures.enough came)
-        later taken is_body in (
+    later taken is_body in (
       rest,
       record {
         left = now.left;
@@ -101,5 +104,5 @@ received_from-requires-clause-parts g c =
     let longer = held c.read_up_to.new.self in
     let again : AreParts (take found.length c.held-held.result.now) found is.head
     = subst (λ b. AreParts (take found.length b) found is.head) (sym c.held-held.ensures.value)
-      (parts_later bytes c.read_up_to.ensures.reads.more longer found is c.read_up_to.ensures.reads.appended) in
+    (parts_later bytes c.read_up_to.ensures.reads.more longer found is c.read_up_to.ensures.reads.appended) in
     (is.head, again)
