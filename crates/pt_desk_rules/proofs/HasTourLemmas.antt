@@ -29,7 +29,7 @@ use Rattle.pt_desk_rules.proofs.FitLemmas.{is_no, some_at, Some_of}
 use Rattle.pt_desk_rules.proofs.StandingLemmas.{is_same, record_at-filter, same_day, same_place, same_vehicle, trip_on}
 
 -- the first that passes two tests is the first that passes one, of those that pass the other
-find_both : {A : Type 0} (p q : A → Bool) (xs : List A) → find (λ x. p x && q x) xs ≡ find p (filter q xs)
+pub find_both : {A : Type 0} (p q : A → Bool) (xs : List A) → find (λ x. p x && q x) xs ≡ find p (filter q xs)
 find_both p q [] = refl
 find_both p q (x ∷ xs) = step p x (find (λ y. p y && q y) xs) (filter q xs) (p x) (q x) refl (find_both p q xs)
   where

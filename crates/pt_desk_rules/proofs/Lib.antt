@@ -13,3 +13,4 @@ pub mod PrivacyLemmas
 pub mod OutcomeLemmas
 pub mod NumberLemmas
 pub mod AgainLemmas
+mod ShownLemmas

@@ -112,3 +112,15 @@ pub record IsDaySheet (day : ℕ) (vehicles : List Vehicle) (facts : DayFacts) (
 abbrev pub HasTours : State → Type 0
 HasTours s = (id day : ℕ) (sheet : VehicleSheet) → IsDay day → 0 < length (planned_stops id day s.planned)
     → IsManifestOf id day (day_of day s) (duty_of id day s.vehicles) sheet → IsTrue (is_some sheet.tour)
+
+-- the trip of this number stands, in this vehicle on this day
+abbrev pub StandsOn : State → ℕ → ℕ → ℕ → Type 0
+StandsOn s id day number =
+    (trip : Trip) × (record_at trip_key number s.trips ≡ Some trip) × IsTrue (stands trip.status)
+    × (trip.vehicle ≡ id) × (trip.wish.day ≡ day)
+
+-- a manifest shows no stop but those of trips that stand in its vehicle on its day
+abbrev pub ShowStandingTrips : State → Type 0
+ShowStandingTrips s = (id day : ℕ) (sheet : VehicleSheet) (tour : Tour) (k : ℕ) (shown : TourStop) → IsDay day
+    → IsManifestOf id day (day_of day s) (duty_of id day s.vehicles) sheet → sheet.tour ≡ Some tour
+    → slice_get tour.stops.items k ≡ Some shown → StandsOn s id day shown.trip

@@ -4,7 +4,7 @@ ghost use Rattle.pt_desk_rules.specs.Numbers.{DenialsAreTheSameAgain, RepeatsAre
 ghost use Rattle.pt_desk_rules.specs.Privacy.{TripsArePrivate};
 ghost use Rattle.pt_desk_rules.specs.Sound.{IsSound};
 ghost use Rattle.pt_desk_rules.specs.State.{State};
-ghost use Rattle.pt_desk_rules.specs.Tours.{HasTours};
+ghost use Rattle.pt_desk_rules.specs.Tours.{HasTours, ShowStandingTrips};
 
 /// A law: in a sound state the vehicles of every day have routes, so a wish that is denied fails the rule that is told,
 /// first of all rules.
@@ -15,6 +15,11 @@ pub fn sound_states_have_routes()
 /// A law: in a sound state every vehicle that has stops on a day has its tour on the manifest.
 pub fn sound_states_have_tours()
     ensures { (s : State) → IsSound s → HasTours s }
+{}
+
+/// A law: in a sound state a manifest shows no stop but those of trips that stand in its vehicle on its day.
+pub fn manifests_show_standing_trips()
+    ensures { (s : State) → IsSound s → ShowStandingTrips s }
 {}
 
 /// A law: what is told of a rider's trips depends on the caller, the rider's record and the rider's trips alone.

@@ -9,8 +9,8 @@ pub use fleet::on_duty;
 pub use kept::{Arrival, Kept, Sent};
 pub use laws::{
     accepted_numbers_rise, accepted_writes_are_kept, denials_are_the_same_again,
-    last_accepted_is_kept, repeats_are_told_the_same, sound_states_have_routes,
-    sound_states_have_tours, trips_are_private, writes_may_be_sent_again,
+    last_accepted_is_kept, manifests_show_standing_trips, repeats_are_told_the_same,
+    sound_states_have_routes, sound_states_have_tours, trips_are_private, writes_may_be_sent_again,
 };
 pub use limits::{
     LAST_TRIP_NUMBER, MOST_CALLERS, MOST_PLACES, MOST_RIDERS, MOST_ROUTES, MOST_TABLES,
