@@ -47,6 +47,20 @@ impl<T: Keyed> Edits<T> {
         Ok(self.away.push(span)?)
     }
 
+    /// The keys of the records that are taken away.
+    pub fn spans(&self) -> &[Span]
+        ensures value { result.now ≡ self.now.away }
+    {
+        self.away.as_slice()
+    }
+
+    /// The records that are put, in their order.
+    pub fn puts(&self) -> &[T]
+        ensures value { result.now ≡ self.now.puts }
+    {
+        self.puts.as_slice()
+    }
+
     /// How many records are put.
     pub fn put_count(&self) -> usize
         ensures value { result ≡ length self.now.puts }
