@@ -1,7 +1,7 @@
 //! What the clocks of an agency show at an instant.
 #![tactic(auto)]
 
-pub use local_time::now_in;
+pub use local_time::{moment_of, now_in};
 
 mod local_time;
 #[cfg(test)]

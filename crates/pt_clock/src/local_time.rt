@@ -1,4 +1,4 @@
-ghost use Rattle.std.specs.Prelude.{◌≡◌, ℕ, ◌+◌, ◌*◌, ◌↔◌, ℤ, pos, Ok, Err, IsNone, IfSome, IfOk};
+ghost use Rattle.std.specs.Prelude.{◌≡◌, ◌⊎◌, ℕ, ◌+◌, ◌*◌, ◌↔◌, ℤ, pos, Ok, Err, IsNone, IfSome, IfOk, IfErr};
 ghost use Rattle.jiff.specs.Words.{epoch_day};
 ghost use Rattle.pt_base.specs.Codes.{date_out_of_range};
 ghost use Rattle.pt_base.specs.Day.{IsDay, IsOutside};
@@ -40,6 +40,7 @@ pub fn now_in(zone: &str, instant: Timestamp) -> Result<(Day, Minute), Fault>
     ensures no_such_zone { (result ≡ Err (fault no_such_zone)) ↔ ¬ (IsZoneRule zone.now) }
     ensures out_of_range { (result ≡ Err (fault date_out_of_range))
         ↔ ((day : ℤ) × (minute : ℕ) × IsLocalTime zone.now instant.nanosecond day minute × IsOutside day) }
+    ensures fault { IfErr result (λ error. (error ≡ fault no_such_zone) ⊎ (error ≡ fault date_out_of_range)) }
 {
     let Ok(zone) = TimeZone::posix(zone) else {
         return Err(Fault::of(NO_SUCH_ZONE));
@@ -49,4 +50,28 @@ pub fn now_in(zone: &str, instant: Timestamp) -> Result<(Day, Minute), Fault>
         return Err(Fault::of(DATE_OUT_OF_RANGE));
     };
     Ok((day, minute_of(clock)))
+}
+
+/// The day and the minute on the clocks of a zone, where a clock that could not be read gives no instant.
+///
+/// The zone is looked at first: a text that is no rule of a zone is the fault `NO_SUCH_ZONE`, whatever the clock says. With
+/// a rule, a clock that could not be read is `DATE_OUT_OF_RANGE`, as one that is out of range.
+pub fn moment_of(zone: &str, clock: Option<Timestamp>) -> Result<(Day, Minute), Fault>
+    ensures local { IfSome clock (λ instant. IfOk result (λ now.
+        IsLocalTime zone.now instant.nanosecond (pos now.0) now.1)) }
+    ensures only { IfSome clock (λ instant. (day minute : ℕ) → IsDay day
+        → IsLocalTime zone.now instant.nanosecond (pos day) minute → result ≡ Ok (day, minute)) }
+    ensures no_such_zone { (result ≡ Err (fault no_such_zone)) ↔ ¬ (IsZoneRule zone.now) }
+    ensures out_of_range { IfSome clock (λ instant. (result ≡ Err (fault date_out_of_range))
+        ↔ ((day : ℤ) × (minute : ℕ) × IsLocalTime zone.now instant.nanosecond day minute × IsOutside day)) }
+    ensures unread { IsNone clock → IsZoneRule zone.now → result ≡ Err (fault date_out_of_range) }
+    ensures fault { IfErr result (λ error. (error ≡ fault no_such_zone) ⊎ (error ≡ fault date_out_of_range)) }
+{
+    match clock {
+        Some(instant) => now_in(zone, instant),
+        None => match TimeZone::posix(zone) {
+            Ok(_) => Err(Fault::of(DATE_OUT_OF_RANGE)),
+            Err(_) => Err(Fault::of(NO_SUCH_ZONE)),
+        },
+    }
 }

@@ -1,4 +1,4 @@
-use crate::now_in;
+use crate::{moment_of, now_in};
 use jiff::Timestamp;
 use pt_base::fault::{DATE_OUT_OF_RANGE, NO_SUCH_ZONE};
 use pt_base::{Day, Fault, Minute};
@@ -54,6 +54,21 @@ fn zones_and_instants_that_are_refused(rt: HostRuntime) -> Result<(), Fail> {
     ] {
         let now = now_in(zone, instant.parse::<Timestamp>()?);
         assert!(rt; now == Err(Fault::of(code)), "{instant} in {zone}");
+    }
+    Ok(())
+}
+
+#[test]
+fn clocks_that_are_read_and_one_that_cannot_be(rt: HostRuntime) -> Result<(), Fail> {
+    let noon = "2025-03-09T16:00:00Z".parse::<Timestamp>()?;
+    let twelve = (Day::parse("2025-03-09")?, Minute::of(720).ok_or("minute")?);
+    for (zone, clock, moment) in [
+        (EASTERN, Some(noon), Ok(twelve)),
+        (EASTERN, None, Err(Fault::of(DATE_OUT_OF_RANGE))),
+        ("x", Some(noon), Err(Fault::of(NO_SUCH_ZONE))),
+        ("x", None, Err(Fault::of(NO_SUCH_ZONE))),
+    ] {
+        assert!(rt; moment_of(zone, clock) == moment, "{zone}");
     }
     Ok(())
 }
