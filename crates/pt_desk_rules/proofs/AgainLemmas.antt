@@ -120,7 +120,7 @@ rising_one (x ∷ xs) (y ∷ ys) rises also same =
     let tails = rising_one xs ys (tail_rises x xs rises) (tail_rises y ys also) members in
     ap (λ n. n ∷ xs) first ∙ ap (λ l. y ∷ l) tails
 
-uses_one : (left_out : Option ℕ) (trips : List Trip) (a b : List ℕ) → AreUses left_out trips a
+pub uses_one : (left_out : Option ℕ) (trips : List Trip) (a b : List ℕ) → AreUses left_out trips a
     → AreUses left_out trips b → a ≡ b
 uses_one left_out trips a b one two =
     rising_one a b one.rising two.rising (λ d. one.members d ∙ sym (two.members d))

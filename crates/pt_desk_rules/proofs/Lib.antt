@@ -14,3 +14,5 @@ pub mod OutcomeLemmas
 pub mod NumberLemmas
 pub mod AgainLemmas
 mod ShownLemmas
+mod KeyLemmas
+pub mod SameLemmas

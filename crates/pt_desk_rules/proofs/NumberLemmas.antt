@@ -1,7 +1,7 @@
 -- The numbers of accepted writes, what is kept of them, and what a write is told that is sent again.
 use Rattle.std.proofs.Common.{◌≡◌, ◌≢◌, inl, inr, ◌∙◌, ℕ, zero, suc, ◌+◌, ◌<◌, nat_lt, Bool, true, false, IsTrue}
 use Rattle.std.proofs.Common.{List, [], ◌∷◌, map, Option, Some, None, arith, cond, refl, sym, ap, subst}
-use Rattle.std.specs.Prelude.{◌==◌, ◌&&◌, bytes_eq, slice_index}
+use Rattle.std.specs.Prelude.{◌==◌, ◌&&◌, bytes_eq, is_some, slice_index}
 use Rattle.std.specs.Option.{unwrap_or}
 use Rattle.std.specs.List.{cons_option, last_or}
 use Rattle.std.specs.List.Sorted.{IsStrictlyIncreasing}
@@ -11,7 +11,7 @@ use Rattle.std.proofs.lemmas.Slice.Eq.{bytes_eq-Decides}
 use Rattle.pt_base.specs.declared.rule.Rule.{Rule}
 use Rattle.pt_base.specs.declared.trip.Trip.{Trip}
 use Rattle.pt_base.specs.declared.trip.Wish.{Wish}
-use Rattle.pt_records.specs.Records.{edited, put, record_at}
+use Rattle.pt_records.specs.Records.{edited, put, record_at, Edit}
 use Rattle.pt_records.proofs.OrderLemmas.{record_at-put_same, record_at-put_other}
 use Rattle.pt_records.proofs.TableLemmas.{below_is}
 use Rattle.pt_rights.specs.Rules.{first_failing}
@@ -27,12 +27,13 @@ use Rattle.pt_desk_rules.specs.Booking.{IsBooking}
 use Rattle.pt_desk_rules.specs.Deciding.{booked, changed, kept_by, kept_in, IsCancelDecided, IsChangeDecided}
 use Rattle.pt_desk_rules.specs.Deciding.{IsEndDecided, IsDecidedBy, IsDecisionAfter}
 use Rattle.pt_desk_rules.specs.Facts.{facts_of}
-use Rattle.pt_desk_rules.specs.Numbers.{accepted_writes, kept_from, kept_where, last_number, number_of}
-use Rattle.pt_desk_rules.specs.Numbers.{AreCalls, Call, IsKept}
+use Rattle.pt_desk_rules.specs.Numbers.{accepted_writes, committed, kept_from, kept_where, last_number, number_of}
+use Rattle.pt_desk_rules.specs.Numbers.{AreCalls, AreMadeBy, Call, IsKept, IsWrite}
 use Rattle.pt_desk_rules.specs.Numbers.{AcceptedNumbersRise, AcceptedWritesAreKept, LastAcceptedIsKept}
+use Rattle.pt_desk_rules.specs.Numbers.{AcceptedWritesMakeTheState}
 use Rattle.pt_desk_rules.specs.Numbers.{RepeatsAreToldTheSame, WritesMayBeSentAgain}
 use Rattle.pt_desk_rules.specs.Rules.{rules_of}
-use Rattle.pt_desk_rules.specs.State.{State, applied, kept_key, kept_of, puts_one}
+use Rattle.pt_desk_rules.specs.State.{State, applied, caller_key, kept_key, kept_of, no_edit, puts_one}
 use Rattle.pt_desk_rules.specs.Step.{arrival_in, left_of, sender, sent_with, state_after, told_of}
 use Rattle.pt_desk_rules.specs.Step.{IsOutcome, IsOutcomeAs, IsOutcomeBy}
 use Rattle.pt_desk_rules.proofs.OutcomeLemmas.{decision_is, is_of_write, IsOfWrite}
@@ -52,54 +53,64 @@ use Rattle.pt_requests.specs.declared.request.Request.TheVariants as request
 use Rattle.pt_requests.specs.declared.request.Write.{Write}
 use Rattle.pt_requests.specs.declared.request.Write.TheVariants as write
 
--- an acceptance changes what is kept of its caller to this
-abbrev Keeps : Kept → Decision → Type 0
-Keeps kept (decision.Denied first) = Unit {0}
-Keeps kept (decision.Accepted told change) = change.kept ≡ puts_one kept
+-- what an accepted write makes of the callers
+abbrev pub callers_by : Write → Edit Caller
+callers_by (write.PutCaller new) = puts_one new
+callers_by _ = no_edit
+
+-- the change makes this of the callers, and keeps this of its own caller
+abbrev IsChangeOf : Edit Caller → Kept → Change → Type 0
+IsChangeOf callers kept change = (change.kept ≡ puts_one kept) × (change.callers ≡ callers)
+
+-- so does an acceptance
+abbrev Keeps : Edit Caller → Kept → Decision → Type 0
+Keeps callers kept (decision.Denied first) = Unit {0}
+Keeps callers kept (decision.Accepted told change) = IsChangeOf callers kept change
 
 booking_keeps : (kept : Kept) (change : Trip → Plan → Change)
-    → ((trip : Trip) (plan : Plan) → (change trip plan).kept ≡ puts_one kept)
+    → ((trip : Trip) (plan : Plan) → IsChangeOf no_edit kept (change trip plan))
     → (number : ℕ) (left_out : Option ℕ) (today : ℕ) (wish : Wish) (facts : WriteFacts) (decided : Decision)
-    → IsBooking change number left_out today wish facts decided → Keeps kept decided
+    → IsBooking change number left_out today wish facts decided → Keeps no_edit kept decided
 booking_keeps kept change keeps number left_out today wish facts decided (scheduled.Denied rule, by, is) =
-    subst (Keeps kept) (sym is) tt
+    subst (Keeps no_edit kept) (sym is) tt
 booking_keeps kept change keeps number left_out today wish facts decided
     (scheduled.Booked trip plan, by, (told, confirms, is)) =
-    subst (Keeps kept) (sym is) (keeps trip plan)
+    subst (Keeps no_edit kept) (sym is) (keeps trip plan)
 
 change_keeps : (found : Option Trip) (wish : Wish) (kept : Kept) (today : ℕ) (facts : WriteFacts) (decided : Decision)
-    → IsChangeDecided found wish kept today facts decided → Keeps kept decided
+    → IsChangeDecided found wish kept today facts decided → Keeps no_edit kept decided
 change_keeps None wish kept today facts decided changes = absurd changes
 change_keeps (Some old) wish kept today facts decided changes =
-    booking_keeps kept (changed kept old facts.booking.plan) (λ trip plan. refl) old.id (Some old.id) today wish facts
-    decided changes
+    booking_keeps kept (changed kept old facts.booking.plan) (λ trip plan. (refl, refl)) old.id (Some old.id) today wish
+    facts decided changes
 
 cancel_keeps : (found : Option Trip) (kept : Kept) (facts : WriteFacts) (decided : Decision)
-    → IsCancelDecided found kept facts decided → Keeps kept decided
+    → IsCancelDecided found kept facts decided → Keeps no_edit kept decided
 cancel_keeps None kept facts decided cancels = absurd cancels
-cancel_keeps (Some trip) kept facts decided is = subst (Keeps kept) (sym is) refl
+cancel_keeps (Some trip) kept facts decided is = subst (Keeps no_edit kept) (sym is) (refl, refl)
 
 end_keeps : (found : Option Trip) (outcome : Outcome) (kept : Kept) (decided : Decision)
-    → IsEndDecided found outcome kept decided → Keeps kept decided
+    → IsEndDecided found outcome kept decided → Keeps no_edit kept decided
 end_keeps None outcome kept decided ends = absurd ends
-end_keeps (Some trip) outcome kept decided is = subst (Keeps kept) (sym is) refl
+end_keeps (Some trip) outcome kept decided is = subst (Keeps no_edit kept) (sym is) (refl, refl)
 
 decided_keeps : (asked : Write) (kept : Kept) (today : ℕ) (facts : WriteFacts) (decided : Decision)
-    → IsDecidedBy asked kept today facts decided → Keeps kept decided
+    → IsDecidedBy asked kept today facts decided → Keeps (callers_by asked) kept decided
 decided_keeps (write.Book rider wish) kept today facts decided is =
-    booking_keeps kept (booked kept) (λ trip plan. refl) (facts.booking.last_trip + 1) None today wish facts decided is
+    booking_keeps kept (booked kept) (λ trip plan. (refl, refl)) (facts.booking.last_trip + 1) None today wish facts
+    decided is
 decided_keeps (write.Change trip wish) kept today facts decided is =
     change_keeps facts.booking.trip wish kept today facts decided is
 decided_keeps (write.Cancel trip) kept today facts decided is = cancel_keeps facts.booking.trip kept facts decided is
 decided_keeps (write.Outcome trip outcome) kept today facts decided is =
     end_keeps facts.booking.trip outcome kept decided is
-decided_keeps _ kept today facts decided is = subst (Keeps kept) (sym is) refl
+decided_keeps asked kept today facts decided is = subst (Keeps (callers_by asked) kept) (sym is) (refl, refl)
 
 decision_keeps : (first : Option Rule) (asked : Write) (me : Caller) (now : ℕ × ℕ) (sent : Sent) (facts : WriteFacts)
     (decided : Decision) → IsDecisionAfter first asked me now sent facts decided
-    → Keeps (kept_in me.id sent decided) decided
+    → Keeps (callers_by asked) (kept_in me.id sent decided) decided
 decision_keeps (Some first) asked me now sent facts decided is =
-    subst (λ d. Keeps (kept_in me.id sent d) d) (sym is) tt
+    subst (λ d. Keeps (callers_by asked) (kept_in me.id sent d) d) (sym is) tt
 decision_keeps None asked me now sent facts decided is =
     decided_keeps asked (kept_in me.id sent decided) now.0 facts decided is
 
@@ -143,13 +154,13 @@ kept_after kept change s new is keeps =
 
 decided_is_kept : (asked : Write) (me : Caller) (number : ℕ) (s new : State) (told : Answer) (decided : Decision)
     → last_number me.id s < number → IsOfWrite decided
-    → Keeps (kept_in me.id (sent_with number asked) decided) decided → told ≡ told_of decided
+    → Keeps (callers_by asked) (kept_in me.id (sent_with number asked) decided) decided → told ≡ told_of decided
     → Some new ≡ left_of decided s → IsKept me number asked told s new
 decided_is_kept asked me number s new told (decision.Denied first) above of keeps tells leaves = absurd (cc)
 decided_is_kept asked me number s new told (decision.Accepted says change) above of keeps tells leaves =
     let said = unwrap_or (reply_of says) reply.Done in
     let kept = kept_by me.id (sent_with number asked) said in
-    let is = kept_after kept change s new leaves keeps in
+    let is = kept_after kept change s new leaves keeps.0 in
     record {
       above = above;
       kept = (said, tells ∙ told_again says of, kept_same kept s new is);
@@ -169,6 +180,27 @@ write_is_kept New asked me now number s new told comes (decided, is, made, tells
     (new_is_above number (spelling asked) (kept_of me.id s) comes)
     (decision_is first asked me now sent facts decided is)
     (decision_keeps first asked me now sent facts decided is) tells leaves
+
+-- what an accepted write leaves of the callers
+callers_after : (asked : Write) (kept : Kept) (s new : State) (decided : Decision)
+    → Keeps (callers_by asked) kept decided → Some new ≡ left_of decided s
+    → new.callers ≡ edited caller_key (callers_by asked) s.callers
+callers_after asked kept s new (decision.Denied first) keeps leaves = absurd (cc)
+callers_after asked kept s new (decision.Accepted told change) keeps leaves =
+    ap (λ (t : State). t.callers) (same_Some new (applied change s) leaves)
+    ∙ ap (λ e. edited caller_key e s.callers) keeps.1
+
+pub write_leaves_callers : (arrival : Arrival) (asked : Write) (me : Caller) (now : ℕ × ℕ) (number : ℕ)
+    (s new : State) (told : Answer) → IsOutcomeAs arrival asked me now number s told (Some new)
+    → new.callers ≡ edited caller_key (callers_by asked) s.callers
+write_leaves_callers (Repeated reply) asked me now number s new told (tells, leaves) = absurd (cc)
+write_leaves_callers Stale asked me now number s new told (tells, leaves) = absurd (cc)
+write_leaves_callers New asked me now number s new told (decided, is, made, tells, leaves) =
+    let facts = facts_of asked s in
+    let sent = sent_with number asked in
+    let first = first_failing (rules_of asked me now facts) in
+    callers_after asked (kept_in me.id sent decided) s new decided
+    (decision_keeps first asked me now sent facts decided is) leaves
 
 pub accepted_writes_are_kept : AcceptedWritesAreKept
 accepted_writes_are_kept key now number asked me s new told by outcome =
@@ -301,6 +333,60 @@ accepted_numbers_rise id s after (call ∷ later) (outcome, rest) =
     numbers_move id s (state_after call.left s) (kept_from id (sender call.key s) call)
     (accepted_writes id (state_after call.left s) later) (call_moves id call s outcome)
     (accepted_numbers_rise id (state_after call.left s) after later rest)
+
+-- what commits a state is a write
+commits_by_write : (found : Option Caller) (now : ℕ × ℕ) (number : ℕ) (asked : Request) (s : State) (told : Answer)
+    (left : Option State) (new : State) → left ≡ Some new → IsOutcomeBy found now number asked s told left
+    → IsWrite asked
+commits_by_write None now number asked s told left new is outcome = absurd (let none = sym is ∙ outcome.1 in cc)
+commits_by_write (Some me) now number (request.Read asked) s told left new is outcome =
+    absurd (let none = sym is ∙ outcome.1 in cc)
+commits_by_write (Some me) now number (request.Write asked) s told left new is outcome = tt
+
+-- what committed nothing was kept of nobody
+none_kept : (id : ℕ) (found : Option Caller) (call : Call) → call.left ≡ None → kept_from id found call ≡ None
+none_kept id None call is = refl
+none_kept id (Some me) call is =
+    none_if (me.id == id) (kept_where id call.number call.asked call.told call.left)
+    (ap (λ l. kept_where id call.number call.asked call.told l) is ∙ none_where id call.number call.asked call.told)
+  where
+    none_where : (id number : ℕ) (asked : Request) (told : Answer) → kept_where id number asked told None ≡ None
+    none_where id number (request.Read asked) told = refl
+    none_where id number (request.Write asked) told = refl
+
+    none_if : (own : Bool) (kept : Option Kept) → kept ≡ None → cond own kept None ≡ None
+    none_if true kept is = is
+    none_if false kept is = refl
+
+-- one call more, which committed this
+made_with : (s after : State) (call : Call) (later writes : List Call) (left : Option State) → call.left ≡ left
+    → IsOutcome call.key call.now call.number call.asked s call.told call.left
+    → AreMadeBy (state_after left s) after later writes
+    → AreMadeBy s after (call ∷ later) (cond (is_some left) (call ∷ writes) writes)
+made_with s after call later writes None is outcome made = record {
+  alone = made.alone;
+  are_writes = made.are_writes;
+  each_once = λ id. made.each_once id
+      ∙ sym (ap (λ o. cons_option o (accepted_writes id (state_after call.left s) later))
+      (none_kept id (sender call.key s) call is)
+      ∙ ap (λ l. accepted_writes id (state_after l s) later) is);
+}
+made_with s after call later writes (Some new) is outcome made = record {
+  alone = (outcome, subst (λ l. AreCalls (state_after l s) writes after) (sym is) made.alone);
+  are_writes = (
+    commits_by_write (sender call.key s) call.now call.number call.asked s call.told call.left new is outcome,
+    made.are_writes,
+  );
+  each_once = λ id. ap (λ ws. cons_option (kept_from id (sender call.key s) call) ws)
+      (subst (λ l. accepted_writes id (state_after l s) writes ≡ accepted_writes id (state_after l s) later) (sym is)
+      (made.each_once id));
+}
+
+pub accepted_writes_make_the_state : AcceptedWritesMakeTheState
+accepted_writes_make_the_state s after [] is = record { alone = is; are_writes = tt; each_once = λ id. refl }
+accepted_writes_make_the_state s after (call ∷ later) (outcome, rest) =
+    made_with s after call later (committed later) call.left refl outcome
+    (accepted_writes_make_the_state (state_after call.left s) after later rest)
 
 -- what was kept of the write is still kept where no other was accepted
 still_kept : (id : ℕ) (s after : State) (calls : List Call) → AreCalls s calls after → accepted_writes id s calls ≡ []

@@ -18,3 +18,4 @@ pub mod Booking
 pub mod Tours
 pub mod Privacy
 pub mod Numbers
+pub mod Again

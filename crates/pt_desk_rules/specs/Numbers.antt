@@ -1,9 +1,11 @@
 -- What a caller may count on who numbers its writes, and sends one again where the reply was lost.
-use Rattle.std.specs.Prelude.{◌≡◌, ◌≢◌, ℕ, ◌<◌, ◌==◌, List, [], ◌∷◌, map, Option, Some, None, if◌then◌else◌}
+use Rattle.std.specs.Prelude.{◌≡◌, ◌≢◌, ℕ, ◌<◌, ◌==◌, List, [], ◌∷◌, map, filter, Option, Some, None, is_some}
+use Rattle.std.specs.Prelude.{if◌then◌else◌}
 use Rattle.std.specs.Option.{unwrap_or}
 use Rattle.std.specs.List.{cons_option, last_or}
 use Rattle.std.specs.List.Sorted.{IsStrictlyIncreasing}
 use Rattle.pt_base.specs.declared.rule.Rule.{Rule}
+use Rattle.pt_records.specs.Records.{Each}
 use Rattle.pt_spelling.specs.Replies.{answer_of, reply_of}
 use Rattle.pt_spelling.specs.Requests.{spelling}
 use Rattle.pt_desk_rules.specs.Deciding.{kept_by}
@@ -95,6 +97,26 @@ AcceptedNumbersRise = (id : ℕ) (s after : State) (calls : List Call) → AreCa
 abbrev pub LastAcceptedIsKept : Type 0
 LastAcceptedIsKept = (id : ℕ) (s after : State) (calls : List Call) → AreCalls s calls after →
     kept_of id after ≡ last_or (kept_of id s) (accepted_writes id s calls)
+
+-- the calls that committed a state
+abbrev pub committed : List Call → List Call
+committed calls = filter (λ call. is_some call.left) calls
+
+-- a request that changes something
+abbrev pub IsWrite : Request → Type 0
+IsWrite (request.Read asked) = ⊥
+IsWrite (request.Write asked) = Unit {0}
+
+-- The state that calls leave is what their accepted writes alone leave, each of them once and in its turn: those that
+-- commit a state are writes, each caller's are its accepted ones, and all other calls leave no trace.
+pub record AreMadeBy (s after : State) (calls writes : List Call) : Type 0 where
+  pub alone : AreCalls s writes after
+  pub are_writes : Each (λ call. IsWrite call.asked) writes
+  pub each_once : (id : ℕ) → accepted_writes id s writes ≡ accepted_writes id s calls
+
+abbrev pub AcceptedWritesMakeTheState : Type 0
+AcceptedWritesMakeTheState = (s after : State) (calls : List Call) → AreCalls s calls after →
+    AreMadeBy s after calls (committed calls)
 
 -- A write was accepted, and then other calls came, none of them a write of the same caller that was accepted.
 pub record IsLastOf (key : List ℕ) (now : ℕ × ℕ) (number : ℕ) (asked : Write) (me : Caller) (told : Answer)

@@ -1,5 +1,7 @@
+ghost use Rattle.pt_desk_rules.specs.Again.{ReadsAreTheSameAgain, RequestsAreTheSameAgain};
 ghost use Rattle.pt_desk_rules.specs.Booking.{HasRoutes};
 ghost use Rattle.pt_desk_rules.specs.Numbers.{AcceptedNumbersRise, AcceptedWritesAreKept, LastAcceptedIsKept};
+ghost use Rattle.pt_desk_rules.specs.Numbers.{AcceptedWritesMakeTheState};
 ghost use Rattle.pt_desk_rules.specs.Numbers.{DenialsAreTheSameAgain, RepeatsAreToldTheSame, WritesMayBeSentAgain};
 ghost use Rattle.pt_desk_rules.specs.Privacy.{TripsArePrivate};
 ghost use Rattle.pt_desk_rules.specs.Sound.{IsSound};
@@ -47,6 +49,12 @@ pub fn last_accepted_is_kept()
     ensures { LastAcceptedIsKept }
 {}
 
+/// A law: the state that calls leave is what their accepted writes alone leave, each of them once. Reads, denials and
+/// repeats leave no trace.
+pub fn accepted_writes_make_the_state()
+    ensures { AcceptedWritesMakeTheState }
+{}
+
 /// A law: whoever does not know whether a write was accepted may send it again, under any key that is still the
 /// caller's: nothing happens twice.
 pub fn writes_may_be_sent_again()
@@ -56,4 +64,15 @@ pub fn writes_may_be_sent_again()
 /// A law: a request that is denied, and comes again with nothing between, is denied by the same rule.
 pub fn denials_are_the_same_again()
     ensures { DenialsAreTheSameAgain }
+{}
+
+/// A law: a read that comes again at the same moment, with nothing between, is told the same.
+pub fn reads_are_the_same_again()
+    ensures { ReadsAreTheSameAgain }
+{}
+
+/// A law: any request that comes again at the same moment, with nothing between, is told the same and changes nothing,
+/// unless it put its own caller under another key: then the key that it came with is nobody's any more.
+pub fn requests_are_the_same_again()
+    ensures { RequestsAreTheSameAgain }
 {}

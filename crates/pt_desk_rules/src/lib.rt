@@ -8,8 +8,9 @@ pub use facts::{BookingFacts, DayFacts, ReadFacts, WriteFacts};
 pub use fleet::on_duty;
 pub use kept::{Arrival, Kept, Sent};
 pub use laws::{
-    accepted_numbers_rise, accepted_writes_are_kept, denials_are_the_same_again,
-    last_accepted_is_kept, manifests_show_standing_trips, repeats_are_told_the_same,
+    accepted_numbers_rise, accepted_writes_are_kept, accepted_writes_make_the_state,
+    denials_are_the_same_again, last_accepted_is_kept, manifests_show_standing_trips,
+    reads_are_the_same_again, repeats_are_told_the_same, requests_are_the_same_again,
     sound_states_have_routes, sound_states_have_tours, trips_are_private, writes_may_be_sent_again,
 };
 pub use limits::{

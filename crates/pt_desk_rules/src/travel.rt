@@ -85,6 +85,7 @@ impl TravelTable {
     /// The rows, in order of their places.
     pub fn rows(&self) -> &[Row]
         ensures value { result.now ≡ self.now.rows }
+        ensures table { IsTable result.now }
     {
         self.rows.rows()
     }

@@ -1,0 +1,5 @@
+use Rattle.pt_desk_rules.proofs.SameLemmas.{requests_are_the_same_again}
+use Rattle.pt_desk_rules.proofs.laws.requests_are_the_same_again.Goals as goal
+
+pub returns : goal.returns
+returns c = requests_are_the_same_again
