@@ -1,5 +1,5 @@
 -- One call more of a run.
-use Rattle.std.proofs.Common.{◌≡◌, ℕ, zero, suc, ◌<◌, ◌≤◌, List, [], ◌∷◌, Result, Ok, Err, length, drop, get_or, drop-cons, add-one, ◌+◌, arith, refl, sym, ap, ◌∙◌, subst, inl, inr}
+use Rattle.std.proofs.Common.{◌≡◌, ℕ, zero, suc, ◌<◌, ◌≤◌, List, [], ◌∷◌, Some, None, Result, Ok, Err, length, drop, get_or, drop-cons, add-one, ◌+◌, arith, refl, sym, ap, ◌∙◌, subst, inl, inr}
 use Rattle.std.proofs.lemmas.List.{drop_all}
 use Rattle.pt_desk_rules.specs.State.{State}
 use Rattle.pt_desk.specs.Store.{Store, ChangesNothing, Fails}
@@ -8,6 +8,13 @@ use Rattle.pt_desk.specs.declared.keeper.StoreFault.TheVariants.{Memory, Store a
 use Rattle.pt_requests.specs.declared.request.Answer.{Answer}
 use Rattle.pt_desk.specs.declared.running.Call.{Call}
 use Rattle.pt_desk.specs.Run.{AnswersCall, IsOnlyTold, IsOutcomeOf, Runs, AreOnlyTold, AreRefused, GoesOn}
+use Rattle.pt_desk.specs.Run.{made, AreAnswered, IsToldAfterACrash, RunsAreCalls, RunsLeaveAcceptedWrites}
+use Rattle.pt_desk_rules.specs.Again.{IsToldAgain}
+use Rattle.pt_desk_rules.specs.Numbers.{committed, AreMadeBy}
+use Rattle.pt_desk_rules.specs.Step.{state_after}
+use Rattle.pt_desk_rules.proofs.NumberLemmas.{accepted_writes_make_the_state}
+use Rattle.pt_desk_rules.proofs.SameLemmas.{requests_are_the_same_again}
+use Rattle.std.proofs.lemmas.Option.{same_Some}
 
 abbrev Reply : Type 0
 Reply = Result Answer StoreFault
@@ -73,3 +80,73 @@ pub only_told_at : (calls : List Call) (i : ℕ) (call : Call) (reply : Reply) (
 only_told_at calls i call reply replies a b c lt here up changes (first, told) =
     let these = subst (λ cs. AreOnlyTold cs (reply ∷ replies)) (next calls i call lt here) told in
     (same_then call reply a b c up first changes these.0, these.1)
+
+-- where each call is refused, none is answered
+none_answered : (calls : List Call) (replies : List Reply) → AreRefused calls replies → AreAnswered calls replies []
+none_answered [] [] refused = tt
+none_answered [] (reply ∷ replies) refused = refused
+none_answered (call ∷ calls) [] refused = refused
+none_answered (call ∷ calls) (reply ∷ replies) (is, rest) =
+    subst (λ r. AreAnswered (call ∷ calls) (r ∷ replies) []) (sym is) (none_answered calls replies rest)
+
+-- the calls that a run answered are calls by the rules
+pub runs_are_calls : RunsAreCalls
+runs_are_calls old new [] [] is = record {
+  answered = [];
+  after = old;
+  are_answered = tt;
+  by_rules = refl;
+  left = λ served. is;
+}
+runs_are_calls old new [] (reply ∷ replies) runs = absurd runs
+runs_are_calls old new (call ∷ calls) [] runs = absurd runs
+runs_are_calls old new (call ∷ calls) (Err failed ∷ replies) refused = record {
+  answered = [];
+  after = old;
+  are_answered = none_answered calls replies refused;
+  by_rules = refl;
+  left = λ served. absurd (served.0 refl);
+}
+runs_are_calls old new (call ∷ calls) (Err Memory ∷ replies) runs =
+    let rest = runs_are_calls old new calls replies runs in
+    record {
+      answered = rest.answered;
+      after = rest.after;
+      are_answered = rest.are_answered;
+      by_rules = rest.by_rules;
+      left = λ served. rest.left served.1;
+    }
+runs_are_calls old new (call ∷ calls) (Ok told ∷ replies) (left, is, runs) =
+    let rest = runs_are_calls (state_after left old) new calls replies runs in
+    record {
+      answered = made call told left ∷ rest.answered;
+      after = rest.after;
+      are_answered = (refl, rest.are_answered);
+      by_rules = (is, rest.by_rules);
+      left = λ served. rest.left served.1;
+    }
+
+pub runs_leave_accepted_writes : RunsLeaveAcceptedWrites
+runs_leave_accepted_writes old new calls replies runs served =
+    let run = runs_are_calls old new calls replies runs in
+    let made_by = accepted_writes_make_the_state old run.after run.answered run.by_rules in
+    let left = sym (run.left served) in
+    (run.answered, run.are_answered, subst (λ t. AreMadeBy old t run.answered (committed run.answered)) left made_by)
+
+-- an answer is by the rules, and an opening after it finds what it left
+pub told_after_a_crash : (before after : Store) → IsToldAfterACrash before after
+told_after_a_crash before after call told again opened left sound settled serving (value, made, goes, by) found comes =
+    let told_so = (goes.holds serving.clean).tells in
+    let here : opened ≡ after.content =
+    same_Some opened after.content (goes.settled settled serving.serves serving.whole (Some opened) found) in
+    let stands : state_after made before.content ≡ opened = sym (here ∙ told_so.1) in
+    elim (by serving.clean) [
+      | inl is ↦
+          let again_there = subst (λ t. IsOutcomeOf call t again left) (sym stands) comes in
+          let same = requests_are_the_same_again call.key.items call.now call.number call.request before.content value
+          again made left sound is again_there in
+          subst (λ t. IsToldAgain call.key.items call.request before.content t told again × (left ≡ None)) stands
+          (subst (λ v. IsToldAgain call.key.items call.request before.content (state_after made before.content) v again
+          × (left ≡ None)) (sym told_so.0) same)
+      | inr fault ↦ absurd fault.0
+    ]

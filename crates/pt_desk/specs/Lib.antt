@@ -2,3 +2,4 @@ pub mod Store
 pub mod Run
 pub mod LeastState
 pub mod Places
+pub mod Listed

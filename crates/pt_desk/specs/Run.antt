@@ -1,12 +1,17 @@
 -- Requests, their replies, and whole runs.
-use Rattle.std.specs.Prelude.{◌≡◌, ◌⊎◌, ℕ, ◌<◌, List, [], ◌∷◌, Option, Result, Ok, Err, IsOk}
+use Rattle.std.specs.Prelude.{◌≡◌, ◌≢◌, ◌⊎◌, ℕ, ◌<◌, List, [], ◌∷◌, Option, Some, None, Result, Ok, Err}
+use Rattle.std.specs.Prelude.{IsOk}
+use Rattle.pt_records.specs.Records.{Each}
+use Rattle.pt_desk_rules.specs.Again.{IsToldAgain}
+use Rattle.pt_desk_rules.specs.Numbers.{committed, AreCalls, AreMadeBy, Call as Made}
+use Rattle.pt_desk_rules.specs.Sound.{IsSound}
 use Rattle.pt_desk_rules.specs.State.{State}
 use Rattle.pt_desk_rules.specs.Step.{IsOutcome, state_after}
 use Rattle.pt_requests.specs.declared.request.Answer.{Answer}
 use Rattle.pt_requests.specs.declared.request.Answer.TheVariants.{Denied}
 use Rattle.pt_requests.specs.declared.request.Request.{Request}
 use Rattle.pt_requests.specs.declared.request.Request.TheVariants.{Read, Write}
-use Rattle.pt_desk.specs.Store.{TellsBy}
+use Rattle.pt_desk.specs.Store.{Answers, IsSettled, Store as Kept, TellsBy}
 use Rattle.pt_desk.specs.declared.keeper.StoreFault.{StoreFault}
 use Rattle.pt_desk.specs.declared.keeper.StoreFault.TheVariants.{Memory, Store}
 use Rattle.pt_desk.specs.declared.running.Call.{Call}
@@ -55,6 +60,63 @@ Runs old (call ∷ calls) (Ok told ∷ replies) new =
     (left : Option State) × IsOutcomeOf call old told left × Runs (state_after left old) calls replies new
 Runs old [] (reply ∷ replies) new = ⊥
 Runs old (call ∷ calls) [] new = ⊥
+
+-- a call that was answered, as the laws over lists of calls speak of it: told so, and committing this, if anything
+abbrev pub made : Call → Answer → Option State → Made
+made call told left = record {
+  key = call.key.items;
+  now = call.now;
+  number = call.number;
+  asked = call.request;
+  told = told;
+  left = left;
+}
+
+-- the calls that were answered, each told what its reply says; those that memory or the store refused are left out
+abbrev pub AreAnswered : List Call → List (Result Answer StoreFault) → List Made → Type 0
+AreAnswered [] [] [] = Unit {0}
+AreAnswered (call ∷ calls) (Err fault ∷ replies) answered = AreAnswered calls replies answered
+AreAnswered (call ∷ calls) (Ok told ∷ replies) (one ∷ answered) =
+    (one ≡ made call told one.left) × AreAnswered calls replies answered
+AreAnswered _ _ _ = ⊥
+
+-- the store answered, or memory was refused
+abbrev pub IsServed : Result Answer StoreFault → Type 0
+IsServed reply = reply ≢ Err Store
+
+-- the calls of a run that were answered, and the state that they leave
+pub record IsRunOf (old new : State) (calls : List Call) (replies : List (Result Answer StoreFault)) : Type 0 where
+  pub answered : List Made
+  pub after : State
+  pub are_answered : AreAnswered calls replies answered
+  pub by_rules : AreCalls old answered after
+  pub left : Each IsServed replies → new ≡ after
+
+-- The calls that a run answered are a list of calls by the rules, each told what its reply says, and where the store
+-- has not failed the state that they leave is what is left. So what holds of every list of calls holds of every run.
+abbrev pub RunsAreCalls : Type 0
+RunsAreCalls = (old new : State) (calls : List Call) (replies : List (Result Answer StoreFault)) →
+    Runs old calls replies new → IsRunOf old new calls replies
+
+-- So the state that a run leaves, where the store has not failed, is what its accepted writes alone leave, each once.
+abbrev pub RunsLeaveAcceptedWrites : Type 0
+RunsLeaveAcceptedWrites = (old new : State) (calls : List Call) (replies : List (Result Answer StoreFault)) →
+    Runs old calls replies new → Each IsServed replies →
+    (answered : List Made) × AreAnswered calls replies answered × AreMadeBy old new answered (committed answered)
+
+-- the store is clean, serves and has not failed
+pub record IsServing (s : Kept) : Type 0 where
+  pub clean : s.doubt ≡ 0
+  pub serves : s.shut ≡ 0
+  pub whole : s.failures ≡ 0
+
+-- A settled store with a sound content answers a call, and serves. An opening after a crash finds what the call left: a
+-- call that comes again there at the same moment is told the same and changes nothing.
+abbrev pub IsToldAfterACrash : Kept → Kept → Type 0
+IsToldAfterACrash before after = (call : Call) (told again : Answer) (opened : State) (left : Option State) →
+    IsSound before.content → IsSettled before → IsServing after → Answers before after (IsOutcomeOf call) (Ok told) →
+    after.found (Some opened) → IsOutcomeOf call opened again left →
+    IsToldAgain call.key.items call.request before.content opened told again × (left ≡ None)
 
 -- how a run goes on where the store has failed so often
 pub record GoesOn (failures : ℕ) (old : State) (calls : List Call) (replies : List (Result Answer StoreFault))

@@ -4,6 +4,7 @@
 
 pub use answering::answer;
 pub use keeper::{Keeper, Reply, StoreFault};
+pub use laws::{answers_outlive_crashes, runs_are_calls, runs_leave_accepted_writes};
 pub use list_keeper::ListKeeper;
 pub use places::place_ids;
 pub use pt_desk_rules::{
@@ -15,6 +16,7 @@ pub use running::{Call, run};
 mod answering;
 mod gathering;
 mod keeper;
+mod laws;
 mod list_keeper;
 mod places;
 mod running;

@@ -59,35 +59,51 @@ pub struct ListKeeper {
 
 impl Model for ListKeeper {
     ghost use Rattle.std.specs.Option.{unwrap_or};
-    ghost use Rattle.pt_desk_rules.specs.State.{State};
+    ghost use Rattle.pt_desk.specs.Listed.{Listed};
 
-    ghost Value = { State };
+    ghost Value = { Listed };
 
     ghost view = { λ k. record {
-      callers = k.callers.items;
-      kept = k.kept.items;
-      policy = k.policy;
-      places = k.places.items;
-      routes = k.routes.items;
-      riders = k.riders.items;
-      entries = k.entries.items;
-      vehicles = k.vehicles.items;
-      travel = k.travel.items;
-      trips = k.trips.items;
-      planned = k.planned.items;
-      last_trip = unwrap_or k.last_trip 0;
+      content = record {
+        callers = k.callers.items;
+        kept = k.kept.items;
+        policy = k.policy;
+        places = k.places.items;
+        routes = k.routes.items;
+        riders = k.riders.items;
+        entries = k.entries.items;
+        vehicles = k.vehicles.items;
+        travel = k.travel.items;
+        trips = k.trips.items;
+        planned = k.planned.items;
+        last_trip = unwrap_or k.last_trip 0;
+      };
+      room = record {
+        callers = k.callers.room;
+        kept = k.kept.room;
+        places = k.places.room;
+        routes = k.routes.room;
+        riders = k.riders.room;
+        entries = k.entries.room;
+        vehicles = k.vehicles.room;
+        travel = k.travel.room;
+        trips = k.trips.room;
+        planned = k.planned.room;
+      };
     } };
 }
 
 impl ListKeeper {
     ghost use Rattle.pt_desk.specs.LeastState.{IsLeastState};
+    ghost use Rattle.pt_desk.specs.Listed.{HasRoom};
     ghost use Rattle.pt_desk.specs.Store.{IsSettled};
     ghost use Rattle.pt_desk_rules.specs.Sound.{IsSound};
+    ghost use Rattle.pt_desk_rules.specs.State.{applied};
 
     /// The least state, whose one caller is the admin with this key.
     pub fn new(alloc: Global, admin_key: &[u8]) -> Result<Self, Fault>
-        ensures least { IfOk result (λ keeper. IsLeastState admin_key.now keeper) }
-        ensures sound { IfOk result (λ keeper. IsSound keeper) }
+        ensures least { IfOk result (λ keeper. IsLeastState admin_key.now keeper.content) }
+        ensures sound { IfOk result (λ keeper. IsSound keeper.content) }
         ensures settled { IfOk result (λ keeper. IsSettled (⟦<ListKeeper as Keeper>⟧.store keeper)) }
         ensures memory { IfErr result (λ error. error ≡ fault memory_refused) }
     {
@@ -115,6 +131,129 @@ impl ListKeeper {
             planned: Table::none(alloc),
             last_trip: None,
         })
+    }
+
+    /// Makes room for all that the change puts. Want of memory leaves the room in some tables, and no record changed.
+    pub fn reserve(&mut self, change: &Change) -> Result<(), AllocError>
+        ensures content { self.new.content ≡ self.old.content }
+        ensures room { OnOk result (HasRoom change.now self.new.room) }
+    {
+        self.callers.reserve(&change.callers)?;
+        self.kept.reserve(&change.kept)?;
+        self.places.reserve(&change.places)?;
+        self.routes.reserve(&change.routes)?;
+        self.riders.reserve(&change.riders)?;
+        self.entries.reserve(&change.entries)?;
+        self.vehicles.reserve(&change.vehicles)?;
+        self.travel.reserve(&change.travel)?;
+        self.trips.reserve(&change.trips)?;
+        self.planned.reserve(&change.planned)
+    }
+
+    /// Makes the change, where there is room for it, and takes no memory.
+    pub fn make(&mut self, change: Change)
+        requires { HasRoom change self.old.room }
+        ensures content { self.new.content ≡ applied change self.old.content }
+    {
+        self.callers.edit(change.callers);
+        self.kept.edit(change.kept);
+        self.policy = change.policy.unwrap_or(self.policy);
+        self.places.edit(change.places);
+        self.routes.edit(change.routes);
+        self.riders.edit(change.riders);
+        self.entries.edit(change.entries);
+        self.vehicles.edit(change.vehicles);
+        self.travel.edit(change.travel);
+        self.trips.edit(change.trips);
+        self.planned.edit(change.planned);
+        self.last_trip = change.last_trip.or(self.last_trip);
+    }
+
+    /// The policy.
+    pub fn current_policy(&self) -> Policy
+        ensures value { result ≡ self.now.content.policy }
+    {
+        self.policy
+    }
+
+    /// The number that was last given to a trip; 0 before the first.
+    pub fn current_last_trip(&self) -> u32
+        ensures value { result ≡ self.now.content.last_trip }
+    {
+        match self.last_trip {
+            Some(id) => id.number(),
+            None => 0,
+        }
+    }
+
+    /// The callers.
+    pub fn callers_table(&self) -> &Table<Caller>
+        ensures value { result.now.items ≡ self.now.content.callers }
+    {
+        &self.callers
+    }
+
+    /// The last accepted writes.
+    pub fn kept_table(&self) -> &Table<Kept>
+        ensures value { result.now.items ≡ self.now.content.kept }
+    {
+        &self.kept
+    }
+
+    /// The places.
+    pub fn places_table(&self) -> &Table<Place>
+        ensures value { result.now.items ≡ self.now.content.places }
+    {
+        &self.places
+    }
+
+    /// The fixed routes.
+    pub fn routes_table(&self) -> &Table<FixedRoute>
+        ensures value { result.now.items ≡ self.now.content.routes }
+    {
+        &self.routes
+    }
+
+    /// The riders.
+    pub fn riders_table(&self) -> &Table<Rider>
+        ensures value { result.now.items ≡ self.now.content.riders }
+    {
+        &self.riders
+    }
+
+    /// The entries of all case files.
+    pub fn entries_table(&self) -> &Table<FiledEntry>
+        ensures value { result.now.items ≡ self.now.content.entries }
+    {
+        &self.entries
+    }
+
+    /// The vehicles with their versions.
+    pub fn vehicles_table(&self) -> &Table<Vehicle>
+        ensures value { result.now.items ≡ self.now.content.vehicles }
+    {
+        &self.vehicles
+    }
+
+    /// The travel tables.
+    pub fn travel_table(&self) -> &Table<TravelTable>
+        ensures value { result.now.items ≡ self.now.content.travel }
+    {
+        &self.travel
+    }
+
+    /// The trips.
+    pub fn trips_table(&self) -> &Table<Trip>
+        ensures value { result.now.items ≡ self.now.content.trips }
+    {
+        &self.trips
+    }
+
+    /// The routes that have stops.
+    pub fn planned_table(&self) -> &Table<PlannedRoute>
+        ensures value { result.now.items ≡ self.now.content.planned }
+    {
+        &self.planned
     }
 }
 
@@ -264,11 +403,11 @@ impl Keeper for ListKeeper {
     ghost use Rattle.std.specs.Prelude.{refl, Some};
 
     ghost store = { λ k. record {
-      content = k;
+      content = k.content;
       doubt = 0;
       shut = 0;
       failures = 0;
-      found = λ o. o ≡ Some k;
+      found = λ o. o ≡ Some k.content;
     } };
 
     ghost found_clean = { λ _ _ _. refl };
@@ -296,7 +435,7 @@ impl Keeper for ListKeeper {
     }
 
     fn policy(&mut self) -> Result<Policy, StoreFault> {
-        Ok(self.policy)
+        Ok(self.current_policy())
     }
 
     fn place(&mut self, id: PlaceId) -> Result<Option<Place>, StoreFault> {
@@ -375,10 +514,7 @@ impl Keeper for ListKeeper {
     }
 
     fn last_trip(&mut self) -> Result<u32, StoreFault> {
-        match self.last_trip {
-            Some(id) => Ok(id.number()),
-            None => Ok(0),
-        }
+        Ok(self.current_last_trip())
     }
 
     fn planned_route(
@@ -397,28 +533,8 @@ impl Keeper for ListKeeper {
     }
 
     fn commit(&mut self, change: Change) -> Result<(), StoreFault> {
-        self.callers.reserve(&change.callers)?;
-        self.kept.reserve(&change.kept)?;
-        self.places.reserve(&change.places)?;
-        self.routes.reserve(&change.routes)?;
-        self.riders.reserve(&change.riders)?;
-        self.entries.reserve(&change.entries)?;
-        self.vehicles.reserve(&change.vehicles)?;
-        self.travel.reserve(&change.travel)?;
-        self.trips.reserve(&change.trips)?;
-        self.planned.reserve(&change.planned)?;
-        self.callers.edit(change.callers);
-        self.kept.edit(change.kept);
-        self.policy = change.policy.unwrap_or(self.policy);
-        self.places.edit(change.places);
-        self.routes.edit(change.routes);
-        self.riders.edit(change.riders);
-        self.entries.edit(change.entries);
-        self.vehicles.edit(change.vehicles);
-        self.travel.edit(change.travel);
-        self.trips.edit(change.trips);
-        self.planned.edit(change.planned);
-        self.last_trip = change.last_trip.or(self.last_trip);
+        self.reserve(&change)?;
+        self.make(change);
         Ok(())
     }
 

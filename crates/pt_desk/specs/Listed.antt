@@ -1,0 +1,49 @@
+-- What a list keeper has.
+use Rattle.std.specs.Prelude.{ℕ, ◌≤◌, length}
+use Rattle.pt_desk_rules.specs.State.{State}
+use Rattle.pt_desk_rules.specs.declared.change.Change.{Change}
+
+-- how many more records there is room for, in each table
+pub record Room : Type 0 where
+  pub callers : ℕ
+  pub kept : ℕ
+  pub places : ℕ
+  pub routes : ℕ
+  pub riders : ℕ
+  pub entries : ℕ
+  pub vehicles : ℕ
+  pub travel : ℕ
+  pub trips : ℕ
+  pub planned : ℕ
+
+abbrev pub no_room : Room
+no_room = record {
+  callers = 0;
+  kept = 0;
+  places = 0;
+  routes = 0;
+  riders = 0;
+  entries = 0;
+  vehicles = 0;
+  travel = 0;
+  trips = 0;
+  planned = 0;
+}
+
+-- the records, and room for more
+pub record Listed : Type 0 where
+  pub content : State
+  pub room : Room
+
+-- there is room for all that the change puts
+pub record HasRoom (change : Change) (room : Room) : Type 0 where
+  pub callers : length change.callers.puts ≤ room.callers
+  pub kept : length change.kept.puts ≤ room.kept
+  pub places : length change.places.puts ≤ room.places
+  pub routes : length change.routes.puts ≤ room.routes
+  pub riders : length change.riders.puts ≤ room.riders
+  pub entries : length change.entries.puts ≤ room.entries
+  pub vehicles : length change.vehicles.puts ≤ room.vehicles
+  pub travel : length change.travel.puts ≤ room.travel
+  pub trips : length change.trips.puts ≤ room.trips
+  pub planned : length change.planned.puts ≤ room.planned
