@@ -66,19 +66,19 @@ const ANSWERS: [&str; 23] = [
     "no vehicle",
 ];
 
-fn day(rt: &impl Abort, number: u32) -> Day {
+pub(crate) fn day(rt: &impl Abort, number: u32) -> Day {
     Day::of(number).expect(rt, "a day")
 }
 
-fn minute(rt: &impl Abort, number: u32) -> Minute {
+pub(crate) fn minute(rt: &impl Abort, number: u32) -> Minute {
     Minute::of(number).expect(rt, "a minute")
 }
 
-fn place_id(rt: &impl Abort, number: u32) -> PlaceId {
+pub(crate) fn place_id(rt: &impl Abort, number: u32) -> PlaceId {
     PlaceId::of(number).expect(rt, "a place")
 }
 
-fn rider_id(rt: &impl Abort, number: u32) -> RiderId {
+pub(crate) fn rider_id(rt: &impl Abort, number: u32) -> RiderId {
     RiderId::of(number).expect(rt, "a rider")
 }
 
@@ -97,11 +97,11 @@ fn weekdays(days: (u32, u32)) -> Weekdays {
 }
 
 /// The key of a caller is one byte.
-fn key_of(number: u32) -> [u8; 1] {
+pub(crate) fn key_of(number: u32) -> [u8; 1] {
     [(number & 0xff) as u8]
 }
 
-fn caller(rt: &impl Abort, number: u32, role: Role) -> Caller {
+pub(crate) fn caller(rt: &impl Abort, number: u32, role: Role) -> Caller {
     Caller {
         id: CallerId::of(number).expect(rt, "a caller"),
         role,
@@ -141,7 +141,7 @@ fn put_places(rt: &impl Abort, places: &mut Edits<Place>) {
     }
 }
 
-fn line(rt: &impl Abort, alloc: Global, line: &PlainLine) -> FixedRoute {
+pub(crate) fn line(rt: &impl Abort, alloc: Global, line: &PlainLine) -> FixedRoute {
     let mut points = Vec::new(alloc);
     for (x, y) in line.corners {
         let (x, y) = (i32::from(x), i32::from(y));
@@ -179,7 +179,7 @@ fn put_riders(rt: &impl Abort, riders: &mut Edits<Rider>) {
     }
 }
 
-fn vehicle(rt: &impl Abort, van: &PlainVehicle) -> Vehicle {
+pub(crate) fn vehicle(rt: &impl Abort, van: &PlainVehicle) -> Vehicle {
     let (opens, closes) = (minute(rt, van.hours.0), minute(rt, van.hours.1));
     let (capacity, duration) = (van.capacity, van.duration);
     assert!(rt; 1 <= capacity && capacity <= 30 && 1 <= duration && duration <= 1_439);
@@ -316,7 +316,7 @@ fn wish(rt: &impl Abort, wished: &PlainWish) -> Wish {
     }
 }
 
-fn request(rt: &impl Abort, asked: Asked) -> Request {
+pub(crate) fn request(rt: &impl Abort, asked: Asked) -> Request {
     match asked {
         Asked::Policy(turn) => Request::Write(Write::PutPolicy(policy(turn))),
         Asked::Book(rider, wished) => Request::Write(Write::Book {

@@ -1,4 +1,5 @@
-//! Comparisons of the crates with plain second evaluations, over many cases from fixed seeds.
+//! Comparisons of the crates with plain second evaluations, over many cases from fixed seeds, and with a day at the
+//! desk that is worked out by hand.
 #![tactic(auto)]
 
 #[cfg(test)]
@@ -23,3 +24,5 @@ mod second_desk;
 mod service_times;
 #[cfg(test)]
 mod travel;
+#[cfg(test)]
+mod worked;
