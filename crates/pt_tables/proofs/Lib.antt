@@ -7,3 +7,9 @@ pub mod CastLemmas
 pub mod FirstRowLemmas
 pub mod NewLemmas
 pub mod LeastLemmas
+pub mod SameRowsLists
+pub mod SameRowsBytes
+pub mod SameRowsRecords
+pub mod SameRowsGroups
+pub mod SameRows
+pub mod WellFormedLemmas

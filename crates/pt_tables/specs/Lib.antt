@@ -4,3 +4,5 @@ pub mod Tables
 pub mod Least
 pub mod Mirror
 pub mod Faults
+pub mod WellFormed
+pub mod Opens

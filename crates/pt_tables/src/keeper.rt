@@ -16,7 +16,7 @@ use crate::first_rows::{insert_admin, insert_desk};
 use crate::open_fault::open_fault;
 use crate::schema::create_tables;
 use pt_base::Policy;
-use pt_desk::{Keeper, ListKeeper};
+use pt_desk::ListKeeper;
 use pt_requests::Digest;
 use sqlite::{Alter, Connection, Error};
 use sqlite_schema::schema::Schema;
@@ -30,7 +30,7 @@ const NO_TRIP: u32 = 0;
 #[derive(Drop)]
 pub struct SqlKeeper<S: Alter> {
     conn: Connection<S>,
-    content: ListKeeper,
+    mirror: ListKeeper,
 }
 
 impl<S: Alter> Model for SqlKeeper<S> {
@@ -41,9 +41,9 @@ impl<S: Alter> Model for SqlKeeper<S> {
 
     ghost coded = { mirrored_code S.code };
 
-    ghost view = { λ k. record { conn = k.conn; content = k.content } };
+    ghost view = { λ k. record { conn = k.conn; mirror = k.mirror } };
 
-    ghost invariant = { λ k. IsInStep k.content (state S.Store k.conn) };
+    ghost invariant = { λ k. IsInStep k.mirror.content (state S.Store k.conn) };
 }
 
 /// Whether a database has no table, index or view.
@@ -79,18 +79,16 @@ fn create_new<S: Alter>(
 
 /// The least state in memory, whose admin has this key, and its policy.
 fn least(alloc: Global, admin_key: &[u8]) -> Result<(ListKeeper, Policy), OpenFault>
-    ensures least { IfOk result (λ made. IsLeastState admin_key.now made.0) }
-    ensures sound { IfOk result (λ made. IsSound made.0) }
-    ensures policy { IfOk result (λ made. made.1 ≡ made.0.policy) }
+    ensures least { IfOk result (λ made. IsLeastState admin_key.now made.0.content) }
+    ensures sound { IfOk result (λ made. IsSound made.0.content) }
+    ensures policy { IfOk result (λ made. made.1 ≡ made.0.content.policy) }
     ensures memory { IfErr result (λ refused. refused ≡ fault memory_refused) }
 {
-    let Ok(mut content) = ListKeeper::new(alloc, admin_key) else {
+    let Ok(mirror) = ListKeeper::new(alloc, admin_key) else {
         return Err(OpenFault::MEMORY);
     };
-    match content.policy() {
-        Ok(policy) => Ok((content, policy)),
-        Err(_) => Err(OpenFault::MEMORY),
-    }
+    let policy = mirror.current_policy();
+    Ok((mirror, policy))
 }
 
 impl<S: Alter> SqlKeeper<S> {
@@ -103,8 +101,8 @@ impl<S: Alter> SqlKeeper<S> {
         mut conn: Connection<S>,
         admin_key: &[u8],
     ) -> Result<SqlKeeper<S>, (Connection<S>, OpenFault)>
-        ensures least { IfOk result (λ keeper. IsLeastState admin_key.now keeper.content) }
-        ensures sound { IfOk result (λ keeper. IsSound keeper.content) }
+        ensures least { IfOk result (λ keeper. IsLeastState admin_key.now keeper.mirror.content) }
+        ensures sound { IfOk result (λ keeper. IsSound keeper.mirror.content) }
         ensures faults { IfErr result (λ refused.
             (refused.1 ≡ fault memory_refused) ⊎ (refused.1 ≡ fault store_refused)) }
         ensures in_use { IsInUse (state S.Store conn) → result ≡ Err (conn, fault store_refused) }
@@ -119,12 +117,12 @@ impl<S: Alter> SqlKeeper<S> {
         if !conn.is_autocommit() || !is_blank(conn.schema()) {
             return Err((conn, OpenFault::STORE));
         }
-        let (content, policy) = match least(alloc, admin_key) {
+        let (mirror, policy) = match least(alloc, admin_key) {
             Ok(made) => made,
             Err(refused) => return Err((conn, refused)),
         };
         match create_new(&mut conn, &policy, &Digest::of_key(admin_key)) {
-            Ok(()) => Ok(SqlKeeper { conn, content }),
+            Ok(()) => Ok(SqlKeeper { conn, mirror }),
             Err(error) => Err((conn, open_fault(&error))),
         }
     }
@@ -133,9 +131,9 @@ impl<S: Alter> SqlKeeper<S> {
     pub fn release(self) -> Connection<S>
         ensures same { result ≡ self.conn }
         ensures settled { result.in_transaction ≡ false }
-        ensures rows { HasCleanDisk (state S.Store result) → IsKept self.content (state S.Store result) }
+        ensures rows { HasCleanDisk (state S.Store result) → IsKept self.mirror.content (state S.Store result) }
     {
-        let SqlKeeper { conn, content: _ } = self;
+        let SqlKeeper { conn, mirror: _ } = self;
         conn
     }
 }

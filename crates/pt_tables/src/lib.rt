@@ -2,10 +2,12 @@
 #![tactic(auto)]
 
 pub use keeper::SqlKeeper;
+pub use laws::{an_opening_finds_one_thing, same_rows_same_content};
 pub use open_fault::OpenFault;
 
 mod first_rows;
 mod keeper;
+mod laws;
 mod open_fault;
 mod schema;
 #[cfg(test)]
