@@ -47,7 +47,7 @@ concluded old new params table command tally h =
     let done = went h in
     record { done = done.0; writes = done.1; now = ap (λ (p : Tally × Database). p.1) (same_value (went (went done.2).2).2) }
 
-placed : (old new : State) (params : Row) (table : Table) (at : ℕ) (command : Command) (tally : Tally) → slice_get tables at ≡ Some table → Placed old params command tally new.now (desk_schema).tables at
+pub placed : (old new : State) (params : Row) (table : Table) (at : ℕ) (command : Command) (tally : Tally) → slice_get tables at ≡ Some table → Placed old params command tally new.now (desk_schema).tables at
     → Wrote old new params table command
 placed old new params table at command tally there h =
     let found = subst (λ ts. Placed old params command tally new.now ts at) tables_are h in

@@ -11,10 +11,10 @@ use pt_requests::Digest;
 use sqlite::{Alter, Error, Transaction, params};
 
 /// The version of these tables.
-const TABLE_VERSION: u32 = 1;
+pub(crate) const TABLE_VERSION: u32 = 1;
 
 /// The number of the agency's one row.
-const DESK: u32 = 1;
+pub(crate) const DESK: u32 = 1;
 
 /// The number of the first caller.
 const FIRST_CALLER: u32 = 1;
