@@ -1,9 +1,10 @@
 -- What the statements mean that put the first rows.
-use Rattle.std.proofs.Common.{◌≡◌, ℕ, List, [], ◌∷◌, map, Ok, refl, ap, ◌∙◌}
+use Rattle.std.proofs.Common.{◌≡◌, ℕ, List, [], ◌∷◌, map, IsTrue, Ok, refl, sym, ap, subst, ◌∙◌}
 use Rattle.sqlite.specs.declared.types.Value.TheVariants.{Null, Blob}
 use Rattle.sqlite.specs.Order.{Row}
 use Rattle.sqlite.specs.Table.{Table}
-use Rattle.sqlite.specs.Tree.{put_row}
+use Rattle.sqlite.specs.Tree.{put_row, rowid}
+use Rattle.sqlite.specs.View.{is_int}
 use Rattle.sqlite.specs.Term.{lit, col}
 use Rattle.sqlite.specs.Cast.{cast_row}
 use Rattle.sqlite.specs.Edit.{with_rowid}
@@ -16,7 +17,7 @@ use Rattle.pt_base.specs.declared.policy.Policy.{Policy}
 use Rattle.pt_tables.specs.Least.{first_admin}
 use Rattle.pt_tables.specs.Rows.{number_value, table_version, desk_row, caller_row}
 use Rattle.pt_tables.specs.Schema.{desk_schema, desk_table, callers_table}
-use Rattle.pt_tables.specs.Tables.{columns_of, Fills}
+use Rattle.pt_tables.specs.Tables.{columns_of, Fills, HaveRowids}
 use Rattle.pt_tables.specs.declared.first_rows.TheConstants.{INSERT_DESK, INSERT_CALLER}
 use Rattle.pt_tables.proofs.CastLemmas.{cast_null, cast_int}
 use Rattle.pt_tables.proofs.InsertLemmas.{IsInsert, inserts}
@@ -46,19 +47,22 @@ desk_insert policy last_trip = record {
 }
 
 -- the one row of a table, as it is stored, is shown so
-fills : (text : List ℕ) (params : Row) (table : Table) (stored row : Row) → IsInsert text params table (λ _. stored) → columns_of table stored ≡ row → (old new : State) (count : ℕ)
+fills : (text : List ℕ) (params : Row) (table : Table) (stored row : Row) → IsInsert text params table (λ _. stored) → columns_of table stored ≡ row
+    → IsTrue (is_int (rowid stored)) → (old new : State) (count : ℕ)
     → old.now.schema ≡ desk_schema → Executes text params old new (Ok count) → Fills table row old.now new.now
-fills text params table stored row insert shows old new count has h =
+fills text params table stored row insert shows whole old new count has h =
     let left = inserts text params table (λ _. stored) insert old new count has h in
+    let one : old.now.trees table.tree ≡ [] → new.now.trees table.tree ≡ stored ∷ [] = λ none. left.rows ∙ ap (put_row stored) none in
     record {
       schema = left.schema;
-      rows = λ none. IsPermutation-same _ _ (ap (map (columns_of table)) (left.rows ∙ ap (put_row stored) none) ∙ ap (λ r. r ∷ []) shows);
+      rows = λ none. IsPermutation-same _ _ (ap (map (columns_of table)) (one none) ∙ ap (λ r. r ∷ []) shows);
+      rowids = λ none. subst HaveRowids (sym (one none)) (record { rising = (tt, tt); whole = (whole, tt) });
       others = left.others;
     }
 
 pub fills_desk : (policy : Policy) (last_trip : ℕ) (old new : State) (count : ℕ) → old.now.schema ≡ desk_schema → Executes INSERT_DESK.now (desk_row policy last_trip) old new (Ok count)
     → Fills desk_table (desk_row policy last_trip) old.now new.now
-fills_desk policy last_trip = fills INSERT_DESK.now (desk_row policy last_trip) desk_table (stored_desk policy last_trip) (desk_row policy last_trip) (desk_insert policy last_trip) refl
+fills_desk policy last_trip = fills INSERT_DESK.now (desk_row policy last_trip) desk_table (stored_desk policy last_trip) (desk_row policy last_trip) (desk_insert policy last_trip) refl refl
 
 -- the first caller as it is stored
 stored_admin : List ℕ → Row
@@ -87,6 +91,11 @@ admin_shown : (digest : List ℕ) → columns_of callers_table (stored_admin dig
 unfolding stored_admin
 admin_shown digest = refl
 
+admin_whole : (digest : List ℕ) → IsTrue (is_int (rowid (stored_admin digest)))
+unfolding stored_admin
+admin_whole digest = refl
+
 pub fills_admin : (digest : List ℕ) (old new : State) (count : ℕ) → old.now.schema ≡ desk_schema → Executes INSERT_CALLER.now (caller_row (first_admin digest)) old new (Ok count)
     → Fills callers_table (caller_row (first_admin digest)) old.now new.now
 fills_admin digest = fills INSERT_CALLER.now (caller_row (first_admin digest)) callers_table (stored_admin digest) (caller_row (first_admin digest)) (admin_insert digest) (admin_shown digest)
+    (admin_whole digest)

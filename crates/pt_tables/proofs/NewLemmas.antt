@@ -1,5 +1,6 @@
 -- The tables of a new desk, and what a crash leaves of their making.
 use Rattle.std.proofs.Common.{◌≡◌, ℕ, List, [], ◌∷◌, map, flat_map, IsPermutation, IsTrue, true, false, refl, sym, ap, subst, ◌∙◌, arith}
+use Rattle.std.specs.List.{AllByRecursion}
 use Rattle.sqlite.specs.Store.{Ghosts}
 use Rattle.sqlite.specs.Held.{Held, state}
 use Rattle.sqlite.specs.Order.{Row}
@@ -14,12 +15,15 @@ use Rattle.pt_base.specs.declared.policy.Policy.{Policy}
 use Rattle.pt_desk_rules.specs.State.{State}
 use Rattle.pt_tables.specs.Least.{first_admin, IsNew, HasNewRows}
 use Rattle.pt_tables.specs.Rows.{desk_row, caller_row, kept_row, place_row, route_row, vehicle_row, rider_row, entry_row, trip_row, stop_rows, travel_rows}
-use Rattle.pt_tables.specs.Schema.{desk_schema, no_schema, desk_table, callers_table, kept_table, places_table, fixed_table, vehicles_table, riders_table, entries_table, trips_table, stops_table, travel_table}
-use Rattle.pt_tables.specs.Tables.{columns_of, AreRows, HasRows, IsBlank, IsKept, Fills, Stands}
+use Rattle.pt_tables.specs.Schema.{desk_schema, no_schema, tables, desk_table, callers_table, kept_table, places_table, fixed_table, vehicles_table, riders_table, entries_table, trips_table, stops_table, travel_table}
+use Rattle.pt_tables.specs.Tables.{columns_of, AreRows, HasRows, HaveRowids, IsBlank, IsKept, Fills, Stands}
 
 -- a table with no row stands for no record
 none_there : (table : Table) (trees : Trees) (rows : List Row) → trees table.tree ≡ [] → rows ≡ [] → AreRows table trees rows
 none_there table trees rows empty none = IsPermutation-same _ rows (ap (map (columns_of table)) empty ∙ sym none)
+
+no_rowids : (rows : List Row) → rows ≡ [] → HaveRowids rows
+no_rowids rows none = subst HaveRowids (sym none) (record { rising = tt; whole = tt })
 
 module _ (policy : Policy) (digest : List ℕ) (blank desked done : Database) (first : IsBlank blank) (desk : Fills desk_table (desk_row policy 0) blank desked)
     (admin : Fills callers_table (caller_row (first_admin digest)) desked done) where
@@ -39,8 +43,45 @@ module _ (policy : Policy) (digest : List ℕ) (blank desked done : Database) (f
     travel = none_there travel_table done.trees (flat_map travel_rows content.travel) (admin.others.1.1.1.1.1.1.1.1.1.1.0 (λ e. cc) ∙ desk.others.1.1.1.1.1.1.1.1.1.1.0 (λ e. cc) ∙ first.rows.1.1.1.1.1.1.1.1.1.1.0) (ap (flat_map travel_rows) is.travel);
   }
 
+  rowids_of_new : AllByRecursion (λ t. HaveRowids (done.trees t.tree)) tables
+  rowids_of_new =
+      let trees = done.trees in (
+        subst HaveRowids (sym (admin.others.0 (λ e. cc))) (desk.rowids first.rows.0),
+        (
+          admin.rowids (desk.others.1.0 (λ e. cc) ∙ first.rows.1.0),
+          (
+            no_rowids (trees kept_table.tree) (admin.others.1.1.0 (λ e. cc) ∙ desk.others.1.1.0 (λ e. cc) ∙ first.rows.1.1.0),
+            (
+              no_rowids (trees places_table.tree) (admin.others.1.1.1.0 (λ e. cc) ∙ desk.others.1.1.1.0 (λ e. cc) ∙ first.rows.1.1.1.0),
+              (
+                no_rowids (trees fixed_table.tree) (admin.others.1.1.1.1.0 (λ e. cc) ∙ desk.others.1.1.1.1.0 (λ e. cc) ∙ first.rows.1.1.1.1.0),
+                (
+                  no_rowids (trees vehicles_table.tree) (admin.others.1.1.1.1.1.0 (λ e. cc) ∙ desk.others.1.1.1.1.1.0 (λ e. cc) ∙ first.rows.1.1.1.1.1.0),
+                  (
+                    no_rowids (trees riders_table.tree) (admin.others.1.1.1.1.1.1.0 (λ e. cc) ∙ desk.others.1.1.1.1.1.1.0 (λ e. cc) ∙ first.rows.1.1.1.1.1.1.0),
+                    (
+                      no_rowids (trees entries_table.tree) (admin.others.1.1.1.1.1.1.1.0 (λ e. cc) ∙ desk.others.1.1.1.1.1.1.1.0 (λ e. cc) ∙ first.rows.1.1.1.1.1.1.1.0),
+                      (
+                        no_rowids (trees trips_table.tree) (admin.others.1.1.1.1.1.1.1.1.0 (λ e. cc) ∙ desk.others.1.1.1.1.1.1.1.1.0 (λ e. cc) ∙ first.rows.1.1.1.1.1.1.1.1.0),
+                        (
+                          no_rowids (trees stops_table.tree) (admin.others.1.1.1.1.1.1.1.1.1.0 (λ e. cc) ∙ desk.others.1.1.1.1.1.1.1.1.1.0 (λ e. cc) ∙ first.rows.1.1.1.1.1.1.1.1.1.0),
+                          (
+                            no_rowids (trees travel_table.tree) (admin.others.1.1.1.1.1.1.1.1.1.1.0 (λ e. cc) ∙ desk.others.1.1.1.1.1.1.1.1.1.1.0 (λ e. cc) ∙ first.rows.1.1.1.1.1.1.1.1.1.1.0),
+                            tt,
+                          ),
+                        ),
+                      ),
+                    ),
+                  ),
+                ),
+              ),
+            ),
+          ),
+        ),
+      )
+
   pub stands_new : (content : State) → IsNew policy digest content → Stands content done
-  stands_new content is = record { schema = admin.schema; rows = rows_of_new content is }
+  stands_new content is = record { schema = admin.schema; rows = rows_of_new content is; rowids = rowids_of_new }
 
 module _ {S : Type 0} (g : Ghosts S) (old begun one two three : Held S) (policy : Policy) (digest : List ℕ) (is : begun ≡ record old { in_transaction = true }) (blank : old.schema ≡ no_schema)
     (made_survives : Survives (state g begun) (state g one) (λ _. ⊥)) (desk_survives : Survives (state g one) (state g two) (λ _. ⊥)) (admin_survives : Survives (state g two) (state g three) (λ _. ⊥))

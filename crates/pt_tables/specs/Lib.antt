@@ -1,8 +1,13 @@
 pub mod Schema
 pub mod Rows
 pub mod Tables
+pub mod Writes
+pub mod Stored
+pub mod Grouped
 pub mod Least
-pub mod Mirror
 pub mod Faults
 pub mod WellFormed
 pub mod Opens
+pub mod Groups
+pub mod Committing
+pub mod Mirror

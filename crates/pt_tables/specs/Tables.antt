@@ -7,7 +7,8 @@ use Rattle.sqlite.specs.Order.{Row}
 use Rattle.sqlite.specs.Rows.{shown}
 use Rattle.sqlite.specs.State.{State as Connected, KeepsCommit}
 use Rattle.sqlite.specs.Table.{Table}
-use Rattle.sqlite.specs.Tree.{Trees}
+use Rattle.sqlite.specs.Tree.{Trees, IsTable, rowid}
+use Rattle.sqlite.specs.View.{is_int}
 use Rattle.pt_desk_rules.specs.State.{State}
 use Rattle.pt_tables.specs.Rows.{desk_row, caller_row, kept_row, place_row, route_row, vehicle_row, rider_row}
 use Rattle.pt_tables.specs.Rows.{entry_row, trip_row, stop_rows, travel_rows}
@@ -42,10 +43,16 @@ pub record HasRows (content : State) (trees : Trees) : Type 0 where
   pub stops : AreRows stops_table trees (flat_map stop_rows content.planned)
   pub travel : AreRows travel_table trees (flat_map travel_rows content.travel)
 
+-- the rowids are integers that rise
+pub record HaveRowids (rows : List Row) : Type 0 where
+  pub rising : IsTable rows
+  pub whole : AllByRecursion (λ row. IsTrue (is_int (rowid row))) rows
+
 -- the database has these tables, with the rows of the content
 pub record Stands (content : State) (db : Database) : Type 0 where
   pub schema : db.schema ≡ desk_schema
   pub rows : HasRows content db.trees
+  pub rowids : AllByRecursion (λ t. HaveRowids (db.trees t.tree)) tables
 
 -- the connection, if it is open, has the content and has committed it
 pub record IsKept (content : State) (s : Connected) : Type 0 where
@@ -60,6 +67,7 @@ Others table old new = AllByRecursion (λ t. t.tree ≢ table.tree → new t.tre
 pub record Fills (table : Table) (row : Row) (old new : Database) : Type 0 where
   pub schema : new.schema ≡ desk_schema
   pub rows : old.trees table.tree ≡ [] → AreRows table new.trees (row ∷ [])
+  pub rowids : old.trees table.tree ≡ [] → HaveRowids (new.trees table.tree)
   pub others : Others table old.trees new.trees
 
 -- A statement of a transaction changes these tables so, and commits nothing, nor does it where it fails.

@@ -1,6 +1,7 @@
-ghost use Rattle.std.specs.Prelude.{◌≡◌, ◌⊎◌, ◌↔◌, IsTrue, IfOk, IfErr, OnOk, OnErr, MatchResult, false};
+ghost use Rattle.std.specs.Prelude.{◌≡◌, ◌⊎◌, ◌↔◌, ◌<◌, IsTrue, IfOk, IfErr, OnOk, OnErr, MatchResult, false};
 ghost use Rattle.pt_base.specs.Codes.{memory_refused};
 ghost use Rattle.pt_desk.specs.LeastState.{IsLeastState};
+ghost use Rattle.pt_desk.specs.declared.keeper.StoreFault.TheVariants.{Memory, Store as Failed};
 ghost use Rattle.pt_desk_rules.specs.Sound.{IsSound};
 ghost use Rattle.pt_desk_rules.specs.State.{State};
 ghost use Rattle.sqlite.specs.Held.{state};
@@ -15,10 +16,19 @@ use crate::OpenFault;
 use crate::first_rows::{insert_admin, insert_desk};
 use crate::open_fault::open_fault;
 use crate::schema::create_tables;
-use pt_base::Policy;
-use pt_desk::ListKeeper;
+use crate::told::is_told;
+use crate::writes::write_change;
+use pt_base::{
+    CallerId, Day, Place, PlaceId, Policy, Rider, RiderId, RouteId, Trip, TripId, Vehicle,
+    VehicleId,
+};
+use pt_corridor::FixedRoute;
+use pt_desk::{Keeper, ListKeeper, StoreFault};
+use pt_desk_rules::{Arrival, Caller, Change, PlannedRoute, Spelling, TravelTable};
+use pt_records::Rows;
 use pt_requests::Digest;
-use sqlite::{Alter, Connection, Error};
+use pt_rights::CaseFile;
+use sqlite::{Alter, Connection, Error, ErrorCode};
 use sqlite_schema::schema::Schema;
 use std::alloc::Global;
 use std::marker::Model;
@@ -26,10 +36,18 @@ use std::marker::Model;
 /// The number that was last given to a trip, before the first.
 const NO_TRIP: u32 = 0;
 
+/// The failures of a store that has not failed.
+const NEVER_FAILED: u32 = 0;
+
+/// The failures of a store that has failed.
+const FAILED: u32 = 1;
+
 /// The desk's records in the tables of a database, and in memory beside them.
 #[derive(Drop)]
 pub struct SqlKeeper<S: Alter> {
     conn: Connection<S>,
+    /// 0, and 1 for good once the store has failed in a call.
+    failures: u32,
     mirror: ListKeeper,
 }
 
@@ -41,9 +59,9 @@ impl<S: Alter> Model for SqlKeeper<S> {
 
     ghost coded = { mirrored_code S.code };
 
-    ghost view = { λ k. record { conn = k.conn; mirror = k.mirror } };
+    ghost view = { λ k. record { conn = k.conn; failures = k.failures; mirror = k.mirror } };
 
-    ghost invariant = { λ k. IsInStep k.mirror.content (state S.Store k.conn) };
+    ghost invariant = { λ k. IsInStep k.mirror.content k.failures (state S.Store k.conn) };
 }
 
 /// Whether a database has no table, index or view.
@@ -122,18 +140,216 @@ impl<S: Alter> SqlKeeper<S> {
             Err(refused) => return Err((conn, refused)),
         };
         match create_new(&mut conn, &policy, &Digest::of_key(admin_key)) {
-            Ok(()) => Ok(SqlKeeper { conn, mirror }),
+            Ok(()) => Ok(SqlKeeper {
+                conn,
+                failures: NEVER_FAILED,
+                mirror,
+            }),
             Err(error) => Err((conn, open_fault(&error))),
         }
     }
 
-    /// Hands the connection back. Its tables have the rows of the content, and all is committed.
+    /// Hands the connection back. Unless the store has failed its tables have the rows of the content, all committed.
     pub fn release(self) -> Connection<S>
         ensures same { result ≡ self.conn }
         ensures settled { result.in_transaction ≡ false }
-        ensures rows { HasCleanDisk (state S.Store result) → IsKept self.mirror.content (state S.Store result) }
+        ensures rows { self.failures ≡ 0 → HasCleanDisk (state S.Store result)
+            → IsKept self.mirror.content (state S.Store result) }
     {
-        let SqlKeeper { conn, mirror: _ } = self;
+        let SqlKeeper {
+            conn,
+            failures: _,
+            mirror: _,
+        } = self;
         conn
+    }
+
+    /// Refuses to serve once the store has failed.
+    fn serve(&self) -> Result<(), StoreFault>
+        ensures served { OnOk result (self.now.failures ≡ 0) }
+        ensures failed { OnErr result (0 < self.now.failures) }
+        ensures fault { IfErr result (λ fault. fault ≡ Failed) }
+    {
+        if self.failures > NEVER_FAILED {
+            return Err(StoreFault::Store);
+        }
+        Ok(())
+    }
+}
+
+/// The fault that an error of the store is told as; one that is no want of memory is counted.
+fn blame(failures: &mut u32, error: &Error) -> StoreFault
+    requires { failures.old ≡ 0 }
+    ensures failed { result ≡ Failed → failures.new ≡ 1 }
+    ensures memory { result ≡ Memory → failures.new ≡ 0 }
+    ensures cause { result ≡ Memory ↔ error.now ≡ Error.SqliteFailure ErrorCode.OutOfMemory }
+{
+    if matches!(error, Error::SqliteFailure(ErrorCode::OutOfMemory)) {
+        return StoreFault::Memory;
+    }
+    *failures = FAILED;
+    StoreFault::Store
+}
+
+impl<S: Alter> Keeper for SqlKeeper<S> {
+    ghost use Rattle.pt_tables.specs.Mirror.{store_of};
+
+    ghost store = { λ k. store_of S.Store k };
+
+    ghost found_clean = { λ _ _ may. may.0 };
+
+    fn caller_with(&mut self, digest: &Digest) -> Result<Option<Caller>, StoreFault> {
+        self.serve()?;
+        self.mirror.caller_with(digest)
+    }
+
+    fn caller(&mut self, id: CallerId) -> Result<Option<Caller>, StoreFault> {
+        self.serve()?;
+        self.mirror.caller(id)
+    }
+
+    fn caller_count(&mut self) -> Result<usize, StoreFault> {
+        self.serve()?;
+        self.mirror.caller_count()
+    }
+
+    fn arrival(
+        &mut self,
+        caller: CallerId,
+        number: u32,
+        request: &Spelling,
+    ) -> Result<Arrival, StoreFault> {
+        self.serve()?;
+        self.mirror.arrival(caller, number, request)
+    }
+
+    fn policy(&mut self) -> Result<Policy, StoreFault> {
+        self.serve()?;
+        self.mirror.policy()
+    }
+
+    fn place(&mut self, id: PlaceId) -> Result<Option<Place>, StoreFault> {
+        self.serve()?;
+        self.mirror.place(id)
+    }
+
+    fn place_count(&mut self) -> Result<usize, StoreFault> {
+        self.serve()?;
+        self.mirror.place_count()
+    }
+
+    fn places(&mut self, alloc: Global) -> Result<Rows<Place>, StoreFault> {
+        self.serve()?;
+        self.mirror.places(alloc)
+    }
+
+    fn has_route(&mut self, id: RouteId) -> Result<bool, StoreFault> {
+        self.serve()?;
+        self.mirror.has_route(id)
+    }
+
+    fn route_count(&mut self) -> Result<usize, StoreFault> {
+        self.serve()?;
+        self.mirror.route_count()
+    }
+
+    fn routes(&mut self, alloc: Global) -> Result<Rows<FixedRoute>, StoreFault> {
+        self.serve()?;
+        self.mirror.routes(alloc)
+    }
+
+    fn rider(&mut self, id: RiderId) -> Result<Option<Rider>, StoreFault> {
+        self.serve()?;
+        self.mirror.rider(id)
+    }
+
+    fn rider_count(&mut self) -> Result<usize, StoreFault> {
+        self.serve()?;
+        self.mirror.rider_count()
+    }
+
+    fn case_file(&mut self, alloc: Global, rider: RiderId) -> Result<CaseFile, StoreFault> {
+        self.serve()?;
+        self.mirror.case_file(alloc, rider)
+    }
+
+    fn has_vehicle(&mut self, id: VehicleId) -> Result<bool, StoreFault> {
+        self.serve()?;
+        self.mirror.has_vehicle(id)
+    }
+
+    fn vehicles(&mut self, alloc: Global) -> Result<Rows<Vehicle>, StoreFault> {
+        self.serve()?;
+        self.mirror.vehicles(alloc)
+    }
+
+    fn table_count_before(&mut self, day: Day) -> Result<usize, StoreFault> {
+        self.serve()?;
+        self.mirror.table_count_before(day)
+    }
+
+    fn travel_on(&mut self, alloc: Global, day: Day) -> Result<Option<TravelTable>, StoreFault> {
+        self.serve()?;
+        self.mirror.travel_on(alloc, day)
+    }
+
+    fn is_booked_from(&mut self, vehicle: Option<VehicleId>, day: Day) -> Result<bool, StoreFault> {
+        self.serve()?;
+        self.mirror.is_booked_from(vehicle, day)
+    }
+
+    fn trip(&mut self, id: TripId) -> Result<Option<Trip>, StoreFault> {
+        self.serve()?;
+        self.mirror.trip(id)
+    }
+
+    fn trips_of(&mut self, alloc: Global, rider: RiderId) -> Result<Rows<Trip>, StoreFault> {
+        self.serve()?;
+        self.mirror.trips_of(alloc, rider)
+    }
+
+    fn trips_on(&mut self, alloc: Global, day: Day) -> Result<Rows<Trip>, StoreFault> {
+        self.serve()?;
+        self.mirror.trips_on(alloc, day)
+    }
+
+    fn planned_on(&mut self, alloc: Global, day: Day) -> Result<Rows<PlannedRoute>, StoreFault> {
+        self.serve()?;
+        self.mirror.planned_on(alloc, day)
+    }
+
+    fn last_trip(&mut self) -> Result<u32, StoreFault> {
+        self.serve()?;
+        self.mirror.last_trip()
+    }
+
+    fn planned_route(
+        &mut self,
+        alloc: Global,
+        vehicle: VehicleId,
+        day: Day,
+    ) -> Result<Option<PlannedRoute>, StoreFault> {
+        self.serve()?;
+        self.mirror.planned_route(alloc, vehicle, day)
+    }
+
+    fn commit(&mut self, change: Change) -> Result<(), StoreFault> {
+        self.serve()?;
+        if !is_told(&change) {
+            self.failures = FAILED;
+            return Err(StoreFault::Store);
+        }
+        self.mirror.reserve(&change)?;
+        match write_change(&mut self.conn, &change, &self.mirror) {
+            Ok(()) => {
+                self.mirror.make(change);
+                Ok(())
+            }
+            Err(error) => Err(blame(&mut self.failures, &error)),
+        }
+    }
+
+    fn failures(&self) -> u32 {
+        self.failures
     }
 }

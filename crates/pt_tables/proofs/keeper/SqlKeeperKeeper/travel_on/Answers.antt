@@ -1,0 +1,9 @@
+use Rattle.pt_desk_rules.specs.State.{State}
+use Rattle.pt_desk_rules.specs.Travel.{table_on}
+use Rattle.pt_tables.proofs.KeeperLemmas.{reads_by}
+use Rattle.pt_tables.proofs.keeper.SqlKeeperKeeper.travel_on.Goals as goal
+
+pub returns : goal.returns
+returns g c = record {
+  reads = reads_by g.S.Store c.self.inside.conn c.self.inside.failures c.self.inside.mirror c.travel_on.new.self c.args.self.now (λ (s : State). table_on c.args.day s.travel) c.travel_on.result c.self.view_is c.in_ok-serve.ensures.served c.travel_on.ensures.reads;
+}
