@@ -1,0 +1,202 @@
+-- Whether a vehicle's version on duty can drive what is planned for it.
+use Rattle.std.proofs.Common.{◌≡◌, ◌⊎◌, inl, inr, ℕ, ◌+◌, ◌<◌, ◌≤◌, zero, suc, Bool, true, false, not, IsTrue, List, [], ◌∷◌, length, cond, refl, sym, ap, ◌∙◌, subst, arith, drop, get_or, Option, Some, None, Any}
+use Rattle.std.specs.Prelude.{◌==◌, ◌&&◌, ◌||◌, nat_le, filter, Result, Ok, Err, IfOk}
+use Rattle.std.specs.List.{list_any}
+use Rattle.std.proofs.lemmas.List.{drop_all}
+use Rattle.std.proofs.lemmas.Bool.{and_parts}
+use Rattle.std.proofs.lemmas.Bool.Decides.{nat_tests}
+use Rattle.pt_base.specs.declared.vehicle.Vehicle.{Vehicle}
+use Rattle.pt_feasible.specs.declared.stop.Stop.{Stop}
+use Rattle.pt_travel.specs.Chain.{Row, IsTime}
+use Rattle.pt_desk_rules.specs.Booking.{rows_of, AreTimes}
+use Rattle.pt_desk_rules.specs.Fleet.{is_newer, is_on_duty, has_weekday, on_duty, versions_of}
+use Rattle.pt_desk_rules.specs.Sound.{CanDrive, CanServe, FitsIn}
+use Rattle.pt_base.specs.declared.trip.Trip.{Trip}
+use Rattle.pt_scheduling.specs.Plan.{Plan, stops_among}
+use Rattle.pt_scheduling.specs.declared.planned.PlannedStop.{PlannedStop}
+use Rattle.pt_desk_rules.specs.Travel.{table_on, DatedTable}
+use Rattle.pt_soundness.proofs.EachLemmas.{next_from}
+
+-- the driving times by rows are these and no other
+time_one : (rows : List Row) (from to : ℕ) (a b : Option ℕ) → IsTime rows from to a → IsTime rows from to b → a ≡ b
+time_one rows from to None None one two = refl
+time_one rows from to None (Some n) one (within, ((chain, is, total), least)) =
+    absurd (let long = one chain is in omega arith)
+time_one rows from to (Some m) None (within, ((chain, is, total), least)) two =
+    absurd (let long = two chain is in omega arith)
+time_one rows from to (Some m) (Some n) (within, ((chain, is, total), least)) (also, ((other, it, sum), least_too)) =
+    let below = least other it in
+    let above = least_too chain is in
+    let same : m ≡ n = omega arith in
+    ap Some same
+
+pub minutes_one : (rows : List Row) (a b : ℕ → ℕ → Option ℕ) → AreTimes rows a → AreTimes rows b → a ≡ b
+minutes_one rows a b one two = λ i from to. time_one rows from to (a from to) (b from to) (one from to) (two from to) i
+
+-- something holds of one of these
+abbrev pub HasSome : {A : Type 0} → (A → Type 0) → List A → Type 0
+HasSome P [] = ⊥
+HasSome P (x ∷ xs) = P x ⊎ HasSome P xs
+
+some_at : {A : Type 0} (P : A → Type 0) (xs : List A) (k : ℕ) (a : A) → k < length xs → get_or xs k a ≡ a → P a → HasSome P xs
+some_at P [] k a within at holds = absurd (omega arith)
+some_at P (x ∷ xs) zero a within at holds = inl (subst P (sym at) holds)
+some_at P (x ∷ xs) (suc k) a within at holds = inr (some_at P xs k a (omega arith) at holds)
+
+pub any_some : {A : Type 0} (P : A → Type 0) (xs : List A) → Any P xs → HasSome P xs
+any_some P xs (k, a, within, at, holds) = some_at P xs k a within at holds
+
+pub some_any : {A : Type 0} (P : A → Type 0) (xs : List A) → HasSome P xs → Any P xs
+some_any P [] some = absurd some
+some_any P (x ∷ xs) (inl holds) = (0, x, omega arith, refl, holds)
+some_any P (x ∷ xs) (inr rest) =
+    let (k, a, within, at, holds) = some_any P xs rest in (suc k, a, omega arith, at, holds)
+
+some_weaker : {A : Type 0} (P Q : A → Type 0) → ((x : A) → P x → Q x) → (xs : List A) → HasSome P xs → HasSome Q xs
+some_weaker P Q gives [] some = some
+some_weaker P Q gives (x ∷ xs) (inl holds) = inl (gives x holds)
+some_weaker P Q gives (x ∷ xs) (inr rest) = inr (some_weaker P Q gives xs rest)
+
+past_kept : {A : Type 0} (P : A → Type 0) (test : A → Bool) (x : A) (ys xs : List A) (b : Bool) → test x ≡ b
+    → (HasSome P ys → HasSome (λ y. (test y ≡ true) × P y) xs)
+    → HasSome P (cond b (x ∷ ys) ys) → HasSome (λ y. (test y ≡ true) × P y) (x ∷ xs)
+past_kept P test x ys xs true is rest (inl holds) = inl (is, holds)
+past_kept P test x ys xs true is rest (inr some) = inr (rest some)
+past_kept P test x ys xs false is rest some = inr (rest some)
+
+some_kept : {A : Type 0} (P : A → Type 0) (test : A → Bool) (xs : List A) → HasSome P (filter test xs) → HasSome (λ y. (test y ≡ true) × P y) xs
+some_kept P test [] some = some
+some_kept P test (x ∷ xs) some = past_kept P test x (filter test xs) xs (test x) refl (some_kept P test xs) some
+
+kept_past : {A : Type 0} (P : A → Type 0) (x : A) (ys : List A) (b : Bool) → HasSome P ys → HasSome P (cond b (x ∷ ys) ys)
+kept_past P x ys true some = inr some
+kept_past P x ys false some = some
+
+kept_some : {A : Type 0} (P : A → Type 0) (test : A → Bool) (xs : List A) → HasSome (λ y. (test y ≡ true) × P y) xs → HasSome P (filter test xs)
+kept_some P test [] some = some
+kept_some P test (x ∷ xs) (inl (is, holds)) = subst (λ (b : Bool). HasSome P (cond b (x ∷ filter test xs) (filter test xs))) (sym is) (inl holds)
+kept_some P test (x ∷ xs) (inr rest) = kept_past P x (filter test xs) (test x) (kept_some P test xs rest)
+
+-- of what passes one test, those that pass another
+any_same : {A : Type 0} (p test : A → Bool) (x : A) (ys xs : List A) (b : Bool) → test x ≡ b → (p x ≡ true → test x ≡ true)
+    → list_any p ys ≡ list_any p xs → list_any p (cond b (x ∷ ys) ys) ≡ (p x || list_any p xs)
+any_same p test x ys xs true is gives same = ap (λ t. p x || t) same
+any_same p test x ys xs false is gives same = same ∙ sym (ap (λ t. t || list_any p xs) (fails (p x) gives is))
+  where
+    fails : (t : Bool) → (t ≡ true → test x ≡ true) → test x ≡ false → t ≡ false
+    fails true gives is = absurd (let yes = gives refl in cc)
+    fails false gives is = refl
+
+any_own : {A : Type 0} (p test : A → Bool) → ((x : A) → p x ≡ true → test x ≡ true) → (xs : List A) → list_any p (filter test xs) ≡ list_any p xs
+any_own p test gives [] = refl
+any_own p test gives (x ∷ xs) = any_same p test x (filter test xs) xs (test x) refl (gives x) (any_own p test gives xs)
+
+is_same : (a b : ℕ) → a ≡ b → (a == b) ≡ true
+is_same a b same = grind (arith, nat_tests)
+
+are_same : (a b : ℕ) → (a == b) ≡ true → a ≡ b
+are_same a b is = grind (arith, nat_tests)
+
+-- whether a version is on duty, its vehicle's versions say alone
+duty_own : (id day : ℕ) (vehicles : List Vehicle) (x : Vehicle) → x.id ≡ id → is_on_duty day (versions_of id vehicles) x ≡ is_on_duty day vehicles x
+duty_own id day vehicles x own =
+    ap (λ b. (nat_le x.from_day day && not b) && has_weekday day x)
+    (any_own (is_newer day x) (λ (v : Vehicle). v.id == id)
+    (λ v newer. is_same v.id id (are_same v.id x.id (and_parts _ _ (and_parts _ _ newer).0).0 ∙ own)) vehicles)
+
+serve_own : (id day : ℕ) (P : Vehicle → Type 0) (vehicles : List Vehicle) → Any (λ v. (v.id ≡ id) × P v) (on_duty day vehicles)
+    → Any P (on_duty day (versions_of id vehicles))
+serve_own id day P vehicles any =
+    let own = versions_of id vehicles in
+    some_any P (on_duty day own)
+    (kept_some P (is_on_duty day own) own
+    (kept_some (λ v. (is_on_duty day own v ≡ true) × P v) (λ (v : Vehicle). v.id == id) vehicles
+    (some_weaker (λ v. (is_on_duty day vehicles v ≡ true) × ((v.id ≡ id) × P v))
+    (λ v. ((v.id == id) ≡ true) × ((is_on_duty day own v ≡ true) × P v))
+    (λ v is. (is_same v.id id is.1.0, (duty_own id day vehicles v is.1.0 ∙ is.0, is.1.1))) vehicles
+    (some_kept (λ v. (v.id ≡ id) × P v) (is_on_duty day vehicles) vehicles
+    (any_some (λ v. (v.id ≡ id) × P v) (on_duty day vehicles) any)))))
+
+own_serve : (id day : ℕ) (P : Vehicle → Type 0) (vehicles : List Vehicle) → Any P (on_duty day (versions_of id vehicles))
+    → Any (λ v. (v.id ≡ id) × P v) (on_duty day vehicles)
+own_serve id day P vehicles any =
+    let own = versions_of id vehicles in
+    some_any (λ v. (v.id ≡ id) × P v) (on_duty day vehicles)
+    (kept_some (λ v. (v.id ≡ id) × P v) (is_on_duty day vehicles) vehicles
+    (some_weaker (λ v. ((v.id == id) ≡ true) × ((is_on_duty day own v ≡ true) × P v))
+    (λ v. (is_on_duty day vehicles v ≡ true) × ((v.id ≡ id) × P v))
+    (λ v is. let same = are_same v.id id is.0 in (sym (duty_own id day vehicles v same) ∙ is.1.0, (same, is.1.1))) vehicles
+    (some_kept (λ v. (is_on_duty day own v ≡ true) × P v) (λ (v : Vehicle). v.id == id) vehicles
+    (some_kept P (is_on_duty day own) own (any_some P (on_duty day own) any)))))
+
+-- what is said of a result that is there holds of the same said otherwise
+if_ok : {A E : Type 0} (P Q : A → Type 0) → ((x : A) → P x → Q x) → (r : Result A E) → IfOk r P → IfOk r Q
+if_ok P Q gives (Ok x) holds = gives x holds
+if_ok P Q gives (Err e) holds = holds
+
+-- the same by rows and stops that are the same
+pub alike : (rows others : List Row) (stops route : List Stop) (versions duty : List Vehicle) (b : Bool) → rows ≡ others → stops ≡ route → versions ≡ duty
+    → (IsTrue b → Any (λ version. CanDrive rows stops version) versions) × (Any (λ version. CanDrive rows stops version) versions → IsTrue b)
+    → (IsTrue b → Any (λ version. CanDrive others route version) duty) × (Any (λ version. CanDrive others route version) duty → IsTrue b)
+alike rows others stops route versions duty b same_rows same_stops same_versions both =
+    subst (λ (vs : List Vehicle). (IsTrue b → Any (λ version. CanDrive others route version) vs) × (Any (λ version. CanDrive others route version) vs → IsTrue b)) same_versions
+    (subst (λ (ss : List Stop). (IsTrue b → Any (λ version. CanDrive others ss version) versions) × (Any (λ version. CanDrive others ss version) versions → IsTrue b)) same_stops
+    (subst (λ (rs : List Row). (IsTrue b → Any (λ version. CanDrive rs stops version) versions) × (Any (λ version. CanDrive rs stops version) versions → IsTrue b)) same_rows both))
+
+abbrev pub Tells : List Row → List Stop → List Vehicle → Bool → Type 0
+Tells rows stops versions b =
+    (IsTrue b → Any (λ version. CanDrive rows stops version) versions) × (Any (λ version. CanDrive rows stops version) versions → IsTrue b)
+
+pub all_alike : {E : Type 0} (rows : List Row) (stops route : List Stop) (versions duty : List Vehicle) (r : Result Bool E) → stops ≡ route → versions ≡ duty
+    → IfOk r (Tells rows stops versions) → IfOk r (Tells rows route duty)
+all_alike rows stops route versions duty r same_stops same_versions told =
+    if_ok (Tells rows stops versions) (Tells rows route duty) (λ b. alike rows rows stops route versions duty b refl same_stops same_versions) r told
+
+-- one of a vehicle's versions on duty can drive the stops where the vehicle can serve them
+serves : (vehicles : List Vehicle) (travel : List DatedTable) (id day : ℕ) (stops : List Stop) (b : Bool)
+    → Tells (rows_of (table_on day travel)) stops (on_duty day (versions_of id vehicles)) b
+    → (IsTrue b → CanServe vehicles travel id day stops) × (CanServe vehicles travel id day stops → IsTrue b)
+serves vehicles travel id day stops b told = (
+  λ holds. own_serve id day (CanDrive (rows_of (table_on day travel)) stops) vehicles (told.0 holds),
+  λ can. told.1 (serve_own id day (CanDrive (rows_of (table_on day travel)) stops) vehicles can),
+)
+
+pub all_serve : {E : Type 0} (vehicles versions : List Vehicle) (travel : List DatedTable) (id day : ℕ) (stops : List Stop) (r : Result Bool E)
+    → versions ≡ versions_of id vehicles → IfOk r (Tells (rows_of (table_on day travel)) stops (on_duty day versions))
+    → IfOk r (λ b. (IsTrue b → CanServe vehicles travel id day stops) × (CanServe vehicles travel id day stops → IsTrue b))
+all_serve vehicles versions travel id day stops r is told =
+    if_ok (Tells (rows_of (table_on day travel)) stops (on_duty day (versions_of id vehicles)))
+    (λ b. (IsTrue b → CanServe vehicles travel id day stops) × (CanServe vehicles travel id day stops → IsTrue b))
+    (serves vehicles travel id day stops) r
+    (subst (λ (vs : List Vehicle). IfOk r (Tells (rows_of (table_on day travel)) stops (on_duty day vs))) is told)
+
+pub some_past : {A : Type 0} (P : A → Type 0) (x : A) (xs : List A) (i : ℕ) (b : Bool) → i < length xs → x ≡ get_or xs i x
+    → (P x → IsTrue b) → b ≡ false → (HasSome P xs → HasSome P (drop i xs)) → HasSome P xs → HasSome P (drop (i + 1) xs)
+some_past P x xs i b lt at tells not there some =
+    left (subst (HasSome P) (next_from x xs i lt at) (there some))
+  where
+    left : P x ⊎ HasSome P (drop (i + 1) xs) → HasSome P (drop (i + 1) xs)
+    left (inl holds) = absurd (let yes = tells holds in cc)
+    left (inr rest) = rest
+
+pub is_some : {A : Type 0} (P : A → Type 0) (x : A) (xs : List A) (i : ℕ) → i < length xs → x ≡ get_or xs i x → P x
+    → (IsTrue true → Any P xs) × (Any P xs → IsTrue true)
+is_some P x xs i lt at holds = (λ is. (i, x, lt, sym at, holds), λ any. refl)
+
+pub is_none : {A : Type 0} (P : A → Type 0) (xs : List A) (i : ℕ) → length xs ≤ i → (HasSome P xs → HasSome P (drop i xs))
+    → (IsTrue false → Any P xs) × (Any P xs → IsTrue false)
+is_none P xs i end there = (
+  λ no. absurd (cc),
+  λ any. absurd (subst (HasSome P) (drop_all i xs end) (there (any_some P xs any))),
+)
+
+-- and where it can serve the stops of a plan, the plan fits
+pub plan_fits : {E : Type 0} (vehicles versions : List Vehicle) (travel : List DatedTable) (trips : List Trip) (plan : Plan) (vehicle day : ℕ)
+    (planned stops : List PlannedStop) (r : Result Bool E) → plan ≡ record { vehicle = vehicle; day = day; stops = stops } → planned ≡ stops
+    → versions ≡ versions_of vehicle vehicles
+    → IfOk r (Tells (rows_of (table_on day travel)) (stops_among trips planned) (on_duty day versions))
+    → IfOk r (λ b. (IsTrue b → FitsIn vehicles travel trips plan) × (FitsIn vehicles travel trips plan → IsTrue b))
+plan_fits vehicles versions travel trips plan vehicle day planned stops r is same own told =
+    subst (λ (p : Plan). IfOk r (λ b. (IsTrue b → FitsIn vehicles travel trips p) × (FitsIn vehicles travel trips p → IsTrue b))) (sym is)
+    (all_serve vehicles versions travel vehicle day (stops_among trips stops) r own
+    (subst (λ (ps : List PlannedStop). IfOk r (Tells (rows_of (table_on day travel)) (stops_among trips ps) (on_duty day versions))) same told))

@@ -1,0 +1,12 @@
+-- The entries of all case files, one after another.
+use Rattle.std.specs.Prelude.{◌≡◌, ℕ, ◌<◌, ◌==◌, if◌then◌else◌}
+use Rattle.pt_desk_rules.specs.Limits.{most_entries}
+use Rattle.pt_desk_rules.specs.declared.change.FiledEntry.{FiledEntry}
+
+-- the position that a rider's next entry takes, where the next one of this rider takes this
+abbrev pub next_position : ℕ → ℕ → ℕ → ℕ
+next_position last next rider = if rider == last then next else 0
+
+-- the entry stands at this position, which a file has
+abbrev pub IsAt : ℕ → FiledEntry → Type 0
+IsAt position filed = (filed.position ≡ position) × (position < most_entries)

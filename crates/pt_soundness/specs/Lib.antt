@@ -1,0 +1,4 @@
+pub mod Unsound
+pub mod Files
+pub mod Pairs
+pub mod Tables

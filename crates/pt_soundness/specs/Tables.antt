@@ -1,0 +1,46 @@
+-- The tables of the database, and what a sound state keeps in each.
+use Rattle.std.specs.Prelude.{ℕ, ◌<◌}
+use Rattle.pt_desk_rules.specs.State.{State}
+use Rattle.pt_soundness.specs.Unsound.{AreSoundCallers, AreSoundKept, AreSoundPlaces, AreSoundRoutes, AreSoundVehicles}
+use Rattle.pt_soundness.specs.Unsound.{AreSoundRiders, AreSoundEntries, AreSoundTrips, AreSoundPlans, AreSoundTables}
+use Rattle.pt_soundness.specs.declared.unsound_table.UnsoundTable.{UnsoundTable}
+use Rattle.pt_soundness.specs.declared.unsound_table.UnsoundTable.TheVariants as table
+
+abbrev pub table_count : ℕ
+table_count = 11
+
+abbrev pub number_of : UnsoundTable → ℕ
+number_of table.Desk = 1
+number_of table.Callers = 2
+number_of table.Kept = 3
+number_of table.Places = 4
+number_of table.Fixed = 5
+number_of table.Vehicles = 6
+number_of table.Riders = 7
+number_of table.Entries = 8
+number_of table.Trips = 9
+number_of table.Stops = 10
+number_of table.Travel = 11
+
+-- the lines of soundness that are a table's
+abbrev pub IsSoundIn : State → UnsoundTable → Type 0
+IsSoundIn s table.Desk = Unit {0}
+IsSoundIn s table.Callers = AreSoundCallers s.callers
+IsSoundIn s table.Kept = AreSoundKept s.callers s.kept
+IsSoundIn s table.Places = AreSoundPlaces s.places
+IsSoundIn s table.Fixed = AreSoundRoutes s.routes
+IsSoundIn s table.Vehicles = AreSoundVehicles s.callers s.places s.vehicles
+IsSoundIn s table.Riders = AreSoundRiders s.callers s.riders
+IsSoundIn s table.Entries = AreSoundEntries s.callers s.riders s.entries
+IsSoundIn s table.Trips = AreSoundTrips s.places s.vehicles s.riders s.last_trip s.trips
+IsSoundIn s table.Stops = AreSoundPlans s.trips s.planned
+IsSoundIn s table.Travel = AreSoundTables s.places s.vehicles s.trips s.planned s.travel
+
+-- each table before this number is sound
+abbrev pub AreSoundBefore : State → ℕ → Type 0
+AreSoundBefore s number = (table : UnsoundTable) → number_of table < number → IsSoundIn s table
+
+-- the first table that is not sound
+pub record IsFirstUnsound (s : State) (table : UnsoundTable) : Type 0 where
+  pub unsound : ¬ IsSoundIn s table
+  pub first : AreSoundBefore s (number_of table)

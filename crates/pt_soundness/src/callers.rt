@@ -1,0 +1,71 @@
+ghost use Rattle.std.specs.Prelude.{◌≡◌, ◌↔◌, IsTrue};
+ghost use Rattle.pt_records.specs.Records.{Each};
+ghost use Rattle.pt_desk_rules.specs.Sound.{HasDigest, HasOneHolder, IsOfCaller};
+ghost use Rattle.pt_soundness.specs.Unsound.{AreSoundCallers, AreSoundKept};
+
+use pt_desk_rules::{Caller, Kept, MOST_CALLERS};
+use pt_records::{Key, Table};
+
+/// Whether the caller's digest has 32 bytes.
+fn has_digest(caller: &Caller) -> bool
+    ensures { IsTrue result ↔ HasDigest caller.now }
+{
+    caller.digest.bytes().len() == 32
+}
+
+/// Whether the two are one caller or have two digests.
+fn differ(first: &Caller, second: &Caller) -> bool
+    ensures { IsTrue result ↔ (first.now.digest ≡ second.now.digest → first.now.id ≡ second.now.id) }
+{
+    first.id == second.id || first.digest != second.digest
+}
+
+/// Whether none of these but the caller has the caller's digest.
+fn has_one_holder(callers: &[Caller], caller: &Caller) -> bool
+    ensures { IsTrue result ↔ HasOneHolder callers.now caller.now }
+{
+    callers.iter().all(|other| differ(caller, other))
+}
+
+/// Whether each digest has 32 bytes.
+fn have_digests(callers: &[Caller]) -> bool
+    ensures { IsTrue result ↔ Each HasDigest callers.now }
+{
+    callers.iter().all(has_digest)
+}
+
+/// Whether no two callers have one digest.
+fn have_one_holder_each(callers: &[Caller]) -> bool
+    ensures { IsTrue result ↔ Each (HasOneHolder callers.now) callers.now }
+{
+    callers.iter().all(|caller| has_one_holder(callers, caller))
+}
+
+/// Whether the callers are those of a sound state, so far as they speak of no other table.
+pub(crate) fn are_sound_callers(callers: &Table<Caller>) -> bool
+    ensures { IsTrue result ↔ AreSoundCallers callers.now.items }
+{
+    let callers = callers.as_slice();
+    callers.len() <= MOST_CALLERS && have_digests(callers) && have_one_holder_each(callers)
+}
+
+/// Whether the caller of a kept write is there.
+fn is_of_caller(callers: &Table<Caller>, kept: &Kept) -> bool
+    ensures { IsTrue result ↔ IsOfCaller callers.now.items kept.now }
+{
+    callers.find(&Key::of(kept.caller.number())).is_some()
+}
+
+/// Whether the callers of the kept writes are there.
+fn are_of_callers(callers: &Table<Caller>, kept: &[Kept]) -> bool
+    ensures { IsTrue result ↔ Each (IsOfCaller callers.now.items) kept.now }
+{
+    kept.iter().all(|one| is_of_caller(callers, one))
+}
+
+/// Whether the kept writes are those of a sound state.
+pub(crate) fn are_sound_kept(callers: &Table<Caller>, kept: &Table<Kept>) -> bool
+    ensures { IsTrue result ↔ AreSoundKept callers.now.items kept.now.items }
+{
+    are_of_callers(callers, kept.as_slice())
+}

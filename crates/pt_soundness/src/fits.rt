@@ -1,0 +1,190 @@
+ghost use Rattle.std.specs.Prelude.{◌≡◌, ◌≤◌, ◌↔◌, ◌++◌, [], ◌∷◌, Any, IfOk, IsTrue};
+ghost use Rattle.pt_base.specs.declared.vehicle.Vehicle.{Vehicle};
+ghost use Rattle.pt_desk_rules.specs.Booking.{rows_of};
+ghost use Rattle.pt_desk_rules.specs.Fleet.{on_duty, versions_of};
+ghost use Rattle.pt_desk_rules.specs.Sound.{CanDrive, FitsIn, HasFirstDay};
+ghost use Rattle.pt_desk_rules.specs.Travel.{table_on};
+ghost use Rattle.pt_feasible.specs.Route.{stops_of};
+ghost use Rattle.pt_records.specs.Records.{Each};
+ghost use Rattle.pt_scheduling.specs.Plan.{stops_among, trip_stop, IsPlannedRoute, IsRoutePlan};
+ghost use Rattle.pt_soundness.specs.Unsound.{AreSoundTables};
+
+use crate::travel::{are_of_places, hold_from_days};
+use crate::vehicles::versions_of;
+use pt_base::{Day, Place, Trip, Vehicle};
+use pt_booking::asked_of;
+use pt_desk_rules::{MOST_TABLES, PlannedRoute, PlannedStop, TravelTable, on_duty, table_on};
+use pt_feasible::{Route, Stop, StopKind, loads_fit, settle};
+use pt_records::{Key, Table};
+use pt_travel::Raw;
+use std::alloc::{AllocError, Global};
+
+/// A trip's stop of this kind.
+fn trip_stop(kind: StopKind, trip: &Trip) -> Stop
+    ensures { result ≡ trip_stop kind trip.now }
+{
+    let asked = asked_of(trip);
+    match kind {
+        StopKind::Pickup => asked.pickup_stop(),
+        StopKind::Drop => asked.drop_stop(),
+    }
+}
+
+/// The stops of those trips that are among these.
+fn stops_among(
+    alloc: Global,
+    trips: &Table<Trip>,
+    planned: &[PlannedStop],
+) -> Result<Vec<Stop>, AllocError>
+    ensures { IfOk result (λ stops. stops.items ≡ stops_among trips.now.items planned.now) }
+{
+    let mut stops = Vec::new(alloc);
+    for stop in planned {
+        if let Some(trip) = trips.find(&Key::of(stop.trip.number())) {
+            stops.push(trip_stop(stop.kind, trip))?;
+        }
+    }
+    Ok(stops)
+}
+
+/// The route of these stops.
+fn route_of(
+    alloc: Global,
+    trips: &Table<Trip>,
+    planned: &[PlannedStop],
+) -> Result<Route, AllocError>
+    requires route { IsPlannedRoute planned.now }
+    ensures { IfOk result (λ route. stops_of route ≡ stops_among trips.now.items planned.now) }
+{
+    let stops = stops_among(alloc, trips, planned)?;
+    Ok(Route::of(stops).unwrap())
+}
+
+/// Whether the vehicle can drive the route by the driving times of the table.
+fn can_drive(table: &TravelTable, route: &Route, version: &Vehicle) -> bool
+    ensures { IsTrue result ↔ CanDrive table.now.rows (stops_of route.now) version.now }
+{
+    if !loads_fit(route, version) {
+        return false;
+    }
+    match settle(route, table.times(), version) {
+        Some(_) => true,
+        None => false,
+    }
+}
+
+/// Whether one of these can drive the route by the driving times of the table.
+fn can_serve(table: &TravelTable, route: &Route, versions: &[Vehicle]) -> bool
+    ensures { IsTrue result ↔ Any (λ version. CanDrive table.now.rows (stops_of route.now) version) versions.now }
+{
+    for version in versions {
+        if can_drive(table, route, version) {
+            return true;
+        }
+    }
+    false
+}
+
+/// A table of no rows, for a day before the first table's.
+fn no_table(alloc: Global, day: Day) -> Result<TravelTable, AllocError>
+    ensures { IfOk result (λ table. table.rows ≡ []) }
+{
+    TravelTable::of(alloc, day, Raw::of(Vec::new(alloc)).unwrap())
+}
+
+/// Whether one of these can drive the route by the driving times of the day.
+fn can_serve_on(
+    alloc: Global,
+    travel: &[TravelTable],
+    day: Day,
+    route: &Route,
+    versions: &[Vehicle],
+) -> Result<bool, AllocError>
+    ensures { IfOk result (λ can. IsTrue can
+        ↔ Any (λ version. CanDrive (rows_of (table_on day travel.now)) (stops_of route.now) version) versions.now) }
+{
+    match table_on(travel, day) {
+        Some(table) => Ok(can_serve(table, route, versions)),
+        None => {
+            let table = no_table(alloc, day)?;
+            Ok(can_serve(&table, route, versions))
+        }
+    }
+}
+
+/// Whether a vehicle can drive these stops on the day.
+fn can_drive_on(
+    alloc: Global,
+    versions: &[Vehicle],
+    travel: &[TravelTable],
+    trips: &Table<Trip>,
+    day: Day,
+    planned: &[PlannedStop],
+) -> Result<bool, AllocError>
+    requires route { IsPlannedRoute planned.now }
+    ensures { IfOk result (λ can. IsTrue can
+        ↔ Any (CanDrive (rows_of (table_on day travel.now)) (stops_among trips.now.items planned.now))
+        (on_duty day versions.now)) }
+{
+    let route = route_of(alloc, trips, planned)?;
+    let versions = on_duty(alloc, versions, day)?;
+    can_serve_on(alloc, travel, day, &route, &versions)
+}
+
+/// Whether the vehicle of a plan can drive its stops on its day.
+fn fits(
+    alloc: Global,
+    vehicles: &Table<Vehicle>,
+    travel: &[TravelTable],
+    trips: &Table<Trip>,
+    plan: &PlannedRoute,
+) -> Result<bool, AllocError>
+    requires days { Each HasFirstDay vehicles.now.items }
+    requires route { IsRoutePlan plan.now }
+    ensures { IfOk result (λ fits. IsTrue fits ↔ FitsIn vehicles.now.items travel.now trips.now.items plan.now) }
+{
+    let versions = versions_of(vehicles, plan.vehicle);
+    can_drive_on(alloc, versions, travel, trips, plan.day, &plan.stops)
+}
+
+/// Whether the vehicles of the plans can drive their stops on their days.
+fn all_fit(
+    alloc: Global,
+    vehicles: &Table<Vehicle>,
+    travel: &[TravelTable],
+    trips: &Table<Trip>,
+    plans: &[PlannedRoute],
+) -> Result<bool, AllocError>
+    requires days { Each HasFirstDay vehicles.now.items }
+    requires routes { Each IsRoutePlan plans.now }
+    ensures { IfOk result (λ fit. IsTrue fit
+        ↔ Each (FitsIn vehicles.now.items travel.now trips.now.items) plans.now) }
+{
+    for plan in plans {
+        if !fits(alloc, vehicles, travel, trips, plan)? {
+            return Ok(false);
+        }
+    }
+    Ok(true)
+}
+
+/// Whether the travel tables are those of a sound state, and the vehicles can drive what is planned for them.
+pub(crate) fn are_sound_tables(
+    alloc: Global,
+    places: &Table<Place>,
+    vehicles: &Table<Vehicle>,
+    trips: &Table<Trip>,
+    plans: &Table<PlannedRoute>,
+    travel: &Table<TravelTable>,
+) -> Result<bool, AllocError>
+    requires days { Each HasFirstDay vehicles.now.items }
+    requires routes { Each IsRoutePlan plans.now.items }
+    ensures { IfOk result (λ sound. IsTrue sound ↔ AreSoundTables places.now.items vehicles.now.items
+        trips.now.items plans.now.items travel.now.items) }
+{
+    let tables = travel.as_slice();
+    if tables.len() > MOST_TABLES || !hold_from_days(tables) || !are_of_places(places, tables) {
+        return Ok(false);
+    }
+    all_fit(alloc, vehicles, tables, trips, plans.as_slice())
+}

@@ -1,0 +1,20 @@
+//! Whether a state that was read is one that the desk may be in, and if not, in which table.
+#![tactic(auto)]
+
+pub use content::first_unsound_table;
+pub use unsound_table::UnsoundTable;
+
+mod callers;
+mod content;
+mod entries;
+mod files;
+mod fits;
+mod pairs;
+mod places;
+mod plans;
+#[cfg(test)]
+mod tests;
+mod travel;
+mod trips;
+mod unsound_table;
+mod vehicles;

@@ -1,0 +1,103 @@
+ghost use Rattle.std.specs.Prelude.{◌≡◌, ◌↔◌, ℕ, [], IsTrue};
+ghost use Rattle.pt_records.specs.Records.{Each};
+ghost use Rattle.pt_scheduling.specs.Plan.{stops_of_trip, IsPair, IsRoutePlan};
+
+use pt_base::TripId;
+use pt_desk_rules::{PlannedRoute, PlannedStop};
+use pt_feasible::{MAX_STOPS, StopKind};
+
+/// What came so far of a trip's stops.
+#[derive(Clone, Copy, Debug, PartialEq, Eq)]
+pub(crate) enum Met {
+    Nothing,
+    Pickup,
+    Both,
+}
+
+impl Met {
+    ghost use Rattle.pt_soundness.specs.Pairs.{met_after, met_with, IsRestAfter};
+
+    /// With one more stop of the trip; `None` where none of this kind may come.
+    fn with(self, kind: StopKind) -> Option<Met>
+        ensures { result ≡ met_with self kind }
+    {
+        match (self, kind) {
+            (Met::Nothing, StopKind::Pickup) => Some(Met::Pickup),
+            (Met::Pickup, StopKind::Drop) => Some(Met::Both),
+            _ => None,
+        }
+    }
+
+    /// With one more stop of any trip.
+    fn after(self, trip: TripId, stop: &PlannedStop) -> Option<Met>
+        ensures { result ≡ met_after trip self stop.now }
+    {
+        if stop.trip == trip {
+            self.with(stop.kind)
+        } else {
+            Some(self)
+        }
+    }
+
+    /// Whether no more stops need to come.
+    fn is_whole(self) -> bool
+        ensures { IsTrue result ↔ IsRestAfter self [] }
+    {
+        match self {
+            Met::Pickup => false,
+            Met::Nothing | Met::Both => true,
+        }
+    }
+}
+
+/// Whether the trip has no stops here, or a pickup and then a drop.
+fn is_pair_of(trip: TripId, stops: &[PlannedStop]) -> bool
+    ensures { IsTrue result ↔ IsPair (stops_of_trip trip stops.now) }
+{
+    let mut met = Met::Nothing;
+    for stop in stops {
+        match met.after(trip, stop) {
+            Some(next) => met = next,
+            None => return false,
+        }
+    }
+    met.is_whole()
+}
+
+/// Whether the trip of each of these stops has a pickup and then a drop.
+fn are_pairs(all: &[PlannedStop], stops: &[PlannedStop]) -> bool
+    ensures { IsTrue result ↔ Each (λ stop. IsPair (stops_of_trip stop.trip all.now)) stops.now }
+{
+    for stop in stops {
+        if !is_pair_of(stop.trip, all) {
+            return false;
+        }
+    }
+    true
+}
+
+/// Whether each trip has no stops here, or a pickup and then a drop.
+fn are_paired(stops: &[PlannedStop]) -> bool
+    ensures { IsTrue result ↔ ((trip : ℕ) → IsPair (stops_of_trip trip stops.now)) }
+{
+    are_pairs(stops, stops)
+}
+
+/// Whether the stops of the plan are a route.
+fn is_route_plan(plan: &PlannedRoute) -> bool
+    ensures { IsTrue result ↔ IsRoutePlan plan.now }
+{
+    plan.stops.len() <= MAX_STOPS && are_paired(&plan.stops)
+}
+
+/// Whether the stops of the plans are routes.
+pub(crate) fn are_route_plans(plans: &[PlannedRoute]) -> bool
+    ensures { IsTrue result ↔ Each IsRoutePlan plans.now }
+{
+    for plan in plans {
+        if !is_route_plan(plan) {
+            return false;
+        }
+    }
+    true
+}

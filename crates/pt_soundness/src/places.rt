@@ -1,0 +1,70 @@
+ghost use Rattle.std.specs.Prelude.{◌↔◌, IsTrue};
+ghost use Rattle.pt_corridor.specs.Route.{IsFixedRoute};
+ghost use Rattle.pt_records.specs.Records.{Each};
+ghost use Rattle.pt_soundness.specs.Unsound.{AreSoundPlaces, AreSoundRoutes, AreSoundRiders, HasRider};
+
+use pt_base::{Place, Rider};
+use pt_corridor::FixedRoute;
+use pt_desk_rules::{Caller, MOST_PLACES, MOST_RIDERS, MOST_ROUTES, Role};
+use pt_records::{Key, Table};
+
+/// Whether the places are those of a sound state.
+pub(crate) fn are_sound_places(places: &Table<Place>) -> bool
+    ensures { IsTrue result ↔ AreSoundPlaces places.now.items }
+{
+    places.as_slice().len() <= MOST_PLACES
+}
+
+/// True: a fixed route is one, as its type has it.
+fn is_fixed_route(route: &FixedRoute) -> bool
+    ensures { IsTrue result ↔ IsFixedRoute route.now }
+{
+    let _points = route.points();
+    let _width = route.width();
+    let _first = route.first();
+    true
+}
+
+/// True: the fixed routes are such, as their types have it.
+fn are_fixed_routes(routes: &[FixedRoute]) -> bool
+    ensures { IsTrue result ↔ Each IsFixedRoute routes.now }
+{
+    for route in routes {
+        if !is_fixed_route(route) {
+            return false;
+        }
+    }
+    true
+}
+
+/// Whether the fixed routes are those of a sound state.
+pub(crate) fn are_sound_routes(routes: &Table<FixedRoute>) -> bool
+    ensures { IsTrue result ↔ AreSoundRoutes routes.now.items }
+{
+    let routes = routes.as_slice();
+    routes.len() <= MOST_ROUTES && are_fixed_routes(routes)
+}
+
+/// Whether the rider is there of whom the caller's role speaks, if it speaks of one.
+fn has_rider(riders: &Table<Rider>, caller: &Caller) -> bool
+    ensures { IsTrue result ↔ HasRider riders.now.items caller.now }
+{
+    match caller.role {
+        Role::Rider(id) => riders.find(&Key::of(id.number())).is_some(),
+        _ => true,
+    }
+}
+
+/// Whether the riders are there who are callers.
+fn have_riders(riders: &Table<Rider>, callers: &[Caller]) -> bool
+    ensures { IsTrue result ↔ Each (HasRider riders.now.items) callers.now }
+{
+    callers.iter().all(|caller| has_rider(riders, caller))
+}
+
+/// Whether the riders are those of a sound state, with the callers who are riders.
+pub(crate) fn are_sound_riders(callers: &Table<Caller>, riders: &Table<Rider>) -> bool
+    ensures { IsTrue result ↔ AreSoundRiders callers.now.items riders.now.items }
+{
+    riders.as_slice().len() <= MOST_RIDERS && have_riders(riders, callers.as_slice())
+}

@@ -1,0 +1,127 @@
+ghost use Rattle.std.specs.Prelude.{◌≡◌, ◌==◌, ℕ, ◌≤◌, ◌↔◌, IsTrue};
+ghost use Rattle.std.specs.List.{list_any};
+ghost use Rattle.pt_base.specs.TripStatus.{stands};
+ghost use Rattle.pt_records.specs.Keys.{pair_key};
+ghost use Rattle.pt_records.specs.Records.{Each};
+ghost use Rattle.pt_scheduling.specs.Plan.{plan_key};
+ghost use Rattle.pt_desk_rules.specs.Sound.{HasStandingTrips, HasStops, IsOnDay, IsPlanned, StandsIn};
+ghost use Rattle.pt_soundness.specs.Unsound.{AreSoundPlans};
+
+use crate::pairs::are_route_plans;
+use pt_base::{Trip, TripId};
+use pt_desk_rules::{PlannedRoute, PlannedStop};
+use pt_records::{Key, Keyed, Table};
+use std::cmp::Ordering;
+
+/// Whether a trip stands in the vehicle and on the day of a plan.
+fn is_standing_in(plan: &PlannedRoute, trip: &Trip) -> bool
+    ensures { IsTrue result ↔ (IsTrue (stands trip.now.status)
+        × (pair_key trip.now.vehicle trip.now.wish.day ≡ plan_key plan.now)) }
+{
+    let key = Key::pair(trip.vehicle.number(), trip.wish.day.number());
+    trip.status.stands() && key.compare(&plan.key()) == Ordering::Equal
+}
+
+/// Whether the trip of a stop stands in the vehicle and on the day of the plan.
+fn stands_in(trips: &Table<Trip>, plan: &PlannedRoute, stop: &PlannedStop) -> bool
+    ensures { IsTrue result ↔ StandsIn trips.now.items (plan_key plan.now) stop.now.trip }
+{
+    match trips.find(&Key::of(stop.trip.number())) {
+        Some(trip) => is_standing_in(plan, trip),
+        None => false,
+    }
+}
+
+/// Whether the trips of these stops stand in the vehicle and on the day of the plan.
+fn stand_in(trips: &Table<Trip>, plan: &PlannedRoute, stops: &[PlannedStop]) -> bool
+    ensures { IsTrue result ↔ Each (λ stop. StandsIn trips.now.items (plan_key plan.now) stop.trip) stops.now }
+{
+    for stop in stops {
+        if !stands_in(trips, plan, stop) {
+            return false;
+        }
+    }
+    true
+}
+
+/// Whether the stops of a plan are those of trips that stand in it.
+fn has_standing_trips(trips: &Table<Trip>, plan: &PlannedRoute) -> bool
+    ensures { IsTrue result ↔ HasStandingTrips trips.now.items plan.now }
+{
+    stand_in(trips, plan, &plan.stops)
+}
+
+/// True: the day of a plan is a day, as its type has it.
+fn is_on_day(plan: &PlannedRoute) -> bool
+    ensures { IsTrue result ↔ IsOnDay plan.now }
+{
+    let _number = plan.day.number();
+    true
+}
+
+/// Whether the plan has stops.
+fn has_stops(plan: &PlannedRoute) -> bool
+    ensures { IsTrue result ↔ HasStops plan.now }
+{
+    !plan.stops.is_empty()
+}
+
+/// Whether some stop is one of this trip.
+fn has_trip(stops: &[PlannedStop], trip: TripId) -> bool
+    ensures { result ≡ list_any (λ stop. stop.trip == trip) stops.now }
+{
+    stops.iter().any(|stop| stop.trip == trip)
+}
+
+/// Whether the trip is in the plan of its vehicle on its day, where it stands.
+fn is_planned(plans: &Table<PlannedRoute>, trip: &Trip) -> bool
+    ensures { IsTrue result ↔ IsPlanned plans.now.items trip.now }
+{
+    if !trip.status.stands() {
+        return true;
+    }
+    match plans.find(&Key::pair(trip.vehicle.number(), trip.wish.day.number())) {
+        Some(plan) => has_trip(&plan.stops, trip.id),
+        None => false,
+    }
+}
+
+/// Whether the stops of the plans are those of trips that stand in them.
+fn have_standing_trips(trips: &Table<Trip>, plans: &[PlannedRoute]) -> bool
+    ensures { IsTrue result ↔ Each (HasStandingTrips trips.now.items) plans.now }
+{
+    plans.iter().all(|plan| has_standing_trips(trips, plan))
+}
+
+/// True: the days of the plans are days, as their types have it.
+fn are_on_days(plans: &[PlannedRoute]) -> bool
+    ensures { IsTrue result ↔ Each IsOnDay plans.now }
+{
+    plans.iter().all(is_on_day)
+}
+
+/// Whether the plans have stops.
+fn have_stops(plans: &[PlannedRoute]) -> bool
+    ensures { IsTrue result ↔ Each HasStops plans.now }
+{
+    plans.iter().all(has_stops)
+}
+
+/// Whether the trips that stand are planned.
+fn are_planned(plans: &Table<PlannedRoute>, trips: &[Trip]) -> bool
+    ensures { IsTrue result ↔ Each (IsPlanned plans.now.items) trips.now }
+{
+    trips.iter().all(|trip| is_planned(plans, trip))
+}
+
+/// Whether the plans are those of a sound state, with the trips, so far as they speak of no travel table.
+pub(crate) fn are_sound_plans(trips: &Table<Trip>, plans: &Table<PlannedRoute>) -> bool
+    ensures { IsTrue result ↔ AreSoundPlans trips.now.items plans.now.items }
+{
+    let routes = plans.as_slice();
+    are_route_plans(routes)
+        && have_standing_trips(trips, routes)
+        && are_on_days(routes)
+        && have_stops(routes)
+        && are_planned(plans, trips.as_slice())
+}

@@ -1,0 +1,102 @@
+ghost use Rattle.std.specs.Prelude.{ℕ, ◌↔◌, IsTrue};
+ghost use Rattle.pt_records.specs.Records.{Each};
+ghost use Rattle.pt_desk_rules.specs.Sound.{HasDay, HasFirstDay, HasPlaces, HasVehicle, IsNumberedTo, IsOfRider};
+ghost use Rattle.pt_soundness.specs.Unsound.{AreSoundTrips};
+
+use crate::vehicles::has_version;
+use pt_base::{Place, Rider, Trip, Vehicle};
+use pt_records::{Key, Table};
+
+/// Whether the trip has a number that was given.
+fn is_numbered_to(last: u32, trip: &Trip) -> bool
+    ensures { IsTrue result ↔ IsNumberedTo last trip.now }
+{
+    trip.id.number() <= last
+}
+
+/// Whether the rider of the trip is there.
+fn is_of_rider(riders: &Table<Rider>, trip: &Trip) -> bool
+    ensures { IsTrue result ↔ IsOfRider riders.now.items trip.now }
+{
+    riders.find(&Key::of(trip.rider.number())).is_some()
+}
+
+/// Whether both places of the trip are there.
+fn has_places(places: &Table<Place>, trip: &Trip) -> bool
+    ensures { IsTrue result ↔ HasPlaces places.now.items trip.now }
+{
+    places.find(&Key::of(trip.wish.from.number())).is_some()
+        && places.find(&Key::of(trip.wish.to.number())).is_some()
+}
+
+/// Whether the vehicle of the trip is there.
+fn has_vehicle(vehicles: &Table<Vehicle>, trip: &Trip) -> bool
+    requires days { Each HasFirstDay vehicles.now.items }
+    ensures { IsTrue result ↔ HasVehicle vehicles.now.items trip.now }
+{
+    has_version(vehicles, trip.vehicle)
+}
+
+/// True: the day of a trip is a day, as its type has it.
+fn has_day(trip: &Trip) -> bool
+    ensures { IsTrue result ↔ HasDay trip.now }
+{
+    let _number = trip.wish.day.number();
+    true
+}
+
+/// Whether the trips have numbers that were given.
+fn are_numbered_to(last: u32, trips: &[Trip]) -> bool
+    ensures { IsTrue result ↔ Each (IsNumberedTo last) trips.now }
+{
+    trips.iter().all(|trip| is_numbered_to(last, trip))
+}
+
+/// Whether the riders of the trips are there.
+fn are_of_riders(riders: &Table<Rider>, trips: &[Trip]) -> bool
+    ensures { IsTrue result ↔ Each (IsOfRider riders.now.items) trips.now }
+{
+    trips.iter().all(|trip| is_of_rider(riders, trip))
+}
+
+/// Whether the places of the trips are there.
+fn have_places(places: &Table<Place>, trips: &[Trip]) -> bool
+    ensures { IsTrue result ↔ Each (HasPlaces places.now.items) trips.now }
+{
+    trips.iter().all(|trip| has_places(places, trip))
+}
+
+/// Whether the vehicles of the trips are there.
+fn have_vehicles(vehicles: &Table<Vehicle>, trips: &[Trip]) -> bool
+    requires days { Each HasFirstDay vehicles.now.items }
+    ensures { IsTrue result ↔ Each (HasVehicle vehicles.now.items) trips.now }
+{
+    trips.iter().all(|trip| has_vehicle(vehicles, trip))
+}
+
+/// True: the days of the trips are days, as their types have it.
+fn have_days(trips: &[Trip]) -> bool
+    ensures { IsTrue result ↔ Each HasDay trips.now }
+{
+    trips.iter().all(has_day)
+}
+
+/// Whether the trips are those of a sound state, with the places, the vehicles and the riders.
+pub(crate) fn are_sound_trips(
+    places: &Table<Place>,
+    vehicles: &Table<Vehicle>,
+    riders: &Table<Rider>,
+    last: u32,
+    trips: &Table<Trip>,
+) -> bool
+    requires days { Each HasFirstDay vehicles.now.items }
+    ensures { IsTrue result
+        ↔ AreSoundTrips places.now.items vehicles.now.items riders.now.items last trips.now.items }
+{
+    let trips = trips.as_slice();
+    are_numbered_to(last, trips)
+        && are_of_riders(riders, trips)
+        && have_places(places, trips)
+        && have_vehicles(vehicles, trips)
+        && have_days(trips)
+}
