@@ -1,4 +1,4 @@
-ghost use Rattle.std.specs.Prelude.{◌≡◌, ◌≤◌, ◌↔◌, ◌++◌, [], ◌∷◌, Any, IfOk, IsTrue};
+ghost use Rattle.std.specs.Prelude.{◌≡◌, ◌↔◌, [], Any, IfOk, IsTrue};
 ghost use Rattle.pt_base.specs.declared.vehicle.Vehicle.{Vehicle};
 ghost use Rattle.pt_desk_rules.specs.Booking.{rows_of};
 ghost use Rattle.pt_desk_rules.specs.Fleet.{on_duty, versions_of};

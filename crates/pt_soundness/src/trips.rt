@@ -1,4 +1,4 @@
-ghost use Rattle.std.specs.Prelude.{ℕ, ◌↔◌, IsTrue};
+ghost use Rattle.std.specs.Prelude.{◌↔◌, IsTrue};
 ghost use Rattle.pt_records.specs.Records.{Each};
 ghost use Rattle.pt_desk_rules.specs.Sound.{HasDay, HasFirstDay, HasPlaces, HasVehicle, IsNumberedTo, IsOfRider};
 ghost use Rattle.pt_soundness.specs.Unsound.{AreSoundTrips};
