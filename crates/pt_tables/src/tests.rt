@@ -1,5 +1,5 @@
 use crate::{OpenFault, SqlKeeper};
-use sqlite::{Connection, Error, MemStore, Row};
+use sqlite::{Connection, Error, MemStore, Row, Transaction};
 use std::alloc::Global;
 use std::process::Abort;
 use std::test::Fail;
@@ -19,6 +19,24 @@ fn assert_numbers(rt: &impl Abort, row: &Row, wanted: &[i64]) -> Result<(), Erro
     for (at, &number) in wanted.iter().enumerate() {
         let found: i64 = row.get(at)?;
         assert_eq!(rt; found, number);
+    }
+    Ok(())
+}
+
+/// A query shows rows of these numbers, in their order.
+pub(crate) fn assert_rows(
+    rt: &impl Abort,
+    tx: &mut Transaction<'_, MemStore>,
+    query: &str,
+    wanted: &[&[i64]],
+) -> Result<(), Error> {
+    let rows = tx.query_all(query, &[])?;
+    assert_eq!(rt; rows.len(), wanted.len());
+    for (row, numbers) in rows.iter().zip(wanted.iter()) {
+        for (at, &number) in numbers.iter().enumerate() {
+            let found: i64 = row.get(at)?;
+            assert_eq!(rt; found, number);
+        }
     }
     Ok(())
 }

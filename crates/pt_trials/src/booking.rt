@@ -23,7 +23,9 @@ use pt_desk_rules::{PlannedRoute, TravelTable};
 use pt_feasible::StopKind;
 use pt_records::Edits;
 use pt_rights::{Condition, Conditions, Entered, Entry, Feet, Grant, Months, Outcome};
+use pt_tables::SqlKeeper;
 use pt_travel::{Raw, Row};
+use sqlite::{Connection, MemStore};
 use std::alloc::Global;
 use std::process::Abort;
 use std::test::Fail;
@@ -400,7 +402,7 @@ struct PlainCall {
 }
 
 /// What the desk tells.
-fn ask(rt: &impl Abort, alloc: Global, keeper: &mut ListKeeper, call: &PlainCall) -> Told {
+fn ask<K: Keeper>(rt: &impl Abort, alloc: Global, keeper: &mut K, call: &PlainCall) -> Told {
     let request = request(rt, call.asked);
     let now = (day(rt, call.now.0), minute(rt, call.now.1));
     let key = key_of(call.key);
@@ -424,10 +426,10 @@ fn stops_of(rt: &impl Abort, alloc: Global, route: &PlannedRoute) -> Vec<KeptSto
 }
 
 /// Compares the routes of a day as both desks keep them.
-fn compare_routes(
+fn compare_routes<K: Keeper>(
     rt: &impl Abort,
     alloc: Global,
-    keeper: &mut ListKeeper,
+    keeper: &mut K,
     second: &SecondDesk,
     number: u32,
 ) -> Result<(), Fail> {
@@ -656,10 +658,10 @@ fn count_answer(
 }
 
 /// Asks both desks the same, and compares what they tell and which routes they keep.
-fn compare_calls(
+fn compare_calls<K: Keeper>(
     rt: &impl Abort,
     alloc: Global,
-    keeper: &mut ListKeeper,
+    keeper: &mut K,
     second: &mut SecondDesk,
     seen: &mut Seen,
 ) -> Result<(), Fail> {
@@ -689,7 +691,7 @@ fn is_often(seen: &Seen, answer: &str) -> bool {
 }
 
 /// Sets the agency up at the desk, and compares it with the second one.
-fn compare_desks(rt: &impl Abort, alloc: Global, keeper: &mut ListKeeper) -> Result<(), Fail> {
+fn compare_desks<K: Keeper>(rt: &impl Abort, alloc: Global, keeper: &mut K) -> Result<(), Fail> {
     let mut agency = first_policy(alloc);
     fill(rt, alloc, &mut agency)?;
     keeper.commit(agency).expect(rt, "memory");
@@ -705,5 +707,19 @@ fn compare_desks(rt: &impl Abort, alloc: Global, keeper: &mut ListKeeper) -> Res
 fn random_trips_are_booked_as_by_the_second_desk(rt: HostRuntime) -> Result<(), Fail> {
     let alloc = rt.alloc();
     let mut keeper = ListKeeper::new(alloc, &key_of(ADMIN)).expect(&rt, "memory");
+    compare_desks(&rt, alloc, &mut keeper)
+}
+
+/// A desk in the tables of a database in memory, whose admin has this key.
+pub(crate) fn database(rt: &impl Abort, alloc: Global, admin_key: &[u8]) -> SqlKeeper<MemStore> {
+    let conn = Connection::open_in_memory(alloc).expect(rt, "memory");
+    let made = SqlKeeper::create(alloc, conn, admin_key).ok();
+    made.expect(rt, "a new database")
+}
+
+#[test]
+fn random_trips_are_kept_in_tables_as_by_the_second_desk(rt: HostRuntime) -> Result<(), Fail> {
+    let alloc = rt.alloc();
+    let mut keeper = database(&rt, alloc, &key_of(ADMIN));
     compare_desks(&rt, alloc, &mut keeper)
 }

@@ -1,9 +1,10 @@
 //! Random calls of the desk, answered once more over plain lists.
+use crate::booking::database;
 use crate::case_files::{
     Kind, Plain, plain_denial, plain_standing, plain_suspension, random_entry, spelled, throw, told,
 };
 use pt_base::{CallerId, Day, Minute, Residence, Rider, RiderId, Rule};
-use pt_desk::{Answer, Caller, Digest, ListKeeper, Read, Request, Role, Write, answer};
+use pt_desk::{Answer, Caller, Digest, Keeper, ListKeeper, Read, Request, Role, Write, answer};
 use pt_rights::Standing;
 use std::alloc::Global;
 use std::process::Abort;
@@ -449,10 +450,10 @@ fn plain_answer(answer: &Answer) -> Told {
 }
 
 /// Asks both desks the same, and compares what they tell.
-fn compare_calls(
+fn compare_calls<K: Keeper>(
     rt: &impl Abort,
     alloc: Global,
-    keeper: &mut ListKeeper,
+    keeper: &mut K,
     plain: &mut PlainDesk,
 ) -> Result<(), Fail> {
     let mut dice = SEED;
@@ -468,9 +469,9 @@ fn compare_calls(
 }
 
 /// What the desk tells.
-fn ask(
+fn ask<K: Keeper>(
     alloc: Global,
-    keeper: &mut ListKeeper,
+    keeper: &mut K,
     today: u32,
     key: u8,
     number: u32,
@@ -487,12 +488,10 @@ fn ask(
     }
 }
 
-#[test]
-fn random_calls_are_answered_as_by_the_plain_desk(rt: HostRuntime) -> Result<(), Fail> {
-    let alloc = rt.alloc();
-    let mut keeper = ListKeeper::new(alloc, &[1])?;
+/// Compares the desk with the plain one, in all calls.
+fn compare_desks<K: Keeper>(rt: &impl Abort, alloc: Global, keeper: &mut K) -> Result<(), Fail> {
     let mut plain = PlainDesk::new(alloc)?;
-    compare_calls(&rt, alloc, &mut keeper, &mut plain)?;
+    compare_calls(rt, alloc, keeper, &mut plain)?;
     let PlainDesk {
         entered,
         repeated,
@@ -503,4 +502,18 @@ fn random_calls_are_answered_as_by_the_plain_desk(rt: HostRuntime) -> Result<(),
         "{entered} entries, {repeated} repeats"
     );
     Ok(())
+}
+
+#[test]
+fn random_calls_are_answered_as_by_the_plain_desk(rt: HostRuntime) -> Result<(), Fail> {
+    let alloc = rt.alloc();
+    let mut keeper = ListKeeper::new(alloc, &[1]).expect(&rt, "memory");
+    compare_desks(&rt, alloc, &mut keeper)
+}
+
+#[test]
+fn random_calls_are_kept_in_tables_as_by_the_plain_desk(rt: HostRuntime) -> Result<(), Fail> {
+    let alloc = rt.alloc();
+    let mut keeper = database(&rt, alloc, &[1]);
+    compare_desks(&rt, alloc, &mut keeper)
 }

@@ -1,11 +1,13 @@
 //! A desk with a travel table from its first caller on: trips that are booked, changed and cancelled as an agency works
 //! them out by hand, with the body of each reply to the byte.
-use crate::booking::{caller, day, key_of, line, minute, place_id, request, rider_id, vehicle};
+use crate::booking::{
+    caller, database, day, key_of, line, minute, place_id, request, rider_id, vehicle,
+};
 use crate::case_files::{Kind, Plain, told};
 use crate::plain_agency::{PlainLine, PlainRow, PlainVehicle, PlainWish};
 use crate::second_desk::{ADMIN, Asked, CLERK, DISPATCHER, EXAMINER, rows_of};
 use pt_base::{Place, Point, Residence, Rider, VehicleId};
-use pt_desk::{ListKeeper, Read, Reply, Request, Role, Write, answer};
+use pt_desk::{Keeper, ListKeeper, Read, Reply, Request, Role, Write, answer};
 use pt_http_reply::{Response, reply_to};
 use pt_travel::Raw;
 use std::alloc::Global;
@@ -317,10 +319,10 @@ fn bytes_of(rt: &impl Abort, alloc: Global, reply: Reply) -> Vec<u8> {
 }
 
 /// Makes a call, and compares the body of the reply.
-fn compare_reply(
+fn compare_reply<K: Keeper>(
     rt: &impl Abort,
     alloc: Global,
-    keeper: &mut ListKeeper,
+    keeper: &mut K,
     number: u32,
     step: &(u32, u32, Call, &str),
 ) -> Result<(), Fail> {
@@ -345,7 +347,7 @@ fn reply_in_setting(call: Call) -> &'static str {
 }
 
 /// Sets the desk up with the first writes, and says how many there were.
-fn set_up(rt: &impl Abort, alloc: Global, keeper: &mut ListKeeper) -> Result<u32, Fail> {
+fn set_up<K: Keeper>(rt: &impl Abort, alloc: Global, keeper: &mut K) -> Result<u32, Fail> {
     let mut number: u32 = 0;
     for call in &SETTING {
         number = number.saturating_add(1);
@@ -355,7 +357,7 @@ fn set_up(rt: &impl Abort, alloc: Global, keeper: &mut ListKeeper) -> Result<u32
     Ok(number)
 }
 
-fn compare_replies(rt: &impl Abort, alloc: Global, keeper: &mut ListKeeper) -> Result<(), Fail> {
+fn compare_replies<K: Keeper>(rt: &impl Abort, alloc: Global, keeper: &mut K) -> Result<(), Fail> {
     let mut number = set_up(rt, alloc, keeper)?;
     for step in &CALLS {
         number = number.saturating_add(1);
@@ -368,5 +370,12 @@ fn compare_replies(rt: &impl Abort, alloc: Global, keeper: &mut ListKeeper) -> R
 fn trips_of_a_desk_with_a_travel_table(rt: HostRuntime) -> Result<(), Fail> {
     let alloc = rt.alloc();
     let mut keeper = ListKeeper::new(alloc, &key_of(ADMIN)).expect(&rt, "memory");
+    compare_replies(&rt, alloc, &mut keeper)
+}
+
+#[test]
+fn trips_of_a_desk_in_tables(rt: HostRuntime) -> Result<(), Fail> {
+    let alloc = rt.alloc();
+    let mut keeper = database(&rt, alloc, &key_of(ADMIN));
     compare_replies(&rt, alloc, &mut keeper)
 }

@@ -4,6 +4,7 @@ use crate::grouped::{
     put_entry, put_plan, put_travel, put_vehicle, take_entry, take_plan, take_travel, take_vehicle,
 };
 use crate::schema::create_tables;
+use crate::tests::assert_rows;
 use pt_base::{CallerId, Day, Minute, PlaceId, RiderId, TripId, Vehicle, VehicleId, Weekdays};
 use pt_desk_rules::{FiledEntry, TravelTable};
 use pt_feasible::StopKind;
@@ -27,23 +28,6 @@ fn make_parents(tx: &mut Transaction<'_, MemStore>) -> Result<(), Error> {
          VALUES (9, 5, 20000, 600, 8, 8, -1, 0, 0, 400, 2, 60, 3, 590, 610, 0)",
     ] {
         tx.execute(insert, &[])?;
-    }
-    Ok(())
-}
-
-fn assert_rows(
-    rt: &impl Abort,
-    tx: &mut Transaction<'_, MemStore>,
-    query: &str,
-    wanted: &[&[i64]],
-) -> Result<(), Error> {
-    let rows = tx.query_all(query, &[])?;
-    assert_eq!(rt; rows.len(), wanted.len());
-    for (row, numbers) in rows.iter().zip(wanted.iter()) {
-        for (at, &number) in numbers.iter().enumerate() {
-            let found: i64 = row.get(at)?;
-            assert_eq!(rt; found, number);
-        }
     }
     Ok(())
 }
