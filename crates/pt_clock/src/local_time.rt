@@ -54,8 +54,8 @@ pub fn now_in(zone: &str, instant: Timestamp) -> Result<(Day, Minute), Fault>
 
 /// The day and the minute on the clocks of a zone, where a clock that could not be read gives no instant.
 ///
-/// The zone is looked at first: a text that is no rule of a zone is the fault `NO_SUCH_ZONE`, whatever the clock says. With
-/// a rule, a clock that could not be read is `DATE_OUT_OF_RANGE`, as one that is out of range.
+/// The zone is looked at first: a text that is no rule of a zone is the fault `NO_SUCH_ZONE`, whatever the clock says.
+/// With a rule, a clock that could not be read is `DATE_OUT_OF_RANGE`, as one that is out of range.
 pub fn moment_of(zone: &str, clock: Option<Timestamp>) -> Result<(Day, Minute), Fault>
     ensures local { IfSome clock (λ instant. IfOk result (λ now.
         IsLocalTime zone.now instant.nanosecond (pos now.0) now.1)) }
