@@ -16,7 +16,7 @@ impl Model for Spelling {
 
 impl Spelling {
     /// These bytes as a spelling.
-    pub(crate) fn of(bytes: Vec<u8>) -> Self
+    pub fn of(bytes: Vec<u8>) -> Self
         ensures value { result ≡ bytes.items }
     {
         Spelling { bytes }
