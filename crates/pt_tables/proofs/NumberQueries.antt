@@ -56,7 +56,7 @@ none_given true rows = refl
 none_given false rows = refl
 
 -- no table stands over those of the database
-bare : (db : Trees) (tree : ℕ) → overlay db [] tree ≡ db tree
+pub bare : (db : Trees) (tree : ℕ) → overlay db [] tree ≡ db tree
 bare db tree = none_given (nat_le (2 ^ 31) tree) (db tree)
 
 none_permuted : {X : Type 0} (ys : List X) → IsPermutation [] ys → ys ≡ []

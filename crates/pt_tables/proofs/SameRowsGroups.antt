@@ -98,10 +98,10 @@ plan-told one other some others_some alike =
 -- ---- travel tables
 
 -- a row of a travel table by its columns
-abbrev drive_in : Row → travel.Row
+abbrev pub drive_in : Row → travel.Row
 drive_in row = (number_in 1 row, number_in 2 row, number_in 3 row)
 
-drives-back : (from_day : ℕ) (rows : List travel.Row) → map drive_in (map (travel_row from_day) rows) ≡ rows
+pub drives-back : (from_day : ℕ) (rows : List travel.Row) → map drive_in (map (travel_row from_day) rows) ≡ rows
 drives-back from_day [] = refl
 drives-back from_day (row ∷ rows) = ap (λ (l : List travel.Row). row ∷ l) (drives-back from_day rows)
 

@@ -11,3 +11,10 @@ pub mod Opens
 pub mod Groups
 pub mod Committing
 pub mod Mirror
+pub mod Reading
+pub mod Fitting
+pub mod Opening
+pub mod Told
+pub mod Sections
+pub mod Plain
+pub mod Gathered

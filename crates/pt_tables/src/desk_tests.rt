@@ -1,5 +1,6 @@
 //! Calls of a desk over tables and over plain lists, which are told alike, and the rows that they leave.
 use crate::SqlKeeper;
+use crate::opening::tests::assert_counts;
 use pt_base::{
     CallerId, Day, Minute, Place, PlaceId, Point, Policy, Residence, Rider, RiderId, RouteId,
     TripId, Vehicle, VehicleId, Weekdays, Wish,
@@ -357,5 +358,7 @@ fn calls_over_tables_are_told_as_over_lists(rt: HostRuntime) -> Result<(), Fail>
     };
     compare_replies(&rt, alloc, &mut tables);
     assert_eq!(rt; tables.failures(), 0);
-    compare_rows(&rt, &mut tables.release())
+    let mut conn = tables.release();
+    compare_rows(&rt, &mut conn)?;
+    Ok(assert_counts(&rt, alloc, &mut conn, [4, 4, 3, 1, 1, 1, 2, 3])?)
 }

@@ -1,4 +1,4 @@
-ghost use Rattle.std.specs.Prelude.{◌≡◌, ◌⊎◌, ◌↔◌, ◌<◌, IsTrue, IfOk, IfErr, OnOk, OnErr, MatchResult, false};
+ghost use Rattle.std.specs.Prelude.{◌≡◌, ◌⊎◌, ◌↔◌, ◌<◌, IsTrue, IfOk, IfErr, IsErrAnd, OnOk, OnErr, MatchResult, false};
 ghost use Rattle.pt_base.specs.Codes.{memory_refused};
 ghost use Rattle.pt_desk.specs.LeastState.{IsLeastState};
 ghost use Rattle.pt_desk.specs.declared.keeper.StoreFault.TheVariants.{Memory, Store as Failed};
@@ -7,14 +7,17 @@ ghost use Rattle.pt_desk_rules.specs.State.{State};
 ghost use Rattle.sqlite.specs.Held.{state};
 ghost use Rattle.sqlite.specs.State.{HasCleanDisk, Survives};
 ghost use Rattle.sqlite.specs.Tree.{Trees};
-ghost use Rattle.pt_tables.specs.Faults.{fault, store_refused};
+ghost use Rattle.sqlite.specs.View.{IsClean};
+ghost use Rattle.pt_tables.specs.Faults.{IsRefusal, fault, store_refused};
 ghost use Rattle.pt_tables.specs.Least.{IsNew, IsAsBefore, IsInUse, IsUndone, HasNewRows, HasLeastRows};
+ghost use Rattle.pt_tables.specs.Opening.{IsReopened};
 ghost use Rattle.pt_tables.specs.Schema.{no_schema};
-ghost use Rattle.pt_tables.specs.Tables.{IsKept};
+ghost use Rattle.pt_tables.specs.Tables.{HasRows, IsKept};
 
 use crate::OpenFault;
 use crate::first_rows::{insert_admin, insert_desk};
 use crate::open_fault::open_fault;
+use crate::opening::content_in;
 use crate::schema::create_tables;
 use crate::told::is_told;
 use crate::writes::write_change;
@@ -189,6 +192,62 @@ fn blame(failures: &mut u32, error: &Error) -> StoreFault
     }
     *failures = FAILED;
     StoreFault::Store
+}
+
+/// A new connection to what another had committed, whose open transaction, if it has one, is undone: code 32 where the
+/// store failed, and 0 where memory was refused. Its store is handed back with the refusal.
+fn reopened<S: Alter + Drop>(
+    alloc: Global,
+    conn: Connection<S>,
+) -> Result<Connection<S>, (S, OpenFault)>
+    ensures opened { IfOk result (λ new. HasCleanDisk (state S.Store new)
+        → IsReopened (state S.Store conn) (state S.Store new)) }
+    ensures settled { IfOk result (λ new. new.in_transaction ≡ false) }
+    ensures kept { IfErr result (λ refused. IsClean (S.Store.view refused.0) → IsTrue (S.Store.view refused.0).is_open
+        → (S.Store.view refused.0).trees ≡ (state S.Store conn).committed.trees) }
+    ensures faults { IfErr result (λ refused. IsRefusal refused.1) }
+{
+    let store = conn.into_store();
+    if store.is_broken() {
+        return Err((store, OpenFault::STORE));
+    }
+    match Connection::over(alloc, store) {
+        Ok(conn) => Ok(conn),
+        Err((error, store)) => Err((store, open_fault(&error))),
+    }
+}
+
+impl<S: Alter + Drop> SqlKeeper<S> {
+    /// Opens a database that has the desk's tables: their content is read into memory, and nothing is written.
+    ///
+    /// A refusal hands the store back: code 30 where the tables are not the desk's, or are of another version; 31 with
+    /// the number of a table whose rows are those of no sound state; 32 where a transaction is open or the store failed;
+    /// 0 where memory was refused.
+    pub fn adopt(alloc: Global, conn: Connection<S>) -> Result<SqlKeeper<S>, (S, OpenFault)>
+        ensures sound { IfOk result (λ keeper. IsSound keeper.mirror.content) }
+        ensures rows { IfOk result (λ keeper. HasCleanDisk (state S.Store keeper.conn)
+            → HasRows keeper.mirror.content (state S.Store conn).committed.trees) }
+        ensures serves { IfOk result (λ keeper. keeper.failures ≡ 0) }
+        ensures kept { IfErr result (λ refused. IsClean (S.Store.view refused.0)
+            → IsTrue (S.Store.view refused.0).is_open
+            → (S.Store.view refused.0).trees ≡ (state S.Store conn).committed.trees) }
+        ensures faults { IfErr result (λ refused. IsRefusal refused.1) }
+        ensures in_use { IsTrue (state S.Store conn).in_transaction
+            → IsErrAnd result (λ refused. refused.1 ≡ fault store_refused) }
+    {
+        if !conn.is_autocommit() {
+            return Err((conn.into_store(), OpenFault::STORE));
+        }
+        let mut conn = reopened(alloc, conn)?;
+        match content_in(alloc, &mut conn) {
+            Ok(mirror) => Ok(SqlKeeper {
+                conn,
+                failures: NEVER_FAILED,
+                mirror,
+            }),
+            Err(refused) => Err((conn.into_store(), refused)),
+        }
+    }
 }
 
 impl<S: Alter> Keeper for SqlKeeper<S> {

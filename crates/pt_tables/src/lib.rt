@@ -13,6 +13,8 @@ mod keeper;
 mod laws;
 mod numbered;
 mod open_fault;
+mod opening;
+pub mod reading;
 mod schema;
 mod stored;
 #[cfg(test)]

@@ -1,0 +1,28 @@
+use Rattle.std.proofs.Common.{subst, arith}
+use Rattle.sqlite.specs.Held.{state}
+use Rattle.sqlite.specs.State.{HasCleanDisk}
+use Rattle.pt_tables.specs.Opening.{Rests}
+use Rattle.pt_tables.specs.Tables.{HasRows}
+use Rattle.pt_tables.proofs.AdoptLemmas.{adopted, handed_back}
+use Rattle.pt_tables.proofs.keeper.SqlKeeper.adopt.Goals as goal
+
+pub invariant_of-result : goal.invariant_of-result
+invariant_of-result g c =
+    let mid = state g.S.Store c.in_ok-conn.conn in
+    let new = state g.S.Store c.content_in.new.conn in
+    adopted c.in-Ok.mirror.content (state g.S.Store c.args.conn) mid new c.in-Ok.mirror (subst (λ r. Rests mid new r) c.in-Ok.is c.content_in.ensures.rests)
+    c.in_ok-conn.ensures.settled c.in-Ok.ensures.schema c.in_ok-conn.ensures.opened c.in-Ok.ensures.well_formed c.in-Ok.ensures.rows
+
+pub returns-in-Ok-clause-rows : goal.returns-in-Ok-clause-rows
+returns-in-Ok-clause-rows g c clean =
+    let mid = state g.S.Store c.in_ok-conn.conn in
+    let early : HasCleanDisk mid = omega (arith, clean, c.content_in.ensures.rests.survives.clean) in
+    subst (HasRows c.in-Ok.mirror.content) (c.in_ok-conn.ensures.opened early).rows (c.in-Ok.ensures.rows clean)
+
+pub returns-in-Err-clause-kept : goal.returns-in-Err-clause-kept
+returns-in-Err-clause-kept g c clean here =
+    let new = state g.S.Store c.content_in.new.conn in
+    let early : HasCleanDisk new = omega (arith, clean, c.into_store-in-Err.ensures.quiet.clean) in
+    handed_back (state g.S.Store c.args.conn) (state g.S.Store c.in_ok-conn.conn) new (g.S.Store.view c.into_store-in-Err.result).trees
+    (c.into_store-in-Err.ensures.undone.undone here).0 ((c.into_store-in-Err.ensures.undone.kept clean).was_open here) early c.content_in.ensures.stays
+    c.content_in.ensures.rests.survives.clean c.in_ok-conn.ensures.opened
