@@ -2,7 +2,7 @@
 use Rattle.std.proofs.Common.{◌≡◌, ℕ, List, refl, sym, ap, subst}
 use Rattle.pt_http_reply.specs.declared.response.Response.{Response}
 use Rattle.pt_http_reply.specs.declared.response.Response.TheVariants as response
-use Rattle.pt_http.specs.Exchange.{Desk, Exchanges, is_last}
+use Rattle.pt_http.specs.Exchange.{Desk, Exchanges, Serves, is_last}
 use Rattle.pt_http.specs.Message.{BeginsWithFault}
 use Rattle.pt_http.specs.Received.{BeginsWith, Responds, is_end}
 use Rattle.pt_http.specs.declared.received.Received.{Received}
@@ -29,3 +29,11 @@ same_end shut now (received.Message message) old new (response.Refused named) re
 same_end shut now (received.Refused why) old new (response.Answered told) responds = absurd responds
 same_end shut now (received.Refused why) old new (response.Refused named) (is, same) =
     ap (λ fault. is_last (response.Refused fault)) (sym is)
+
+-- whatever came in, it was served
+pub served : (shut : ℕ) (now : ℕ × ℕ) (came : Received) (old new : Desk) (reply : Response)
+    → Responds shut now came old new reply → Serves shut now old new reply
+served shut now (received.Message message) old new (response.Answered told) responds = (message, responds)
+served shut now (received.Message message) old new (response.Refused named) responds = absurd responds
+served shut now (received.Refused why) old new (response.Answered told) responds = absurd responds
+served shut now (received.Refused why) old new (response.Refused named) (is, same) = same

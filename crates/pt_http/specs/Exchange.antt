@@ -48,6 +48,16 @@ Exchanges shut now bytes old new (response.Answered told) rest =
     (message : Message) × BeginsWithMessage bytes message rest × AnswersMessage shut now message old new told
 Exchanges shut now bytes old new (response.Refused why) rest = BeginsWithFault bytes why rest × (new ≡ old)
 
+-- whatever came in, the reply is the desk's to some message at this moment, or to bytes that begin with none, which
+-- change nothing
+abbrev pub Serves : ℕ → (ℕ × ℕ) → Desk → Desk → Response → Type 0
+Serves shut now old new (response.Answered told) = (message : Message) × AnswersMessage shut now message old new told
+Serves shut now old new (response.Refused why) = new ≡ old
+
+-- the same of a desk over a store, as it stood and as it stands
+abbrev pub ServesOver : Store → Store → (ℕ × ℕ) → Response → Type 0
+ServesOver old new now reply = Serves new.shut now (desk_of old) (desk_of new) reply
+
 -- memory was refused, or a read failed or was one too many: nothing was answered
 abbrev pub IsUnanswered : Fault → Type 0
 IsUnanswered error = (error ≡ fault memory_refused) ⊎ (error ≡ fault read_failed)

@@ -1,7 +1,7 @@
 ghost use Rattle.std.specs.Prelude.{◌≡◌, ◌⊎◌, ℕ, ◌≤◌, List, Err, IfOk, IfErr, OnOk};
 ghost use Rattle.pt_base.specs.Fault.{fault};
 ghost use Rattle.pt_base.specs.Codes.{write_failed};
-ghost use Rattle.pt_http.specs.Exchange.{Desk, desk_of, IsExchangedOver, IsWritten, IsUnanswered};
+ghost use Rattle.pt_http.specs.Exchange.{Desk, desk_of, IsExchangedOver, IsWritten, IsUnanswered, ServesOver};
 ghost use Rattle.pt_desk.specs.Store.{Store, IsSettled};
 ghost use Rattle.pt_http.specs.Input.{HasInput};
 ghost use Rattle.pt_http.specs.Received.{Responds};
@@ -81,6 +81,11 @@ pub fn exchange<K: Keeper, R: Read + Drop, W: Write>(
         → result ≡ Err (fault write_failed) → (reply : Response)
         × IsExchangedOver R.remaining (K.store keeper.old) (K.store keeper.new) now input inbox.new reply
         × ((text : List ℕ) × IsReplyText reply text) }
+    // Whatever the reader gives, and also where its bytes are not known.
+    ensures served { (K.store keeper.new).doubt ≡ 0
+        → IfOk result (ServesOver (K.store keeper.old) (K.store keeper.new) now) }
+    ensures unseen { (K.store keeper.new).doubt ≡ 0 → result ≡ Err (fault write_failed)
+        → (reply : Response) × ServesOver (K.store keeper.old) (K.store keeper.new) now reply }
     ensures unanswered { IfErr result (λ error. IsUnanswered error → (keeper.new ≡ keeper.old) × (out.new ≡ out.old)) }
     ensures fault { IfErr result (λ error. IsUnanswered error ⊎ (error ≡ fault write_failed)) }
     ensures clean { (K.store keeper.old).doubt ≤ (K.store keeper.new).doubt }
@@ -113,6 +118,12 @@ pub fn answer_bytes<K: Keeper, R: Read + Drop, W: Write>(
     ensures unheard { (K.store keeper.new).doubt ≡ 0 → (input : List ℕ) → HasInput R.remaining inbox.old input
         → result ≡ Err (fault write_failed) → (reply : Response)
         × IsExchangedOver R.remaining (K.store keeper.old) (K.store keeper.new) now input inbox.new reply }
+    // Whatever the reader gives, and also where its bytes are not known.
+    ensures served { (K.store keeper.new).doubt ≡ 0
+        → OnOk result ((reply : Response) × ServesOver (K.store keeper.old) (K.store keeper.new) now reply
+        × IsWritten reply (W.contents out.old) (W.contents out.new)) }
+    ensures unseen { (K.store keeper.new).doubt ≡ 0 → result ≡ Err (fault write_failed)
+        → (reply : Response) × ServesOver (K.store keeper.old) (K.store keeper.new) now reply }
     ensures unanswered { IfErr result (λ error. IsUnanswered error → (keeper.new ≡ keeper.old) × (out.new ≡ out.old)) }
     ensures fault { IfErr result (λ error. IsUnanswered error ⊎ (error ≡ fault write_failed)) }
     ensures clean { (K.store keeper.old).doubt ≤ (K.store keeper.new).doubt }

@@ -1,6 +1,6 @@
 use Rattle.std.proofs.Common.{◌∙◌}
 use Rattle.pt_http_reply.specs.Reply.{bytes_of}
-use Rattle.pt_http.proofs.ExchangeLemmas.{exchanged, same_end}
+use Rattle.pt_http.proofs.ExchangeLemmas.{exchanged, same_end, served}
 use Rattle.pt_http.proofs.ToldLemmas.{sent_responds}
 use Rattle.pt_http.proofs.exchanging.exchange.Goals as goal
 
@@ -31,3 +31,19 @@ returns-clause-answered g c = λ clean input has.
       exchanged _ _ input c.in_ok-received.received _ _ reply came.0 came.2 responds,
       λ more. c.in_ok-received.ensures.fresh (same_end _ _ c.in_ok-received.received _ _ reply responds ∙ more),
     )
+
+pub returns-in_err-write_reply-clause-unseen : goal.returns-in_err-write_reply-clause-unseen
+returns-in_err-write_reply-clause-unseen g c = λ clean is.
+    let reply = c.reply_to-response.result.0 in (
+      reply,
+      served _ _ c.in_ok-received.received _ _ reply
+          (sent_responds _ _ c.in_ok-received.received _ _ c.respond-response.result reply
+          (c.respond-response.ensures.responds clean) c.reply_to-response.ensures.sent),
+    )
+
+pub returns-clause-served : goal.returns-clause-served
+returns-clause-served g c = λ clean.
+    let reply = c.reply_to-response.result.0 in
+    served _ _ c.in_ok-received.received _ _ reply
+    (sent_responds _ _ c.in_ok-received.received _ _ c.respond-response.result reply
+    (c.respond-response.ensures.responds clean) c.reply_to-response.ensures.sent)
