@@ -1,0 +1,23 @@
+use Rattle.std.proofs.Common.{◌≡◌, ◌≤◌}
+use Rattle.pt_desk.specs.Store.{IsSettled, Store}
+use Rattle.pt_http.specs.Exchange.{desk_of}
+use Rattle.pt_serve.proofs.ServingLemmas.{HasServed}
+use Rattle.pt_serve.specs.Port.{left_of}
+use Rattle.pt_serve.proofs.serving.serve.Given as goal
+
+-- what came of each connection so far
+abbrev pub invariant-loop-connection : goal.invariant-loop-connection
+invariant-loop-connection g l =
+    let store = g.K.Keeper.store in
+    record {
+      clean : (store l.fn.keeper).doubt ≤ (store l.keeper).doubt;
+      serves : (store l.fn.keeper).shut ≤ (store l.keeper).shut;
+      settled : IsSettled (store l.fn.keeper) → IsSettled (store l.keeper);
+      fewer : left_of l.port ≤ left_of l.fn.port;
+      served : (store l.keeper).doubt ≡ 0 → (store l.keeper).shut ≡ 0
+          → HasServed l.zone (left_of l.fn.port) (left_of l.port) (desk_of (store l.fn.keeper))
+          (desk_of (store l.keeper));
+    }
+
+abbrev pub decreases-loop-connection : goal.decreases-loop-connection
+decreases-loop-connection g l = left_of l.port

@@ -1,0 +1,100 @@
+ghost use Rattle.std.specs.Prelude.{◌≡◌, ◌⊎◌, ◌≤◌, ℕ, List, Some, Err, IfErr, OnOk};
+ghost use Rattle.pt_base.specs.Codes.{write_failed};
+ghost use Rattle.pt_base.specs.Fault.{fault};
+ghost use Rattle.pt_desk.specs.Store.{IsSettled, Store};
+ghost use Rattle.pt_http.specs.Exchange.{IsUnanswered, IsWritten, ServesOver, desk_of};
+ghost use Rattle.pt_http_reply.specs.declared.response.Response.{Response};
+ghost use Rattle.pt_serve.specs.Connection.{IsAnsweredFrom};
+
+use crate::bounded::{Bounded, LONGEST_READING, LONGEST_SERVING, moment_in};
+use pt_base::fault::READ_FAILED;
+use pt_base::{Day, Fault, Minute};
+use pt_desk::Keeper;
+use pt_http::answer_bytes;
+use pt_http_inbox::Inbox;
+use std::alloc::Global;
+use std::io::{Read, Write};
+use std::net::TcpStream;
+use std::time::Clock;
+
+/// Answers the one request that a reader gives from its beginning, by the rules as of this moment, to a writer.
+///
+/// The error is want of memory, a read that failed or was one too many (then nothing is changed), or a write that
+/// failed (then the request is answered all the same).
+pub fn answer_connection<K: Keeper, R: Read + Drop, W: Write>(
+    alloc: Global,
+    keeper: &mut K,
+    now: (Day, Minute),
+    reader: R,
+    out: &mut W,
+) -> Result<(), Fault>
+    ensures answered { (K.store keeper.new).doubt ≡ 0 → (input : List ℕ) → R.remaining reader ≡ Some input
+        → OnOk result ((reply : Response)
+        × IsAnsweredFrom (K.store keeper.old) (K.store keeper.new) now input reply
+        × IsWritten reply (W.contents out.old) (W.contents out.new)) }
+    // The reply was not wholly written, but the request is answered.
+    ensures unheard { (K.store keeper.new).doubt ≡ 0 → (input : List ℕ) → R.remaining reader ≡ Some input
+        → result ≡ Err (fault write_failed) → (reply : Response)
+        × IsAnsweredFrom (K.store keeper.old) (K.store keeper.new) now input reply }
+    // Whatever the reader gives, and also where its bytes are not known.
+    ensures served { (K.store keeper.new).doubt ≡ 0
+        → OnOk result ((reply : Response) × ServesOver (K.store keeper.old) (K.store keeper.new) now reply
+        × IsWritten reply (W.contents out.old) (W.contents out.new)) }
+    ensures unseen { (K.store keeper.new).doubt ≡ 0 → result ≡ Err (fault write_failed)
+        → (reply : Response) × ServesOver (K.store keeper.old) (K.store keeper.new) now reply }
+    ensures unanswered { IfErr result (λ error. IsUnanswered error → (keeper.new ≡ keeper.old) × (out.new ≡ out.old)) }
+    ensures fault { IfErr result (λ error. IsUnanswered error ⊎ (error ≡ fault write_failed)) }
+    ensures clean { (K.store keeper.old).doubt ≤ (K.store keeper.new).doubt }
+    ensures serves { (K.store keeper.old).shut ≤ (K.store keeper.new).shut }
+    ensures settled { IsSettled (K.store keeper.old) → IsSettled (K.store keeper.new) }
+{
+    let mut inbox = Inbox::new(alloc, reader)?;
+    answer_bytes(alloc, keeper, now, &mut inbox, out)
+}
+
+/// Answers one request on a connection, by the rules as of this moment, and leaves the connection.
+///
+/// A read or a write waits `LONGEST_WAIT` seconds at most. Once `LONGEST_READING` seconds have passed no read begins,
+/// and once `LONGEST_SERVING` have passed no write does, however little the client sends or takes at a time.
+///
+/// The error is want of memory, a read that failed, or came too late, or was one too many, or a clock that could not be
+/// read (then nothing is changed); or a write that failed or came too late (then the request is answered all the same).
+pub fn serve_one<C: Clock, K: Keeper>(
+    clock: &C,
+    alloc: Global,
+    keeper: &mut K,
+    now: (Day, Minute),
+    stream: &TcpStream,
+) -> Result<(), Fault>
+    ensures served { (K.store keeper.new).doubt ≡ 0
+        → OnOk result ((reply : Response) × ServesOver (K.store keeper.old) (K.store keeper.new) now reply) }
+    // The reply was not wholly written, but the request is answered.
+    ensures unseen { (K.store keeper.new).doubt ≡ 0 → result ≡ Err (fault write_failed)
+        → (reply : Response) × ServesOver (K.store keeper.old) (K.store keeper.new) now reply }
+    ensures one { (K.store keeper.new).doubt ≡ 0
+        → (desk_of (K.store keeper.new) ≡ desk_of (K.store keeper.old))
+        ⊎ ((reply : Response) × ServesOver (K.store keeper.old) (K.store keeper.new) now reply) }
+    ensures unanswered { IfErr result (λ error. IsUnanswered error → keeper.new ≡ keeper.old) }
+    ensures fault { IfErr result (λ error. IsUnanswered error ⊎ (error ≡ fault write_failed)) }
+    ensures clean { (K.store keeper.old).doubt ≤ (K.store keeper.new).doubt }
+    ensures serves { (K.store keeper.old).shut ≤ (K.store keeper.new).shut }
+    ensures settled { IsSettled (K.store keeper.old) → IsSettled (K.store keeper.new) }
+{
+    let Ok(ends) = moment_in(clock, LONGEST_READING) else {
+        return Err(Fault::of(READ_FAILED));
+    };
+    let reader = Bounded {
+        stream,
+        clock,
+        ends,
+    };
+    let Ok(ends) = moment_in(clock, LONGEST_SERVING) else {
+        return Err(Fault::of(READ_FAILED));
+    };
+    let mut writer = Bounded {
+        stream,
+        clock,
+        ends,
+    };
+    answer_connection(alloc, keeper, now, reader, &mut writer)
+}

@@ -1,0 +1,117 @@
+ghost use Rattle.std.specs.Prelude.{◌≡◌, ◌⊎◌, ◌+◌, ◌<◌, ◌≤◌, ◌↔◌, List, Option, Some, None, Ok, Err};
+ghost use Rattle.std.specs.Prelude.{IfErr, IfOk, IfSome, OnErr, OnOk, length};
+ghost use Rattle.pt_base.specs.Codes.{read_failed, write_failed};
+ghost use Rattle.pt_base.specs.Fault.{fault};
+ghost use Rattle.pt_clock.specs.Codes.{no_such_zone};
+ghost use Rattle.pt_clock.specs.LocalTime.{IsZoneRule};
+ghost use Rattle.pt_desk.specs.Store.{IsSettled, Store};
+ghost use Rattle.pt_http.specs.Exchange.{desk_of};
+ghost use Rattle.pt_serve.specs.Port.{left_of};
+ghost use Rattle.pt_serve.specs.Serving.{EndsServing, IsMomentIn, IsServed, Served, ServesInTurn, ServesOn};
+
+use crate::connection::serve_one;
+use crate::listening::Port;
+use jiff::Timestamp;
+use pt_base::fault::{DATE_OUT_OF_RANGE, MEMORY, READ_FAILED};
+use pt_base::{Day, Fault, Minute};
+use pt_clock::{moment_of, now_in};
+use pt_desk::Keeper;
+use std::alloc::Global;
+use std::io;
+use std::net::TcpStream;
+use std::time::Clock;
+
+/// Why a clock that cannot be read gives no moment: the zone's text, or else the clock.
+fn unread(zone: &str) -> Fault
+    ensures ends { EndsServing result }
+    ensures zone { (result ≡ fault no_such_zone) ↔ ¬ (IsZoneRule zone.now) }
+{
+    match moment_of(zone, None) {
+        Ok(_) => Fault::of(DATE_OUT_OF_RANGE),
+        Err(fault) => fault,
+    }
+}
+
+/// The day and the minute that clocks of a zone show now. The error is fault 3, a zone that is no POSIX rule, or fault 2, a
+/// clock that shows no day of 2000 to 2099.
+pub fn moment_at<C: Clock>(clock: &C, zone: &str) -> Result<(Day, Minute), Fault>
+    ensures moment { IfOk result (λ now. IsMomentIn zone.now now.0 now.1) }
+    ensures zone { (result ≡ Err (fault no_such_zone)) ↔ ¬ (IsZoneRule zone.now) }
+    ensures fault { IfErr result EndsServing }
+{
+    match Timestamp::now(clock) {
+        Ok(instant) => now_in(zone, instant),
+        Err(_) => Err(unread(zone)),
+    }
+}
+
+/// Answers the request of one connection, by the rules as of the moment after it was accepted. It tells how the
+/// connection failed, if it did: one that was not accepted is a read that failed. The error ends the serving.
+fn serve_next<C: Clock, K: Keeper>(
+    clock: &C,
+    alloc: Global,
+    keeper: &mut K,
+    zone: &str,
+    connection: io::Result<TcpStream>,
+) -> Result<Option<Fault>, Fault>
+    ensures turn { (K.store keeper.new).doubt ≡ 0 → (K.store keeper.new).shut ≡ 0
+        → (turn : Option Served)
+        × ServesOn zone.now turn (desk_of (K.store keeper.old)) (desk_of (K.store keeper.new)) }
+    ensures served { (K.store keeper.new).doubt ≡ 0 → (K.store keeper.new).shut ≡ 0 → result ≡ Ok None
+        → (one : Served) × IsServed zone.now one (desk_of (K.store keeper.old)) (desk_of (K.store keeper.new)) }
+    // The reply was not wholly written, but the request is answered.
+    ensures unseen { (K.store keeper.new).doubt ≡ 0 → (K.store keeper.new).shut ≡ 0
+        → result ≡ Ok (Some (fault write_failed))
+        → (one : Served) × IsServed zone.now one (desk_of (K.store keeper.old)) (desk_of (K.store keeper.new)) }
+    ensures unread { result ≡ Ok (Some (fault read_failed)) → keeper.new ≡ keeper.old }
+    ensures refused { OnErr connection (result ≡ Ok (Some (fault read_failed))) }
+    ensures failed { IfOk result (λ failed. IfSome failed (λ error.
+        (error ≡ fault read_failed) ⊎ (error ≡ fault write_failed))) }
+    ensures ends { IfErr result EndsServing }
+    ensures ended { OnErr result (keeper.new ≡ keeper.old) }
+    ensures zone { result ≡ Err (fault no_such_zone) → ¬ (IsZoneRule zone.now) }
+    ensures clean { (K.store keeper.old).doubt ≤ (K.store keeper.new).doubt }
+    ensures serves { (K.store keeper.old).shut ≤ (K.store keeper.new).shut }
+    ensures settled { IsSettled (K.store keeper.old) → IsSettled (K.store keeper.new) }
+{
+    let Ok(stream) = connection else {
+        return Ok(Some(Fault::of(READ_FAILED)));
+    };
+    let now = moment_at(clock, zone)?;
+    match serve_one(clock, alloc, keeper, now, &stream) {
+        Ok(()) => Ok(None),
+        Err(fault) if fault.code == MEMORY => Err(fault),
+        Err(fault) => Ok(Some(fault)),
+    }
+}
+
+/// Answers all connections that the port is still open to, one after the other, one request each, by the rules as of
+/// the moment after each was accepted, on the clocks of a zone. Standard error has one line for each that failed.
+///
+/// The error is want of memory, or a zone or a clock that gives no moment: the connection at which it came is let go of
+/// unanswered, and later ones wait. A connection that fails counts, and the next is answered.
+pub fn serve<R: Clock + Eprint, K: Keeper>(
+    rt: &R,
+    alloc: Global,
+    keeper: &mut K,
+    zone: &str,
+    port: &mut Port,
+) -> Result<(), Fault>
+    ensures served { (K.store keeper.new).doubt ≡ 0 → (K.store keeper.new).shut ≡ 0
+        → (turns : List (Option Served)) × (length turns + left_of port.new ≡ left_of port.old)
+        × ServesInTurn zone.now turns (desk_of (K.store keeper.old)) (desk_of (K.store keeper.new)) }
+    ensures all { OnOk result (left_of port.new ≡ 0) }
+    ensures ended { OnErr result (left_of port.new < left_of port.old) }
+    ensures fault { IfErr result EndsServing }
+    ensures zone { result ≡ Err (fault no_such_zone) → ¬ (IsZoneRule zone.now) }
+    ensures clean { (K.store keeper.old).doubt ≤ (K.store keeper.new).doubt }
+    ensures serves { (K.store keeper.old).shut ≤ (K.store keeper.new).shut }
+    ensures settled { IsSettled (K.store keeper.old) → IsSettled (K.store keeper.new) }
+{
+    while let Some(connection) = port.accept() {
+        if let Some(Fault { code, row }) = serve_next(rt, alloc, keeper, zone, connection)? {
+            let _shown = eprintln!(rt; "connection: fault {code} row {row}");
+        }
+    }
+    Ok(())
+}
