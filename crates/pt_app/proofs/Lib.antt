@@ -1,2 +1,4 @@
-mod KeyLemmas
+mod LineLemmas
 mod PlainLemmas
+mod SameLemmas
+mod WordLemmas

@@ -1,14 +1,20 @@
 //! The program `desk`: its words, standard input and standard output.
 #![tactic(auto)]
 
+mod asked;
+mod asking;
 mod command_line;
+mod database;
 mod outcome;
 mod rehearsal;
 
-use command_line::{Task, task_in};
+use asked::Line;
+use command_line::{WRONG_WORDS, line, matches_in};
+use database::{init, print_read, put_times, serve_file};
 use outcome::{Outcome, exit_status, outcome_of, outcome_of_refusal};
 use pt_base::Fault;
 use pt_base::fault::MEMORY;
+use pt_desk::Read;
 use rehearsal::rehearse_with_key;
 use std::io::ErrorKind;
 use std::process::ExitCode;
@@ -22,16 +28,15 @@ fn given_words(rt: &HostRuntime) -> io::Result<Vec<String>> {
     Ok(words)
 }
 
-/// Does what the words ask for.
-fn do_task(rt: &HostRuntime, words: &[String]) -> Outcome {
-    match task_in(rt.alloc(), words) {
-        Ok(Some(Task::Rehearse { key })) => outcome_of(rehearse_with_key(
-            rt.alloc(),
-            key.as_bytes(),
-            rt.stdin(),
-            &mut rt.stdout(),
-        )),
-        Ok(None) => Outcome::WrongWords,
+/// Says what is wrong with words that are refused, or shows the help that they ask for.
+fn refuse(rt: &HostRuntime, words: &[String]) -> Outcome {
+    match matches_in(rt.alloc(), words) {
+        Ok(_) => {
+            let _shown = eprintln!(rt;
+                "error: a word is not the number or the day that its place asks for"
+            );
+            Outcome::WrongWords
+        }
         Err(refusal) => {
             let is_shown = refusal.print(rt).is_ok();
             outcome_of_refusal(refusal.kind(), is_shown)
@@ -39,9 +44,56 @@ fn do_task(rt: &HostRuntime, words: &[String]) -> Outcome {
     }
 }
 
+/// Does what was asked for.
+fn do_asked(rt: &HostRuntime, asked: Line<'_>) -> Result<Outcome, Fault> {
+    match asked {
+        Line::Rehearse { key } => {
+            rehearse_with_key(rt.alloc(), key.as_bytes(), rt.stdin(), &mut rt.stdout())?;
+            Ok(Outcome::Done)
+        }
+        Line::Init { file, key } => init(rt, file, key),
+        Line::Serve {
+            file,
+            zone,
+            port,
+            count,
+        } => serve_file(rt, file, zone, port, count),
+        Line::Travel {
+            file,
+            zone,
+            key,
+            number,
+            day,
+            csv,
+        } => put_times(rt, file, zone, (key, number), day, csv),
+        Line::Manifest {
+            file,
+            zone,
+            key,
+            vehicle,
+            day,
+        } => print_read(rt, file, zone, key, Read::Manifest { vehicle, day }),
+        Line::Trips {
+            file,
+            zone,
+            key,
+            day,
+        } => print_read(rt, file, zone, key, Read::Export(day)),
+    }
+}
+
+/// Does what the words ask for.
+fn do_line(rt: &HostRuntime, words: &[String]) -> Outcome {
+    match line(rt.alloc(), words) {
+        Ok(asked) => outcome_of(do_asked(rt, asked)),
+        Err(fault) if fault.code == WRONG_WORDS => refuse(rt, words),
+        Err(fault) => Outcome::Failed(fault),
+    }
+}
+
 fn run(rt: &HostRuntime) -> Outcome {
     match given_words(rt) {
-        Ok(words) => do_task(rt, words.as_slice()),
+        Ok(words) => do_line(rt, words.as_slice()),
         Err(error) if error.kind() == ErrorKind::OutOfMemory => Outcome::Failed(Fault::of(MEMORY)),
         Err(_) => {
             let _shown = eprintln!(rt; "error: a word is not UTF-8");
@@ -53,9 +105,7 @@ fn run(rt: &HostRuntime) -> Outcome {
 fn main(rt: HostRuntime) -> ExitCode {
     let outcome = run(&rt);
     if let Outcome::Failed(Fault { code, row }) = outcome {
-        if code != MEMORY {
-            let _shown = eprintln!(rt; "fault {code} row {row}");
-        }
+        let _shown = eprintln!(rt; "fault {code} row {row}");
     }
     ExitCode::from(exit_status(outcome))
 }

@@ -1,21 +1,24 @@
-use Rattle.std.proofs.Common.{rules, ap, ap₂, codes, true, ◌≡◌, ◌∙◌}
+use Rattle.std.proofs.Common.{◌≡◌, ◌∙◌, ap₂}
 use Rattle.std.proofs.lemmas.Result.{IfOk-weaker}
-use Rattle.clap.specs.Words.{App, app_of, new_app, rule_of, with_rule, with_subcommand}
-use Rattle.clap.specs.Simple.{on_top}
-use Rattle.pt_app.specs.CommandLine.{key_word, rehearse_words}
+use Rattle.clap.specs.Words.{App, app_of, with_subcommand}
+use Rattle.pt_app.specs.CommandLine.{init_words, manifest_words, program_words, rehearse_words, serve_words, travel_words, trips_words}
 use Rattle.pt_app.proofs.command_line.desk_command.Goals as goal
 
-abbrev desk_alone : App
-desk_alone = on_top (λ top. record top { subcommand_required = true; disable_help_subcommand = true })
-    (new_app (codes "desk"))
+abbrev more : App → App → App
+more program command = with_subcommand program command.top
 
 pub returns : goal.returns
 returns c =
-    let key_is : rule_of c.help-key.result ≡ key_word = search rules in
-    let about_is : app_of c.about.result ≡ new_app (codes "rehearse") = search rules in
-    let rehearse_is : app_of c.in_ok-rehearse.rehearse ≡ rehearse_words =
-    c.in_ok-rehearse.ensures.shape (search rules) ∙ ap₂ with_rule about_is key_is in
-    let alone_is : app_of c.disable_help_subcommand.result ≡ desk_alone = search rules in
-    IfOk-weaker c.subcommand.result _ _
-    (λ command added. added.shape (search rules) ∙ ap₂ with_subcommand alone_is (ap (λ (a : App). a.top) rehearse_is))
-    c.subcommand.ensures
+    let first : app_of c.in_ok-desk.desk ≡ more program_words rehearse_words =
+    c.in_ok-desk.ensures ∙ ap₂ more c.program_command.ensures c.in_ok-rehearse_command.ensures.app in
+    let second : app_of c.in_ok-desk-2.desk ≡ more (more program_words rehearse_words) init_words =
+    c.in_ok-desk-2.ensures ∙ ap₂ more first c.in_ok-init_command.ensures.app in
+    let third : app_of c.in_ok-desk-3.desk ≡ more (more (more program_words rehearse_words) init_words) serve_words =
+    c.in_ok-desk-3.ensures ∙ ap₂ more second c.in_ok-serve_command.ensures.app in
+    let fourth : app_of c.in_ok-desk-4.desk
+    ≡ more (more (more (more program_words rehearse_words) init_words) serve_words) travel_words =
+    c.in_ok-desk-4.ensures ∙ ap₂ more third c.in_ok-travel_command.ensures.app in
+    let fifth = c.in_ok-desk-5.ensures ∙ ap₂ more fourth c.in_ok-manifest_command.ensures.app in
+    IfOk-weaker c.with_command-6.result _ _
+    (λ command added. added ∙ ap₂ more fifth c.in_ok-trips_command.ensures.app)
+    c.with_command-6.ensures
