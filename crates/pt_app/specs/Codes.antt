@@ -1,4 +1,4 @@
--- The codes of faults of the program's words and files.
+-- The codes of faults of the program's files.
 use Rattle.std.specs.Prelude.{ℕ}
 
 -- a file that is not there, or cannot be read
@@ -8,7 +8,3 @@ no_such_file = 5
 -- a file to be made that is there already
 abbrev pub file_exists : ℕ
 file_exists = 7
-
--- words that are no command's, or one that is not the number or the day that its place asks for
-abbrev pub wrong_words : ℕ
-wrong_words = 8

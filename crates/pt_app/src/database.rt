@@ -6,10 +6,9 @@ ghost use Rattle.pt_base.specs.Codes.{memory_refused};
 ghost use Rattle.pt_base.specs.Fault.{fault};
 ghost use Rattle.pt_desk_rules.specs.Sound.{IsSound};
 
-use crate::asking::{ask, fault_of};
-use crate::outcome::{Outcome, STORE_REFUSED};
 use pt_base::fault::MEMORY;
 use pt_base::{Day, Fault};
+use pt_commands::{Outcome, STORE_REFUSED, ask, fault_of};
 use pt_desk::{Keeper, Read, Request, Write, place_ids};
 use pt_serve::{Port, moment_at, serve};
 use pt_tables::{OpenFault, SqlKeeper};

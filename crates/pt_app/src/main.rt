@@ -1,21 +1,14 @@
 //! The program `desk`: its words, standard input and standard output.
 #![tactic(auto)]
 
-mod asked;
-mod asking;
-mod command_line;
 mod database;
-mod outcome;
-mod rehearsal;
 
-use asked::Line;
-use command_line::{WRONG_WORDS, line, matches_in};
 use database::{init, print_read, put_times, serve_file};
-use outcome::{Outcome, exit_status, outcome_of, outcome_of_refusal};
 use pt_base::Fault;
 use pt_base::fault::MEMORY;
+use pt_command_line::{Line, WRONG_WORDS, line, matches_in};
+use pt_commands::{Outcome, exit_status, outcome_of, outcome_of_refusal, rehearse_with_key};
 use pt_desk::Read;
-use rehearsal::rehearse_with_key;
 use std::io::ErrorKind;
 use std::process::ExitCode;
 use std::{env, io};
@@ -28,7 +21,7 @@ fn given_words(rt: &HostRuntime) -> io::Result<Vec<String>> {
     Ok(words)
 }
 
-/// Says what is wrong with words that are refused, or shows the help that they ask for.
+/// Says what is wrong with words that are refused, or shows the help or the version that they ask for.
 fn refuse(rt: &HostRuntime, words: &[String]) -> Outcome {
     match matches_in(rt.alloc(), words) {
         Ok(_) => {

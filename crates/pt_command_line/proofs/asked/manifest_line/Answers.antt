@@ -1,0 +1,14 @@
+use Rattle.std.proofs.Common.{refl}
+use Rattle.clap.specs.Words.{found_of, rows_of}
+use Rattle.pt_command_line.proofs.LineLemmas.{manifest_day, manifest_vehicle}
+use Rattle.pt_command_line.proofs.asked.manifest_line.Goals as goal
+
+pub returns-in_err-number_at-clause-none : goal.returns-in_err-number_at-clause-none
+returns-in_err-number_at-clause-none c = λ none asked asks.
+    let there = manifest_vehicle (rows_of (found_of c.args.words.now)) asked asks in
+    c.in_err-number_at.ensures.none refl there.0 there.1
+
+pub returns-in_err-day_at-clause-none : goal.returns-in_err-day_at-clause-none
+returns-in_err-day_at-clause-none c = λ none asked asks.
+    let there = manifest_day (rows_of (found_of c.args.words.now)) asked asks in
+    c.in_err-day_at.ensures.none refl there.0 there.1

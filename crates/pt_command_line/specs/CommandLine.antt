@@ -1,0 +1,52 @@
+-- The words that the program takes.
+use Rattle.std.specs.Prelude.{List, [], ◌∷◌, codes, fold, true}
+use Rattle.clap.specs.Words.{App, Rule, Text, new_app, new_rule, with_rule, with_subcommand}
+use Rattle.clap.specs.Simple.{on_top}
+
+-- a place for a word, which may not be left out
+abbrev pub place : Text → Rule
+place name = record (new_rule name) { required = true }
+
+-- a command, and the places of its words in order
+abbrev pub command : Text → List Text → App
+command name places = fold (λ app name. with_rule app (place name)) (new_app name) places
+
+-- rehearse KEY
+abbrev pub rehearse_words : App
+rehearse_words = command (codes "rehearse") (codes "KEY" ∷ [])
+
+-- init FILE KEY
+abbrev pub init_words : App
+init_words = command (codes "init") (codes "FILE" ∷ codes "KEY" ∷ [])
+
+-- serve FILE ZONE PORT COUNT
+abbrev pub serve_words : App
+serve_words = command (codes "serve") (codes "FILE" ∷ codes "ZONE" ∷ codes "PORT" ∷ codes "COUNT" ∷ [])
+
+-- travel FILE ZONE KEY NUMBER DAY CSV
+abbrev pub travel_words : App
+travel_words = command (codes "travel")
+    (codes "FILE" ∷ codes "ZONE" ∷ codes "KEY" ∷ codes "NUMBER" ∷ codes "DAY" ∷ codes "CSV" ∷ [])
+
+-- manifest FILE ZONE KEY VEHICLE DAY
+abbrev pub manifest_words : App
+manifest_words = command (codes "manifest")
+    (codes "FILE" ∷ codes "ZONE" ∷ codes "KEY" ∷ codes "VEHICLE" ∷ codes "DAY" ∷ [])
+
+-- trips FILE ZONE KEY DAY
+abbrev pub trips_words : App
+trips_words = command (codes "trips") (codes "FILE" ∷ codes "ZONE" ∷ codes "KEY" ∷ codes "DAY" ∷ [])
+
+-- desk before its commands are named, one of which may not be left out; it tells its version
+abbrev pub program_words : App
+program_words = on_top (λ top. record top {
+  has_version = true;
+  subcommand_required = true;
+  disable_help_subcommand = true;
+})
+    (new_app (codes "desk"))
+
+-- desk and its commands
+abbrev pub desk_words : App
+desk_words = fold (λ desk command. with_subcommand desk command.top) program_words
+    (rehearse_words ∷ init_words ∷ serve_words ∷ travel_words ∷ manifest_words ∷ trips_words ∷ [])

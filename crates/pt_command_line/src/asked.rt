@@ -1,0 +1,193 @@
+ghost use Rattle.std.specs.Prelude.{◌≡◌, ℕ, IfSome, IsNone, codes, option_map};
+ghost use Rattle.clap.specs.Words.{first_of, found_of, rows_of, subcommand_rows_of};
+ghost use Rattle.pt_command_line.specs.Line.{Asks, AsksOf, HasDay, HasNumber};
+ghost use Rattle.pt_command_line.specs.declared.asked.Line.{Line};
+
+use clap::ArgMatches;
+use pt_base::{Day, VehicleId};
+use pt_http_request::{day_from, number_from};
+
+/// The last port.
+const LAST_PORT: u32 = 65_535;
+
+/// The most connections that one command answers.
+const MOST_CONNECTIONS: u32 = 1_000_000;
+
+/// What the program is asked to do.
+#[derive(Clone, Copy, Debug)]
+pub enum Line<'a> {
+    /// To answer requests from standard input, on a desk in memory whose admin has the key.
+    Rehearse {
+        key: &'a str,
+    },
+    /// To make a database whose admin has the key.
+    Init {
+        file: &'a str,
+        key: &'a str,
+    },
+    /// To answer so many connections on a port, by the clocks of a zone.
+    Serve {
+        file: &'a str,
+        zone: &'a str,
+        port: u16,
+        count: u32,
+    },
+    /// To give the driving times that hold from a day on, as the caller's request of this number.
+    Travel {
+        file: &'a str,
+        zone: &'a str,
+        key: &'a str,
+        number: u32,
+        day: Day,
+        csv: &'a str,
+    },
+    /// To print the manifest of a vehicle on a day.
+    Manifest {
+        file: &'a str,
+        zone: &'a str,
+        key: &'a str,
+        vehicle: VehicleId,
+        day: Day,
+    },
+    /// To print the trips of a day.
+    Trips {
+        file: &'a str,
+        zone: &'a str,
+        key: &'a str,
+        day: Day,
+    },
+}
+
+/// The word at a place of a command.
+fn word_at<'a>(words: &ArgMatches<'a>, place: &str) -> Option<&'a str>
+    ensures { option_map (λ word. word.now) result ≡ first_of place.now (rows_of (found_of words.now)) }
+{
+    words.get_str(place)
+}
+
+/// The number of this range at a place of a command.
+fn number_at(words: &ArgMatches<'_>, place: &str, least: u32, most: u32) -> Option<u32>
+    ensures number { IfSome result (HasNumber (rows_of (found_of words.now)) place.now least most) }
+    ensures none { IsNone result → (number : ℕ)
+        → ¬ (HasNumber (rows_of (found_of words.now)) place.now least most number) }
+{
+    let word = word_at(words, place)?;
+    let number = number_from(word.as_bytes(), 10, u64::from(most))? as u32;
+    if number < least {
+        return None;
+    }
+    Some(number)
+}
+
+/// The day at a place of a command.
+fn day_at(words: &ArgMatches<'_>, place: &str) -> Option<Day>
+    ensures day { IfSome result (HasDay (rows_of (found_of words.now)) place.now) }
+    ensures none { IsNone result → (day : ℕ) → ¬ (HasDay (rows_of (found_of words.now)) place.now day) }
+{
+    day_from(word_at(words, place)?)
+}
+
+/// What `rehearse` asks for with these words.
+fn rehearse_line<'a>(words: &ArgMatches<'a>) -> Option<Line<'a>>
+    ensures line { IfSome result (Asks (codes "rehearse") (rows_of (found_of words.now))) }
+    ensures none { IsNone result → (asked : Line)
+        → ¬ (Asks (codes "rehearse") (rows_of (found_of words.now)) asked) }
+{
+    let key = word_at(words, "KEY")?;
+    Some(Line::Rehearse { key })
+}
+
+/// What `init` asks for with these words.
+fn init_line<'a>(words: &ArgMatches<'a>) -> Option<Line<'a>>
+    ensures line { IfSome result (Asks (codes "init") (rows_of (found_of words.now))) }
+    ensures none { IsNone result → (asked : Line)
+        → ¬ (Asks (codes "init") (rows_of (found_of words.now)) asked) }
+{
+    let file = word_at(words, "FILE")?;
+    let key = word_at(words, "KEY")?;
+    Some(Line::Init { file, key })
+}
+
+/// What `serve` asks for with these words.
+fn serve_line<'a>(words: &ArgMatches<'a>) -> Option<Line<'a>>
+    ensures line { IfSome result (Asks (codes "serve") (rows_of (found_of words.now))) }
+    ensures none { IsNone result → (asked : Line)
+        → ¬ (Asks (codes "serve") (rows_of (found_of words.now)) asked) }
+{
+    Some(Line::Serve {
+        file: word_at(words, "FILE")?,
+        zone: word_at(words, "ZONE")?,
+        port: number_at(words, "PORT", 1, LAST_PORT)? as u16,
+        count: number_at(words, "COUNT", 1, MOST_CONNECTIONS)?,
+    })
+}
+
+/// What `travel` asks for with these words.
+fn travel_line<'a>(words: &ArgMatches<'a>) -> Option<Line<'a>>
+    ensures line { IfSome result (Asks (codes "travel") (rows_of (found_of words.now))) }
+    ensures none { IsNone result → (asked : Line)
+        → ¬ (Asks (codes "travel") (rows_of (found_of words.now)) asked) }
+{
+    Some(Line::Travel {
+        file: word_at(words, "FILE")?,
+        zone: word_at(words, "ZONE")?,
+        key: word_at(words, "KEY")?,
+        number: number_at(words, "NUMBER", 0, u32::MAX)?,
+        day: day_at(words, "DAY")?,
+        csv: word_at(words, "CSV")?,
+    })
+}
+
+/// What `manifest` asks for with these words.
+fn manifest_line<'a>(words: &ArgMatches<'a>) -> Option<Line<'a>>
+    ensures line { IfSome result (Asks (codes "manifest") (rows_of (found_of words.now))) }
+    ensures none { IsNone result → (asked : Line)
+        → ¬ (Asks (codes "manifest") (rows_of (found_of words.now)) asked) }
+{
+    Some(Line::Manifest {
+        file: word_at(words, "FILE")?,
+        zone: word_at(words, "ZONE")?,
+        key: word_at(words, "KEY")?,
+        vehicle: VehicleId::of(number_at(words, "VEHICLE", 1, u32::MAX)?)?,
+        day: day_at(words, "DAY")?,
+    })
+}
+
+/// What `trips` asks for with these words.
+fn trips_line<'a>(words: &ArgMatches<'a>) -> Option<Line<'a>>
+    ensures line { IfSome result (Asks (codes "trips") (rows_of (found_of words.now))) }
+    ensures none { IsNone result → (asked : Line)
+        → ¬ (Asks (codes "trips") (rows_of (found_of words.now)) asked) }
+{
+    Some(Line::Trips {
+        file: word_at(words, "FILE")?,
+        zone: word_at(words, "ZONE")?,
+        key: word_at(words, "KEY")?,
+        day: day_at(words, "DAY")?,
+    })
+}
+
+/// What the command of this name asks for with these words.
+fn line_of<'a>(name: &str, words: &ArgMatches<'a>) -> Option<Line<'a>>
+    ensures line { IfSome result (Asks name.now (rows_of (found_of words.now))) }
+    ensures none { IsNone result → (asked : Line) → ¬ (Asks name.now (rows_of (found_of words.now)) asked) }
+{
+    match name {
+        "rehearse" => rehearse_line(words),
+        "init" => init_line(words),
+        "serve" => serve_line(words),
+        "travel" => travel_line(words),
+        "manifest" => manifest_line(words),
+        "trips" => trips_line(words),
+        _ => None,
+    }
+}
+
+/// What the command that was found asks for.
+pub(crate) fn found_line<'a>(matches: &ArgMatches<'a>) -> Option<Line<'a>>
+    ensures line { IfSome result (AsksOf (subcommand_rows_of matches.now)) }
+    ensures none { IsNone result → (asked : Line) → ¬ (AsksOf (subcommand_rows_of matches.now) asked) }
+{
+    let (name, words) = matches.subcommand()?;
+    line_of(name, words)
+}

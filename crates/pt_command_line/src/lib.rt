@@ -1,0 +1,8 @@
+//! The words of the program `desk`: what it takes, and what they ask for.
+#![tactic(auto)]
+
+pub use asked::Line;
+pub use words::{WRONG_WORDS, line, matches_in};
+
+mod asked;
+mod words;

@@ -1,0 +1,238 @@
+ghost use Rattle.std.specs.Prelude.{◌≡◌, ◌≢◌, ◌⊎◌, Err, IfErr, IfOk, false, map, string_bytes};
+ghost use Rattle.clap.specs.Words.{FailsBy, HasMatchesOf, app_of, fault_of, new_app, with_rule, with_subcommand};
+ghost use Rattle.clap.specs.declared.error.kind.ErrorKind.TheVariants.{OutOfMemory};
+ghost use Rattle.clap.specs.declared.builder.command.Command.TheViews.{out-Command as fields_of};
+ghost use Rattle.pt_command_line.specs.CommandLine.{desk_words, init_words, manifest_words, place, program_words};
+ghost use Rattle.pt_command_line.specs.CommandLine.{rehearse_words, serve_words, travel_words, trips_words};
+ghost use Rattle.pt_command_line.specs.Codes.{wrong_words};
+ghost use Rattle.pt_command_line.specs.Line.{IsLine, IsSameLine, SpellsLine};
+ghost use Rattle.pt_command_line.specs.declared.asked.Line.{Line};
+ghost use Rattle.pt_base.specs.Codes.{memory_refused};
+ghost use Rattle.pt_base.specs.Fault.{fault};
+
+use crate::asked;
+use crate::asked::found_line;
+use clap::error::ErrorKind;
+use clap::{Arg, ArgMatches, Command, Error};
+use pt_base::Fault;
+use pt_base::fault::MEMORY;
+use std::alloc::{AllocError, Global};
+
+/// Words that are no command's, or one that is not the number or the day that its place asks for.
+pub const WRONG_WORDS: u16 = 8;
+
+const ABOUT: &str = "The office system of a transit agency that gives complementary paratransit \
+(49 CFR Part 37 Subpart F).";
+
+/// The version of the program, which `--version` prints.
+const VERSION: &str = "0.1.0";
+
+const EXIT_STATUS: &str = "Exit status: 0 done, 1 denied, 2 wrong words, 3 want of memory or the \
+store, 4 another fault. With 3 and 4 standard error has the line `fault C row R`.";
+
+const REHEARSE: &str = "Answers HTTP requests from standard input, on a desk in memory that \
+begins with one admin. Before each request stands a line `@ YYYY-MM-DD M`: its day, and the \
+minute of that day. Replies go to standard output.";
+
+const INIT: &str = "Makes a new database with one caller, the admin, who has number 1. \
+For example: desk init desk.db KEY";
+
+const SERVE: &str = "Answers HTTP requests on 127.0.0.1, one on each connection, one connection \
+after another. For example: desk serve desk.db EST5EDT,M3.2.0,M11.1.0 8080 1000000";
+
+const TRAVEL: &str = "Gives the driving times that hold from a day on, and prints `done`. \
+For example: desk travel desk.db EST5EDT,M3.2.0,M11.1.0 KEY 5 2025-03-11 times.csv";
+
+const MANIFEST: &str = "Prints the manifest of a vehicle on a day. \
+For example: desk manifest desk.db EST5EDT,M3.2.0,M11.1.0 KEY 1 2025-03-11";
+
+const TRIPS: &str = "Prints the trips of a day as CSV. \
+For example: desk trips desk.db EST5EDT,M3.2.0,M11.1.0 KEY 2025-03-11";
+
+const ADMIN_KEY: &str = "The admin's key, which requests give in the header Desk-Key";
+
+const KEY: &str = "The key of the caller who asks";
+
+const NEW_FILE: &str = "The file that is made, which must not exist";
+
+const FILE: &str = "The file of the database";
+
+const ZONE: &str = "The POSIX rule of the agency's time zone, such as EST5EDT,M3.2.0,M11.1.0";
+
+const PORT: &str = "The port, 1 to 65535";
+
+const COUNT: &str = "How many connections are answered, 1 to 1000000";
+
+const NUMBER: &str = "The number of the request, above that of the caller's last accepted one";
+
+const FIRST_DAY: &str = "The first day on which the times hold, YYYY-MM-DD";
+
+const DAY: &str = "The day, YYYY-MM-DD";
+
+const CSV: &str = "The file of the times, with the header from,to,minutes";
+
+const VEHICLE: &str = "The vehicle's number";
+
+/// The command with one more place for a word, which may not be left out.
+fn with_place<'a>(
+    alloc: Global,
+    command: Command<'a>,
+    name: &'a str,
+    help: &'a str,
+) -> Result<Command<'a>, AllocError>
+    ensures app { IfOk result (λ more. app_of more ≡ with_rule (app_of command.entry) (place name.entry.now)) }
+    ensures local { (fields_of command.entry).has_globals ≡ false
+        → IfOk result (λ more. (fields_of more).has_globals ≡ false) }
+{
+    command.arg(Arg::new(alloc, name).required(true).help(help))
+}
+
+/// The command, of which this is said in its help.
+fn command_of<'a>(alloc: Global, name: &'a str, about: &'a str) -> Command<'a>
+    ensures app { app_of result ≡ new_app name.entry.now }
+    ensures local { (fields_of result).has_globals ≡ false }
+{
+    Command::new(alloc, name).about(about)
+}
+
+/// The command `rehearse`.
+fn rehearse_command<'a>(alloc: Global) -> Result<Command<'a>, AllocError>
+    ensures app { IfOk result (λ command. app_of command ≡ rehearse_words) }
+    ensures local { IfOk result (λ command. (fields_of command).has_globals ≡ false) }
+{
+    let command = command_of(alloc, "rehearse", REHEARSE);
+    with_place(alloc, command, "KEY", ADMIN_KEY)
+}
+
+/// The command `init`.
+fn init_command<'a>(alloc: Global) -> Result<Command<'a>, AllocError>
+    ensures app { IfOk result (λ command. app_of command ≡ init_words) }
+    ensures local { IfOk result (λ command. (fields_of command).has_globals ≡ false) }
+{
+    let command = command_of(alloc, "init", INIT);
+    let command = with_place(alloc, command, "FILE", NEW_FILE)?;
+    with_place(alloc, command, "KEY", ADMIN_KEY)
+}
+
+/// The command `serve`.
+fn serve_command<'a>(alloc: Global) -> Result<Command<'a>, AllocError>
+    ensures app { IfOk result (λ command. app_of command ≡ serve_words) }
+    ensures local { IfOk result (λ command. (fields_of command).has_globals ≡ false) }
+{
+    let command = command_of(alloc, "serve", SERVE);
+    let command = with_place(alloc, command, "FILE", FILE)?;
+    let command = with_place(alloc, command, "ZONE", ZONE)?;
+    let command = with_place(alloc, command, "PORT", PORT)?;
+    with_place(alloc, command, "COUNT", COUNT)
+}
+
+/// The command `travel`.
+fn travel_command<'a>(alloc: Global) -> Result<Command<'a>, AllocError>
+    ensures app { IfOk result (λ command. app_of command ≡ travel_words) }
+    ensures local { IfOk result (λ command. (fields_of command).has_globals ≡ false) }
+{
+    let command = command_of(alloc, "travel", TRAVEL);
+    let command = with_place(alloc, command, "FILE", FILE)?;
+    let command = with_place(alloc, command, "ZONE", ZONE)?;
+    let command = with_place(alloc, command, "KEY", KEY)?;
+    let command = with_place(alloc, command, "NUMBER", NUMBER)?;
+    let command = with_place(alloc, command, "DAY", FIRST_DAY)?;
+    with_place(alloc, command, "CSV", CSV)
+}
+
+/// The command `manifest`.
+fn manifest_command<'a>(alloc: Global) -> Result<Command<'a>, AllocError>
+    ensures app { IfOk result (λ command. app_of command ≡ manifest_words) }
+    ensures local { IfOk result (λ command. (fields_of command).has_globals ≡ false) }
+{
+    let command = command_of(alloc, "manifest", MANIFEST);
+    let command = with_place(alloc, command, "FILE", FILE)?;
+    let command = with_place(alloc, command, "ZONE", ZONE)?;
+    let command = with_place(alloc, command, "KEY", KEY)?;
+    let command = with_place(alloc, command, "VEHICLE", VEHICLE)?;
+    with_place(alloc, command, "DAY", DAY)
+}
+
+/// The command `trips`.
+fn trips_command<'a>(alloc: Global) -> Result<Command<'a>, AllocError>
+    ensures app { IfOk result (λ command. app_of command ≡ trips_words) }
+    ensures local { IfOk result (λ command. (fields_of command).has_globals ≡ false) }
+{
+    let command = command_of(alloc, "trips", TRIPS);
+    let command = with_place(alloc, command, "FILE", FILE)?;
+    let command = with_place(alloc, command, "ZONE", ZONE)?;
+    let command = with_place(alloc, command, "KEY", KEY)?;
+    with_place(alloc, command, "DAY", DAY)
+}
+
+/// The program's words before its commands are named, one of which may not be left out.
+fn program_command<'a>(alloc: Global) -> Command<'a>
+    ensures { app_of result ≡ program_words }
+{
+    command_of(alloc, "desk", ABOUT)
+        .version(VERSION)
+        .after_help(EXIT_STATUS)
+        .subcommand_required(true)
+        .disable_help_subcommand(true)
+}
+
+/// The program's words with one more command.
+fn with_command<'a>(program: Command<'a>, command: Command<'a>) -> Result<Command<'a>, AllocError>
+    requires { (fields_of command).has_globals ≡ false }
+    ensures { IfOk result (λ more. app_of more ≡ with_subcommand (app_of program.entry) (app_of command.entry).top) }
+{
+    program.subcommand(command)
+}
+
+/// The words that the program takes.
+fn desk_command<'a>(alloc: Global) -> Result<Command<'a>, AllocError>
+    ensures { IfOk result (λ command. app_of command ≡ desk_words) }
+{
+    let desk = with_command(program_command(alloc), rehearse_command(alloc)?)?;
+    let desk = with_command(desk, init_command(alloc)?)?;
+    let desk = with_command(desk, serve_command(alloc)?)?;
+    let desk = with_command(desk, travel_command(alloc)?)?;
+    let desk = with_command(desk, manifest_command(alloc)?)?;
+    with_command(desk, trips_command(alloc)?)
+}
+
+/// What stands at the places of the command that the words name, the program's own name first.
+///
+/// The error is the text for the user: what is wrong with the words, or the help or the version that they ask for.
+pub fn matches_in<'a>(alloc: Global, words: &'a [String]) -> Result<ArgMatches<'a>, Error>
+    ensures matches { IfOk result (HasMatchesOf desk_words (map string_bytes words.now)) }
+    ensures refused { FailsBy (fault_of desk_words (map string_bytes words.now)) result }
+{
+    desk_command(alloc)?.try_get_matches_from(words)
+}
+
+/// The fault where words are refused for this reason.
+fn refusal_of(reason: ErrorKind) -> Fault
+    ensures memory { reason ≡ OutOfMemory → result ≡ fault memory_refused }
+    ensures wrong { result ≡ fault wrong_words → reason ≢ OutOfMemory }
+    ensures fault { (result ≡ fault memory_refused) ⊎ (result ≡ fault wrong_words) }
+{
+    match reason {
+        ErrorKind::OutOfMemory => Fault::of(MEMORY),
+        _ => Fault::of(WRONG_WORDS),
+    }
+}
+
+/// What the words ask for, the program's own name first. Words that are no command's, or one that is not the number or
+/// the day that its place asks for, are the fault `WRONG_WORDS`; the other fault is want of memory.
+pub fn line<'a>(alloc: Global, words: &'a [String]) -> Result<asked::Line<'a>, Fault>
+    ensures line { IfOk result (IsLine (map string_bytes words.now)) }
+    ensures wrong { result ≡ Err (fault wrong_words) → (asked : Line) → ¬ (IsLine (map string_bytes words.now) asked) }
+    // Words that do not begin with a hyphen are read as they stand.
+    ensures plain { (asked : Line) → SpellsLine (map string_bytes words.now) asked → result ≢ Err (fault wrong_words) }
+    ensures same { (asked : Line) → SpellsLine (map string_bytes words.now) asked → IfOk result (IsSameLine asked) }
+    ensures fault { IfErr result (λ error. (error ≡ fault memory_refused) ⊎ (error ≡ fault wrong_words)) }
+{
+    match matches_in(alloc, words) {
+        Ok(matches) => match found_line(&matches) {
+            Some(asked) => Ok(asked),
+            None => Err(Fault::of(WRONG_WORDS)),
+        },
+        Err(error) => Err(refusal_of(error.kind())),
+    }
+}

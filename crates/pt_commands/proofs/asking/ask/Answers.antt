@@ -1,0 +1,6 @@
+use Rattle.pt_commands.proofs.asking.ask.Goals as goal
+
+-- src/asking.rt:93:1
+pub returns : goal.returns
+returns g c = record
+    { asked = (c.answer-reply.result, c.answer-reply.ensures.goes, c.print_reply.ensures.ends, c.print_reply.ensures.printed) }

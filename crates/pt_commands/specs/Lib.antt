@@ -1,0 +1,3 @@
+pub mod Rehearsal
+pub mod Status
+pub mod Told

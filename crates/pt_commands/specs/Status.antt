@@ -1,0 +1,32 @@
+-- How the program ends.
+use Rattle.std.specs.Prelude.{ℕ, ◌==◌, ◌||◌, Bool, true, false, if◌then◌else◌}
+use Rattle.clap.specs.declared.error.kind.ErrorKind.{ErrorKind}
+use Rattle.clap.specs.declared.error.kind.ErrorKind.TheVariants.{DisplayHelp, DisplayVersion, OutOfMemory}
+use Rattle.pt_base.specs.Fault.{fault}
+use Rattle.pt_base.specs.Codes.{memory_refused, write_failed}
+use Rattle.pt_tables.specs.Faults.{rows_refused, store_refused, tables_refused}
+use Rattle.pt_commands.specs.declared.outcome.Outcome.{Outcome}
+use Rattle.pt_commands.specs.declared.outcome.Outcome.TheVariants.{Done, Denied, WrongWords, Failed}
+
+-- memory was refused, or the store: its tables are not the desk's, its rows are those of no sound state, or it refused or
+-- failed
+abbrev pub is_of_store : ℕ → Bool
+is_of_store code =
+    code == memory_refused || code == tables_refused || code == rows_refused || code == store_refused
+
+-- the exit status: 0 done, 1 denied, 2 wrong words, 3 want of memory or the store, 4 any other fault
+abbrev pub status_of : Outcome → ℕ
+status_of Done = 0
+status_of Denied = 1
+status_of WrongWords = 2
+status_of (Failed error) = if is_of_store error.code then 3 else 4
+
+-- words that were not taken are wrong, but where memory was refused, or help or the version was asked for: that is done
+-- once it is shown
+abbrev pub refusal_outcome : ErrorKind → Bool → Outcome
+refusal_outcome OutOfMemory is_shown = Failed (fault memory_refused)
+refusal_outcome DisplayHelp true = Done
+refusal_outcome DisplayHelp false = Failed (fault write_failed)
+refusal_outcome DisplayVersion true = Done
+refusal_outcome DisplayVersion false = Failed (fault write_failed)
+refusal_outcome _ is_shown = WrongWords

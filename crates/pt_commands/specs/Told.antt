@@ -1,0 +1,40 @@
+-- What a command is told by the desk, what it prints of that, and how it ends.
+use Rattle.std.specs.Prelude.{◌≡◌, ◌⊎◌, ℕ, List, [], ◌++◌, Result, Ok, Err, codes}
+use Rattle.pt_base.specs.Codes.{memory_refused, write_failed}
+use Rattle.pt_base.specs.Fault.{fault}
+use Rattle.pt_base.specs.Rule.{name_of}
+use Rattle.pt_base.specs.declared.fault.Fault.{Fault}
+use Rattle.pt_desk.specs.declared.keeper.StoreFault.{StoreFault}
+use Rattle.pt_desk.specs.declared.keeper.StoreFault.TheVariants.{Memory, Store}
+use Rattle.pt_manifest.specs.Export.{trips_text}
+use Rattle.pt_manifest.specs.Manifests.{manifest_text}
+use Rattle.pt_requests.specs.declared.request.Answer.{Answer}
+use Rattle.pt_requests.specs.declared.request.Answer.TheVariants as answer
+use Rattle.pt_tables.specs.Faults.{store_refused}
+use Rattle.pt_commands.specs.declared.outcome.Outcome.{Outcome}
+use Rattle.pt_commands.specs.declared.outcome.Outcome.TheVariants.{Done, Denied}
+
+-- what is printed: a word on a line of its own for what is done, the name of the rule for what is denied, and else the
+-- text that was asked for
+abbrev pub told_text : Answer → List ℕ
+told_text answer.Done = codes "done\n"
+told_text (answer.Denied rule) = name_of rule ++ codes "\n"
+told_text (answer.Manifest day sheet) = manifest_text day sheet
+told_text (answer.Export trips) = trips_text trips
+told_text _ = []
+
+-- how a command ends that is told this
+abbrev pub ending_of : Answer → Outcome
+ending_of (answer.Denied rule) = Denied
+ending_of _ = Done
+
+-- the fault of the program where the desk's store fails
+abbrev pub fault_of : StoreFault → Fault
+fault_of Memory = fault memory_refused
+fault_of Store = fault store_refused
+
+-- how a command ends by this reply
+abbrev pub EndsBy : Result Answer StoreFault → Result Outcome Fault → Type 0
+EndsBy (Ok told) (Ok outcome) = outcome ≡ ending_of told
+EndsBy (Ok told) (Err error) = (error ≡ fault memory_refused) ⊎ (error ≡ fault write_failed)
+EndsBy (Err failed) result = result ≡ Err (fault_of failed)

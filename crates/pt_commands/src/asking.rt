@@ -1,0 +1,110 @@
+ghost use Rattle.std.specs.Prelude.{◌≡◌, ◌++◌, codes, IfErr, IfOk, OnOk, Ok, Result};
+ghost use Rattle.std.specs.Io.KnownBytes.{Appends};
+ghost use Rattle.pt_commands.specs.Told.{EndsBy, ending_of, fault_of, told_text};
+ghost use Rattle.pt_base.specs.Codes.{memory_refused, write_failed};
+ghost use Rattle.pt_base.specs.Fault.{fault};
+ghost use Rattle.pt_desk.specs.Store.{Answers};
+ghost use Rattle.pt_desk_rules.specs.Step.{IsOutcome};
+ghost use Rattle.pt_desk.specs.declared.keeper.StoreFault.{StoreFault};
+ghost use Rattle.pt_requests.specs.declared.request.Answer.{Answer};
+
+use crate::outcome::{Outcome, STORE_REFUSED};
+use pt_base::fault::{MEMORY, WRITE_FAILED};
+use pt_base::{Day, Fault, Minute};
+use pt_desk::{Answer, Keeper, Reply, Request, StoreFault, answer};
+use pt_manifest::{manifest, trips_csv};
+use std::alloc::{AllocError, Global};
+use std::io::Write;
+
+/// The fault of the program where the desk's store fails.
+pub fn fault_of(failed: StoreFault) -> Fault
+    ensures { result ≡ fault_of failed }
+{
+    match failed {
+        StoreFault::Memory => Fault::of(MEMORY),
+        StoreFault::Store => Fault::of(STORE_REFUSED),
+    }
+}
+
+/// A word on a line of its own.
+fn line_of(alloc: Global, word: &str) -> Result<Vec<u8>, AllocError>
+    ensures { IfOk result (λ line. line.items ≡ word.now ++ codes "\n") }
+{
+    let mut line = Vec::from_slice(alloc, word.as_bytes())?;
+    line.push(b'\n')?;
+    Ok(line)
+}
+
+/// What a command prints that is told this. The error is want of memory.
+fn text_of(alloc: Global, told: &Answer) -> Result<Vec<u8>, Fault>
+    ensures text { IfOk result (λ text. text.items ≡ told_text told.now) }
+    ensures fault { IfErr result (λ error. error ≡ fault memory_refused) }
+{
+    match told {
+        Answer::Done => Ok(line_of(alloc, "done")?),
+        Answer::Denied(rule) => Ok(line_of(alloc, rule.name())?),
+        Answer::Manifest { day, sheet } => manifest(alloc, *day, sheet),
+        Answer::Export(trips) => trips_csv(alloc, trips.as_slice()),
+        _ => Ok(Vec::new(alloc)),
+    }
+}
+
+/// How a command ends that is told this.
+fn ending_of(told: &Answer) -> Outcome
+    ensures { result ≡ ending_of told.now }
+{
+    match told {
+        Answer::Denied(_) => Outcome::Denied,
+        _ => Outcome::Done,
+    }
+}
+
+/// Writes a text, and sees it off. The error is a write that failed.
+fn print<W: Write>(text: &[u8], out: &mut W) -> Result<(), Fault>
+    ensures written { OnOk result (Appends (W.contents out.old) (W.contents out.new) text.now) }
+    ensures fault { IfErr result (λ error. error ≡ fault write_failed) }
+{
+    if out.write_all(text).is_err() || out.flush().is_err() {
+        return Err(Fault::of(WRITE_FAILED));
+    }
+    Ok(())
+}
+
+/// Prints what a reply tells.
+fn print_reply<W: Write>(alloc: Global, reply: &Reply, out: &mut W) -> Result<Outcome, Fault>
+    ensures ends { EndsBy reply.now result }
+    ensures printed { (told : Answer) → reply.now ≡ Ok told
+        → OnOk result (Appends (W.contents out.old) (W.contents out.new) (told_text told)) }
+{
+    match reply {
+        Ok(told) => {
+            let text = text_of(alloc, told)?;
+            print(text.as_slice(), out)?;
+            Ok(ending_of(told))
+        }
+        Err(failed) => Err(fault_of(*failed)),
+    }
+}
+
+/// Asks the desk as the caller with this key, and prints what it tells.
+///
+/// The error is want of memory, a store that failed, or a write that failed: what was asked for may then be done all the
+/// same.
+pub fn ask<K: Keeper, W: Write>(
+    alloc: Global,
+    keeper: &mut K,
+    now: (Day, Minute),
+    key: &[u8],
+    number: u32,
+    request: &Request,
+    out: &mut W,
+) -> Result<Outcome, Fault>
+    ensures asked { (reply : Result Answer StoreFault)
+        × Answers (K.store keeper.old) (K.store keeper.new) (IsOutcome key.now now number request.now) reply
+        × EndsBy reply result
+        × ((told : Answer) → reply ≡ Ok told
+        → OnOk result (Appends (W.contents out.old) (W.contents out.new) (told_text told))) }
+{
+    let reply = answer(alloc, keeper, now, key, number, request);
+    print_reply(alloc, &reply, out)
+}

@@ -1,0 +1,73 @@
+ghost use Rattle.std.specs.Prelude.{◌≡◌, MatchResult};
+ghost use Rattle.pt_commands.specs.Status.{is_of_store, refusal_outcome, status_of};
+ghost use Rattle.pt_commands.specs.declared.outcome.Outcome.TheVariants.{Failed};
+
+use clap::error::ErrorKind;
+use pt_base::Fault;
+use pt_base::fault::{MEMORY, WRITE_FAILED};
+
+/// The database has other tables than the desk's, or those of another version.
+const TABLES_REFUSED: u16 = 30;
+
+/// The rows of the database are those of no sound state.
+const ROWS_REFUSED: u16 = 31;
+
+/// The store refused or failed.
+pub const STORE_REFUSED: u16 = 32;
+
+/// How the program ended.
+#[derive(Clone, Copy, Debug, PartialEq, Eq)]
+pub enum Outcome {
+    /// It did what the words asked for.
+    Done,
+    /// The words ask for nothing that there is.
+    WrongWords,
+    /// The desk denied what was asked for, and standard output names the rule.
+    Denied,
+    /// Memory was refused, or the store or what the program reads or writes ended it.
+    Failed(Fault),
+}
+
+/// The outcome of a task, which may have failed.
+pub fn outcome_of(done: Result<Outcome, Fault>) -> Outcome
+    ensures { MatchResult done (λ outcome. result ≡ outcome) (λ error. result ≡ Failed error) }
+{
+    match done {
+        Ok(outcome) => outcome,
+        Err(fault) => Outcome::Failed(fault),
+    }
+}
+
+/// The outcome where the words were not taken for this reason, and the user was shown it or was not.
+pub fn outcome_of_refusal(reason: ErrorKind, is_shown: bool) -> Outcome
+    ensures { result ≡ refusal_outcome reason is_shown }
+{
+    match reason {
+        ErrorKind::OutOfMemory => Outcome::Failed(Fault::of(MEMORY)),
+        ErrorKind::DisplayHelp | ErrorKind::DisplayVersion if is_shown => Outcome::Done,
+        ErrorKind::DisplayHelp | ErrorKind::DisplayVersion => {
+            Outcome::Failed(Fault::of(WRITE_FAILED))
+        }
+        _ => Outcome::WrongWords,
+    }
+}
+
+/// Whether this code tells want of memory, or a fault of the store.
+fn is_of_store(code: u16) -> bool
+    ensures { result ≡ is_of_store code }
+{
+    matches!(code, MEMORY | TABLES_REFUSED | ROWS_REFUSED | STORE_REFUSED)
+}
+
+/// The exit status that tells an outcome.
+pub fn exit_status(outcome: Outcome) -> u8
+    ensures { result ≡ status_of outcome }
+{
+    match outcome {
+        Outcome::Done => 0,
+        Outcome::Denied => 1,
+        Outcome::WrongWords => 2,
+        Outcome::Failed(fault) if is_of_store(fault.code) => 3,
+        Outcome::Failed(_) => 4,
+    }
+}
