@@ -12,8 +12,6 @@ mod fits;
 mod pairs;
 mod places;
 mod plans;
-#[cfg(test)]
-mod tests;
 mod travel;
 mod trips;
 mod unsound_table;

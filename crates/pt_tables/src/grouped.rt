@@ -8,7 +8,5 @@ pub(crate) use vehicles::{put_vehicle, take_vehicle};
 mod entries;
 mod entry_texts;
 mod stops;
-#[cfg(test)]
-mod tests;
 mod travel;
 mod vehicles;

@@ -5,8 +5,6 @@ pub use keeper::SqlKeeper;
 pub use laws::{an_opening_finds_one_thing, same_rows_same_content};
 pub use open_fault::OpenFault;
 
-#[cfg(test)]
-mod desk_tests;
 mod first_rows;
 mod grouped;
 mod keeper;
@@ -17,7 +15,5 @@ mod opening;
 pub mod reading;
 mod schema;
 mod stored;
-#[cfg(test)]
-mod tests;
 mod told;
 mod writes;

@@ -15,6 +15,4 @@ mod kept;
 mod places;
 mod riders;
 mod routes;
-#[cfg(test)]
-mod tests;
 mod trips;

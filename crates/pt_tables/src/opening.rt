@@ -10,18 +10,12 @@ pub(crate) use whole::content_in;
 mod agency;
 mod content;
 mod gathered;
-#[cfg(test)]
-mod gathered_tests;
 mod one_row;
 mod plans;
 mod records;
 mod schema_check;
-#[cfg(test)]
-mod schema_tests;
 mod sections;
 mod table_rows;
-#[cfg(test)]
-pub(crate) mod tests;
 mod travel;
 mod version;
 mod whole;
