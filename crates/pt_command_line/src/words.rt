@@ -49,7 +49,8 @@ For example: desk manifest desk.db EST5EDT,M3.2.0,M11.1.0 KEY 1 2025-03-11";
 const TRIPS: &str = "Prints the trips of a day as CSV. \
 For example: desk trips desk.db EST5EDT,M3.2.0,M11.1.0 KEY 2025-03-11";
 
-const ADMIN_KEY: &str = "The admin's key, which requests give in the header Desk-Key";
+const ADMIN_KEY: &str =
+    "The admin's key, which requests give in the header Desk-Key: it has no blank at either end";
 
 const KEY: &str = "The key of the caller who asks";
 
