@@ -32,7 +32,7 @@ store, 4 another fault. With 3 and 4 standard error has the line `fault C row R`
 
 const REHEARSE: &str = "Answers HTTP requests from standard input, on a desk in memory that \
 begins with one admin. Before each request stands a line `@ YYYY-MM-DD M`: its day, and the \
-minute of that day. Replies go to standard output.";
+minute of that day. Replies go to standard output. For example: desk rehearse KEY < requests";
 
 const INIT: &str = "Makes a new database with one caller, the admin, who has number 1. \
 For example: desk init desk.db KEY";
