@@ -8,8 +8,8 @@ use Rattle.pt_tables.specs.Faults.{rows_refused, store_refused, tables_refused}
 use Rattle.pt_commands.specs.declared.outcome.Outcome.{Outcome}
 use Rattle.pt_commands.specs.declared.outcome.Outcome.TheVariants.{Done, Denied, WrongWords, Failed}
 
--- memory was refused, or the store: its tables are not the desk's, its rows are those of no sound state, or it refused or
--- failed
+-- memory was refused, or the store: its tables are not the desk's, its rows are those of no sound state, or it refused
+-- or failed
 abbrev pub is_of_store : ℕ → Bool
 is_of_store code =
     code == memory_refused || code == tables_refused || code == rows_refused || code == store_refused

@@ -88,8 +88,8 @@ fn print_reply<W: Write>(alloc: Global, reply: &Reply, out: &mut W) -> Result<Ou
 
 /// Asks the desk as the caller with this key, and prints what it tells.
 ///
-/// The error is want of memory, a store that failed, or a write that failed: what was asked for may then be done all the
-/// same.
+/// The number is the caller's for a write; a read has none, and takes 0. The error is want of memory, a store that
+/// failed, or a write that failed: what was asked for may then be done all the same.
 pub fn ask<K: Keeper, W: Write>(
     alloc: Global,
     keeper: &mut K,

@@ -18,7 +18,8 @@ pub struct Port {
 }
 
 impl Port {
-    /// Listens on a port of this machine's own address 127.0.0.1, for so many connections, and says so on standard error.
+    /// Listens on a port of this machine's own address 127.0.0.1, for so many connections, and says so on standard
+    /// error.
     pub fn open<R>(rt: &R, number: u16, connections: u32) -> Result<Port, Fault>
     where
         R: Eprint + Net<Listener = TcpListener, Stream = TcpStream>,

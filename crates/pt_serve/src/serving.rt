@@ -32,8 +32,8 @@ fn unread(zone: &str) -> Fault
     }
 }
 
-/// The day and the minute that clocks of a zone show now. The error is fault 3, a zone that is no POSIX rule, or fault 2, a
-/// clock that shows no day of 2000 to 2099.
+/// The day and the minute that clocks of a zone show now. The error is fault 3, a zone that is no POSIX rule, or fault
+/// 2, a clock that shows no day of 2000 to 2099.
 pub fn moment_at<C: Clock>(clock: &C, zone: &str) -> Result<(Day, Minute), Fault>
     ensures moment { IfOk result (λ now. IsMomentIn zone.now now.0 now.1) }
     ensures zone { (result ≡ Err (fault no_such_zone)) ↔ ¬ (IsZoneRule zone.now) }

@@ -221,8 +221,8 @@ impl<S: Alter + Drop> SqlKeeper<S> {
     /// Opens a database that has the desk's tables: their content is read into memory, and nothing is written.
     ///
     /// A refusal hands the store back: code 30 where the tables are not the desk's, or are of another version; 31 with
-    /// the number of a table whose rows are those of no sound state; 32 where a transaction is open or the store failed;
-    /// 0 where memory was refused.
+    /// the number of a table whose rows are those of no sound state; 32 where a transaction is open or the store
+    /// failed; 0 where memory was refused.
     pub fn adopt(alloc: Global, conn: Connection<S>) -> Result<SqlKeeper<S>, (S, OpenFault)>
         ensures sound { IfOk result (λ keeper. IsSound keeper.mirror.content) }
         ensures rows { IfOk result (λ keeper. HasCleanDisk (state S.Store keeper.conn)

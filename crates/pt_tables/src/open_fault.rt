@@ -8,8 +8,8 @@ use sqlite::{Error, ErrorCode};
 /// Why a database is not opened.
 #[derive(Clone, Copy, Debug, PartialEq, Eq)]
 pub struct OpenFault {
-    /// 0 where memory was refused, 30 where the tables are not the desk's or of another version, 31 where rows are those
-    /// of no sound state, 32 where the store refused or failed.
+    /// 0 where memory was refused, 30 where the tables are not the desk's or of another version, 31 where rows are
+    /// those of no sound state, 32 where the store refused or failed.
     pub code: u16,
     /// The number of the first table that is at fault, and 0 where none is.
     pub table: u8,

@@ -1,4 +1,4 @@
-//! Whether the schema of a database is the desk's: it is compared, field by field, with one that is made anew in memory.
+//! Whether the schema of a database is the desk's: it is compared, field by field, with one that is made in memory.
 //!
 //! The desk's has no default, no CHECK and no view, so of these it is enough to see that there is none.
 

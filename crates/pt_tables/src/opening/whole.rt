@@ -86,8 +86,8 @@ fn sound_keeper(alloc: Global, change: Change) -> Result<ListKeeper, OpenFault>
     }
 }
 
-/// The desk that the tables of a database have: code 30 where the tables are others, 31 where their rows are those of no
-/// sound state, 32 where the store refused or failed, and 0 where memory was refused.
+/// The desk that the tables of a database have: code 30 where the tables are others, 31 where their rows are those of
+/// no sound state, 32 where the store refused or failed, and 0 where memory was refused.
 pub(crate) fn content_in<S: Alter>(
     alloc: Global,
     conn: &mut Connection<S>,
