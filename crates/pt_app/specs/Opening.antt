@@ -3,7 +3,7 @@ use Rattle.std.specs.Prelude.{◌≡◌, ◌⊎◌}
 use Rattle.pt_base.specs.Codes.{memory_refused}
 use Rattle.pt_base.specs.Fault.{fault}
 use Rattle.pt_base.specs.declared.fault.Fault.{Fault}
-use Rattle.pt_tables.specs.Faults.{store_refused}
+use Rattle.pt_tables_opening.specs.Faults.{store_refused}
 
 -- memory was refused, or the store refused or failed
 abbrev pub IsStoreFault : Fault → Type 0

@@ -4,7 +4,7 @@ use Rattle.clap.specs.declared.error.kind.ErrorKind.{ErrorKind}
 use Rattle.clap.specs.declared.error.kind.ErrorKind.TheVariants.{DisplayHelp, DisplayVersion, OutOfMemory}
 use Rattle.pt_base.specs.Fault.{fault}
 use Rattle.pt_base.specs.Codes.{memory_refused, write_failed}
-use Rattle.pt_tables.specs.Faults.{rows_refused, store_refused, tables_refused}
+use Rattle.pt_tables_opening.specs.Faults.{rows_refused, store_refused, tables_refused}
 use Rattle.pt_commands.specs.declared.outcome.Outcome.{Outcome}
 use Rattle.pt_commands.specs.declared.outcome.Outcome.TheVariants.{Done, Denied, WrongWords, Failed}
 

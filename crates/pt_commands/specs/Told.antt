@@ -10,7 +10,7 @@ use Rattle.pt_manifest.specs.Export.{trips_text}
 use Rattle.pt_manifest.specs.Manifests.{manifest_text}
 use Rattle.pt_requests.specs.declared.request.Answer.{Answer}
 use Rattle.pt_requests.specs.declared.request.Answer.TheVariants as answer
-use Rattle.pt_tables.specs.Faults.{store_refused}
+use Rattle.pt_tables_opening.specs.Faults.{store_refused}
 use Rattle.pt_commands.specs.declared.outcome.Outcome.{Outcome}
 use Rattle.pt_commands.specs.declared.outcome.Outcome.TheVariants.{Done, Denied}
 

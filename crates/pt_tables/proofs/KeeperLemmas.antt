@@ -13,12 +13,12 @@ use Rattle.pt_desk.specs.declared.keeper.StoreFault.{StoreFault}
 use Rattle.pt_desk.specs.declared.keeper.StoreFault.TheVariants.{Memory, Store as failed}
 use Rattle.pt_desk_rules.specs.State.{State, applied}
 use Rattle.pt_desk_rules.specs.declared.change.Change.{Change}
-use Rattle.pt_tables.specs.Committing.{IsMade, LeadsTo, MayFind}
-use Rattle.pt_tables.specs.Least.{IsUndone}
+use Rattle.pt_tables_writing.specs.Committing.{IsMade, LeadsTo, MayFind}
+use Rattle.pt_tables_writing.specs.Least.{IsUndone}
 use Rattle.pt_tables.specs.Mirror.{IsInStep, Mirrored, kept_store, shut, store_of}
-use Rattle.pt_tables.specs.Tables.{HasRows, IsKept, Stands}
-use Rattle.pt_tables.specs.WellFormed.{IsWellFormed}
-use Rattle.pt_tables.proofs.SameRows.{opens_once}
+use Rattle.pt_tables_rows.specs.Tables.{HasRows, IsKept, Stands}
+use Rattle.pt_tables_rows.specs.WellFormed.{IsWellFormed}
+use Rattle.pt_tables_rows.proofs.SameRows.{opens_once}
 
 -- ---- reads
 

@@ -8,10 +8,10 @@ use Rattle.sqlite.proofs.StateLemmas.{survives_weaker}
 use Rattle.pt_base.specs.declared.policy.Policy.{Policy}
 use Rattle.pt_desk.specs.LeastState.{IsLeastPolicy, IsLeastState}
 use Rattle.pt_desk_rules.specs.State.{State}
-use Rattle.pt_tables.specs.Least.{IsNew, IsAsBefore, IsInUse, IsUndone, HasNewRows, HasLeastRows}
-use Rattle.pt_tables.specs.Rows.{desk_row}
-use Rattle.pt_tables.specs.Schema.{no_schema}
-use Rattle.pt_tables.specs.Tables.{HasRows, IsKept}
+use Rattle.pt_tables_writing.specs.Least.{IsNew, IsAsBefore, IsInUse, IsUndone, HasNewRows, HasLeastRows}
+use Rattle.pt_tables_rows.specs.Rows.{desk_row}
+use Rattle.pt_tables_rows.specs.Schema.{no_schema}
+use Rattle.pt_tables_rows.specs.Tables.{HasRows, IsKept}
 
 same_row : (p q : Policy) (n : ℕ) → IsLeastPolicy p → IsLeastPolicy q → n ≡ 0 → desk_row p n ≡ desk_row q 0
 same_row p q n a b none = rw (a.base, a.transfer, a.fare, a.service, a.extra_ride, a.min_missed, a.percent, a.span_days, b.base, b.transfer, b.fare, b.service, b.extra_ride, b.min_missed, b.percent, b.span_days, none) refl

@@ -13,10 +13,10 @@ use Rattle.sqlite.proofs.StateLemmas.{survives_then}
 use Rattle.sqlite_keyed.proofs.ListLemmas.{IsPermutation-same}
 use Rattle.pt_base.specs.declared.policy.Policy.{Policy}
 use Rattle.pt_desk_rules.specs.State.{State}
-use Rattle.pt_tables.specs.Least.{first_admin, IsNew, HasNewRows}
-use Rattle.pt_tables.specs.Rows.{desk_row, caller_row, kept_row, place_row, route_row, vehicle_row, rider_row, entry_row, trip_row, stop_rows, travel_rows}
-use Rattle.pt_tables.specs.Schema.{desk_schema, no_schema, tables, desk_table, callers_table, kept_table, places_table, fixed_table, vehicles_table, riders_table, entries_table, trips_table, stops_table, travel_table}
-use Rattle.pt_tables.specs.Tables.{columns_of, AreRows, HasRows, HaveRowids, IsBlank, IsKept, Fills, Stands}
+use Rattle.pt_tables_writing.specs.Least.{first_admin, IsNew, HasNewRows}
+use Rattle.pt_tables_rows.specs.Rows.{desk_row, caller_row, kept_row, place_row, route_row, vehicle_row, rider_row, entry_row, trip_row, stop_rows, travel_rows}
+use Rattle.pt_tables_rows.specs.Schema.{desk_schema, no_schema, tables, desk_table, callers_table, kept_table, places_table, fixed_table, vehicles_table, riders_table, entries_table, trips_table, stops_table, travel_table}
+use Rattle.pt_tables_rows.specs.Tables.{columns_of, AreRows, HasRows, HaveRowids, IsBlank, IsKept, Fills, Stands}
 
 -- a table with no row stands for no record
 none_there : (table : Table) (trees : Trees) (rows : List Row) → trees table.tree ≡ [] → rows ≡ [] → AreRows table trees rows

@@ -13,9 +13,9 @@ use Rattle.sqlite_trees.specs.Tree.{Trees}
 use Rattle.sqlite_trees.specs.View.{View, IsOrdered, IsShaped}
 use Rattle.sqlite_trees.specs.declared.store.Shape.TheVariants as shape
 use Rattle.sqlite_typed.proofs.ConnLemmas.{open_if_sound}
-use Rattle.pt_tables.specs.Opening.{IsReopened}
-use Rattle.pt_tables.specs.Schema.{desk_schema, tables}
-use Rattle.pt_tables.specs.Tables.{HaveRowids}
+use Rattle.pt_tables_opening.specs.Opening.{IsReopened}
+use Rattle.pt_tables_rows.specs.Schema.{desk_schema, tables}
+use Rattle.pt_tables_rows.specs.Tables.{HaveRowids}
 
 shaped : (v : View) → IsOrdered v.shape v.trees → (t : Table) → v.shape t.tree ≡ shape.Table → HaveRowids (v.trees t.tree)
 shaped v ordered t is =
@@ -47,6 +47,7 @@ reopens v old new sound law ordered listed undone same opens live = record {
   is_open = opens.is_open;
   committed = sym opens.clean;
   rows = same ∙ undone (open_store v law sound);
+  lists = (live opens.is_open).0.lists;
   rowids = λ has.
       let lists = subst (λ (trees : Trees). Lists (trees catalog_tree) new.now.schema) same (live opens.is_open).0.lists in
       subst (λ (trees : Trees). AllByRecursion (λ t. HaveRowids (trees t.tree)) tables) (sym same) (have_rowids v new.now.schema ordered listed lists has);

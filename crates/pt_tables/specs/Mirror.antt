@@ -9,9 +9,9 @@ use Rattle.sqlite.specs.Held.{Held, held_code, state}
 use Rattle.sqlite.specs.State.{State as Connected, HasCleanDisk}
 use Rattle.sqlite.specs.Store.{Ghosts}
 use Rattle.sqlite.specs.View.{doubt}
-use Rattle.pt_tables.specs.Committing.{MayFind}
-use Rattle.pt_tables.specs.Tables.{IsKept}
-use Rattle.pt_tables.specs.WellFormed.{IsWellFormed}
+use Rattle.pt_tables_writing.specs.Committing.{MayFind}
+use Rattle.pt_tables_rows.specs.Tables.{IsKept}
+use Rattle.pt_tables_rows.specs.WellFormed.{IsWellFormed}
 
 -- a connection, the count of failures, and the lists that are kept beside it in memory
 pub record Mirrored (S : Type 0) : Type 0 where

@@ -8,19 +8,13 @@ ghost use Rattle.sqlite.specs.Held.{state};
 ghost use Rattle.sqlite.specs.State.{HasCleanDisk, Survives};
 ghost use Rattle.sqlite.specs.Tree.{Trees};
 ghost use Rattle.sqlite.specs.View.{IsClean};
-ghost use Rattle.pt_tables.specs.Faults.{IsRefusal, fault, store_refused};
-ghost use Rattle.pt_tables.specs.Least.{IsNew, IsAsBefore, IsInUse, IsUndone, HasNewRows, HasLeastRows};
-ghost use Rattle.pt_tables.specs.Opening.{IsReopened};
-ghost use Rattle.pt_tables.specs.Schema.{no_schema};
-ghost use Rattle.pt_tables.specs.Tables.{HasRows, IsKept};
+ghost use Rattle.pt_tables_opening.specs.Faults.{IsRefusal, fault, rows_refused, store_refused, tables_refused};
+ghost use Rattle.pt_tables_writing.specs.Least.{IsNew, IsAsBefore, IsInUse, IsUndone, HasNewRows, HasLeastRows};
+ghost use Rattle.pt_tables_opening.specs.Opening.{IsReopened};
+ghost use Rattle.pt_tables_opening.specs.Refused.{AreUnsound, HasOtherTables};
+ghost use Rattle.pt_tables_rows.specs.Schema.{no_schema};
+ghost use Rattle.pt_tables_rows.specs.Tables.{HasRows, IsKept};
 
-use crate::OpenFault;
-use crate::first_rows::{insert_admin, insert_desk};
-use crate::open_fault::open_fault;
-use crate::opening::content_in;
-use crate::schema::create_tables;
-use crate::told::is_told;
-use crate::writes::write_change;
 use pt_base::{
     CallerId, Day, Place, PlaceId, Policy, Rider, RiderId, RouteId, Trip, TripId, Vehicle,
     VehicleId,
@@ -31,6 +25,9 @@ use pt_desk_rules::{Arrival, Caller, Change, PlannedRoute, Spelling, TravelTable
 use pt_records::Rows;
 use pt_requests::Digest;
 use pt_rights::CaseFile;
+use pt_tables_opening::{OpenFault, content_in, fault_of};
+use pt_tables_rows::create_tables;
+use pt_tables_writing::{insert_admin, insert_desk, is_told, write_change};
 use sqlite::{Alter, Connection, Error, ErrorCode};
 use sqlite_schema::schema::Schema;
 use std::alloc::Global;
@@ -148,7 +145,7 @@ impl<S: Alter> SqlKeeper<S> {
                 failures: NEVER_FAILED,
                 mirror,
             }),
-            Err(error) => Err((conn, open_fault(&error))),
+            Err(error) => Err((conn, fault_of(&error))),
         }
     }
 
@@ -205,7 +202,8 @@ fn reopened<S: Alter + Drop>(
     ensures settled { IfOk result (λ new. new.in_transaction ≡ false) }
     ensures kept { IfErr result (λ refused. IsClean (S.Store.view refused.0) → IsTrue (S.Store.view refused.0).is_open
         → (S.Store.view refused.0).trees ≡ (state S.Store conn).committed.trees) }
-    ensures faults { IfErr result (λ refused. IsRefusal refused.1) }
+    ensures faults { IfErr result (λ refused.
+        (refused.1 ≡ fault memory_refused) ⊎ (refused.1 ≡ fault store_refused)) }
 {
     let store = conn.into_store();
     if store.is_broken() {
@@ -213,7 +211,7 @@ fn reopened<S: Alter + Drop>(
     }
     match Connection::over(alloc, store) {
         Ok(conn) => Ok(conn),
-        Err((error, store)) => Err((store, open_fault(&error))),
+        Err((error, store)) => Err((store, fault_of(&error))),
     }
 }
 
@@ -232,6 +230,10 @@ impl<S: Alter + Drop> SqlKeeper<S> {
             → IsTrue (S.Store.view refused.0).is_open
             → (S.Store.view refused.0).trees ≡ (state S.Store conn).committed.trees) }
         ensures faults { IfErr result (λ refused. IsRefusal refused.1) }
+        ensures other_tables { IfErr result (λ refused. IsClean (S.Store.view refused.0)
+            → refused.1.code ≡ tables_refused → HasOtherTables (state S.Store conn).committed.trees) }
+        ensures unsound { IfErr result (λ refused. IsClean (S.Store.view refused.0)
+            → refused.1.code ≡ rows_refused → AreUnsound (state S.Store conn).committed.trees) }
         ensures in_use { IsTrue (state S.Store conn).in_transaction
             → IsErrAnd result (λ refused. refused.1 ≡ fault store_refused) }
     {

@@ -2,18 +2,6 @@
 #![tactic(auto)]
 
 pub use keeper::SqlKeeper;
-pub use laws::{an_opening_finds_one_thing, same_rows_same_content};
-pub use open_fault::OpenFault;
+pub use pt_tables_opening::OpenFault;
 
-mod first_rows;
-mod grouped;
 mod keeper;
-mod laws;
-mod numbered;
-mod open_fault;
-mod opening;
-pub mod reading;
-mod schema;
-mod stored;
-mod told;
-mod writes;

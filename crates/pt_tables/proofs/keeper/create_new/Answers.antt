@@ -2,9 +2,9 @@ use Rattle.std.proofs.Common.{◌≡◌, OnOk, arith, subst, rules}
 use Rattle.sqlite.specs.Held.{state}
 use Rattle.sqlite.specs.State.{HasCleanDisk, Survives}
 use Rattle.pt_desk_rules.specs.State.{State}
-use Rattle.pt_tables.specs.Least.{IsNew, HasNewRows}
-use Rattle.pt_tables.specs.Tables.{IsKept}
-use Rattle.pt_tables.proofs.PartLemmas.{on_ok}
+use Rattle.pt_tables_writing.specs.Least.{IsNew, HasNewRows}
+use Rattle.pt_tables_rows.specs.Tables.{IsKept}
+use Rattle.pt_tables_rows.proofs.PartLemmas.{on_ok}
 use Rattle.pt_tables.proofs.NewLemmas.{kept, survive}
 use Rattle.pt_tables.proofs.keeper.create_new.Goals as goal
 

@@ -1,9 +1,9 @@
 use Rattle.std.proofs.Common.{subst, arith}
 use Rattle.sqlite.specs.Held.{state}
 use Rattle.sqlite.specs.State.{HasCleanDisk}
-use Rattle.pt_tables.specs.Opening.{Rests}
-use Rattle.pt_tables.specs.Tables.{HasRows}
-use Rattle.pt_tables.proofs.AdoptLemmas.{adopted, handed_back}
+use Rattle.pt_tables_opening.specs.Opening.{Rests}
+use Rattle.pt_tables_rows.specs.Tables.{HasRows}
+use Rattle.pt_tables.proofs.AdoptLemmas.{adopted, handed_back, others_committed, unsound_committed}
 use Rattle.pt_tables.proofs.keeper.SqlKeeper.adopt.Goals as goal
 
 pub invariant_of-result : goal.invariant_of-result
@@ -26,3 +26,19 @@ returns-in-Err-clause-kept g c clean here =
     handed_back (state g.S.Store c.args.conn) (state g.S.Store c.in_ok-conn.conn) new (g.S.Store.view c.into_store-in-Err.result).trees
     (c.into_store-in-Err.ensures.undone.undone here).0 ((c.into_store-in-Err.ensures.undone.kept clean).was_open here) early c.content_in.ensures.stays
     c.content_in.ensures.rests.survives.clean c.in_ok-conn.ensures.opened
+
+pub returns-in-Err-clause-unsound : goal.returns-in-Err-clause-unsound
+returns-in-Err-clause-unsound g c clean =
+    let mid = state g.S.Store c.in_ok-conn.conn in
+    let new = state g.S.Store c.content_in.new.conn in
+    let early : HasCleanDisk new = omega (arith, clean, c.into_store-in-Err.ensures.quiet.clean) in
+    let earlier : HasCleanDisk mid = omega (arith, early, c.content_in.ensures.rests.survives.clean) in
+    unsound_committed (state g.S.Store c.args.conn) mid c.in-Err.refused (c.in_ok-conn.ensures.opened earlier) (c.in-Err.ensures.why early)
+
+pub returns-in-Err-clause-other_tables : goal.returns-in-Err-clause-other_tables
+returns-in-Err-clause-other_tables g c clean =
+    let mid = state g.S.Store c.in_ok-conn.conn in
+    let new = state g.S.Store c.content_in.new.conn in
+    let early : HasCleanDisk new = omega (arith, clean, c.into_store-in-Err.ensures.quiet.clean) in
+    let earlier : HasCleanDisk mid = omega (arith, early, c.content_in.ensures.rests.survives.clean) in
+    others_committed (state g.S.Store c.args.conn) mid c.in-Err.refused (c.in_ok-conn.ensures.opened earlier) (c.in-Err.ensures.why early)

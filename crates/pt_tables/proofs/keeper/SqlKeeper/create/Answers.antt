@@ -1,9 +1,9 @@
 use Rattle.std.proofs.Common.{◌≡◌, IsTrue, false, subst₂, rules}
 use Rattle.sqlite.specs.Held.{state}
 use Rattle.sqlite.specs.State.{Survives}
-use Rattle.pt_tables.specs.Least.{IsNew, HasNewRows}
-use Rattle.pt_tables.specs.Schema.{no_schema}
-use Rattle.pt_tables.specs.Tables.{IsKept}
+use Rattle.pt_tables_writing.specs.Least.{IsNew, HasNewRows}
+use Rattle.pt_tables_rows.specs.Schema.{no_schema}
+use Rattle.pt_tables_rows.specs.Tables.{IsKept}
 use Rattle.pt_desk_rules.specs.State.{State}
 use Rattle.pt_tables.proofs.LeastLemmas.{survives_least, committed_least, as_before, untouched, never_in_use}
 use Rattle.pt_tables.proofs.keeper.SqlKeeper.create.Goals as goal

@@ -5,7 +5,7 @@ use Rattle.pt_desk.specs.declared.keeper.StoreFault.TheVariants.{Memory}
 use Rattle.pt_desk_rules.specs.State.{applied}
 use Rattle.pt_tables.specs.Mirror.{IsInStep, Mirrored, kept_store}
 use Rattle.pt_tables.proofs.KeeperLemmas.{at_most_one, commits_by, commits_made, commits_not, step_made, step_undone, wants_memory}
-use Rattle.pt_tables.proofs.WellFormedLemmas.{applied-well_formed}
+use Rattle.pt_tables_rows.proofs.WellFormedLemmas.{applied-well_formed}
 use Rattle.pt_tables.proofs.keeper.SqlKeeperKeeper.commit.Goals as goal
 
 pub returns-in_err-reserve : goal.returns-in_err-reserve

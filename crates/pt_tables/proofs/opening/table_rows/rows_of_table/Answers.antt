@@ -1,9 +1,0 @@
-use Rattle.std.proofs.Common.{[]}
-use Rattle.sqlite.specs.Held.{state}
-use Rattle.pt_tables.proofs.RestLemmas.{queried_rests}
-use Rattle.pt_tables.proofs.opening.table_rows.rows_of_table.Goals as goal
-
-pub returns-clause-rests : goal.returns-clause-rests
-returns-clause-rests g c =
-    queried_rests c.args.text.now [] (state g.S.Store c.args.conn.now) (state g.S.Store c.query_all.new.self) c.query_all.result c.requires.plain
-    c.query_all.ensures.ok c.query_all.ensures.err c.query_all.ensures.mode c.query_all.ensures.survives

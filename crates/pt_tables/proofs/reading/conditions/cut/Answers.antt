@@ -1,5 +1,0 @@
-use Rattle.pt_tables.proofs.ConditionReading.{cut-parts}
-use Rattle.pt_tables.proofs.reading.conditions.cut.Goals as goal
-
-pub returns : goal.returns
-returns c = cut-parts c.args.text.now c.split_once.result c.split_once.ensures.cases

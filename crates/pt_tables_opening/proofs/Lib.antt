@@ -1,0 +1,14 @@
+pub mod AgencyLemmas
+pub mod ContentLemmas
+pub mod GatheredLemmas
+pub mod NoneLemmas
+pub mod OrderedLemmas
+pub mod OrderedQueries
+pub mod PlanReading
+pub mod RestLemmas
+pub mod RowOrders
+pub mod RowTexts
+pub mod SchemaLemmas
+pub mod SectionLemmas
+pub mod ToldLemmas
+pub mod WholeQueries

@@ -1,0 +1,50 @@
+-- Rows in the order of the columns that tell a record's key keep the order of the records.
+use Rattle.std.proofs.Common.{◌≡◌, ◌<◌, ℕ, Result, Ok, Err, IfOk, Vec, refl, arith}
+use Rattle.std.specs.declared.alloc.Global.{Global}
+use Rattle.sqlite.specs.Order.{Row}
+use Rattle.sqlite.specs.declared.error.Error.{Error}
+use Rattle.pt_desk_rules.specs.State.{caller_key, kept_key, place_key, route_key, rider_key, entry_key, vehicle_key, trip_key}
+use Rattle.pt_tables_reading.specs.Fitting.{FitsFiled, FitsRoute, FitsVehicle}
+use Rattle.pt_tables_opening.specs.Gathered.{AreInOrder}
+use Rattle.pt_tables_reading.specs.Reading.{FitsCaller, FitsKept, FitsPlace, FitsRider, FitsTrip}
+use Rattle.pt_tables_rows.specs.Rows.{caller_row, kept_row, place_row, route_row, rider_row, entry_row, vehicle_row, trip_row}
+use Rattle.pt_tables_opening.specs.Told.{KeepsOrder}
+use Rattle.pt_tables_opening.proofs.OrderedLemmas.{IsCounted, IsPaired, count_le, double_key, keeps_order, pair_le}
+use Rattle.pt_tables_rows.proofs.SameRowsRecords.{number_in}
+
+-- the rows keep the order of these records, if they stand in the order of so many columns
+abbrev Keeps : {A : Type 0} → ℕ → (A → ℕ) → (A → Row) → (A → Type 0) → Type 0
+Keeps columns key row_of Fits = (r : Result (Vec Row Global) Error) → IfOk r (λ rows. AreInOrder columns rows.items) → IfOk r (λ rows. KeepsOrder key row_of Fits rows.items)
+
+module _ {A : Type 0} (key : A → ℕ) (row_of : A → Row) (Fits : A → Type 0) where
+  by_one : ((x : A) → IsCounted (row_of x)) → ((x : A) → number_in 0 (row_of x) ≡ key x) → Keeps 1 key row_of Fits
+  by_one is keyed (Ok rows) order = keeps_order 1 (number_in 0) IsCounted count_le key row_of Fits (λ x fits. is x) keyed rows.items order
+  by_one is keyed (Err e) order = tt
+
+  by_two : ((x : A) → Fits x → IsPaired (row_of x)) → ((x : A) → double_key (row_of x) ≡ key x) → Keeps 2 key row_of Fits
+  by_two is keyed (Ok rows) order = keeps_order 2 double_key IsPaired pair_le key row_of Fits is keyed rows.items order
+  by_two is keyed (Err e) order = tt
+
+pub callers_ordered : Keeps 1 caller_key caller_row FitsCaller
+callers_ordered = by_one caller_key caller_row FitsCaller (λ x. refl) (λ x. refl)
+
+pub kept_ordered : Keeps 1 kept_key kept_row FitsKept
+kept_ordered = by_one kept_key kept_row FitsKept (λ x. refl) (λ x. refl)
+
+pub places_ordered : Keeps 1 place_key place_row FitsPlace
+places_ordered = by_one place_key place_row FitsPlace (λ x. refl) (λ x. refl)
+
+pub routes_ordered : Keeps 1 route_key route_row FitsRoute
+routes_ordered = by_one route_key route_row FitsRoute (λ x. refl) (λ x. refl)
+
+pub riders_ordered : Keeps 1 rider_key rider_row FitsRider
+riders_ordered = by_one rider_key rider_row FitsRider (λ x. refl) (λ x. refl)
+
+pub trips_ordered : Keeps 1 trip_key trip_row FitsTrip
+trips_ordered = by_one trip_key trip_row FitsTrip (λ x. refl) (λ x. refl)
+
+pub vehicles_ordered : Keeps 2 vehicle_key vehicle_row FitsVehicle
+vehicles_ordered = by_two vehicle_key vehicle_row FitsVehicle (λ x fits. record { first = refl; second = refl; second_low = let last = fits.from_day.1 in omega arith }) (λ x. refl)
+
+pub entries_ordered : Keeps 2 entry_key entry_row FitsFiled
+entries_ordered = by_two entry_key entry_row FitsFiled (λ x fits. record { first = refl; second = refl; second_low = fits.position }) (λ x. refl)

@@ -1,0 +1,20 @@
+use Rattle.sqlite.specs.Held.{state}
+use Rattle.pt_tables_rows.specs.Schema.{trips_table}
+use Rattle.pt_tables_opening.specs.declared.table_rows.TheConstants.{TRIP_ROWS}
+use Rattle.pt_tables_opening.proofs.OrderedQueries.{shows_order}
+use Rattle.pt_tables_opening.proofs.RowTexts.{trip_rows_order, trip_rows_text}
+use Rattle.pt_tables_opening.proofs.WholeQueries.{shows_if_ok}
+use Rattle.pt_tables_opening.proofs.table_rows.trip_rows.Goals as goal
+
+pub returns-clause-rows : goal.returns-clause-rows
+returns-clause-rows g c clean has =
+    shows_if_ok trips_table TRIP_ROWS.now trip_rows_text (state g.S.Store c.args.conn.now) (state g.S.Store c.rows_of_table.new.conn)
+    c.rows_of_table.result has (c.rows_of_table.ensures.shown clean)
+
+pub returns-clause-order : goal.returns-clause-order
+returns-clause-order g c clean has =
+    shows_order 1 trips_table TRIP_ROWS.now trip_rows_text trip_rows_order (state g.S.Store c.args.conn.now) (state g.S.Store c.rows_of_table.new.conn)
+    c.rows_of_table.result has (c.rows_of_table.ensures.shown clean)
+
+pub rows_of_table-requires : goal.rows_of_table-requires
+rows_of_table-requires g c = record { plain = trip_rows_text.plain }

@@ -1,0 +1,32 @@
+-- Why a database is not opened.
+use Rattle.std.specs.Prelude.{◌≡◌, ◌⊎◌, ◌≤◌, ℕ}
+use Rattle.pt_base.specs.Codes.{memory_refused}
+use Rattle.pt_tables_opening.specs.declared.open_fault.OpenFault.{OpenFault}
+
+-- the store refused, or failed
+abbrev pub store_refused : ℕ
+store_refused = 32
+
+-- the fault of this code, found in no table
+abbrev pub fault : ℕ → OpenFault
+fault code = record { code = code; table = 0 }
+
+-- the rows are those of no sound state
+abbrev pub rows_refused : ℕ
+rows_refused = 31
+
+-- the rows of this table are such
+abbrev pub unsound : ℕ → OpenFault
+unsound table = record { code = rows_refused; table = table }
+
+-- the database has other tables than these, or those of another version
+abbrev pub tables_refused : ℕ
+tables_refused = 30
+
+-- memory was refused, the store failed, its tables are not the desk's, or the rows of one of the eleven are at fault
+abbrev pub IsRefusal : OpenFault → Type 0
+IsRefusal refused =
+    (refused ≡ fault memory_refused)
+    ⊎ ((refused ≡ fault store_refused)
+    ⊎ ((refused ≡ fault tables_refused)
+    ⊎ ((table : ℕ) × (1 ≤ table) × (table ≤ 11) × (refused ≡ unsound table))))

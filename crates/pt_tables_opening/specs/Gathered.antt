@@ -1,0 +1,97 @@
+-- What rows tell of records that have several rows each.
+use Rattle.std.specs.Prelude.{◌≡◌, ◌⊎◌, ℕ, ◌<◌, ◌≤◌, ◌^◌, List, [], ◌∷◌, length, flat_map, Option, None, Some}
+use Rattle.std.specs.Prelude.{IsSorted, replicate}
+use Rattle.sqlite.specs.Collation.TheVariants.{Binary}
+use Rattle.sqlite.specs.Order.{Row, column}
+use Rattle.sqlite.specs.Query.{key_cmp}
+use Rattle.sqlite.specs.Table.{Table}
+use Rattle.sqlite.specs.Tree.{Trees}
+use Rattle.sqlite_value.specs.Keys.{ascending}
+use Rattle.pt_base.specs.Day.{IsDay}
+use Rattle.pt_desk_rules.specs.Sound.{HasStops}
+use Rattle.pt_desk_rules.specs.Travel.{DatedTable}
+use Rattle.pt_records.specs.Records.{Each, Edit, IsInOrder}
+use Rattle.pt_scheduling.specs.Plan.{Plan}
+use Rattle.pt_scheduling.specs.declared.planned.PlannedStop.{PlannedStop}
+use Rattle.pt_spelling.specs.Replies.{IsId}
+use Rattle.pt_travel.specs.Chain as travel
+use Rattle.pt_travel.specs.Table.{IsTable}
+use Rattle.pt_tables_rows.specs.Rows.{number_value}
+use Rattle.pt_tables_rows.specs.Tables.{AreRows}
+use Rattle.pt_tables_opening.specs.Told.{PutsInOrder}
+
+-- the first row is such, and no later row is
+abbrev pub BeginsOnce : (Row → Type 0) → List Row → Type 0
+BeginsOnce Begins [] = ⊥
+BeginsOnce Begins (first ∷ later) = Begins first × Each (λ row. Begins row → ⊥) later
+
+-- the rows stand in the order of their first so many columns
+abbrev pub AreInOrder : ℕ → List Row → Type 0
+AreInOrder columns rows = IsSorted (key_cmp 0 (replicate columns (ascending Binary))) rows
+
+-- the records that have these rows, in their order, or none where no records that fit have them
+abbrev pub TellsGathered : {A : Type 0} → (A → List Row) → (A → Type 0) → List Row → Option (Edit A) → Type 0
+TellsGathered rows_of Fits rows (Some edit) =
+    (edit.away ≡ []) × (flat_map rows_of edit.puts ≡ rows) × Each Fits edit.puts
+TellsGathered rows_of Fits rows None = (xs : List _) → Each Fits xs → flat_map rows_of xs ≡ rows → ⊥
+
+-- the records to be put have these rows, in the order of their keys, and no others
+pub record IsGatheredFrom {A : Type 0} (key : A → ℕ) (rows_of : A → List Row) (Fits : A → Type 0) (rows : List Row)
+    (edit : Edit A) : Type 0 where
+  pub puts : PutsInOrder key edit
+  pub rows_are : flat_map rows_of edit.puts ≡ rows
+  pub each : Each Fits edit.puts
+
+-- no records have the rows, or those that have them do not stand in the order of their keys
+abbrev pub GathersNothing : {A : Type 0} → (A → ℕ) → (A → List Row) → (A → Type 0) → List Row → Type 0
+GathersNothing {A} key rows_of Fits rows =
+    TellsGathered rows_of Fits rows None
+    ⊎ (edit : Edit A) × TellsGathered rows_of Fits rows (Some edit) × (IsInOrder key edit.puts → ⊥)
+
+-- the records to be put are those whose rows the table has, in the order of their keys
+pub record IsGatheredTable {A : Type 0} (key : A → ℕ) (home : Table) (rows_of : A → List Row) (Fits : A → Type 0)
+    (trees : Trees) (edit : Edit A) : Type 0 where
+  pub puts : PutsInOrder key edit
+  pub rows_are : AreRows home trees (flat_map rows_of edit.puts)
+  pub each : Each Fits edit.puts
+
+-- the rows of the table, in the order of their first three columns, tell nothing
+pub record IsUngathered {A : Type 0} (key : A → ℕ) (home : Table) (rows_of : A → List Row) (Fits : A → Type 0)
+    (trees : Trees) : Type 0 where
+  pub rows : List Row
+  pub rows_are : AreRows home trees rows
+  pub in_order : AreInOrder 3 rows
+  pub nothing : GathersNothing key rows_of Fits rows
+
+-- ---- plans
+
+-- the stop of this row is the first of a plan
+abbrev pub BeginsPlan : Row → Type 0
+BeginsPlan row = column row 2 ≡ number_value 0
+
+abbrev pub FitsStop : PlannedStop → Type 0
+FitsStop stop = IsId stop.trip
+
+-- the place of each is a number of 32 bits
+abbrev pub FitStops : List PlannedStop → Type 0
+FitStops stops = (length stops ≤ 2 ^ 32) × Each FitsStop stops
+
+pub record FitsPlan (plan : Plan) : Type 0 where
+  pub vehicle : IsId plan.vehicle
+  pub day : IsDay plan.day
+  pub some : HasStops plan
+  pub stops : FitStops plan.stops
+
+-- ---- travel tables
+
+-- no place has this row, which begins a travel table
+abbrev pub BeginsTravel : Row → Type 0
+BeginsTravel row = column row 1 ≡ number_value 0
+
+abbrev pub FitsDrive : travel.Row → Type 0
+FitsDrive drive = IsId drive.0 × IsId drive.1 × (drive.2 < 2 ^ 16)
+
+pub record FitsTravel (dated : DatedTable) : Type 0 where
+  pub from_day : IsDay dated.from_day
+  pub drives : Each FitsDrive dated.rows
+  pub table : IsTable dated.rows

@@ -1,0 +1,61 @@
+ghost use Rattle.std.specs.Prelude.{◌≡◌, ◌⊎◌, ◌∷◌, [], ℕ, None, IfOk, IfErr};
+ghost use Rattle.sqlite.specs.Held.{state};
+ghost use Rattle.sqlite.specs.State.{HasCleanDisk};
+ghost use Rattle.pt_base.specs.Codes.{memory_refused};
+ghost use Rattle.pt_base.specs.declared.policy.Policy.{Policy};
+ghost use Rattle.pt_tables_opening.specs.Faults.{fault, store_refused, tables_refused, unsound};
+ghost use Rattle.pt_tables_opening.specs.Opening.{Rests};
+ghost use Rattle.pt_tables_reading.specs.Reading.{agency_row, FitsAgency};
+ghost use Rattle.pt_tables_opening.specs.Refused.{AreUnsound};
+ghost use Rattle.pt_tables_rows.specs.Schema.{desk_schema};
+ghost use Rattle.pt_tables_opening.specs.Told.{IsAgencyOf, HasOtherVersion, IsOtherVersion, TellsNoAgency};
+
+use crate::OpenFault;
+use crate::open_fault::fault_of;
+use crate::table_rows::desk_rows;
+use crate::version::is_this_version;
+use pt_base::Policy;
+use pt_tables_reading::agency_of;
+use sqlite::{Alter, Connection, Row};
+
+/// The number of the desk's table.
+const DESK_TABLE: u8 = 1;
+
+/// The policy of the one row, and the number that was last given to a trip: code 30 where the row is that of another
+/// version of the tables, and 31 where there is not one row alone or it tells no policy.
+fn agency_from(rows: &[Row]) -> Result<(Policy, u32), OpenFault>
+    ensures told { IfOk result (λ agency. (agency_row agency ∷ [] ≡ rows.now) × FitsAgency agency) }
+    ensures faults { IfErr result (λ refused. ((refused ≡ fault tables_refused) × IsOtherVersion rows.now)
+        ⊎ ((refused ≡ unsound 1) × TellsNoAgency rows.now)) }
+{
+    let [row] = rows else {
+        return Err(OpenFault::unsound(DESK_TABLE));
+    };
+    if !is_this_version(row) {
+        return Err(OpenFault::OTHER_TABLES);
+    }
+    match agency_of(row) {
+        Some(agency) => Ok(agency),
+        None => Err(OpenFault::unsound(DESK_TABLE)),
+    }
+}
+
+/// The agency's policy and the number that was last given to a trip, read from the one row of the desk's table: code 30
+/// where the row is that of another version of the tables, 31 where there is not one row alone or it tells no policy,
+/// 32 where the store refused or failed, and 0 where memory was refused.
+pub(crate) fn agency_in<S: Alter>(conn: &mut Connection<S>) -> Result<(Policy, u32), OpenFault>
+    ensures told { HasCleanDisk (state S.Store conn.new) → (state S.Store conn.old).now.schema ≡ desk_schema
+        → IfOk result (IsAgencyOf (state S.Store conn.old).now.trees) }
+    ensures faults { IfErr result (λ refused. (refused ≡ fault memory_refused) ⊎ ((refused ≡ fault store_refused)
+        ⊎ (((refused ≡ fault tables_refused) × (HasCleanDisk (state S.Store conn.new)
+        → (state S.Store conn.old).now.schema ≡ desk_schema → HasOtherVersion (state S.Store conn.old).now.trees))
+        ⊎ ((refused ≡ unsound 1) × (HasCleanDisk (state S.Store conn.new)
+        → (state S.Store conn.old).now.schema ≡ desk_schema → AreUnsound (state S.Store conn.old).now.trees))))) }
+    ensures rests { Rests (state S.Store conn.old) (state S.Store conn.new) result }
+{
+    let rows = match desk_rows(conn) {
+        Ok(rows) => rows,
+        Err(error) => return Err(fault_of(&error)),
+    };
+    agency_from(&rows)
+}

@@ -1,0 +1,149 @@
+ghost use Rattle.std.specs.Prelude.{◌≡◌, ◌⊎◌, ◌↔◌, ◌<◌, ◌≤◌, ℕ, List, [], IsTrue, IfOk, IfErr, length, slice_index_or};
+ghost use Rattle.sqlite.specs.Order.{Row as StoredRow, column};
+ghost use Rattle.sqlite.specs.Held.{state};
+ghost use Rattle.sqlite.specs.State.{HasCleanDisk};
+ghost use Rattle.sqlite.specs.Table.{Table as StoredTable};
+ghost use Rattle.pt_tables_opening.specs.Gathered.{AreInOrder, BeginsOnce, TellsGathered, IsGatheredFrom, GathersNothing};
+ghost use Rattle.pt_tables_opening.specs.Gathered.{IsGatheredTable, IsUngathered};
+ghost use Rattle.pt_tables_opening.specs.Opening.{Rests};
+ghost use Rattle.pt_tables_reading.specs.Reading.{Reads};
+ghost use Rattle.pt_tables_rows.specs.Rows.{number_value};
+ghost use Rattle.pt_tables_rows.specs.Schema.{desk_schema};
+ghost use Rattle.pt_tables_rows.specs.Tables.{AreRows};
+ghost use Rattle.pt_base.specs.Codes.{memory_refused};
+ghost use Rattle.pt_tables_opening.specs.Faults.{fault, store_refused, unsound};
+ghost use Rattle.pt_tables_opening.specs.Told.{IsFitting};
+
+use crate::OpenFault;
+use crate::open_fault::fault_of;
+use crate::records::are_rising;
+use pt_records::{Edits, Keyed};
+use sqlite::types::ValueRef;
+use sqlite::{Alter, Connection, Error, Row};
+use std::alloc::{AllocError, Global};
+
+/// A record that several rows tell.
+pub(crate) trait Gathered: Keyed {
+    /// Its table.
+    ghost home: { StoredTable };
+
+    /// What is true of each such record.
+    ghost Fits: { Self → Type 0 };
+
+    /// Its rows, in their order.
+    ghost rows_of: { Self → List StoredRow };
+
+    /// What is true of a first row.
+    ghost Begins: { StoredRow → Type 0 };
+
+    /// All rows of its table, in the order of their first three columns.
+    fn every_row<S: Alter>(conn: &mut Connection<S>) -> Result<Vec<Row>, Error>
+        ensures rows { HasCleanDisk (state S.Store conn.new)
+            → (state S.Store conn.old).now.schema ≡ desk_schema
+            → IfOk result (λ rows. AreRows home (state S.Store conn.old).now.trees rows.items) }
+        ensures order { HasCleanDisk (state S.Store conn.new)
+            → (state S.Store conn.old).now.schema ≡ desk_schema
+            → IfOk result (λ rows. AreInOrder 3 rows.items) }
+        ensures rests { Rests (state S.Store conn.old) (state S.Store conn.new) result };
+
+    /// Whether a row is the first one of a record.
+    fn begins(row: &Row) -> bool
+        ensures { IsTrue result ↔ Begins row.now };
+
+    /// The record that has these rows, or none where no record has them. Of the rows of a record, no later one is such
+    /// as the first.
+    fn gathered(alloc: Global, rows: &[Row]) -> Result<Option<Self>, AllocError>
+        ensures told { IfOk result (Reads rows_of Fits rows.now) }
+        ensures once { (x : Self) → Fits x → BeginsOnce Begins (rows_of x) };
+}
+
+/// Whether the number in a column is 0.
+pub(crate) fn is_nought(row: &Row, at: usize) -> bool
+    ensures { IsTrue result ↔ (column row.now at ≡ number_value 0) }
+{
+    match row.get_ref(at) {
+        Ok(ValueRef::Int(number)) => number == 0,
+        _ => false,
+    }
+}
+
+/// How many rows there are up to the next that is a first one, or to the end.
+fn group_end<T: Gathered>(rows: &[Row]) -> usize
+    ensures within { result ≤ length rows.now }
+    ensures some { 0 < length rows.now → 0 < result }
+    ensures later { (k : ℕ) → 0 < k → k < result → T.Begins (slice_index_or rows.now k []) → ⊥ }
+    ensures next { result < length rows.now → T.Begins (slice_index_or rows.now result []) }
+{
+    for k in 1..rows.len() {
+        if T::begins(&rows[k]) {
+            return k;
+        }
+    }
+    rows.len()
+}
+
+/// The records whose rows these are, in their order, to be put; none where no records have these rows in this order.
+pub(crate) fn gathered_of<T: Gathered>(
+    alloc: Global,
+    rows: &[Row],
+) -> Result<Option<Edits<T>>, AllocError>
+    ensures told { IfOk result (TellsGathered T.rows_of T.Fits rows.now) }
+{
+    let mut records = Edits::none(alloc);
+    let mut left = rows;
+    while !left.is_empty() {
+        let (group, later) = left.split_at(group_end::<T>(left));
+        match T::gathered(alloc, group)? {
+            Some(record) => records.put(record)?,
+            None => return Ok(None),
+        }
+        left = later;
+    }
+    Ok(Some(records))
+}
+
+/// The records of a table that has these rows, to be put: code 31 where no records have them in this order, or the keys
+/// of the records do not rise, and 0 where memory was refused.
+fn gathered_table<T: Gathered>(
+    alloc: Global,
+    rows: &[Row],
+    table: u8,
+) -> Result<Edits<T>, OpenFault>
+    ensures told { IfOk result (IsGatheredFrom T.key T.rows_of T.Fits rows.now) }
+    ensures faults { IfErr result (λ refused. (refused ≡ fault memory_refused)
+        ⊎ ((refused ≡ unsound table) × GathersNothing T.key T.rows_of T.Fits rows.now)) }
+{
+    let Ok(found) = gathered_of(alloc, rows) else {
+        return Err(OpenFault::MEMORY);
+    };
+    let Some(records) = found else {
+        return Err(OpenFault::unsound(table));
+    };
+    if !are_rising(records.puts()) {
+        return Err(OpenFault::unsound(table));
+    }
+    Ok(records)
+}
+
+/// The records of a table, to be put, read from all its rows: code 31 where these tell no records in the order of their
+/// keys, 32 where the store refused or failed, and 0 where memory was refused.
+pub(crate) fn gathered_in<S: Alter, T: Gathered>(
+    alloc: Global,
+    conn: &mut Connection<S>,
+    table: u8,
+) -> Result<Edits<T>, OpenFault>
+    ensures fitting { IfOk result (IsFitting T.key T.Fits) }
+    ensures told { HasCleanDisk (state S.Store conn.new) → (state S.Store conn.old).now.schema ≡ desk_schema
+        → IfOk result (IsGatheredTable T.key T.home T.rows_of T.Fits (state S.Store conn.old).now.trees) }
+    ensures faults { IfErr result (λ refused. (refused ≡ fault memory_refused) ⊎ ((refused ≡ fault store_refused)
+        ⊎ ((refused ≡ unsound table) × (HasCleanDisk (state S.Store conn.new)
+        → (state S.Store conn.old).now.schema ≡ desk_schema
+        → IsUngathered T.key T.home T.rows_of T.Fits (state S.Store conn.old).now.trees)))) }
+    ensures rests { Rests (state S.Store conn.old) (state S.Store conn.new) result }
+{
+    let rows = match T::every_row(conn) {
+        Ok(rows) => rows,
+        Err(error) => return Err(fault_of(&error)),
+    };
+    gathered_table(alloc, &rows, table)
+}

@@ -1,0 +1,20 @@
+//! The content of a database, read back from its tables.
+#![tactic(auto)]
+
+pub use open_fault::{OpenFault, fault_of};
+pub use whole::content_in;
+
+mod agency;
+mod content;
+mod gathered;
+mod one_row;
+mod open_fault;
+mod parts;
+mod plans;
+mod records;
+mod schema_check;
+mod sections;
+mod table_rows;
+mod travel;
+mod version;
+mod whole;

@@ -1,0 +1,257 @@
+//! The records that one row tells.
+
+ghost use Rattle.std.specs.Prelude.{IfOk};
+ghost use Rattle.pt_tables_reading.specs.Reading.{Reads, FitsKept};
+ghost use Rattle.pt_tables_rows.specs.Rows.{kept_row};
+
+use crate::records::OneRow;
+use crate::table_rows::{
+    caller_rows, entry_rows, kept_rows, place_rows, rider_rows, route_rows, trip_rows, vehicle_rows,
+};
+use pt_base::{Place, Rider, Trip, Vehicle};
+use pt_corridor::FixedRoute;
+use pt_desk_rules::{Caller, FiledEntry, Kept};
+use pt_spelling::Spelling;
+use pt_tables_reading::{
+    caller_of, entry_of, kept_of, place_of, rider_of, route_of, trip_of, vehicle_of,
+};
+use sqlite::{Alter, Connection, Error, Row};
+use std::alloc::{AllocError, Global};
+
+impl OneRow for Caller {
+    ghost use Rattle.pt_tables_reading.specs.Reading.{FitsCaller};
+    ghost use Rattle.pt_tables_rows.specs.Rows.{caller_row};
+    ghost use Rattle.pt_tables_rows.specs.Schema.{callers_table};
+
+    ghost home = { callers_table };
+
+    ghost Fits = { FitsCaller };
+
+    ghost row_of = { caller_row };
+
+    ghost records = { λ s. s.callers };
+
+    fn all_rows<S: Alter>(conn: &mut Connection<S>) -> Result<Vec<Row>, Error> {
+        caller_rows(conn)
+    }
+
+    fn told(_alloc: Global, row: &Row) -> Result<Option<Self>, AllocError> {
+        Ok(caller_of(row))
+    }
+
+    ghost of_states = { λ s trees sound ranges are. record {
+      order = sound.callers.in_order;
+      each = ranges.callers;
+      rows_are = are.callers;
+    } };
+}
+
+/// What a row tells of a caller's last accepted write, its request copied.
+fn copied_kept(alloc: Global, row: &Row) -> Result<Option<Kept>, AllocError>
+    ensures told { IfOk result (Reads kept_row FitsKept row.now) }
+{
+    let Some(kept) = kept_of(row) else {
+        return Ok(None);
+    };
+    let request = Vec::from_slice(alloc, kept.request)?;
+    Ok(Some(Kept {
+        caller: kept.caller,
+        number: kept.number,
+        request: Spelling::of(request),
+        reply: kept.reply,
+    }))
+}
+
+impl OneRow for Kept {
+    ghost use Rattle.pt_tables_rows.specs.Schema.{kept_table};
+
+    ghost home = { kept_table };
+
+    ghost Fits = { FitsKept };
+
+    ghost row_of = { kept_row };
+
+    ghost records = { λ s. s.kept };
+
+    fn all_rows<S: Alter>(conn: &mut Connection<S>) -> Result<Vec<Row>, Error> {
+        kept_rows(conn)
+    }
+
+    fn told(alloc: Global, row: &Row) -> Result<Option<Self>, AllocError> {
+        copied_kept(alloc, row)
+    }
+
+    ghost of_states = { λ s trees sound ranges are. record {
+      order = sound.kept_in_order;
+      each = ranges.kept;
+      rows_are = are.kept;
+    } };
+}
+
+impl OneRow for Place {
+    ghost use Rattle.pt_tables_reading.specs.Reading.{FitsPlace};
+    ghost use Rattle.pt_tables_rows.specs.Rows.{place_row};
+    ghost use Rattle.pt_tables_rows.specs.Schema.{places_table};
+
+    ghost home = { places_table };
+
+    ghost Fits = { FitsPlace };
+
+    ghost row_of = { place_row };
+
+    ghost records = { λ s. s.places };
+
+    fn all_rows<S: Alter>(conn: &mut Connection<S>) -> Result<Vec<Row>, Error> {
+        place_rows(conn)
+    }
+
+    fn told(_alloc: Global, row: &Row) -> Result<Option<Self>, AllocError> {
+        Ok(place_of(row))
+    }
+
+    ghost of_states = { λ s trees sound ranges are. record {
+      order = sound.places.in_order;
+      each = ranges.places;
+      rows_are = are.places;
+    } };
+}
+
+impl OneRow for FixedRoute {
+    ghost use Rattle.pt_tables_reading.specs.Fitting.{FitsRoute};
+    ghost use Rattle.pt_tables_rows.specs.Rows.{route_row};
+    ghost use Rattle.pt_tables_rows.specs.Schema.{fixed_table};
+
+    ghost home = { fixed_table };
+
+    ghost Fits = { FitsRoute };
+
+    ghost row_of = { route_row };
+
+    ghost records = { λ s. s.routes };
+
+    fn all_rows<S: Alter>(conn: &mut Connection<S>) -> Result<Vec<Row>, Error> {
+        route_rows(conn)
+    }
+
+    fn told(alloc: Global, row: &Row) -> Result<Option<Self>, AllocError> {
+        route_of(alloc, row)
+    }
+
+    ghost of_states = { λ s trees sound ranges are. record {
+      order = sound.routes.in_order;
+      each = ranges.routes;
+      rows_are = are.fixed;
+    } };
+}
+
+impl OneRow for Vehicle {
+    ghost use Rattle.pt_tables_reading.specs.Fitting.{FitsVehicle};
+    ghost use Rattle.pt_tables_rows.specs.Rows.{vehicle_row};
+    ghost use Rattle.pt_tables_rows.specs.Schema.{vehicles_table};
+
+    ghost home = { vehicles_table };
+
+    ghost Fits = { FitsVehicle };
+
+    ghost row_of = { vehicle_row };
+
+    ghost records = { λ s. s.vehicles };
+
+    fn all_rows<S: Alter>(conn: &mut Connection<S>) -> Result<Vec<Row>, Error> {
+        vehicle_rows(conn)
+    }
+
+    fn told(_alloc: Global, row: &Row) -> Result<Option<Self>, AllocError> {
+        Ok(vehicle_of(row))
+    }
+
+    ghost of_states = { λ s trees sound ranges are. record {
+      order = sound.vehicles_in_order;
+      each = ranges.vehicles;
+      rows_are = are.vehicles;
+    } };
+}
+
+impl OneRow for Rider {
+    ghost use Rattle.pt_tables_reading.specs.Reading.{FitsRider};
+    ghost use Rattle.pt_tables_rows.specs.Rows.{rider_row};
+    ghost use Rattle.pt_tables_rows.specs.Schema.{riders_table};
+
+    ghost home = { riders_table };
+
+    ghost Fits = { FitsRider };
+
+    ghost row_of = { rider_row };
+
+    ghost records = { λ s. s.riders };
+
+    fn all_rows<S: Alter>(conn: &mut Connection<S>) -> Result<Vec<Row>, Error> {
+        rider_rows(conn)
+    }
+
+    fn told(_alloc: Global, row: &Row) -> Result<Option<Self>, AllocError> {
+        Ok(rider_of(row))
+    }
+
+    ghost of_states = { λ s trees sound ranges are. record {
+      order = sound.riders.in_order;
+      each = ranges.riders;
+      rows_are = are.riders;
+    } };
+}
+
+impl OneRow for FiledEntry {
+    ghost use Rattle.pt_tables_reading.specs.Fitting.{FitsFiled};
+    ghost use Rattle.pt_tables_rows.specs.Rows.{entry_row};
+    ghost use Rattle.pt_tables_rows.specs.Schema.{entries_table};
+
+    ghost home = { entries_table };
+
+    ghost Fits = { FitsFiled };
+
+    ghost row_of = { entry_row };
+
+    ghost records = { λ s. s.entries };
+
+    fn all_rows<S: Alter>(conn: &mut Connection<S>) -> Result<Vec<Row>, Error> {
+        entry_rows(conn)
+    }
+
+    fn told(alloc: Global, row: &Row) -> Result<Option<Self>, AllocError> {
+        entry_of(alloc, row)
+    }
+
+    ghost of_states = { λ s trees sound ranges are. record {
+      order = sound.entries_in_order;
+      each = ranges.entries;
+      rows_are = are.entries;
+    } };
+}
+
+impl OneRow for Trip {
+    ghost use Rattle.pt_tables_reading.specs.Reading.{FitsTrip};
+    ghost use Rattle.pt_tables_rows.specs.Rows.{trip_row};
+    ghost use Rattle.pt_tables_rows.specs.Schema.{trips_table};
+
+    ghost home = { trips_table };
+
+    ghost Fits = { FitsTrip };
+
+    ghost row_of = { trip_row };
+
+    ghost records = { λ s. s.trips };
+
+    fn all_rows<S: Alter>(conn: &mut Connection<S>) -> Result<Vec<Row>, Error> {
+        trip_rows(conn)
+    }
+
+    fn told(_alloc: Global, row: &Row) -> Result<Option<Self>, AllocError> {
+        Ok(trip_of(row))
+    }
+
+    ghost of_states = { λ s trees sound ranges are. record {
+      order = sound.trips_in_order;
+      each = ranges.trips;
+      rows_are = are.trips;
+    } };
+}

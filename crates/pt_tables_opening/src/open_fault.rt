@@ -1,0 +1,49 @@
+ghost use Rattle.std.specs.Prelude.{◌≡◌, ◌≢◌};
+ghost use Rattle.pt_base.specs.Codes.{memory_refused};
+ghost use Rattle.pt_tables_opening.specs.Faults.{IsRefusal, fault, store_refused, unsound};
+
+use pt_base::fault;
+use sqlite::{Error, ErrorCode};
+
+/// Why a database is not opened.
+#[derive(Clone, Copy, Debug, PartialEq, Eq)]
+pub struct OpenFault {
+    /// 0 where memory was refused, 30 where the tables are not the desk's or of another version, 31 where rows are
+    /// those of no sound state, 32 where the store refused or failed.
+    pub code: u16,
+    /// The number of the first table that is at fault, and 0 where none is.
+    pub table: u8,
+}
+
+impl OpenFault {
+    /// Memory was refused.
+    pub const MEMORY: OpenFault = OpenFault {
+        code: fault::MEMORY,
+        table: 0,
+    };
+
+    /// The store refused or failed.
+    pub const STORE: OpenFault = OpenFault { code: 32, table: 0 };
+
+    /// The tables are not the desk's, or of another version.
+    pub(crate) const OTHER_TABLES: OpenFault = OpenFault { code: 30, table: 0 };
+
+    /// The rows of this table are those of no sound state.
+    pub(crate) fn unsound(table: u8) -> OpenFault
+        ensures value { result ≡ unsound table }
+    {
+        OpenFault { code: 31, table }
+    }
+}
+
+/// The fault of an error of the store.
+pub fn fault_of(error: &Error) -> OpenFault
+    ensures memory { error.now ≡ Error.SqliteFailure ErrorCode.OutOfMemory → result ≡ fault memory_refused }
+    ensures store { error.now ≢ Error.SqliteFailure ErrorCode.OutOfMemory → result ≡ fault store_refused }
+    ensures refusal { IsRefusal result }
+{
+    match error {
+        Error::SqliteFailure(ErrorCode::OutOfMemory) => OpenFault::MEMORY,
+        _ => OpenFault::STORE,
+    }
+}

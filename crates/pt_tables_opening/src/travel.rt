@@ -1,0 +1,138 @@
+ghost use Rattle.std.specs.Prelude.{◌≡◌, ◌⊎◌, List, map, IfOk, IfErr, MatchOption};
+ghost use Rattle.sqlite.specs.Held.{state};
+ghost use Rattle.sqlite.specs.State.{HasCleanDisk};
+ghost use Rattle.pt_base.specs.Codes.{memory_refused};
+ghost use Rattle.pt_base.specs.Day.{IsDay};
+ghost use Rattle.pt_desk_rules.specs.State.{travel_key};
+ghost use Rattle.pt_records.specs.Records.{Each};
+ghost use Rattle.pt_travel.specs.Chain as travel;
+ghost use Rattle.pt_tables_opening.specs.Faults.{fault, store_refused, unsound};
+ghost use Rattle.pt_tables_reading.specs.Fitting.{FitsDriveAt};
+ghost use Rattle.pt_tables_opening.specs.Gathered.{FitsDrive, FitsTravel, IsGatheredTable};
+ghost use Rattle.pt_tables_opening.specs.Opening.{Rests};
+ghost use Rattle.pt_tables_reading.specs.Reading.{Reads};
+ghost use Rattle.pt_tables_opening.specs.Refused.{AreUnsound};
+ghost use Rattle.pt_tables_rows.specs.Rows.{travel_row, travel_rows};
+ghost use Rattle.pt_tables_rows.specs.Schema.{desk_schema, travel_table};
+ghost use Rattle.pt_tables_opening.specs.Told.{IsFitting};
+
+use crate::OpenFault;
+use crate::gathered::{Gathered, gathered_in, is_nought};
+use crate::table_rows::travel_rows;
+use pt_base::Day;
+use pt_desk_rules::TravelTable;
+use pt_records::Edits;
+use pt_tables_reading::drive_of;
+use pt_travel::{Raw, Row as Drive};
+use sqlite::{Alter, Connection, Error, Row};
+use std::alloc::{AllocError, Global};
+
+/// The column that has the place from which a drive begins.
+const FROM_COLUMN: usize = 1;
+
+/// The number of the table of driving times.
+const TRAVEL: u8 = 11;
+
+/// The day of a row of noughts.
+fn first_day(row: &Row) -> Option<Day>
+    ensures { Reads (λ day. travel_row day (0, 0, 0)) IsDay row.now result }
+{
+    let at = drive_of(row)?;
+    match at.drive {
+        None => Some(at.from_day),
+        Some(_) => None,
+    }
+}
+
+/// The drive of a row, where the row is that of a table of this day.
+fn drive_on(row: &Row, from_day: Day) -> Option<Drive>
+    ensures { Reads (travel_row from_day)
+        (λ drive. FitsDriveAt (record { from_day = from_day; drive = Some drive })) row.now result }
+{
+    let at = drive_of(row)?;
+    if at.from_day != from_day {
+        return None;
+    }
+    at.drive
+}
+
+/// The drives that have these rows in a table of this day.
+fn drives_of(alloc: Global, from_day: Day, rows: &[Row]) -> Result<Option<Vec<Drive>>, AllocError>
+    ensures told { IfOk result (λ found. MatchOption found
+        ((drives : List travel.Row) → IsDay from_day → Each FitsDrive drives
+        → map (travel_row from_day) drives ≡ rows.now → ⊥)
+        (λ drives. (map (travel_row from_day) drives.items ≡ rows.now) × Each FitsDrive drives.items)) }
+{
+    let mut drives = Vec::new(alloc);
+    for row in rows {
+        match drive_on(row, from_day) {
+            Some(drive) => drives.push(drive)?,
+            None => return Ok(None),
+        }
+    }
+    Ok(Some(drives))
+}
+
+/// The travel table that has these rows.
+fn table_of(alloc: Global, rows: &[Row]) -> Result<Option<TravelTable>, AllocError>
+    ensures told { IfOk result (Reads travel_rows FitsTravel rows.now) }
+{
+    let Some(first) = rows.first() else {
+        return Ok(None);
+    };
+    let Some(from_day) = first_day(first) else {
+        return Ok(None);
+    };
+    let Some(drives) = drives_of(alloc, from_day, &rows[1..])? else {
+        return Ok(None);
+    };
+    match Raw::of(drives) {
+        Some(drives) => Ok(Some(TravelTable::of(alloc, from_day, drives)?)),
+        None => Ok(None),
+    }
+}
+
+impl Gathered for TravelTable {
+    ghost use Rattle.pt_tables_opening.specs.Gathered.{BeginsTravel, FitsTravel};
+    ghost use Rattle.pt_tables_rows.specs.Rows.{travel_rows};
+    ghost use Rattle.pt_tables_rows.specs.Schema.{travel_table};
+
+    ghost home = { travel_table };
+
+    ghost Fits = { FitsTravel };
+
+    ghost rows_of = { travel_rows };
+
+    ghost Begins = { BeginsTravel };
+
+    fn every_row<S: Alter>(conn: &mut Connection<S>) -> Result<Vec<Row>, Error> {
+        travel_rows(conn)
+    }
+
+    fn begins(row: &Row) -> bool {
+        is_nought(row, FROM_COLUMN)
+    }
+
+    fn gathered(alloc: Global, rows: &[Row]) -> Result<Option<Self>, AllocError> {
+        table_of(alloc, rows)
+    }
+}
+
+/// The travel tables, to be put, read from all rows of driving times: code 31 where these tell no travel tables in the
+/// order of their days, 32 where the store refused or failed, and 0 where memory was refused.
+pub(crate) fn travel_in<S: Alter>(
+    alloc: Global,
+    conn: &mut Connection<S>,
+) -> Result<Edits<TravelTable>, OpenFault>
+    ensures fitting { IfOk result (IsFitting travel_key FitsTravel) }
+    ensures told { HasCleanDisk (state S.Store conn.new) → (state S.Store conn.old).now.schema ≡ desk_schema
+        → IfOk result (IsGatheredTable travel_key travel_table travel_rows FitsTravel
+        (state S.Store conn.old).now.trees) }
+    ensures faults { IfErr result (λ refused. (refused ≡ fault memory_refused) ⊎ ((refused ≡ fault store_refused)
+        ⊎ ((refused ≡ unsound 11) × (HasCleanDisk (state S.Store conn.new)
+        → (state S.Store conn.old).now.schema ≡ desk_schema
+        → AreUnsound (state S.Store conn.old).now.trees)))) }
+    ensures rests { Rests (state S.Store conn.old) (state S.Store conn.new) result }
+{
+    gathered_in(alloc, conn, TRAVEL)
+}

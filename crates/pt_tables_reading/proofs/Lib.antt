@@ -1,0 +1,4 @@
+pub mod ConditionAscii
+pub mod ConditionReading
+pub mod PointReading
+pub mod ReadingLemmas

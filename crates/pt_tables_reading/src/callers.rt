@@ -1,0 +1,55 @@
+ghost use Rattle.std.specs.Prelude.{ℕ};
+ghost use Rattle.sqlite.specs.declared.types.Value.TheVariants.{Blob};
+ghost use Rattle.sqlite.specs.Order.{column};
+ghost use Rattle.pt_spelling.specs.Requests.{role_number, subject_of};
+ghost use Rattle.pt_tables_rows.specs.Rows.{caller_row};
+ghost use Rattle.pt_tables_reading.specs.Reading.{Reads, FitsRole, FitsDigest, FitsCaller};
+
+use crate::columns::{bytes_at, id_at, number_at};
+use pt_base::{RiderId, VehicleId};
+use pt_requests::{Caller, Digest, Role};
+use sqlite::Row;
+
+/// How many columns a caller's row has.
+const COLUMNS: usize = 4;
+
+/// The caller of a row.
+pub fn caller_of(row: &Row) -> Option<Caller>
+    ensures { Reads caller_row FitsCaller row.now result }
+{
+    if row.column_count() != COLUMNS {
+        return None;
+    }
+    let kind = number_at(row, 1)?;
+    let subject = number_at(row, 2)?;
+    Some(Caller {
+        id: id_at(row, 0)?,
+        role: role_of(kind, subject)?,
+        digest: digest_at(row, 3)?,
+    })
+}
+
+/// The role that is told apart so, about the rider or vehicle with this number, or 0.
+fn role_of(kind: u32, subject: u32) -> Option<Role>
+    ensures { Reads {B = ℕ × ℕ} (λ role. (role_number role, subject_of role)) FitsRole (kind, subject) result }
+{
+    match (kind, subject) {
+        (0, rider) => Some(Role::Rider(RiderId::of(rider)?)),
+        (1, 0) => Some(Role::Clerk),
+        (2, 0) => Some(Role::Examiner),
+        (3, 0) => Some(Role::Officer),
+        (4, 0) => Some(Role::Dispatcher),
+        (5, vehicle) => Some(Role::Driver(VehicleId::of(vehicle)?)),
+        (6, 0) => Some(Role::Admin),
+        _ => None,
+    }
+}
+
+/// The digest in a column.
+fn digest_at(row: &Row, at: usize) -> Option<Digest>
+    ensures { Reads Blob FitsDigest (column row.now at) result }
+{
+    let bytes = bytes_at(row, at)?;
+    let bytes: [u8; 32] = bytes.try_into().ok()?;
+    Some(Digest::of(bytes))
+}

@@ -1,0 +1,146 @@
+//! What stands in a column, read back.
+
+ghost use Rattle.std.specs.Prelude.{IfSome, FitsSigned};
+ghost use Rattle.std.specs.Int.{IsInRange, w32, w64};
+ghost use Rattle.std.specs.Option.{option_copied};
+ghost use Rattle.sqlite.specs.declared.types.Value.TheVariants.{Int, Text, Blob};
+ghost use Rattle.sqlite.specs.Order.{column};
+ghost use Rattle.pt_base.specs.Day.{IsDay};
+ghost use Rattle.pt_spelling.specs.Ranges.{IsWord};
+ghost use Rattle.pt_spelling.specs.Replies.{IsId};
+ghost use Rattle.pt_spelling.specs.Requests.{kind_number};
+ghost use Rattle.pt_tables_rows.specs.Rows.{number_value, truth_value, optional_value, status_number};
+ghost use Rattle.pt_tables_reading.specs.Reading.{Reads, IsMinute};
+
+use pt_base::{Day, Id, Minute, Residence, TripStatus};
+use sqlite::Row;
+use sqlite::types::ValueRef;
+
+/// The integer in a column.
+pub fn integer_at(row: &Row, at: usize) -> Option<i64>
+    ensures { Reads Int (FitsSigned w64) (column row.now at) result }
+{
+    match row.get_ref(at) {
+        Ok(ValueRef::Int(number)) => Some(number),
+        _ => None,
+    }
+}
+
+/// The number of 32 bits in a column.
+pub fn number_at(row: &Row, at: usize) -> Option<u32>
+    ensures { Reads number_value IsWord (column row.now at) result }
+{
+    let number = integer_at(row, at)?;
+    u32::try_from(number).ok()
+}
+
+/// The number of either sign and 32 bits in a column.
+pub fn signed_at(row: &Row, at: usize) -> Option<i32>
+    ensures { Reads Int (FitsSigned w32) (column row.now at) result }
+{
+    let number = integer_at(row, at)?;
+    i32::try_from(number).ok()
+}
+
+/// The number in a column, where it is one from `least` to `most`.
+pub fn number_in(row: &Row, at: usize, least: u32, most: u32) -> Option<u32>
+    ensures { Reads number_value (IsInRange least most) (column row.now at) result }
+{
+    let number = number_at(row, at)?;
+    if number < least || number > most {
+        return None;
+    }
+    Some(number)
+}
+
+/// The number of a record in a column.
+pub fn id_at<Kind>(row: &Row, at: usize) -> Option<Id<Kind>>
+    ensures { Reads number_value IsId (column row.now at) result }
+{
+    let number = number_at(row, at)?;
+    Id::of(number)
+}
+
+/// The day in a column.
+pub fn day_at(row: &Row, at: usize) -> Option<Day>
+    ensures { Reads number_value IsDay (column row.now at) result }
+{
+    let number = number_at(row, at)?;
+    Day::of(number)
+}
+
+/// The minute in a column.
+pub fn minute_at(row: &Row, at: usize) -> Option<Minute>
+    ensures { Reads number_value IsMinute (column row.now at) result }
+{
+    let number = number_at(row, at)?;
+    Minute::of(number)
+}
+
+/// The minute in a column, or that it has none, told by -1.
+pub fn optional_minute_at(row: &Row, at: usize) -> Option<Option<Minute>>
+    ensures { Reads optional_value (λ known. IfSome known IsMinute) (column row.now at) result }
+{
+    let number = integer_at(row, at)?;
+    if number == -1 {
+        return Some(None);
+    }
+    let minute = minute_at(row, at)?;
+    Some(Some(minute))
+}
+
+/// The truth value in a column.
+pub fn truth_at(row: &Row, at: usize) -> Option<bool>
+    ensures { Reads truth_value (λ _. Unit {0}) (column row.now at) result }
+{
+    match number_at(row, at)? {
+        0 => Some(false),
+        1 => Some(true),
+        _ => None,
+    }
+}
+
+/// The residence in a column.
+pub fn kind_at(row: &Row, at: usize) -> Option<Residence>
+    ensures { Reads (λ kind. number_value (kind_number kind)) (λ _. Unit {0}) (column row.now at) result }
+{
+    match number_at(row, at)? {
+        0 => Some(Residence::Resident),
+        1 => Some(Residence::Visitor),
+        _ => None,
+    }
+}
+
+/// How far a trip has come, in a column.
+pub fn status_at(row: &Row, at: usize) -> Option<TripStatus>
+    ensures { Reads (λ status. number_value (status_number status)) (λ _. Unit {0}) (column row.now at) result }
+{
+    match number_at(row, at)? {
+        0 => Some(TripStatus::Booked),
+        1 => Some(TripStatus::Cancelled),
+        2 => Some(TripStatus::Ridden),
+        3 => Some(TripStatus::MissedRider),
+        4 => Some(TripStatus::MissedOperator),
+        _ => None,
+    }
+}
+
+/// The bytes in a column.
+pub fn bytes_at(row: &Row, at: usize) -> Option<&[u8]>
+    ensures { Reads Blob (λ _. Unit {0}) (column row.now at) (option_copied result) }
+{
+    match row.get_ref(at) {
+        Ok(ValueRef::Blob(bytes)) => Some(bytes),
+        _ => None,
+    }
+}
+
+/// The text in a column, as its bytes.
+pub fn text_at(row: &Row, at: usize) -> Option<&[u8]>
+    ensures { Reads Text (λ _. Unit {0}) (column row.now at) (option_copied result) }
+{
+    match row.get_ref(at) {
+        Ok(ValueRef::Text(bytes)) => Some(bytes),
+        _ => None,
+    }
+}

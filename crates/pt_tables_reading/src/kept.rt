@@ -1,0 +1,46 @@
+ghost use Rattle.std.specs.Option.{option_map};
+ghost use Rattle.sqlite.specs.declared.types.Value.TheVariants.{Blob};
+ghost use Rattle.sqlite.specs.Order.{column};
+ghost use Rattle.pt_spelling.specs.Replies.{reply_spelling, IsReply};
+ghost use Rattle.pt_tables_rows.specs.Rows.{kept_row};
+ghost use Rattle.pt_tables_reading.specs.Reading.{Reads, FitsKept, kept_record};
+
+use crate::columns::{bytes_at, id_at, number_at};
+use pt_base::CallerId;
+use pt_spelling::{KeptReply, read_reply};
+use sqlite::Row;
+
+/// How many columns the row of a caller's last write has.
+const COLUMNS: usize = 4;
+
+/// What a row tells of a caller's last accepted write, its request lent by the row.
+#[derive(Clone, Copy, Debug)]
+pub struct KeptRow<'a> {
+    pub caller: CallerId,
+    pub number: u32,
+    pub request: &'a [u8],
+    pub reply: KeptReply,
+}
+
+/// What the row tells of a caller's last accepted write.
+pub fn kept_of(row: &Row) -> Option<KeptRow<'_>>
+    ensures { Reads kept_row FitsKept row.now (option_map kept_record result) }
+{
+    if row.column_count() != COLUMNS {
+        return None;
+    }
+    Some(KeptRow {
+        caller: id_at(row, 0)?,
+        number: number_at(row, 1)?,
+        request: bytes_at(row, 2)?,
+        reply: reply_at(row, 3)?,
+    })
+}
+
+/// The reply that the bytes in a column spell.
+fn reply_at(row: &Row, at: usize) -> Option<KeptReply>
+    ensures { Reads (λ reply. Blob (reply_spelling reply)) IsReply (column row.now at) result }
+{
+    let bytes = bytes_at(row, at)?;
+    read_reply(bytes)
+}

@@ -1,0 +1,42 @@
+ghost use Rattle.sqlite.specs.declared.types.Value.TheVariants.{Int};
+ghost use Rattle.sqlite.specs.Order.{column};
+ghost use Rattle.pt_base.specs.Place.{IsCoordinate};
+ghost use Rattle.pt_tables_rows.specs.Rows.{place_row};
+ghost use Rattle.pt_tables_reading.specs.Reading.{Reads, FitsPlace};
+
+use crate::columns::{id_at, signed_at, truth_at};
+use pt_base::{Place, Point};
+use sqlite::Row;
+
+/// How many columns a place's row has.
+const COLUMNS: usize = 4;
+
+/// How many feet from the origin a place lies at most, either way.
+const FARTHEST: i32 = 1_000_000;
+
+/// The place of a row.
+pub fn place_of(row: &Row) -> Option<Place>
+    ensures { Reads place_row FitsPlace row.now result }
+{
+    if row.column_count() != COLUMNS {
+        return None;
+    }
+    let x = coordinate_at(row, 1)?;
+    let y = coordinate_at(row, 2)?;
+    Some(Place {
+        id: id_at(row, 0)?,
+        at: Point { x, y },
+        core: truth_at(row, 3)?,
+    })
+}
+
+/// The coordinate in a column.
+fn coordinate_at(row: &Row, at: usize) -> Option<i32>
+    ensures { Reads Int IsCoordinate (column row.now at) result }
+{
+    let number = signed_at(row, at)?;
+    if number < -FARTHEST || number > FARTHEST {
+        return None;
+    }
+    Some(number)
+}

@@ -1,0 +1,24 @@
+ghost use Rattle.std.specs.Prelude.{◌≡◌};
+ghost use Rattle.pt_tables_rows.specs.Rows.{rider_row};
+ghost use Rattle.pt_tables_reading.specs.Reading.{Reads, FitsRider};
+
+use crate::columns::{id_at, kind_at, truth_at};
+use pt_base::Rider;
+use sqlite::Row;
+
+/// How many columns a rider's row has.
+const COLUMNS: usize = 3;
+
+/// The rider of a row.
+pub fn rider_of(row: &Row) -> Option<Rider>
+    ensures { Reads rider_row FitsRider row.now result }
+{
+    if row.column_count() != COLUMNS {
+        return None;
+    }
+    Some(Rider {
+        id: id_at(row, 0)?,
+        kind: kind_at(row, 1)?,
+        attendant: truth_at(row, 2)?,
+    })
+}

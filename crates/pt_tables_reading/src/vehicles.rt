@@ -1,0 +1,36 @@
+ghost use Rattle.std.specs.Prelude.{◌≡◌};
+ghost use Rattle.pt_tables_rows.specs.Rows.{vehicle_row};
+ghost use Rattle.pt_tables_reading.specs.Reading.{Reads};
+ghost use Rattle.pt_tables_reading.specs.Fitting.{FitsVehicle};
+
+use crate::columns::{day_at, id_at, minute_at, number_in};
+use crate::weekdays::days_at;
+use pt_base::Vehicle;
+use sqlite::Row;
+
+/// How many columns a vehicle's row has.
+const COLUMNS: usize = 8;
+
+/// The vehicle, as it is from a day on, of a row.
+pub fn vehicle_of(row: &Row) -> Option<Vehicle>
+    ensures { Reads vehicle_row FitsVehicle row.now result }
+{
+    if row.column_count() != COLUMNS {
+        return None;
+    }
+    let opens = minute_at(row, 5)?;
+    let closes = minute_at(row, 6)?;
+    if opens > closes {
+        return None;
+    }
+    Some(Vehicle {
+        id: id_at(row, 0)?,
+        from_day: day_at(row, 1)?,
+        days: days_at(row, 2)?,
+        depot: id_at(row, 3)?,
+        capacity: number_in(row, 4, 1, 30)? as u16,
+        opens,
+        closes,
+        duration: number_in(row, 7, 1, 1_439)? as u16,
+    })
+}

@@ -1,0 +1,11 @@
+pub mod CreateLemmas
+pub mod NumberQueries
+pub mod PartLemmas
+pub mod SameRows
+pub mod SameRowsBytes
+pub mod SameRowsGroups
+pub mod SameRowsLists
+pub mod SameRowsRecords
+pub mod StateLemmas
+pub mod StopLemmas
+pub mod WellFormedLemmas

@@ -1,0 +1,295 @@
+-- Records of one row are told by it.
+use mathlib.Core.HLevel.{is_prop→PathP}
+use Rattle.std.proofs.Common.{◌≡◌, ℕ, ◌≤◌, List, [], ◌∷◌, Option, None, Some, refl, sym, ap, ◌∙◌, arith}
+use Rattle.std.proofs.Props.{props}
+use Rattle.std.proofs.lemmas.List.Elements.{recursion_from_All}
+use Rattle.std.specs.Int.{IsInRange}
+use Rattle.std.specs.Prelude.{ℤ, pos, negsuc}
+use Rattle.sqlite.specs.declared.types.Value.{Value}
+use Rattle.sqlite.specs.declared.types.Value.TheVariants.{Null, Int, Real, Text, Blob}
+use Rattle.sqlite.specs.Order.{Row, bytes, column}
+use Rattle.pt_base.specs.Place.{IsOnPlane}
+use Rattle.pt_base.specs.declared.place.Place.{Place}
+use Rattle.pt_base.specs.declared.place.Point.{Point}
+use Rattle.pt_base.specs.declared.policy.Policy.{Policy}
+use Rattle.pt_base.specs.declared.rider.Residence.{Residence}
+use Rattle.pt_base.specs.declared.rider.Residence.TheVariants.{Resident, Visitor}
+use Rattle.pt_base.specs.declared.rider.Rider.{Rider}
+use Rattle.pt_base.specs.declared.trip.Trip.{Trip}
+use Rattle.pt_base.specs.declared.trip_status.TripStatus.{TripStatus}
+use Rattle.pt_base.specs.declared.trip_status.TripStatus.TheVariants.{Booked, Cancelled, Ridden, MissedRider}
+use Rattle.pt_base.specs.declared.trip_status.TripStatus.TheVariants.{MissedOperator}
+use Rattle.pt_base.specs.declared.vehicle.Vehicle.{Vehicle}
+use Rattle.pt_corridor.specs.Route.{Route, IsRouteOnPlane}
+use Rattle.pt_desk_rules.specs.declared.change.FiledEntry.{FiledEntry}
+use Rattle.pt_desk_rules.specs.declared.kept.Kept.{Kept}
+use Rattle.pt_requests.specs.declared.caller.Caller.{Caller}
+use Rattle.pt_requests.specs.declared.caller.Role.{Role}
+use Rattle.pt_requests.specs.declared.caller.Role.TheVariants as role
+use Rattle.pt_rights.specs.declared.entry.Entry.{Entry}
+use Rattle.pt_rights.specs.declared.entry.Entry.TheVariants as entry
+use Rattle.pt_rights.specs.declared.entry.Grant.{Grant}
+use Rattle.pt_spelling.specs.Fields.{numbers_bytes}
+use Rattle.pt_spelling.specs.Ranges.{IsWeek}
+use Rattle.pt_spelling.specs.Replies.{IsReply}
+use Rattle.pt_spelling.specs.Requests.{role_number, subject_of, kind_number, entry_number}
+use Rattle.pt_spelling.proofs.FieldLemmas.{bool-same, days-same}
+use Rattle.pt_spelling.proofs.SettingLemmas.{policy-same}
+use Rattle.pt_tables_rows.specs.Rows.{desk_row, caller_row, place_row, rider_row, vehicle_row, trip_row, status_number}
+use Rattle.pt_tables_rows.specs.Rows.{optional_value, route_row, kept_row, entry_row, first_number, second_number}
+use Rattle.pt_tables_rows.specs.Rows.{entry_conditions, entry_words}
+use Rattle.pt_tables_rows.specs.WellFormed.{GrantsInRange}
+use Rattle.pt_tables_rows.proofs.SameRowsBytes.{line-told, reply-told, grant-told}
+
+-- ---- what stands in a column
+
+-- the number of a value, and 0 where it has none
+abbrev pub integer_of : Value → ℤ
+integer_of Null = pos 0
+integer_of (Int z) = z
+integer_of (Real x) = pos 0
+integer_of (Text t) = pos 0
+integer_of (Blob b) = pos 0
+
+abbrev pub natural_of : ℤ → ℕ
+natural_of (pos n) = n
+natural_of (negsuc n) = 0
+
+abbrev pub known_of : ℤ → Option ℕ
+known_of (pos n) = Some n
+known_of (negsuc n) = None
+
+abbrev pub integer_in : ℕ → Row → ℤ
+integer_in place row = integer_of (column row place)
+
+abbrev pub number_in : ℕ → Row → ℕ
+number_in place row = natural_of (integer_in place row)
+
+abbrev pub known_in : ℕ → Row → Option ℕ
+known_in place row = known_of (integer_in place row)
+
+abbrev pub bytes_in : ℕ → Row → List ℕ
+bytes_in place row = bytes (column row place)
+
+-- a number that may be absent is told by its value
+pub known-value : (n : Option ℕ) → known_of (integer_of (optional_value n)) ≡ n
+known-value None = refl
+known-value (Some n) = refl
+
+-- ---- the ranges of fields hold in one way
+
+at_most-prop : (most n : ℕ) → IsProp (n ≤ most)
+at_most-prop most n = hlevel props
+
+range-prop : (least most n : ℕ) → IsProp (IsInRange least most n)
+range-prop least most n = hlevel props
+
+plane-prop : (x y : ℤ) → IsProp (IsOnPlane x y)
+plane-prop x y = hlevel props
+
+-- ---- the agency
+
+pub last_trip-told : (one other : Policy) (last latest : ℕ) → desk_row one last ≡ desk_row other latest → last ≡ latest
+last_trip-told one other last latest same = ap (number_in 10) same
+
+pub policy-told : (one other : Policy) (last latest : ℕ) → desk_row one last ≡ desk_row other latest → one ≡ other
+policy-told one other last latest same =
+    let told : Row → List ℕ = λ row. number_in 2 row ∷ number_in 3 row ∷ number_in 4 row ∷ number_in 5 row
+    ∷ number_in 6 row ∷ number_in 7 row ∷ number_in 8 row ∷ number_in 9 row ∷ [] in
+    policy-same one other (ap (λ row. numbers_bytes (told row)) same)
+
+-- ---- callers
+
+role-told : (one other : Role) → role_number one ≡ role_number other → subject_of one ≡ subject_of other → one ≡ other
+role-told (role.Rider a) (role.Rider b) kind subject = ap (λ (n : ℕ). role.Rider n) subject
+role-told role.Clerk role.Clerk kind subject = refl
+role-told role.Examiner role.Examiner kind subject = refl
+role-told role.Officer role.Officer kind subject = refl
+role-told role.Dispatcher role.Dispatcher kind subject = refl
+role-told (role.Driver a) (role.Driver b) kind subject = ap (λ (n : ℕ). role.Driver n) subject
+role-told role.Admin role.Admin kind subject = refl
+role-told one other kind subject = absurd (omega arith)
+
+pub caller-told : (one other : Caller) → caller_row one ≡ caller_row other → one ≡ other
+caller-told one other same =
+    let duty = role-told one.role other.role (ap (number_in 1) same) (ap (number_in 2) same) in
+    λ i. record { id = number_in 0 (same i); role = duty i; digest = bytes_in 3 (same i) }
+
+-- ---- places
+
+pub place-told : (one other : Place) → place_row one ≡ place_row other → one ≡ other
+place-told one other same =
+    let core = bool-same one.core other.core (ap (number_in 3) same) in
+    λ i. record {
+      id = number_in 0 (same i);
+      at = record { x = integer_in 1 (same i); y = integer_in 2 (same i) };
+      core = core i;
+      on_plane = is_prop→PathP (λ j. IsOnPlane (integer_in 1 (same j)) (integer_in 2 (same j)))
+          (λ j. plane-prop _ _) one.on_plane other.on_plane i;
+    }
+
+-- ---- vehicles
+
+pub vehicle-told : (one other : Vehicle) → IsWeek one.days → IsWeek other.days → vehicle_row one ≡ vehicle_row other
+    → one ≡ other
+vehicle-told one other ones others same =
+    let days = days-same one.days other.days ones others (ap (number_in 2) same) in
+    λ i. record {
+      id = number_in 0 (same i);
+      from_day = number_in 1 (same i);
+      days = days i;
+      depot = number_in 3 (same i);
+      capacity = number_in 4 (same i);
+      opens = number_in 5 (same i);
+      closes = number_in 6 (same i);
+      duration = number_in 7 (same i);
+      capacity_in_range = is_prop→PathP (λ j. IsInRange 1 30 (number_in 4 (same j))) (λ j. range-prop _ _ _)
+          one.capacity_in_range other.capacity_in_range i;
+      hours_ordered = is_prop→PathP (λ j. number_in 5 (same j) ≤ number_in 6 (same j)) (λ j. at_most-prop _ _)
+          one.hours_ordered other.hours_ordered i;
+      duration_in_range = is_prop→PathP (λ j. IsInRange 1 1_439 (number_in 7 (same j))) (λ j. range-prop _ _ _)
+          one.duration_in_range other.duration_in_range i;
+    }
+
+-- ---- riders
+
+kind-told : (one other : Residence) → kind_number one ≡ kind_number other → one ≡ other
+kind-told Resident Resident same = refl
+kind-told Visitor Visitor same = refl
+kind-told one other same = absurd (omega arith)
+
+pub rider-told : (one other : Rider) → rider_row one ≡ rider_row other → one ≡ other
+rider-told one other same =
+    let kind = kind-told one.kind other.kind (ap (number_in 1) same) in
+    let attendant = bool-same one.attendant other.attendant (ap (number_in 2) same) in
+    λ i. record { id = number_in 0 (same i); kind = kind i; attendant = attendant i }
+
+-- ---- trips
+
+status-told : (one other : TripStatus) → status_number one ≡ status_number other → one ≡ other
+status-told Booked Booked same = refl
+status-told Cancelled Cancelled same = refl
+status-told Ridden Ridden same = refl
+status-told MissedRider MissedRider same = refl
+status-told MissedOperator MissedOperator same = refl
+status-told one other same = absurd (omega arith)
+
+pub trip-told : (one other : Trip) → trip_row one ≡ trip_row other → one ≡ other
+trip-told one other same =
+    let by : one.wish.by ≡ other.wish.by =
+    sym (known-value one.wish.by) ∙ ap (known_in 6) same ∙ known-value other.wish.by in
+    let attendant = bool-same one.wish.attendant other.wish.attendant (ap (number_in 7) same) in
+    let status = status-told one.status other.status (ap (number_in 15) same) in
+    λ i. record {
+      id = number_in 0 (same i);
+      rider = number_in 1 (same i);
+      wish = record {
+        day = number_in 2 (same i);
+        pickup = number_in 3 (same i);
+        from = number_in 4 (same i);
+        to = number_in 5 (same i);
+        by = by i;
+        attendant = attendant i;
+        companions = number_in 8 (same i);
+      };
+      fare = number_in 9 (same i);
+      service = number_in 10 (same i);
+      ride = number_in 11 (same i);
+      vehicle = number_in 12 (same i);
+      window_from = number_in 13 (same i);
+      window_to = number_in 14 (same i);
+      status = status i;
+      companions_in_range = is_prop→PathP (λ j. number_in 8 (same j) ≤ 1) (λ j. at_most-prop _ _)
+          one.companions_in_range other.companions_in_range i;
+      fare_in_range = is_prop→PathP (λ j. number_in 9 (same j) ≤ 100_000) (λ j. at_most-prop _ _)
+          one.fare_in_range other.fare_in_range i;
+      service_in_range = is_prop→PathP (λ j. number_in 10 (same j) ≤ 30) (λ j. at_most-prop _ _)
+          one.service_in_range other.service_in_range i;
+      ride_in_range = is_prop→PathP (λ j. number_in 11 (same j) ≤ 1_679) (λ j. at_most-prop _ _)
+          one.ride_in_range other.ride_in_range i;
+    }
+
+-- ---- fixed routes
+
+pub route-told : (one other : Route) → IsRouteOnPlane one × IsWeek one.days → IsRouteOnPlane other × IsWeek other.days
+    → route_row one ≡ route_row other → one ≡ other
+route-told one other ones others same =
+    let OnPlane : Point → Type 0 = λ p. IsOnPlane p.x p.y in
+    let points = line-told one.points other.points (recursion_from_All OnPlane one.points ones.0)
+    (recursion_from_All OnPlane other.points others.0) (ap (bytes_in 2) same) in
+    let accessible = bool-same one.accessible other.accessible (ap (number_in 3) same) in
+    let days = days-same one.days other.days ones.1 others.1 (ap (number_in 4) same) in
+    λ i. record {
+      id = number_in 0 (same i);
+      width = number_in 1 (same i);
+      points = points i;
+      accessible = accessible i;
+      days = days i;
+      first = number_in 5 (same i);
+      last = number_in 6 (same i);
+    }
+
+-- ---- the last accepted writes
+
+pub kept-told : (one other : Kept) → IsReply one.reply → IsReply other.reply → kept_row one ≡ kept_row other
+    → one ≡ other
+kept-told one other ones others same =
+    let reply = reply-told one.reply other.reply ones others (ap (bytes_in 3) same) in
+    λ i. record {
+      caller = number_in 0 (same i);
+      number = number_in 1 (same i);
+      request = bytes_in 2 (same i);
+      reply = reply i;
+    }
+
+-- ---- entries of case files
+
+-- what an entry has beside its conditions: its kind, its numbers and its words
+abbrev HasSameFields : Entry → Entry → Type 0
+HasSameFields one other =
+    (entry_number one ≡ entry_number other) × (first_number one ≡ first_number other)
+    × (second_number one ≡ second_number other) × (entry_words one ≡ entry_words other)
+
+some-same : (a b : ℕ) → Some a ≡ Some b → a ≡ b
+some-same a b same = cc
+
+particulars-told : (one other : Entry) → GrantsInRange one → GrantsInRange other → HasSameFields one other
+    → entry_conditions one ≡ entry_conditions other → one ≡ other
+particulars-told entry.Complete entry.Complete ones others same conditions = refl
+particulars-told (entry.Grant a) (entry.Grant b) ones others same conditions =
+    ap (λ (g : Grant). entry.Grant g) (grant-told a b ones others (some-same a.until b.until same.1) conditions)
+particulars-told (entry.Refuse a) (entry.Refuse b) ones others same conditions =
+    ap (λ (t : List ℕ). entry.Refuse t) same.3
+particulars-told (entry.Appeal a) (entry.Appeal b) ones others same conditions =
+    ap (λ (n : ℕ). entry.Appeal n) (some-same a b same.1)
+particulars-told entry.Heard entry.Heard ones others same conditions = refl
+particulars-told (entry.AppealGranted a) (entry.AppealGranted b) ones others same conditions =
+    ap (λ (g : Grant). entry.AppealGranted g) (grant-told a b ones others (some-same a.until b.until same.1) conditions)
+particulars-told (entry.AppealDenied a) (entry.AppealDenied b) ones others same conditions =
+    ap (λ (t : List ℕ). entry.AppealDenied t) same.3
+particulars-told entry.Overturn entry.Overturn ones others same conditions = refl
+particulars-told (entry.Notice a) (entry.Notice b) ones others same conditions =
+    ap (λ (t : List ℕ). entry.Notice t) same.3
+particulars-told entry.NoticeHeard entry.NoticeHeard ones others same conditions = refl
+particulars-told (entry.Suspend starts ends a) (entry.Suspend first last b) ones others same conditions =
+    let from = some-same starts first same.1 in
+    let to = some-same ends last same.2 in
+    λ i. entry.Suspend (from i) (to i) (same.3 i)
+particulars-told one other ones others same conditions = absurd (let kind = same.0 in omega arith)
+
+pub entry-told : (one other : FiledEntry) → GrantsInRange one.entered.entry → GrantsInRange other.entered.entry
+    → entry_row one ≡ entry_row other → one ≡ other
+entry-told one other ones others same =
+    let a = one.entered.entry in
+    let b = other.entered.entry in
+    let first : first_number a ≡ first_number b =
+    sym (known-value (first_number a)) ∙ ap (known_in 5) same ∙ known-value (first_number b) in
+    let second : second_number a ≡ second_number b =
+    sym (known-value (second_number a)) ∙ ap (known_in 6) same ∙ known-value (second_number b) in
+    let entered = particulars-told a b ones others (ap (number_in 2) same, first, second, ap (bytes_in 8) same)
+    (ap (bytes_in 7) same) in
+    λ i. record {
+      rider = number_in 0 (same i);
+      position = number_in 1 (same i);
+      entered = record { entry = entered i; day = number_in 3 (same i); author = number_in 4 (same i) };
+    }

@@ -1,0 +1,5 @@
+pub mod Opens
+pub mod Rows
+pub mod Schema
+pub mod Tables
+pub mod WellFormed

@@ -1,0 +1,20 @@
+-- What the rows of a database tell of its content.
+use Rattle.std.specs.Prelude.{◌≡◌, Option, None, Some}
+use Rattle.sqlite.specs.Tree.{Trees}
+use Rattle.pt_desk_rules.specs.State.{State}
+use Rattle.pt_tables_rows.specs.Tables.{HasRows}
+use Rattle.pt_tables_rows.specs.WellFormed.{IsWellFormed}
+
+-- what an opening finds in these trees: the content that has their rows, and None where none has
+abbrev pub Opens : Trees → Option State → Type 0
+Opens trees (Some content) = IsWellFormed content × HasRows content trees
+Opens trees None = (content : State) → IsWellFormed content → HasRows content trees → ⊥
+
+-- no two contents have the same rows
+abbrev pub SameRowsSameContent : Type 0
+SameRowsSameContent = (one other : State) (trees : Trees) → IsWellFormed one → IsWellFormed other
+    → HasRows one trees → HasRows other trees → one ≡ other
+
+-- and so an opening finds one thing
+abbrev pub OpensOnce : Type 0
+OpensOnce = (trees : Trees) (one other : Option State) → Opens trees one → Opens trees other → one ≡ other

@@ -1,0 +1,173 @@
+-- The rows of the tables, as a query shows them: the values of the columns in their order.
+use Rattle.std.specs.Prelude.{ℕ, ℤ, ◌+◌, pos, negsuc, List, [], ◌∷◌, map, flat_map, Bool, Option, None, Some}
+use Rattle.std.specs.Int.{from_bool}
+use Rattle.std.specs.List.{join_with_byte}
+use Rattle.sqlite.specs.declared.types.Value.{Value}
+use Rattle.sqlite.specs.declared.types.Value.TheVariants.{Int, Text, Blob}
+use Rattle.sqlite.specs.Order.{Row}
+use Rattle.pt_base.specs.declared.place.Place.{Place}
+use Rattle.pt_base.specs.declared.policy.Policy.{Policy}
+use Rattle.pt_base.specs.declared.rider.Rider.{Rider}
+use Rattle.pt_base.specs.declared.trip.Trip.{Trip}
+use Rattle.pt_base.specs.declared.trip_status.TripStatus.{TripStatus}
+use Rattle.pt_base.specs.declared.trip_status.TripStatus.TheVariants.{Booked, Cancelled, Ridden, MissedRider}
+use Rattle.pt_base.specs.declared.trip_status.TripStatus.TheVariants.{MissedOperator}
+use Rattle.pt_base.specs.declared.vehicle.Vehicle.{Vehicle}
+use Rattle.pt_conditions.specs.Texts.{condition_text}
+use Rattle.pt_corridor.specs.Route.{Route}
+use Rattle.pt_desk_rules.specs.Travel.{DatedTable}
+use Rattle.pt_desk_rules.specs.declared.change.FiledEntry.{FiledEntry}
+use Rattle.pt_desk_rules.specs.declared.kept.Kept.{Kept}
+use Rattle.pt_feasible.specs.declared.stop.StopKind.{StopKind}
+use Rattle.pt_feasible.specs.declared.stop.StopKind.TheVariants.{Pickup, Drop}
+use Rattle.pt_requests.specs.declared.caller.Caller.{Caller}
+use Rattle.pt_rights.specs.declared.entry.Entry.{Entry}
+use Rattle.pt_rights.specs.declared.entry.Entry.TheVariants as entry
+use Rattle.pt_rights.specs.declared.entry.Grant.{Grant}
+use Rattle.pt_scheduling.specs.Plan.{Plan}
+use Rattle.pt_scheduling.specs.declared.planned.PlannedStop.{PlannedStop}
+use Rattle.pt_spelling.specs.Fields.{days_byte}
+use Rattle.pt_spelling.specs.Replies.{reply_spelling}
+use Rattle.pt_spelling.specs.Requests.{role_number, subject_of, kind_number, entry_number, point_bytes}
+use Rattle.pt_travel.specs.Chain as travel
+
+-- the version of these tables
+abbrev pub table_version : ℕ
+table_version = 1
+
+abbrev pub number_value : ℕ → Value
+number_value n = Int (pos n)
+
+-- a truth value: 0 or 1
+abbrev pub truth_value : Bool → Value
+truth_value value = number_value (from_bool value)
+
+-- -1 where there is no number
+abbrev pub optional_value : Option ℕ → Value
+optional_value None = Int (negsuc 0)
+optional_value (Some n) = number_value n
+
+-- the agency's one row: the version, the policy, and the number that was last given to a trip
+abbrev pub desk_row : Policy → ℕ → Row
+desk_row policy last_trip =
+    number_value 1 ∷ number_value table_version ∷ number_value policy.base ∷ number_value policy.transfer
+    ∷ number_value policy.fare ∷ number_value policy.service ∷ number_value policy.extra_ride
+    ∷ number_value policy.min_missed ∷ number_value policy.percent ∷ number_value policy.span_days
+    ∷ number_value last_trip ∷ []
+
+abbrev pub caller_row : Caller → Row
+caller_row caller =
+    number_value caller.id ∷ number_value (role_number caller.role) ∷ number_value (subject_of caller.role)
+    ∷ Blob caller.digest ∷ []
+
+abbrev pub kept_row : Kept → Row
+kept_row kept =
+    number_value kept.caller ∷ number_value kept.number ∷ Blob kept.request ∷ Blob (reply_spelling kept.reply) ∷ []
+
+abbrev pub place_row : Place → Row
+place_row place = number_value place.id ∷ Int place.at.x ∷ Int place.at.y ∷ truth_value place.core ∷ []
+
+-- a fixed route, its points one after the other, in eight bytes each
+abbrev pub route_row : Route → Row
+route_row route =
+    number_value route.id ∷ number_value route.width ∷ Blob (flat_map point_bytes route.points)
+    ∷ truth_value route.accessible ∷ number_value (days_byte route.days) ∷ number_value route.first
+    ∷ number_value route.last ∷ []
+
+-- a vehicle as it is from a day on
+abbrev pub vehicle_row : Vehicle → Row
+vehicle_row version =
+    number_value version.id ∷ number_value version.from_day ∷ number_value (days_byte version.days)
+    ∷ number_value version.depot ∷ number_value version.capacity ∷ number_value version.opens
+    ∷ number_value version.closes ∷ number_value version.duration ∷ []
+
+abbrev pub rider_row : Rider → Row
+rider_row rider =
+    number_value rider.id ∷ number_value (kind_number rider.kind) ∷ truth_value rider.attendant ∷ []
+
+-- ---- entries
+
+-- the last day of a grant, what an appeal is against, or the first day of a suspension
+abbrev pub first_number : Entry → Option ℕ
+first_number (entry.Grant grant) = Some grant.until
+first_number (entry.Appeal against) = Some against
+first_number (entry.AppealGranted grant) = Some grant.until
+first_number (entry.Suspend starts ends reasons) = Some starts
+first_number _ = None
+
+-- the last day of a suspension
+abbrev pub second_number : Entry → Option ℕ
+second_number (entry.Suspend starts ends reasons) = Some ends
+second_number _ = None
+
+-- the conditions of a grant, with a semicolon (byte 59) between each two
+abbrev pub conditions_text : Grant → List ℕ
+conditions_text grant = join_with_byte 59 (map condition_text grant.conditions)
+
+abbrev pub entry_conditions : Entry → List ℕ
+entry_conditions (entry.Grant grant) = conditions_text grant
+entry_conditions (entry.AppealGranted grant) = conditions_text grant
+entry_conditions _ = []
+
+-- the reasons of a decision or a suspension, or the basis of a notice
+abbrev pub entry_words : Entry → List ℕ
+entry_words (entry.Refuse reasons) = reasons
+entry_words (entry.AppealDenied reasons) = reasons
+entry_words (entry.Notice basis) = basis
+entry_words (entry.Suspend starts ends reasons) = reasons
+entry_words _ = []
+
+abbrev pub entry_row : FiledEntry → Row
+entry_row filed =
+    number_value filed.rider ∷ number_value filed.position ∷ number_value (entry_number filed.entered.entry)
+    ∷ number_value filed.entered.day ∷ number_value filed.entered.author
+    ∷ optional_value (first_number filed.entered.entry) ∷ optional_value (second_number filed.entered.entry)
+    ∷ Text (entry_conditions filed.entered.entry) ∷ Text (entry_words filed.entered.entry) ∷ []
+
+-- ---- trips
+
+abbrev pub status_number : TripStatus → ℕ
+status_number Booked = 0
+status_number Cancelled = 1
+status_number Ridden = 2
+status_number MissedRider = 3
+status_number MissedOperator = 4
+
+abbrev pub trip_row : Trip → Row
+trip_row trip =
+    number_value trip.id ∷ number_value trip.rider ∷ number_value trip.wish.day ∷ number_value trip.wish.pickup
+    ∷ number_value trip.wish.from ∷ number_value trip.wish.to ∷ optional_value trip.wish.by
+    ∷ truth_value trip.wish.attendant ∷ number_value trip.wish.companions ∷ number_value trip.fare
+    ∷ number_value trip.service ∷ number_value trip.ride ∷ number_value trip.vehicle ∷ number_value trip.window_from
+    ∷ number_value trip.window_to ∷ number_value (status_number trip.status) ∷ []
+
+abbrev pub stop_number : StopKind → ℕ
+stop_number Pickup = 0
+stop_number Drop = 1
+
+-- a stop of a vehicle on a day, at its place
+abbrev pub stop_row : ℕ → ℕ → ℤ → PlannedStop → Row
+stop_row vehicle day place stop =
+    number_value vehicle ∷ number_value day ∷ Int place ∷ number_value stop.trip
+    ∷ number_value (stop_number stop.kind) ∷ []
+
+-- the stops of a vehicle on a day, counted up from this number
+abbrev pub stop_rows_from : ℕ → ℕ → ℕ → List PlannedStop → List Row
+stop_rows_from place vehicle day [] = []
+stop_rows_from place vehicle day (stop ∷ later) =
+    (number_value vehicle ∷ number_value day ∷ number_value place ∷ number_value stop.trip
+    ∷ number_value (stop_number stop.kind) ∷ [])
+    ∷ stop_rows_from (place + 1) vehicle day later
+
+abbrev pub stop_rows : Plan → List Row
+stop_rows plan = stop_rows_from 0 plan.vehicle plan.day plan.stops
+
+-- ---- driving times
+
+abbrev pub travel_row : ℕ → travel.Row → Row
+travel_row from_day row =
+    number_value from_day ∷ number_value row.0 ∷ number_value row.1 ∷ number_value row.2 ∷ []
+
+-- the rows of a travel table, and one of noughts, which tells of a table that has none
+abbrev pub travel_rows : DatedTable → List Row
+travel_rows table = map (travel_row table.from_day) ((0, 0, 0) ∷ table.rows)

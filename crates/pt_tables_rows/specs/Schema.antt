@@ -1,0 +1,179 @@
+-- The eleven tables.
+use Rattle.std.specs.Prelude.{ℕ, List, [], ◌∷◌, ◌+◌, map, true, false, None, Some, codes}
+use Rattle.sqlite.specs.Collation.TheVariants.{Binary}
+use Rattle.sqlite.specs.declared.types.Value.TheVariants.{Null}
+use Rattle.sqlite.specs.Table.{Table}
+use Rattle.sqlite.specs.Schema.{Schema}
+use Rattle.sqlite.specs.Kind.{Kind}
+use Rattle.sqlite.specs.Kind.TheVariants.{Integer, Text, Blob}
+use Rattle.sqlite_schema.specs.declared.schema.Column.{Column}
+use Rattle.sqlite_schema.specs.declared.schema.Index.{Index}
+use Rattle.sqlite_schema.specs.declared.schema.Reference.{Reference}
+use Rattle.sqlite_schema.specs.declared.schema.Action.TheVariants.{NoAction}
+use Rattle.sqlite_value.specs.declared.keys.Order.{Order}
+use Rattle.pt_tables_rows.specs.declared.schema.TheConstants.{TABLES}
+
+-- a column of these values; in a STRICT table it takes no others, nor NULL
+abbrev pub column_of : Kind → List ℕ → Column
+column_of kind name = record {
+  name = name;
+  kind = kind;
+  is_strict = true;
+  not_null = true;
+  default = Null;
+  collation = Binary;
+}
+
+abbrev pub number : List ℕ → Column
+number name = column_of Integer name
+
+abbrev pub bytes : List ℕ → Column
+bytes name = column_of Blob name
+
+abbrev pub text : List ℕ → Column
+text name = column_of Text name
+
+-- the INTEGER PRIMARY KEY, which is the rowid
+abbrev pub row_number : List ℕ → Column
+row_number name = record (number name) { not_null = false }
+
+-- a column of numbers of another table's rows
+abbrev pub refers : ℕ → List ℕ → Reference
+refers column parent = record {
+  columns = column ∷ [];
+  parent = parent;
+  parent_columns = codes "id" ∷ [];
+  on_delete = NoAction;
+  on_update = NoAction;
+  is_deferred = false;
+}
+
+abbrev pub ascending : Order
+ascending = record { digits = 0 }
+
+-- a table whose key is the number of a row
+abbrev pub numbered_table : List ℕ → ℕ → List Column → List Reference → Table
+numbered_table name tree columns references = record {
+  name = name;
+  tree = tree;
+  columns = columns;
+  key = Some 0;
+  primary = 0 ∷ [];
+  uniques = [];
+  orders = [];
+  checks = [];
+  references = references;
+  computed = [];
+  stamps = record { places = []; terms = []; formats = [] };
+  is_counted = false;
+}
+
+-- a table whose key has these columns, counted from 1
+abbrev pub keyed_table : List ℕ → ℕ → List Column → List ℕ → List Reference → Table
+keyed_table name tree columns key references = record (numbered_table name tree columns references) {
+  key = None;
+  primary = key;
+  uniques = key ∷ [];
+  orders = ascending ∷ [];
+}
+
+abbrev pub desk_table : Table
+desk_table = numbered_table (codes "desk") 0
+    (row_number (codes "id") ∷ number (codes "version") ∷ number (codes "base") ∷ number (codes "transfer")
+    ∷ number (codes "fare") ∷ number (codes "service") ∷ number (codes "extra_ride") ∷ number (codes "min_missed")
+    ∷ number (codes "percent") ∷ number (codes "span_days") ∷ number (codes "last_trip") ∷ []) []
+
+abbrev pub callers_table : Table
+callers_table = record (numbered_table (codes "callers") 1
+    (row_number (codes "id") ∷ number (codes "role") ∷ number (codes "subject") ∷ bytes (codes "digest") ∷ []) []) {
+      uniques = (4 ∷ []) ∷ [];
+      orders = ascending ∷ [];
+    }
+
+abbrev pub kept_table : Table
+kept_table = numbered_table (codes "kept") 3
+    (row_number (codes "caller") ∷ number (codes "number") ∷ bytes (codes "request") ∷ bytes (codes "reply") ∷ [])
+    (refers 0 (codes "callers") ∷ [])
+
+abbrev pub places_table : Table
+places_table = numbered_table (codes "places") 4
+    (row_number (codes "id") ∷ number (codes "x") ∷ number (codes "y") ∷ number (codes "core") ∷ []) []
+
+abbrev pub fixed_table : Table
+fixed_table = numbered_table (codes "fixed") 5
+    (row_number (codes "id") ∷ number (codes "width") ∷ bytes (codes "points") ∷ number (codes "accessible")
+    ∷ number (codes "days") ∷ number (codes "first_min") ∷ number (codes "last_min") ∷ []) []
+
+abbrev pub vehicles_table : Table
+vehicles_table = keyed_table (codes "vehicles") 6
+    (number (codes "id") ∷ number (codes "from_day") ∷ number (codes "days") ∷ number (codes "depot")
+    ∷ number (codes "capacity") ∷ number (codes "opens") ∷ number (codes "closes") ∷ number (codes "duration") ∷ [])
+    (1 ∷ 2 ∷ []) (refers 4 (codes "places") ∷ [])
+
+abbrev pub riders_table : Table
+riders_table = numbered_table (codes "riders") 8
+    (row_number (codes "id") ∷ number (codes "kind") ∷ number (codes "attendant") ∷ []) []
+
+abbrev pub entries_table : Table
+entries_table = keyed_table (codes "entries") 9
+    (number (codes "rider") ∷ number (codes "place") ∷ number (codes "kind") ∷ number (codes "day")
+    ∷ number (codes "author") ∷ number (codes "a") ∷ number (codes "b") ∷ text (codes "conditions")
+    ∷ text (codes "words") ∷ [])
+    (1 ∷ 2 ∷ []) (refers 1 (codes "riders") ∷ refers 5 (codes "callers") ∷ [])
+
+abbrev pub trips_table : Table
+trips_table = numbered_table (codes "trips") 11
+    (row_number (codes "id") ∷ number (codes "rider") ∷ number (codes "day") ∷ number (codes "wish")
+    ∷ number (codes "origin") ∷ number (codes "goal") ∷ number (codes "latest") ∷ number (codes "attendant")
+    ∷ number (codes "companions") ∷ number (codes "fare") ∷ number (codes "service") ∷ number (codes "ride")
+    ∷ number (codes "vehicle") ∷ number (codes "window_from") ∷ number (codes "window_to")
+    ∷ number (codes "status") ∷ [])
+    (refers 2 (codes "riders") ∷ refers 5 (codes "places") ∷ refers 6 (codes "places") ∷ [])
+
+abbrev pub stops_table : Table
+stops_table = keyed_table (codes "stops") 12
+    (number (codes "vehicle") ∷ number (codes "day") ∷ number (codes "place") ∷ number (codes "trip")
+    ∷ number (codes "kind") ∷ [])
+    (1 ∷ 2 ∷ 3 ∷ []) (refers 4 (codes "trips") ∷ [])
+
+abbrev pub travel_table : Table
+travel_table = keyed_table (codes "travel") 14
+    (number (codes "from_day") ∷ number (codes "a") ∷ number (codes "b") ∷ number (codes "minutes") ∷ [])
+    (1 ∷ 2 ∷ 3 ∷ []) []
+
+abbrev pub tables : List Table
+tables =
+    desk_table ∷ callers_table ∷ kept_table ∷ places_table ∷ fixed_table ∷ vehicles_table ∷ riders_table
+    ∷ entries_table ∷ trips_table ∷ stops_table ∷ travel_table ∷ []
+
+-- what keeps a key apart from the others of its table
+abbrev pub key_index : List ℕ → Table → List ℕ → Index
+key_index name table columns = record {
+  name = name;
+  tree = table.tree + 1;
+  table = table.tree;
+  columns = columns;
+  order = ascending;
+  is_unique = true;
+}
+
+-- the database has these tables, and no others
+unfoldable pub desk_schema : Schema
+desk_schema = record {
+  tables = tables;
+  indexes =
+      key_index (codes "sqlite_autoindex_callers_1") callers_table (4 ∷ [])
+      ∷ key_index (codes "sqlite_autoindex_vehicles_1") vehicles_table (1 ∷ 2 ∷ [])
+      ∷ key_index (codes "sqlite_autoindex_entries_1") entries_table (1 ∷ 2 ∷ [])
+      ∷ key_index (codes "sqlite_autoindex_stops_1") stops_table (1 ∷ 2 ∷ 3 ∷ [])
+      ∷ key_index (codes "sqlite_autoindex_travel_1") travel_table (1 ∷ 2 ∷ 3 ∷ []) ∷ [];
+  views = [];
+}
+
+-- a database with nothing in it
+abbrev pub no_schema : Schema
+no_schema = record { tables = []; indexes = []; views = [] }
+
+-- the statements that make the tables
+abbrev pub statements_of_tables : List (List ℕ)
+statements_of_tables = map (λ statement. statement.now) TABLES

@@ -1,0 +1,83 @@
+-- The tables of a database, and the content that they stand for.
+use Rattle.std.specs.Prelude.{◌≡◌, ◌≢◌, List, [], ◌∷◌, drop, map, flat_map, IsTrue, IsPermutation, Result, Ok, Err}
+use Rattle.std.specs.List.{AllByRecursion}
+use Rattle.sqlite.specs.declared.error.Error.{Error}
+use Rattle.sqlite.specs.Effect.{Database}
+use Rattle.sqlite.specs.Order.{Row}
+use Rattle.sqlite.specs.Rows.{shown}
+use Rattle.sqlite.specs.State.{State as Connected, KeepsCommit}
+use Rattle.sqlite.specs.Table.{Table}
+use Rattle.sqlite.specs.Tree.{Trees, IsTable, rowid}
+use Rattle.sqlite.specs.View.{is_int}
+use Rattle.pt_desk_rules.specs.State.{State}
+use Rattle.pt_tables_rows.specs.Rows.{desk_row, caller_row, kept_row, place_row, route_row, vehicle_row, rider_row}
+use Rattle.pt_tables_rows.specs.Rows.{entry_row, trip_row, stop_rows, travel_rows}
+use Rattle.pt_tables_rows.specs.Schema.{desk_schema, tables, desk_table, callers_table, kept_table, places_table}
+use Rattle.pt_tables_rows.specs.Schema.{fixed_table, vehicles_table, riders_table, entries_table, trips_table}
+use Rattle.pt_tables_rows.specs.Schema.{stops_table, travel_table}
+
+-- the tables are there, and have no row
+pub record IsBlank (db : Database) : Type 0 where
+  pub schema : db.schema ≡ desk_schema
+  pub rows : AllByRecursion (λ t. db.trees t.tree ≡ []) tables
+
+-- a row of a table as a query shows it, without its rowid
+abbrev pub columns_of : Table → Row → Row
+columns_of table row = drop 1 (shown table row)
+
+-- in some order the rows of the table are these
+abbrev pub AreRows : Table → Trees → List Row → Type 0
+AreRows table trees rows = IsPermutation (map (columns_of table) (trees table.tree)) rows
+
+-- the rows of the tables are those of the content
+pub record HasRows (content : State) (trees : Trees) : Type 0 where
+  pub desk : AreRows desk_table trees (desk_row content.policy content.last_trip ∷ [])
+  pub callers : AreRows callers_table trees (map caller_row content.callers)
+  pub kept : AreRows kept_table trees (map kept_row content.kept)
+  pub places : AreRows places_table trees (map place_row content.places)
+  pub fixed : AreRows fixed_table trees (map route_row content.routes)
+  pub vehicles : AreRows vehicles_table trees (map vehicle_row content.vehicles)
+  pub riders : AreRows riders_table trees (map rider_row content.riders)
+  pub entries : AreRows entries_table trees (map entry_row content.entries)
+  pub trips : AreRows trips_table trees (map trip_row content.trips)
+  pub stops : AreRows stops_table trees (flat_map stop_rows content.planned)
+  pub travel : AreRows travel_table trees (flat_map travel_rows content.travel)
+
+-- the rowids are integers that rise
+pub record HaveRowids (rows : List Row) : Type 0 where
+  pub rising : IsTable rows
+  pub whole : AllByRecursion (λ row. IsTrue (is_int (rowid row))) rows
+
+-- the database has these tables, with the rows of the content
+pub record Stands (content : State) (db : Database) : Type 0 where
+  pub schema : db.schema ≡ desk_schema
+  pub rows : HasRows content db.trees
+  pub rowids : AllByRecursion (λ t. HaveRowids (db.trees t.tree)) tables
+
+-- the connection, if it is open, has the content and has committed it
+pub record IsKept (content : State) (s : Connected) : Type 0 where
+  pub stands : IsTrue s.is_open → Stands content s.now
+  pub committed : IsTrue s.is_open → s.committed ≡ s.now
+
+-- each other table has the rows that it had
+abbrev pub Others : Table → Trees → Trees → Type 0
+Others table old new = AllByRecursion (λ t. t.tree ≢ table.tree → new t.tree ≡ old t.tree) tables
+
+-- the table, if it was empty, has this row, and each other table what it had
+pub record Fills (table : Table) (row : Row) (old new : Database) : Type 0 where
+  pub schema : new.schema ≡ desk_schema
+  pub rows : old.trees table.tree ≡ [] → AreRows table new.trees (row ∷ [])
+  pub rowids : old.trees table.tree ≡ [] → HaveRowids (new.trees table.tree)
+  pub others : Others table old.trees new.trees
+
+-- A statement of a transaction changes these tables so, and commits nothing, nor does it where it fails.
+abbrev pub ChangesIfOk : {X : Type 0} → Connected → Connected → (Database → Database → Type 0) → Result X Error → Type 0
+ChangesIfOk old new Changes (Ok x) =
+    KeepsCommit old new × IsTrue new.in_transaction × (old.now.schema ≡ desk_schema → Changes old.now new.now)
+ChangesIfOk old new Changes (Err e) = KeepsCommit old new
+
+-- Statements of a transaction lead from such a database to such a one, and commit nothing, nor do they where they fail.
+abbrev pub LeadsIfOk : {X : Type 0} → Connected → Connected → (Database → Type 0) → (Database → Type 0)
+    → Result X Error → Type 0
+LeadsIfOk old new From To (Ok x) = KeepsCommit old new × IsTrue new.in_transaction × (From old.now → To new.now)
+LeadsIfOk old new From To (Err e) = KeepsCommit old new

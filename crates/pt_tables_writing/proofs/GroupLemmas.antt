@@ -1,0 +1,178 @@
+-- What edits of some tables, one after the other, make of all.
+use Rattle.std.proofs.Common.{◌≡◌, ℕ, List, [], ◌∷◌, Result, Ok, flat_map}
+use Rattle.std.specs.Option.{unwrap_or}
+use Rattle.sqlite.specs.Effect.{Database}
+use Rattle.sqlite.specs.Order.{Row}
+use Rattle.sqlite.specs.Table.{Table}
+use Rattle.pt_base.specs.declared.policy.Policy.{Policy}
+use Rattle.pt_desk_rules.specs.State.{State, caller_key, kept_key, place_key, route_key, rider_key, entry_key, vehicle_key, travel_key, trip_key}
+use Rattle.pt_desk_rules.specs.declared.change.Change.{Change}
+use Rattle.pt_records.specs.Records.{Each, IsInOrder, edited}
+use Rattle.pt_scheduling.specs.Plan.{plan_key}
+use Rattle.pt_tables_writing.specs.Groups.{Leads, with_people, with_area, with_trips}
+use Rattle.pt_tables_rows.specs.Rows.{desk_row, caller_row, kept_row, place_row, route_row, vehicle_row, rider_row, entry_row, trip_row, stop_rows, travel_rows}
+use Rattle.pt_tables_rows.specs.Schema.{desk_schema, desk_table, callers_table, kept_table, places_table, fixed_table, vehicles_table, riders_table, entries_table, trips_table, stops_table, travel_table}
+use Rattle.pt_tables_writing.specs.Stored.{EditsTable}
+use Rattle.pt_tables_rows.specs.Tables.{Stands}
+use Rattle.pt_tables_rows.specs.WellFormed.{IsWellFormed, PutsWellFormed, IsFiled, IsVersion, IsStoredPlan}
+use Rattle.pt_tables_writing.specs.Writes.{Rewrites}
+use Rattle.pt_tables_writing.proofs.PartsLemmas.{HoldAll, parts, parted, whole, desk_turned, callers_turned, kept_turned, places_turned, routes_turned, vehicles_turned, riders_turned, entries_turned, trips_turned, planned_turned, travel_turned}
+
+-- nothing is asked of the records of most tables
+any : {A : Type 0} (xs : List A) → Each (λ _. Unit {0}) xs
+any [] = tt
+any (x ∷ xs) = (tt, any xs)
+
+-- the tables are there, each with its rows
+pub record Are (s : State) (db : Database) : Type 0 where
+  pub schema : db.schema ≡ desk_schema
+  pub parts : HoldAll db.trees (parts s)
+
+are : (s : State) (db : Database) → Stands s db → Are s db
+are s db stands = record { schema = stands.schema; parts = parted s db stands }
+
+stand : (s : State) (db : Database) → Are s db → Stands s db
+stand s db all = whole s db all.schema all.parts
+
+-- the edit of a table, where the records of that table are those of the content
+abbrev pub Edits-callers : Change → State → Database → Database → Type 0
+Edits-callers change s = EditsTable callers_table caller_key (λ _. Unit {0}) (λ x. caller_row x ∷ []) change.callers s.callers
+
+abbrev pub Edits-kept : Change → State → Database → Database → Type 0
+Edits-kept change s = EditsTable kept_table kept_key (λ _. Unit {0}) (λ x. kept_row x ∷ []) change.kept s.kept
+
+abbrev pub Edits-riders : Change → State → Database → Database → Type 0
+Edits-riders change s = EditsTable riders_table rider_key (λ _. Unit {0}) (λ x. rider_row x ∷ []) change.riders s.riders
+
+abbrev pub Edits-entries : Change → State → Database → Database → Type 0
+Edits-entries change s = EditsTable entries_table entry_key IsFiled (λ x. entry_row x ∷ []) change.entries s.entries
+
+abbrev pub Edits-places : Change → State → Database → Database → Type 0
+Edits-places change s = EditsTable places_table place_key (λ _. Unit {0}) (λ x. place_row x ∷ []) change.places s.places
+
+abbrev pub Edits-routes : Change → State → Database → Database → Type 0
+Edits-routes change s = EditsTable fixed_table route_key (λ _. Unit {0}) (λ x. route_row x ∷ []) change.routes s.routes
+
+abbrev pub Edits-vehicles : Change → State → Database → Database → Type 0
+Edits-vehicles change s = EditsTable vehicles_table vehicle_key IsVersion (λ x. vehicle_row x ∷ []) change.vehicles s.vehicles
+
+abbrev pub Edits-travel : Change → State → Database → Database → Type 0
+Edits-travel change s = EditsTable travel_table travel_key (λ _. Unit {0}) travel_rows change.travel s.travel
+
+abbrev pub Edits-trips : Change → State → Database → Database → Type 0
+Edits-trips change s = EditsTable trips_table trip_key (λ _. Unit {0}) (λ x. trip_row x ∷ []) change.trips s.trips
+
+abbrev pub Edits-planned : Change → State → Database → Database → Type 0
+Edits-planned change s = EditsTable stops_table plan_key IsStoredPlan stop_rows change.planned s.planned
+
+callers_step : (change : Change) (s : State) (a b : Database) → IsInOrder caller_key s.callers
+    → (a.schema ≡ desk_schema → Edits-callers change s a b) → Are s a → Are (record s { callers = edited caller_key change.callers s.callers }) b
+callers_step change s a b order edit all =
+    let done = edit all.schema (any change.callers.puts) order (any s.callers) in
+    record { schema = done.schema; parts = callers_turned s (edited caller_key change.callers s.callers) a b done all.parts }
+
+kept_step : (change : Change) (s : State) (a b : Database) → IsInOrder kept_key s.kept
+    → (a.schema ≡ desk_schema → Edits-kept change s a b) → Are s a → Are (record s { kept = edited kept_key change.kept s.kept }) b
+kept_step change s a b order edit all =
+    let done = edit all.schema (any change.kept.puts) order (any s.kept) in
+    record { schema = done.schema; parts = kept_turned s (edited kept_key change.kept s.kept) a b done all.parts }
+
+riders_step : (change : Change) (s : State) (a b : Database) → IsInOrder rider_key s.riders
+    → (a.schema ≡ desk_schema → Edits-riders change s a b) → Are s a → Are (record s { riders = edited rider_key change.riders s.riders }) b
+riders_step change s a b order edit all =
+    let done = edit all.schema (any change.riders.puts) order (any s.riders) in
+    record { schema = done.schema; parts = riders_turned s (edited rider_key change.riders s.riders) a b done all.parts }
+
+entries_step : (change : Change) (s : State) (a b : Database) → IsInOrder entry_key s.entries → Each IsFiled s.entries → Each IsFiled change.entries.puts
+    → (a.schema ≡ desk_schema → Edits-entries change s a b) → Are s a → Are (record s { entries = edited entry_key change.entries s.entries }) b
+entries_step change s a b order told puts edit all =
+    let done = edit all.schema puts order told in
+    record { schema = done.schema; parts = entries_turned s (edited entry_key change.entries s.entries) a b done all.parts }
+
+places_step : (change : Change) (s : State) (a b : Database) → IsInOrder place_key s.places
+    → (a.schema ≡ desk_schema → Edits-places change s a b) → Are s a → Are (record s { places = edited place_key change.places s.places }) b
+places_step change s a b order edit all =
+    let done = edit all.schema (any change.places.puts) order (any s.places) in
+    record { schema = done.schema; parts = places_turned s (edited place_key change.places s.places) a b done all.parts }
+
+routes_step : (change : Change) (s : State) (a b : Database) → IsInOrder route_key s.routes
+    → (a.schema ≡ desk_schema → Edits-routes change s a b) → Are s a → Are (record s { routes = edited route_key change.routes s.routes }) b
+routes_step change s a b order edit all =
+    let done = edit all.schema (any change.routes.puts) order (any s.routes) in
+    record { schema = done.schema; parts = routes_turned s (edited route_key change.routes s.routes) a b done all.parts }
+
+vehicles_step : (change : Change) (s : State) (a b : Database) → IsInOrder vehicle_key s.vehicles → Each IsVersion s.vehicles → Each IsVersion change.vehicles.puts
+    → (a.schema ≡ desk_schema → Edits-vehicles change s a b) → Are s a → Are (record s { vehicles = edited vehicle_key change.vehicles s.vehicles }) b
+vehicles_step change s a b order told puts edit all =
+    let done = edit all.schema puts order told in
+    record { schema = done.schema; parts = vehicles_turned s (edited vehicle_key change.vehicles s.vehicles) a b done all.parts }
+
+travel_step : (change : Change) (s : State) (a b : Database) → IsInOrder travel_key s.travel
+    → (a.schema ≡ desk_schema → Edits-travel change s a b) → Are s a → Are (record s { travel = edited travel_key change.travel s.travel }) b
+travel_step change s a b order edit all =
+    let done = edit all.schema (any change.travel.puts) order (any s.travel) in
+    record { schema = done.schema; parts = travel_turned s (edited travel_key change.travel s.travel) a b done all.parts }
+
+trips_step : (change : Change) (s : State) (a b : Database) → IsInOrder trip_key s.trips
+    → (a.schema ≡ desk_schema → Edits-trips change s a b) → Are s a → Are (record s { trips = edited trip_key change.trips s.trips }) b
+trips_step change s a b order edit all =
+    let done = edit all.schema (any change.trips.puts) order (any s.trips) in
+    record { schema = done.schema; parts = trips_turned s (edited trip_key change.trips s.trips) a b done all.parts }
+
+planned_step : (change : Change) (s : State) (a b : Database) → IsInOrder plan_key s.planned → Each IsStoredPlan s.planned → Each IsStoredPlan change.planned.puts
+    → (a.schema ≡ desk_schema → Edits-planned change s a b) → Are s a → Are (record s { planned = edited plan_key change.planned s.planned }) b
+planned_step change s a b order told puts edit all =
+    let done = edit all.schema puts order told in
+    record { schema = done.schema; parts = planned_turned s (edited plan_key change.planned s.planned) a b done all.parts }
+
+pub people_lead : (change : Change) (content : State) (a b c d e : Database)
+    → (a.schema ≡ desk_schema → Edits-callers change content a b)
+    → (b.schema ≡ desk_schema → Edits-kept change content b c)
+    → (c.schema ≡ desk_schema → Edits-riders change content c d)
+    → (d.schema ≡ desk_schema → Edits-entries change content d e)
+    → Leads change content content (with_people change content) a e
+people_lead change content a b c d e one two three four told puts stands =
+    let s = content in
+    let all_1 = callers_step change s a b told.callers one (are s a stands) in
+    let s1 : State = record s { callers = edited caller_key change.callers s.callers } in
+    let all_2 = kept_step change s1 b c told.kept two all_1 in
+    let s2 : State = record s1 { kept = edited kept_key change.kept s1.kept } in
+    let all_3 = riders_step change s2 c d told.riders three all_2 in
+    let s3 : State = record s2 { riders = edited rider_key change.riders s2.riders } in
+    let all_4 = entries_step change s3 d e told.entries told.filed puts.filed four all_3 in
+    stand (with_people change s) e all_4
+
+pub area_leads : (change : Change) (content : State) (a b c d e : Database)
+    → (a.schema ≡ desk_schema → Edits-places change content a b)
+    → (b.schema ≡ desk_schema → Edits-routes change content b c)
+    → (c.schema ≡ desk_schema → Edits-vehicles change content c d)
+    → (d.schema ≡ desk_schema → Edits-travel change content d e)
+    → Leads change content (with_people change content) (with_area change (with_people change content)) a e
+area_leads change content a b c d e one two three four told puts stands =
+    let s = with_people change content in
+    let all_1 = places_step change s a b told.places one (are s a stands) in
+    let s1 : State = record s { places = edited place_key change.places s.places } in
+    let all_2 = routes_step change s1 b c told.routes two all_1 in
+    let s2 : State = record s1 { routes = edited route_key change.routes s1.routes } in
+    let all_3 = vehicles_step change s2 c d told.vehicles told.versions puts.versions three all_2 in
+    let s3 : State = record s2 { vehicles = edited vehicle_key change.vehicles s2.vehicles } in
+    let all_4 = travel_step change s3 d e told.travel four all_3 in
+    stand (with_area change s) e all_4
+
+pub trips_lead : (change : Change) (content : State) (a b c d : Database)
+    → (a.schema ≡ desk_schema → Edits-trips change content a b)
+    → (b.schema ≡ desk_schema → Edits-planned change content b c)
+    → (c.schema ≡ desk_schema → (p : Policy) (n : ℕ) → Rewrites desk_table (desk_row p n ∷ [])
+    (desk_row (unwrap_or change.policy content.policy) (unwrap_or change.last_trip content.last_trip) ∷ []) c d)
+    → Leads change content (with_area change (with_people change content)) (with_trips change (with_area change (with_people change content))) a d
+trips_lead change content a b c d one two three told puts stands =
+    let s = with_area change (with_people change content) in
+    let all_1 = trips_step change s a b told.trips one (are s a stands) in
+    let s1 : State = record s { trips = edited trip_key change.trips s.trips } in
+    let all_2 = planned_step change s1 b c told.planned told.stops puts.stops two all_1 in
+    let s2 : State = record s1 { planned = edited plan_key change.planned s1.planned } in
+    let done = three all_2.schema content.policy content.last_trip in
+    stand (with_trips change s) d (record {
+      schema = done.schema;
+      parts = desk_turned s2 (unwrap_or change.policy content.policy) (unwrap_or change.last_trip content.last_trip) c d done all_2.parts;
+    })

@@ -1,0 +1,37 @@
+-- Rows that are found by the numbers in their first columns.
+use Rattle.std.proofs.Common.{◌≡◌, ℕ, ◌<◌, ◌==◌, pos, [], ◌∷◌, Bool, true, false, ◌&&◌, refl, ap, ap₂, ◌∙◌, int_cmp, arith}
+use Rattle.std.specs.Ordering.{nat_cmp, is_eq}
+use Rattle.std.proofs.lemmas.Bool.Decides.{nat_tests}
+use Rattle.sqlite.specs.Collation.TheVariants.{Binary}
+use Rattle.sqlite.specs.Order.{Row}
+use Rattle.sqlite.specs.declared.types.Value.TheVariants.{Int}
+use Rattle.sqlite_schema.specs.Rules.{equal}
+use Rattle.sqlite_sql.specs.declared.ops.CompareOp.TheVariants.{Eq}
+use Rattle.sqlite_typed.proofs.TestLemmas.{at_ints}
+use Rattle.pt_records.specs.Keys.{pair_key}
+use Rattle.pt_tables_writing.proofs.DeleteLemmas.{has_columns}
+
+int_cmp-pos : (a b : ℕ) → int_cmp (pos a) (pos b) ≡ nat_cmp a b
+int_cmp-pos a b = grind (arith, nat_tests)
+
+is_eq_cmp : (a b : ℕ) → is_eq (nat_cmp a b) ≡ (a == b)
+is_eq_cmp a b = grind (arith, nat_tests)
+
+equal-numbers : (a b : ℕ) → equal Binary (Int (pos a)) (Int (pos b)) ≡ (a == b)
+equal-numbers a b = at_ints false Eq (pos a) (pos b) ∙ ap is_eq (int_cmp-pos a b) ∙ is_eq_cmp a b
+
+and_true : (b : Bool) → (b && true) ≡ b
+and_true true = refl
+and_true false = refl
+
+same_pair : (x y a b : ℕ) → y < 4_294_967_296 → b < 4_294_967_296 → ((x == a) && (y == b)) ≡ (pair_key x y == pair_key a b)
+same_pair x y a b low other_low = grind (arith, nat_tests)
+
+-- by one number
+pub one-told : (x k : ℕ) (more : Row) → has_columns (Int (pos k) ∷ []) (Int (pos x) ∷ more) ≡ (x == k)
+one-told x k more = and_true _ ∙ equal-numbers x k
+
+-- by two numbers of 32 bits
+pub pair-told : (x y a b : ℕ) (more : Row) → y < 4_294_967_296 → b < 4_294_967_296
+    → has_columns (Int (pos a) ∷ Int (pos b) ∷ []) (Int (pos x) ∷ Int (pos y) ∷ more) ≡ (pair_key x y == pair_key a b)
+pair-told x y a b more low other_low = ap₂ ◌&&◌ (equal-numbers x a) (and_true _ ∙ equal-numbers y b) ∙ same_pair x y a b low other_low

@@ -1,0 +1,130 @@
+-- From the rows of a table to the records that have them.
+use Rattle.std.proofs.Common.{◌≡◌, ◌≢◌, inl, inr, ℕ, ◌<◌, ◌≤◌, ◌==◌, List, [], ◌∷◌, ◌++◌, filter, flat_map, not, Bool, true, false, cond, refl, sym, ap, ap₂, subst, subst₂, ◌∙◌, arith, append_assoc}
+use Rattle.std.specs.Prelude.{IsPermutation}
+use Rattle.std.specs.List.{AllByRecursion}
+use Rattle.std.proofs.lemmas.Bool.Decides.{nat_tests}
+use Rattle.std.proofs.lemmas.List.Elements.{filter-append}
+use Rattle.std.proofs.lemmas.List.Sorted.{IsPermutation-refl, IsPermutation-trans, IsPermutation-append_left, IsPermutation-append_right, IsPermutation-append_comm}
+use Rattle.sqlite.specs.Effect.{Database}
+use Rattle.sqlite.specs.Order.{Row}
+use Rattle.sqlite.specs.Table.{Table}
+use Rattle.sqlite.specs.Tree.{Trees}
+use Rattle.sqlite_keyed.proofs.ListLemmas.{all_weaker, filter_all, filter_none, IsPermutation-same}
+use Rattle.pt_records.specs.Records.{Each, IsInOrder, put}
+use Rattle.pt_records.proofs.OrderLemmas.{compared}
+use Rattle.pt_records.proofs.RecordLemmas.{put_past, put_over, put_before}
+use Rattle.pt_tables_writing.specs.Grouped.{Adds}
+use Rattle.pt_tables_rows.specs.Schema.{tables}
+use Rattle.pt_tables_rows.specs.Tables.{Others}
+use Rattle.pt_tables_writing.specs.Writes.{Holds, Rewrites, Puts, Takes}
+use Rattle.pt_tables_writing.proofs.DeleteLemmas.{Removes}
+
+-- ---- rewriting in turn
+
+pub holds-permuted : (table : Table) (shown others : List Row) (trees : Trees) → IsPermutation shown others → Holds table shown trees → Holds table others trees
+holds-permuted table shown others trees same holds = record {
+  rows = IsPermutation-trans _ shown others holds.rows same;
+  rising = holds.rising;
+  whole = holds.whole;
+}
+
+pub rewrites-permuted : (table : Table) (before shown others : List Row) (old new : Database) → IsPermutation shown others → Rewrites table before shown old new → Rewrites table before others old new
+rewrites-permuted table before shown others old new same it = record {
+  schema = it.schema;
+  rows = λ holds. holds-permuted table shown others new.trees same (it.rows holds);
+  others = it.others;
+}
+
+others_then : (table : Table) (a b c : Trees) → Others table a b → Others table b c → Others table a c
+others_then table a b c = go tables
+  where
+    go : (ts : List Table) → AllByRecursion (λ t. t.tree ≢ table.tree → b t.tree ≡ a t.tree) ts
+        → AllByRecursion (λ t. t.tree ≢ table.tree → c t.tree ≡ b t.tree) ts
+        → AllByRecursion (λ t. t.tree ≢ table.tree → c t.tree ≡ a t.tree) ts
+    go [] p q = tt
+    go (t ∷ ts) p q = ((λ apart. q.0 apart ∙ p.0 apart), go ts p.1 q.1)
+
+pub rewrites-then : (table : Table) (first second third : List Row) (old mid new : Database) → Rewrites table first second old mid → Rewrites table second third mid new → Rewrites table first third old new
+rewrites-then table first second third old mid new p q = record {
+  schema = q.schema;
+  rows = λ holds. q.rows (p.rows holds);
+  others = others_then table old.trees mid.trees new.trees p.others q.others;
+}
+
+-- ---- records
+
+same_test : (a b : ℕ) → a ≡ b → not (a == b) ≡ false
+same_test a b same = grind (arith, nat_tests)
+
+below_test : (a b : ℕ) → a < b → not (a == b) ≡ true
+below_test a b below = grind (arith, nat_tests)
+
+above_test : (a b : ℕ) → b < a → not (a == b) ≡ true
+above_test a b above = grind (arith, nat_tests)
+
+module _ {A : Type 0} (key : A → ℕ) where
+  -- the records without those of this key
+  abbrev pub without : ℕ → List A → List A
+  without k xs = filter (λ x. not (key x == k)) xs
+
+  none_there : (k : ℕ) (xs : List A) → Each (λ x. k < key x) xs → without k xs ≡ xs
+  none_there k [] above = refl
+  none_there k (x ∷ xs) above = ap (λ b. cond b (x ∷ without k xs) (without k xs)) (above_test (key x) k above.0) ∙ ap (λ l. x ∷ l) (none_there k xs above.1)
+
+  far_above : (k l : ℕ) (xs : List A) → k ≤ l → Each (λ x. l < key x) xs → Each (λ x. k < key x) xs
+  far_above k l [] le above = tt
+  far_above k l (x ∷ xs) le above = (omega (arith, above.0), far_above k l xs le above.1)
+
+  module _ (rows : A → List Row) where
+    -- the rows of a record that is put, and of the others
+    pub rows-put : (new : A) (xs : List A) → IsInOrder key xs → IsPermutation (rows new ++ flat_map rows (without (key new) xs)) (flat_map rows (put key new xs))
+    rows-put new [] order = IsPermutation-refl _
+    rows-put new (x ∷ xs) order = elim (compared (key x) (key new)) [
+      | inl less ↦
+          let later = rows-put new xs order.1 in
+          let kept : without (key new) (x ∷ xs) ≡ x ∷ without (key new) xs = ap (λ b. cond b (x ∷ without (key new) xs) (without (key new) xs)) (below_test (key x) (key new) less) in
+          let swapped : IsPermutation (rows new ++ (rows x ++ flat_map rows (without (key new) xs))) (rows x ++ (rows new ++ flat_map rows (without (key new) xs))) = exchanged (rows new) (rows x) (flat_map rows (without (key new) xs)) in
+          subst₂ IsPermutation (ap (λ l. rows new ++ flat_map rows l) (sym kept)) (ap (flat_map rows) (sym (put_past key new x xs less)))
+          (IsPermutation-trans _ _ _ swapped (IsPermutation-append_right (rows x) _ _ later))
+      | inr (inl same) ↦
+          let gone : without (key new) (x ∷ xs) ≡ xs =
+          ap (λ b. cond b (x ∷ without (key new) xs) (without (key new) xs)) (same_test (key x) (key new) same) ∙ none_there (key new) xs (far_above (key new) (key x) xs (omega (arith, same)) order.0) in
+          IsPermutation-same _ _ (ap (λ l. rows new ++ flat_map rows l) gone ∙ ap (flat_map rows) (sym (put_over key new x xs same)))
+      | inr (inr more) ↦
+          let all = none_there (key new) (x ∷ xs) (more, far_above (key new) (key x) xs (omega (arith, more)) order.0) in
+          IsPermutation-same _ _ (ap (λ l. rows new ++ flat_map rows l) all ∙ ap (flat_map rows) (sym (put_before key new x xs more)))
+    ]
+      where
+        exchanged : (a b c : List Row) → IsPermutation (a ++ (b ++ c)) (b ++ (a ++ c))
+        exchanged a b c = subst₂ IsPermutation (append_assoc a b c) (append_assoc b a c) (IsPermutation-append_left c (a ++ b) (b ++ a) (IsPermutation-append_comm a b))
+
+    -- the rows of the others are those that do not pass
+    pub rows-without : (Fits : A → Type 0) (k : ℕ) (passes : Row → Bool) → ((x : A) → Fits x → AllByRecursion (λ r. passes r ≡ (key x == k)) (rows x)) → (xs : List A) → Each Fits xs
+        → filter (λ r. not (passes r)) (flat_map rows xs) ≡ flat_map rows (without k xs)
+    rows-without Fits k passes tells [] fits = refl
+    rows-without Fits k passes tells (x ∷ xs) fits =
+        filter-append (λ r. not (passes r)) (rows x) (flat_map rows xs) ∙ ap₂ ◌++◌ (refl) (rows-without Fits k passes tells xs fits.1)
+        ∙ go (key x == k) refl
+      where
+        go : (b : Bool) → (key x == k) ≡ b → filter (λ r. not (passes r)) (rows x) ++ flat_map rows (without k xs) ≡ flat_map rows (cond (not b) (x ∷ without k xs) (without k xs))
+        go true is = ap (λ l. l ++ flat_map rows (without k xs)) (filter_none (λ r. not (passes r)) (rows x) (all_weaker (λ r. passes r ≡ (key x == k)) (λ r. not (passes r) ≡ false) (λ r h. ap not (h ∙ is)) (rows x) (tells x fits.0)))
+        go false is = ap (λ l. l ++ flat_map rows (without k xs)) (filter_all (λ r. not (passes r)) (rows x) (all_weaker (λ r. passes r ≡ (key x == k)) (λ r. not (passes r) ≡ true) (λ r h. ap not (h ∙ is)) (rows x) (tells x fits.0)))
+
+    pub takes : (table : Table) (Fits : A → Type 0) (gone : A) (passes : Row → Bool) → ((x : A) → Fits x → AllByRecursion (λ r. passes r ≡ (key x == key gone)) (rows x)) → (old new : Database)
+        → Removes table passes old new → Takes table key Fits rows gone old new
+    takes table Fits gone passes tells old new removes xs order fits =
+        subst (λ l. Rewrites table (flat_map rows xs) l old new) (rows-without Fits (key gone) passes tells xs fits) (removes (flat_map rows xs))
+
+    pub puts-after : (table : Table) (Fits : A → Type 0) (new : A) (a b c : Database) → Takes table key Fits rows new a b → Adds table (rows new) b c → Puts table key Fits rows new a c
+    puts-after table Fits new a b c taken added xs order fits =
+        rewrites-permuted table _ _ _ a c (rows-put new xs order)
+        (rewrites-then table (flat_map rows xs) (flat_map rows (without (key new) xs)) _ a b c (taken xs order fits) (added (flat_map rows (without (key new) xs))))
+
+-- rows are added in turn
+pub adds-then : (table : Table) (first second : List Row) (a b c : Database) → Adds table first a b → Adds table second b c → Adds table (first ++ second) a c
+adds-then table first second a b c one other before =
+    let turned : IsPermutation (second ++ (first ++ before)) ((first ++ second) ++ before) =
+    subst (λ l. IsPermutation l ((first ++ second) ++ before)) (append_assoc second first before)
+    (IsPermutation-append_left before (second ++ first) (first ++ second) (IsPermutation-append_comm second first)) in
+    rewrites-permuted table before (second ++ (first ++ before)) ((first ++ second) ++ before) a c turned
+    (rewrites-then table before (first ++ before) (second ++ (first ++ before)) a b c (one before) (other (first ++ before)))

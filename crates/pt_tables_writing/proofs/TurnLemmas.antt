@@ -1,0 +1,138 @@
+-- Statements of a transaction, one after the other.
+use Rattle.std.proofs.Common.{◌≡◌, ◌≢◌, ◌≤◌, ℕ, IsTrue, OnOk, Result, Ok, Err, List, [], ◌∷◌, refl, ◌∙◌, sym, subst, arith}
+use Rattle.std.specs.List.{AllByRecursion}
+use Rattle.sqlite.specs.declared.error.Error.{Error}
+use Rattle.sqlite.specs.Effect.{Database}
+use Rattle.sqlite.specs.Order.{Row}
+use Rattle.sqlite.specs.State.{State as Connected, HasCleanDisk, KeepsCommit, Survives}
+use Rattle.sqlite.specs.Table.{Table}
+use Rattle.sqlite.specs.Tree.{Trees}
+use Rattle.sqlite_trees.proofs.ListLemmas.{all_both}
+use Rattle.sqlite.proofs.StateLemmas.{survives_then}
+use Rattle.pt_tables_rows.specs.Schema.{desk_schema, tables}
+use Rattle.pt_tables_rows.specs.Tables.{ChangesIfOk, Others}
+use Rattle.pt_tables_writing.specs.Writes.{Rewrites}
+use Rattle.pt_tables_rows.proofs.PartLemmas.{on_ok}
+use Rattle.pt_tables_rows.proofs.StateLemmas.{keeps_then}
+
+-- what a statement does, if its connection is clean in the end and was in a transaction
+abbrev pub Did : {X : Type 0} → Connected → Connected → (Database → Database → Type 0) → Result X Error → Type 0
+Did a b Changes r = HasCleanDisk b → IsTrue a.in_transaction → ChangesIfOk a b Changes r
+
+-- nothing is committed by the one, nor by the other
+pub survive_both : (a b c : Connected) → Survives a b (λ _. ⊥) → Survives b c (λ _. ⊥) → Survives a c (λ _. ⊥)
+survive_both a b c p q = survives_then a b c (λ _. ⊥) (λ _. ⊥) (λ _. ⊥) (λ _ db none. none) (λ _ db none. none) p q
+
+both_do : {X Y : Type 0} (a b c : Connected) (F G H : Database → Database → Type 0) (x : X) (r : Result Y Error)
+    → (a.now.schema ≡ desk_schema → F a.now b.now → (b.now.schema ≡ desk_schema → G b.now c.now) → H a.now c.now)
+    → ChangesIfOk a b F (Ok x) → ChangesIfOk b c G r → ChangesIfOk a c H r
+both_do a b c F G H x (Ok y) join first next =
+    (keeps_then a b c first.0 next.0, next.1, λ has. join has (first.2 has) next.2)
+both_do a b c F G H x (Err e) join first next = keeps_then a b c first.0 next
+
+-- the one statement, and then the other
+pub did_then : {X Y : Type 0} (a b c : Connected) (F G H : Database → Database → Type 0) (x : X) (r : Result Y Error)
+    → (a.now.schema ≡ desk_schema → F a.now b.now → (b.now.schema ≡ desk_schema → G b.now c.now) → H a.now c.now)
+    → Survives b c (λ _. ⊥) → Did a b F (Ok x) → Did b c G r → Did a c H r
+did_then a b c F G H x r join survives first next clean inside =
+    let early : HasCleanDisk b = omega (arith, survives.clean) in
+    let before = first early inside in
+    both_do a b c F G H x r join before (next clean before.1)
+
+-- what was done commits nothing, and leaves the transaction open
+abbrev pub Stayed : Connected → Connected → Type 0
+Stayed a b = HasCleanDisk b → IsTrue a.in_transaction → KeepsCommit a b × IsTrue b.in_transaction
+
+pub stayed : {X : Type 0} (a b : Connected) (F : Database → Database → Type 0) (x : X) → Did a b F (Ok x) → Stayed a b
+stayed a b F x did clean inside = let it = did clean inside in (it.0, it.1)
+
+pub stayed_then : (a b c : Connected) → Survives b c (λ _. ⊥) → Stayed a b → Stayed b c → Stayed a c
+stayed_then a b c survives first next clean inside =
+    let early : HasCleanDisk b = omega (arith, survives.clean) in
+    let before = first early inside in
+    let then = next clean before.1 in
+    (keeps_then a b c before.0 then.0, then.1)
+
+-- an error after what was done commits nothing either
+pub fails_then : (X : Type 0) (a b c : Connected) (G H : Database → Database → Type 0) (e : Error) → Survives b c (λ _. ⊥)
+    → Stayed a b → Did {X = X} b c G (Err e) → Did {X = X} a c H (Err e)
+fails_then X a b c G H e survives first next clean inside =
+    let early : HasCleanDisk b = omega (arith, survives.clean) in
+    let before = first early inside in
+    keeps_then a b c before.0 (next clean before.1)
+
+ends : {X : Type 0} (a b c : Connected) (G H : Database → Database → Type 0) (r : Result X Error)
+    → (a.now.schema ≡ desk_schema → (b.now.schema ≡ desk_schema → G b.now c.now) → H a.now c.now) → KeepsCommit a b
+    → ChangesIfOk b c G r → ChangesIfOk a c H r
+ends a b c G H (Ok x) join kept next = (keeps_then a b c kept next.0, next.1, λ has. join has next.2)
+ends a b c G H (Err e) join kept next = keeps_then a b c kept next
+
+-- the last of several statements
+pub did_last : {X : Type 0} (a b c : Connected) (G H : Database → Database → Type 0) (r : Result X Error) → Survives b c (λ _. ⊥)
+    → Stayed a b
+    → (HasCleanDisk b → IsTrue a.in_transaction → a.now.schema ≡ desk_schema → (b.now.schema ≡ desk_schema → G b.now c.now) → H a.now c.now)
+    → Did b c G r → Did a c H r
+did_last a b c G H r survives first join next clean inside =
+    let early : HasCleanDisk b = omega (arith, survives.clean) in
+    let before = first early inside in
+    ends a b c G H r (join early inside) before.0 (next clean before.1)
+
+-- three statements in turn
+pub did_three : {X Y Z : Type 0} (a b c d : Connected) (F G K H : Database → Database → Type 0) (x : X) (y : Y) (r : Result Z Error)
+    → ((a.now.schema ≡ desk_schema → F a.now b.now) → (b.now.schema ≡ desk_schema → G b.now c.now)
+    → (c.now.schema ≡ desk_schema → K c.now d.now) → H a.now d.now)
+    → Survives b c (λ _. ⊥) → Survives c d (λ _. ⊥) → Did a b F (Ok x) → Did b c G (Ok y) → Did c d K r → Did a d H r
+did_three a b c d F G K H x y r join early late one two three =
+    did_last a c d K H r late (stayed_then a b c early (stayed a b F x one) (stayed b c G y two))
+    (λ clean inside has next.
+    let clean_b : HasCleanDisk b = omega (arith, early.clean) in
+    let first = one clean_b inside in
+    let second = two clean first.1 in
+    join first.2 second.2 next) three
+
+-- and four
+pub did_four : {X Y Z W : Type 0} (a b c d e : Connected) (F G K L H : Database → Database → Type 0) (x : X) (y : Y) (z : Z) (r : Result W Error)
+    → ((a.now.schema ≡ desk_schema → F a.now b.now) → (b.now.schema ≡ desk_schema → G b.now c.now)
+    → (c.now.schema ≡ desk_schema → K c.now d.now) → (d.now.schema ≡ desk_schema → L d.now e.now) → H a.now e.now)
+    → Survives b c (λ _. ⊥) → Survives c d (λ _. ⊥) → Survives d e (λ _. ⊥)
+    → Did a b F (Ok x) → Did b c G (Ok y) → Did c d K (Ok z) → Did d e L r → Did a e H r
+did_four a b c d e F G K L H x y z r join early late last one two three four =
+    did_last a d e L H r last
+    (stayed_then a c d late (stayed_then a b c early (stayed a b F x one) (stayed b c G y two)) (stayed c d K z three))
+    (λ clean inside has next.
+    let clean_c : HasCleanDisk c = omega (arith, late.clean) in
+    let clean_b : HasCleanDisk b = omega (arith, early.clean) in
+    let first = one clean_b inside in
+    let second = two clean_c first.1 in
+    let third = three clean second.1 in
+    join first.2 second.2 third.2 next) four
+
+-- the connection was open, where the last of several statements finds it so
+pub open_then : {X : Type 0} (a b c : Connected) (r : Result X Error) → Survives b c (λ _. ⊥) → Stayed a b
+    → (HasCleanDisk c → IsTrue b.in_transaction → OnOk r (IsTrue b.is_open)) → HasCleanDisk c → IsTrue a.in_transaction
+    → OnOk r (IsTrue a.is_open)
+open_then a b c r survives first next clean inside =
+    let early : HasCleanDisk b = omega (arith, survives.clean) in
+    let before = first early inside in
+    on_ok r (IsTrue b.is_open) (IsTrue a.is_open) (λ here. before.0.was_open here) (next clean before.1)
+
+others_then : (t : Table) (a b c : Trees) → Others t a b → Others t b c → Others t a c
+others_then t a b c p q =
+    all_both (λ u. u.tree ≢ t.tree → b u.tree ≡ a u.tree) (λ u. u.tree ≢ t.tree → c u.tree ≡ b u.tree)
+    (λ u. u.tree ≢ t.tree → c u.tree ≡ a u.tree) (λ u one two apart. two apart ∙ one apart) tables p q
+
+others_self : (t : Table) (a : Trees) (us : List Table) → AllByRecursion (λ u. u.tree ≢ t.tree → a u.tree ≡ a u.tree) us
+others_self t a [] = tt
+others_self t a (u ∷ us) = (λ _. refl, others_self t a us)
+
+pub rewrites_then : (t : Table) (xs ys zs : List Row) (a b c : Database) → Rewrites t xs ys a b → Rewrites t ys zs b c
+    → Rewrites t xs zs a c
+rewrites_then t xs ys zs a b c p q = record {
+  schema = q.schema;
+  rows = λ held. q.rows (p.rows held);
+  others = others_then t a.trees b.trees c.trees p.others q.others;
+}
+
+-- nothing was done
+pub rewrites_self : (t : Table) (xs : List Row) (a : Database) → a.schema ≡ desk_schema → Rewrites t xs xs a a
+rewrites_self t xs a has = record { schema = has; rows = λ held. held; others = others_self t a.trees tables }

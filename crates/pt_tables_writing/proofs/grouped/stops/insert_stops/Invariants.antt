@@ -1,0 +1,19 @@
+use Rattle.std.proofs.Common.{◌≡◌, IsTrue, Ok, take}
+use Rattle.sqlite.specs.Held.{state}
+use Rattle.sqlite.specs.State.{HasCleanDisk, Survives}
+use Rattle.pt_tables_writing.specs.Grouped.{Adds}
+use Rattle.pt_tables_rows.specs.Rows.{stop_rows_from}
+use Rattle.pt_tables_rows.specs.Schema.{stops_table}
+use Rattle.pt_tables_rows.specs.Tables.{ChangesIfOk}
+use Rattle.pt_tables_writing.proofs.grouped.stops.insert_stops.Given as goal
+
+abbrev pub invariant-loop-place : goal.invariant-loop-place
+invariant-loop-place g l =
+    let old = state g.S.Store l.initial.tx.conn.now in
+    let now = state g.S.Store l.tx.conn.now in
+    record {
+      same : l.tx.conn.ghost_name ≡ l.initial.tx.conn.ghost_name;
+      survives : Survives old now (λ _. ⊥);
+      written : HasCleanDisk now → IsTrue old.in_transaction
+          → ChangesIfOk {X = Unit {0}} old now (Adds stops_table (stop_rows_from 0 l.fn.plan.vehicle l.fn.plan.day (take l.place l.fn.plan.stops))) (Ok tt);
+    }

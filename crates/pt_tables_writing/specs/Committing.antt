@@ -1,0 +1,23 @@
+-- What a transaction makes of the tables, and what an opening after a crash may find.
+use Rattle.std.specs.Prelude.{◌≡◌, IsTrue, Option}
+use Rattle.sqlite.specs.State.{State as Connected, HasCleanDisk}
+use Rattle.sqlite.specs.Tree.{Trees}
+use Rattle.pt_desk_rules.specs.State.{State}
+use Rattle.pt_tables_rows.specs.Opens.{Opens}
+use Rattle.pt_tables_rows.specs.Tables.{HasRows, Stands}
+
+-- a transaction has led from the rows of the one content to those of the other, and all is committed
+pub record IsMade (before after : State) (old new : Connected) : Type 0 where
+  pub was_open : IsTrue old.is_open
+  pub is_open : IsTrue new.is_open
+  pub committed : new.committed ≡ new.now
+  pub stands : Stands before old.now → Stands after new.now
+
+-- the trees have the rows that the transaction leads to
+pub record LeadsTo (before after : State) (old : Connected) (trees : Trees) : Type 0 where
+  pub was_open : IsTrue old.is_open
+  pub rows : Stands before old.now → HasRows after trees
+
+-- what an opening after a crash may find
+abbrev pub MayFind : Connected → Option State → Type 0
+MayFind s o = HasCleanDisk s × (trees : Trees) × s.may_leave trees × Opens trees o

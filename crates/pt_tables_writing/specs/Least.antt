@@ -1,0 +1,53 @@
+-- What a new database has.
+use Rattle.std.specs.Prelude.{◌≡◌, ◌≢◌, ◌⊎◌, ℕ, List, [], ◌∷◌, IsTrue}
+use Rattle.sqlite.specs.State.{State as Connected}
+use Rattle.sqlite.specs.Tree.{Trees}
+use Rattle.pt_base.specs.declared.policy.Policy.{Policy}
+use Rattle.pt_desk.specs.LeastState.{IsLeastState}
+use Rattle.pt_desk_rules.specs.State.{State}
+use Rattle.pt_requests.specs.declared.caller.Caller.{Caller}
+use Rattle.pt_requests.specs.declared.caller.Role.TheVariants.{Admin}
+use Rattle.pt_tables_rows.specs.Rows.{desk_row}
+use Rattle.pt_tables_rows.specs.Schema.{no_schema}
+use Rattle.pt_tables_rows.specs.Tables.{HasRows}
+
+-- caller 1, the admin whose key has this digest
+abbrev pub first_admin : List ℕ → Caller
+first_admin digest = record { id = 1; role = Admin; digest = digest }
+
+-- the admin with this digest and a policy that shows as this one, and nothing else
+pub record IsNew (policy : Policy) (digest : List ℕ) (content : State) : Type 0 where
+  pub desk : desk_row content.policy content.last_trip ≡ desk_row policy 0
+  pub callers : content.callers ≡ first_admin digest ∷ []
+  pub kept : content.kept ≡ []
+  pub places : content.places ≡ []
+  pub routes : content.routes ≡ []
+  pub riders : content.riders ≡ []
+  pub entries : content.entries ≡ []
+  pub vehicles : content.vehicles ≡ []
+  pub travel : content.travel ≡ []
+  pub trips : content.trips ≡ []
+  pub planned : content.planned ≡ []
+
+-- the rows of a content that is new
+abbrev pub HasNewRows : Policy → List ℕ → Trees → Type 0
+HasNewRows policy digest trees = (content : State) → IsNew policy digest content → HasRows content trees
+
+-- the rows of the least state whose admin has this key
+abbrev pub HasLeastRows : List ℕ → Trees → Type 0
+HasLeastRows admin_key trees = (content : State) → IsLeastState admin_key content → HasRows content trees
+
+-- the connection, if it is open, shows what the last commit left, which stays
+pub record IsUndone (old new : Connected) : Type 0 where
+  pub was_open : IsTrue new.is_open → IsTrue old.is_open
+  pub now : IsTrue new.is_open → new.now ≡ old.committed
+  pub committed : IsTrue new.is_open → new.committed ≡ old.committed
+
+-- a transaction is open, or some table, index or view is there
+abbrev pub IsInUse : Connected → Type 0
+IsInUse s = IsTrue s.in_transaction ⊎ (s.now.schema ≢ no_schema)
+
+-- the connection, if it is open, shows what it showed before, and what was committed stays
+pub record IsAsBefore (old new : Connected) : Type 0 where
+  pub now : IsTrue new.is_open → new.now ≡ old.now
+  pub committed : IsTrue new.is_open → new.committed ≡ old.committed

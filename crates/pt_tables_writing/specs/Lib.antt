@@ -1,0 +1,6 @@
+pub mod Committing
+pub mod Grouped
+pub mod Groups
+pub mod Least
+pub mod Stored
+pub mod Writes

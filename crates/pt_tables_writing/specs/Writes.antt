@@ -1,0 +1,35 @@
+-- What statements of a transaction make of one table.
+use Rattle.std.specs.Prelude.{◌≡◌, IsTrue, ℕ, ◌==◌, not, List, flat_map, filter}
+use Rattle.std.specs.List.{AllByRecursion}
+use Rattle.sqlite.specs.Effect.{Database}
+use Rattle.sqlite.specs.Order.{Row}
+use Rattle.sqlite.specs.Table.{Table}
+use Rattle.sqlite.specs.Tree.{Trees, IsTable, rowid}
+use Rattle.sqlite.specs.View.{is_int}
+use Rattle.pt_records.specs.Records.{Each, IsInOrder, put}
+use Rattle.pt_tables_rows.specs.Schema.{desk_schema}
+use Rattle.pt_tables_rows.specs.Tables.{AreRows, Others}
+
+-- the rows of the table are these, and their rowids are integers that rise
+pub record Holds (table : Table) (shown : List Row) (trees : Trees) : Type 0 where
+  pub rows : AreRows table trees shown
+  pub rising : IsTable (trees table.tree)
+  pub whole : AllByRecursion (λ r. IsTrue (is_int (rowid r))) (trees table.tree)
+
+-- the table, if it had the rows before, has those after, and each other table what it had
+pub record Rewrites (table : Table) (before after : List Row) (old new : Database) : Type 0 where
+  pub schema : new.schema ≡ desk_schema
+  pub rows : Holds table before old.trees → Holds table after new.trees
+  pub others : Others table old.trees new.trees
+
+-- The record is put among any others of its table, each of which has rows of its own.
+abbrev pub Puts : {A : Type 0} → Table → (A → ℕ) → (A → Type 0) → (A → List Row) → A → Database → Database → Type 0
+Puts {A} table key Fits rows new old_db new_db =
+    (xs : List A) → IsInOrder key xs → Each Fits xs
+    → Rewrites table (flat_map rows xs) (flat_map rows (put key new xs)) old_db new_db
+
+-- The record with this one's key is taken away from among the others of its table.
+abbrev pub Takes : {A : Type 0} → Table → (A → ℕ) → (A → Type 0) → (A → List Row) → A → Database → Database → Type 0
+Takes {A} table key Fits rows gone old_db new_db =
+    (xs : List A) → IsInOrder key xs → Each Fits xs
+    → Rewrites table (flat_map rows xs) (flat_map rows (filter (λ x. not (key x == key gone)) xs)) old_db new_db

@@ -1,0 +1,80 @@
+ghost use Rattle.std.specs.Prelude.{◌≡◌, IsTrue, ◌∷◌, []};
+ghost use Rattle.sqlite.specs.Held.{state};
+ghost use Rattle.sqlite.specs.State.{HasCleanDisk, Survives};
+ghost use Rattle.pt_desk_rules.specs.State.{entry_key};
+ghost use Rattle.pt_tables_writing.specs.Grouped.{Adds};
+ghost use Rattle.pt_tables_rows.specs.Rows.{entry_row};
+ghost use Rattle.pt_tables_rows.specs.Schema.{entries_table};
+ghost use Rattle.pt_tables_rows.specs.Tables.{ChangesIfOk};
+ghost use Rattle.pt_tables_rows.specs.WellFormed.{IsFiled};
+ghost use Rattle.pt_tables_writing.specs.Writes.{Puts, Takes};
+
+use crate::grouped::entry_texts::{
+    AsText, Optional, entry_conditions, entry_number, entry_words, first_number, second_number,
+};
+use pt_desk_rules::FiledEntry;
+use sqlite::{Alter, Error, Transaction, params};
+
+const DELETE_ENTRY: &str = "DELETE FROM entries WHERE rider = ?1 AND place = ?2";
+
+const INSERT_ENTRY: &str = "INSERT INTO entries (rider, place, kind, day, author, a, b, \
+    conditions, words) VALUES (?1, ?2, ?3, ?4, ?5, ?6, ?7, ?8, ?9)";
+
+/// Puts an entry of a rider's case file, in place of what stood at its position.
+pub(crate) fn put_entry<S: Alter>(
+    tx: &mut Transaction<'_, S>,
+    filed: &FiledEntry,
+) -> Result<(), Error>
+    ensures same_reference { tx.new.conn.ghost_name ≡ tx.old.conn.ghost_name }
+    ensures written { HasCleanDisk (state S.Store tx.new.conn.now)
+        → IsTrue (state S.Store tx.old.conn.now).in_transaction
+        → ChangesIfOk (state S.Store tx.old.conn.now) (state S.Store tx.new.conn.now)
+        (Puts entries_table entry_key IsFiled (λ e. entry_row e ∷ []) filed.now) result }
+    ensures survives { Survives (state S.Store tx.old.conn.now) (state S.Store tx.new.conn.now) (λ _. ⊥) }
+{
+    take_entry(tx, filed)?;
+    insert_entry(tx, filed)
+}
+
+/// Takes away the entry at that position of that rider's case file.
+pub(crate) fn take_entry<S: Alter>(
+    tx: &mut Transaction<'_, S>,
+    filed: &FiledEntry,
+) -> Result<(), Error>
+    ensures same_reference { tx.new.conn.ghost_name ≡ tx.old.conn.ghost_name }
+    ensures written { HasCleanDisk (state S.Store tx.new.conn.now)
+        → IsTrue (state S.Store tx.old.conn.now).in_transaction
+        → ChangesIfOk (state S.Store tx.old.conn.now) (state S.Store tx.new.conn.now)
+        (Takes entries_table entry_key IsFiled (λ e. entry_row e ∷ []) filed.now) result }
+    ensures survives { Survives (state S.Store tx.old.conn.now) (state S.Store tx.new.conn.now) (λ _. ⊥) }
+{
+    tx.execute(DELETE_ENTRY, params![filed.rider.number(), filed.position])?;
+    Ok(())
+}
+
+/// Adds the row of an entry.
+fn insert_entry<S: Alter>(tx: &mut Transaction<'_, S>, filed: &FiledEntry) -> Result<(), Error>
+    ensures same_reference { tx.new.conn.ghost_name ≡ tx.old.conn.ghost_name }
+    ensures written { HasCleanDisk (state S.Store tx.new.conn.now)
+        → IsTrue (state S.Store tx.old.conn.now).in_transaction
+        → ChangesIfOk (state S.Store tx.old.conn.now) (state S.Store tx.new.conn.now)
+        (Adds entries_table (entry_row filed.now ∷ [])) result }
+    ensures survives { Survives (state S.Store tx.old.conn.now) (state S.Store tx.new.conn.now) (λ _. ⊥) }
+{
+    let entry = &filed.entered.entry;
+    tx.execute(
+        INSERT_ENTRY,
+        params![
+            filed.rider.number(),
+            filed.position,
+            entry_number(entry),
+            filed.entered.day.number(),
+            filed.entered.author.number(),
+            Optional(first_number(entry)),
+            Optional(second_number(entry)),
+            AsText(entry_conditions(entry).as_slice()),
+            AsText(entry_words(entry))
+        ],
+    )?;
+    Ok(())
+}

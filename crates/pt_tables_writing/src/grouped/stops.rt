@@ -1,0 +1,109 @@
+ghost use Rattle.std.specs.Prelude.{◌≡◌, IsTrue, ◌∷◌, []};
+ghost use Rattle.sqlite.specs.Held.{state};
+ghost use Rattle.sqlite.specs.State.{HasCleanDisk, Survives};
+ghost use Rattle.pt_scheduling.specs.Plan.{plan_key};
+ghost use Rattle.pt_tables_rows.specs.Rows.{stop_rows, stop_number};
+ghost use Rattle.pt_tables_rows.specs.Schema.{stops_table};
+ghost use Rattle.pt_tables_rows.specs.Tables.{ChangesIfOk};
+ghost use Rattle.pt_tables_rows.specs.WellFormed.{IsStoredPlan};
+ghost use Rattle.pt_tables_writing.specs.Grouped.{Adds};
+ghost use Rattle.pt_tables_rows.specs.Rows.{stop_row};
+ghost use Rattle.pt_tables_writing.specs.Writes.{Puts, Takes};
+
+use pt_base::{Day, VehicleId};
+use pt_feasible::StopKind;
+use pt_scheduling::{PlannedRoute, PlannedStop};
+use sqlite::{Alter, Error, Transaction, params};
+
+const DELETE_STOPS: &str = "DELETE FROM stops WHERE vehicle = ?1 AND day = ?2";
+
+const INSERT_STOP: &str = "INSERT INTO stops (vehicle, day, place, trip, kind) \
+    VALUES (?1, ?2, ?3, ?4, ?5)";
+
+/// Puts the stops of a vehicle on a day, in place of those that it had on the day.
+pub(crate) fn put_plan<S: Alter>(
+    tx: &mut Transaction<'_, S>,
+    plan: &PlannedRoute,
+) -> Result<(), Error>
+    ensures same_reference { tx.new.conn.ghost_name ≡ tx.old.conn.ghost_name }
+    ensures written { HasCleanDisk (state S.Store tx.new.conn.now)
+        → IsTrue (state S.Store tx.old.conn.now).in_transaction
+        → ChangesIfOk (state S.Store tx.old.conn.now) (state S.Store tx.new.conn.now)
+        (Puts stops_table plan_key IsStoredPlan stop_rows plan.now) result }
+    ensures survives { Survives (state S.Store tx.old.conn.now) (state S.Store tx.new.conn.now) (λ _. ⊥) }
+{
+    take_plan(tx, plan)?;
+    insert_stops(tx, plan)
+}
+
+/// Takes away the stops of a vehicle on a day.
+pub(crate) fn take_plan<S: Alter>(
+    tx: &mut Transaction<'_, S>,
+    plan: &PlannedRoute,
+) -> Result<(), Error>
+    ensures same_reference { tx.new.conn.ghost_name ≡ tx.old.conn.ghost_name }
+    ensures written { HasCleanDisk (state S.Store tx.new.conn.now)
+        → IsTrue (state S.Store tx.old.conn.now).in_transaction
+        → ChangesIfOk (state S.Store tx.old.conn.now) (state S.Store tx.new.conn.now)
+        (Takes stops_table plan_key IsStoredPlan stop_rows plan.now) result }
+    ensures survives { Survives (state S.Store tx.old.conn.now) (state S.Store tx.new.conn.now) (λ _. ⊥) }
+{
+    tx.execute(
+        DELETE_STOPS,
+        params![plan.vehicle.number(), plan.day.number()],
+    )?;
+    Ok(())
+}
+
+/// Adds the rows of the stops, counted from 0.
+fn insert_stops<S: Alter>(tx: &mut Transaction<'_, S>, plan: &PlannedRoute) -> Result<(), Error>
+    ensures same_reference { tx.new.conn.ghost_name ≡ tx.old.conn.ghost_name }
+    ensures written { HasCleanDisk (state S.Store tx.new.conn.now)
+        → IsTrue (state S.Store tx.old.conn.now).in_transaction
+        → ChangesIfOk (state S.Store tx.old.conn.now) (state S.Store tx.new.conn.now)
+        (Adds stops_table (stop_rows plan.now)) result }
+    ensures survives { Survives (state S.Store tx.old.conn.now) (state S.Store tx.new.conn.now) (λ _. ⊥) }
+{
+    for (place, &stop) in plan.stops.iter().enumerate() {
+        insert_stop(tx, plan.vehicle, plan.day, place as i64, stop)?;
+    }
+    Ok(())
+}
+
+/// Adds the row of a stop.
+fn insert_stop<S: Alter>(
+    tx: &mut Transaction<'_, S>,
+    vehicle: VehicleId,
+    day: Day,
+    place: i64,
+    stop: PlannedStop,
+) -> Result<(), Error>
+    ensures same_reference { tx.new.conn.ghost_name ≡ tx.old.conn.ghost_name }
+    ensures written { HasCleanDisk (state S.Store tx.new.conn.now)
+        → IsTrue (state S.Store tx.old.conn.now).in_transaction
+        → ChangesIfOk (state S.Store tx.old.conn.now) (state S.Store tx.new.conn.now)
+        (Adds stops_table (stop_row vehicle day place stop ∷ [])) result }
+    ensures survives { Survives (state S.Store tx.old.conn.now) (state S.Store tx.new.conn.now) (λ _. ⊥) }
+{
+    tx.execute(
+        INSERT_STOP,
+        params![
+            vehicle.number(),
+            day.number(),
+            place,
+            stop.trip.number(),
+            stop_number(stop.kind)
+        ],
+    )?;
+    Ok(())
+}
+
+/// How pickups and drops are told apart.
+fn stop_number(kind: StopKind) -> u32
+    ensures { result ≡ stop_number kind }
+{
+    match kind {
+        StopKind::Pickup => 0,
+        StopKind::Drop => 1,
+    }
+}

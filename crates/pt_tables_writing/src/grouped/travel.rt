@@ -1,0 +1,107 @@
+ghost use Rattle.std.specs.Prelude.{◌≡◌, IsTrue, map, ◌∷◌, []};
+ghost use Rattle.sqlite.specs.Held.{state};
+ghost use Rattle.sqlite.specs.State.{HasCleanDisk, Survives};
+ghost use Rattle.pt_desk_rules.specs.State.{travel_key};
+ghost use Rattle.pt_tables_rows.specs.Rows.{travel_row, travel_rows};
+ghost use Rattle.pt_tables_rows.specs.Schema.{travel_table};
+ghost use Rattle.pt_tables_rows.specs.Tables.{ChangesIfOk};
+ghost use Rattle.pt_tables_writing.specs.Grouped.{Adds};
+ghost use Rattle.pt_tables_writing.specs.Writes.{Puts, Takes};
+
+use pt_base::Day;
+use pt_desk_rules::TravelTable;
+use pt_travel::Row;
+use sqlite::{Alter, Error, Transaction, params};
+
+const DELETE_TRAVEL: &str = "DELETE FROM travel WHERE from_day = ?1";
+
+const INSERT_TRAVEL: &str = "INSERT INTO travel (from_day, a, b, minutes) VALUES (?1, ?2, ?3, ?4)";
+
+/// Puts a travel table, in place of the one of its day.
+pub(crate) fn put_travel<S: Alter>(
+    tx: &mut Transaction<'_, S>,
+    table: &TravelTable,
+) -> Result<(), Error>
+    ensures same_reference { tx.new.conn.ghost_name ≡ tx.old.conn.ghost_name }
+    ensures written { HasCleanDisk (state S.Store tx.new.conn.now)
+        → IsTrue (state S.Store tx.old.conn.now).in_transaction
+        → ChangesIfOk (state S.Store tx.old.conn.now) (state S.Store tx.new.conn.now)
+        (Puts travel_table travel_key (λ _. Unit {0}) travel_rows table.now) result }
+    ensures survives { Survives (state S.Store tx.old.conn.now) (state S.Store tx.new.conn.now) (λ _. ⊥) }
+{
+    take_travel(tx, table)?;
+    insert_travel(tx, table)
+}
+
+/// Takes away the travel table of that day.
+pub(crate) fn take_travel<S: Alter>(
+    tx: &mut Transaction<'_, S>,
+    table: &TravelTable,
+) -> Result<(), Error>
+    ensures same_reference { tx.new.conn.ghost_name ≡ tx.old.conn.ghost_name }
+    ensures written { HasCleanDisk (state S.Store tx.new.conn.now)
+        → IsTrue (state S.Store tx.old.conn.now).in_transaction
+        → ChangesIfOk (state S.Store tx.old.conn.now) (state S.Store tx.new.conn.now)
+        (Takes travel_table travel_key (λ _. Unit {0}) travel_rows table.now) result }
+    ensures survives { Survives (state S.Store tx.old.conn.now) (state S.Store tx.new.conn.now) (λ _. ⊥) }
+{
+    tx.execute(DELETE_TRAVEL, params![table.from_day().number()])?;
+    Ok(())
+}
+
+/// Adds the rows of a travel table, first the one of noughts, which tells of a table that has none.
+fn insert_travel<S: Alter>(tx: &mut Transaction<'_, S>, table: &TravelTable) -> Result<(), Error>
+    ensures same_reference { tx.new.conn.ghost_name ≡ tx.old.conn.ghost_name }
+    ensures written { HasCleanDisk (state S.Store tx.new.conn.now)
+        → IsTrue (state S.Store tx.old.conn.now).in_transaction
+        → ChangesIfOk (state S.Store tx.old.conn.now) (state S.Store tx.new.conn.now)
+        (Adds travel_table (travel_rows table.now)) result }
+    ensures survives { Survives (state S.Store tx.old.conn.now) (state S.Store tx.new.conn.now) (λ _. ⊥) }
+{
+    insert_drive(tx, table.from_day(), 0, 0, 0)?;
+    insert_drives(tx, table.from_day(), table.rows())
+}
+
+/// Adds rows of a travel table.
+fn insert_drives<S: Alter>(
+    tx: &mut Transaction<'_, S>,
+    from_day: Day,
+    rows: &[Row],
+) -> Result<(), Error>
+    ensures same_reference { tx.new.conn.ghost_name ≡ tx.old.conn.ghost_name }
+    ensures written { HasCleanDisk (state S.Store tx.new.conn.now)
+        → IsTrue (state S.Store tx.old.conn.now).in_transaction
+        → ChangesIfOk (state S.Store tx.old.conn.now) (state S.Store tx.new.conn.now)
+        (Adds travel_table (map (travel_row from_day) rows.now)) result }
+    ensures survives { Survives (state S.Store tx.old.conn.now) (state S.Store tx.new.conn.now) (λ _. ⊥) }
+{
+    for row in rows {
+        insert_drive(
+            tx,
+            from_day,
+            row.0.number(),
+            row.1.number(),
+            u32::from(row.2),
+        )?;
+    }
+    Ok(())
+}
+
+/// Adds a row of a travel table.
+fn insert_drive<S: Alter>(
+    tx: &mut Transaction<'_, S>,
+    from_day: Day,
+    from: u32,
+    to: u32,
+    minutes: u32,
+) -> Result<(), Error>
+    ensures same_reference { tx.new.conn.ghost_name ≡ tx.old.conn.ghost_name }
+    ensures written { HasCleanDisk (state S.Store tx.new.conn.now)
+        → IsTrue (state S.Store tx.old.conn.now).in_transaction
+        → ChangesIfOk (state S.Store tx.old.conn.now) (state S.Store tx.new.conn.now)
+        (Adds travel_table (travel_row from_day (from, to, minutes) ∷ [])) result }
+    ensures survives { Survives (state S.Store tx.old.conn.now) (state S.Store tx.new.conn.now) (λ _. ⊥) }
+{
+    tx.execute(INSERT_TRAVEL, params![from_day.number(), from, to, minutes])?;
+    Ok(())
+}

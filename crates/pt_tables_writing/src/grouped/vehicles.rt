@@ -1,0 +1,101 @@
+ghost use Rattle.std.specs.Prelude.{◌≡◌, ◌<◌, IsTrue, [], ◌∷◌};
+ghost use Rattle.sqlite.specs.Held.{state};
+ghost use Rattle.sqlite.specs.State.{HasCleanDisk, Survives};
+ghost use Rattle.pt_desk_rules.specs.State.{vehicle_key};
+ghost use Rattle.pt_spelling.specs.Fields.{day_bit, days_byte};
+ghost use Rattle.pt_base.specs.Weekday.{number_of};
+ghost use Rattle.pt_tables_rows.specs.Rows.{vehicle_row};
+ghost use Rattle.pt_tables_rows.specs.Schema.{vehicles_table};
+ghost use Rattle.pt_tables_rows.specs.Tables.{ChangesIfOk};
+ghost use Rattle.pt_tables_rows.specs.WellFormed.{IsVersion};
+ghost use Rattle.pt_tables_writing.specs.Grouped.{Adds};
+ghost use Rattle.pt_tables_writing.specs.Writes.{Puts, Takes};
+
+use pt_base::{Vehicle, Weekday, Weekdays};
+use sqlite::{Alter, Error, Transaction, params};
+
+const DELETE_VEHICLE: &str = "DELETE FROM vehicles WHERE id = ?1 AND from_day = ?2";
+
+const INSERT_VEHICLE: &str = "INSERT INTO vehicles (id, from_day, days, depot, capacity, opens, \
+    closes, duration) VALUES (?1, ?2, ?3, ?4, ?5, ?6, ?7, ?8)";
+
+/// Puts a vehicle as it is from its day on, in place of what it was from that day on.
+pub(crate) fn put_vehicle<S: Alter>(
+    tx: &mut Transaction<'_, S>,
+    version: &Vehicle,
+) -> Result<(), Error>
+    ensures same_reference { tx.new.conn.ghost_name ≡ tx.old.conn.ghost_name }
+    ensures written { HasCleanDisk (state S.Store tx.new.conn.now)
+        → IsTrue (state S.Store tx.old.conn.now).in_transaction
+        → ChangesIfOk (state S.Store tx.old.conn.now) (state S.Store tx.new.conn.now)
+        (Puts vehicles_table vehicle_key IsVersion (λ v. vehicle_row v ∷ []) version.now) result }
+    ensures survives { Survives (state S.Store tx.old.conn.now) (state S.Store tx.new.conn.now) (λ _. ⊥) }
+{
+    take_vehicle(tx, version)?;
+    insert_vehicle(tx, version)
+}
+
+/// Takes away the vehicle as it is from that day on.
+pub(crate) fn take_vehicle<S: Alter>(
+    tx: &mut Transaction<'_, S>,
+    version: &Vehicle,
+) -> Result<(), Error>
+    ensures same_reference { tx.new.conn.ghost_name ≡ tx.old.conn.ghost_name }
+    ensures written { HasCleanDisk (state S.Store tx.new.conn.now)
+        → IsTrue (state S.Store tx.old.conn.now).in_transaction
+        → ChangesIfOk (state S.Store tx.old.conn.now) (state S.Store tx.new.conn.now)
+        (Takes vehicles_table vehicle_key IsVersion (λ v. vehicle_row v ∷ []) version.now) result }
+    ensures survives { Survives (state S.Store tx.old.conn.now) (state S.Store tx.new.conn.now) (λ _. ⊥) }
+{
+    tx.execute(
+        DELETE_VEHICLE,
+        params![version.id.number(), version.from_day.number()],
+    )?;
+    Ok(())
+}
+
+/// Adds the row of a vehicle as it is from its day on.
+fn insert_vehicle<S: Alter>(tx: &mut Transaction<'_, S>, version: &Vehicle) -> Result<(), Error>
+    ensures same_reference { tx.new.conn.ghost_name ≡ tx.old.conn.ghost_name }
+    ensures written { HasCleanDisk (state S.Store tx.new.conn.now)
+        → IsTrue (state S.Store tx.old.conn.now).in_transaction
+        → ChangesIfOk (state S.Store tx.old.conn.now) (state S.Store tx.new.conn.now)
+        (Adds vehicles_table (vehicle_row version.now ∷ [])) result }
+    ensures survives { Survives (state S.Store tx.old.conn.now) (state S.Store tx.new.conn.now) (λ _. ⊥) }
+{
+    tx.execute(
+        INSERT_VEHICLE,
+        params![
+            version.id.number(),
+            version.from_day.number(),
+            days_number(version.days),
+            version.depot.number(),
+            u32::from(version.capacity),
+            version.opens.number(),
+            version.closes.number(),
+            u32::from(version.duration)
+        ],
+    )?;
+    Ok(())
+}
+
+/// A bit for each weekday of the set, the lowest for Monday.
+fn days_number(days: Weekdays) -> u32
+    ensures value { result ≡ days_byte days }
+{
+    day_bit(days, Weekday::Monday)
+        + 2 * day_bit(days, Weekday::Tuesday)
+        + 4 * day_bit(days, Weekday::Wednesday)
+        + 8 * day_bit(days, Weekday::Thursday)
+        + 16 * day_bit(days, Weekday::Friday)
+        + 32 * day_bit(days, Weekday::Saturday)
+        + 64 * day_bit(days, Weekday::Sunday)
+}
+
+/// 1 where the weekday is in the set, else 0.
+fn day_bit(days: Weekdays, weekday: Weekday) -> u32
+    ensures value { result ≡ day_bit days (number_of weekday) }
+    ensures bit { result < 2 }
+{
+    u32::from(days.contains(weekday))
+}

@@ -1,0 +1,13 @@
+//! What a change writes into the tables of the desk's database.
+#![tactic(auto)]
+
+pub use first_rows::{insert_admin, insert_desk};
+pub use told::is_told;
+pub use writes::write_change;
+
+mod first_rows;
+mod grouped;
+mod numbered;
+mod stored;
+mod told;
+mod writes;

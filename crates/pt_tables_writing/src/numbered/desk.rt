@@ -1,0 +1,54 @@
+ghost use Rattle.std.specs.Prelude.{◌≡◌, ℕ, [], ◌∷◌, IsTrue, OnOk};
+ghost use Rattle.sqlite.specs.Held.{state};
+ghost use Rattle.sqlite.specs.State.{HasCleanDisk, Survives};
+ghost use Rattle.pt_tables_rows.specs.Rows.{desk_row};
+ghost use Rattle.pt_tables_rows.specs.Schema.{desk_table};
+ghost use Rattle.pt_tables_rows.specs.Tables.{ChangesIfOk};
+ghost use Rattle.pt_tables_writing.specs.Writes.{Rewrites};
+
+use pt_base::Policy;
+use pt_tables_rows::{DESK, TABLE_VERSION};
+use sqlite::{Alter, Error, Transaction, params};
+
+const WRITE_DESK: &str = "INSERT INTO desk (id, version, base, transfer, fare, service, \
+    extra_ride, min_missed, percent, span_days, last_trip) \
+    VALUES (?1, ?2, ?3, ?4, ?5, ?6, ?7, ?8, ?9, ?10, ?11) \
+    ON CONFLICT (id) DO UPDATE SET version = ?2, base = ?3, transfer = ?4, fare = ?5, \
+    service = ?6, extra_ride = ?7, min_missed = ?8, percent = ?9, span_days = ?10, \
+    last_trip = ?11";
+
+/// Writes the agency's row anew.
+pub(crate) fn write_desk<S: Alter>(
+    tx: &mut Transaction<'_, S>,
+    policy: &Policy,
+    last_trip: u32,
+) -> Result<(), Error>
+    ensures same_reference { tx.new.conn.ghost_name ≡ tx.old.conn.ghost_name }
+    ensures written { HasCleanDisk (state S.Store tx.new.conn.now)
+        → IsTrue (state S.Store tx.old.conn.now).in_transaction
+        → ChangesIfOk (state S.Store tx.old.conn.now) (state S.Store tx.new.conn.now)
+        (λ old new. (p : _) (n : ℕ) → Rewrites desk_table (desk_row p n ∷ [])
+        (desk_row policy.now last_trip ∷ []) old new) result }
+    ensures open { HasCleanDisk (state S.Store tx.new.conn.now)
+        → IsTrue (state S.Store tx.old.conn.now).in_transaction
+        → OnOk result (IsTrue (state S.Store tx.old.conn.now).is_open) }
+    ensures survives { Survives (state S.Store tx.old.conn.now) (state S.Store tx.new.conn.now) (λ _. ⊥) }
+{
+    tx.execute(
+        WRITE_DESK,
+        params![
+            DESK,
+            TABLE_VERSION,
+            policy.base,
+            policy.transfer,
+            policy.fare,
+            u32::from(policy.service),
+            u32::from(policy.extra_ride),
+            u32::from(policy.min_missed),
+            u32::from(policy.percent),
+            u32::from(policy.span_days),
+            last_trip
+        ],
+    )?;
+    Ok(())
+}

@@ -1,0 +1,163 @@
+ghost use Rattle.std.specs.Prelude.{◌≡◌, ◌∷◌, [], IsTrue, OnOk, OnErr, false};
+ghost use Rattle.std.specs.Option.{unwrap_or};
+ghost use Rattle.sqlite.specs.Held.{state};
+ghost use Rattle.sqlite.specs.State.{HasCleanDisk, Survives};
+ghost use Rattle.pt_desk_rules.specs.State.{applied};
+ghost use Rattle.pt_tables_writing.specs.Committing.{IsMade, LeadsTo};
+ghost use Rattle.pt_tables_writing.specs.Groups.{Leads, with_people, with_area, with_trips};
+ghost use Rattle.pt_tables_writing.specs.Least.{IsUndone};
+ghost use Rattle.pt_tables_rows.specs.Rows.{desk_row};
+ghost use Rattle.pt_tables_rows.specs.Schema.{desk_table};
+ghost use Rattle.pt_tables_rows.specs.Tables.{ChangesIfOk};
+ghost use Rattle.pt_tables_rows.specs.WellFormed.{IsWellFormed, PutsWellFormed};
+ghost use Rattle.pt_tables_writing.specs.Writes.{Rewrites};
+
+use crate::numbered::write_desk;
+use crate::stored::write_edits;
+use pt_base::Policy;
+use pt_desk::ListKeeper;
+use pt_desk_rules::Change;
+use sqlite::{Alter, Connection, Error, Transaction};
+
+/// Writes what the change makes of callers, what is kept for them, riders and entries; `mirror` has what is there.
+fn write_people<S: Alter>(
+    tx: &mut Transaction<'_, S>,
+    change: &Change,
+    mirror: &ListKeeper,
+) -> Result<(), Error>
+    ensures same_reference { tx.new.conn.ghost_name ≡ tx.old.conn.ghost_name }
+    ensures written { let content = mirror.now.content in HasCleanDisk (state S.Store tx.new.conn.now)
+        → IsTrue (state S.Store tx.old.conn.now).in_transaction
+        → ChangesIfOk (state S.Store tx.old.conn.now) (state S.Store tx.new.conn.now)
+        (Leads change.now content content (with_people change.now content)) result }
+    ensures survives { Survives (state S.Store tx.old.conn.now) (state S.Store tx.new.conn.now) (λ _. ⊥) }
+{
+    write_edits(tx, &change.callers, mirror.callers_table())?;
+    write_edits(tx, &change.kept, mirror.kept_table())?;
+    write_edits(tx, &change.riders, mirror.riders_table())?;
+    write_edits(tx, &change.entries, mirror.entries_table())
+}
+
+/// Writes what the change makes of places, routes, vehicles and driving times, after callers and riders.
+fn write_area<S: Alter>(
+    tx: &mut Transaction<'_, S>,
+    change: &Change,
+    mirror: &ListKeeper,
+) -> Result<(), Error>
+    ensures same_reference { tx.new.conn.ghost_name ≡ tx.old.conn.ghost_name }
+    ensures written { let content = mirror.now.content in let before = with_people change.now content in
+        HasCleanDisk (state S.Store tx.new.conn.now) → IsTrue (state S.Store tx.old.conn.now).in_transaction
+        → ChangesIfOk (state S.Store tx.old.conn.now) (state S.Store tx.new.conn.now)
+        (Leads change.now content before (with_area change.now before)) result }
+    ensures survives { Survives (state S.Store tx.old.conn.now) (state S.Store tx.new.conn.now) (λ _. ⊥) }
+{
+    write_edits(tx, &change.places, mirror.places_table())?;
+    write_edits(tx, &change.routes, mirror.routes_table())?;
+    write_edits(tx, &change.vehicles, mirror.vehicles_table())?;
+    write_edits(tx, &change.travel, mirror.travel_table())
+}
+
+/// The policy as the change leaves it.
+fn policy_after(change: &Change, mirror: &ListKeeper) -> Policy
+    ensures value { result ≡ unwrap_or change.now.policy mirror.now.content.policy }
+{
+    match change.policy {
+        Some(policy) => policy,
+        None => mirror.current_policy(),
+    }
+}
+
+/// The number that was last given to a trip as the change leaves it; 0 before the first.
+fn last_trip_after(change: &Change, mirror: &ListKeeper) -> u32
+    ensures value { result ≡ unwrap_or change.now.last_trip mirror.now.content.last_trip }
+{
+    match change.last_trip {
+        Some(id) => id.number(),
+        None => mirror.current_last_trip(),
+    }
+}
+
+/// Writes the agency's row as the change leaves it.
+fn write_settings<S: Alter>(
+    tx: &mut Transaction<'_, S>,
+    change: &Change,
+    mirror: &ListKeeper,
+) -> Result<(), Error>
+    ensures same_reference { tx.new.conn.ghost_name ≡ tx.old.conn.ghost_name }
+    ensures written { let content = mirror.now.content in HasCleanDisk (state S.Store tx.new.conn.now)
+        → IsTrue (state S.Store tx.old.conn.now).in_transaction
+        → ChangesIfOk (state S.Store tx.old.conn.now) (state S.Store tx.new.conn.now)
+        (λ old new. (p : _) (n : _) → Rewrites desk_table (desk_row p n ∷ [])
+        (desk_row (unwrap_or change.now.policy content.policy) (unwrap_or change.now.last_trip content.last_trip) ∷ [])
+        old new) result }
+    ensures open { HasCleanDisk (state S.Store tx.new.conn.now) → IsTrue (state S.Store tx.old.conn.now).in_transaction
+        → OnOk result (IsTrue (state S.Store tx.old.conn.now).is_open) }
+    ensures survives { Survives (state S.Store tx.old.conn.now) (state S.Store tx.new.conn.now) (λ _. ⊥) }
+{
+    let policy = policy_after(change, mirror);
+    write_desk(tx, &policy, last_trip_after(change, mirror))
+}
+
+/// Writes what the change makes of trips, of the stops that are planned and of the agency's row, after all others.
+fn write_trips<S: Alter>(
+    tx: &mut Transaction<'_, S>,
+    change: &Change,
+    mirror: &ListKeeper,
+) -> Result<(), Error>
+    ensures same_reference { tx.new.conn.ghost_name ≡ tx.old.conn.ghost_name }
+    ensures written { let content = mirror.now.content in
+        let before = with_area change.now (with_people change.now content) in
+        HasCleanDisk (state S.Store tx.new.conn.now) → IsTrue (state S.Store tx.old.conn.now).in_transaction
+        → ChangesIfOk (state S.Store tx.old.conn.now) (state S.Store tx.new.conn.now)
+        (Leads change.now content before (with_trips change.now before)) result }
+    ensures open { HasCleanDisk (state S.Store tx.new.conn.now) → IsTrue (state S.Store tx.old.conn.now).in_transaction
+        → OnOk result (IsTrue (state S.Store tx.old.conn.now).is_open) }
+    ensures survives { Survives (state S.Store tx.old.conn.now) (state S.Store tx.new.conn.now) (λ _. ⊥) }
+{
+    write_edits(tx, &change.trips, mirror.trips_table())?;
+    write_edits(tx, &change.planned, mirror.planned_table())?;
+    write_settings(tx, change, mirror)
+}
+
+/// Writes all that the change makes of the tables, those that others refer to before these.
+fn write_tables<S: Alter>(
+    tx: &mut Transaction<'_, S>,
+    change: &Change,
+    mirror: &ListKeeper,
+) -> Result<(), Error>
+    ensures same_reference { tx.new.conn.ghost_name ≡ tx.old.conn.ghost_name }
+    ensures written { let content = mirror.now.content in HasCleanDisk (state S.Store tx.new.conn.now)
+        → IsTrue (state S.Store tx.old.conn.now).in_transaction
+        → ChangesIfOk (state S.Store tx.old.conn.now) (state S.Store tx.new.conn.now)
+        (Leads change.now content content (applied change.now content)) result }
+    ensures open { HasCleanDisk (state S.Store tx.new.conn.now) → IsTrue (state S.Store tx.old.conn.now).in_transaction
+        → OnOk result (IsTrue (state S.Store tx.old.conn.now).is_open) }
+    ensures survives { Survives (state S.Store tx.old.conn.now) (state S.Store tx.new.conn.now) (λ _. ⊥) }
+{
+    write_people(tx, change, mirror)?;
+    write_area(tx, change, mirror)?;
+    write_trips(tx, change, mirror)
+}
+
+/// Makes the change in the tables in one transaction; `mirror` has the records that are there.
+pub fn write_change<S: Alter>(
+    conn: &mut Connection<S>,
+    change: &Change,
+    mirror: &ListKeeper,
+) -> Result<(), Error>
+    requires settled { conn.old.in_transaction ≡ false }
+    requires told { IsWellFormed mirror.now.content }
+    requires puts { PutsWellFormed change.now }
+    ensures settled { conn.new.in_transaction ≡ false }
+    ensures made { HasCleanDisk (state S.Store conn.new)
+        → OnOk result (IsMade mirror.now.content (applied change.now mirror.now.content)
+        (state S.Store conn.old) (state S.Store conn.new)) }
+    ensures undone { HasCleanDisk (state S.Store conn.new)
+        → OnErr result (IsUndone (state S.Store conn.old) (state S.Store conn.new)) }
+    ensures survives { Survives (state S.Store conn.old) (state S.Store conn.new)
+        (LeadsTo mirror.now.content (applied change.now mirror.now.content) (state S.Store conn.old)) }
+{
+    let mut tx = conn.transaction();
+    write_tables(&mut tx, change, mirror)?;
+    tx.commit()
+}
