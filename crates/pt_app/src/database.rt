@@ -30,7 +30,10 @@ const FILE_EXISTS: u16 = 7;
 type FileKeeper = SqlKeeper<FileStore<File>>;
 
 /// The fault where a database is not opened; the row is the number of the table at fault.
-fn fault_of_opening(refused: OpenFault) -> Fault {
+fn fault_of_opening(refused: OpenFault) -> Fault
+    ensures code { result.code ≡ refused.code }
+    ensures row { result.row ≡ refused.table }
+{
     Fault {
         code: refused.code,
         row: u32::from(refused.table),

@@ -8,7 +8,7 @@ use Rattle.sqlite.specs.Tree.{Trees}
 use Rattle.sqlite.specs.View.{doubt}
 use Rattle.sqlite_trees.proofs.Doubt.{clean_of, no_doubt, only_falls}
 use Rattle.pt_desk.specs.Listed.{Listed}
-use Rattle.pt_desk.specs.Store.{Store, Goes, Holds, IsDurable, IsLeft, IsSettled, Tells}
+use Rattle.pt_desk.specs.Store.{Store, Goes, IsDurable, IsSettled}
 use Rattle.pt_desk.specs.declared.keeper.StoreFault.{StoreFault}
 use Rattle.pt_desk.specs.declared.keeper.StoreFault.TheVariants.{Memory, Store as failed}
 use Rattle.pt_desk_rules.specs.State.{State, applied}

@@ -5,86 +5,20 @@ use Rattle.std.proofs.lemmas.Str.Pattern.{IsSplitOnceResult, split_parts}
 use Rattle.std.specs.Prelude.{Option, None, Some, MatchOption, ◌≢◌, ◌↔◌, IsSome, IfSome}
 use Rattle.std.proofs.Common.{subst}
 use denote.Ref.{Bor}
-use Rattle.std.proofs.Common.{decimal, refl, sym, ap, ◌∙◌, arith}
-use Rattle.std.specs.Char.{digit_value}
-use Rattle.std.specs.Int.{IsInRange}
-use Rattle.std.specs.List.{AllByRecursion, slice_split, join_with_byte}
-use Rattle.std.specs.Prelude.{◌==◌, false, codes}
-use Rattle.std.specs.Str.Parse.{AllDigits}
+use Rattle.std.proofs.Common.{refl, sym, ap, ◌∙◌, arith}
+use Rattle.std.specs.List.{AllByRecursion, join_with_byte}
+use Rattle.std.specs.Prelude.{◌==◌}
 use Rattle.std.proofs.lemmas.Bool.Decides.{nat_tests}
-use Rattle.std.proofs.lemmas.Fmt.{decimal_is_IsNumeral}
 use Rattle.std.proofs.lemmas.List.Elements.{recursion_from_All, All-from_recursion, All-from_get_or}
 use Rattle.std.proofs.lemmas.List.Splits.{slice_split_none, slice_split_at, join_with_byte-slice_split}
 use Rattle.std.proofs.lemmas.List.Splits.{length-slice_split}
 use Rattle.sqlite_keyed.proofs.ListLemmas.{all-append}
-use Rattle.pt_conditions.specs.Texts.{condition_text, numbers_text, SpellsCondition}
-use Rattle.pt_conditions.proofs.NumbersLemmas.{months-from_set}
+use Rattle.pt_conditions.specs.Texts.{condition_text, SpellsCondition}
 use Rattle.pt_rights.specs.Conditions.{IsCondition, IsConditions}
-use Rattle.pt_rights.specs.Months.{numbers_of}
 use Rattle.pt_rights.specs.declared.conditions.Condition.{Condition}
-use Rattle.pt_rights.specs.declared.conditions.Condition.TheVariants.{Always, Months, Farther, NoLift}
 use Rattle.pt_tables_reading.specs.Reading.{Reads}
 use Rattle.pt_tables_reading.specs.Fitting.{joined, parts_of, FitsConditions}
-
--- ---- the conditions of a grant, which no semicolon (byte 59) is part of
-
-abbrev NoSemicolon : ℕ → Type 0
-NoSemicolon b = (b == 59) ≡ false
-
-digit-apart : (c : ℕ) → digit_value c < 10 → NoSemicolon c
-digit-apart c digit = grind (arith, nat_tests)
-
-digits-apart : (text : List ℕ) → AllDigits 10 text → AllByRecursion NoSemicolon text
-digits-apart [] digits = tt
-digits-apart (c ∷ text) digits = (digit-apart c digits.0, digits-apart text digits.1)
-
-decimal-apart : (n : ℕ) → n ≤ 100_000 → AllByRecursion NoSemicolon (decimal n)
-decimal-apart n few = digits-apart (decimal n) (decimal_is_IsNumeral n (omega arith)).0.1
-
-numbers-apart : (numbers : List ℕ) → AllByRecursion (IsInRange 1 12) numbers
-    → AllByRecursion NoSemicolon (numbers_text numbers)
-numbers-apart [] months = tt
-numbers-apart (n ∷ []) months = let top = months.0.1 in decimal-apart n (omega arith)
-numbers-apart (n ∷ m ∷ numbers) months =
-    let top = months.0.1 in
-    all-append NoSemicolon (decimal n) (44 ∷ numbers_text (m ∷ numbers)) (decimal-apart n (omega arith))
-    (refl, numbers-apart (m ∷ numbers) months.1)
-
-condition-apart : (condition : Condition) → IsCondition condition
-    → AllByRecursion NoSemicolon (condition_text condition)
-condition-apart Always fits = (refl, (refl, (refl, (refl, (refl, (refl, tt))))))
-condition-apart (Months months) fits =
-    all-append NoSemicolon (codes "months:") (numbers_text (numbers_of months))
-    (refl, (refl, (refl, (refl, (refl, (refl, (refl, tt)))))))
-    (numbers-apart (numbers_of months)
-    (recursion_from_All (IsInRange 1 12) (numbers_of months) (months-from_set months fits).in_range))
-condition-apart (Farther feet) fits =
-    all-append NoSemicolon (codes "farther:") (decimal feet)
-    (refl, (refl, (refl, (refl, (refl, (refl, (refl, (refl, tt)))))))) (decimal-apart feet fits.1)
-condition-apart NoLift fits = (refl, (refl, (refl, (refl, (refl, (refl, tt))))))
-
-condition-some : (condition : Condition) → 0 < length (condition_text condition)
-condition-some Always = omega arith
-condition-some (Months months) = omega (arith, length-append (codes "months:") (numbers_text (numbers_of months)))
-condition-some (Farther feet) = omega (arith, length-append (codes "farther:") (decimal feet))
-condition-some NoLift = omega arith
-
-joined-some : (c : Condition) (conditions : List Condition) → 0 < length (joined (c ∷ conditions))
-joined-some c [] = condition-some c
-joined-some c (d ∷ conditions) =
-    let some = condition-some c in
-    omega (arith, length-append (condition_text c) (59 ∷ joined (d ∷ conditions)))
-
--- cut at the semicolons, it has the texts
-split-joined : (c : Condition) (conditions : List Condition) → AllByRecursion IsCondition (c ∷ conditions)
-    → slice_split (λ b. b == 59) (joined (c ∷ conditions)) ≡ map condition_text (c ∷ conditions)
-split-joined c [] fit =
-    slice_split_none (λ b. b == 59) (condition_text c)
-    (All-from_recursion NoSemicolon (condition_text c) (condition-apart c fit.0))
-split-joined c (d ∷ conditions) fit =
-    slice_split_at (λ b. b == 59) (condition_text c) 59 (joined (d ∷ conditions))
-    (All-from_recursion NoSemicolon (condition_text c) (condition-apart c fit.0)) refl
-    ∙ ap (λ (parts : List (List ℕ)). condition_text c ∷ parts) (split-joined d conditions fit.1)
+use Rattle.pt_tables_rows.proofs.SameRowsBytes.{NoSemicolon, condition-apart, split-joined}
 
 -- ---- the parts of a text
 

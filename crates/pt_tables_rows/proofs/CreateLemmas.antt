@@ -1,5 +1,5 @@
 -- What the statements that make the tables do, one after the other.
-use Rattle.std.proofs.Common.{◌≡◌, ◌<◌, ◌+◌, ℕ, zero, suc, List, [], ◌∷◌, ◌++◌, false, None, Ok, refl, sym, ap, subst, ◌∙◌, arith, slice_index_or, fold, take}
+use Rattle.std.proofs.Common.{◌≡◌, ◌<◌, ◌+◌, ℕ, zero, suc, List, [], ◌∷◌, ◌++◌, false, None, Ok, refl, sym, ap, subst, ◌∙◌, arith, slice_index_or, fold, map, take}
 use Rattle.std.specs.List.{AllByRecursion}
 use Rattle.sqlite.specs.Command.TheVariants.{CreateTable}
 use Rattle.sqlite.specs.Table.{Table}
@@ -13,10 +13,15 @@ use Rattle.sqlite.specs.Listing.{understood}
 use Rattle.sqlite.specs.State.{State, Writes, Executes}
 use Rattle.sqlite.proofs.Callers.{IsPlain, command_of, statement_of, runs_as}
 use Rattle.sqlite_tied.specs.Compute.{everything}
-use Rattle.pt_tables_rows.specs.Schema.{desk_schema, no_schema, tables, statements_of_tables}
+use Rattle.pt_tables_rows.specs.Schema.{desk_schema, no_schema, tables}
+use Rattle.pt_tables_rows.specs.declared.schema.TheConstants.{TABLES}
 use Rattle.pt_tables_rows.specs.Tables.{IsBlank}
 use Rattle.pt_tables_rows.proofs.PartLemmas.{went, same_value}
 use Rattle.pt_tables_rows.specs.Schema.{desk_table}
+
+-- the statements that make the tables
+abbrev pub statements_of_tables : List (List ℕ)
+statements_of_tables = map (λ statement. statement.now) TABLES
 
 -- the schema after so many of the statements
 abbrev pub schema_after : ℕ → Schema

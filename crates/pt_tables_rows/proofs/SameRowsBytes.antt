@@ -87,7 +87,7 @@ reply-told one other ones others same = absurd (omega (arith, ap (λ (bytes : Li
 
 -- ---- the conditions of a grant, which no semicolon (byte 59) is part of
 
-abbrev NoSemicolon : ℕ → Type 0
+abbrev pub NoSemicolon : ℕ → Type 0
 NoSemicolon b = (b == 59) ≡ false
 
 digit-apart : (c : ℕ) → digit_value c < 10 → NoSemicolon c
@@ -109,7 +109,7 @@ numbers-apart (n ∷ m ∷ numbers) months =
     all-append NoSemicolon (decimal n) (44 ∷ numbers_text (m ∷ numbers)) (decimal-apart n (omega arith))
     (refl, numbers-apart (m ∷ numbers) months.1)
 
-condition-apart : (condition : Condition) → IsCondition condition
+pub condition-apart : (condition : Condition) → IsCondition condition
     → AllByRecursion NoSemicolon (condition_text condition)
 condition-apart Always fits = (refl, (refl, (refl, (refl, (refl, (refl, tt))))))
 condition-apart (Months months) fits =
@@ -128,7 +128,7 @@ condition-some (Months months) = omega (arith, length-append (codes "months:") (
 condition-some (Farther feet) = omega (arith, length-append (codes "farther:") (decimal feet))
 condition-some NoLift = omega arith
 
-abbrev joined : List Condition → List ℕ
+abbrev pub joined : List Condition → List ℕ
 joined conditions = join_with_byte 59 (map condition_text conditions)
 
 joined-some : (c : Condition) (conditions : List Condition) → 0 < length (joined (c ∷ conditions))
@@ -138,7 +138,7 @@ joined-some c (d ∷ conditions) =
     omega (arith, length-append (condition_text c) (59 ∷ joined (d ∷ conditions)))
 
 -- cut at the semicolons, it has the texts
-split-joined : (c : Condition) (conditions : List Condition) → AllByRecursion IsCondition (c ∷ conditions)
+pub split-joined : (c : Condition) (conditions : List Condition) → AllByRecursion IsCondition (c ∷ conditions)
     → slice_split (λ b. b == 59) (joined (c ∷ conditions)) ≡ map condition_text (c ∷ conditions)
 split-joined c [] fit =
     slice_split_none (λ b. b == 59) (condition_text c)

@@ -1,5 +1,5 @@
 -- The eleven tables.
-use Rattle.std.specs.Prelude.{ℕ, List, [], ◌∷◌, ◌+◌, map, true, false, None, Some, codes}
+use Rattle.std.specs.Prelude.{ℕ, List, [], ◌∷◌, ◌+◌, true, false, None, Some, codes}
 use Rattle.sqlite.specs.Collation.TheVariants.{Binary}
 use Rattle.sqlite.specs.declared.types.Value.TheVariants.{Null}
 use Rattle.sqlite.specs.Table.{Table}
@@ -11,7 +11,6 @@ use Rattle.sqlite_schema.specs.declared.schema.Index.{Index}
 use Rattle.sqlite_schema.specs.declared.schema.Reference.{Reference}
 use Rattle.sqlite_schema.specs.declared.schema.Action.TheVariants.{NoAction}
 use Rattle.sqlite_value.specs.declared.keys.Order.{Order}
-use Rattle.pt_tables_rows.specs.declared.schema.TheConstants.{TABLES}
 
 -- a column of these values; in a STRICT table it takes no others, nor NULL
 abbrev pub column_of : Kind → List ℕ → Column
@@ -173,7 +172,3 @@ desk_schema = record {
 -- a database with nothing in it
 abbrev pub no_schema : Schema
 no_schema = record { tables = []; indexes = []; views = [] }
-
--- the statements that make the tables
-abbrev pub statements_of_tables : List (List ℕ)
-statements_of_tables = map (λ statement. statement.now) TABLES

@@ -1,7 +1,7 @@
 ghost use Rattle.std.specs.Prelude.{◌≡◌, IsTrue, map};
 ghost use Rattle.sqlite.specs.Held.{state};
 ghost use Rattle.sqlite.specs.State.{HasCleanDisk, Survives};
-ghost use Rattle.pt_tables_rows.specs.Schema.{no_schema, statements_of_tables};
+ghost use Rattle.pt_tables_rows.specs.Schema.{no_schema};
 ghost use Rattle.pt_tables_rows.specs.Tables.{IsBlank, LeadsIfOk};
 
 use sqlite::{Alter, Error, Transaction};
@@ -53,7 +53,7 @@ const TABLES: [&str; 11] = [
 
 /// Makes the tables by their statements, in a database that has none.
 fn create_each<S: Alter>(tx: &mut Transaction<'_, S>, statements: &[&str]) -> Result<(), Error>
-    requires all { map (λ statement. statement.now) statements.now ≡ statements_of_tables }
+    requires all { map (λ statement. statement.now) statements.now ≡ map (λ statement. statement.now) TABLES }
     ensures same_reference { tx.new.conn.ghost_name ≡ tx.old.conn.ghost_name }
     ensures made { HasCleanDisk (state S.Store tx.new.conn.now) → IsTrue (state S.Store tx.old.conn.now).in_transaction
         → LeadsIfOk (state S.Store tx.old.conn.now) (state S.Store tx.new.conn.now)

@@ -1,6 +1,5 @@
 -- A change that is written in one transaction: what is committed, and what a crash leaves of it.
 use Rattle.std.proofs.Common.{◌≡◌, IsTrue, true, false, refl, sym, ap, subst, ◌∙◌, arith}
-use Rattle.sqlite.specs.Effect.{Database}
 use Rattle.sqlite.specs.Held.{Held, state}
 use Rattle.sqlite.specs.State.{State as Connected, KeepsCommit, HasCleanDisk, Survives, Shows}
 use Rattle.sqlite.specs.Store.{Ghosts}

@@ -1,9 +1,7 @@
 -- What edits of some tables, one after the other, make of all.
-use Rattle.std.proofs.Common.{◌≡◌, ℕ, List, [], ◌∷◌, Result, Ok, flat_map}
+use Rattle.std.proofs.Common.{◌≡◌, ℕ, List, [], ◌∷◌}
 use Rattle.std.specs.Option.{unwrap_or}
 use Rattle.sqlite.specs.Effect.{Database}
-use Rattle.sqlite.specs.Order.{Row}
-use Rattle.sqlite.specs.Table.{Table}
 use Rattle.pt_base.specs.declared.policy.Policy.{Policy}
 use Rattle.pt_desk_rules.specs.State.{State, caller_key, kept_key, place_key, route_key, rider_key, entry_key, vehicle_key, travel_key, trip_key}
 use Rattle.pt_desk_rules.specs.declared.change.Change.{Change}
@@ -14,7 +12,7 @@ use Rattle.pt_tables_rows.specs.Rows.{desk_row, caller_row, kept_row, place_row,
 use Rattle.pt_tables_rows.specs.Schema.{desk_schema, desk_table, callers_table, kept_table, places_table, fixed_table, vehicles_table, riders_table, entries_table, trips_table, stops_table, travel_table}
 use Rattle.pt_tables_writing.specs.Stored.{EditsTable}
 use Rattle.pt_tables_rows.specs.Tables.{Stands}
-use Rattle.pt_tables_rows.specs.WellFormed.{IsWellFormed, PutsWellFormed, IsFiled, IsVersion, IsStoredPlan}
+use Rattle.pt_tables_rows.specs.WellFormed.{IsFiled, IsVersion, IsStoredPlan}
 use Rattle.pt_tables_writing.specs.Writes.{Rewrites}
 use Rattle.pt_tables_writing.proofs.PartsLemmas.{HoldAll, parts, parted, whole, desk_turned, callers_turned, kept_turned, places_turned, routes_turned, vehicles_turned, riders_turned, entries_turned, trips_turned, planned_turned, travel_turned}
 

@@ -1,5 +1,5 @@
 -- The tables of a content one by one, and what a change of one of them makes of all.
-use Rattle.std.proofs.Common.{◌≡◌, ◌≢◌, ◌++◌, ℕ, Bool, true, false, not, IsTrue, List, [], ◌∷◌, take, drop, map, flat_map, IsPermutation, refl, sym, subst, arith}
+use Rattle.std.proofs.Common.{◌≡◌, ◌≢◌, ◌++◌, ℕ, true, not, IsTrue, List, [], ◌∷◌, take, drop, map, flat_map, IsPermutation, refl, sym, subst, arith}
 use Rattle.std.specs.Prelude.{◌==◌}
 use Rattle.std.specs.List.{AllByRecursion, list_all}
 use Rattle.std.proofs.lemmas.Bool.Decides.{nat_tests}

@@ -11,7 +11,7 @@ use Rattle.pt_records.specs.declared.span.Span.{Span}
 use Rattle.pt_records.proofs.OrderLemmas.{Each-put, IsInOrder-put}
 use Rattle.pt_records.proofs.TableLemmas.{Each-filter, IsInOrder-filter, IsInOrder-take_all}
 use Rattle.pt_tables_rows.specs.Schema.{desk_schema}
-use Rattle.pt_tables_writing.specs.Stored.{without, without_all, Turns, PutsAll, TakesAll, TakesSpans, EditsTable}
+use Rattle.pt_tables_writing.specs.Stored.{without, without_all, PutsAll, TakesAll, TakesSpans, EditsTable}
 use Rattle.pt_tables_writing.specs.Writes.{Puts, Takes, Rewrites}
 use Rattle.pt_tables_writing.proofs.TurnLemmas.{rewrites_then, rewrites_self}
 

@@ -1,6 +1,7 @@
 //! The tables whose keys are the numbers of their rows.
 
 pub(crate) use callers::{put_caller, take_caller};
+pub(crate) use columns::days_number;
 pub(crate) use desk::write_desk;
 pub(crate) use kept::{put_kept, take_kept};
 pub(crate) use places::{put_place, take_place};

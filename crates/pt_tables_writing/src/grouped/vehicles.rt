@@ -1,9 +1,7 @@
-ghost use Rattle.std.specs.Prelude.{◌≡◌, ◌<◌, IsTrue, [], ◌∷◌};
+ghost use Rattle.std.specs.Prelude.{◌≡◌, IsTrue, [], ◌∷◌};
 ghost use Rattle.sqlite.specs.Held.{state};
 ghost use Rattle.sqlite.specs.State.{HasCleanDisk, Survives};
 ghost use Rattle.pt_desk_rules.specs.State.{vehicle_key};
-ghost use Rattle.pt_spelling.specs.Fields.{day_bit, days_byte};
-ghost use Rattle.pt_base.specs.Weekday.{number_of};
 ghost use Rattle.pt_tables_rows.specs.Rows.{vehicle_row};
 ghost use Rattle.pt_tables_rows.specs.Schema.{vehicles_table};
 ghost use Rattle.pt_tables_rows.specs.Tables.{ChangesIfOk};
@@ -11,7 +9,8 @@ ghost use Rattle.pt_tables_rows.specs.WellFormed.{IsVersion};
 ghost use Rattle.pt_tables_writing.specs.Grouped.{Adds};
 ghost use Rattle.pt_tables_writing.specs.Writes.{Puts, Takes};
 
-use pt_base::{Vehicle, Weekday, Weekdays};
+use crate::numbered::days_number;
+use pt_base::Vehicle;
 use sqlite::{Alter, Error, Transaction, params};
 
 const DELETE_VEHICLE: &str = "DELETE FROM vehicles WHERE id = ?1 AND from_day = ?2";
@@ -77,25 +76,4 @@ fn insert_vehicle<S: Alter>(tx: &mut Transaction<'_, S>, version: &Vehicle) -> R
         ],
     )?;
     Ok(())
-}
-
-/// A bit for each weekday of the set, the lowest for Monday.
-fn days_number(days: Weekdays) -> u32
-    ensures value { result ≡ days_byte days }
-{
-    day_bit(days, Weekday::Monday)
-        + 2 * day_bit(days, Weekday::Tuesday)
-        + 4 * day_bit(days, Weekday::Wednesday)
-        + 8 * day_bit(days, Weekday::Thursday)
-        + 16 * day_bit(days, Weekday::Friday)
-        + 32 * day_bit(days, Weekday::Saturday)
-        + 64 * day_bit(days, Weekday::Sunday)
-}
-
-/// 1 where the weekday is in the set, else 0.
-fn day_bit(days: Weekdays, weekday: Weekday) -> u32
-    ensures value { result ≡ day_bit days (number_of weekday) }
-    ensures bit { result < 2 }
-{
-    u32::from(days.contains(weekday))
 }

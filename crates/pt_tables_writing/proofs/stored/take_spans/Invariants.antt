@@ -1,7 +1,6 @@
-use Rattle.std.proofs.Common.{◌≡◌, Ok, Result, take}
+use Rattle.std.proofs.Common.{◌≡◌, Ok, take}
 use Rattle.sqlite.specs.Held.{state}
 use Rattle.sqlite.specs.State.{Survives}
-use Rattle.sqlite.specs.declared.error.Error.{Error}
 use Rattle.pt_tables_writing.specs.Stored.{TakesSpans}
 use Rattle.pt_tables_writing.proofs.TurnLemmas.{Did}
 use Rattle.pt_tables_writing.proofs.stored.take_spans.Given as goal

@@ -1,7 +1,7 @@
-use Rattle.std.proofs.Common.{◌≡◌, ◌∷◌, [], Result, Ok, subst}
+use Rattle.std.proofs.Common.{◌∷◌, [], Ok, subst}
 use Rattle.sqlite.specs.Held.{state}
 use Rattle.pt_desk_rules.specs.State.{place_key, route_key, travel_key, vehicle_key}
-use Rattle.pt_tables_writing.specs.Groups.{Leads, with_people, with_area, with_trips}
+use Rattle.pt_tables_writing.specs.Groups.{Leads, with_people, with_area}
 use Rattle.pt_tables_rows.specs.Rows.{place_row, route_row, vehicle_row, travel_rows}
 use Rattle.pt_tables_rows.specs.Schema.{places_table, fixed_table, vehicles_table, travel_table}
 use Rattle.pt_tables_writing.specs.Stored.{EditsTable}

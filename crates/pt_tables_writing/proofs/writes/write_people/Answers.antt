@@ -1,7 +1,7 @@
-use Rattle.std.proofs.Common.{◌≡◌, ◌∷◌, [], Result, Ok, subst}
+use Rattle.std.proofs.Common.{◌∷◌, [], Ok, subst}
 use Rattle.sqlite.specs.Held.{state}
 use Rattle.pt_desk_rules.specs.State.{caller_key, entry_key, kept_key, rider_key}
-use Rattle.pt_tables_writing.specs.Groups.{Leads, with_people, with_area, with_trips}
+use Rattle.pt_tables_writing.specs.Groups.{Leads, with_people}
 use Rattle.pt_tables_rows.specs.Rows.{caller_row, kept_row, rider_row, entry_row}
 use Rattle.pt_tables_rows.specs.Schema.{callers_table, kept_table, riders_table, entries_table}
 use Rattle.pt_tables_writing.specs.Stored.{EditsTable}

@@ -1,4 +1,4 @@
-use Rattle.std.proofs.Common.{◌≡◌, ◌∷◌, [], ℕ, subst₂}
+use Rattle.std.proofs.Common.{◌∷◌, [], ℕ, subst₂}
 use Rattle.sqlite.specs.Held.{state}
 use Rattle.pt_base.specs.declared.policy.Policy.{Policy}
 use Rattle.pt_tables_rows.specs.Rows.{desk_row}

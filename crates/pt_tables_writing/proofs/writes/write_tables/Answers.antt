@@ -1,4 +1,3 @@
-use Rattle.std.proofs.Common.{Ok}
 use Rattle.sqlite.specs.Held.{state}
 use Rattle.pt_desk_rules.specs.State.{applied}
 use Rattle.pt_tables_writing.specs.Groups.{Leads, with_people, with_area, with_trips}

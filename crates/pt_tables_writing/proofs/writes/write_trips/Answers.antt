@@ -1,4 +1,4 @@
-use Rattle.std.proofs.Common.{◌≡◌, ◌∷◌, [], ℕ, Ok, subst}
+use Rattle.std.proofs.Common.{◌∷◌, [], ℕ, Ok, subst}
 use Rattle.std.specs.Option.{unwrap_or}
 use Rattle.sqlite.specs.Held.{state}
 use Rattle.pt_base.specs.declared.policy.Policy.{Policy}
