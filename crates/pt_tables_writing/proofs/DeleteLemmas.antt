@@ -24,6 +24,9 @@ use Rattle.sqlite.proofs.Callers.{IsPlain, command_of, statement_of, runs_as, on
 use Rattle.sqlite_schema.specs.declared.program.Program.{Program}
 use Rattle.sqlite_schema.specs.declared.schema.Keys.TheVariants.{Enforced}
 use Rattle.sqlite_schema.specs.Rules.{equal}
+use Rattle.sqlite_sql.specs.declared.ops.BinaryOp.TheVariants.{Compare}
+use Rattle.sqlite_sql.specs.declared.ops.CompareOp.TheVariants.{Ge}
+use Rattle.sqlite_sql.specs.Ops.{binary, is_true}
 use Rattle.sqlite_rules.specs.Action.{works}
 use Rattle.sqlite_rules.specs.Calls.{ids_of}
 use Rattle.sqlite_keyed.proofs.ListLemmas.{map-map, map-flat_map, filter-map, filter_same, filter_as_flat_map, flat_map_same_on, IsPermutation-filter}
@@ -57,14 +60,19 @@ abbrev pub has_columns : List Value → Row → Bool
 has_columns [] row = true
 has_columns (v ∷ values) row = equal Binary (column row 0) v && has_columns values (drop 1 row)
 
--- the text deletes the rows of this table whose first columns are the parameters
-pub record IsDelete (text : List ℕ) (params : Row) (table : Table) : Type 0 where
+-- the first columns of a row equal these, and the next is at least this one, as SQL's >= has it
+abbrev pub has_columns_from : List Value → Value → Row → Bool
+has_columns_from [] least row = is_true (binary (Compare Ge Binary) (column row 0) least) && true
+has_columns_from (v ∷ values) least row = equal Binary (column row 0) v && has_columns_from values least (drop 1 row)
+
+-- the text deletes the rows of this table that pass
+pub record IsDelete (text : List ℕ) (params : Row) (table : Table) (passing : Row → Bool) : Type 0 where
   pub at : ℕ
   pub test : List Term
   pub there : slice_get tables at ≡ Some table
   pub is : command_of (understood desk_schema text) ≡ Delete at (program_where table.tree test)
   pub plain : IsPlain (understood desk_schema text)
-  pub says : (r : Row) → list_all (holds (params ∷ r ∷ [])) test ≡ has_columns params (columns_of table r)
+  pub says : (r : Row) → list_all (holds (params ∷ r ∷ [])) test ≡ passing (columns_of table r)
 
 -- the table loses the rows that pass, and each other has what it had
 abbrev pub Removes : Table → (Row → Bool) → Database → Database → Type 0
@@ -111,7 +119,7 @@ quiet : (tree : ℕ) (olds : List Row) → works desk_schema Enforced 0 tree old
 unfolding desk_schema
 quiet tree olds = refl
 
-module _ (text : List ℕ) (params : Row) (table : Table) (it : IsDelete text params table) (old new : State) where
+module _ (text : List ℕ) (params : Row) (table : Table) (passing : Row → Bool) (it : IsDelete text params table passing) (old new : State) where
   abbrev command : Program
   command = program_where table.tree it.test
 
@@ -139,29 +147,29 @@ module _ (text : List ℕ) (params : Row) (table : Table) (it : IsDelete text pa
 
   -- the rows that are left
   left : (rows : List Row) → Answers (record { schema = desk_schema; trees = old.now.trees }) command params rows → Loses rows → (before : List Row) → Holds table before old.now.trees
-      → new.now.trees table.tree ≡ filter (λ r. not (has_columns params (columns_of table r))) (old.now.trees table.tree)
+      → new.now.trees table.tree ≡ filter (λ r. not (passing (columns_of table r))) (old.now.trees table.tree)
   left rows answer loses before holds =
       let tree = old.now.trees table.tree in
-      let passing : Row → Bool = passes it.test table.tree old.now.trees params in
-      let same = IsPermutation-map (λ r. id_in (rowid r)) (map (λ r. rowid r ∷ []) (filter passing tree)) rows (found it.test table.tree old.now.trees params desk_schema rows answer) in
-      let ids : ids_of (map (λ r. rowid r ∷ []) (filter passing tree)) ≡ ids_of (filter passing tree) = map-map (λ r. id_in (rowid r)) (λ r. rowid r ∷ []) (filter passing tree) in
-      loses.0 ∙ sym (without_all-permuted _ _ (subst (λ l. IsPermutation l (ids_of rows)) ids same) tree) ∙ without-passing passing tree holds.whole holds.rising
-      ∙ filter_same (λ r. not (passing r)) (λ r. not (has_columns params (columns_of table r))) (λ r. ap not (it.says r)) tree
+      let chosen : Row → Bool = passes it.test table.tree old.now.trees params in
+      let same = IsPermutation-map (λ r. id_in (rowid r)) (map (λ r. rowid r ∷ []) (filter chosen tree)) rows (found it.test table.tree old.now.trees params desk_schema rows answer) in
+      let ids : ids_of (map (λ r. rowid r ∷ []) (filter chosen tree)) ≡ ids_of (filter chosen tree) = map-map (λ r. id_in (rowid r)) (λ r. rowid r ∷ []) (filter chosen tree) in
+      loses.0 ∙ sym (without_all-permuted _ _ (subst (λ l. IsPermutation l (ids_of rows)) ids same) tree) ∙ without-passing chosen tree holds.whole holds.rising
+      ∙ filter_same (λ r. not (chosen r)) (λ r. not (passing (columns_of table r))) (λ r. ap not (it.says r)) tree
 
-  holds_left : (before : List Row) → Holds table before old.now.trees → new.now.trees table.tree ≡ filter (λ r. not (has_columns params (columns_of table r))) (old.now.trees table.tree)
-      → Holds table (filter (λ r. not (has_columns params r)) before) new.now.trees
+  holds_left : (before : List Row) → Holds table before old.now.trees → new.now.trees table.tree ≡ filter (λ r. not (passing (columns_of table r))) (old.now.trees table.tree)
+      → Holds table (filter (λ r. not (passing r)) before) new.now.trees
   holds_left before holds is =
       let tree = old.now.trees table.tree in
-      let kept : Row → Bool = λ r. not (has_columns params (columns_of table r)) in
-      let shown : map (columns_of table) (filter kept tree) ≡ filter (λ r. not (has_columns params r)) (map (columns_of table) tree) = sym (filter-map (λ r. not (has_columns params r)) (columns_of table) tree) in
+      let kept : Row → Bool = λ r. not (passing (columns_of table r)) in
+      let shown : map (columns_of table) (filter kept tree) ≡ filter (λ r. not (passing r)) (map (columns_of table) tree) = sym (filter-map (λ r. not (passing r)) (columns_of table) tree) in
       record {
-        rows = subst (λ l. IsPermutation (map (columns_of table) l) (filter (λ r. not (has_columns params r)) before)) (sym is)
-            (subst (λ l. IsPermutation l (filter (λ r. not (has_columns params r)) before)) (sym shown) (IsPermutation-filter (λ r. not (has_columns params r)) (map (columns_of table) tree) before holds.rows));
+        rows = subst (λ l. IsPermutation (map (columns_of table) l) (filter (λ r. not (passing r)) before)) (sym is)
+            (subst (λ l. IsPermutation l (filter (λ r. not (passing r)) before)) (sym shown) (IsPermutation-filter (λ r. not (passing r)) (map (columns_of table) tree) before holds.rows));
         rising = subst IsTable (sym is) (rising-filter kept tree holds.rising);
         whole = subst AreWhole (sym is) (whole-filter kept tree holds.whole);
       }
 
-  pub removes : (count : ℕ) → old.now.schema ≡ desk_schema → Executes text params old new (Ok count) → Removes table (has_columns params) old.now new.now
+  pub removes : (count : ℕ) → old.now.schema ≡ desk_schema → Executes text params old new (Ok count) → Removes table passing old.now new.now
   removes count has h before =
       let w = wrote count has h in
       let out = lost w in

@@ -53,7 +53,7 @@ pub entry-added : (filed : FiledEntry) (old new : State) (count : ℕ) → old.n
     → Adds entries_table (entry_row filed ∷ []) old.now new.now
 entry-added filed = adds entries_table (entry_row filed) (entry_row filed) (λ id. refl) INSERT_ENTRY.now (entry_row filed) (entry_insert filed)
 
-entry_delete : (rider position : ℕ) → IsDelete DELETE_ENTRY.now (number_value rider ∷ number_value position ∷ []) entries_table
+entry_delete : (rider position : ℕ) → IsDelete DELETE_ENTRY.now (number_value rider ∷ number_value position ∷ []) entries_table (has_columns (number_value rider ∷ number_value position ∷ []))
 unfolding understood everything desk_schema
 entry_delete rider position = record {
   at = 7;
@@ -70,4 +70,4 @@ entry-taken gone low old new count has h =
     let params = number_value gone.rider ∷ number_value gone.position ∷ [] in
     takes entry_key (λ e. entry_row e ∷ []) entries_table IsFiled gone (has_columns params)
     (λ x fits. (pair-told x.rider x.position gone.rider gone.position (drop 2 (entry_row x)) fits.0 low, tt)) old.now new.now
-    (removes DELETE_ENTRY.now params entries_table (entry_delete gone.rider gone.position) old new count has h)
+    (removes DELETE_ENTRY.now params entries_table (has_columns params) (entry_delete gone.rider gone.position) old new count has h)

@@ -1,18 +1,19 @@
 -- From the rows of a table to the records that have them.
-use Rattle.std.proofs.Common.{◌≡◌, ◌≢◌, inl, inr, ℕ, ◌<◌, ◌≤◌, ◌==◌, List, [], ◌∷◌, ◌++◌, filter, flat_map, not, Bool, true, false, cond, refl, sym, ap, ap₂, subst, subst₂, ◌∙◌, arith, append_assoc}
+use Rattle.std.proofs.Common.{◌≡◌, ◌≢◌, inl, inr, ℕ, ◌<◌, ◌≤◌, ◌==◌, List, [], ◌∷◌, ◌++◌, filter, flat_map, not, Bool, true, false, cond, Some, refl, sym, ap, ap₂, subst, subst₂, ◌∙◌, arith, append_assoc}
 use Rattle.std.specs.Prelude.{IsPermutation}
 use Rattle.std.specs.List.{AllByRecursion}
 use Rattle.std.proofs.lemmas.Bool.Decides.{nat_tests}
 use Rattle.std.proofs.lemmas.List.Elements.{filter-append}
-use Rattle.std.proofs.lemmas.List.Sorted.{IsPermutation-refl, IsPermutation-trans, IsPermutation-append_left, IsPermutation-append_right, IsPermutation-append_comm}
+use Rattle.std.proofs.lemmas.List.Sorted.{IsPermutation-refl, IsPermutation-sym, IsPermutation-trans, IsPermutation-append_left, IsPermutation-append_right, IsPermutation-append_comm}
 use Rattle.sqlite.specs.Effect.{Database}
 use Rattle.sqlite.specs.Order.{Row}
 use Rattle.sqlite.specs.Table.{Table}
 use Rattle.sqlite.specs.Tree.{Trees}
 use Rattle.sqlite_keyed.proofs.ListLemmas.{all_weaker, filter_all, filter_none, IsPermutation-same}
-use Rattle.pt_records.specs.Records.{Each, IsInOrder, put}
-use Rattle.pt_records.proofs.OrderLemmas.{compared}
+use Rattle.pt_records.specs.Records.{Each, IsInOrder, put, record_at}
+use Rattle.pt_records.proofs.OrderLemmas.{compared, record_at-past, record_at-here, record_at-above}
 use Rattle.pt_records.proofs.RecordLemmas.{put_past, put_over, put_before}
+use Rattle.pt_records.proofs.TableLemmas.{Each-filter}
 use Rattle.pt_tables_writing.specs.Grouped.{Adds}
 use Rattle.pt_tables_rows.specs.Schema.{tables}
 use Rattle.pt_tables_rows.specs.Tables.{Others}
@@ -32,6 +33,13 @@ pub rewrites-permuted : (table : Table) (before shown others : List Row) (old ne
 rewrites-permuted table before shown others old new same it = record {
   schema = it.schema;
   rows = λ holds. holds-permuted table shown others new.trees same (it.rows holds);
+  others = it.others;
+}
+
+rewrites-from : (table : Table) (others before shown : List Row) (old new : Database) → IsPermutation others before → Rewrites table before shown old new → Rewrites table others shown old new
+rewrites-from table others before shown old new same it = record {
+  schema = it.schema;
+  rows = λ holds. it.rows (holds-permuted table others before old.trees same holds);
   others = it.others;
 }
 
@@ -74,6 +82,28 @@ module _ {A : Type 0} (key : A → ℕ) where
   far_above : (k l : ℕ) (xs : List A) → k ≤ l → Each (λ x. l < key x) xs → Each (λ x. k < key x) xs
   far_above k l [] le above = tt
   far_above k l (x ∷ xs) le above = (omega (arith, above.0), far_above k l xs le above.1)
+
+  -- a record that is there, put again, changes nothing
+  put_there : (k : ℕ) (x : A) (ys : List A) → IsInOrder key ys → key x ≡ k → record_at key k ys ≡ Some x → put key x ys ≡ ys
+  put_there k x [] order is there = absurd (let none = there in cc)
+  put_there k x (y ∷ ys) order is there = elim (compared (key y) k) [
+    | inl less ↦
+        let apart : (key y ≡ k → ⊥) = λ same. omega (arith, less, same) in
+        put_past key x y ys (omega (arith, less, is)) ∙ ap (λ l. y ∷ l) (put_there k x ys order.1 is (sym (record_at-past key k y ys apart) ∙ there))
+    | inr (inl same) ↦
+        let found : Some y ≡ Some x = sym (record_at-here key k y ys same) ∙ there in
+        put_over key x y ys (same ∙ sym is) ∙ ap (λ z. z ∷ ys) (cc)
+    | inr (inr more) ↦
+        absurd (let none = sym (record_at-above key k (y ∷ ys) (more, far_above k (key y) ys (omega (arith, more)) order.0)) ∙ there in cc)
+  ]
+
+  others_apart : (k : ℕ) (xs : List A) → Each (λ x. key x ≢ k) (without k xs)
+  others_apart k [] = tt
+  others_apart k (x ∷ xs) = go (key x == k) refl (others_apart k xs)
+    where
+      go : (b : Bool) → (key x == k) ≡ b → Each (λ y. key y ≢ k) (without k xs) → Each (λ y. key y ≢ k) (cond (not b) (x ∷ without k xs) (without k xs))
+      go true is rest = rest
+      go false is rest = ((λ same. absurd (let both = sym (same_test (key x) k same) ∙ ap not is in cc)), rest)
 
   module _ (rows : A → List Row) where
     -- the rows of a record that is put, and of the others
@@ -119,6 +149,23 @@ module _ {A : Type 0} (key : A → ℕ) where
     puts-after table Fits new a b c taken added xs order fits =
         rewrites-permuted table _ _ _ a c (rows-put new xs order)
         (rewrites-then table (flat_map rows xs) (flat_map rows (without (key new) xs)) _ a b c (taken xs order fits) (added (flat_map rows (without (key new) xs))))
+
+    -- a record comes in place of one, whose first rows stay
+    pub replaces : (table : Table) (Fits : A → Type 0) (before new : A) (front tail : List Row) (a b c : Database) → rows new ≡ front ++ tail
+        → ((others : List A) → Each (λ x. key x ≢ key new) others → Each Fits others → Rewrites table (rows before ++ flat_map rows others) (front ++ flat_map rows others) a b)
+        → Adds table tail b c → (xs : List A) → IsInOrder key xs → Each Fits xs → key before ≡ key new → record_at key (key new) xs ≡ Some before
+        → Rewrites table (flat_map rows xs) (flat_map rows (put key new xs)) a c
+    replaces table Fits before new front tail a b c is left added xs order fits same there =
+        let others = without (key new) xs in
+        let rest = flat_map rows others in
+        let old : IsPermutation (rows before ++ rest) (flat_map rows xs) =
+        subst₂ (λ k l. IsPermutation (rows before ++ flat_map rows (without k xs)) (flat_map rows l)) same (put_there (key new) before xs order same there) (rows-put before xs order) in
+        let first = left others (others_apart (key new) xs) (Each-filter Fits (λ x. not (key x == key new)) xs fits) in
+        let both = rewrites-then table (rows before ++ rest) (front ++ rest) (tail ++ (front ++ rest)) a b c first (added (front ++ rest)) in
+        let turned : IsPermutation (tail ++ (front ++ rest)) (rows new ++ rest) =
+        subst₂ IsPermutation (append_assoc tail front rest) (ap (λ l. l ++ rest) (sym is)) (IsPermutation-append_left rest (tail ++ front) (front ++ tail) (IsPermutation-append_comm tail front)) in
+        rewrites-from table (flat_map rows xs) (rows before ++ rest) (flat_map rows (put key new xs)) a c (IsPermutation-sym _ _ old)
+        (rewrites-permuted table _ (rows new ++ rest) (flat_map rows (put key new xs)) a c (rows-put new xs order) (rewrites-permuted table _ _ (rows new ++ rest) a c turned both))
 
 -- rows are added in turn
 pub adds-then : (table : Table) (first second : List Row) (a b c : Database) → Adds table first a b → Adds table second b c → Adds table (first ++ second) a c

@@ -54,7 +54,7 @@ module _ (from_day : ℕ) (drive : travel.Row) where
   pub drive-added : (old new : State) (count : ℕ) → old.now.schema ≡ desk_schema → Executes INSERT_TRAVEL.now row old new (Ok count) → Adds travel_table (row ∷ []) old.now new.now
   drive-added = adds travel_table row row (λ id. refl) INSERT_TRAVEL.now row drive_insert
 
-travel_delete : (from_day : ℕ) → IsDelete DELETE_TRAVEL.now (number_value from_day ∷ []) travel_table
+travel_delete : (from_day : ℕ) → IsDelete DELETE_TRAVEL.now (number_value from_day ∷ []) travel_table (has_columns (number_value from_day ∷ []))
 unfolding understood everything desk_schema
 travel_delete from_day = record {
   at = 10;
@@ -71,7 +71,7 @@ travel-taken gone old new count has h =
     let params = number_value gone.from_day ∷ [] in
     takes travel_key travel_rows travel_table (λ _. Unit {0}) gone (has_columns params)
     (λ x fits. all-map (λ r. has_columns params r ≡ (travel_key x == travel_key gone)) (travel_row x.from_day) (λ drive. one-told x.from_day gone.from_day (drop 1 (travel_row x.from_day drive))) ((0, 0, 0) ∷ x.rows)) old.now new.now
-    (removes DELETE_TRAVEL.now params travel_table (travel_delete gone.from_day) old new count has h)
+    (removes DELETE_TRAVEL.now params travel_table (has_columns params) (travel_delete gone.from_day) old new count has h)
 
 pub drives-more : (at from_day : ℕ) (drives : List travel.Row) (item drive : travel.Row) → at < length drives → item ≡ get_or drives at item → drive ≡ item
     → map (travel_row from_day) (take at drives) ++ travel_row from_day drive ∷ [] ≡ map (travel_row from_day) (take (at + 1) drives)

@@ -1,5 +1,5 @@
 -- Statements of a transaction, one after the other.
-use Rattle.std.proofs.Common.{◌≡◌, ◌≢◌, IsTrue, OnOk, Result, Ok, Err, List, [], ◌∷◌, refl, ◌∙◌, arith}
+use Rattle.std.proofs.Common.{◌≡◌, ◌≢◌, inl, IsTrue, OnOk, Result, Ok, Err, List, [], ◌∷◌, refl, ◌∙◌, arith}
 use Rattle.std.specs.List.{AllByRecursion}
 use Rattle.sqlite.specs.declared.error.Error.{Error}
 use Rattle.sqlite.specs.Effect.{Database}
@@ -22,6 +22,17 @@ Did a b Changes r = HasCleanDisk b → IsTrue a.in_transaction → ChangesIfOk a
 -- nothing is committed by the one, nor by the other
 pub survive_both : (a b c : Connected) → Survives a b (λ _. ⊥) → Survives b c (λ _. ⊥) → Survives a c (λ _. ⊥)
 survive_both a b c p q = survives_then a b c (λ _. ⊥) (λ _. ⊥) (λ _. ⊥) (λ _ db none. none) (λ _ db none. none) p q
+
+-- and nothing is where nothing was done
+pub survives-self : (a : Connected) → Survives a a (λ _. ⊥)
+survives-self a = record {
+  clean = omega arith;
+  shield = λ holds. holds;
+  counts = omega arith;
+  limit = refl;
+  closes = λ clean is_open. inl is_open;
+  crash = λ clean db there. inl there;
+}
 
 both_do : {X Y : Type 0} (a b c : Connected) (F G H : Database → Database → Type 0) (x : X) (r : Result Y Error)
     → (a.now.schema ≡ desk_schema → F a.now b.now → (b.now.schema ≡ desk_schema → G b.now c.now) → H a.now c.now)

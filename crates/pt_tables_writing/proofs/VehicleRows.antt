@@ -48,7 +48,7 @@ pub vehicle-added : (version : Vehicle) (old new : State) (count : ℕ) → old.
     → Adds vehicles_table (vehicle_row version ∷ []) old.now new.now
 vehicle-added version = adds vehicles_table (vehicle_row version) (vehicle_row version) (λ id. refl) INSERT_VEHICLE.now (vehicle_row version) (vehicle_insert version)
 
-vehicle_delete : (id day : ℕ) → IsDelete DELETE_VEHICLE.now (number_value id ∷ number_value day ∷ []) vehicles_table
+vehicle_delete : (id day : ℕ) → IsDelete DELETE_VEHICLE.now (number_value id ∷ number_value day ∷ []) vehicles_table (has_columns (number_value id ∷ number_value day ∷ []))
 unfolding understood everything desk_schema
 vehicle_delete id day = record {
   at = 5;
@@ -65,4 +65,4 @@ vehicle-taken gone low old new count has h =
     let params = number_value gone.id ∷ number_value gone.from_day ∷ [] in
     takes vehicle_key (λ v. vehicle_row v ∷ []) vehicles_table IsVersion gone (has_columns params)
     (λ x fits. (pair-told x.id x.from_day gone.id gone.from_day (drop 2 (vehicle_row x)) fits.0 low, tt)) old.now new.now
-    (removes DELETE_VEHICLE.now params vehicles_table (vehicle_delete gone.id gone.from_day) old new count has h)
+    (removes DELETE_VEHICLE.now params vehicles_table (has_columns params) (vehicle_delete gone.id gone.from_day) old new count has h)

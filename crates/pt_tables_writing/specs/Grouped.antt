@@ -1,10 +1,23 @@
--- Rows that are added to a table.
-use Rattle.std.specs.Prelude.{List, ◌++◌}
+-- Rows that are added to a table, and stops that are left in theirs.
+use Rattle.std.specs.Prelude.{◌≢◌, ℕ, List, ◌++◌, flat_map, take}
 use Rattle.sqlite.specs.Effect.{Database}
 use Rattle.sqlite.specs.Order.{Row}
 use Rattle.sqlite.specs.Table.{Table}
+use Rattle.pt_records.specs.Records.{Each}
+use Rattle.pt_scheduling.specs.Plan.{Plan, plan_key}
+use Rattle.pt_scheduling.specs.declared.planned.PlannedStop.{PlannedStop}
+use Rattle.pt_tables_rows.specs.Rows.{stop_rows}
+use Rattle.pt_tables_rows.specs.Schema.{stops_table}
+use Rattle.pt_tables_rows.specs.WellFormed.{IsStoredPlan}
 use Rattle.pt_tables_writing.specs.Writes.{Rewrites}
 
 -- the table has these rows more, and each other table what it had
 abbrev pub Adds : Table → List Row → Database → Database → Type 0
 Adds table rows old new = (before : List Row) → Rewrites table before (rows ++ before) old new
+
+-- of the stops of a vehicle on a day those before this place stay, and all of the other plans
+abbrev pub KeepsStops : Plan → ℕ → Database → Database → Type 0
+KeepsStops plan first old new =
+    (stops : List PlannedStop) (others : List Plan) → Each (λ x. plan_key x ≢ plan_key plan) others → Each IsStoredPlan others
+    → Rewrites stops_table (stop_rows (record plan { stops = stops }) ++ flat_map stop_rows others)
+    (stop_rows (record plan { stops = take first stops }) ++ flat_map stop_rows others) old new

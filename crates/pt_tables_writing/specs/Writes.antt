@@ -1,12 +1,12 @@
 -- What statements of a transaction make of one table.
-use Rattle.std.specs.Prelude.{◌≡◌, IsTrue, ℕ, ◌==◌, not, List, flat_map, filter}
+use Rattle.std.specs.Prelude.{◌≡◌, IsTrue, ℕ, ◌==◌, not, List, flat_map, filter, Some}
 use Rattle.std.specs.List.{AllByRecursion}
 use Rattle.sqlite.specs.Effect.{Database}
 use Rattle.sqlite.specs.Order.{Row}
 use Rattle.sqlite.specs.Table.{Table}
 use Rattle.sqlite.specs.Tree.{Trees, IsTable, rowid}
 use Rattle.sqlite.specs.View.{is_int}
-use Rattle.pt_records.specs.Records.{Each, IsInOrder, put}
+use Rattle.pt_records.specs.Records.{Each, IsInOrder, put, record_at}
 use Rattle.pt_tables_rows.specs.Schema.{desk_schema}
 use Rattle.pt_tables_rows.specs.Tables.{AreRows, Others}
 
@@ -33,3 +33,10 @@ abbrev pub Takes : {A : Type 0} → Table → (A → ℕ) → (A → Type 0) →
 Takes {A} table key Fits rows gone old_db new_db =
     (xs : List A) → IsInOrder key xs → Each Fits xs
     → Rewrites table (flat_map rows xs) (flat_map rows (filter (λ x. not (key x == key gone)) xs)) old_db new_db
+
+-- The record is put in place of the one before, which has its key.
+abbrev pub Replaces : {A : Type 0} → Table → (A → ℕ) → (A → Type 0) → (A → List Row) → A → A → Database → Database
+    → Type 0
+Replaces {A} table key Fits rows before new old_db new_db =
+    Fits new → (xs : List A) → IsInOrder key xs → Each Fits xs → record_at key (key new) xs ≡ Some before
+    → Rewrites table (flat_map rows xs) (flat_map rows (put key new xs)) old_db new_db

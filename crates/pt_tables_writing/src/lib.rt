@@ -8,6 +8,7 @@ pub use writes::write_change;
 mod first_rows;
 mod grouped;
 mod numbered;
+mod plans;
 mod stored;
 mod told;
 mod writes;

@@ -13,6 +13,7 @@ ghost use Rattle.pt_tables_rows.specs.WellFormed.{IsWellFormed, PutsWellFormed};
 ghost use Rattle.pt_tables_writing.specs.Writes.{Rewrites};
 
 use crate::numbered::write_desk;
+use crate::plans::write_plans;
 use crate::stored::write_edits;
 use pt_base::Policy;
 use pt_desk::ListKeeper;
@@ -115,7 +116,7 @@ fn write_trips<S: Alter>(
     ensures survives { Survives (state S.Store tx.old.conn.now) (state S.Store tx.new.conn.now) (λ _. ⊥) }
 {
     write_edits(tx, &change.trips, mirror.trips_table())?;
-    write_edits(tx, &change.planned, mirror.planned_table())?;
+    write_plans(tx, &change.planned, mirror.planned_table())?;
     write_settings(tx, change, mirror)
 }
 

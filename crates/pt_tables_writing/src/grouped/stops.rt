@@ -1,14 +1,13 @@
-ghost use Rattle.std.specs.Prelude.{◌≡◌, IsTrue, ◌∷◌, []};
+ghost use Rattle.std.specs.Prelude.{◌≡◌, ◌<◌, ◌^◌, IsTrue, ◌∷◌, [], drop, take};
 ghost use Rattle.sqlite.specs.Held.{state};
 ghost use Rattle.sqlite.specs.State.{HasCleanDisk, Survives};
 ghost use Rattle.pt_scheduling.specs.Plan.{plan_key};
-ghost use Rattle.pt_tables_rows.specs.Rows.{stop_rows, stop_number};
+ghost use Rattle.pt_tables_rows.specs.Rows.{stop_number, stop_row, stop_rows, stop_rows_from};
 ghost use Rattle.pt_tables_rows.specs.Schema.{stops_table};
 ghost use Rattle.pt_tables_rows.specs.Tables.{ChangesIfOk};
 ghost use Rattle.pt_tables_rows.specs.WellFormed.{IsStoredPlan};
-ghost use Rattle.pt_tables_writing.specs.Grouped.{Adds};
-ghost use Rattle.pt_tables_rows.specs.Rows.{stop_row};
-ghost use Rattle.pt_tables_writing.specs.Writes.{Puts, Takes};
+ghost use Rattle.pt_tables_writing.specs.Grouped.{Adds, KeepsStops};
+ghost use Rattle.pt_tables_writing.specs.Writes.{Puts, Replaces, Takes};
 
 use pt_base::{Day, VehicleId};
 use pt_feasible::StopKind;
@@ -16,6 +15,9 @@ use pt_scheduling::{PlannedRoute, PlannedStop};
 use sqlite::{Alter, Error, Transaction, params};
 
 const DELETE_STOPS: &str = "DELETE FROM stops WHERE vehicle = ?1 AND day = ?2";
+
+const DELETE_LATER_STOPS: &str =
+    "DELETE FROM stops WHERE vehicle = ?1 AND day = ?2 AND place >= ?3";
 
 const INSERT_STOP: &str = "INSERT INTO stops (vehicle, day, place, trip, kind) \
     VALUES (?1, ?2, ?3, ?4, ?5)";
@@ -33,7 +35,39 @@ pub(crate) fn put_plan<S: Alter>(
     ensures survives { Survives (state S.Store tx.old.conn.now) (state S.Store tx.new.conn.now) (λ _. ⊥) }
 {
     take_plan(tx, plan)?;
-    insert_stops(tx, plan)
+    insert_stops(tx, plan, 0)
+}
+
+/// Puts the stops of a vehicle on a day in place of those before. The rows of the stops that both begin with stay.
+pub(crate) fn replace_plan<S: Alter>(
+    tx: &mut Transaction<'_, S>,
+    before: &PlannedRoute,
+    plan: &PlannedRoute,
+) -> Result<(), Error>
+    ensures same_reference { tx.new.conn.ghost_name ≡ tx.old.conn.ghost_name }
+    ensures written { HasCleanDisk (state S.Store tx.new.conn.now)
+        → IsTrue (state S.Store tx.old.conn.now).in_transaction
+        → ChangesIfOk (state S.Store tx.old.conn.now) (state S.Store tx.new.conn.now)
+        (Replaces stops_table plan_key IsStoredPlan stop_rows before.now plan.now) result }
+    ensures survives { Survives (state S.Store tx.old.conn.now) (state S.Store tx.new.conn.now) (λ _. ⊥) }
+{
+    let shared = shared_stops(&before.stops, &plan.stops);
+    take_later_stops(tx, plan, shared)?;
+    insert_stops(tx, plan, shared)
+}
+
+/// How many stops both begin with.
+fn shared_stops(one: &[PlannedStop], other: &[PlannedStop]) -> usize
+    ensures same { take result one.now ≡ take result other.now }
+    ensures small { result < 2 ^ 63 }
+{
+    let both = one.len().min(other.len());
+    for place in 0..both {
+        if one[place] != other[place] {
+            return place;
+        }
+    }
+    both
 }
 
 /// Takes away the stops of a vehicle on a day.
@@ -55,17 +89,43 @@ pub(crate) fn take_plan<S: Alter>(
     Ok(())
 }
 
-/// Adds the rows of the stops, counted from 0.
-fn insert_stops<S: Alter>(tx: &mut Transaction<'_, S>, plan: &PlannedRoute) -> Result<(), Error>
+/// Takes away the stops of a vehicle on a day from this place on.
+fn take_later_stops<S: Alter>(
+    tx: &mut Transaction<'_, S>,
+    plan: &PlannedRoute,
+    first: usize,
+) -> Result<(), Error>
+    requires { first < 2 ^ 63 }
     ensures same_reference { tx.new.conn.ghost_name ≡ tx.old.conn.ghost_name }
     ensures written { HasCleanDisk (state S.Store tx.new.conn.now)
         → IsTrue (state S.Store tx.old.conn.now).in_transaction
         → ChangesIfOk (state S.Store tx.old.conn.now) (state S.Store tx.new.conn.now)
-        (Adds stops_table (stop_rows plan.now)) result }
+        (KeepsStops plan.now first) result }
     ensures survives { Survives (state S.Store tx.old.conn.now) (state S.Store tx.new.conn.now) (λ _. ⊥) }
 {
-    for (place, &stop) in plan.stops.iter().enumerate() {
-        insert_stop(tx, plan.vehicle, plan.day, place as i64, stop)?;
+    tx.execute(
+        DELETE_LATER_STOPS,
+        params![plan.vehicle.number(), plan.day.number(), first as i64],
+    )?;
+    Ok(())
+}
+
+/// Adds the rows of the stops from this place on, counted from 0.
+fn insert_stops<S: Alter>(
+    tx: &mut Transaction<'_, S>,
+    plan: &PlannedRoute,
+    first: usize,
+) -> Result<(), Error>
+    ensures same_reference { tx.new.conn.ghost_name ≡ tx.old.conn.ghost_name }
+    ensures written { HasCleanDisk (state S.Store tx.new.conn.now)
+        → IsTrue (state S.Store tx.old.conn.now).in_transaction
+        → ChangesIfOk (state S.Store tx.old.conn.now) (state S.Store tx.new.conn.now)
+        (Adds stops_table (stop_rows_from first plan.now.vehicle plan.now.day (drop first plan.now.stops))) result }
+    ensures survives { Survives (state S.Store tx.old.conn.now) (state S.Store tx.new.conn.now) (λ _. ⊥) }
+{
+    let stops = plan.stops.as_slice();
+    for place in first..stops.len() {
+        insert_stop(tx, plan.vehicle, plan.day, place as i64, stops[place])?;
     }
     Ok(())
 }

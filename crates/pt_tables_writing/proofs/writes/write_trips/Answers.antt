@@ -21,24 +21,24 @@ returns-clause-written g c =
     let before = with_area change (with_people change content) in
     let s1 = state g.S.Store c.args.tx.now.conn.now in
     let s2 = state g.S.Store c.write_edits.new.tx.conn.now in
-    let s3 = state g.S.Store c.write_edits-2.new.tx.conn.now in
+    let s3 = state g.S.Store c.write_plans.new.tx.conn.now in
     let s4 = state g.S.Store c.write_settings.new.tx.conn.now in
     let one = subst (λ xs. Did {X = Unit {0}} s1 s2 (EditsTable trips_table trip_key (λ _. Unit {0}) (λ x. trip_row x ∷ []) change.trips xs) (Ok c.in_ok-write_edits.field-0)) c.trips_table.ensures.value c.in_ok-write_edits.ensures.written in
-    let two = subst (λ xs. Did {X = Unit {0}} s2 s3 (EditsTable stops_table plan_key IsStoredPlan stop_rows change.planned xs) (Ok c.in_ok-write_edits-2.field-0)) c.planned_table.ensures.value c.in_ok-write_edits-2.ensures.written in
+    let two = subst (λ xs. Did {X = Unit {0}} s2 s3 (EditsTable stops_table plan_key IsStoredPlan stop_rows change.planned xs) (Ok c.in_ok-write_plans.field-0)) c.planned_table.ensures.value c.in_ok-write_plans.ensures.written in
     did_three {X = Unit {0}} {Y = Unit {0}} {Z = Unit {0}} s1 s2 s3 s4 (Edits-trips change content) (Edits-planned change content)
     (λ old new. (p : Policy) (n : ℕ) → Rewrites desk_table (desk_row p n ∷ []) (desk_row (unwrap_or change.policy content.policy) (unwrap_or change.last_trip content.last_trip) ∷ []) old new)
-    (Leads change content before (with_trips change before)) c.in_ok-write_edits.field-0 c.in_ok-write_edits-2.field-0 c.write_settings.result
+    (Leads change content before (with_trips change before)) c.in_ok-write_edits.field-0 c.in_ok-write_plans.field-0 c.write_settings.result
     (trips_lead change content s1.now s2.now s3.now s4.now)
-    c.in_ok-write_edits-2.ensures.survives c.write_settings.ensures.survives one two c.write_settings.ensures.written
+    c.in_ok-write_plans.ensures.survives c.write_settings.ensures.survives one two c.write_settings.ensures.written
 
 pub returns-clause-open : goal.returns-clause-open
 returns-clause-open g c clean inside =
     let change = c.args.change.now in
     let s1 = state g.S.Store c.args.tx.now.conn.now in
     let s2 = state g.S.Store c.write_edits.new.tx.conn.now in
-    let s3 = state g.S.Store c.write_edits-2.new.tx.conn.now in
+    let s3 = state g.S.Store c.write_plans.new.tx.conn.now in
     let s4 = state g.S.Store c.write_settings.new.tx.conn.now in
     let one = stayed {X = Unit {0}} s1 s2 (EditsTable trips_table trip_key (λ _. Unit {0}) (λ x. trip_row x ∷ []) change.trips c.trips_table.result.now.items) c.in_ok-write_edits.field-0 c.in_ok-write_edits.ensures.written in
-    let two = stayed {X = Unit {0}} s2 s3 (EditsTable stops_table plan_key IsStoredPlan stop_rows change.planned c.planned_table.result.now.items) c.in_ok-write_edits-2.field-0 c.in_ok-write_edits-2.ensures.written in
-    open_then s1 s3 s4 c.write_settings.result c.write_settings.ensures.survives (stayed_then s1 s2 s3 c.in_ok-write_edits-2.ensures.survives one two)
+    let two = stayed {X = Unit {0}} s2 s3 (EditsTable stops_table plan_key IsStoredPlan stop_rows change.planned c.planned_table.result.now.items) c.in_ok-write_plans.field-0 c.in_ok-write_plans.ensures.written in
+    open_then s1 s3 s4 c.write_settings.result c.write_settings.ensures.survives (stayed_then s1 s2 s3 c.in_ok-write_plans.ensures.survives one two)
     c.write_settings.ensures.open clean inside

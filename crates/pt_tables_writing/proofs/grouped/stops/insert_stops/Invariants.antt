@@ -1,4 +1,4 @@
-use Rattle.std.proofs.Common.{◌≡◌, IsTrue, Ok, take}
+use Rattle.std.proofs.Common.{◌≡◌, ◌-◌, IsTrue, Ok, drop, take}
 use Rattle.sqlite.specs.Held.{state}
 use Rattle.sqlite.specs.State.{HasCleanDisk, Survives}
 use Rattle.pt_tables_writing.specs.Grouped.{Adds}
@@ -11,9 +11,10 @@ abbrev pub invariant-loop-place : goal.invariant-loop-place
 invariant-loop-place g l =
     let old = state g.S.Store l.initial.tx.conn.now in
     let now = state g.S.Store l.tx.conn.now in
+    let plan = l.fn.plan in
     record {
       same : l.tx.conn.ghost_name ≡ l.initial.tx.conn.ghost_name;
       survives : Survives old now (λ _. ⊥);
       written : HasCleanDisk now → IsTrue old.in_transaction
-          → ChangesIfOk {X = Unit {0}} old now (Adds stops_table (stop_rows_from 0 l.fn.plan.vehicle l.fn.plan.day (take l.place l.fn.plan.stops))) (Ok tt);
+          → ChangesIfOk {X = Unit {0}} old now (Adds stops_table (stop_rows_from l.fn.first plan.vehicle plan.day (take (l.place - l.fn.first) (drop l.fn.first plan.stops)))) (Ok tt);
     }

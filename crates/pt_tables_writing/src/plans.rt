@@ -1,0 +1,52 @@
+ghost use Rattle.std.specs.Prelude.{◌≡◌, ◌∷◌, [], IfSome, IsTrue, Some};
+ghost use Rattle.sqlite.specs.Held.{state};
+ghost use Rattle.sqlite.specs.State.{HasCleanDisk, Survives};
+ghost use Rattle.pt_records.specs.Records.{record_at};
+ghost use Rattle.pt_scheduling.specs.Plan.{plan_key};
+ghost use Rattle.pt_tables_rows.specs.Rows.{stop_rows};
+ghost use Rattle.pt_tables_rows.specs.Schema.{stops_table};
+ghost use Rattle.pt_tables_rows.specs.Tables.{ChangesIfOk};
+ghost use Rattle.pt_tables_rows.specs.WellFormed.{IsStoredPlan};
+ghost use Rattle.pt_tables_writing.specs.Stored.{EditsTable};
+
+use crate::grouped::replace_plan;
+use crate::stored::write_edits;
+use pt_records::{Edits, Keyed, Table};
+use pt_scheduling::PlannedRoute;
+use sqlite::{Alter, Error, Transaction};
+
+/// The plan in whose place the edit puts one, and that one, where the edit does no more.
+fn replaced<'a>(
+    edits: &'a Edits<PlannedRoute>,
+    records: &'a Table<PlannedRoute>,
+) -> Option<(&'a PlannedRoute, &'a PlannedRoute)>
+    ensures alone { IfSome result (λ r. edits.now ≡ record { away = []; puts = r.1.now ∷ [] }) }
+    ensures there { IfSome result (λ r. record_at plan_key (plan_key r.1.now) records.now.items ≡ Some r.0.now) }
+{
+    if !edits.spans().is_empty() || edits.put_count() != 1 {
+        return None;
+    }
+    let plan = edits.puts().first()?;
+    let before = records.find(&plan.key())?;
+    Some((before, plan))
+}
+
+/// Makes the edit in the table of plans; `records` are those of the table. Where one plan comes in place of another, as in a
+/// booking, the rows of the stops that both begin with stay.
+pub(crate) fn write_plans<S: Alter>(
+    tx: &mut Transaction<'_, S>,
+    edits: &Edits<PlannedRoute>,
+    records: &Table<PlannedRoute>,
+) -> Result<(), Error>
+    ensures same_reference { tx.new.conn.ghost_name ≡ tx.old.conn.ghost_name }
+    ensures written { HasCleanDisk (state S.Store tx.new.conn.now)
+        → IsTrue (state S.Store tx.old.conn.now).in_transaction
+        → ChangesIfOk (state S.Store tx.old.conn.now) (state S.Store tx.new.conn.now)
+        (EditsTable stops_table plan_key IsStoredPlan stop_rows edits.now records.now.items) result }
+    ensures survives { Survives (state S.Store tx.old.conn.now) (state S.Store tx.new.conn.now) (λ _. ⊥) }
+{
+    match replaced(edits, records) {
+        Some((before, plan)) => replace_plan(tx, before, plan),
+        None => write_edits(tx, edits, records),
+    }
+}
