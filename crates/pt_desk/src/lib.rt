@@ -20,5 +20,3 @@ mod laws;
 mod list_keeper;
 mod places;
 mod running;
-#[cfg(test)]
-mod tests;

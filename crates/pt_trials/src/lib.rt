@@ -19,6 +19,8 @@ mod plain_agency;
 #[cfg(test)]
 mod plain_routes;
 #[cfg(test)]
+mod running;
+#[cfg(test)]
 mod second_desk;
 #[cfg(test)]
 mod service_times;
