@@ -21,7 +21,5 @@ mod policy;
 mod riders;
 mod routes;
 mod targets;
-#[cfg(test)]
-mod tests;
 mod trips;
 mod vehicles;

@@ -19,6 +19,4 @@ mod notices;
 mod reasons;
 mod suspensions;
 mod tally;
-#[cfg(test)]
-mod tests;
 mod walk;
