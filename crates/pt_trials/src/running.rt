@@ -14,7 +14,7 @@ fn call(rt: &impl Abort, alloc: Global, number: u32) -> Call {
         key: Vec::from_slice(alloc, b"abc").expect(rt, "memory"),
         number,
         request: Request::Write(Write::PutPlace(Place {
-            id: PlaceId::of(number).unwrap(),
+            id: PlaceId::of(number).expect(rt, "a place"),
             at: Point { x: 0, y: 0 },
             core: false,
         })),
