@@ -3,11 +3,11 @@ use Rattle.std.proofs.Common.{◌≡◌, ℕ, zero, suc, ◌+◌, ◌-◌, ◌<�
 use Rattle.std.specs.List.{flat_map}
 use Rattle.std.proofs.lemmas.Bool.{cases_eq, eq-eqb, ne_eqb, cond-true, cond-false}
 use Rattle.pt_base.specs.declared.vehicle.Vehicle.{Vehicle}
-use Rattle.pt_feasible.specs.declared.schedule.TheConstants.{MAX_STOPS}
 use Rattle.pt_feasible.specs.declared.stop.Stop.{Stop}
 use Rattle.pt_feasible.specs.declared.visit.Visit.{Visit}
 use Rattle.pt_feasible.specs.Visit.{visits}
 use Rattle.pt_feasible.specs.Loads.{LoadsFit}
+use Rattle.pt_feasible.specs.Pairing.{most_stops}
 use Rattle.pt_feasible.specs.Route.{stops_of}
 use Rattle.pt_feasible.specs.ServiceTimes.{TimesFit}
 use Rattle.pt_insertion.specs.declared.asked.Asked.{Asked}
@@ -68,7 +68,7 @@ module _ (minutes : ℕ → ℕ → Option ℕ) (vehicle : Vehicle) (stops : Lis
       ]
 
   -- no end is right
-  end_refuted : LoadsFit vehicle stops → length stops ≤ MAX_STOPS → (bound : ℕ → ℕ) → IsBelow bound b → (end : End) → ¬ IsRightEnd minutes vehicle stops bound end
+  end_refuted : LoadsFit vehicle stops → length stops ≤ most_stops → (bound : ℕ → ℕ) → IsBelow bound b → (end : End) → ¬ IsRightEnd minutes vehicle stops bound end
   end_refuted loads room bound below (Late k) right =
       let found = value_of (λ (visit : Visit). visit.hi < bound k) (slice_get (visits vehicle stops) k) right in
       absurd (omega (arith, (fits.time_windows k found.0 found.1).1, found.2, below k))
@@ -81,14 +81,14 @@ module _ (minutes : ℕ → ℕ → Option ℕ) (vehicle : Vehicle) (stops : Lis
       (let both : None ≡ Some drives.0 = sym next.2 ∙ drives.1 in absurd (cc))
   end_refuted loads room bound below TooLong right = absurd (omega arith)
 
-  case_refuted : LoadsFit vehicle stops → length stops ≤ MAX_STOPS → (bound : ℕ → ℕ) → IsBelow bound b → (raises : List Raise) (end : End) → ¬ AreRight minutes vehicle stops bound raises end
+  case_refuted : LoadsFit vehicle stops → length stops ≤ most_stops → (bound : ℕ → ℕ) → IsBelow bound b → (raises : List Raise) (end : End) → ¬ AreRight minutes vehicle stops bound raises end
   case_refuted loads room bound below [] end right = end_refuted loads room bound below end right
   case_refuted loads room bound below (raise ∷ raises) end right =
       case_refuted loads room (raised bound raise) (raised_below bound below raise right.0) raises end right.1
 
 -- no service times and loads fit
 abbrev pub IsRefuted : (ℕ → ℕ → Option ℕ) → Case → Type 0
-IsRefuted minutes case = (b : List ℕ) → TimesFit minutes case.vehicle case.stops b → LoadsFit case.vehicle case.stops → length case.stops ≤ MAX_STOPS → ⊥
+IsRefuted minutes case = (b : List ℕ) → TimesFit minutes case.vehicle case.stops b → LoadsFit case.vehicle case.stops → length case.stops ≤ most_stops → ⊥
 
 -- each element, one by one
 abbrev pub Each : {A : Type 0} → (A → Type 0) → List A → Type 0

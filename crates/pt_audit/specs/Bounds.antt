@@ -2,10 +2,10 @@
 -- 2003). `visits` are numbered from 0, the depot; `bound` gives each visit's lower bound in minutes of the day.
 use Rattle.std.specs.Prelude.{◌≡◌, ℕ, zero, suc, ◌+◌, ◌<◌, ◌≤◌, ◌==◌, max, if◌then◌else◌, IsTrue, List, [], ◌∷◌}
 use Rattle.std.specs.Prelude.{length, take, Option, None, Some, IsSomeAnd, slice_get}
+use Rattle.pt_base.specs.Load.{FitsWithin}
 use Rattle.pt_base.specs.declared.vehicle.Vehicle.{Vehicle}
-use Rattle.pt_feasible.specs.declared.schedule.TheConstants.{MAX_STOPS}
+use Rattle.pt_feasible.specs.Pairing.{most_stops}
 use Rattle.pt_feasible.specs.declared.stop.Stop.{Stop}
-use Rattle.pt_feasible.specs.Load.{FitsWithin}
 use Rattle.pt_feasible.specs.Loads.{load_aboard}
 use Rattle.pt_feasible.specs.Stop.{is_pickup, is_drop}
 use Rattle.pt_feasible.specs.Visit.{visits}
@@ -65,7 +65,7 @@ IsRightEnd minutes vehicle stops bound (end.Overloaded k) =
 IsRightEnd minutes vehicle stops bound (end.NoWay k) =
     IsSomeAnd (slice_get (visits vehicle stops) k) (λ this.
     IsSomeAnd (slice_get (visits vehicle stops) (k + 1)) (λ next. minutes this.place next.place ≡ None))
-IsRightEnd minutes vehicle stops bound end.TooLong = MAX_STOPS < length stops
+IsRightEnd minutes vehicle stops bound end.TooLong = most_stops < length stops
 
 -- each raise is right by the bounds that stand before it, and so is the end
 abbrev pub AreRight : (ℕ → ℕ → Option ℕ) → Vehicle → List Stop → (ℕ → ℕ) → List Raise → End → Type 0

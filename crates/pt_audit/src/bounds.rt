@@ -13,7 +13,7 @@ use pt_travel::Times;
 pub type Bounds = [u32; MAX_VISITS];
 
 /// The most visits: the depot twice, a full route and two stops more.
-pub const MAX_VISITS: usize = 64;
+pub const MAX_VISITS: usize = 104;
 
 const _: () = prove!(MAX_STOPS + 4 == MAX_VISITS);
 

@@ -31,14 +31,14 @@ pub struct Visit {
 }
 
 impl Insertion<'_> {
-    ghost use Rattle.pt_feasible.specs.declared.schedule.TheConstants.{MAX_STOPS};
+    ghost use Rattle.pt_feasible.specs.Pairing.{most_stops};
     ghost use Rattle.pt_feasible.specs.Visit.{visits};
     ghost use Rattle.pt_audit.specs.Insertion.{inserted_stops, visit_as};
 
     /// How many stops there are, without the depot: two more than a route has.
     pub fn len(&self) -> usize
         ensures value { result ≡ length (inserted_stops self.now) }
-        ensures short { result ≤ MAX_STOPS + 2 }
+        ensures short { result ≤ most_stops + 2 }
     {
         self.route.len() + 2
     }

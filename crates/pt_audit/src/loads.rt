@@ -1,12 +1,12 @@
 ghost use Rattle.std.specs.Prelude.{◌≡◌, ◌≤◌, ◌↔◌, length, take, IsTrue};
-ghost use Rattle.pt_feasible.specs.Load.{FitsWithin};
+ghost use Rattle.pt_base.specs.Load.{FitsWithin};
 ghost use Rattle.pt_feasible.specs.Loads.{load_aboard};
 ghost use Rattle.pt_audit.specs.Aboard.{is_drop_of, is_gone, is_aboard};
 ghost use Rattle.pt_audit.specs.Insertion.{inserted_stops};
 
 use crate::insertion::Insertion;
-use pt_base::TripId;
-use pt_feasible::{Load, Stop, StopKind};
+use pt_base::{Load, TripId};
+use pt_feasible::{Stop, StopKind};
 
 /// Whether more are aboard after the first `k` stops than the vehicle carries.
 pub fn is_overloaded(insertion: &Insertion<'_>, k: usize) -> bool

@@ -1,8 +1,8 @@
 ghost use Rattle.pt_feasible.specs.Plain.{plain_minutes, plain-stays, plain-within_a_day, plain-triangle};
 
 use super::*;
-use pt_base::{Day, Fault, Minute, PlaceId, TripId, Vehicle, VehicleId, Weekdays};
-use pt_feasible::{Load, Route};
+use pt_base::{Day, Fault, Load, Minute, PlaceId, TripId, Vehicle, VehicleId, Weekdays};
+use pt_feasible::Route;
 use pt_insertion::{Asked, Duty, are_without};
 use pt_travel::Times;
 use std::test::Fail;
@@ -67,7 +67,10 @@ fn asked(goal: u32, persons: u16) -> Result<Asked, Fail> {
         latest: Minute::of(1439).ok_or("latest")?,
         service: 2,
         ride: 50,
-        load: Load::of(persons),
+        load: Load {
+            seats: persons,
+            chairs: 0,
+        },
     })
 }
 

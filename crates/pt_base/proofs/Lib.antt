@@ -1,3 +1,4 @@
 pub mod CalendarLemmas
 pub mod DateTextLemmas
 pub mod FaultLemmas
+pub mod LoadLemmas

@@ -2,6 +2,7 @@ pub mod Codes
 pub mod DateText
 pub mod Day
 pub mod Fault
+pub mod Load
 pub mod Place
 pub mod Ranges
 pub mod Rule

@@ -7,6 +7,7 @@ pub use id::{
     CallerId, CallerKind, Id, PlaceId, PlaceKind, RiderId, RiderKind, RouteId, RouteKind, TripId,
     TripKind, VehicleId, VehicleKind,
 };
+pub use load::Load;
 pub use minute::{LAST_MINUTE, Minute};
 pub use place::{Place, Point};
 pub use policy::Policy;
@@ -21,13 +22,12 @@ mod date_text;
 mod day;
 pub mod fault;
 mod id;
+mod load;
 mod minute;
 mod place;
 mod policy;
 mod rider;
 mod rule;
-#[cfg(test)]
-mod tests;
 mod trip;
 mod trip_status;
 mod vehicle;

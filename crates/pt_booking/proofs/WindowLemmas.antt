@@ -7,7 +7,9 @@ use Rattle.std.proofs.lemmas.Option.{same_Some, slice_get-map}
 use Rattle.pt_base.specs.declared.vehicle.Vehicle.{Vehicle}
 use Rattle.pt_feasible.specs.declared.stop.Stop.{Stop}
 use Rattle.pt_feasible.specs.declared.visit.Visit.{Visit}
-use Rattle.pt_feasible.specs.Loads.{total_load, LoadsFit}
+use Rattle.pt_base.specs.Load.{load_difference, FitsWithin}
+use Rattle.pt_base.specs.declared.load.Load.{Load}
+use Rattle.pt_feasible.specs.Loads.{total_load, load_aboard, LoadsFit}
 use Rattle.pt_feasible.specs.ServiceTimes.{TimesFit, IsLeastSchedule}
 use Rattle.pt_feasible.specs.Stop.{is_pickup, is_drop, takes_aboard, lets_leave}
 use Rattle.pt_feasible.specs.declared.stop.StopKind.{StopKind}
@@ -199,8 +201,10 @@ moved-loads asked window i j stops drop_later among vehicle fits = λ k within.
     rw (with_trip-split asked i j stops, with_trip-split (moved asked window) i j stops) (same-load is_pickup (take i stops) rest old new k refl refl) in
     let last : total_load (filter is_drop (take k (with_trip asked i j stops))) ≡ total_load (filter is_drop (take k (with_trip (moved asked window) i j stops))) =
     rw (with_trip-split asked i j stops, with_trip-split (moved asked window) i j stops) (same-load is_drop (take i stops) rest old new k refl refl) in
-    let kept = fits k (omega arith) in
-    omega (arith, kept, first, last)
+    let same : load_aboard (take k (with_trip asked i j stops)) ≡ load_aboard (take k (with_trip (moved asked window) i j stops)) =
+    ap (λ (load : Load). load_difference load (total_load (filter is_drop (take k (with_trip asked i j stops))))) first
+    ∙ ap (load_difference (total_load (filter is_pickup (take k (with_trip (moved asked window) i j stops))))) last in
+    subst (λ (load : Load). FitsWithin load vehicle) same (fits k (omega arith))
 
 -- the least schedule that begins the pickup in a narrower window is the least of that window
 pub moved-least : (minutes : ℕ → ℕ → Option ℕ) (vehicle : Vehicle) (asked : Asked) (window : Window) (i j : ℕ) (stops : List Stop) (b : List ℕ) →

@@ -1,11 +1,10 @@
 -- Planning the trip of a request: the vehicles on duty, what is asked of them, and whether one can take it.
-use Rattle.std.specs.Prelude.{ℕ, ◌+◌, List, [], ◌∷◌, ◌++◌, map, Any, All, Option, unwrap_or}
+use Rattle.std.specs.Prelude.{ℕ, ◌+◌, false, List, [], ◌∷◌, ◌++◌, map, Any, All, Option, unwrap_or}
 use Rattle.pt_base.specs.Ranges.{last_minute}
 use Rattle.pt_base.specs.declared.rule.Rule.{Rule}
 use Rattle.pt_base.specs.declared.rule.Rule.TheVariants.{NoVehicle}
 use Rattle.pt_base.specs.declared.trip.Trip.{Trip}
 use Rattle.pt_base.specs.declared.vehicle.Vehicle.{Vehicle}
-use Rattle.pt_feasible.specs.Load.{load_of}
 use Rattle.pt_feasible.specs.Route.{stops_of}
 use Rattle.pt_feasible.specs.declared.stop.Stop.{Stop}
 use Rattle.pt_insertion.specs.Choice.{IsChosenIn, IsBestIn}
@@ -13,7 +12,7 @@ use Rattle.pt_insertion.specs.Possible.{IsPossible}
 use Rattle.pt_insertion.specs.declared.asked.Asked.{Asked}
 use Rattle.pt_insertion.specs.declared.chosen.Chosen.{Chosen}
 use Rattle.pt_insertion.specs.declared.duty.Duty.{Duty}
-use Rattle.pt_party.specs.Party.{persons_of}
+use Rattle.pt_party.specs.Party.{load_of}
 use Rattle.pt_booking.specs.Request.{Request, party_of}
 use Rattle.pt_booking.specs.Rules.{riders_rules}
 use Rattle.pt_booking.specs.Window.{wished_window}
@@ -44,7 +43,7 @@ asked_for minutes request = record {
   latest = unwrap_or request.wish.by last_minute;
   service = request.policy.service;
   ride = ride_limit minutes request;
-  load = load_of (persons_of (party_of request.wish));
+  load = load_of (party_of request.wish) false;
 }
 
 -- a booked trip as its vehicle's route has it: its pickup in the promised window, and what was settled when it was
@@ -59,7 +58,7 @@ asked_of trip = record {
   latest = unwrap_or trip.wish.by last_minute;
   service = trip.service;
   ride = trip.ride;
-  load = load_of (persons_of (party_of trip.wish));
+  load = load_of (party_of trip.wish) false;
 }
 
 -- some vehicle on duty can take the trip: there are places in its route, and service times, that meet every limit

@@ -1,15 +1,12 @@
 ghost use Rattle.std.specs.Prelude.{◌≡◌, ◌≤◌, unwrap_or};
 ghost use Rattle.pt_base.specs.Ranges.{last_minute};
-ghost use Rattle.pt_feasible.specs.Load.{load_of};
-ghost use Rattle.pt_party.specs.Party.{persons_of};
-ghost use Rattle.pt_booking.specs.Request.{party_of, request_of};
+ghost use Rattle.pt_booking.specs.Request.{request_of};
 ghost use Rattle.pt_booking.specs.Planning as spec;
 
 use crate::{TripRequest, party_of, wished_window};
 use pt_base::{LAST_MINUTE, Minute, Trip, Wish};
-use pt_feasible::Load;
 use pt_insertion::Asked;
-use pt_party::persons;
+use pt_party::load;
 use pt_travel::Times;
 
 /// What is asked of the vehicles on duty: the trip with its pickup in the wished window.
@@ -27,7 +24,7 @@ pub fn asked_for<T: Times>(request: &TripRequest<'_>, times: &T) -> Asked
         latest: latest_drop(wish),
         service: request.policy.service,
         ride: ride_limit(request, times),
-        load: load_of(wish),
+        load: load(party_of(wish), false),
     }
 }
 
@@ -44,7 +41,7 @@ pub fn asked_of(trip: &Trip) -> Asked
         latest: latest_drop(&trip.wish),
         service: trip.service,
         ride: trip.ride,
-        load: load_of(&trip.wish),
+        load: load(party_of(&trip.wish), false),
     }
 }
 
@@ -53,13 +50,6 @@ fn latest_drop(wish: &Wish) -> Minute
     ensures { result ≡ unwrap_or wish.now.by last_minute }
 {
     wish.by.unwrap_or(Minute::of(LAST_MINUTE).unwrap())
-}
-
-/// The room that the party takes.
-fn load_of(wish: &Wish) -> Load
-    ensures { result ≡ load_of (persons_of (party_of wish.now)) }
-{
-    Load::of(persons(party_of(wish)) as u16)
 }
 
 /// The most minutes that the ride may take.

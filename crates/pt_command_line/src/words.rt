@@ -25,7 +25,7 @@ const ABOUT: &str = "The office system of a transit agency that gives complement
 (49 CFR Part 37 Subpart F).";
 
 /// The version of the program, which `--version` prints.
-const VERSION: &str = "0.1.0";
+const VERSION: &str = "0.9.0";
 
 const EXIT_STATUS: &str = "Exit status: 0 done, 1 denied, 2 wrong words, 3 want of memory or the \
 store, 4 another fault. With 3 and 4 standard error has the line `fault C row R`.";

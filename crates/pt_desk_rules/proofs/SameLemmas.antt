@@ -87,7 +87,7 @@ shown_one trips stops a b same k x y one two =
     let found = ap (λ (s : Stop). record_at trip_key s.trip trips) stop in
     let trip = same_Some one.trip two.trip (sym one.is_trip ∙ found ∙ two.is_trip) in
     let minute = same (k + 1) in
-    let aboard = load_aboard (take (k + 1) stops) in
+    let aboard = (load_aboard (take (k + 1) stops)).seats in
     let shown : tour_stop one.stop.kind one.trip (slice_index a (k + 1)) aboard
     ≡ tour_stop two.stop.kind two.trip (slice_index b (k + 1)) aboard
     = λ i. tour_stop ((stop i).kind) (trip i) (minute i) aboard in

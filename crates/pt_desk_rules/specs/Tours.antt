@@ -55,7 +55,7 @@ pub record IsShownAt (trips : List Trip) (stops : List Stop) (b : List ℕ) (k :
   pub trip : Trip
   pub is_stop : slice_get stops k ≡ Some stop
   pub is_trip : record_at trip_key stop.trip trips ≡ Some trip
-  pub value : shown ≡ tour_stop stop.kind trip (slice_index b (k + 1)) (load_aboard (take (k + 1) stops))
+  pub value : shown ≡ tour_stop stop.kind trip (slice_index b (k + 1)) (load_aboard (take (k + 1) stops)).seats
 
 -- each stop is shown, in order
 pub record AreShown (trips : List Trip) (stops : List Stop) (b : List ℕ) (shown : List TourStop) : Type 0 where

@@ -6,6 +6,9 @@ use Rattle.std.proofs.lemmas.List.{take_more}
 use Rattle.std.proofs.lemmas.List.Elements.{filter-append}
 use Rattle.std.proofs.lemmas.List.Folds.{Any-from_list_any}
 use Rattle.std.proofs.lemmas.Option.{same_Some, slice_get_within, get_or_from_slice_get, slice_get_read}
+use Rattle.pt_base.specs.declared.load.Load.{Load}
+use Rattle.pt_base.specs.Load.{load_sum, load_difference, IsWithin}
+use Rattle.pt_base.proofs.LoadLemmas.{same_load}
 use Rattle.pt_feasible.specs.declared.stop.Stop.{Stop}
 use Rattle.pt_feasible.specs.declared.stop.StopKind.TheVariants.{Pickup, Drop}
 use Rattle.pt_feasible.specs.Loads.{total_load, load_aboard}
@@ -13,24 +16,80 @@ use Rattle.pt_feasible.specs.Pairing.{IsPaired, is_partner}
 use Rattle.pt_feasible.specs.Stop.{is_pickup, is_drop, takes_aboard, lets_leave}
 use Rattle.pt_feasible.proofs.LimitsLemmas.{not_both}
 
--- the load of joined lists
-pub total_load-append : (xs ys : List Stop) → total_load (xs ++ ys) ≡ total_load xs + total_load ys
-total_load-append [] ys = omega arith
-total_load-append (x ∷ xs) ys = omega (arith, total_load-append xs ys)
+-- the two parts of a load
+abbrev pub seats_of : Load → ℕ
+seats_of load = load.seats
 
--- the load of a stop that passes a test, or none
-abbrev pub load_if : Bool → Stop → ℕ
-load_if test stop = if test then stop.load else 0
+abbrev pub chairs_of : Load → ℕ
+chairs_of load = load.chairs
 
-pub total_load-single : (test : Bool) (stop : Stop) → total_load (cond test (stop ∷ []) []) ≡ load_if test stop
-total_load-single true stop = omega arith
-total_load-single false stop = refl
+-- one part of the loads of all these stops together
+abbrev pub total_of : (Load → ℕ) → List Stop → ℕ
+total_of part [] = 0
+total_of part (stop ∷ stops) = part stop.load + total_of part stops
 
--- the load of the stops that pass a test, with one more stop
-pub total_load-next : (p : Stop → Bool) (stops : List Stop) (k : ℕ) (stop : Stop) → slice_get stops k ≡ Some stop → total_load (filter p (take (k + 1) stops)) ≡ total_load (filter p (take k stops)) + load_if (p stop) stop
-total_load-next p stops k stop here =
-    rw (take_more stops k stop (slice_get_within stops k stop here), get_or_from_slice_get stops k stop stop here, filter-append p (take k stops) (stop ∷ []), total_load-append (filter p (take k stops)) (filter p (stop ∷ [])))
-    (ap (λ (n : ℕ). total_load (filter p (take k stops)) + n) (total_load-single (p stop) stop))
+-- the loads of all these stops are their totals in both parts
+pub total_load-parts : (stops : List Stop) → total_load stops ≡ record { seats = total_of seats_of stops; chairs = total_of chairs_of stops }
+total_load-parts [] = refl
+total_load-parts (stop ∷ stops) = ap (load_sum stop.load) (total_load-parts stops)
+
+pub total-seats : (stops : List Stop) → (total_load stops).seats ≡ total_of seats_of stops
+total-seats stops = ap seats_of (total_load-parts stops)
+
+pub total-chairs : (stops : List Stop) → (total_load stops).chairs ≡ total_of chairs_of stops
+total-chairs stops = ap chairs_of (total_load-parts stops)
+
+-- one part of what is aboard after these stops
+abbrev pub aboard_of : (Load → ℕ) → List Stop → ℕ
+aboard_of part stops = total_of part (filter is_pickup stops) - total_of part (filter is_drop stops)
+
+pub load_aboard-parts : (stops : List Stop) → load_aboard stops ≡ record { seats = aboard_of seats_of stops; chairs = aboard_of chairs_of stops }
+load_aboard-parts stops =
+    ap (λ (load : Load). load_difference load (total_load (filter is_drop stops))) (total_load-parts (filter is_pickup stops))
+    ∙ ap (load_difference (record { seats = total_of seats_of (filter is_pickup stops); chairs = total_of chairs_of (filter is_pickup stops) }))
+    (total_load-parts (filter is_drop stops))
+
+-- what holds of both parts holds of what is aboard
+pub aboard-seats : (stops : List Stop) → (load_aboard stops).seats ≡ aboard_of seats_of stops
+aboard-seats stops = ap seats_of (load_aboard-parts stops)
+
+pub aboard-chairs : (stops : List Stop) → (load_aboard stops).chairs ≡ aboard_of chairs_of stops
+aboard-chairs stops = ap chairs_of (load_aboard-parts stops)
+
+pub aboard-more : (xs ys : List Stop) (load : Load) → ((part : Load → ℕ) → aboard_of part xs ≡ aboard_of part ys + part load) → load_aboard xs ≡ load_sum (load_aboard ys) load
+aboard-more xs ys load each = same_load (load_aboard xs) (load_sum (load_aboard ys) load)
+    (omega (arith, aboard-seats xs, aboard-seats ys, each seats_of))
+    (omega (arith, aboard-chairs xs, aboard-chairs ys, each chairs_of))
+
+pub aboard-less : (xs ys : List Stop) (load : Load) → ((part : Load → ℕ) → aboard_of part xs ≡ aboard_of part ys - part load) → load_aboard xs ≡ load_difference (load_aboard ys) load
+aboard-less xs ys load each = same_load (load_aboard xs) (load_difference (load_aboard ys) load)
+    (omega (arith, aboard-seats xs, aboard-seats ys, each seats_of))
+    (omega (arith, aboard-chairs xs, aboard-chairs ys, each chairs_of))
+
+pub aboard-within : (xs ys : List Stop) → ((part : Load → ℕ) → aboard_of part xs ≤ aboard_of part ys) → IsWithin (load_aboard xs) (load_aboard ys)
+aboard-within xs ys each = record {
+  seats = omega (arith, aboard-seats xs, aboard-seats ys, each seats_of);
+  chairs = omega (arith, aboard-chairs xs, aboard-chairs ys, each chairs_of);
+}
+
+-- one part of the loads of joined lists
+pub total_of-append : (part : Load → ℕ) (xs ys : List Stop) → total_of part (xs ++ ys) ≡ total_of part xs + total_of part ys
+total_of-append part [] ys = omega arith
+total_of-append part (x ∷ xs) ys = omega (arith, total_of-append part xs ys)
+
+-- one part of the load of a stop that passes a test, or none
+abbrev pub load_if : (Load → ℕ) → Bool → Stop → ℕ
+load_if part test stop = if test then part stop.load else 0
+
+pub total_of-single : (part : Load → ℕ) (test : Bool) (stop : Stop) → total_of part (cond test (stop ∷ []) []) ≡ load_if part test stop
+total_of-single part true stop = omega arith
+total_of-single part false stop = refl
+
+-- one part of the loads of the stops that pass a test, with one more stop
+pub total_of-next : (part : Load → ℕ) (p : Stop → Bool) (stops : List Stop) (k : ℕ) (stop : Stop) → slice_get stops k ≡ Some stop → total_of part (filter p (take (k + 1) stops)) ≡ total_of part (filter p (take k stops)) + load_if part (p stop) stop
+total_of-next part p stops k stop here =
+    rw (take_more stops k stop (slice_get_within stops k stop here), get_or_from_slice_get stops k stop stop here, filter-append p (take k stops) (stop ∷ []), total_of-append part (filter p (take k stops)) (filter p (stop ∷ [])))
+    (ap (λ (n : ℕ). total_of part (filter p (take k stops)) + n) (total_of-single part (p stop) stop))
 
 -- the sum of a function below a number
 abbrev pub sum_below : (ℕ → ℕ) → ℕ → ℕ
@@ -82,10 +141,10 @@ sum_below-partners (suc m) n d p IsPartner each once = elim (each m (omega arith
       omega (arith, rest, sum_below-without p found.0 n found.1)
 ]
 
--- the load at a place of the list, if its stop passes a test
-abbrev pub load_at : (Stop → Bool) → Option Stop → ℕ
-load_at p None = 0
-load_at p (Some stop) = load_if (p stop) stop
+-- one part of the load at a place of the list, if its stop passes a test
+abbrev pub load_at : (Load → ℕ) → (Stop → Bool) → Option Stop → ℕ
+load_at part p None = 0
+load_at part p (Some stop) = load_if part (p stop) stop
 
 -- a list has an element at each place within it
 pub element_within : {A : Type 0} (xs : List A) (k : ℕ) → k < length xs → (x : A) × (slice_get xs k ≡ Some x)
@@ -93,15 +152,15 @@ element_within [] k inside = absurd (omega arith)
 element_within (x ∷ xs) zero inside = (x, refl)
 element_within (x ∷ xs) (suc k) inside = element_within xs k (omega arith)
 
--- the load of the first stops that pass a test, as a sum over places
-pub total_load-below : (p : Stop → Bool) (stops : List Stop) (k : ℕ) → k ≤ length stops → total_load (filter p (take k stops)) ≡ sum_below (λ i. load_at p (slice_get stops i)) k
-total_load-below p stops zero inside = refl
-total_load-below p stops (suc k) inside =
+-- one part of the load of the first stops that pass a test, as a sum over places
+pub total_of-below : (part : Load → ℕ) (p : Stop → Bool) (stops : List Stop) (k : ℕ) → k ≤ length stops → total_of part (filter p (take k stops)) ≡ sum_below (λ i. load_at part p (slice_get stops i)) k
+total_of-below part p stops zero inside = refl
+total_of-below part p stops (suc k) inside =
     let found = element_within stops k (omega arith) in
-    let next : total_load (filter p (take (suc k) stops)) ≡ total_load (filter p (take k stops)) + load_if (p found.0) found.0 =
-    subst (λ (n : ℕ). total_load (filter p (take n stops)) ≡ total_load (filter p (take k stops)) + load_if (p found.0) found.0) (add-one k) (total_load-next p stops k found.0 found.1) in
-    let at_k : load_at p (slice_get stops k) ≡ load_if (p found.0) found.0 = ap (load_at p) found.1 in
-    omega (arith, next, at_k, total_load-below p stops k (omega arith))
+    let next : total_of part (filter p (take (suc k) stops)) ≡ total_of part (filter p (take k stops)) + load_if part (p found.0) found.0 =
+    subst (λ (n : ℕ). total_of part (filter p (take n stops)) ≡ total_of part (filter p (take k stops)) + load_if part (p found.0) found.0) (add-one k) (total_of-next part p stops k found.0 found.1) in
+    let at_k : load_at part p (slice_get stops k) ≡ load_if part (p found.0) found.0 = ap (load_at part p) found.1 in
+    omega (arith, next, at_k, total_of-below part p stops k (omega arith))
 
 -- a stop either passes a test or does not
 true_or_false : (b : Bool) → (b ≡ true) ⊎ (b ≡ false)
@@ -149,8 +208,8 @@ pub record IsRide (stops : List Stop) (i j : ℕ) : Type 0 where
   pub same : pickup.trip ≡ drop.trip
 
 -- a trip that is dropped was picked up before, and its load is the same
-pub ride-of-drop : (stops : List Stop) → IsPaired stops → (j : ℕ) (stop : Stop) → slice_get stops j ≡ Some stop → IsTrue (is_drop stop) → (i : ℕ) × (i < j) × (load_at is_drop (slice_get stops j) ≤ load_at is_pickup (slice_get stops i)) × IsRide stops i j
-ride-of-drop stops paired j stop there drops =
+pub ride-of-drop : (part : Load → ℕ) (stops : List Stop) → IsPaired stops → (j : ℕ) (stop : Stop) → slice_get stops j ≡ Some stop → IsTrue (is_drop stop) → (i : ℕ) × (i < j) × (load_at part is_drop (slice_get stops j) ≤ load_at part is_pickup (slice_get stops i)) × IsRide stops i j
+ride-of-drop part stops paired j stop there drops =
     let any = Any-from_list_any (is_partner stop) stops (paired.complete j stop there) in
     let i = any.0 in
     let other = any.1 in
@@ -159,11 +218,11 @@ ride-of-drop stops paired j stop there drops =
     elim (cases_lt i j) [
       | inl before ↦
           let pair = paired.in_order i j other stop before here there is.0 in
-          let left : load_at is_drop (slice_get stops j) ≡ stop.load = ap (load_at is_drop) there ∙ ap (λ (b : Bool). load_if b stop) drops in
-          let taken : load_at is_pickup (slice_get stops i) ≡ other.load = ap (load_at is_pickup) here ∙ ap (λ (b : Bool). load_if b other) is.1 in (
+          let left : load_at part is_drop (slice_get stops j) ≡ part stop.load = ap (load_at part is_drop) there ∙ ap (λ (b : Bool). load_if part b stop) drops in
+          let taken : load_at part is_pickup (slice_get stops i) ≡ part other.load = ap (load_at part is_pickup) here ∙ ap (λ (b : Bool). load_if part b other) is.1 in (
             i,
             before,
-            omega (arith, left, taken, pair.same_load),
+            omega (arith, left, taken, ap part pair.same_load),
             record { pickup = other; drop = stop; here = here; there = there; drops = drops; same = is.0 },
           )
       | inr after ↦ elim (cases_lt j i) [
@@ -177,19 +236,19 @@ ride-of-drop stops paired j stop there drops =
     ]
 
 -- among the first stops of a route no more was dropped than picked up
-pub dropped-le-picked : (stops : List Stop) → IsPaired stops → (k : ℕ) → k ≤ length stops → total_load (filter is_drop (take k stops)) ≤ total_load (filter is_pickup (take k stops))
-dropped-le-picked stops paired k inside =
-    let dropped : ℕ → ℕ = λ i. load_at is_drop (slice_get stops i) in
-    let picked : ℕ → ℕ = λ i. load_at is_pickup (slice_get stops i) in
+pub dropped-le-picked : (part : Load → ℕ) (stops : List Stop) → IsPaired stops → (k : ℕ) → k ≤ length stops → total_of part (filter is_drop (take k stops)) ≤ total_of part (filter is_pickup (take k stops))
+dropped-le-picked part stops paired k inside =
+    let dropped : ℕ → ℕ = λ i. load_at part is_drop (slice_get stops i) in
+    let picked : ℕ → ℕ = λ i. load_at part is_pickup (slice_get stops i) in
     let each : (j : ℕ) → j < k → (dropped j ≡ 0) ⊎ ((i : ℕ) × (i < k) × (dropped j ≤ picked i) × IsRide stops i j) = λ j below.
     (let found = element_within stops j (omega arith) in
     let stop = found.0 in
     let there : slice_get stops j ≡ Some stop = found.1 in
     elim (true_or_false (is_drop stop)) [
       | inl drops ↦
-          let ride = ride-of-drop stops paired j stop there drops in
+          let ride = ride-of-drop part stops paired j stop there drops in
           inr (ride.0, omega (arith, ride.1), ride.2, ride.3)
-      | inr stays ↦ inl (ap (load_at is_drop) there ∙ ap (λ (b : Bool). load_if b stop) stays)
+      | inr stays ↦ inl (ap (load_at part is_drop) there ∙ ap (λ (b : Bool). load_if part b stop) stays)
     ]) in
     let once : (i j l : ℕ) → IsRide stops i j → IsRide stops i l → j ≡ l = λ i j l one two.
     (let pickup : one.pickup ≡ two.pickup = same_Some one.pickup two.pickup (sym one.here ∙ two.here) in
@@ -197,22 +256,42 @@ dropped-le-picked stops paired k inside =
     (sym one.same ∙ (ap (λ (s : Stop). s.trip) pickup ∙ two.same))) in
     omega (
       arith,
-      total_load-below is_drop stops k inside,
-      total_load-below is_pickup stops k inside,
+      total_of-below part is_drop stops k inside,
+      total_of-below part is_pickup stops k inside,
       sum_below-partners k k dropped picked (IsRide stops) each once,
     )
 
 -- a pickup adds its load to those aboard
-pub load_aboard-pickup : (stops : List Stop) → IsPaired stops → (k : ℕ) (stop : Stop) → slice_get stops k ≡ Some stop → IsTrue (is_pickup stop) → load_aboard (take (k + 1) stops) ≡ load_aboard (take k stops) + stop.load
+pub load_aboard-pickup : (stops : List Stop) → IsPaired stops → (k : ℕ) (stop : Stop) → slice_get stops k ≡ Some stop → IsTrue (is_pickup stop) → load_aboard (take (k + 1) stops) ≡ load_sum (load_aboard (take k stops)) stop.load
 load_aboard-pickup stops paired k stop here picks =
-    let inside = slice_get_within stops k stop here in
-    let one : load_if (is_pickup stop) stop ≡ stop.load = ap (λ (b : Bool). load_if b stop) picks in
-    let none : load_if (is_drop stop) stop ≡ 0 = ap (λ (b : Bool). load_if b stop) (pickup-is-no-drop stop picks) in
-    omega (arith, total_load-next is_pickup stops k stop here, total_load-next is_drop stops k stop here, dropped-le-picked stops paired k (omega arith), one, none)
+    aboard-more (take (k + 1) stops) (take k stops) stop.load (λ part.
+    (let inside = slice_get_within stops k stop here in
+    let one : load_if part (is_pickup stop) stop ≡ part stop.load = ap (λ (b : Bool). load_if part b stop) picks in
+    let none : load_if part (is_drop stop) stop ≡ 0 = ap (λ (b : Bool). load_if part b stop) (pickup-is-no-drop stop picks) in
+    omega (arith, total_of-next part is_pickup stops k stop here, total_of-next part is_drop stops k stop here, dropped-le-picked part stops paired k (omega arith), one, none)))
 
 -- a drop takes its load from those aboard
-pub load_aboard-drop : (stops : List Stop) (k : ℕ) (stop : Stop) → slice_get stops k ≡ Some stop → IsTrue (is_drop stop) → load_aboard (take (k + 1) stops) ≡ load_aboard (take k stops) - stop.load
+pub load_aboard-drop : (stops : List Stop) (k : ℕ) (stop : Stop) → slice_get stops k ≡ Some stop → IsTrue (is_drop stop) → load_aboard (take (k + 1) stops) ≡ load_difference (load_aboard (take k stops)) stop.load
 load_aboard-drop stops k stop here drops =
-    let one : load_if (is_drop stop) stop ≡ stop.load = ap (λ (b : Bool). load_if b stop) drops in
-    let none : load_if (is_pickup stop) stop ≡ 0 = ap (λ (b : Bool). load_if b stop) (drop-is-no-pickup stop drops) in
-    omega (arith, total_load-next is_pickup stops k stop here, total_load-next is_drop stops k stop here, one, none)
+    aboard-less (take (k + 1) stops) (take k stops) stop.load (λ part.
+    (let one : load_if part (is_drop stop) stop ≡ part stop.load = ap (λ (b : Bool). load_if part b stop) drops in
+    let none : load_if part (is_pickup stop) stop ≡ 0 = ap (λ (b : Bool). load_if part b stop) (drop-is-no-pickup stop drops) in
+    omega (arith, total_of-next part is_pickup stops k stop here, total_of-next part is_drop stops k stop here, one, none)))
+
+-- the loads of the stops that pass a test, with one more stop that passes
+pub total_load-takes : (p : Stop → Bool) (stops : List Stop) (k : ℕ) (stop : Stop) → slice_get stops k ≡ Some stop → p stop ≡ true → total_load (filter p (take (k + 1) stops)) ≡ load_sum (total_load (filter p (take k stops))) stop.load
+total_load-takes p stops k stop here passes =
+    let each : (part : Load → ℕ) → total_of part (filter p (take (k + 1) stops)) ≡ total_of part (filter p (take k stops)) + part stop.load = λ part.
+    (total_of-next part p stops k stop here ∙ ap (λ (b : Bool). total_of part (filter p (take k stops)) + load_if part b stop) passes) in
+    same_load (total_load (filter p (take (k + 1) stops))) (load_sum (total_load (filter p (take k stops))) stop.load)
+    (omega (arith, total-seats (filter p (take (k + 1) stops)), total-seats (filter p (take k stops)), each seats_of))
+    (omega (arith, total-chairs (filter p (take (k + 1) stops)), total-chairs (filter p (take k stops)), each chairs_of))
+
+-- and with one more that does not pass
+pub total_load-leaves : (p : Stop → Bool) (stops : List Stop) (k : ℕ) (stop : Stop) → slice_get stops k ≡ Some stop → p stop ≡ false → total_load (filter p (take (k + 1) stops)) ≡ total_load (filter p (take k stops))
+total_load-leaves p stops k stop here fails =
+    let each : (part : Load → ℕ) → total_of part (filter p (take (k + 1) stops)) ≡ total_of part (filter p (take k stops)) + 0 = λ part.
+    (total_of-next part p stops k stop here ∙ ap (λ (b : Bool). total_of part (filter p (take k stops)) + load_if part b stop) fails) in
+    same_load (total_load (filter p (take (k + 1) stops))) (total_load (filter p (take k stops)))
+    (omega (arith, total-seats (filter p (take (k + 1) stops)), total-seats (filter p (take k stops)), each seats_of))
+    (omega (arith, total-chairs (filter p (take (k + 1) stops)), total-chairs (filter p (take k stops)), each chairs_of))

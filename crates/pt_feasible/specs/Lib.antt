@@ -1,5 +1,4 @@
 pub mod Limits
-pub mod Load
 pub mod Loads
 pub mod Pairing
 pub mod Plain

@@ -1,8 +1,13 @@
--- Pickups and drops in pairs (Cordeau and Laporte 2003): a vehicle that picks a party up drops it later.
+-- The stops of a route: at most so many, and pickups and drops in pairs (Cordeau and Laporte 2003): a vehicle that picks a
+-- party up drops it later.
 use Rattle.std.specs.Prelude.{◌≡◌, ℕ, ◌<◌, Bool, ◌==◌, ◌&&◌, if◌then◌else◌, IsTrue, List, Some, slice_get}
 use Rattle.std.specs.List.{list_any}
 use Rattle.pt_feasible.specs.declared.stop.Stop.{Stop}
 use Rattle.pt_feasible.specs.Stop.{is_pickup, is_drop}
+
+-- the most stops that a route may have, its depot not counted
+abbrev pub most_stops : ℕ
+most_stops = 100
 
 -- a pickup and a drop that are alike in minutes of service, load and ride limit
 pub record IsPickupThenDrop (first second : Stop) : Type 0 where

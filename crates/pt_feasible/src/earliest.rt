@@ -1,10 +1,11 @@
 ghost use Rattle.std.specs.Prelude.{◌≡◌, ℕ, ◌+◌, ◌≤◌, List, length, IfSome, IfNone};
+ghost use Rattle.pt_feasible.specs.Pairing.{most_stops};
 ghost use Rattle.pt_feasible.specs.ServiceTimes.{TimesFit, IsNeverLater};
 ghost use Rattle.pt_feasible.specs.Steps.{AreSteps};
 
 use crate::limits::step_from;
 use crate::visit::visit_at;
-use crate::{MAX_STOPS, Schedule, Stops};
+use crate::{Schedule, Stops};
 use arrayvec::ArrayVec;
 use pt_base::Vehicle;
 use pt_travel::Times;
@@ -15,7 +16,7 @@ pub struct Earliest {
     /// Minutes of the day before which no service times that fit the route begin.
     pub times: Schedule,
     /// The minutes of each visit's service and of the drive to the next one, and 0 after the last.
-    pub steps: ArrayVec<u32, 62>,
+    pub steps: ArrayVec<u32, 102>,
 }
 
 /// Minutes before which no service times that fit the route begin; `None` where a window ends before.
@@ -26,7 +27,7 @@ pub fn earliest_times<S: Stops, T: Times>(
     times: &T,
     vehicle: &Vehicle,
 ) -> Option<Earliest>
-    requires { length (S.stops stops.now) ≤ MAX_STOPS }
+    requires { length (S.stops stops.now) ≤ most_stops }
     ensures count { IfSome result (λ earliest. length earliest.times.items ≡ length (S.stops stops.now) + 2) }
     ensures earliest { IfSome result (λ earliest. (b : List ℕ)
         → TimesFit (T.minutes times.now) vehicle.now (S.stops stops.now) b → IsNeverLater earliest.times.items b) }

@@ -1,5 +1,6 @@
 ghost use Rattle.std.specs.Prelude.{◌≡◌, ℕ, ◌+◌, ◌<◌, ◌≤◌, ◌↔◌, List, Some, length, slice_get, slice_index};
 ghost use Rattle.std.specs.Prelude.{IsTrue, IfSome, IfNone};
+ghost use Rattle.pt_feasible.specs.Pairing.{most_stops};
 ghost use Rattle.pt_feasible.specs.declared.stop.Stop.{Stop};
 ghost use Rattle.pt_feasible.specs.Limits.{HasTimeToDrive, EndsInTime};
 ghost use Rattle.pt_feasible.specs.ServiceTimes.{KeepsDrivingTimes};
@@ -7,7 +8,7 @@ ghost use Rattle.pt_feasible.specs.Stop.{is_pickup, is_drop};
 ghost use Rattle.pt_feasible.specs.Visit.{visits};
 
 use crate::visit::visit_at;
-use crate::{MAX_STOPS, Stop, StopKind, Stops};
+use crate::{Stop, StopKind, Stops};
 use pt_base::Vehicle;
 use pt_travel::Times;
 
@@ -37,7 +38,7 @@ pub fn step_from<S: Stops, T: Times>(
     vehicle: &Vehicle,
     k: usize,
 ) -> Option<u32>
-    requires few { length (S.stops stops.now) ≤ MAX_STOPS }
+    requires few { length (S.stops stops.now) ≤ most_stops }
     requires among { k < length (S.stops stops.now) + 2 }
     ensures kept { IfSome result (λ step. (b : List ℕ)
         → HasTimeToDrive (T.minutes times.now) (visits vehicle.now (S.stops stops.now)) b k

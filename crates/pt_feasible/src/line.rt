@@ -1,6 +1,7 @@
 ghost use Rattle.std.specs.Prelude.{◌≡◌, ℕ, ◌+◌, ◌<◌, ◌≤◌, List, Some, length, slice_get, slice_index};
 ghost use Rattle.std.specs.Prelude.{slice_index_or, IfSome, IfNone};
 ghost use Rattle.pt_feasible.specs.Line.{IsLineOf};
+ghost use Rattle.pt_feasible.specs.Pairing.{most_stops};
 ghost use Rattle.pt_feasible.specs.ServiceTimes.{TimesFit, IsNeverLater};
 
 use crate::limits::{Limits, since_at, step_from};
@@ -15,10 +16,10 @@ use pt_travel::Times;
 pub struct Line {
     /// Minutes of the day that no fitting service times come before.
     pub earliest: Schedule,
-    pub limits: ArrayVec<Limits, 62>,
+    pub limits: ArrayVec<Limits, 102>,
 }
 
-const _: () = prove!(MAX_STOPS + 2 == 62);
+const _: () = prove!(MAX_STOPS + 2 == 102);
 
 /// The line of a route from a floor of all fitting service times; `None` where a walk along it finds that none fit.
 pub fn line_of<S: Stops, T: Times>(
@@ -27,7 +28,7 @@ pub fn line_of<S: Stops, T: Times>(
     vehicle: &Vehicle,
     floor: &[u16],
 ) -> Option<Line>
-    requires few { length (S.stops stops.now) ≤ MAX_STOPS }
+    requires few { length (S.stops stops.now) ≤ most_stops }
     requires floor { (b : List ℕ) → TimesFit (T.minutes times.now) vehicle.now (S.stops stops.now) b
         → IsNeverLater floor.now b }
     ensures line { IfSome result (λ line. IsLineOf (T.minutes times.now) vehicle.now (S.stops stops.now) line) }

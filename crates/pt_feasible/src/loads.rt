@@ -1,13 +1,14 @@
 ghost use Rattle.std.specs.Prelude.{◌≡◌, ◌+◌, ◌<◌, ◌≤◌, ◌↔◌, length, take, IsTrue, IfSome, IfNone};
-ghost use Rattle.pt_feasible.specs.Load.{IsLoad};
+ghost use Rattle.pt_base.specs.Load.{IsLoad};
 ghost use Rattle.pt_feasible.specs.Loads.{LoadsFit, load_aboard};
+ghost use Rattle.pt_feasible.specs.Pairing.{most_stops};
 
-use crate::{Load, MAX_STOPS, StopKind, Stops};
-use pt_base::Vehicle;
+use crate::{StopKind, Stops};
+use pt_base::{Load, Vehicle};
 
 /// Whether all who are aboard after each stop fit within the vehicle. It takes no memory.
 pub fn loads_fit<S: Stops>(stops: &S, vehicle: &Vehicle) -> bool
-    requires { length (S.stops stops.now) ≤ MAX_STOPS }
+    requires { length (S.stops stops.now) ≤ most_stops }
     ensures { IsTrue result ↔ LoadsFit vehicle.now (S.stops stops.now) }
 {
     let mut aboard = Load::none();

@@ -1,7 +1,6 @@
 ghost use Rattle.std.specs.Prelude.{◌≡◌, ◌≤◌, ◌↔◌, vec_len, All, IsTrue, IsSome, IfSome};
 ghost use Rattle.std.specs.List.{list_any};
-ghost use Rattle.pt_feasible.specs.declared.schedule.TheConstants.{MAX_STOPS};
-ghost use Rattle.pt_feasible.specs.Pairing.{IsPickupThenDrop, is_partner, IsPaired};
+ghost use Rattle.pt_feasible.specs.Pairing.{most_stops, IsPickupThenDrop, is_partner, IsPaired};
 
 use crate::{MAX_STOPS, Stop, StopKind, Stops};
 
@@ -9,7 +8,7 @@ use crate::{MAX_STOPS, Stop, StopKind, Stops};
 #[derive(Debug, Drop)]
 pub struct Route {
     stops: Vec<Stop>,
-    ghost short: { vec_len stops ≤ MAX_STOPS },
+    ghost short: { vec_len stops ≤ most_stops },
     ghost paired: { IsPaired stops.items },
 }
 
@@ -18,7 +17,7 @@ impl Route {
 
     /// The route with these stops; `None` where they are more than `MAX_STOPS` or not in pairs. It takes no memory.
     pub fn of(stops: Vec<Stop>) -> Option<Self>
-        ensures is_route { IsSome result ↔ ((vec_len stops ≤ MAX_STOPS) × IsPaired stops.items) }
+        ensures is_route { IsSome result ↔ ((vec_len stops ≤ most_stops) × IsPaired stops.items) }
         ensures value { IfSome result (λ route. stops_of route ≡ stops.items) }
     {
         if stops.len() > MAX_STOPS || !is_paired(&stops) {

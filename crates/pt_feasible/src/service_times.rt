@@ -1,9 +1,10 @@
 ghost use Rattle.std.specs.Prelude.{◌≡◌, ℕ, ◌+◌, ◌<◌, ◌≤◌, List, length, IfSome, IfNone};
+ghost use Rattle.pt_feasible.specs.Pairing.{most_stops};
 ghost use Rattle.pt_feasible.specs.ServiceTimes.{TimesFit, IsNeverLater, IsLeastSchedule};
 
 use crate::line::line_of;
 use crate::sweep::least_times;
-use crate::{MAX_STOPS, Passes, Schedule, Stops};
+use crate::{Passes, Schedule, Stops};
 use pt_base::Vehicle;
 use pt_travel::Times;
 use std::marker::Brand;
@@ -11,7 +12,7 @@ use std::sync::ledger::{Blank, Ledger};
 
 /// The least service times that fit the route; `None` where none fit. It takes no memory.
 pub fn settle<S: Stops, T: Times>(stops: &S, times: &T, vehicle: &Vehicle) -> Option<Schedule>
-    requires { length (S.stops stops.now) ≤ MAX_STOPS }
+    requires { length (S.stops stops.now) ≤ most_stops }
     ensures least { IfSome result (λ schedule.
         IsLeastSchedule (T.minutes times.now) vehicle.now (S.stops stops.now) schedule.items) }
     ensures none { IfNone result
@@ -27,7 +28,7 @@ pub fn settle_from<S: Stops, T: Times>(
     vehicle: &Vehicle,
     floor: &Schedule,
 ) -> Option<Schedule>
-    requires few { length (S.stops stops.now) ≤ MAX_STOPS }
+    requires few { length (S.stops stops.now) ≤ most_stops }
     requires floor { (b : List ℕ) → TimesFit (T.minutes times.now) vehicle.now (S.stops stops.now) b
         → IsNeverLater floor.now.items b }
     ensures least { IfSome result (λ schedule.
@@ -47,7 +48,7 @@ pub fn settle_counted<L: Ledger, S: Stops, T: Times>(
     vehicle: &Vehicle,
     passes: &mut Passes<L>,
 ) -> Option<Schedule>
-    requires { length (S.stops stops.now) ≤ MAX_STOPS }
+    requires { length (S.stops stops.now) ≤ most_stops }
     ensures least { IfSome result (λ schedule.
         IsLeastSchedule (T.minutes times.now) vehicle.now (S.stops stops.now) schedule.items) }
     ensures none { IfNone result
@@ -68,7 +69,7 @@ fn settle_uncounted<L: Ledger, S: Stops, T: Times>(
     requires name { blank.name ≡ L.name }
     requires parts { blank.parts ≡ L.parts }
     requires some { 0 < L.parts }
-    requires few { length (S.stops stops.now) ≤ MAX_STOPS }
+    requires few { length (S.stops stops.now) ≤ most_stops }
     requires floor { (b : List ℕ) → TimesFit (T.minutes times.now) vehicle.now (S.stops stops.now) b
         → IsNeverLater floor.now b }
     ensures least { IfSome result (λ schedule.
@@ -87,7 +88,7 @@ fn settle_by<L: Ledger, S: Stops, T: Times>(
     floor: &[u16],
     passes: &mut Passes<L>,
 ) -> Option<Schedule>
-    requires few { length (S.stops stops.now) ≤ MAX_STOPS }
+    requires few { length (S.stops stops.now) ≤ most_stops }
     requires floor { (b : List ℕ) → TimesFit (T.minutes times.now) vehicle.now (S.stops stops.now) b
         → IsNeverLater floor.now b }
     ensures least { IfSome result (λ schedule.

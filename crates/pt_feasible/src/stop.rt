@@ -1,5 +1,4 @@
-use crate::Load;
-use pt_base::{Minute, PlaceId, TripId};
+use pt_base::{Load, Minute, PlaceId, TripId};
 
 /// What happens at a stop.
 #[derive(Clone, Copy, Debug, PartialEq, Eq)]

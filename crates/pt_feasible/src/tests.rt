@@ -3,7 +3,7 @@ ghost use Rattle.pt_feasible.specs.Route.{stops_of};
 ghost use Rattle.pt_feasible.specs.Plain.{plain_minutes, plain-stays, plain-within_a_day, plain-triangle};
 
 use super::*;
-use pt_base::{Day, Minute, PlaceId, TripId, Vehicle, VehicleId, Weekdays};
+use pt_base::{Day, Load, Minute, PlaceId, TripId, Vehicle, VehicleId, Weekdays};
 use pt_travel::Times;
 use std::alloc::Global;
 use std::marker::Brand;
@@ -71,7 +71,10 @@ fn stop(trip: u32, kind: StopKind, place: u32, lo: u32, hi: u32, ride: u16) -> R
         lo: Minute::of(lo).ok_or("lo")?,
         hi: Minute::of(hi).ok_or("hi")?,
         service: 2,
-        load: Load::of(1),
+        load: Load {
+            seats: 1,
+            chairs: 0,
+        },
         ride,
     })
 }
@@ -88,22 +91,6 @@ fn drop(trip: u32, place: u32, ride: u16) -> Result<Stop, Fail> {
 fn a_to_b(alloc: Global, lo: u32, hi: u32) -> Result<Route, Fail> {
     let stops = vec![in alloc; pickup(1, A, lo, hi, 50)?, drop(1, B, 50)?]?;
     Ok(Route::of(stops).ok_or("no route")?)
-}
-
-#[test]
-fn settles_one_trip(rt: HostRuntime) -> Result<(), Fail> {
-    let rows: [(u16, u32, u32, [u16; 4]); 4] = [
-        (480, 480, 600, [480, 500, 532, 574]),
-        (100, 540, 660, [514, 540, 572, 614]),
-        (94, 480, 600, [480, 500, 532, 574]),
-        (94, 506, 600, [486, 506, 538, 580]),
-    ];
-    for (duration, lo, hi, times) in rows {
-        let route = a_to_b(rt.alloc(), lo, hi)?;
-        let schedule = settle(&route, &Plain, &vehicle(duration, 1020)?).ok_or("no schedule")?;
-        assert_eq!(rt; schedule.as_slice(), times.as_slice());
-    }
-    Ok(())
 }
 
 #[test]
@@ -158,38 +145,6 @@ fn gives_up_a_ride_that_takes_a_minute_too_long(rt: HostRuntime) -> Result<(), F
 }
 
 #[test]
-fn settles_two_trips(rt: HostRuntime) -> Result<(), Fail> {
-    // The first trip's ride limit holds only because its pickup is put off to 512.
-    let within = vec![in rt.alloc();
-        pickup(1, A, 485, 515, 50)?,
-        pickup(2, C, 535, 655, 45)?,
-        drop(2, B, 45)?,
-        drop(1, B, 50)?,
-    ]?;
-    let after = vec![in rt.alloc();
-        pickup(1, A, 485, 515, 50)?,
-        drop(1, B, 50)?,
-        pickup(2, C, 560, 680, 45)?,
-        drop(2, B, 45)?,
-    ]?;
-    let vehicle = vehicle(480, 1020)?;
-    let route = Route::of(within).ok_or("within")?;
-    let schedule = settle(&route, &Plain, &vehicle).ok_or("no schedule")?;
-    assert_eq!(rt;
-        schedule.as_slice(),
-        [480, 512, 535, 562, 564, 606].as_slice()
-    );
-    assert_eq!(rt; loads_fit(&route, &vehicle), true);
-    let route = Route::of(after).ok_or("after")?;
-    let schedule = settle(&route, &Plain, &vehicle).ok_or("no schedule")?;
-    assert_eq!(rt;
-        schedule.as_slice(),
-        [480, 500, 532, 560, 587, 629].as_slice()
-    );
-    Ok(())
-}
-
-#[test]
 fn tells_what_does_not_fit(rt: HostRuntime) -> Result<(), Fail> {
     // duration, closing, place of the drop, the pickup's window, its ride limit
     let rows: [(u16, u32, u32, u32, u32, u16, bool); 9] = [
@@ -217,68 +172,8 @@ fn tells_what_does_not_fit(rt: HostRuntime) -> Result<(), Fail> {
 }
 
 #[test]
-fn takes_routes_of_any_length(rt: HostRuntime) -> Result<(), Fail> {
-    let vehicle = vehicle(480, 1020)?;
-    let route = Route::of(Vec::new(rt.alloc())).ok_or("empty")?;
-    let schedule = settle(&route, &Plain, &vehicle).ok_or("no schedule")?;
-    assert_eq!(rt; schedule.as_slice(), [480, 480].as_slice());
-    assert_eq!(rt; loads_fit(&route, &vehicle), true);
-
-    let mut stops = Vec::new(rt.alloc());
-    for trip in 1..31 {
-        stops.push(pickup(trip, DEPOT, 540, 660, 50)?)?;
-        stops.push(drop(trip, DEPOT, 50)?)?;
-    }
-    let mut more = stops.clone()?;
-    let route = Route::of(stops).ok_or("sixty stops")?;
-    assert_eq!(rt; route.len(), MAX_STOPS);
-    let schedule = settle(&route, &Plain, &vehicle).ok_or("no schedule")?;
-    for (k, time) in schedule.as_slice().iter().enumerate() {
-        // Two minutes of service at each stop, from 540 on.
-        let expected = if k == 0 { 480 } else { 538 + 2 * k };
-        assert_eq!(rt; usize::from(*time), expected);
-    }
-    assert_eq!(rt; loads_fit(&route, &vehicle), true);
-
-    more.push(pickup(31, DEPOT, 540, 660, 50)?)?;
-    more.push(drop(31, DEPOT, 50)?)?;
-    assert_eq!(rt; Route::of(more).is_none(), true);
-    Ok(())
-}
-
-#[test]
-fn takes_stops_in_pairs_alone(rt: HostRuntime) -> Result<(), Fail> {
-    let first = pickup(1, A, 480, 600, 50)?;
-    let last = drop(1, B, 50)?;
-    let other = drop(1, B, 51)?;
-    let pair = vec![in rt.alloc(); first, last]?;
-    let route = Route::of(pair).ok_or("a pair")?;
-    assert_eq!(rt; route.len(), 2);
-    if route.len() == 2 {
-        assert_eq!(rt; route.stop(0), first);
-        assert_eq!(rt; route.stop(1), last);
-    }
-    for stops in [
-        vec![in rt.alloc(); first]?,
-        vec![in rt.alloc(); last, first]?,
-        vec![in rt.alloc(); first, other]?,
-        vec![in rt.alloc(); first, first, last]?,
-        vec![in rt.alloc(); first, last, first, last]?,
-    ] {
-        assert_eq!(rt; Route::of(stops).is_none(), true);
-    }
-    Ok(())
-}
-
-#[test]
 fn counts_loads(rt: HostRuntime) -> Result<(), Fail> {
     let vehicle = vehicle(480, 1020)?;
-    assert_eq!(rt; Load::of(4).fits(&vehicle), true);
-    assert_eq!(rt; Load::of(5).fits(&vehicle), false);
-    assert_eq!(rt; Load::none().plus(Load::of(3)), Some(Load::of(3)));
-    assert_eq!(rt; Load::of(3).minus(Load::of(1)), Load::of(2));
-    assert_eq!(rt; Load::of(u16::MAX).plus(Load::of(1)), None);
-
     // how many come aboard before the first leaves, and after it
     for (before, after, fits) in [(4, 0, true), (5, 0, false), (4, 1, true), (4, 2, false)] {
         let mut stops = Vec::new(rt.alloc());

@@ -1,12 +1,16 @@
 -- Loads that fit a vehicle still fit when a trip is taken out.
-use Rattle.std.proofs.Common.{◌≡◌, ℕ, zero, suc, ◌+◌, ◌<◌, ◌≤◌, Bool, true, false, not, cond, ◌==◌, ◌⊎◌, List, [], ◌∷◌, Some, length, take, filter, slice_get, inl, inr, refl, ap, sym, ◌∙◌, arith}
+use Rattle.std.proofs.Common.{◌≡◌, ℕ, zero, suc, ◌+◌, ◌<◌, ◌≤◌, Bool, true, false, not, cond, ◌==◌, ◌⊎◌, List, [], ◌∷◌, Some, length, take, filter, slice_get, inl, inr, refl, ap, sym, subst, ◌∙◌, arith}
 use Rattle.std.proofs.lemmas.Bool.{and_parts, eqb-true, cases_lt, cases_order, false≢true}
 use Rattle.std.proofs.lemmas.List.{length-take}
 use Rattle.std.proofs.lemmas.Option.{slice_get_within}
 use Rattle.pt_feasible.specs.declared.stop.Stop.{Stop}
 use Rattle.pt_feasible.specs.declared.stop.StopKind.TheVariants.{Pickup, Drop}
 use Rattle.pt_feasible.specs.Stop.{is_pickup, is_drop, takes_aboard, lets_leave}
-use Rattle.pt_feasible.specs.Loads.{total_load, load_aboard}
+use Rattle.pt_base.specs.Load.{IsWithin, FitsWithin, room_of}
+use Rattle.pt_base.specs.declared.load.Load.{Load}
+use Rattle.pt_base.proofs.LoadLemmas.{within_more}
+use Rattle.pt_feasible.proofs.LoadLemmas.{total_of, aboard-within}
+use Rattle.pt_feasible.specs.Loads.{load_aboard}
 use Rattle.pt_feasible.specs.Pairing.{IsPickupThenDrop, is_partner, IsPaired}
 use Rattle.pt_insertion.specs.Removal.{is_of_another, without_trip, KeepsFittingLoads}
 use Rattle.pt_insertion.proofs.ListLemmas.{slice_get-take, list_any_to}
@@ -17,25 +21,25 @@ use Rattle.pt_insertion.proofs.RemovalPairing.{partner_trip}
 abbrev is_of : ℕ → Stop → Bool
 is_of trip stop = not (is_of_another trip stop)
 
--- the loads of a list are those of the other trips and those of the trip
-total_load_parts : (trip : ℕ) (q : Stop → Bool) (stops : List Stop) →
-    total_load (filter q stops) ≡ total_load (filter q (filter (is_of_another trip) stops)) + total_load (filter q (filter (is_of trip) stops))
-total_load_parts trip q [] = refl
-total_load_parts trip q (stop ∷ stops) =
-    let rest : total_load (filter q stops) ≡ total_load (filter q (filter (is_of_another trip) stops)) + total_load (filter q (filter (is_of trip) stops)) =
-    total_load_parts trip q stops in
-    elim (is_of_another trip stop) as (λ v. total_load (cond (q stop) (stop ∷ filter q stops) (filter q stops))
-    ≡ total_load (filter q (cond v (stop ∷ filter (is_of_another trip) stops) (filter (is_of_another trip) stops)))
-    + total_load (filter q (cond (not v) (stop ∷ filter (is_of trip) stops) (filter (is_of trip) stops)))) [
-      | true ↦ elim (q stop) as (λ w. total_load (cond w (stop ∷ filter q stops) (filter q stops))
-          ≡ total_load (cond w (stop ∷ filter q (filter (is_of_another trip) stops)) (filter q (filter (is_of_another trip) stops)))
-          + total_load (filter q (filter (is_of trip) stops))) [
+-- one part of the loads of a list are those of the other trips and those of the trip
+total_of_parts : (part : Load → ℕ) (trip : ℕ) (q : Stop → Bool) (stops : List Stop) →
+    total_of part (filter q stops) ≡ total_of part (filter q (filter (is_of_another trip) stops)) + total_of part (filter q (filter (is_of trip) stops))
+total_of_parts part trip q [] = refl
+total_of_parts part trip q (stop ∷ stops) =
+    let rest : total_of part (filter q stops) ≡ total_of part (filter q (filter (is_of_another trip) stops)) + total_of part (filter q (filter (is_of trip) stops)) =
+    total_of_parts part trip q stops in
+    elim (is_of_another trip stop) as (λ v. total_of part (cond (q stop) (stop ∷ filter q stops) (filter q stops))
+    ≡ total_of part (filter q (cond v (stop ∷ filter (is_of_another trip) stops) (filter (is_of_another trip) stops)))
+    + total_of part (filter q (cond (not v) (stop ∷ filter (is_of trip) stops) (filter (is_of trip) stops)))) [
+      | true ↦ elim (q stop) as (λ w. total_of part (cond w (stop ∷ filter q stops) (filter q stops))
+          ≡ total_of part (cond w (stop ∷ filter q (filter (is_of_another trip) stops)) (filter q (filter (is_of_another trip) stops)))
+          + total_of part (filter q (filter (is_of trip) stops))) [
             | true ↦ omega arith
             | false ↦ rest
           ]
-      | false ↦ elim (q stop) as (λ w. total_load (cond w (stop ∷ filter q stops) (filter q stops))
-          ≡ total_load (filter q (filter (is_of_another trip) stops))
-          + total_load (cond w (stop ∷ filter q (filter (is_of trip) stops)) (filter q (filter (is_of trip) stops)))) [
+      | false ↦ elim (q stop) as (λ w. total_of part (cond w (stop ∷ filter q stops) (filter q stops))
+          ≡ total_of part (filter q (filter (is_of_another trip) stops))
+          + total_of part (cond w (stop ∷ filter q (filter (is_of trip) stops)) (filter q (filter (is_of trip) stops)))) [
             | true ↦ omega arith
             | false ↦ rest
           ]
@@ -108,9 +112,9 @@ pub record AreOneTrip (own : List Stop) : Type 0 where
       (k : ℕ) × (pickup : Stop) × (slice_get own k ≡ Some pickup) × (is_pickup pickup ≡ true)
 
 -- a trip drops no more than it picked up
-pub drops_within_pickups : (own : List Stop) → AreOneTrip own → total_load (filter is_drop own) ≤ total_load (filter is_pickup own)
-drops_within_pickups [] trip = omega arith
-drops_within_pickups (x ∷ []) trip =
+pub drops_within_pickups : (part : Load → ℕ) (own : List Stop) → AreOneTrip own → total_of part (filter is_drop own) ≤ total_of part (filter is_pickup own)
+drops_within_pickups part [] trip = omega arith
+drops_within_pickups part (x ∷ []) trip =
     elim (pickup_or_drop x) [
       | inl (comes, stays) ↦ rw stays (omega arith)
       | inr (waits, leaves) ↦
@@ -121,15 +125,15 @@ drops_within_pickups (x ∷ []) trip =
     only : (k : ℕ) (pickup : Stop) → slice_get (x ∷ []) k ≡ Some pickup → (x ≡ pickup → ⊥) → ⊥
     only zero pickup at differs = differs (let same : x ≡ pickup = cc in same)
     only (suc k) pickup at differs = cc
-drops_within_pickups (x ∷ y ∷ []) trip =
+drops_within_pickups part (x ∷ y ∷ []) trip =
     let pair : IsPickupThenDrop x y = trip.in_order zero (suc zero) x y (omega arith) refl refl in
     let first_comes : is_pickup x ≡ true = pair.pickup_first in
     let second_leaves : is_drop y ≡ true = pair.drop_second in
     let first_stays : is_drop x ≡ false = pickup_is_no_drop x first_comes in
     let second_waits : is_pickup y ≡ false = drop_is_no_pickup y second_leaves in
-    let load : x.load ≡ y.load = pair.same_load in
+    let load : part x.load ≡ part y.load = ap part pair.same_load in
     rw (first_comes, first_stays, second_leaves, second_waits) (omega arith)
-drops_within_pickups (x ∷ y ∷ z ∷ rest) trip =
+drops_within_pickups part (x ∷ y ∷ z ∷ rest) trip =
     let first : IsPickupThenDrop x y = trip.in_order zero (suc zero) x y (omega arith) refl refl in
     let second : IsPickupThenDrop y z = trip.in_order (suc zero) (suc (suc zero)) y z (omega arith) refl refl in
     absurd (false≢true (sym (drop_is_no_pickup y first.drop_second) ∙ second.pickup_first))
@@ -158,11 +162,11 @@ one_trip trip stops n paired = record {
 
 -- without a trip no more are aboard after the stops in front
 aboard_without_trip : (trip : ℕ) (stops : List Stop) (n : ℕ) → IsPaired stops →
-    load_aboard (without_trip trip (take n stops)) ≤ load_aboard (take n stops)
-aboard_without_trip trip stops n paired =
-    let fewer : total_load (filter is_drop (filter (is_of trip) (take n stops))) ≤ total_load (filter is_pickup (filter (is_of trip) (take n stops))) =
-    drops_within_pickups (filter (is_of trip) (take n stops)) (one_trip trip stops n paired) in
-    omega (arith, total_load_parts trip is_pickup (take n stops), total_load_parts trip is_drop (take n stops))
+    IsWithin (load_aboard (without_trip trip (take n stops))) (load_aboard (take n stops))
+aboard_without_trip trip stops n paired = aboard-within (without_trip trip (take n stops)) (take n stops) (λ part.
+    (let fewer : total_of part (filter is_drop (filter (is_of trip) (take n stops))) ≤ total_of part (filter is_pickup (filter (is_of trip) (take n stops))) =
+    drops_within_pickups part (filter (is_of trip) (take n stops)) (one_trip trip stops n paired) in
+    omega (arith, total_of_parts part trip is_pickup (take n stops), total_of_parts part trip is_drop (take n stops))))
 
 pub loads_stay : (trip : ℕ) (stops : List Stop) → IsPaired stops → KeepsFittingLoads stops (without_trip trip stops)
 loads_stay trip stops paired vehicle fits k h =
@@ -172,9 +176,10 @@ loads_stay trip stops paired vehicle fits k h =
       | inr from ↦ let same : k ≡ length (without_trip trip stops) = omega arith in
           omega (arith, ap (old_place (is_of_another trip) stops) same)
     ] in
-    let old : load_aboard (take (old_place (is_of_another trip) stops k) stops) ≤ vehicle.capacity = fits (old_place (is_of_another trip) stops k) within in
-    let fewer : load_aboard (without_trip trip (take (old_place (is_of_another trip) stops k) stops)) ≤ load_aboard (take (old_place (is_of_another trip) stops k) stops) =
+    let old : FitsWithin (load_aboard (take (old_place (is_of_another trip) stops k) stops)) vehicle = fits (old_place (is_of_another trip) stops k) within in
+    let fewer : IsWithin (load_aboard (without_trip trip (take (old_place (is_of_another trip) stops k) stops))) (load_aboard (take (old_place (is_of_another trip) stops k) stops)) =
     aboard_without_trip trip stops (old_place (is_of_another trip) stops k) paired in
     let same : load_aboard (take k (without_trip trip stops)) ≡ load_aboard (without_trip trip (take (old_place (is_of_another trip) stops k) stops)) =
     ap load_aboard (take-filter (is_of_another trip) stops k) in
-    omega arith
+    subst (λ (load : Load). FitsWithin load vehicle) (sym same)
+    (within_more (load_aboard (without_trip trip (take (old_place (is_of_another trip) stops k) stops))) (load_aboard (take (old_place (is_of_another trip) stops k) stops)) (room_of vehicle) fewer old)

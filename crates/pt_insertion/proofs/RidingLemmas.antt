@@ -2,17 +2,19 @@
 use Rattle.std.proofs.Common.{◌≡◌, ℕ, zero, suc, get_or, ◌+◌, ◌-◌, ◌<◌, ◌≤◌, Bool, List, Option, Some, None, IsSomeAnd, length, take, slice_get, slice_index, refl, ap, sym, subst, ◌∙◌, arith, add-one}
 use Rattle.std.specs.Prelude.{filter}
 use Rattle.std.proofs.lemmas.Option.{same_Some, slice_get-get_or}
+use Rattle.pt_base.specs.Load.{load_sum, IsLoad, FitsWithin}
 use Rattle.pt_base.specs.Ranges.{last_minute}
+use Rattle.pt_base.specs.declared.load.Load.{Load}
 use Rattle.pt_base.specs.declared.vehicle.Vehicle.{Vehicle}
 use Rattle.pt_feasible.specs.declared.stop.Stop.{Stop}
 use Rattle.pt_feasible.specs.declared.visit.Visit.{Visit}
-use Rattle.pt_feasible.specs.Load.{IsLoad}
-use Rattle.pt_feasible.specs.Loads.{total_load, load_aboard, LoadsFit}
+use Rattle.pt_base.proofs.LoadLemmas.{fits-is_load}
+use Rattle.pt_feasible.specs.Loads.{load_aboard, LoadsFit}
 use Rattle.pt_feasible.specs.Pairing.{IsPaired}
 use Rattle.pt_feasible.specs.ServiceTimes.{TimesFit}
 use Rattle.pt_feasible.specs.Stop.{is_pickup, is_drop}
 use Rattle.pt_feasible.specs.Visit.{visits, depot_visit, stop_visit}
-use Rattle.pt_feasible.proofs.LoadLemmas.{load_if, total_load-next, dropped-le-picked, element_within}
+use Rattle.pt_feasible.proofs.LoadLemmas.{total_of, aboard_of, aboard-more, load_if, total_of-next, dropped-le-picked, element_within}
 use Rattle.pt_feasible.proofs.VisitLemmas.{length-visits, visits-stop}
 use Rattle.pt_insertion.specs.declared.asked.Asked.{Asked}
 use Rattle.pt_insertion.specs.Asked.{pickup_stop, drop_stop}
@@ -27,72 +29,73 @@ use Rattle.pt_insertion.proofs.PlaceLemmas.{without_with, old_visit-between}
 use Rattle.pt_insertion.proofs.RemovalLoads.{loads_stay}
 
 -- before the pickup as much is loaded as without the trip
-load_before : (p : Stop → Bool) (asked : Asked) (i j : ℕ) (stops : List Stop) (k : ℕ) → i ≤ j → j ≤ length stops → k ≤ i →
-    total_load (filter p (take k (with_trip asked i j stops))) ≡ total_load (filter p (take k stops))
-load_before p asked i j stops zero h g before = refl
-load_before p asked i j stops (suc k) h g before =
+load_before : (part : Load → ℕ) (p : Stop → Bool) (asked : Asked) (i j : ℕ) (stops : List Stop) (k : ℕ) → i ≤ j → j ≤ length stops → k ≤ i →
+    total_of part (filter p (take k (with_trip asked i j stops))) ≡ total_of part (filter p (take k stops))
+load_before part p asked i j stops zero h g before = refl
+load_before part p asked i j stops (suc k) h g before =
     let (stop, here) = element_within stops k (omega arith) in
     let there : slice_get (with_trip asked i j stops) k ≡ Some stop = with_trip_before asked i j stops k h g (omega arith) ∙ here in
-    let old = total_load-next p stops k stop here in
-    let new = total_load-next p (with_trip asked i j stops) k stop there in
-    let rest = load_before p asked i j stops k h g (omega arith) in
+    let old = total_of-next part p stops k stop here in
+    let new = total_of-next part p (with_trip asked i j stops) k stop there in
+    let rest = load_before part p asked i j stops k h g (omega arith) in
     let next : k + 1 ≡ suc k = omega arith in
-    subst (λ (n : ℕ). total_load (filter p (take n (with_trip asked i j stops))) ≡ total_load (filter p (take n stops))) next (omega arith)
+    subst (λ (n : ℕ). total_of part (filter p (take n (with_trip asked i j stops))) ≡ total_of part (filter p (take n stops))) next (omega arith)
 
 -- from the pickup on the party is loaded too
-load_between : (p : Stop → Bool) (asked : Asked) (i j : ℕ) (stops : List Stop) (n : ℕ) → i ≤ j → j ≤ length stops → i + n ≤ j →
-    total_load (filter p (take (i + n + 1) (with_trip asked i j stops)))
-    ≡ total_load (filter p (take (i + n) stops)) + load_if (p (pickup_stop asked)) (pickup_stop asked)
-load_between p asked i j stops zero h g within =
+load_between : (part : Load → ℕ) (p : Stop → Bool) (asked : Asked) (i j : ℕ) (stops : List Stop) (n : ℕ) → i ≤ j → j ≤ length stops → i + n ≤ j →
+    total_of part (filter p (take (i + n + 1) (with_trip asked i j stops)))
+    ≡ total_of part (filter p (take (i + n) stops)) + load_if part (p (pickup_stop asked)) (pickup_stop asked)
+load_between part p asked i j stops zero h g within =
     let same : i ≡ i + 0 = omega arith in
-    let new = total_load-next p (with_trip asked i j stops) i (pickup_stop asked) (with_trip_pickup asked i j stops h g) in
-    let before = load_before p asked i j stops i h g (omega arith) in
-    subst (λ (m : ℕ). total_load (filter p (take (m + 1) (with_trip asked i j stops)))
-    ≡ total_load (filter p (take m stops)) + load_if (p (pickup_stop asked)) (pickup_stop asked)) same (omega arith)
-load_between p asked i j stops (suc n) h g within =
+    let new = total_of-next part p (with_trip asked i j stops) i (pickup_stop asked) (with_trip_pickup asked i j stops h g) in
+    let before = load_before part p asked i j stops i h g (omega arith) in
+    subst (λ (m : ℕ). total_of part (filter p (take (m + 1) (with_trip asked i j stops)))
+    ≡ total_of part (filter p (take m stops)) + load_if part (p (pickup_stop asked)) (pickup_stop asked)) same (omega arith)
+load_between part p asked i j stops (suc n) h g within =
     let (stop, here) = element_within stops (i + n) (omega arith) in
     let there : slice_get (with_trip asked i j stops) (i + n + 1) ≡ Some stop =
     with_trip_between asked i j stops (i + n + 1) (i + n) h g (omega arith) (omega arith) refl ∙ here in
-    let old = total_load-next p stops (i + n) stop here in
-    let new = total_load-next p (with_trip asked i j stops) (i + n + 1) stop there in
-    let rest = load_between p asked i j stops n h g (omega arith) in
+    let old = total_of-next part p stops (i + n) stop here in
+    let new = total_of-next part p (with_trip asked i j stops) (i + n + 1) stop there in
+    let rest = load_between part p asked i j stops n h g (omega arith) in
     let next : i + n + 1 ≡ i + suc n = omega arith in
-    subst (λ (m : ℕ). total_load (filter p (take (m + 1) (with_trip asked i j stops)))
-    ≡ total_load (filter p (take m stops)) + load_if (p (pickup_stop asked)) (pickup_stop asked)) next (omega arith)
+    subst (λ (m : ℕ). total_of part (filter p (take (m + 1) (with_trip asked i j stops)))
+    ≡ total_of part (filter p (take m stops)) + load_if part (p (pickup_stop asked)) (pickup_stop asked)) next (omega arith)
 
 -- during the ride all others are aboard beside the party
 aboard_beside : (asked : Asked) (i j : ℕ) (stops : List Stop) (k : ℕ) → IsPaired stops → i ≤ k → k ≤ j → j ≤ length stops →
-    load_aboard (take (k + 1) (with_trip asked i j stops)) ≡ load_aboard (take k stops) + asked.load
+    load_aboard (take (k + 1) (with_trip asked i j stops)) ≡ load_sum (load_aboard (take k stops)) asked.load
 aboard_beside asked i j stops k paired from to g =
-    let within : i + (k - i) ≤ j = omega arith in
+    aboard-more (take (k + 1) (with_trip asked i j stops)) (take k stops) asked.load (λ part.
+    (let within : i + (k - i) ≤ j = omega arith in
     let at : i + (k - i) ≡ k = omega arith in
-    let picked : total_load (filter is_pickup (take (i + (k - i) + 1) (with_trip asked i j stops)))
-    ≡ total_load (filter is_pickup (take (i + (k - i)) stops)) + asked.load = load_between is_pickup asked i j stops (k - i) (omega arith) g within in
-    let dropped : total_load (filter is_drop (take (i + (k - i) + 1) (with_trip asked i j stops)))
-    ≡ total_load (filter is_drop (take (i + (k - i)) stops)) + 0 = load_between is_drop asked i j stops (k - i) (omega arith) g within in
-    let fewer = dropped-le-picked stops paired (i + (k - i)) (omega arith) in
-    subst (λ (m : ℕ). load_aboard (take (m + 1) (with_trip asked i j stops)) ≡ load_aboard (take m stops) + asked.load) at (omega arith)
+    let picked : total_of part (filter is_pickup (take (i + (k - i) + 1) (with_trip asked i j stops)))
+    ≡ total_of part (filter is_pickup (take (i + (k - i)) stops)) + part asked.load = load_between part is_pickup asked i j stops (k - i) (omega arith) g within in
+    let dropped : total_of part (filter is_drop (take (i + (k - i) + 1) (with_trip asked i j stops)))
+    ≡ total_of part (filter is_drop (take (i + (k - i)) stops)) + 0 = load_between part is_drop asked i j stops (k - i) (omega arith) g within in
+    let fewer = dropped-le-picked part stops paired (i + (k - i)) (omega arith) in
+    subst (λ (m : ℕ). aboard_of part (take (m + 1) (with_trip asked i j stops)) ≡ aboard_of part (take m stops) + part asked.load) at (omega arith)))
 
 -- where the vehicle is too full with the party at a stop of the ride, no place is possible
 pub no_room : (minutes : ℕ → ℕ → Option ℕ) (vehicle : Vehicle) (stops : List Stop) (asked : Asked) (i k : ℕ) → IsPaired stops → i ≤ k →
-    ¬ (load_aboard (take k stops) + asked.load ≤ vehicle.capacity) →
+    ¬ FitsWithin (load_sum (load_aboard (take k stops)) asked.load) vehicle →
     (later : ℕ) → k ≤ later → ¬ IsPossible minutes vehicle stops asked i later
 no_room minutes vehicle stops asked i k paired from full later to possible =
     let among : later ≤ length stops = possible.among in
-    let fits : load_aboard (take (k + 1) (with_trip asked i later stops)) ≤ vehicle.capacity =
+    let fits : FitsWithin (load_aboard (take (k + 1) (with_trip asked i later stops))) vehicle =
     possible.loads (k + 1) (omega (arith, length-with_trip asked i later stops possible.drop_later among)) in
-    full (omega (arith, fits, aboard_beside asked i later stops k paired from to among))
+    full (subst (λ (load : Load). FitsWithin load vehicle) (aboard_beside asked i later stops k paired from to among) fits)
 
 -- a route on which more are aboard than any vehicle carries has no possible place
 pub none_fit : (minutes : ℕ → ℕ → Option ℕ) (vehicle : Vehicle) (stops : List Stop) (asked : Asked) (k : ℕ) → IsPaired stops →
-    IsWithout asked.trip stops → vehicle.capacity ≤ 65_535 → k ≤ length stops → ¬ IsLoad (load_aboard (take k stops)) →
+    IsWithout asked.trip stops → k ≤ length stops → ¬ IsLoad (load_aboard (take k stops)) →
     (i j : ℕ) → ¬ IsPossible minutes vehicle stops asked i j
-none_fit minutes vehicle stops asked k paired new small within full i j possible =
+none_fit minutes vehicle stops asked k paired new within full i j possible =
     let pairs = IsPaired-with_trip asked i j stops possible.drop_later possible.among new paired in
     let old : LoadsFit vehicle stops =
     subst (LoadsFit vehicle) (without_with asked i j stops possible.drop_later new)
     (loads_stay asked.trip (with_trip asked i j stops) pairs vehicle possible.loads) in
-    full (let fits : load_aboard (take k stops) ≤ vehicle.capacity = old k within in omega arith)
+    full (fits-is_load (load_aboard (take k stops)) vehicle (old k within))
 
 -- the ride as it begins
 pub begins_ride : (minutes : ℕ → ℕ → Option ℕ) (vehicle : Vehicle) (stops : List Stop) (asked : Asked) (i : ℕ) →

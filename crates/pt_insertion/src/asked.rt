@@ -1,8 +1,8 @@
 ghost use Rattle.std.specs.Prelude.{◌≡◌};
 ghost use Rattle.pt_insertion.specs.Asked.{pickup_stop, drop_stop};
 
-use pt_base::{Minute, PlaceId, TripId};
-use pt_feasible::{Load, Stop, StopKind};
+use pt_base::{Load, Minute, PlaceId, TripId};
+use pt_feasible::{Stop, StopKind};
 
 /// A trip that is asked for.
 #[derive(Clone, Copy, Debug, PartialEq, Eq)]

@@ -1,6 +1,6 @@
 ghost use Rattle.std.specs.Prelude.{◌≡◌, ◌+◌, ◌≤◌, ◌↔◌, length, IsTrue, IfOk, IfErr};
 ghost use Rattle.pt_base.specs.Codes.{memory_refused};
-ghost use Rattle.pt_feasible.specs.declared.schedule.TheConstants.{MAX_STOPS};
+ghost use Rattle.pt_feasible.specs.Pairing.{most_stops};
 ghost use Rattle.pt_feasible.specs.Route.{stops_of};
 ghost use Rattle.pt_insertion.specs.Insertion.{with_trip, IsWithout};
 ghost use Rattle.pt_insertion.specs.Removal.{without_trip, KeepsFittingTimes, KeepsFittingLoads};
@@ -21,7 +21,7 @@ pub trait RouteEdits: Stops {
     fn inserted(&self, alloc: Global, asked: &Asked, chosen: &Chosen) -> Result<Route, Fault>
         requires drop_later { chosen.now.i ≤ chosen.now.j }
         requires among { chosen.now.j ≤ length (Self.stops self.now) }
-        requires room { length (Self.stops self.now) + 2 ≤ MAX_STOPS }
+        requires room { length (Self.stops self.now) + 2 ≤ most_stops }
         requires new_trip { IsWithout asked.now.trip (Self.stops self.now) }
         ensures value { IfOk result (λ route.
             stops_of route ≡ with_trip asked.now chosen.now.i chosen.now.j (Self.stops self.now)) }

@@ -1,6 +1,6 @@
 ghost use Rattle.std.specs.Prelude.{◌≡◌, ℕ, ◌+◌, ◌<◌, ◌≤◌, ◌↔◌, Option, length, take, IsTrue, IfSome, IfNone};
+ghost use Rattle.pt_base.specs.Load.{load_sum, FitsWithin};
 ghost use Rattle.pt_base.specs.Ranges.{last_minute};
-ghost use Rattle.pt_feasible.specs.Load.{load_sum, FitsWithin};
 ghost use Rattle.pt_feasible.specs.Loads.{load_aboard};
 ghost use Rattle.pt_feasible.specs.Route.{stops_of};
 ghost use Rattle.pt_insertion.specs.Insertion.{IsWithout};
@@ -8,8 +8,8 @@ ghost use Rattle.pt_insertion.specs.Possible.{IsPossible};
 ghost use Rattle.pt_insertion.specs.Riding.{IsRiding};
 
 use crate::{Asked, Duty};
-use pt_base::{PlaceId, Vehicle};
-use pt_feasible::{Load, aboard_after, visit_at};
+use pt_base::{Load, PlaceId, Vehicle};
+use pt_feasible::{aboard_after, visit_at};
 use pt_travel::Times;
 
 /// A ride from its pickup on, at one of the places where the vehicle stops.

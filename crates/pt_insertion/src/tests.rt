@@ -2,8 +2,8 @@ ghost use Rattle.std.specs.Prelude.{IsTrue};
 ghost use Rattle.pt_feasible.specs.Plain.{plain_minutes, plain-stays, plain-within_a_day, plain-triangle};
 
 use super::*;
-use pt_base::{Day, Fault, Minute, PlaceId, TripId, Vehicle, VehicleId, Weekdays};
-use pt_feasible::{Load, MAX_STOPS, Route, Stop, StopKind, Stops};
+use pt_base::{Day, Fault, Load, Minute, PlaceId, TripId, Vehicle, VehicleId, Weekdays};
+use pt_feasible::{MAX_STOPS, Route, Stop, StopKind, Stops};
 use pt_travel::Times;
 use std::alloc::Global;
 use std::test::Fail;
@@ -74,7 +74,10 @@ fn asked(trip: u32, ends: (u32, u32), window: (u32, u32), persons: u16) -> Resul
         latest: Minute::of(1439).ok_or("latest")?,
         service: 2,
         ride: direct + 20,
-        load: Load::of(persons),
+        load: Load {
+            seats: persons,
+            chairs: 0,
+        },
     })
 }
 
@@ -158,94 +161,6 @@ fn takes_the_place_with_the_least_added_driving(rt: HostRuntime) -> Result<(), F
         after.schedule.as_slice(),
         [480, 500, 532, 560, 587, 629].as_slice()
     );
-    Ok(())
-}
-
-#[test]
-fn takes_a_trip_out(rt: HostRuntime) -> Result<(), Fail> {
-    let vehicle = vehicle(1, 4)?;
-    let first = a_to_b(rt.alloc())?;
-    let wished = asked(2, (C, B), (535, 655), 1)?;
-    let chosen = choose(
-        &[Duty {
-            vehicle: &vehicle,
-            route: &first,
-        }],
-        &wished,
-    )?
-    .ok_or("none")?;
-    let both = insert(rt.alloc(), &first, &wished, &chosen)?;
-    assert_eq!(rt; (both.len(), both.is_without(wished.trip)), (4, false));
-    let left = both.removed(rt.alloc(), wished.trip)?;
-    assert_eq!(rt; (left.len(), left.is_without(wished.trip)), (2, true));
-    let schedule = pt_feasible::settle(&left, &Plain, &vehicle).ok_or("no schedule")?;
-    assert_eq!(rt; schedule.as_slice(), [480, 500, 532, 574].as_slice());
-    Ok(())
-}
-
-#[test]
-fn takes_thirty_trips_and_no_more(rt: HostRuntime) -> Result<(), Fail> {
-    let vehicle = vehicle(1, 30)?;
-    let mut route = empty(rt.alloc())?;
-    for trip in 1..31 {
-        let mut wished = asked(trip, (DEPOT, DEPOT), (540, 660), 1)?;
-        wished.service = 0;
-        wished.ride = 0;
-        let chosen = choose(
-            &[Duty {
-                vehicle: &vehicle,
-                route: &route,
-            }],
-            &wished,
-        )?
-        .ok_or("none")?;
-        assert_eq!(rt; (chosen.i, chosen.j, chosen.added), (0, 0, 0));
-        route = insert(rt.alloc(), &route, &wished, &chosen)?;
-    }
-    let more = asked(31, (DEPOT, DEPOT), (540, 660), 1)?;
-    assert_eq!(rt;
-        choose(
-            &[Duty {
-                vehicle: &vehicle,
-                route: &route
-            }],
-            &more
-        )?
-        .is_none(),
-        true
-    );
-    Ok(())
-}
-
-#[test]
-fn takes_the_lower_vehicle_of_two(rt: HostRuntime) -> Result<(), Fail> {
-    let (low, high) = (vehicle(3, 4)?, vehicle(8, 4)?);
-    let route = empty(rt.alloc())?;
-    let other = empty(rt.alloc())?;
-    let wished = asked(1, (A, B), (480, 600), 1)?;
-    let duties = [
-        Duty {
-            vehicle: &low,
-            route: &route,
-        },
-        Duty {
-            vehicle: &high,
-            route: &other,
-        },
-    ];
-    let chosen = choose(&duties, &wished)?.ok_or("none")?;
-    assert_eq!(rt; chosen.vehicle.number(), 3);
-    let turned = [
-        Duty {
-            vehicle: &high,
-            route: &route,
-        },
-        Duty {
-            vehicle: &low,
-            route: &other,
-        },
-    ];
-    assert_eq!(rt; are_rising(&turned), false);
     Ok(())
 }
 

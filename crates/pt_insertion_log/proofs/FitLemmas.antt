@@ -9,7 +9,7 @@ use Rattle.pt_audit.specs.Text.{IsInForm}
 use Rattle.std.proofs.lemmas.List.{get_or-take}
 use Rattle.std.proofs.lemmas.Option.{slice_get_within}
 use Rattle.pt_base.specs.declared.vehicle.Vehicle.{Vehicle}
-use Rattle.pt_feasible.specs.declared.schedule.TheConstants.{MAX_STOPS}
+use Rattle.pt_feasible.specs.Pairing.{most_stops}
 use Rattle.pt_feasible.specs.declared.stop.Stop.{Stop}
 use Rattle.pt_feasible.specs.declared.visit.Visit.{Visit}
 use Rattle.pt_feasible.specs.Loads.{load_aboard, LoadsFit}
@@ -71,14 +71,17 @@ module _ (minutes : ℕ → ℕ → Option ℕ) (vehicle : Vehicle) (stops : Lis
 
 -- those aboard always fit
 pub clear-loads : (minutes : ℕ → ℕ → Option ℕ) (vehicle : Vehicle) (stops : List Stop) → ((k : ℕ) → IsClear minutes vehicle stops k) → LoadsFit vehicle stops
-clear-loads minutes vehicle stops clear k inside = elim (cases_lt vehicle.capacity (load_aboard (take k stops))) [
-  | inl over ↦ absurd ((clear k).2 (inside, λ fits. omega (arith, fits, over)))
-  | inr fits ↦ fits
+clear-loads minutes vehicle stops clear k inside = elim (cases_lt vehicle.capacity (load_aboard (take k stops)).seats) [
+  | inl over ↦ absurd ((clear k).2 (inside, λ fits. omega (arith, fits.seats, over)))
+  | inr seats ↦ elim (cases_lt 0 (load_aboard (take k stops)).chairs) [
+    | inl over ↦ absurd ((clear k).2 (inside, λ fits. omega (arith, fits.chairs, over)))
+    | inr chairs ↦ record { seats = seats; chairs = chairs }
+  ]
 ]
 
 -- the route has room
-pub clear-room : (minutes : ℕ → ℕ → Option ℕ) (vehicle : Vehicle) (stops : List Stop) → ((k : ℕ) → IsClear minutes vehicle stops k) → length stops ≤ MAX_STOPS
-clear-room minutes vehicle stops clear = elim (cases_lt MAX_STOPS (length stops)) [
+pub clear-room : (minutes : ℕ → ℕ → Option ℕ) (vehicle : Vehicle) (stops : List Stop) → ((k : ℕ) → IsClear minutes vehicle stops k) → length stops ≤ most_stops
+clear-room minutes vehicle stops clear = elim (cases_lt most_stops (length stops)) [
   | inl over ↦ absurd ((clear 0).0 over)
   | inr fits ↦ fits
 ]

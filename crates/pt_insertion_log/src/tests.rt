@@ -2,8 +2,8 @@ ghost use Rattle.pt_feasible.specs.Plain.{plain_minutes, plain-stays, plain-with
 
 use super::*;
 use pt_base::fault::WRITE_FAILED;
-use pt_base::{Day, Fault, Minute, PlaceId, TripId, Vehicle, VehicleId, Weekdays};
-use pt_feasible::{Load, Route};
+use pt_base::{Day, Fault, Load, Minute, PlaceId, TripId, Vehicle, VehicleId, Weekdays};
+use pt_feasible::Route;
 use pt_insertion::{Asked, Duty, are_rising, are_without, best};
 use pt_travel::Times;
 use std::io::{ErrorKind, Write};
@@ -60,7 +60,10 @@ fn asked(goal: u32) -> Result<Asked, Fail> {
         latest: Minute::of(1439).ok_or("latest")?,
         service: 2,
         ride: 50,
-        load: Load::of(2),
+        load: Load {
+            seats: 2,
+            chairs: 0,
+        },
     })
 }
 

@@ -1,5 +1,6 @@
 -- The persons of a trip: the rider, an attendant or none, and companions.
-use Rattle.std.specs.Prelude.{ℕ, ◌+◌, ◌≤◌, IsTrue, if◌then◌else◌}
+use Rattle.std.specs.Prelude.{ℕ, ◌+◌, ◌-◌, ◌≤◌, Bool, true, false, IsTrue, if◌then◌else◌}
+use Rattle.pt_base.specs.declared.load.Load.{Load}
 use Rattle.pt_base.specs.declared.rider.Rider.{Rider}
 use Rattle.pt_party.specs.declared.party.Party.{Party}
 
@@ -19,3 +20,8 @@ attendants_of party = if party.attendant then 1 else 0
 -- all who board the vehicle
 abbrev pub persons_of : Party → ℕ
 persons_of party = payers_of party + attendants_of party
+
+-- each person takes a seat, but a rider in a wheelchair takes a wheelchair place
+abbrev pub load_of : Party → Bool → Load
+load_of party false = record { seats = persons_of party; chairs = 0 }
+load_of party true = record { seats = persons_of party - 1; chairs = 1 }

@@ -1,8 +1,8 @@
 ghost use Rattle.std.specs.Prelude.{◌≡◌, ◌↔◌, IsNone, IfSome};
 ghost use Rattle.std.specs.Int.{IsInRange};
-ghost use Rattle.pt_party.specs.Party.{MayTravel, persons_of};
+ghost use Rattle.pt_party.specs.Party.{MayTravel, persons_of, load_of};
 
-use pt_base::{Rider, Rule};
+use pt_base::{Load, Rider, Rule};
 
 /// Who comes along with a rider, as a trip was asked for. It may be more than the rules allow.
 #[derive(Clone, Copy, Debug, PartialEq, Eq)]
@@ -30,4 +30,21 @@ pub fn persons(party: Party) -> u32
     ensures in_range { IsInRange 1 257 result }
 {
     1 + u32::from(party.attendant) + u32::from(party.companions)
+}
+
+/// What the party takes of a vehicle's room, where its rider rides in a wheelchair or does not.
+pub fn load(party: Party, wheelchair: bool) -> Load
+    ensures { result ≡ load_of party wheelchair }
+{
+    let persons = persons(party) as u16;
+    if wheelchair {
+        return Load {
+            seats: persons - 1,
+            chairs: 1,
+        };
+    }
+    Load {
+        seats: persons,
+        chairs: 0,
+    }
 }

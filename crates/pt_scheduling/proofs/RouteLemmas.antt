@@ -13,7 +13,7 @@ use Rattle.pt_base.specs.declared.trip.Trip.{Trip}
 use Rattle.pt_base.specs.declared.vehicle.Vehicle.{Vehicle}
 use Rattle.pt_booking.specs.Planning.{OnDuty, asked_for, asked_of}
 use Rattle.pt_booking.specs.Request.{Request}
-use Rattle.pt_feasible.specs.declared.schedule.TheConstants.{MAX_STOPS}
+use Rattle.pt_feasible.specs.Pairing.{most_stops}
 use Rattle.pt_feasible.specs.declared.stop.Stop.{Stop}
 use Rattle.pt_feasible.specs.declared.stop.StopKind.{StopKind}
 use Rattle.pt_insertion.specs.Insertion.{with_trip, IsWithout}
@@ -211,7 +211,7 @@ of_vehicle trip day trips plans vehicles k there within at =
 
 booked_stops : (minutes : ℕ → ℕ → Option ℕ) (day : ℕ) (trips : List Trip) (plans : List Plan) (vehicles : List Vehicle) (request : Request) (trip : Trip) (plan : Plan) (chosen : Chosen)
     (old : List Stop) (vehicle : Vehicle) (stops : List Stop) → Each IsRoutePlan plans → trip.id ≡ request.trip → chosen.i ≤ chosen.j → old ≡ stops_there request.trip day trips plans vehicle
-    → stops ≡ with_trip (asked_of trip) chosen.i chosen.j old → length stops ≤ MAX_STOPS → plan.stops ≡ map planned_stop stops → IsRoutePlan plan
+    → stops ≡ with_trip (asked_of trip) chosen.i chosen.j old → length stops ≤ most_stops → plan.stops ≡ map planned_stop stops → IsRoutePlan plan
 booked_stops minutes day trips plans vehicles request trip plan chosen old vehicle stops each number le old_is is few plan_is = record {
   few = let same = length-map stops planned_stop in let here = ap (λ (xs : List PlannedStop). length xs) plan_is in omega (arith, few, same, here);
   paired = λ k.

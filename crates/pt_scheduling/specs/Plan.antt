@@ -1,7 +1,7 @@
 -- What is planned for a vehicle on a day: the stops of the trips that stand, each named by its trip.
 use Rattle.std.specs.Prelude.{◌≡◌, ℕ, ◌==◌, ◌≤◌, not, List, [], ◌∷◌, length, filter, Option, Some, None}
 use Rattle.pt_base.specs.declared.trip.Trip.{Trip}
-use Rattle.pt_feasible.specs.declared.schedule.TheConstants.{MAX_STOPS}
+use Rattle.pt_feasible.specs.Pairing.{most_stops}
 use Rattle.pt_feasible.specs.declared.stop.Stop.{Stop}
 use Rattle.pt_feasible.specs.declared.stop.StopKind.{StopKind}
 use Rattle.pt_feasible.specs.declared.stop.StopKind.TheVariants.{Pickup, Drop}
@@ -67,7 +67,7 @@ IsPair (first ∷ second ∷ third ∷ later) = ⊥
 -- no more stops than a route has room for, and of each trip none, or its pickup and then its drop (Cordeau and Laporte
 -- 2003)
 pub record IsPlannedRoute (stops : List PlannedStop) : Type 0 where
-  pub few : length stops ≤ MAX_STOPS
+  pub few : length stops ≤ most_stops
   pub paired : (trip : ℕ) → IsPair (stops_of_trip trip stops)
 
 -- the stops of the plan are a route

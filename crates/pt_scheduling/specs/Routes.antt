@@ -2,9 +2,8 @@
 use Rattle.std.specs.Prelude.{ℕ, ◌≤◌, List, Option, length, map}
 use Rattle.pt_base.specs.declared.trip.Trip.{Trip}
 use Rattle.pt_base.specs.declared.vehicle.Vehicle.{Vehicle}
-use Rattle.pt_feasible.specs.declared.schedule.TheConstants.{MAX_STOPS}
 use Rattle.pt_feasible.specs.Loads.{LoadsFit}
-use Rattle.pt_feasible.specs.Pairing.{IsPaired}
+use Rattle.pt_feasible.specs.Pairing.{most_stops, IsPaired}
 use Rattle.pt_feasible.specs.ServiceTimes.{TimesFit}
 use Rattle.pt_feasible.specs.declared.stop.Stop.{Stop}
 use Rattle.pt_booking.specs.Planning.{OnDuty}
@@ -27,7 +26,7 @@ routes_without trip day trips plans vehicles =
 
 -- no more stops than a route has room for, each pickup with its later drop
 pub record IsRoute (stops : List Stop) : Type 0 where
-  pub few : length stops ≤ MAX_STOPS
+  pub few : length stops ≤ most_stops
   pub paired : IsPaired stops
 
 -- the vehicle can drive these stops: its loads fit, and there are service times that meet every limit (Cordeau and

@@ -20,7 +20,7 @@ loop-at-init g c =
     let case = case_of c.args.insertion.now in
     let front = from_here lines start (case_line case) _ (omega arith) (c.is_opening.ensures.0 c.if-not-is_opening.false) in
     let opened = read_opening minutes case lines start (case_line case) front refl in
-    subst (λ (bound : ℕ → ℕ). IsReadTo minutes case lines start bound (start + 1)) (sym (all_zero 64)) opened
+    subst (λ (bound : ℕ → ℕ). IsReadTo minutes case lines start bound (start + 1)) (sym (all_zero 104)) opened
 
 pub loop-at-preserved : goal.loop-at-preserved
 loop-at-preserved g c =

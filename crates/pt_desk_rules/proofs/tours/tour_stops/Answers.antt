@@ -1,4 +1,5 @@
-use Rattle.std.proofs.Common.{rules, ◌∙◌, ℕ, sym, refl}
+use Rattle.std.proofs.Common.{rules, ◌∙◌, ℕ, ap, refl}
+use Rattle.pt_base.specs.declared.load.Load.{Load}
 use Rattle.pt_feasible.specs.Route.{stops_of}
 use Rattle.pt_manifest.specs.declared.sheets.TourStop.{TourStop}
 use Rattle.pt_desk_rules.specs.Tours.{IsShownAt}
@@ -27,5 +28,5 @@ loop-k-preserved c =
           (shown_at trips stops times c.loop-k.k c.stop-stop.result c.trip_at-trip.result.now _
           c.stop-stop.ensures.value c.trip_at-trip.ensures
           (c.minute_of.ensures ∙ (rw c.as_slice.ensures.value refl)) c.window_of.ensures refl refl
-          c.place_of.ensures (sym c.persons.ensures ∙ aboard))));
+          c.place_of.ensures (ap (λ (load : Load). load.seats) aboard))));
     }

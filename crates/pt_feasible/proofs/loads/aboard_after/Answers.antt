@@ -1,7 +1,9 @@
 -- A pickup adds its load to those aboard, a drop takes its own off.
-use Rattle.std.proofs.Common.{arith, ◌≡◌, ℕ, Option, Some, None, IfNone, IsSome, IsTrue, ap}
+use Rattle.std.proofs.Common.{Option, Some, None, IfNone, IsSome, IsTrue, ap, sym, subst}
 use Rattle.std.proofs.lemmas.Bool.{false≢true}
 use Rattle.std.proofs.lemmas.Option.{IfSome_then}
+use Rattle.pt_base.specs.declared.load.Load.{Load}
+use Rattle.pt_base.specs.Load.{load_sum, IsLoad}
 use Rattle.pt_feasible.specs.Stop.{is_pickup, is_drop, takes_aboard, lets_leave}
 use Rattle.pt_feasible.proofs.LoadLemmas.{load_aboard-pickup, load_aboard-drop}
 use Rattle.pt_feasible.proofs.loads.aboard_after.Goals as goal
@@ -16,17 +18,19 @@ returns-in-Pickup-clause-after g c =
     let stops = g.S.Stops.stops c.args.stops.now in
     let picks : IsTrue (is_pickup c.stop-stop.result) = ap takes_aboard c.in-Pickup.is in
     let next = load_aboard-pickup stops (g.met.S.Stops.paired c.args.stops.now) c.args.k c.stop-stop.result c.stop-stop.ensures.value picks in
-    IfSome_then c.plus.result c.plus.ensures.value (λ load same. omega (arith, next, same))
+    IfSome_then c.plus.result c.plus.ensures.value (λ load same. cc)
 
 pub returns-in-Pickup-clause-none : goal.returns-in-Pickup-clause-none
 returns-in-Pickup-clause-none g c =
     let stops = g.S.Stops.stops c.args.stops.now in
     let picks : IsTrue (is_pickup c.stop-stop.result) = ap takes_aboard c.in-Pickup.is in
     let next = load_aboard-pickup stops (g.met.S.Stops.paired c.args.stops.now) c.args.k c.stop-stop.result c.stop-stop.ensures.value picks in
-    none_where c.plus.result (λ small. c.plus.ensures.in_range.1 (omega (arith, next, small)))
+    none_where c.plus.result (λ small. c.plus.ensures.in_range.1
+    (subst (λ (load : Load). IsLoad (load_sum load c.stop-stop.result.load)) (sym c.requires.before) (subst IsLoad next small)))
 
 pub returns-in-Drop-clause-after : goal.returns-in-Drop-clause-after
 returns-in-Drop-clause-after g c =
     let stops = g.S.Stops.stops c.args.stops.now in
     let drops : IsTrue (is_drop c.stop-stop.result) = ap lets_leave c.in-Drop.is in
-    omega (arith, load_aboard-drop stops c.args.k c.stop-stop.result c.stop-stop.ensures.value drops)
+    let next = load_aboard-drop stops c.args.k c.stop-stop.result c.stop-stop.ensures.value drops in
+    cc

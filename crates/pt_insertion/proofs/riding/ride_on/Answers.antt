@@ -1,6 +1,8 @@
 -- A ride that goes on takes a drive and a service more; where it cannot, no drop comes later.
 use Rattle.std.proofs.Common.{◌≡◌, ◌+◌, arith, sym, subst, ◌∙◌}
 use Rattle.std.proofs.lemmas.Bool.{false≢true}
+use Rattle.pt_base.specs.Load.{load_sum, FitsWithin}
+use Rattle.pt_base.specs.declared.load.Load.{Load}
 use Rattle.pt_feasible.specs.Route.{stops_of}
 use Rattle.pt_feasible.proofs.LimitsLemmas.{IfNone-from}
 use Rattle.pt_insertion.specs.Riding.{IsRiddenFor}
@@ -11,8 +13,7 @@ pub returns-in_err-others-clause-none : goal.returns-in_err-others-clause-none
 returns-in_err-others-clause-none g c =
     IfNone-from c.from_residual.result _ (λ later _.
     none_fit (g.T.Times.minutes c.args.times.now) c.args.duty.now.vehicle.now (stops_of c.args.duty.now.route.now) c.args.asked.now
-    (c.args.j + 1) c.args.duty.now.route.now.paired c.requires.new_trip (omega (arith, c.args.duty.now.vehicle.now.capacity_in_range))
-    (omega arith) c.in_err-others.ensures.none c.args.i later)
+    (c.args.j + 1) c.args.duty.now.route.now.paired c.requires.new_trip (omega arith) c.in_err-others.ensures.none c.args.i later)
 
 pub returns-in_err-drive-clause-none : goal.returns-in_err-drive-clause-none
 returns-in_err-drive-clause-none g c =
@@ -54,7 +55,7 @@ pub returns-then-not-has_room-clause-none : goal.returns-then-not-has_room-claus
 returns-then-not-has_room-clause-none g c later from possible =
     no_room (g.T.Times.minutes c.args.times.now) c.args.duty.now.vehicle.now (stops_of c.args.duty.now.route.now) c.args.asked.now
     c.args.i (c.args.j + 1) c.args.duty.now.route.now.paired (omega arith)
-    (λ fits. false≢true (sym c.if-not-has_room.true ∙ c.has_room.ensures.1 (omega (arith, fits, c.in_ok-others.ensures.after))))
+    (λ fits. false≢true (sym c.if-not-has_room.true ∙ c.has_room.ensures.1 (subst (λ (load : Load). FitsWithin (load_sum load c.args.asked.now.load) c.args.duty.now.vehicle.now) (sym c.in_ok-others.ensures.after) fits)))
     later from possible
 
 pub returns-clause-riding : goal.returns-clause-riding

@@ -38,7 +38,7 @@ loop-raise-init g c =
     let form : IsInForm (case_line case) = subst (λ (v : ℕ). IsInForm (line.Case v insertion.i insertion.j)) same c.write_line.ensures.in_form in
     let written : Appends (contents c.args.out.now) (contents c.write_line.new.out) (line_text (case_line case)) = subst (λ (v : ℕ). Appends (contents c.args.out.now) (contents c.write_line.new.out) (line_text (line.Case v insertion.i insertion.j))) same c.in_ok-write_line.ensures.line in
     record {
-      begun = subst (IsBegun minutes case (contents c.args.out.now) (contents c.write_line.new.out)) (sym (all_zero 64))
+      begun = subst (IsBegun minutes case (contents c.args.out.now) (contents c.write_line.new.out)) (sym (all_zero 104))
           (begun_first minutes case (contents c.args.out.now) (contents c.write_line.new.out) (contents c.write_line.new.out) form written);
       long = refl;
     }

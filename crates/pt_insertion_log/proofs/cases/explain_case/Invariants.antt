@@ -8,7 +8,7 @@ use Rattle.pt_insertion_log.proofs.cases.explain_case.Given as goal
 abbrev pub invariant-loop-raise : goal.invariant-loop-raise
 invariant-loop-raise g l = record {
   begun : IsBegun (g.T.Times.minutes l.times) (case_of l.insertion) (g.W.Write.contents l.fn.out) (g.W.Write.contents l.out) (slice_index l.bounds);
-  long : length l.bounds ≡ 64;
+  long : length l.bounds ≡ 104;
 }
 
 -- how far the bounds may still rise

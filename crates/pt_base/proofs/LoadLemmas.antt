@@ -1,0 +1,26 @@
+-- Loads are alike, or one within the other, where both parts are.
+use Rattle.std.proofs.Common.{◌≡◌, ℕ, ap, ◌∙◌, arith}
+use Rattle.pt_base.specs.declared.load.Load.{Load}
+use Rattle.pt_base.specs.declared.vehicle.Vehicle.{Vehicle}
+use Rattle.pt_base.specs.Load.{IsWithin, IsLoad, FitsWithin}
+
+abbrev of_parts : ℕ → ℕ → Load
+of_parts seats chairs = record { seats = seats; chairs = chairs }
+
+-- a load is its two parts
+pub same_load : (a b : Load) → a.seats ≡ b.seats → a.chairs ≡ b.chairs → a ≡ b
+same_load a b seats chairs = ap (λ n. of_parts n a.chairs) seats ∙ ap (λ n. of_parts b.seats n) chairs
+
+-- a load within another is within all that the other is within
+pub within_more : (a b c : Load) → IsWithin a b → IsWithin b c → IsWithin a c
+within_more a b c first second = record {
+  seats = omega (arith, first.seats, second.seats);
+  chairs = omega (arith, first.chairs, second.chairs);
+}
+
+-- what a vehicle carries, the program counts
+pub fits-is_load : (load : Load) (vehicle : Vehicle) → FitsWithin load vehicle → IsLoad load
+fits-is_load load vehicle fits = record {
+  seats = omega (arith, fits.seats, vehicle.capacity_in_range);
+  chairs = omega (arith, fits.chairs);
+}

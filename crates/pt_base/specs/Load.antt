@@ -1,0 +1,33 @@
+-- The load of a party, or of all parties aboard: how many seats it takes, and how many wheelchair places.
+use Rattle.std.specs.Prelude.{ℕ, ◌+◌, ◌-◌, ◌≤◌}
+use Rattle.pt_base.specs.declared.load.Load.{Load}
+use Rattle.pt_base.specs.declared.vehicle.Vehicle.{Vehicle}
+
+-- nobody
+abbrev pub no_load : Load
+no_load = record { seats = 0; chairs = 0 }
+
+-- both together
+abbrev pub load_sum : Load → Load → Load
+load_sum a b = record { seats = a.seats + b.seats; chairs = a.chairs + b.chairs }
+
+-- the first without the second
+abbrev pub load_difference : Load → Load → Load
+load_difference a b = record { seats = a.seats - b.seats; chairs = a.chairs - b.chairs }
+
+-- no more than the room, in both parts
+pub record IsWithin (load room : Load) : Type 0 where
+  pub seats : load.seats ≤ room.seats
+  pub chairs : load.chairs ≤ room.chairs
+
+-- no more than the program counts
+abbrev pub IsLoad : Load → Type 0
+IsLoad load = IsWithin load (record { seats = 65_535; chairs = 65_535 })
+
+-- the seats of the vehicle; none has a wheelchair place yet
+abbrev pub room_of : Vehicle → Load
+room_of vehicle = record { seats = vehicle.capacity; chairs = 0 }
+
+-- the vehicle has room for the load
+abbrev pub FitsWithin : Load → Vehicle → Type 0
+FitsWithin load vehicle = IsWithin load (room_of vehicle)
