@@ -12,6 +12,4 @@ mod booking;
 mod planning;
 mod request;
 mod riders;
-#[cfg(test)]
-mod tests;
 mod window;

@@ -9,7 +9,5 @@ pub use writing::{LONGEST_CONDITION, condition_text};
 
 mod law;
 mod reading;
-#[cfg(test)]
-mod tests;
 mod trips;
 mod writing;

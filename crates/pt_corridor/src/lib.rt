@@ -7,5 +7,3 @@ pub use route::{FixedRoute, MAX_COORDINATE, MAX_POINTS, MAX_WIDTH, MIN_POINTS, M
 mod corridor;
 mod near;
 mod route;
-#[cfg(test)]
-mod tests;

@@ -55,26 +55,6 @@ impl Read for OneByOne {
 }
 
 #[test]
-fn a_request_and_the_front_of_the_next(rt: HostRuntime) -> Result<(), Fail> {
-    let mut inbox = Inbox::new(rt.alloc(), REQUEST.as_bytes())?;
-    assert_eq!(rt; inbox.held().len(), 0);
-    assert_eq!(rt; inbox.read_head()?.map(|head| head.length), Some(45));
-    assert_eq!(rt; inbox.read_up_to(47)?, true);
-    assert_eq!(rt; inbox.held(), REQUEST.as_bytes());
-    if inbox.held().len() >= 47 {
-        inbox.finish_request(47);
-    }
-    assert_eq!(rt; inbox.held(), "GET".as_bytes());
-    assert_eq!(rt; inbox.read_head()?.is_none(), true);
-    assert_eq!(rt; inbox.read_up_to(4)?, false);
-    if inbox.held().len() < 4 {
-        assert_eq!(rt; inbox.read_more()?, false);
-    }
-    assert_eq!(rt; inbox.held(), "GET".as_bytes());
-    Ok(())
-}
-
-#[test]
 fn a_byte_a_read(rt: HostRuntime) -> Result<(), Fail> {
     let reader = OneByOne::of(rt.alloc(), REQUEST.as_bytes(), 3, true)?;
     let mut inbox = Inbox::new(rt.alloc(), reader)?;

@@ -18,6 +18,4 @@ mod reply_bytes;
 mod response;
 mod standing;
 mod status;
-#[cfg(test)]
-mod tests;
 mod trips;

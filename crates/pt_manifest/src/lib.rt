@@ -11,7 +11,5 @@ mod export;
 mod law;
 mod letters;
 mod sheets;
-#[cfg(test)]
-mod tests;
 mod tours;
 mod writing;

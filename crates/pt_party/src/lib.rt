@@ -2,9 +2,7 @@
 #![tactic(auto)]
 
 pub use fares::{HIGHEST_FARE, due, fare};
-pub use party::{Party, party_rule, persons};
+pub use party::{Party, load, party_rule, persons};
 
 mod fares;
 mod party;
-#[cfg(test)]
-mod tests;

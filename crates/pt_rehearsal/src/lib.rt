@@ -4,8 +4,4 @@
 pub use rehearsal::{MOST_MESSAGES, rehearse};
 
 mod moment;
-#[cfg(test)]
-mod moment_tests;
 mod rehearsal;
-#[cfg(test)]
-mod tests;

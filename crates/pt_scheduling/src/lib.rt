@@ -10,6 +10,4 @@ pub use uses::days_of_use;
 mod planned;
 mod routes;
 mod scheduling;
-#[cfg(test)]
-mod tests;
 mod uses;

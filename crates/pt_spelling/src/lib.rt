@@ -13,6 +13,4 @@ mod requests;
 mod riders;
 mod settings;
 mod spelling;
-#[cfg(test)]
-mod tests;
 mod trips;

@@ -7,8 +7,6 @@ pub use times::Times;
 
 mod closed;
 mod fields;
-#[cfg(test)]
-mod full_table_tests;
 mod matrix;
 mod places;
 mod raw;

@@ -45,15 +45,6 @@ fn time(
     Ok(closed.minutes(from, to))
 }
 
-// What is wrong with a text, for the places 1 to 3.
-fn fault(alloc: Global, text: &[u8]) -> Result<Option<(u16, u32)>, AllocError> {
-    let places = places(alloc, 3)?;
-    match Raw::read(alloc, text, &places) {
-        Ok(_) => Ok(None),
-        Err(fault) => Ok(Some((fault.code, fault.row))),
-    }
-}
-
 #[test]
 fn the_time_is_that_of_the_least_chain(rt: HostRuntime) -> Result<(), Fail> {
     let triangle = [
@@ -120,44 +111,6 @@ fn rows_name_at_most_100_places(rt: HostRuntime) -> Result<(), Fail> {
 }
 
 #[test]
-fn a_text_reads_as_its_rows_in_order(rt: HostRuntime) -> Result<(), Fail> {
-    let alloc = rt.alloc();
-    let expected = rows(alloc, &[(1, 2, 10), (1, 3, 7), (2, 1, 0)])?;
-    let three = places(alloc, 3)?;
-    for text in [
-        b"from,to,minutes\n2,1,0\n1,3,7\n1,2,10\n1,2,10\n".as_slice(),
-        b"\xEF\xBB\xBFfrom,to,minutes\r\n2,1,0000\r\n1,3,07\r\n1,2,10".as_slice(),
-        b"\"from\",\"to\",\"minutes\"\n\n\"2\",\"1\",\"0\"\n1,\"3\",7\n0000000001,2,10\n".as_slice(),
-    ] {
-        let raw = Raw::read(alloc, text, &three)?;
-        assert_eq!(rt; raw.rows(), expected.as_slice());
-    }
-    Ok(())
-}
-
-#[test]
-fn the_first_fault_is_told(rt: HostRuntime) -> Result<(), Fail> {
-    for (text, code, row) in [
-        (b"from,to,minutes\n1,2,10\n1,2,11\n".as_slice(), 24, 3),
-        (b"from,to,minutes\n1,2,1440\n".as_slice(), 23, 2),
-        (b"from,to,minutes\n1,2,-1\n".as_slice(), 23, 2),
-        (b"from,to,minutes\n1,2,00010\n".as_slice(), 23, 2),
-        (b"from,to,minutes\n1,2\n".as_slice(), 20, 2),
-        (b"from,to,minutes\n1,4\n".as_slice(), 20, 2),
-        (b"from,to,minutes\n1,2,3,4\n".as_slice(), 20, 2),
-        (b"from,to,minutes\n1,2,3\n1,4,x\n".as_slice(), 22, 3),
-        (b"from,to,minutes\n1,00000000002,3\n".as_slice(), 22, 2),
-        (b"from,to,minutes\n+1,2,3\n".as_slice(), 22, 2),
-        (b"".as_slice(), 21, 1),
-        (b"from,to,time\n1,2,3\n".as_slice(), 21, 1),
-        (b"1,2,3\n".as_slice(), 21, 1),
-    ] {
-        assert_eq!(rt; fault(rt.alloc(), text), Ok(Some((code, row))), "{text:?}");
-    }
-    Ok(())
-}
-
-#[test]
 fn at_most_100_places_are_read_for(rt: HostRuntime) -> Result<(), Fail> {
     let alloc = rt.alloc();
     let hundred = places(alloc, 100)?;
@@ -168,22 +121,5 @@ fn at_most_100_places_are_read_for(rt: HostRuntime) -> Result<(), Fail> {
         Raw::read(alloc, b"", &more).err(),
         Some(Fault { code: 25, row: 0 })
     );
-    Ok(())
-}
-
-#[test]
-fn a_text_cut_at_any_byte_is_told(rt: HostRuntime) -> Result<(), Fail> {
-    let text = b"from,to,minutes\n1,2,10\n2,3,10\n".as_slice();
-    for len in 0..=text.len() {
-        let expected = match len {
-            0..=14 => Some((21, 1)),
-            17..=19 => Some((20, 2)),
-            20 => Some((23, 2)),
-            24..=26 => Some((20, 3)),
-            27 => Some((23, 3)),
-            _ => None,
-        };
-        assert_eq!(rt; fault(rt.alloc(), &text[..len]), Ok(expected));
-    }
     Ok(())
 }

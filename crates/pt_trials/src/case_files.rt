@@ -1,6 +1,6 @@
 //! Admission, standing and suspension of random case files, by `pt_rights` and by the rules read entry by entry.
-ghost use Rattle.std.specs.Prelude.{◌<◌};
 
+use crate::dice::Dice;
 use pt_base::{CallerId, Day, Policy, Residence, Rider, RiderId, Rule};
 use pt_rights::{CaseFile, Condition, Conditions, Entry, Grant, Outcome, Reasons, Standing, Tally};
 use std::alloc::Global;
@@ -19,7 +19,7 @@ const ANSWERS: usize = 35;
 const FIRST_DAY: u32 = 20_000;
 
 #[derive(Clone, Copy, Debug, PartialEq, Eq)]
-pub(crate) enum Kind {
+enum Kind {
     Complete,
     Grant,
     Refuse,
@@ -57,7 +57,7 @@ const STORY: [(Kind, &str); 14] = [
 /// An entry in plain numbers: `against` is an appeal's place, `starts` a suspension's first day, `until` its last day
 /// or a grant's.
 #[derive(Clone, Copy, Debug, PartialEq, Eq)]
-pub(crate) struct Plain {
+struct Plain {
     pub kind: Kind,
     pub day: u32,
     pub author: u32,
@@ -107,7 +107,7 @@ fn is_overdue(file: &[Plain], today: u32) -> bool {
 }
 
 /// The standing, and the last day of what is granted.
-pub(crate) fn plain_standing(file: &[Plain], today: u32, day: u32) -> (&'static str, u32) {
+fn plain_standing(file: &[Plain], today: u32, day: u32) -> (&'static str, u32) {
     let grants = [Kind::Grant, Kind::AppealGranted];
     let granted = file.iter().rfind(|entry| grants.contains(&entry.kind));
     match granted {
@@ -134,7 +134,7 @@ fn effect(file: &[Plain], suspension: usize) -> &'static str {
 }
 
 /// Whether a suspension of the day has effect, or why the last one of that day has none.
-pub(crate) fn plain_suspension(file: &[Plain], day: u32) -> &'static str {
+fn plain_suspension(file: &[Plain], day: u32) -> &'static str {
     let mut told = "not suspended";
     for (place, entry) in file.iter().enumerate() {
         let holds = entry.kind == Kind::Suspend && entry.starts <= day && day <= entry.until;
@@ -224,7 +224,7 @@ fn out_of_turn(file: &[Plain], pattern: bool, entry: Plain) -> Option<&'static s
 }
 
 /// The rule that turns a rider's entry away, and why.
-pub(crate) fn plain_denial(
+fn plain_denial(
     residence: Residence,
     file: &[Plain],
     pattern: bool,
@@ -244,71 +244,30 @@ pub(crate) fn plain_denial(
     }
 }
 
-/// A number below `sides`, by the constants of Knuth's MMIX generator.
-pub(crate) fn throw(dice: &mut u64, sides: u32) -> u32
-    requires { 0 < sides }
-    ensures { result < sides }
-{
-    *dice = dice
-        .wrapping_mul(6_364_136_223_846_793_005)
-        .wrapping_add(1_442_695_040_888_963_407);
-    let high = (*dice >> 33) as u32;
-    high % sides
-}
-
 /// A random day, or half the time one on which something may turn for an entry of the file.
-fn random_day(dice: &mut u64, file: &[Plain]) -> u32 {
-    let turn = [20, 21, 29, 30, 60, 61][throw(dice, 6) as usize];
-    match file.get(throw(dice, 16) as usize) {
-        Some(entry) if throw(dice, 2) == 0 => entry.day.saturating_add(turn),
-        _ => FIRST_DAY + throw(dice, 90),
+fn random_day(dice: &mut Dice, file: &[Plain]) -> u32 {
+    let turn = [20, 21, 29, 30, 60, 61][dice.throw(6) as usize];
+    match file.get(dice.throw(16) as usize) {
+        Some(entry) if dice.throw(2) == 0 => entry.day.saturating_add(turn),
+        _ => FIRST_DAY + dice.throw(90),
     }
 }
 
 /// An entry of any day. Half of the appeals are against the last entry; a suspension has 0 to 32 days.
-pub(crate) fn random_entry(dice: &mut u64, file: &[Plain], kind: Kind) -> Plain {
+fn random_entry(dice: &mut Dice, file: &[Plain], kind: Kind) -> Plain {
     let day = random_day(dice, file);
-    let starts = day.saturating_add(throw(dice, 6));
-    let ends = starts.saturating_add(throw(dice, 33)).saturating_sub(1);
-    let until = FIRST_DAY + throw(dice, 180);
-    let any = throw(dice, 16) as u8;
+    let starts = day.saturating_add(dice.throw(6));
+    let ends = starts.saturating_add(dice.throw(33)).saturating_sub(1);
+    let until = FIRST_DAY + dice.throw(180);
+    let any = dice.throw(16) as u8;
     let last = u8::try_from(file.len()).unwrap_or(1).saturating_sub(1);
     Plain {
         kind,
         day,
-        author: 1 + throw(dice, 3),
-        against: if throw(dice, 2) == 0 { any } else { last },
+        author: 1 + dice.throw(3),
+        against: if dice.throw(2) == 0 { any } else { last },
         starts,
         until: if kind == Kind::Suspend { ends } else { until },
-    }
-}
-
-/// What is spelled of an entry that is asked for: its kind and what such an entry has, and 0 for the rest.
-pub(crate) fn spelled(entry: Plain) -> Plain {
-    let Plain {
-        kind,
-        against,
-        starts,
-        until,
-        ..
-    } = entry;
-    let bare = Plain {
-        kind,
-        day: 0,
-        author: 0,
-        against: 0,
-        starts: 0,
-        until: 0,
-    };
-    match kind {
-        Kind::Grant | Kind::AppealGranted => Plain { until, ..bare },
-        Kind::Appeal => Plain { against, ..bare },
-        Kind::Suspend => Plain {
-            starts,
-            until,
-            ..bare
-        },
-        _ => bare,
     }
 }
 
@@ -317,7 +276,7 @@ fn day(number: u32) -> Result<Day, Fail> {
 }
 
 /// The entry that the plain numbers tell.
-pub(crate) fn told(alloc: Global, plain: Plain) -> Result<Entry, Fail> {
+fn told(alloc: Global, plain: Plain) -> Result<Entry, Fail> {
     let reasons = Reasons::of(Vec::from_slice(alloc, b"in short")?).ok_or("reasons")?;
     let (starts, until) = (day(plain.starts)?, day(plain.until)?);
     let conditions = Conditions::of(&[Condition::Always]).ok_or("conditions")?;
@@ -343,11 +302,11 @@ pub(crate) fn told(alloc: Global, plain: Plain) -> Result<Entry, Fail> {
 }
 
 /// Up to thirty trips of the rider.
-fn random_tallies(alloc: Global, dice: &mut u64) -> Result<Vec<Tally>, Fail> {
+fn random_tallies(alloc: Global, dice: &mut Dice) -> Result<Vec<Tally>, Fail> {
     let mut tallies = Vec::new(alloc);
-    for _ in 0..throw(dice, 30) {
-        let day = day(FIRST_DAY + throw(dice, 90))?;
-        let outcome = match throw(dice, 3) {
+    for _ in 0..dice.throw(30) {
+        let day = day(FIRST_DAY + dice.throw(90))?;
+        let outcome = match dice.throw(3) {
             0 => Outcome::Ridden,
             1 => Outcome::MissedRider,
             _ => Outcome::MissedOperator,
@@ -358,9 +317,9 @@ fn random_tallies(alloc: Global, dice: &mut u64) -> Result<Vec<Tally>, Fail> {
 }
 
 /// How often each answer came.
-pub(crate) type Seen = Vec<(&'static str, u32)>;
+type Seen = Vec<(&'static str, u32)>;
 
-pub(crate) fn count(seen: &mut Seen, answer: &'static str) -> Result<(), Fail> {
+fn count(seen: &mut Seen, answer: &'static str) -> Result<(), Fail> {
     match seen.iter_mut().find(|(known, _)| *known == answer) {
         Some((_, times)) => *times = times.saturating_add(1),
         None => seen.push((answer, 1))?,
@@ -379,8 +338,8 @@ struct Trial {
 }
 
 impl Trial {
-    fn random(alloc: Global, dice: &mut u64) -> Result<Self, Fail> {
-        let kind = match throw(dice, 16) {
+    fn random(alloc: Global, dice: &mut Dice) -> Result<Self, Fail> {
+        let kind = match dice.throw(16) {
             0 => Residence::Visitor,
             _ => Residence::Resident,
         };
@@ -388,7 +347,7 @@ impl Trial {
             rider: Rider {
                 id: RiderId::of(7).ok_or("a rider")?,
                 kind,
-                attendant: throw(dice, 2) == 0,
+                attendant: dice.throw(2) == 0,
             },
             tallies: random_tallies(alloc, dice)?,
             policy: Policy {
@@ -397,9 +356,9 @@ impl Trial {
                 fare: 0,
                 service: 0,
                 extra_ride: 0,
-                min_missed: 1 + throw(dice, 4) as u16,
-                percent: 25 * (1 + throw(dice, 4) as u16),
-                span_days: 1 + throw(dice, 30) as u16,
+                min_missed: 1 + dice.throw(4) as u16,
+                percent: 25 * (1 + dice.throw(4) as u16),
+                span_days: 1 + dice.throw(30) as u16,
             },
             file: CaseFile::new(alloc),
             plain: Vec::new(alloc),
@@ -468,13 +427,13 @@ impl Trial {
 #[test]
 fn random_case_files_follow_the_rules_entry_by_entry(rt: HostRuntime) -> Result<(), Fail> {
     let alloc = rt.alloc();
-    let mut dice = SEED;
+    let mut dice = Dice { state: SEED };
     let mut seen = Vec::new(alloc);
     for number in 0..FILES {
         let mut trial = Trial::random(alloc, &mut dice)?;
-        for step in 0..throw(&mut dice, 20) {
-            let next = match throw(&mut dice, 3) {
-                0 => throw(&mut dice, 14),
+        for step in 0..dice.throw(20) {
+            let next = match dice.throw(3) {
+                0 => dice.throw(14),
                 _ => number + step,
             };
             let kind = STORY[next as usize % 14].0;

@@ -1,7 +1,9 @@
 //! The best place of random trips in random routes, by `best` and by a plain search of all places.
-use crate::service_times::{Dice, Plain, minute};
-use pt_base::{Day, PlaceId, TripId, Vehicle, VehicleId, Weekdays};
-use pt_feasible::{Load, Route, Schedule, Stop, StopKind, Stops, loads_fit, settle};
+use crate::dice::Dice;
+use crate::service_times::minute;
+use crate::times::Plain;
+use pt_base::{Day, Load, PlaceId, TripId, Vehicle, VehicleId, Weekdays};
+use pt_feasible::{Route, Schedule, Stop, StopKind, Stops, loads_fit, settle};
 use pt_insertion::{Asked, Chosen, Duty, are_rising, are_without, best};
 use pt_travel::Times;
 use std::alloc::Global;
@@ -86,7 +88,10 @@ fn asked(dice: &mut Dice, shape: Shape, trip: u32, about: u32) -> Result<Asked, 
         latest: minute(lo + 150 + dice.throw(400))?,
         service: dice.throw(4) as u16,
         ride: (30 + dice.throw(90)) as u16,
-        load: Load::of(1 + dice.throw(2) as u16),
+        load: Load {
+            seats: 1 + dice.throw(2) as u16,
+            chairs: 0,
+        },
     })
 }
 

@@ -1,30 +1,26 @@
-//! Comparisons of the crates with plain second evaluations, over many cases from fixed seeds, and with a day at the
-//! desk that is worked out by hand.
+//! Comparisons of the planner's crates, of case files, visitors' days and logs of refusals with plain second evaluations, over many
+//! cases from fixed seeds. The whole desk is compared by `tests/second_desk`.
 #![tactic(auto)]
 
-#[cfg(test)]
-mod booking;
 #[cfg(test)]
 mod case_files;
 #[cfg(test)]
 mod corridor;
 #[cfg(test)]
-mod desk;
-#[cfg(test)]
-mod fleet;
+mod dice;
 #[cfg(test)]
 mod insertion;
 #[cfg(test)]
-mod plain_agency;
+mod instances;
 #[cfg(test)]
-mod plain_routes;
+mod logs;
 #[cfg(test)]
-mod running;
-#[cfg(test)]
-mod second_desk;
+mod plain;
 #[cfg(test)]
 mod service_times;
 #[cfg(test)]
+mod times;
+#[cfg(test)]
 mod travel;
 #[cfg(test)]
-mod worked;
+mod visitors;

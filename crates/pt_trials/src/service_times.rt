@@ -1,9 +1,8 @@
 //! The least service times of random routes, by `settle` and by plain repeated raising.
-ghost use Rattle.std.specs.Prelude.{◌<◌};
-ghost use Rattle.pt_feasible.specs.Plain.{plain_minutes, plain-stays, plain-within_a_day, plain-triangle};
-
-use pt_base::{Day, Minute, PlaceId, TripId, Vehicle, VehicleId, Weekdays};
-use pt_feasible::{Load, Route, Stop, StopKind, settle};
+use crate::dice::Dice;
+use crate::times::Plain;
+use pt_base::{Day, Load, Minute, PlaceId, TripId, Vehicle, VehicleId, Weekdays};
+use pt_feasible::{Route, Stop, StopKind, settle};
 use pt_travel::Times;
 use std::alloc::Global;
 use std::test::Fail;
@@ -11,49 +10,6 @@ use std::test::Fail;
 const SEED: u64 = 20_250_314;
 
 const CASES: u32 = 500;
-
-/// Places told by their numbers, whose last six digits are three east and three north.
-pub(crate) struct Plain;
-
-impl Times for Plain {
-    ghost minutes = { λ _ a b. plain_minutes a b };
-
-    ghost stays = { λ _ a. plain-stays a };
-
-    ghost within_a_day = { λ _ a b. plain-within_a_day a b };
-
-    ghost triangle = { λ _ a b c m n. plain-triangle a b c m n };
-
-    fn minutes(&self, from: PlaceId, to: PlaceId) -> Option<u16> {
-        let (a, b) = (from.number(), to.number());
-        if a / 1_000_000 != b / 1_000_000 {
-            return None;
-        }
-        let east = (a / 1_000 % 1_000).abs_diff(b / 1_000 % 1_000);
-        let north = (a % 1_000).abs_diff(b % 1_000);
-        Some(east.max(north) as u16)
-    }
-}
-
-#[derive(Drop)]
-pub(crate) struct Dice {
-    pub state: u64,
-}
-
-impl Dice {
-    /// A number below `sides`.
-    pub(crate) fn throw(&mut self, sides: u32) -> u32
-        requires { 0 < sides }
-        ensures { result < sides }
-    {
-        self.state = self
-            .state
-            .wrapping_mul(6_364_136_223_846_793_005)
-            .wrapping_add(1_442_695_040_888_963_407);
-        let high = (self.state >> 33) as u32;
-        high % sides
-    }
-}
 
 pub(crate) fn minute(number: u32) -> Result<Minute, Fail> {
     Ok(Minute::of(number.min(1439)).ok_or("minute")?)
@@ -98,7 +54,10 @@ fn stop(dice: &mut Dice, trip: u32, kind: StopKind, about: u32) -> Result<Stop, 
         lo: minute(lo)?,
         hi: minute(hi)?,
         service: (trip % 4) as u16,
-        load: Load::of(1),
+        load: Load {
+            seats: 1,
+            chairs: 0,
+        },
         ride: (40 + trip % 10 * 17) as u16,
     })
 }
@@ -129,7 +88,7 @@ fn stops(alloc: Global, dice: &mut Dice) -> Result<Vec<Stop>, Fail> {
 
 /// One visit of the second way: the minutes of the drive to it, where there is a way; from when to when; how long.
 #[derive(Clone, Copy)]
-pub(crate) struct Visit {
+struct Visit {
     pub drive: Option<u32>,
     pub lo: u32,
     pub hi: u32,
@@ -138,7 +97,7 @@ pub(crate) struct Visit {
 
 /// One ride: which visits it begins and ends with, and its most minutes with the service at its begin.
 #[derive(Clone, Copy)]
-pub(crate) struct Ride {
+struct Ride {
     pub pickup: usize,
     pub drop: usize,
     pub most: u32,
@@ -227,7 +186,7 @@ fn raise_by_rides(bounds: &mut Vec<u32>, rides: &[Ride], duration: u32) -> bool 
 }
 
 /// The least times by raising all bounds again and again, each in any order that comes.
-pub(crate) fn least_times(
+fn least_times(
     alloc: Global,
     visits: &[Visit],
     rides: &[Ride],

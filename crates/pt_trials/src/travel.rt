@@ -1,11 +1,10 @@
-ghost use Rattle.std.specs.Prelude.{◌<◌};
-
+use crate::dice::Dice;
 use pt_base::{Fault, PlaceId};
 use pt_travel::{Closed, Raw, Row, Times};
 use std::alloc::{AllocError, Global};
 use std::test::Fail;
 
-const SEED: u32 = 20_251_122;
+const SEED: u64 = 20_251_122;
 
 const CASES: u32 = 200;
 
@@ -13,25 +12,15 @@ const PLACES: u32 = 12;
 
 const FAR: u32 = 1_000_000;
 
-// Steps Lehmer's generator with the multiplier 48,271, and gives a number below `bound`.
-fn next(seed: &mut u32, bound: u32) -> u32
-    requires { 0 < bound }
-    ensures { result < bound }
-{
-    let product = u64::from(*seed) * 48_271 % 2_147_483_647;
-    *seed = product as u32;
-    *seed % bound
-}
-
 // A table in order: each pair of places has a row by one chance in three.
-fn table(alloc: Global, seed: &mut u32) -> Result<Vec<Row>, AllocError> {
+fn table(alloc: Global, dice: &mut Dice) -> Result<Vec<Row>, AllocError> {
     let mut rows = Vec::new(alloc);
     for from in 1..=PLACES {
         for to in 1..=PLACES {
-            if next(seed, 3) > 0 {
+            if dice.throw(3) > 0 {
                 continue;
             }
-            let minutes = next(seed, 700) as u16;
+            let minutes = dice.throw(700) as u16;
             if let (Some(from), Some(to)) = (PlaceId::of(from), PlaceId::of(to)) {
                 rows.push((from, to, minutes))?;
             }
@@ -42,7 +31,7 @@ fn table(alloc: Global, seed: &mut u32) -> Result<Vec<Row>, AllocError> {
 
 // The least totals of chains from one place, by Bellman and Ford: each round lets every row shorten
 // what its end has, and after as many rounds as there are places no row does.
-pub(crate) fn least_from(rows: &[Row], start: u32) -> [u32; 16] {
+fn least_from(rows: &[Row], start: u32) -> [u32; 16] {
     let mut least = [FAR; 16];
     least[(start % 16) as usize] = 0;
     for _round in 0..PLACES {
@@ -85,10 +74,10 @@ fn difference(alloc: Global, rows: Vec<Row>) -> Result<Option<(u32, u32)>, Fault
 
 #[test]
 fn times_are_those_of_a_plain_search(rt: HostRuntime) -> Result<(), Fail> {
-    let mut seed = SEED;
+    let mut dice = Dice { state: SEED };
     for case in 0..CASES {
-        let begun = seed;
-        let rows = table(rt.alloc(), &mut seed)?;
+        let begun = dice.state;
+        let rows = table(rt.alloc(), &mut dice)?;
         let differs = difference(rt.alloc(), rows)?;
         assert_eq!(rt; differs, None, "case {case} of seed {begun}");
     }

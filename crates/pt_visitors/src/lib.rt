@@ -3,6 +3,4 @@
 
 pub use visits::visitor_may;
 
-#[cfg(test)]
-mod tests;
 mod visits;

@@ -1,7 +1,7 @@
 //! Random vehicles, routes and trips.
-use crate::Dice;
-use pt_base::{Day, Minute, PlaceId, TripId, Vehicle, VehicleId, Weekdays};
-use pt_feasible::{Load, Route};
+use crate::dice::Dice;
+use pt_base::{Day, Load, Minute, PlaceId, TripId, Vehicle, VehicleId, Weekdays};
+use pt_feasible::Route;
 use pt_insertion::Asked;
 use std::alloc::Global;
 use std::test::Fail;
@@ -51,7 +51,10 @@ pub fn asked(dice: &mut Dice, trip: u32, about: u32) -> Result<Asked, Fail> {
         latest: minute(lo + 150 + dice.throw(400))?,
         service: dice.throw(4) as u16,
         ride: (30 + dice.throw(90)) as u16,
-        load: Load::of(1 + dice.throw(2) as u16),
+        load: Load {
+            seats: 1 + dice.throw(2) as u16,
+            chairs: 0,
+        },
     })
 }
 

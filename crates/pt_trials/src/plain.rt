@@ -1,8 +1,8 @@
 //! Whether a log is right, looked at plainly: each case's list of stops is made anew, and all numbers are wide.
-use crate::Plain;
+use crate::times::Plain;
 use pt_audit::{End, Line, Raise, Visit};
 use pt_base::Vehicle;
-use pt_feasible::{Load, MAX_STOPS, Stop, StopKind, Stops};
+use pt_feasible::{MAX_STOPS, Stop, StopKind, Stops};
 use pt_insertion::{Asked, Duty};
 use pt_travel::Times;
 use std::alloc::Global;
@@ -214,11 +214,11 @@ fn ends(vehicle: &Vehicle, stops: &[Stop], visits: &[Visit], bounds: &[u64], end
     }
 }
 
-/// The persons aboard after the first `k` stops, where each party is of one or two.
+/// The persons aboard after the first `k` stops.
 fn aboard(stops: &[Stop], k: usize) -> i64 {
     let mut total = 0i64;
     for (place, stop) in stops.iter().enumerate() {
-        let persons = if stop.load == Load::of(1) { 1 } else { 2 };
+        let persons = i64::from(stop.load.seats);
         if place < k {
             total = match stop.kind {
                 StopKind::Pickup => total.saturating_add(persons),

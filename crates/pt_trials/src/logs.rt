@@ -1,5 +1,7 @@
+use crate::dice::Dice;
 use crate::instances::{asked, route, vehicle};
-use crate::{Dice, Plain, plain};
+use crate::plain;
+use crate::times::Plain;
 use pt_audit::{End, Line, Log, Raise, check, read_log};
 use pt_insertion::{Asked, Duty, are_rising, are_without, best};
 use pt_insertion_log::explain;
