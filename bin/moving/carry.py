@@ -1,0 +1,135 @@
+"""What the commands have in common: the folder's files, and doing one thing after the other.
+
+Progress stands on one line of standard error; a sum comes at the end, and a file of what was refused.
+"""
+import collections
+import csv
+import json
+import os
+import sys
+import time
+
+from moving.limits import DONE, SOME_REFUSED, Wrong
+
+# Something to be done: what it is, and a function that does it, or raises CannotBe with the reason.
+Task = collections.namedtuple("Task", "what do")
+EMPTY = {"name": "", "first_day_of_week": 0, "place_word": "place", "places": {}, "routes": {}, "vehicles": {}}
+# What a denial means here, in plain words.
+REASONS = {
+    "desk.exists": "the desk has it already, and it is not replaced",
+    "desk.full": "the desk has no room for more",
+    "desk.unknown": "the desk does not have what it refers to: put that first",
+    "desk.booked": "a trip stands in it on that day or later",
+    "37.125(c)": "an application waits already, and an examiner has to decide it",
+    "37.125(e)": "it ends before today",
+}
+
+
+class CannotBe(Exception):
+    """Why one thing was refused, while the others go on."""
+
+
+def reason_of(reply):
+    denied = reply.body.get("denied") if isinstance(reply.body, dict) else None
+    if denied == "http.field":
+        return f"http.field: the desk does not take its {reply.body.get('field')}"
+    return f"{denied}: {REASONS[denied]}" if denied in REASONS else str(denied or f"status {reply.status}")
+
+
+def accepted(reply):
+    """Nothing where a write was accepted; else it is refused with the desk's reason."""
+    if reply.status != 200:
+        raise CannotBe(reason_of(reply))
+
+
+def kept_agency(folder):
+    """What agency.json has, or an empty one."""
+    path = f"{folder}/agency.json"
+    if not os.path.exists(path):
+        return json.loads(json.dumps(EMPTY))
+    try:
+        with open(path, encoding="utf-8") as file:
+            kept = json.load(file)
+        if not all(isinstance(kept.get(it, {}), dict) for it in ("places", "routes", "vehicles")):
+            raise ValueError
+        return {**json.loads(json.dumps(EMPTY)), **kept}
+    except (ValueError, AttributeError):
+        raise Wrong(f"{path} is not what this program writes: mend it or move it away") from None
+
+
+def keep_agency(folder, agency):
+    """Writes agency.json whole, or leaves it as it was."""
+    path = f"{folder}/agency.json"
+    with open(f"{path}.new", "w", encoding="utf-8") as file:
+        file.write("{\n" + ",\n".join(f"{json_of(name)}: {group_text(it)}" for name, it in agency.items()) + "\n}\n")
+    os.replace(f"{path}.new", path)
+
+
+def json_of(value):
+    return json.dumps(value, ensure_ascii=False)
+
+
+def group_text(value):
+    """A value as JSON; of a group each member on a line of its own."""
+    if not isinstance(value, dict) or not value:
+        return json_of(value)
+    members = sorted(value.items(), key=lambda it: (len(it[0]), it[0]))
+    return "{\n" + ",\n".join(f" {json_of(name)}: {json_of(member)}" for name, member in members) + "\n}"
+
+
+def refused_told(command, folder, refused):
+    """Writes what was refused into its file, or takes away the file of an earlier run."""
+    path = f"{folder}/refused-{command}.csv"
+    if not refused:
+        if os.path.exists(path):
+            os.remove(path)
+        return ""
+    with open(path, "w", encoding="utf-8", newline="") as file:
+        csv.writer(file, lineterminator="\n").writerows([("what", "reason"), *refused])
+    return f"; {path} says why"
+
+
+class Progress:
+    """One line of standard error that tells how far a command is, once it takes so many seconds."""
+
+    def __init__(self, what, total, after=0.0):
+        self.what, self.total, self.next, self.is_shown = what, total, time.monotonic() + after, False
+
+    def show(self, done, more=""):
+        if time.monotonic() >= self.next:
+            self.next, self.is_shown = time.monotonic() + 0.2, True
+            sys.stderr.write(f"\r{self.what}: {done} of {self.total}{more}")
+            sys.stderr.flush()
+
+    def end(self, more=""):
+        """Tells the last of it and ends the line, where there is one."""
+        self.next = 0.0 if self.is_shown or more else self.next
+        self.show(self.total, more)
+        sys.stderr.write("\n" if self.is_shown else "")
+
+
+def carried_out(command, tasks, callers, folder, refused):
+    """Does the tasks one after the other and prints the sum. The places of those that stand, and the exit status."""
+    progress, stands, put, refused = Progress(command, len(tasks)), [], 0, list(refused)
+    early = len(refused)
+    for at, task in enumerate(tasks):
+        progress.show(at, f", {len(refused) - early} refused")
+        before = sum(it.writes for it in callers)
+        try:
+            task.do()
+            stands.append(at)
+            put += sum(it.writes for it in callers) > before
+        except CannotBe as cause:
+            refused.append((task.what, str(cause)))
+    progress.end(f", {len(refused) - early} refused")
+    where = refused_told(command, folder, refused)
+    print(f"{command}: {put} put, {len(stands) - put} there already, {len(refused)} refused{where}")
+    return stands, SOME_REFUSED if refused else DONE
+
+
+def planned(refused, notes):
+    """What is told before anything is sent."""
+    for note in notes:
+        print(f"  note: {note}")
+    for what, reason in refused:
+        print(f"  refused: {what}: {reason}")

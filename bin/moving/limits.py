@@ -1,0 +1,16 @@
+"""What the desk takes, and what ends a command."""
+
+LEAST_WIDTH, GREATEST_WIDTH = 3_960, 7_920
+GREATEST_COORDINATE, HIGHEST_NUMBER, LAST_MINUTE = 1_000_000, 4_294_967_295, 1_439
+MOST_ROUTES, MOST_POINTS, MOST_PLACES, MOST_PERSONS = 50, 200, 100, 30
+
+# How a command ends: all is done, something was refused, the words or the input are wrong, the desk did not answer.
+DONE, SOME_REFUSED, WRONG, NOT_ANSWERED = range(4)
+
+
+class Wrong(Exception):
+    """What is wrong with the input, the desk or the folder: one sentence. Nothing more was sent."""
+
+
+class NotAnswered(Exception):
+    """The desk gave no answer for as long as the command waits: the same command goes on later."""

@@ -1,0 +1,140 @@
+"""Riders who are certified already: their records, and for residents a grant to the last day of their certification."""
+import datetime
+import json
+import sys
+
+from moving import carry, commands, tables
+from moving.carry import CannotBe, Task, accepted
+from moving.desk import label_of
+from moving.limits import DONE, SOME_REFUSED, Wrong
+
+
+def riders(words):
+    """The riders of a table, or those of them whose certification ends soon."""
+    today = datetime.date.today().isoformat()
+    earliest = "" if words.as_of else today
+    records, refused, unread = tables.records_in(words.csv, "riders", lambda it: rider_fault(it, earliest))
+    if words.as_of:
+        return ending(records, refused, words.as_of, words.within)
+    told_riders(records)
+    carry.planned(refused, commands.unread_told(unread))
+    if words.plan:
+        return commands.ended(refused)
+    clerk, examiner = (commands.caller_of(words, it) for it in ("clerk", "examiner"))
+    tasks = [Task(f"rider {it['number']}", put_rider(it, clerk, examiner)) for it in records]
+    return carry.carried_out("riders", tasks, [clerk, examiner], words.folder, refused)[1]
+
+
+def rider_fault(record, earliest):
+    if record["kind"] == "visitor" and record["until"]:
+        return "a visitor has no certification here, so until has to be empty"
+    if record["until"] and record["until"] < earliest:
+        return f"the certification ended on {record['until']}; the rider was not put, since nothing could be granted"
+    return None
+
+
+def told_riders(records):
+    residents = [it for it in records if it["kind"] == "resident"]
+    granted = [it for it in residents if it["until"]]
+    print(f"{len(records)} riders: {len(records) - len(residents)} visitors, {len(residents)} residents")
+    print(f"  {len(granted)} residents get an application and its grant, to the day in the table")
+    without = len(residents) - len(granted)
+    if without:
+        print(f"  {without} residents have no last day in the table, and get a record alone: they may not ride yet")
+    marked = sum(it["wheelchair"] for it in records)
+    if marked:
+        print(f"  {marked} riders use a wheelchair; the desk does not keep that yet, so keep the table")
+
+
+def put_rider(record, clerk, examiner):
+    """The record, then the application and its grant, unless the rider has that grant already."""
+    def do():
+        body = {"id": record["number"], "kind": record["kind"], "attendant": record["attendant"]}
+        accepted(clerk.post("/riders", body))
+        if record["until"]:
+            grant(record, clerk, examiner)
+    return do
+
+
+def grant(record, clerk, examiner):
+    """The grant to the record's day. No grant that reaches so far is replaced by another one."""
+    path = f"/riders/{record['number']}/entries"
+    wanted = {"entry": "grant", "until": record["until"], "conditions": record["conditions"]}
+    purpose = f"until {record['until']} for {'; '.join(record['conditions'])}"
+    if clerk.journal.reply_to(label_of(path, wanted, purpose)):
+        return
+    if has_grant(record, clerk):
+        return
+    application = path, {"entry": "complete"}, purpose
+    was_sent = clerk.was_sent(*application)
+    reply = clerk.post(*application)
+    if not (was_sent and reply.body == {"denied": "37.125(c)"}):
+        accepted(reply)
+    reply = examiner.post(path, wanted, purpose)
+    if reply.status != 200 and not has_grant(record, clerk):
+        raise CannotBe(f"{carry.reason_of(reply)}; ITS APPLICATION WAITS, and has to be decided within 21 days")
+
+
+def has_grant(record, clerk):
+    """Whether the rider has this very grant. Another one that holds on its last day is left to the examiner."""
+    told = clerk.get(f"/riders/{record['number']}/standing/{record['until']}").body
+    if not isinstance(told, dict) or told.get("standing") != "granted":
+        return False
+    if (told["until"], told["conditions"]) != (record["until"], record["conditions"]):
+        has = f"until {told['until']} for {'; '.join(told['conditions'])}"
+        raise CannotBe(f"the rider has a grant {has}, which is not replaced")
+    return True
+
+
+def ending(records, refused, as_of, within):
+    """Prints the riders whose certification ends within so many days of a day, the next one first."""
+    first, last = (it.isoformat() for it in (as_of, as_of + datetime.timedelta(days=within)))
+    soon = sorted((it["until"], it["number"]) for it in records if it["until"] and first <= it["until"] <= last)
+    print("until,number")
+    for until, number in soon:
+        print(f"{until},{number}")
+    for what, reason in refused:
+        print(f"bin/move-in: {what}: {reason}", file=sys.stderr)
+    return SOME_REFUSED if refused else DONE
+
+
+# One write or read of one's own.
+
+
+def write(words):
+    """One write, whose fields a file holds."""
+    try:
+        with open(words.json, encoding="utf-8") as file:
+            body = json.load(file)
+        if not isinstance(body, dict):
+            raise ValueError("it is not one JSON object")
+    except (OSError, ValueError) as error:
+        raise Wrong(f"{words.json} can't be read: {error}") from None
+    if words.plan:
+        print(f"POST {words.path} {json.dumps(body)}")
+        return commands.ended([])
+    caller = own_caller(words)
+    reply = caller.post(words.path, body)
+    print(told(reply))
+    if reply.status == 200 and not caller.writes:
+        print("bin/move-in: this was done before, and that is the reply of then", file=sys.stderr)
+    return DONE if reply.status == 200 else SOME_REFUSED
+
+
+def read(words):
+    """One read."""
+    reply = own_caller(words).get(words.path)
+    print(told(reply))
+    return DONE if reply.status == 200 else SOME_REFUSED
+
+
+def own_caller(words):
+    """The caller of the one key that is named."""
+    named = [it for it in commands.ROLES if getattr(words, it)]
+    if len(named) != 1:
+        raise Wrong(f"this takes the file of one key: {', '.join('--' + it for it in commands.ROLES)}")
+    return commands.caller_of(words, named[0])
+
+
+def told(reply):
+    return reply.body.rstrip("\n") if isinstance(reply.body, str) else json.dumps(reply.body)

@@ -1,0 +1,171 @@
+"""Tables that an agency writes as CSV, a record a row. A row that can't be read is refused, and the others go on."""
+import collections
+import csv
+import datetime
+import re
+
+from moving.limits import GREATEST_COORDINATE, HIGHEST_NUMBER, LAST_MINUTE, MOST_PERSONS, Wrong
+
+CONDITION = re.compile(r"always|nolift|farther:[1-9]\d*|months:[1-9]\d?(,[1-9]\d?)*")
+WEEKDAY_PART = re.compile(r"([1-7])(?:-([1-7]))?")
+# A column: how its text is read, and what an empty text or no such column stands for; REQUIRED has to be there.
+Column = collections.namedtuple("Column", "read default")
+Refused = collections.namedtuple("Refused", "what reason")
+REQUIRED = object()
+
+
+def whole(low, high):
+    def read(text):
+        if not re.fullmatch(r"-?\d{1,10}", text) or not low <= int(text) <= high:
+            raise ValueError(f"is no whole number from {low} to {high}")
+        return int(text)
+    return read
+
+
+def degrees(high):
+    def read(text):
+        if not re.fullmatch(r"[+-]?\d{1,3}(\.\d*)?", text) or abs(float(text)) > high:
+            raise ValueError(f"is no number of degrees from -{high} to {high}")
+        return float(text)
+    return read
+
+
+def yes_or_no(text):
+    found = {"yes": True, "true": True, "1": True, "no": False, "false": False, "0": False}.get(text.lower())
+    if found is None:
+        raise ValueError("is neither yes nor no")
+    return found
+
+
+def day(text):
+    try:
+        found = datetime.date.fromisoformat(text) if len(text) == 10 else None
+    except ValueError:
+        found = None
+    if found is None or not 2000 <= found.year <= 2099:
+        raise ValueError("is no day YYYY-MM-DD of 2000 to 2099")
+    return text
+
+
+def minute(text):
+    found = re.fullmatch(r"(\d{1,2}):([0-5]\d)", text)
+    if not found or int(found[1]) > 23:
+        raise ValueError("is no time HH:MM")
+    return int(found[1]) * 60 + int(found[2])
+
+
+def weekdays(text):
+    """Numbers from 1, Monday, to 7, such as 1-5 or 1 3 5."""
+    days = set()
+    for part in text.split():
+        found = WEEKDAY_PART.fullmatch(part)
+        if not found or int(found[2] or found[1]) < int(found[1]):
+            raise ValueError("are no weekdays such as 1-5 or 1 3 7, where 1 is Monday")
+        days |= {*range(int(found[1]), int(found[2] or found[1]) + 1)}
+    return sorted(days)
+
+
+def is_condition(text):
+    if not CONDITION.fullmatch(text):
+        return False
+    kind, _, rest = text.partition(":")
+    numbers = [int(it) for it in rest.split(",") if it]
+    if kind == "months":
+        return numbers == sorted({*numbers}) and numbers[-1] <= 12
+    return kind != "farther" or numbers[0] <= 100_000
+
+
+def conditions(text):
+    """One to four conditions of a grant, with a semicolon between two."""
+    found = [it.strip() for it in text.split(";")]
+    if not all(map(is_condition, found)):
+        raise ValueError("are none such as always, nolift, months:1,2,12 (rising) or farther:5280")
+    if len(found) > 4:
+        raise ValueError("are more than four conditions")
+    return found
+
+
+def one_of(*words):
+    def read(text):
+        if text not in words:
+            raise ValueError(f"is none of {', '.join(words)}")
+        return text
+    return read
+
+
+def text_of(text):
+    return text
+
+
+NUMBER = Column(whole(1, HIGHEST_NUMBER), REQUIRED)
+NAME = Column(text_of, "")
+COLUMNS = {
+    "places": {
+        "number": NUMBER, "name": NAME, "latitude": Column(degrees(90), None), "longitude": Column(degrees(180), None),
+        "x": Column(whole(-GREATEST_COORDINATE, GREATEST_COORDINATE), None),
+        "y": Column(whole(-GREATEST_COORDINATE, GREATEST_COORDINATE), None), "core": Column(yes_or_no, False),
+    },
+    "vehicles": {
+        "number": NUMBER, "name": NAME, "from_day": Column(day, REQUIRED), "days": Column(weekdays, []),
+        "depot": NUMBER, "capacity": Column(whole(1, MOST_PERSONS), REQUIRED), "opens": Column(minute, REQUIRED),
+        "closes": Column(minute, REQUIRED), "duration": Column(whole(1, LAST_MINUTE), REQUIRED),
+    },
+    "callers": {
+        "number": Column(whole(2, HIGHEST_NUMBER), REQUIRED), "name": NAME,
+        "role": Column(one_of("rider", "clerk", "examiner", "officer", "dispatcher", "driver"), REQUIRED),
+        "subject": Column(whole(0, HIGHEST_NUMBER), 0),
+    },
+    "riders": {
+        "number": NUMBER, "kind": Column(one_of("resident", "visitor"), REQUIRED),
+        "attendant": Column(yes_or_no, False), "wheelchair": Column(yes_or_no, False), "until": Column(day, None),
+        "conditions": Column(conditions, ["always"]),
+    },
+}
+
+
+def value_of(name, column, fields):
+    text = (fields.get(name) or "").strip()
+    if not text:
+        if column.default is REQUIRED:
+            raise ValueError(f"{name} is missing")
+        return column.default
+    try:
+        return column.read(text)
+    except ValueError as error:
+        raise ValueError(f"{name} {text!r} {error}") from None
+
+
+def lines_in(path, columns):
+    """The names in the first line of a table, and its other lines, each as its number and a dict."""
+    try:
+        with open(path, encoding="utf-8-sig", newline="") as file:
+            reader = csv.DictReader(file)
+            reader.fieldnames = [it.strip() for it in reader.fieldnames or []]
+            rows = [(reader.line_num, it) for it in reader]
+    except (OSError, UnicodeDecodeError, csv.Error) as error:
+        raise Wrong(f"{path} can't be read: {error}") from None
+    for name, column in columns.items():
+        if column.default is REQUIRED and name not in reader.fieldnames:
+            raise Wrong(f"{path} has no column {name}; its first line has to name the columns {', '.join(columns)}")
+    return reader.fieldnames, rows
+
+
+def records_in(path, kind, fault_of, key=("number",)):
+    """The records of a table, the rows that are refused, and the columns that are not read.
+
+    `fault_of` tells what is wrong with a record, or None. No two records have the same fields of `key`.
+    """
+    columns, records, refused, known = COLUMNS[kind], [], [], {}
+    header, rows = lines_in(path, columns)
+    for line, fields in rows:
+        try:
+            record = {name: value_of(name, column, fields) for name, column in columns.items()}
+            fault = "it has more fields than the first line" if None in fields else fault_of(record)
+            there = known.get(tuple(record[it] for it in key))
+            if fault or there:
+                raise ValueError(fault or f"line {there} has the same number")
+            known[tuple(record[it] for it in key)] = line
+            records.append(record)
+        except ValueError as error:
+            refused.append(Refused(f"line {line} of {path}", str(error)))
+    return records, refused, [it for it in header if it not in columns]

@@ -1,0 +1,285 @@
+"""What tests/move_in tries without a desk: feeds that are refused, lines, hours, driving times, numbers of writes."""
+import csv
+import json
+import os
+import random
+import shutil
+import subprocess
+
+from moving import desk as client, example, feed as feeds, fixed, plane as geometry
+from moving_stands import Counting, Stand
+from serving import TODAY, ZONE, difference, free_port
+
+ROOT = os.path.dirname(os.path.dirname(os.path.realpath(__file__)))
+MOVE_IN = f"{ROOT}/bin/move-in"
+CLOCK = {**os.environ, "TZ": ZONE}
+SECONDS, SEED, LEAST = 300, 20261125, 3_960
+
+
+def moved(folder, *words):
+    """How bin/move-in ends with these words in a folder."""
+    command = [MOVE_IN, *map(str, words)]
+    return subprocess.run(command, cwd=folder, env=CLOCK, capture_output=True, text=True, timeout=SECONDS)
+
+
+def agency_of(folder):
+    with open(f"{folder}/agency.json", encoding="utf-8") as file:
+        return json.load(file)
+
+
+# Lines and hours, beside plain second ways to say the same.
+
+
+def faults_of_lines():
+    """Lines that are simplified or put together lose nobody: what lies near the old lines lies in the new corridors."""
+    chance = random.Random(SEED)
+    for turn in range(16):
+        lines = [wandering(chance, turn) for _ in range(3)]
+        making = fixed.Making(LEAST, chance.choice([0, 300, 1_500, LEAST]), 120, 0, False)
+        kept = fixed.put_together([as_kept(str(at), it) for at, it in enumerate(lines)], making)
+        yield next((f"turn {turn}: {it}" for it in lost_points(chance, lines, kept, making)), None)
+
+
+def lost_points(chance, lines, kept, making):
+    """Points that lie in the corridor of a line, and not in that of the line which stands for it."""
+    for key, line in enumerate(lines):
+        holder = next(it for it in kept if str(key) in it.keys)
+        width = fixed.width_of(holder, making.width)[0]
+        for _ in range(20):
+            point = tuple(it + chance.randint(-LEAST, LEAST) for it in chance.choice(line))
+            if geometry.feet_from_line(point, line) <= LEAST and geometry.feet_from_line(point, holder.points) > width:
+                yield f"the point {point} of line {key} is lost"
+
+
+def wandering(chance, turn):
+    """A line of some hundreds of points, the same way each turn but for noise."""
+    same = random.Random(turn)
+    way = [(0, 0)]
+    for _ in range(same.choice([20, 260, 500])):
+        way.append((way[-1][0] + same.randint(20, 300), way[-1][1] + same.randint(-200, 200)))
+    noise = chance.choice([0, 30, 400])
+    return geometry.without_repeats([tuple(it + chance.randint(-noise, noise) for it in point) for point in way])
+
+
+def as_kept(key, line):
+    points, aside = geometry.simplified(line, 200)
+    return fixed.Kept(points, aside, [], [key], {})
+
+
+def faults_of_hours():
+    """Random trips are under way within the hours that they become; with no pause and no rounding nothing else is."""
+    chance = random.Random(SEED)
+    for turn in range(60):
+        runs = [random_run(chance) for _ in range(6)]
+        is_exact = turn % 2 == 0
+        pause, rounding = (0, 0) if is_exact else (120, 60)
+        wanted = {((day - 1 + minute // 1440) % 7 + 1, minute % 1440)
+                  for run in runs for day in run.weekdays for minute in range(run.first, run.last + 1)}
+        got = set()
+        for spans in fixed.hours_of(runs, fixed.Making(LEAST, 0, pause, rounding, False)):
+            first, last = min(it.first for it in spans), max(it.last for it in spans)
+            got |= {(it.weekday, minute) for it in spans for minute in range(first, last + 1)}
+        is_right = wanted == got if is_exact else wanted <= got
+        yield None if is_right else f"hours of turn {turn}: {runs} became others"
+
+
+def random_run(chance):
+    first = chance.randint(0, 1_700)
+    weekdays = frozenset(chance.sample(range(1, 8), chance.randint(1, 4)))
+    return feeds.Run("a", weekdays, first, first + chance.randint(5, 400), True)
+
+
+# Feeds that are refused.
+
+
+def without(*names):
+    return lambda found: [found.pop(it) for it in names]
+
+
+def changed(name, row, column, value):
+    """Replaces one field of a file of the feed."""
+    def change(found):
+        fields = list(found[name][row])
+        fields[column] = value
+        found[name][row] = tuple(fields)
+    return change
+
+
+def of_many_routes(found):
+    """51 routes of one trip each."""
+    numbers = range(51)
+    found["routes"][1:] = [(f"r{at}", "a", str(at), "", "3") for at in numbers]
+    found["trips"][1:] = [(f"r{at}", "every", f"t{at}", "main", 1) for at in numbers]
+    found["stop_times"][1:] = [(f"t{at}", time, time, stop, place) for at in numbers
+                               for place, (time, stop) in enumerate([("10:00:00", "main0"), ("10:30:00", "main5")])]
+
+
+NO_ROOM = ("the feed becomes 51 fixed routes, and the desk has room for 50; leave routes out with --leave-out, or put "
+           "more lines and hours together with --tolerance, --pause and --rounding")
+FEEDS = [
+    (without("stops"), "feed.zip has no file stops.txt"),
+    (without("trips"), "feed.zip has no file trips.txt"),
+    (without("calendar", "calendar_dates"), "feed.zip has neither calendar.txt nor calendar_dates.txt"),
+    (changed("calendar", 2, 8, "20260231"), "calendar.txt, row 3: start_date '20260231' is no date YYYYMMDD"),
+    (changed("calendar_dates", 1, 1, "soon"), "calendar_dates.txt, row 2: date 'soon' is no date YYYYMMDD"),
+    (changed("stops", 3, 3, ""), "stops.txt, row 4: the stop 'main2' has no position"),
+    (changed("stops", 3, 3, "west"), "stops.txt, row 4: stop_lon 'west' is no number"),
+    (changed("stops", 3, 3, "0"), "stops.txt: the stop 'main2' is out of place: 44.9668291, 0.0 is farther than "
+                                  "1,000,000 feet from the plane's middle, 44.9778, -93.265"),
+    (changed("stop_times", 5, 1, "5 am"), "stop_times.txt, row 6: arrival_time '5 am' is no time HH:MM:SS"),
+    (changed("stop_times", 5, 3, "gone"), "stop_times.txt names the stop 'gone', which stops.txt has not"),
+    (changed("routes", 1, 0, "mane"), "trips.txt names the route 'main', which routes.txt has not"),
+    (changed("stops", 0, 2, "latitude"), "stops.txt has no column stop_lat"),
+    (of_many_routes, NO_ROOM),
+]
+
+
+def faults_of_feeds(folder):
+    """A feed that can't be taken ends with one sentence, and nothing is sent or kept."""
+    os.makedirs(folder)
+    for change, sentence in FEEDS:
+        found = example.tables(TODAY)
+        change(found)
+        example.write_feed(f"{folder}/feed.zip", found)
+        yield refused_feed(folder, sentence)
+    with open(f"{folder}/feed.zip", "w", encoding="utf-8") as file:
+        file.write("no zip")
+    yield refused_feed(folder, "feed.zip is no zip")
+    os.remove(f"{folder}/feed.zip")
+    yield refused_feed(folder, "there is no file feed.zip")
+    yield difference("files that a refused feed left", [], os.listdir(folder))
+    yield from faults_of_wild_lines(folder)
+
+
+def refused_feed(folder, sentence):
+    # (nobody listens there: had it sent anything, it would end with 3)
+    url = f"http://127.0.0.1:{free_port()}"
+    run = moved(folder, "routes", "feed.zip", "--url", url, "--patience", 0, "--admin", "feed.zip")
+    wanted = 2, "", f"bin/move-in: {sentence}\n"
+    return difference(f"a feed that is refused: {sentence}", wanted, (run.returncode, run.stdout, run.stderr))
+
+
+def faults_of_wild_lines(folder):
+    """A route whose line needs a wider corridor than there is, is refused with its reason, and the others are not."""
+    found = example.tables(TODAY)
+    found["shapes"] = [it for it in found["shapes"] if it[0] != "river"]
+    found["shapes"] += [("river", *example.position(60 * at, 18_000 * (-1) ** at), at) for at in range(-400, 401)]
+    example.write_feed(f"{folder}/feed.zip", found)
+    run = moved(folder, "routes", "feed.zip", "--plan")
+    told = "refused: route river 2 River Road: it would be "
+    is_right = run.returncode == 1 and told in run.stdout and "6 fixed routes of 4 routes" in run.stdout
+    yield None if is_right else f"a line that can't be simplified: {run}"
+
+
+# Driving times.
+
+
+def seconds_between(a, b):
+    """What the stand-ins of servers tell."""
+    return None if (a, b) == (6, 7) else 600 + 60 * a + b
+
+
+def faults_of_times(town, folder):
+    """The stand-ins tell the same of both kinds, whatever is asked at once; straight lines are as by hand."""
+    straight = table_of(f"{town}/times.csv")
+    # 2,121 feet are 1.35 minutes and 18,944 feet 12.06, at 25 miles an hour, 1.4 times as long.
+    yield difference("straight lines", (2, 13), (straight[1, 2], straight[2, 3]))
+    places = many_places(town, folder)
+    pairs = [(a, b) for a in places for b in places if a != b and seconds_between(a, b)]
+    wanted = {pair: -(-seconds_between(*pair) // 60) for pair in pairs}
+    plane = geometry.kept_plane(folder)
+    positions = {number: plane.position(it["x"], it["y"]) for number, it in places.items()}
+    for kind in ("osrm", "valhalla"):
+        run = asked_stand(folder, kind, positions, "--output", f"{kind}.csv")
+        is_told = run.returncode == 0 and "1 pairs have no way, such as 6 to 7" in run.stdout
+        yield None if is_told else f"times --{kind}: {run}"
+        yield difference(f"times by {kind}", wanted, table_of(f"{folder}/{kind}.csv"))
+        run = asked_stand(folder, kind, positions, is_broken=True)
+        is_told = run.returncode == 2 and "did not answer with a table" in run.stderr
+        yield None if is_told else f"times --{kind} by a broken server: {run}"
+    asked_stand(folder, "osrm", positions, "--symmetric", "--output", "both.csv")
+    longer = {(a, b): max(it, wanted.get((b, a), it)) for (a, b), it in wanted.items()}
+    yield difference("times that are symmetric", longer, table_of(f"{folder}/both.csv"))
+    yield from faults_of_checks(town)
+
+
+def asked_stand(folder, kind, positions, *words, is_broken=False):
+    """How the command times ends that asks a stand-in."""
+    with Stand(kind, positions, seconds_between, is_broken) as stand:
+        return moved(folder, "times", f"--{kind}", f"http://127.0.0.1:{stand.port}", *words)
+
+
+def many_places(town, folder):
+    """The places of a folder that has sixty more than the town."""
+    os.makedirs(folder)
+    shutil.copy(f"{town}/plane.json", folder)
+    agency = agency_of(town)
+    more = {str(it): {"name": "", "x": 700 * it, "y": 300 * it % 5_000, "core": False} for it in range(8, 68)}
+    agency["places"] |= more
+    with open(f"{folder}/agency.json", "w", encoding="utf-8") as file:
+        json.dump(agency, file)
+    return {int(number): it for number, it in agency["places"].items()}
+
+
+def table_of(path):
+    with open(path, encoding="utf-8") as file:
+        return {tuple(map(int, it[:2])): int(it[2]) for it in list(csv.reader(file))[1:]}
+
+
+def faults_of_checks(town):
+    """From place 2 to place 3 it is 18,944 feet, which takes 3.08 minutes at 70 miles an hour."""
+    with open(f"{town}/bad.csv", "w", encoding="utf-8") as file:
+        file.write("from,to,minutes\n2,3,3\n3,2,4\n1,9,5\n1,2\n2,3,4\n4,1,1440\n")
+    run = moved(town, "times", "--check", "bad.csv")
+    wanted = [
+        "row 2: from 2 to 3 in 3 minutes nobody can drive: the straight line takes 3.1",
+        "row 4: there is no place 9",
+        "row 5: it has not three whole numbers",
+        "row 6: 2 to 3 stands above with 3 minutes",
+        "row 7: 1440 minutes are more than 1439",
+        *(f"place {it} has no row from it to another place" for it in (1, 4, 5, 6, 7)),
+    ]
+    got = [it.removeprefix("bad.csv, ") for it in run.stdout.splitlines()[:-1]]
+    yield difference("times --check", (1, wanted), (run.returncode, got))
+
+
+# Numbers of writes, and what has no room.
+
+
+def faults_of_numbers(folder):
+    """A caller's last number is found by few questions; a journal that tells of more is another database's."""
+    os.makedirs(folder)
+    key, url = f"{folder}/key", "http://desk"
+    with open(key, "w", encoding="ascii") as file:
+        file.write("abc\n")
+    for last in (0, 1, 2, 1_000, 1_795_000_000, 4_294_967_294, 4_294_967_295):
+        line = Counting(last)
+        found = client.Caller(line, client.Journal(folder, url), key).last_number(0)
+        yield difference(f"the last number {last}", (last, True), (found, line.asked <= 70))
+    journal = client.Journal(folder, url)
+    name, label = client.Caller(None, journal, key).name, client.label_of("/policy", {}, "")
+    journal.add(name, 9, label, client.Reply(200, {}))
+    with open(journal.path, "a", encoding="utf-8") as file:
+        file.write('{"url":"http://desk","cal')
+    try:
+        client.Caller(Counting(8), client.Journal(folder, url), key).settle()
+        yield "a journal that tells of a write more than the desk has: nothing was said"
+    except client.Wrong as wrong:
+        yield None if "has another database" in str(wrong) else f"a journal of another database: {wrong}"
+
+
+def faults_of_room(folder):
+    """101 places, and a command without an address."""
+    os.makedirs(folder)
+    with open(f"{folder}/places.csv", "w", encoding="utf-8") as file:
+        file.write("number,x,y\n" + "".join(f"{it},0,0\n" for it in range(1, 102)))
+    for words, sentence in [
+        (["places", "places.csv", "--plan"], "with these there are 101 places, and the desk has room for 100"),
+        (["places", "places.csv"], "this takes either --plan or --url, the address of the desk"),
+        (["places", "none.csv", "--plan"], "none.csv can't be read: [Errno 2] No such file or directory: 'none.csv'"),
+        (["riders", "places.csv", "--plan"], "places.csv has no column kind; its first line has to name the columns "
+                                             "number, kind, attendant, wheelchair, until, conditions"),
+        (["vehicles", "places.csv", "--folder", "none", "--plan"], "there is no folder none"),
+    ]:
+        run = moved(folder, *words)
+        yield difference(" ".join(words), (2, f"bin/move-in: {sentence}\n"), (run.returncode, run.stderr))

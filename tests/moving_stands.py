@@ -1,0 +1,137 @@
+"""What stands in place of others while tests/move_in runs: a line that breaks, and servers of driving times."""
+import http.server
+import json
+import re
+import socket
+import socketserver
+import threading
+import urllib.parse
+
+from serving import SECONDS, Reply, received_from
+
+
+class Relay:
+    """Stands before a desk and passes requests on. At every so many requests it kills the program that asks.
+
+    By turns that is before the desk hears of the request, and once it has answered, so that nobody reads the reply.
+    """
+
+    def __init__(self, desk_port, every):
+        self.desk_port, self.every, self.program, self.count, self.kills = desk_port, every, None, 0, 0
+        self.listener = socket.create_server(("127.0.0.1", 0))
+        self.port = self.listener.getsockname()[1]
+
+    def __enter__(self):
+        threading.Thread(target=self.pass_on, daemon=True).start()
+        return self
+
+    def __exit__(self, *_):
+        self.listener.close()
+
+    def pass_on(self):
+        while True:
+            try:
+                connection, _ = self.listener.accept()
+            except OSError:
+                return
+            with connection:
+                connection.settimeout(SECONDS)
+                self.count += 1
+                is_last = self.count % self.every == 0
+                request = request_from(connection)
+                reply = b"" if is_last and self.kills % 2 == 0 else self.asked(request)
+                if is_last:
+                    self.kills += 1
+                    self.program.kill()
+                else:
+                    connection.sendall(reply)
+
+    def asked(self, request):
+        with socket.create_connection(("127.0.0.1", self.desk_port), SECONDS) as desk:
+            desk.sendall(request)
+            return received_from(desk)
+
+
+def request_from(connection):
+    """The bytes of one request."""
+    received = b""
+    while True:
+        head, gap, body = received.partition(b"\r\n\r\n")
+        length = re.search(rb"(?i)\r\ncontent-length: *(\d+)", head)
+        if gap and len(body) >= int(length[1] if length else 0):
+            return received
+        piece = connection.recv(65_536)
+        if not piece:
+            return received
+        received += piece
+
+
+class Stand:
+    """Answers as the table service of an OSRM or a Valhalla server does, by a function of two places' numbers."""
+
+    def __init__(self, kind, positions, seconds, is_broken=False):
+        class Handler(http.server.BaseHTTPRequestHandler):
+            def do_GET(handler):
+                handler.answer(self.by_osrm(handler.path) if kind == "osrm" else None)
+
+            def do_POST(handler):
+                content = handler.rfile.read(int(handler.headers["Content-Length"]))
+                handler.answer(self.by_valhalla(json.loads(content)) if kind == "valhalla" else None)
+
+            def answer(handler, told):
+                content = json.dumps({"code": "Ok"} if is_broken else told).encode()
+                handler.send_response(200 if told else 404)
+                handler.send_header("Content-Length", str(len(content)))
+                handler.end_headers()
+                handler.wfile.write(content)
+
+            def log_message(handler, *_):
+                pass
+
+        self.positions, self.seconds = positions, seconds
+        self.server = socketserver.TCPServer(("127.0.0.1", 0), Handler)
+        self.port = self.server.server_address[1]
+
+    def __enter__(self):
+        threading.Thread(target=self.server.serve_forever, kwargs={"poll_interval": 0.2}, daemon=True).start()
+        return self
+
+    def __exit__(self, *_):
+        self.server.shutdown()
+        self.server.server_close()
+
+    def place_at(self, latitude, longitude):
+        """The place that is there, within a hundred-thousandth of a degree."""
+        found = [number for number, (north, east) in self.positions.items()
+                 if max(abs(north - latitude), abs(east - longitude)) < 1e-5]
+        return found[0] if len(found) == 1 else None
+
+    def by_osrm(self, path):
+        parts = urllib.parse.urlsplit(path)
+        asked = urllib.parse.parse_qs(parts.query)
+        points = [tuple(map(float, it.split(","))) for it in parts.path.removeprefix("/table/v1/driving/").split(";")]
+        places = [self.place_at(latitude, longitude) for longitude, latitude in points]
+        sources, goals = ([places[int(it)] for it in asked[name][0].split(";")] for name in ("sources", "destinations"))
+        if asked["annotations"] != ["duration"] or None in places or len(places) > 100:
+            return None
+        return {"code": "Ok", "durations": [[self.seconds(a, b) for b in goals] for a in sources]}
+
+    def by_valhalla(self, asked):
+        ends = [[self.place_at(it["lat"], it["lon"]) for it in asked[name]] for name in ("sources", "targets")]
+        if asked["costing"] != "auto" or None in ends[0] + ends[1] or len(ends[0]) + len(ends[1]) > 50:
+            return None
+        rows = [[{"time": self.seconds(a, b), "from_index": i, "to_index": j} for j, b in enumerate(ends[1])]
+                for i, a in enumerate(ends[0])]
+        return {"sources_to_targets": rows}
+
+
+class Counting:
+    """Stands for the way to a desk that has taken a caller's writes up to a number, and counts the questions."""
+
+    def __init__(self, last):
+        self.last, self.asked = last, 0
+
+    def ask(self, method, path, key, number=None, body=None):
+        self.asked += 1
+        is_used = number <= self.last
+        return Reply(409, {"denied": "desk.number"}) if is_used else Reply(403, {"denied": "desk.caller"})
