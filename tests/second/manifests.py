@@ -1,0 +1,54 @@
+"""What drivers and dispatchers carry: manifests, day sheets, and the export of a day's trips."""
+from second import parties, service_times, travel, vehicles
+from second.days import clock
+from second.replies import Denied
+
+
+def line_of(visit, minute, load):
+    if visit.trip is None:
+        return f"{clock(minute)} DEPOT {visit.place}"
+    trip, is_pickup = visit.trip, visit.kind == service_times.PICKUP
+    window = f" window {clock(trip.window[0])}-{clock(trip.window[1])}" if is_pickup else ""
+    return (f"{clock(minute)} {'PICK' if is_pickup else 'DROP'} trip {trip.number} rider {trip.rider} place {visit.place} "
+            f"load {load}{window}")
+
+
+def lines(desk, number, day):
+    version = vehicles.on_duty(desk, day).get(number)
+    stops = [(desk.trips[trip], kind) for trip, kind in desk.stops.get((number, day), [])]
+    if not version or not stops:
+        return ["NO STOPS"]
+    visits = service_times.visits_of(version, stops)
+    legs = service_times.drives(visits, travel.Times(desk, day))
+    minutes = service_times.least(visits, legs, version.duration)
+    return [line_of(*it) for it in zip(visits, minutes, service_times.loads(visits, parties.persons))]
+
+
+def manifest_lines(desk, number, day):
+    return [f"VEHICLE {number} DAY {day}", *lines(desk, number, day)]
+
+
+def in_lines(found):
+    return "".join(f"{line}\n" for line in found)
+
+
+def manifest(desk, number, day):
+    if number not in desk.vehicles:
+        raise Denied("desk.unknown")
+    return in_lines(manifest_lines(desk, number, day))
+
+
+def sheet(desk, day):
+    found = [line for number in vehicles.on_duty(desk, day) for line in manifest_lines(desk, number, day)]
+    standing = [it for it in desk.trips.values() if it.wish.day == day and it.status != "cancelled"]
+    return in_lines([*found, f"TRIPS {len(standing)}"])
+
+
+def export(desk, day):
+    found = ["trip,rider,day,wish,from,to,vehicle,window_from,window_to,due,status"]
+    for number, trip in sorted(desk.trips.items()):
+        wish = trip.wish
+        if wish.day == day:
+            row = [number, trip.rider, day, wish.wish, wish.origin, wish.goal, trip.vehicle, *trip.window, parties.due(trip), trip.status]
+            found.append(",".join(map(str, row)))
+    return in_lines(found)

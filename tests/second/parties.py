@@ -1,0 +1,24 @@
+"""Who travels along, and what is paid."""
+from second import corridors
+from second.replies import Denied
+
+
+def allow(rider, wish):
+    if wish.companions > 1 or wish.attendant and not rider.attendant:
+        raise Denied("37.123(f)")
+
+
+def persons(wish):
+    return 1 + wish.companions + wish.attendant
+
+
+def fare(desk, wish):
+    """The fare of one person in cents: the agency's, but at most twice that of fixed routes."""
+    ends = [desk.places[wish.origin], desk.places[wish.goal]]
+    is_direct = corridors.is_one_route(ends, corridors.running(desk, wish.day, wish.wish))
+    fixed_fare = desk.policy["base"] + (0 if is_direct else desk.policy["transfer"])
+    return min(desk.policy["fare"], 2 * fixed_fare)
+
+
+def due(trip):
+    return trip.fare * (1 + trip.wish.companions)

@@ -1,0 +1,56 @@
+"""Replies, to the byte, and the exception that a denial is."""
+import json
+
+STATUSES = {
+    "desk.key": "401 Unauthorized",
+    "desk.caller": "403 Forbidden",
+    "http.path": "404 Not Found",
+    "desk.unknown": "404 Not Found",
+    "http.method": "405 Method Not Allowed",
+    "desk.number": "409 Conflict",
+    "http.head": "400 Bad Request",
+    "http.length": "400 Bad Request",
+    "http.json": "400 Bad Request",
+    "http.field": "400 Bad Request",
+}
+RULE_FAILED = "422 Unprocessable Entity"
+
+
+class Denied(Exception):
+    """The name of the first rule that fails; of a bad field also its name, of a bad method the one that is allowed."""
+
+    def __init__(self, name, field=None, allow=None):
+        super().__init__(name)
+        self.name, self.field, self.allow = name, field, allow
+
+
+def reply(status, kind, body, more=()):
+    lines = [f"HTTP/1.1 {status}", f"Content-Type: {kind}", f"Content-Length: {len(body.encode())}", *more, "Connection: close"]
+    return ("\r\n".join(lines) + "\r\n\r\n" + body).encode()
+
+
+def told(fields):
+    return reply("200 OK", "application/json", in_json(fields))
+
+
+def text(body):
+    return reply("200 OK", "text/plain", body)
+
+
+def csv(body):
+    return reply("200 OK", "text/csv", body)
+
+
+def denied(denial):
+    fields = {"denied": denial.name, **({"field": denial.field} if denial.field else {})}
+    more = ["WWW-Authenticate: Desk-Key"] if denial.name == "desk.key" else []
+    more += [f"Allow: {denial.allow}"] if denial.allow else []
+    return reply(STATUSES.get(denial.name, RULE_FAILED), "application/json", in_json(fields), more)
+
+
+def in_json(fields):
+    return json.dumps(fields, separators=(",", ":"), sort_keys=True)
+
+
+def done():
+    return told({"done": True})
