@@ -1,0 +1,66 @@
+// Every name of a denial in plain words: what it says, and what can be done. A name that means another thing in another request stands once
+// more with the request's purpose behind it. The names are those of the desk's table of denials.
+
+const TABLE = {
+    "desk.key": ["Nobody has this key.", "Type it again. Capital and small letters are different. Ask the admin for a new key if it is lost."],
+    "desk.number": ["Another window or device wrote with the same key.",
+        "Your request may have been done or not. Look at the list before you send it again."],
+    "desk.caller": ["This key may not do this.", "Sign in with the key of the person whose work it is, or choose the screen that is yours."],
+    "desk.caller rider": ["This is not the number that your key is for.", "Look at the letter that brought your key, and type its number."],
+    "desk.caller driver": ["This is not the vehicle that your key is for.", "Type the number of your own vehicle."],
+    "desk.caller outcome": ["This trip is not in the vehicle of this key any more.", "Read the manifest anew, or call the dispatcher."],
+    "desk.unknown": ["There is no record of this number.", "Look at the number and type it again."],
+    "desk.unknown standing": ["There is no rider of this number.", "Look at the number, or make the rider's record first."],
+    "desk.unknown trip": ["There is no such rider, trip or place.", "Look at the numbers. A new place is put by the admin."],
+    "desk.unknown caller": ["The rider or the vehicle of this caller is not there yet.", "Put the rider or the vehicle first."],
+    "desk.unknown vehicle": ["There is no such place for the depot.", "Choose a place that the admin has put."],
+    "desk.unknown manifest": ["There is no vehicle of this number.", "Look at the number and type it again."],
+    "desk.over": ["It is too late for this: the trip's time has come, or it was cancelled or has ended.",
+        "Book a new trip, or call the dispatcher."],
+    "desk.over outcome": ["How this trip ended is told already, or it was cancelled.", "Nothing has to be done. Go on to the next stop."],
+    "desk.early": ["The day of this trip has not come.", "Say how it ended on its day or later."],
+    "desk.exists": ["A record of this number is there already.", "Take another number."],
+    "desk.exists caller": ["Another caller has this key.", "Make another key."],
+    "desk.exists place": ["A place of this number is there already, and a place is not replaced.", "Take another number."],
+    "desk.exists rider": ["This rider is there as the other kind, resident or visitor, and that never changes.",
+        "Take the other kind, or another number."],
+    "desk.booked": ["A trip stands in this vehicle on that day or later.", "Choose a later first day, or move or cancel those trips first."],
+    "desk.full": ["The desk has no room for one more.", "Replace a record that is not needed any more, or call the people who run the desk."],
+    "37.127": ["This rider is a visitor, who has no case file.", "A visitor needs no application. Book the trip."],
+    "37.125": ["The rider has no right to ride on this day: nothing is granted, or the grant ends before it.",
+        "Take an application, or choose a day that the grant has."],
+    "37.125(c)": ["This is out of turn: an application waits for its decision already, or none waits.",
+        "Read the letters of this case. Decide what waits, or take an application first."],
+    "37.125(e)": ["The last day of the grant is before today.", "Choose a last day that is today or later."],
+    "37.125(g)": ["This step of an appeal is out of turn.",
+        "An appeal comes within 60 days, once for each decision. It is heard, and then decided by somebody who did not decide before."],
+    "37.125(h)": ["This step of a suspension has no ground yet.",
+        "A notice needs a pattern of missed trips. The rider is heard on it. A suspension begins after today and lasts 30 days at most."],
+    "37.125(h) trip": ["The rider is suspended on this day.", "Choose a day after the suspension. An appeal lets the rider travel until it is decided."],
+    "37.127(e)": ["The visitor has used the 21 days of this year.", "A visitor who stays longer can apply as a resident does."],
+    "37.123(b)": ["No condition of the rider's grant holds of this trip.",
+        "Read the conditions in the last letter. Choose another day or place, or take the bus for this trip."],
+    "37.123(f)": ["This party is too large: one companion may come, and an attendant only where the rider's record names one.",
+        "Book with fewer people, or change the rider's record."],
+    "37.131(a)": ["The pickup or the drop is too far from every bus line.", "Choose a place inside a corridor on the map."],
+    "37.131(b)": ["A trip is booked from tomorrow to 14 days ahead.", "Choose one of these days."],
+    "37.131(e)": ["No bus line serves both ends on that day at that time.", "Choose a time or a day at which the buses run."],
+    "no vehicle": ["No vehicle can take this trip: all are full at that time, off duty, or cannot be there in time.",
+        "Try an earlier or a later time, or another day."],
+    "http.field": ["The desk does not take this field.", "Look at it and type it again."],
+    "http.path": ["A number or a day is not of the form that the desk takes.", "Numbers are from 1 to 4294967295, days from 2000 to 2099."],
+    "http.method": ["These pages and the desk do not fit together.", "Load the page anew. If it stays, tell the people who run the desk."],
+    "http.head": ["The desk could not read the request.", "Load the page anew. If it stays, tell the people who run the desk."],
+    "http.length": ["The request is too long for the desk.", "Write less, and send it again."],
+    "http.json": ["The desk could not read what was sent.", "Load the page anew. If it stays, tell the people who run the desk."],
+    "desk.memory": ["The desk has no memory left at this moment.", "The page asks again by itself."],
+    "desk.store": ["The desk cannot write to its disk.", "The page asks again by itself. Tell the people who run the desk."],
+    left: ["The desk did not answer before this was left.", "Ask again."],
+};
+
+// What a denial says: {says, help, section}, the section where it has one.
+export function inWords(name, purpose = "") {
+    const [says, help] = TABLE[`${name} ${purpose}`] ?? TABLE[name] ?? [`The desk denies this: ${name}.`, "Tell the people who run the desk."];
+    const regulation = name === "no vehicle" ? "37.131" : name;
+    return { says, help, section: /^\d/.test(regulation) ? `49 CFR ${regulation}` : null };
+}
