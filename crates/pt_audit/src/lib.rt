@@ -17,6 +17,4 @@ mod law;
 mod line;
 mod loads;
 mod reading;
-#[cfg(test)]
-mod tests;
 mod text;

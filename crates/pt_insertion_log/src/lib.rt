@@ -7,6 +7,4 @@ mod cases;
 mod explaining;
 mod limits;
 mod steps;
-#[cfg(test)]
-mod tests;
 mod writing;

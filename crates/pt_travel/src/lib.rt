@@ -13,6 +13,4 @@ mod raw;
 mod read;
 mod record;
 mod sorted;
-#[cfg(test)]
-mod tests;
 mod times;

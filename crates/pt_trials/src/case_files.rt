@@ -348,6 +348,7 @@ impl Trial {
                 id: RiderId::of(7).ok_or("a rider")?,
                 kind,
                 attendant: dice.throw(2) == 0,
+                wheelchair: dice.throw(2) == 0,
             },
             tallies: random_tallies(alloc, dice)?,
             policy: Policy {

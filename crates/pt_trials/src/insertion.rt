@@ -1,9 +1,10 @@
 //! The best place of random trips in random routes, by `best` and by a plain search of all places.
 use crate::dice::Dice;
+use crate::instances::party;
 use crate::service_times::minute;
 use crate::times::Plain;
-use pt_base::{Day, Load, PlaceId, TripId, Vehicle, VehicleId, Weekdays};
-use pt_feasible::{Route, Schedule, Stop, StopKind, Stops, loads_fit, settle};
+use pt_base::{Day, PlaceId, TripId, Vehicle, VehicleId, Weekdays};
+use pt_feasible::{MAX_STOPS, Route, Schedule, Stop, StopKind, Stops, loads_fit, settle};
 use pt_insertion::{Asked, Chosen, Duty, are_rising, are_without, best};
 use pt_travel::Times;
 use std::alloc::Global;
@@ -70,6 +71,7 @@ fn vehicle(dice: &mut Dice, id: u32) -> Result<Vehicle, Fail> {
         days: Weekdays::all(),
         depot: PlaceId::of(DEPOT).ok_or("depot")?,
         capacity: 3,
+        chairs: dice.throw(3) as u16,
         opens,
         closes,
         duration: (250 + dice.throw(500)) as u16,
@@ -88,10 +90,7 @@ fn asked(dice: &mut Dice, shape: Shape, trip: u32, about: u32) -> Result<Asked, 
         latest: minute(lo + 150 + dice.throw(400))?,
         service: dice.throw(4) as u16,
         ride: (30 + dice.throw(90)) as u16,
-        load: Load {
-            seats: 1 + dice.throw(2) as u16,
-            chairs: 0,
-        },
+        load: party(dice),
     })
 }
 
@@ -180,7 +179,7 @@ fn try_place(
 ) -> Result<Option<Found>, Fail> {
     let stops = with_trip(alloc, duty.route, asked, i, j)?;
     let route = Route::of(stops).ok_or("not in pairs")?;
-    if route.len() > 60 || !loads_fit(&route, duty.vehicle) {
+    if route.len() > MAX_STOPS || !loads_fit(&route, duty.vehicle) {
         return Ok(None);
     }
     let Some(schedule) = settle(&route, &Plain, duty.vehicle) else {

@@ -33,10 +33,26 @@ pub fn vehicle(dice: &mut Dice, id: u32) -> Result<Vehicle, Fail> {
         days: Weekdays::all(),
         depot: PlaceId::of(DEPOT).ok_or("depot")?,
         capacity: 3,
+        chairs: dice.throw(3) as u16,
         opens,
         closes,
         duration: (250 + dice.throw(500)) as u16,
     })
+}
+
+/// A rider alone or with another person, one time in three in a wheelchair.
+pub fn party(dice: &mut Dice) -> Load {
+    let others = dice.throw(2) as u16;
+    if dice.throw(3) == 0 {
+        return Load {
+            seats: others,
+            chairs: 1,
+        };
+    }
+    Load {
+        seats: 1 + others,
+        chairs: 0,
+    }
 }
 
 /// A trip with its pickup at about the minute `about`.
@@ -51,10 +67,7 @@ pub fn asked(dice: &mut Dice, trip: u32, about: u32) -> Result<Asked, Fail> {
         latest: minute(lo + 150 + dice.throw(400))?,
         service: dice.throw(4) as u16,
         ride: (30 + dice.throw(90)) as u16,
-        load: Load {
-            seats: 1 + dice.throw(2) as u16,
-            chairs: 0,
-        },
+        load: party(dice),
     })
 }
 

@@ -1,7 +1,10 @@
-//! Comparisons of the planner's crates, of case files, visitors' days and logs of refusals with plain second evaluations, over many
-//! cases from fixed seeds. The whole desk is compared by `tests/second_desk`.
+//! Examples for the planner's crates and for logs of refusals; and comparisons of these, of case files and of
+//! visitors' days with plain second evaluations, over many cases from fixed seeds. The whole desk is compared by
+//! `tests/second_desk`.
 #![tactic(auto)]
 
+#[cfg(test)]
+mod audits;
 #[cfg(test)]
 mod case_files;
 #[cfg(test)]
@@ -9,18 +12,28 @@ mod corridor;
 #[cfg(test)]
 mod dice;
 #[cfg(test)]
+mod four_places;
+#[cfg(test)]
 mod insertion;
 #[cfg(test)]
 mod instances;
 #[cfg(test)]
 mod logs;
 #[cfg(test)]
+mod places;
+#[cfg(test)]
 mod plain;
 #[cfg(test)]
+mod routes;
+#[cfg(test)]
 mod service_times;
+#[cfg(test)]
+mod table_rows;
 #[cfg(test)]
 mod times;
 #[cfg(test)]
 mod travel;
 #[cfg(test)]
 mod visitors;
+#[cfg(test)]
+mod written_logs;

@@ -198,7 +198,10 @@ fn ends(vehicle: &Vehicle, stops: &[Stop], visits: &[Visit], bounds: &[u64], end
             None => false,
         },
         End::Overloaded(k) => {
-            k as usize <= stops.len() && i64::from(vehicle.capacity) < aboard(stops, k as usize)
+            let (seats, chairs) = aboard(stops, k as usize);
+            let too_many = i64::from(vehicle.capacity) < seats
+                || i64::from(vehicle.chairs) < chairs;
+            k as usize <= stops.len() && too_many
         }
         End::NoWay(k) => {
             let (this, next) = (
@@ -214,17 +217,21 @@ fn ends(vehicle: &Vehicle, stops: &[Stop], visits: &[Visit], bounds: &[u64], end
     }
 }
 
-/// The persons aboard after the first `k` stops.
-fn aboard(stops: &[Stop], k: usize) -> i64 {
-    let mut total = 0i64;
-    for (place, stop) in stops.iter().enumerate() {
-        let persons = i64::from(stop.load.seats);
-        if place < k {
-            total = match stop.kind {
-                StopKind::Pickup => total.saturating_add(persons),
-                StopKind::Drop => total.saturating_sub(persons),
-            };
-        }
+/// The seats and the wheelchair places that are taken after the first `k` stops.
+fn aboard(stops: &[Stop], k: usize) -> (i64, i64) {
+    let (mut seats, mut chairs) = (0i64, 0i64);
+    for stop in stops.iter().take(k) {
+        let (more, wheelchairs) = (i64::from(stop.load.seats), i64::from(stop.load.chairs));
+        (seats, chairs) = match stop.kind {
+            StopKind::Pickup => (
+                seats.saturating_add(more),
+                chairs.saturating_add(wheelchairs),
+            ),
+            StopKind::Drop => (
+                seats.saturating_sub(more),
+                chairs.saturating_sub(wheelchairs),
+            ),
+        };
     }
-    total
+    (seats, chairs)
 }

@@ -34,6 +34,7 @@ fn vehicle(dice: &mut Dice) -> Result<Vehicle, Fail> {
         days: Weekdays::all(),
         depot: PlaceId::of(1_001).ok_or("depot")?,
         capacity: 4,
+        chairs: 0,
         opens,
         closes,
         duration: (200 + dice.throw(600)) as u16,

@@ -1,65 +1,28 @@
+//! Routes with their times, as examples.
 ghost use Rattle.std.specs.Prelude.{◌≡◌, ◌+◌, ◌<◌, ◌≤◌, length};
 ghost use Rattle.pt_feasible.specs.Route.{stops_of};
-ghost use Rattle.pt_feasible.specs.Plain.{plain_minutes, plain-stays, plain-within_a_day, plain-triangle};
 
-use super::*;
-use pt_base::{Day, Load, Minute, PlaceId, TripId, Vehicle, VehicleId, Weekdays};
-use pt_travel::Times;
+use crate::four_places::{A, AWAY, B, seated, vehicle};
+use crate::times::Plain;
+use pt_base::{Minute, PlaceId, TripId, Vehicle};
+use pt_feasible::{
+    Passes, Route, Stop, StopKind, Stops, earliest_times, latest_times, loads_fit, settle,
+    settle_counted, settle_from,
+};
 use std::alloc::Global;
 use std::marker::Brand;
+use std::ops::Range;
 use std::sync::ledger::{Blank, Ledger};
 use std::test::Fail;
 
-/// Places told by their numbers, whose last six digits are three east and three north.
-struct Plain;
-
-impl Times for Plain {
-    ghost minutes = { λ _ a b. plain_minutes a b };
-
-    ghost stays = { λ _ a. plain-stays a };
-
-    ghost within_a_day = { λ _ a b. plain-within_a_day a b };
-
-    ghost triangle = { λ _ a b c m n. plain-triangle a b c m n };
-
-    fn minutes(&self, from: PlaceId, to: PlaceId) -> Option<u16> {
-        let (a, b) = (from.number(), to.number());
-        if a / 1_000_000 != b / 1_000_000 {
-            return None;
-        }
-        let east = (a / 1_000 % 1_000).abs_diff(b / 1_000 % 1_000);
-        let north = (a % 1_000).abs_diff(b % 1_000);
-        Some(east.max(north) as u16)
+/// A vehicle of four seats that is on the way for so long at most.
+fn lasting(duration: u16, closes: u32) -> Result<Vehicle, Fail> {
+    if duration < 1 || duration > 1439 {
+        return Err(Fail::new("no such duration"));
     }
-}
-
-/// Four places with 20 minutes between the depot and A, 40 and B, 30 and C; 30 between A and B, 10 and C; 25 between B
-/// and C.
-const DEPOT: u32 = 1_001;
-
-const A: u32 = 21_011;
-
-const B: u32 = 21_041;
-
-const C: u32 = 31_016;
-
-/// A place to which there is no way.
-const AWAY: u32 = 1_000_001;
-
-fn vehicle(duration: u16, closes: u32) -> Result<Vehicle, Fail> {
-    if duration < 1 || duration > 1439 || closes < 480 {
-        return Err(Fail::new("no such vehicle"));
-    }
-    Ok(Vehicle {
-        id: VehicleId::of(1).ok_or("id")?,
-        from_day: Day::of(20_000).ok_or("day")?,
-        days: Weekdays::all(),
-        depot: PlaceId::of(DEPOT).ok_or("depot")?,
-        capacity: 4,
-        opens: Minute::of(480).ok_or("opens")?,
-        closes: Minute::of(closes).ok_or("closes")?,
-        duration,
-    })
+    let mut vehicle = vehicle(4, closes)?;
+    vehicle.duration = duration;
+    Ok(vehicle)
 }
 
 /// A stop for one person with 2 minutes of service.
@@ -71,10 +34,7 @@ fn stop(trip: u32, kind: StopKind, place: u32, lo: u32, hi: u32, ride: u16) -> R
         lo: Minute::of(lo).ok_or("lo")?,
         hi: Minute::of(hi).ok_or("hi")?,
         service: 2,
-        load: Load {
-            seats: 1,
-            chairs: 0,
-        },
+        load: seated(1),
         ride,
     })
 }
@@ -96,7 +56,7 @@ fn a_to_b(alloc: Global, lo: u32, hi: u32) -> Result<Route, Fail> {
 #[test]
 fn settles_from_a_floor(rt: HostRuntime) -> Result<(), Fail> {
     let route = a_to_b(rt.alloc(), 540, 660)?;
-    let vehicle = vehicle(100, 1020)?;
+    let vehicle = lasting(100, 1020)?;
     let Some(earliest) = earliest_times(&route, &Plain, &vehicle) else {
         return Err(Fail::new("no floor"));
     };
@@ -130,7 +90,7 @@ fn fits<L: Ledger>(route: &Route, vehicle: &Vehicle, blank: Blank) -> bool
 
 #[test]
 fn gives_up_a_ride_that_takes_a_minute_too_long(rt: HostRuntime) -> Result<(), Fail> {
-    let mut vehicle = vehicle(1439, 1439)?;
+    let mut vehicle = lasting(1439, 1439)?;
     vehicle.opens = Minute::of(0).ok_or("opens")?;
     for (ride, is_enough) in [(700, true), (699, false)] {
         let stops = vec![in rt.alloc(); pickup(1, 1_001, 0, 1439, ride)?, drop(1, 701_001, ride)?]?;
@@ -161,7 +121,7 @@ fn tells_what_does_not_fit(rt: HostRuntime) -> Result<(), Fail> {
     for (duration, closes, goal, lo, hi, ride, fits) in rows {
         let stops = vec![in rt.alloc(); pickup(1, A, lo, hi, ride)?, drop(1, goal, ride)?]?;
         let route = Route::of(stops).ok_or("no route")?;
-        let schedule = settle(&route, &Plain, &vehicle(duration, closes)?);
+        let schedule = settle(&route, &Plain, &lasting(duration, closes)?);
         assert_eq!(rt;
             schedule.is_some(),
             fits,
@@ -171,25 +131,33 @@ fn tells_what_does_not_fit(rt: HostRuntime) -> Result<(), Fail> {
     Ok(())
 }
 
+/// Lets a person of each of these trips come aboard at A.
+fn board(stops: &mut Vec<Stop>, trips: Range<u32>) -> Result<(), Fail> {
+    for trip in trips {
+        stops.push(pickup(trip, A, 480, 600, 50)?)?;
+    }
+    Ok(())
+}
+
+/// Lets the person of each of these trips leave at B.
+fn leave(stops: &mut Vec<Stop>, trips: Range<u32>) -> Result<(), Fail> {
+    for trip in trips {
+        stops.push(drop(trip, B, 50)?)?;
+    }
+    Ok(())
+}
+
 #[test]
 fn counts_loads(rt: HostRuntime) -> Result<(), Fail> {
-    let vehicle = vehicle(480, 1020)?;
+    let vehicle = vehicle(4, 1020)?;
     // how many come aboard before the first leaves, and after it
     for (before, after, fits) in [(4, 0, true), (5, 0, false), (4, 1, true), (4, 2, false)] {
         let mut stops = Vec::new(rt.alloc());
-        for trip in 1..before + 1 {
-            stops.push(pickup(trip, A, 480, 600, 50)?)?;
-        }
-        stops.push(drop(1, B, 50)?)?;
-        for trip in 10..10 + after {
-            stops.push(pickup(trip, A, 480, 600, 50)?)?;
-        }
-        for trip in 2..before + 1 {
-            stops.push(drop(trip, B, 50)?)?;
-        }
-        for trip in 10..10 + after {
-            stops.push(drop(trip, B, 50)?)?;
-        }
+        board(&mut stops, 1..before + 1)?;
+        leave(&mut stops, 1..2)?;
+        board(&mut stops, 10..10 + after)?;
+        leave(&mut stops, 2..before + 1)?;
+        leave(&mut stops, 10..10 + after)?;
         let route = Route::of(stops).ok_or("no route")?;
         assert_eq!(rt; loads_fit(&route, &vehicle), fits, "at {before} {after}");
     }

@@ -1,5 +1,6 @@
-use crate::{Closed, Raw, Row, Times};
+//! Tables of driving times, as examples.
 use pt_base::{Fault, PlaceId};
+use pt_travel::{Closed, Raw, Row, Times};
 use std::alloc::{AllocError, Global};
 use std::test::Fail;
 
