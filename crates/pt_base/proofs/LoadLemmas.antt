@@ -22,5 +22,5 @@ within_more a b c first second = record {
 pub fits-is_load : (load : Load) (vehicle : Vehicle) → FitsWithin load vehicle → IsLoad load
 fits-is_load load vehicle fits = record {
   seats = omega (arith, fits.seats, vehicle.capacity_in_range);
-  chairs = omega (arith, fits.chairs);
+  chairs = omega (arith, fits.chairs, vehicle.chairs_in_range);
 }

@@ -24,9 +24,9 @@ pub record IsWithin (load room : Load) : Type 0 where
 abbrev pub IsLoad : Load → Type 0
 IsLoad load = IsWithin load (record { seats = 65_535; chairs = 65_535 })
 
--- the seats of the vehicle; none has a wheelchair place yet
+-- the seats and the wheelchair places of the vehicle
 abbrev pub room_of : Vehicle → Load
-room_of vehicle = record { seats = vehicle.capacity; chairs = 0 }
+room_of vehicle = record { seats = vehicle.capacity; chairs = vehicle.chairs }
 
 -- the vehicle has room for the load
 abbrev pub FitsWithin : Load → Vehicle → Type 0

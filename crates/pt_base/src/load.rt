@@ -47,6 +47,6 @@ impl Load {
     pub fn fits(self, vehicle: &Vehicle) -> bool
         ensures { IsTrue result ↔ FitsWithin self vehicle.now }
     {
-        self.seats <= vehicle.capacity && self.chairs == 0
+        self.seats <= vehicle.capacity && self.chairs <= vehicle.chairs
     }
 }

@@ -16,4 +16,6 @@ pub struct Rider {
     pub kind: Residence,
     /// Whether the record names an attendant.
     pub attendant: bool,
+    /// Whether the rider rides in a wheelchair.
+    pub wheelchair: bool,
 }

@@ -24,6 +24,8 @@ pub struct Trip {
     pub id: TripId,
     pub rider: RiderId,
     pub wish: Wish,
+    /// Whether the rider rides in a wheelchair, as the record said when the trip was booked or last changed.
+    pub wheelchair: bool,
     /// The fare of one person in cents, at most 100,000.
     pub fare: u32,
     /// Minutes at each of its two stops, at most 30.

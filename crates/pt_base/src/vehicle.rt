@@ -12,8 +12,10 @@ pub struct Vehicle {
     pub days: Weekdays,
     /// Where its route begins and ends.
     pub depot: PlaceId,
-    /// How many persons it carries, 1 to 30.
+    /// How many seats it has, 1 to 30.
     pub capacity: u16,
+    /// How many wheelchair places it has, 0 to 10.
+    pub chairs: u16,
     /// When it may leave its depot.
     pub opens: Minute,
     /// When it has to be back.
@@ -21,6 +23,7 @@ pub struct Vehicle {
     /// How many minutes its route may take, 1 to 1439.
     pub duration: u16,
     ghost capacity_in_range: { IsInRange 1 30 capacity },
+    ghost chairs_in_range: { chairs ≤ 10 },
     ghost hours_ordered: { opens ≤ closes },
     ghost duration_in_range: { IsInRange 1 1_439 duration },
 }

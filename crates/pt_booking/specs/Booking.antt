@@ -39,6 +39,7 @@ pub record IsTripIn (minutes : ℕ → ℕ → Option ℕ) (request : Request) (
   pub number : trip.id ≡ request.trip
   pub rider : trip.rider ≡ request.rider.id
   pub wish : trip.wish ≡ request.wish
+  pub wheelchair : trip.wheelchair ≡ request.rider.wheelchair
   pub fare : IsFare request trip.fare
   pub service : trip.service ≡ request.policy.service
   pub ride : trip.ride ≡ ride_limit minutes request

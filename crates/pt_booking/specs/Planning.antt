@@ -1,5 +1,5 @@
 -- Planning the trip of a request: the vehicles on duty, what is asked of them, and whether one can take it.
-use Rattle.std.specs.Prelude.{ℕ, ◌+◌, false, List, [], ◌∷◌, ◌++◌, map, Any, All, Option, unwrap_or}
+use Rattle.std.specs.Prelude.{ℕ, ◌+◌, List, [], ◌∷◌, ◌++◌, map, Any, All, Option, unwrap_or}
 use Rattle.pt_base.specs.Ranges.{last_minute}
 use Rattle.pt_base.specs.declared.rule.Rule.{Rule}
 use Rattle.pt_base.specs.declared.rule.Rule.TheVariants.{NoVehicle}
@@ -43,7 +43,7 @@ asked_for minutes request = record {
   latest = unwrap_or request.wish.by last_minute;
   service = request.policy.service;
   ride = ride_limit minutes request;
-  load = load_of (party_of request.wish) false;
+  load = load_of (party_of request.wish) request.rider.wheelchair;
 }
 
 -- a booked trip as its vehicle's route has it: its pickup in the promised window, and what was settled when it was
@@ -58,7 +58,7 @@ asked_of trip = record {
   latest = unwrap_or trip.wish.by last_minute;
   service = trip.service;
   ride = trip.ride;
-  load = load_of (party_of trip.wish) false;
+  load = load_of (party_of trip.wish) trip.wheelchair;
 }
 
 -- some vehicle on duty can take the trip: there are places in its route, and service times, that meet every limit

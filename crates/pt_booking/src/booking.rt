@@ -129,6 +129,7 @@ fn trip_at<T: Times>(
         id: request.trip,
         rider: request.rider.id,
         wish: request.wish,
+        wheelchair: request.rider.wheelchair,
         fare: fare_of(request),
         service: request.policy.service,
         ride: ride_limit(request, times),

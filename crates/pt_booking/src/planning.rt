@@ -24,7 +24,7 @@ pub fn asked_for<T: Times>(request: &TripRequest<'_>, times: &T) -> Asked
         latest: latest_drop(wish),
         service: request.policy.service,
         ride: ride_limit(request, times),
-        load: load(party_of(wish), false),
+        load: load(party_of(wish), request.rider.wheelchair),
     }
 }
 
@@ -41,7 +41,7 @@ pub fn asked_of(trip: &Trip) -> Asked
         latest: latest_drop(&trip.wish),
         service: trip.service,
         ride: trip.ride,
-        load: load(party_of(&trip.wish), false),
+        load: load(party_of(&trip.wish), trip.wheelchair),
     }
 }
 

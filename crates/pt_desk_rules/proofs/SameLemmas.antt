@@ -87,7 +87,7 @@ shown_one trips stops a b same k x y one two =
     let found = ap (λ (s : Stop). record_at trip_key s.trip trips) stop in
     let trip = same_Some one.trip two.trip (sym one.is_trip ∙ found ∙ two.is_trip) in
     let minute = same (k + 1) in
-    let aboard = (load_aboard (take (k + 1) stops)).seats in
+    let aboard = load_aboard (take (k + 1) stops) in
     let shown : tour_stop one.stop.kind one.trip (slice_index a (k + 1)) aboard
     ≡ tour_stop two.stop.kind two.trip (slice_index b (k + 1)) aboard
     = λ i. tour_stop ((stop i).kind) (trip i) (minute i) aboard in
@@ -107,6 +107,7 @@ tour_one rows vehicle trips stops x y (minutes, times, a, least, one) (others, a
     let same = least_one minutes vehicle stops a b least moved in
     record {
       depot = one.depot ∙ sym two.depot;
+      chairs = one.chairs ∙ sym two.chairs;
       leaves = one.leaves ∙ same 0 ∙ sym two.leaves;
       stops = stops_one trips stops a b x.stops.items y.stops.items same one.shown two.shown;
       returns = one.returns ∙ same (length stops + 1) ∙ sym two.returns;
@@ -130,7 +131,7 @@ sheet_one day facts vehicle x y one two = record {
 -- what is the same is alike
 like_tour : (tour : Option Tour) → IsSameTourOrNone tour tour
 like_tour None = tt
-like_tour (Some tour) = record { depot = refl; leaves = refl; stops = refl; returns = refl }
+like_tour (Some tour) = record { depot = refl; chairs = refl; leaves = refl; stops = refl; returns = refl }
 
 like_sheet : (x y : VehicleSheet) → x ≡ y → IsSameSheet x y
 like_sheet x y same = subst (IsSameSheet x) same (record { vehicle = refl; tour = like_tour x.tour })

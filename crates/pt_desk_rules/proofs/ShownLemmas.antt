@@ -1,6 +1,7 @@
 -- In a sound state the manifest of a vehicle shows none but the trips that stand in it on the day.
 use Rattle.std.proofs.Common.{◌≡◌, ℕ, List, [], ◌∷◌, Option, Some, None, refl, sym, ap, ◌∙◌, subst}
 use Rattle.std.specs.Prelude.{◌==◌, slice_get}
+use Rattle.pt_base.specs.declared.load.Load.{Load}
 use Rattle.pt_base.specs.Day.{IsDay}
 use Rattle.pt_base.specs.declared.trip.Trip.{Trip}
 use Rattle.pt_base.specs.declared.vehicle.Vehicle.{Vehicle}
@@ -74,7 +75,7 @@ stop_stands s vehicle day k stop sound at =
     (standing_at s.trips vehicle day (planned_on day s.planned) plans)) k stop at
 
 -- what is shown of a stop has the number of its trip
-number_of : (trips : List Trip) (stop : Stop) (trip : Trip) (minute aboard : ℕ) (shown : TourStop)
+number_of : (trips : List Trip) (stop : Stop) (trip : Trip) (minute : ℕ) (aboard : Load) (shown : TourStop)
     → record_at trip_key stop.trip trips ≡ Some trip → shown ≡ tour_stop stop.kind trip minute aboard
     → shown.trip ≡ stop.trip
 number_of trips stop trip minute aboard shown found is =

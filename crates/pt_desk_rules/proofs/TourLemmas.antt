@@ -110,7 +110,7 @@ pub shown_at : (trips : List Trip) (stops : List Stop) (b : List ℕ) (k : ℕ) 
     (shown : TourStop) → slice_get stops k ≡ Some stop → record_at trip_key stop.trip trips ≡ Some trip
     → shown.minute ≡ slice_index b (k + 1) → shown.window ≡ window_of stop.kind trip → shown.trip ≡ trip.id
     → shown.rider ≡ trip.rider → shown.place ≡ place_of stop.kind trip
-    → shown.aboard ≡ (load_aboard (take (k + 1) stops)).seats → IsShownAt trips stops b k shown
+    → shown.aboard ≡ load_aboard (take (k + 1) stops) → IsShownAt trips stops b k shown
 shown_at trips stops b k stop trip shown at found minute window number rider place aboard = record {
   stop = stop;
   trip = trip;

@@ -21,6 +21,7 @@ use Rattle.pt_requests.specs.declared.request.Write.TheVariants as write
 -- the same tour: from one depot and back at the same minutes, over the same stops
 pub record IsSameTour (a b : Tour) : Type 0 where
   pub depot : a.depot ≡ b.depot
+  pub chairs : a.chairs ≡ b.chairs
   pub leaves : a.leaves ≡ b.leaves
   pub stops : a.stops.items ≡ b.stops.items
   pub returns : a.returns ≡ b.returns

@@ -5,6 +5,7 @@ use Rattle.std.specs.Prelude.{Option, Some, None, IsTrue, is_some}
 use Rattle.std.specs.List.{AllZip}
 use Rattle.pt_base.specs.Day.{IsDay}
 use Rattle.pt_base.specs.TripStatus.{stands}
+use Rattle.pt_base.specs.declared.load.Load.{Load}
 use Rattle.pt_base.specs.declared.trip.Trip.{Trip}
 use Rattle.pt_base.specs.declared.vehicle.Vehicle.{Vehicle}
 use Rattle.pt_booking.specs.declared.window.Window.{Window}
@@ -38,8 +39,8 @@ abbrev pub place_of : StopKind → Trip → ℕ
 place_of Pickup trip = trip.wish.from
 place_of Drop trip = trip.wish.to
 
--- a stop of a trip as the driver reads it, where service begins at this minute and so many persons are aboard after it
-abbrev pub tour_stop : StopKind → Trip → ℕ → ℕ → TourStop
+-- a stop of a trip as the driver reads it, where service begins at this minute and this load is aboard after it
+abbrev pub tour_stop : StopKind → Trip → ℕ → Load → TourStop
 tour_stop kind trip minute aboard = record {
   minute = minute;
   window = window_of kind trip;
@@ -55,7 +56,7 @@ pub record IsShownAt (trips : List Trip) (stops : List Stop) (b : List ℕ) (k :
   pub trip : Trip
   pub is_stop : slice_get stops k ≡ Some stop
   pub is_trip : record_at trip_key stop.trip trips ≡ Some trip
-  pub value : shown ≡ tour_stop stop.kind trip (slice_index b (k + 1)) (load_aboard (take (k + 1) stops)).seats
+  pub value : shown ≡ tour_stop stop.kind trip (slice_index b (k + 1)) (load_aboard (take (k + 1) stops))
 
 -- each stop is shown, in order
 pub record AreShown (trips : List Trip) (stops : List Stop) (b : List ℕ) (shown : List TourStop) : Type 0 where
@@ -66,6 +67,7 @@ pub record AreShown (trips : List Trip) (stops : List Stop) (b : List ℕ) (show
 pub record IsTourAt (vehicle : Vehicle) (trips : List Trip) (stops : List Stop) (b : List ℕ) (tour : Tour) :
     Type 0 where
   pub depot : tour.depot ≡ vehicle.depot
+  pub chairs : tour.chairs ≡ vehicle.chairs
   pub leaves : tour.leaves ≡ slice_index b 0
   pub shown : AreShown trips stops b tour.stops.items
   pub returns : tour.returns ≡ slice_index b (length stops + 1)

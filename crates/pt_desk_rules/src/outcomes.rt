@@ -50,6 +50,7 @@ fn ended(trip: &Trip, wish: Wish, outcome: Outcome) -> Trip
         id: trip.id,
         rider: trip.rider,
         wish,
+        wheelchair: trip.wheelchair,
         fare: trip.fare,
         service: trip.service,
         ride: trip.ride,

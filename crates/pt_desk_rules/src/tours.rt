@@ -92,7 +92,7 @@ fn tour_stops(
             trip: trip.id,
             rider: trip.rider,
             place: place_of(stop.kind, trip),
-            aboard: aboard.seats,
+            aboard,
         })?;
     }
     Ok(shown)
@@ -116,6 +116,7 @@ fn tour_at(
     let stops = tour_stops(alloc, route, trips, vehicle, times)?;
     Ok(Tour {
         depot: vehicle.depot,
+        chairs: vehicle.chairs,
         leaves: minute_of(times.as_slice()[0], vehicle.closes),
         stops,
         returns: minute_of(times.as_slice()[route.len() + 1], vehicle.closes),

@@ -70,6 +70,7 @@ pub(crate) fn cancelled(trip: &Trip, wish: Wish) -> Trip
         id: trip.id,
         rider: trip.rider,
         wish,
+        wheelchair: trip.wheelchair,
         fare: trip.fare,
         service: trip.service,
         ride: trip.ride,

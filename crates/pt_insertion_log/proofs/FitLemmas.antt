@@ -73,7 +73,7 @@ module _ (minutes : ℕ → ℕ → Option ℕ) (vehicle : Vehicle) (stops : Lis
 pub clear-loads : (minutes : ℕ → ℕ → Option ℕ) (vehicle : Vehicle) (stops : List Stop) → ((k : ℕ) → IsClear minutes vehicle stops k) → LoadsFit vehicle stops
 clear-loads minutes vehicle stops clear k inside = elim (cases_lt vehicle.capacity (load_aboard (take k stops)).seats) [
   | inl over ↦ absurd ((clear k).2 (inside, λ fits. omega (arith, fits.seats, over)))
-  | inr seats ↦ elim (cases_lt 0 (load_aboard (take k stops)).chairs) [
+  | inr seats ↦ elim (cases_lt vehicle.chairs (load_aboard (take k stops)).chairs) [
     | inl over ↦ absurd ((clear k).2 (inside, λ fits. omega (arith, fits.chairs, over)))
     | inr chairs ↦ record { seats = seats; chairs = chairs }
   ]

@@ -1,7 +1,8 @@
 -- What drivers carry: every line ends with a newline.
-use Rattle.std.specs.Prelude.{ℕ, ◌/◌, ◌%◌, List, [], ◌++◌, Option, None, Some, codes, decimal}
+use Rattle.std.specs.Prelude.{ℕ, ◌/◌, ◌%◌, ◌==◌, if◌then◌else◌, List, [], ◌++◌, Option, None, Some, codes, decimal}
 use Rattle.std.specs.List.{flat_map}
 use Rattle.jiff_fmt.specs.Text.{pad2}
+use Rattle.pt_base.specs.declared.load.Load.{Load}
 use Rattle.pt_booking.specs.declared.window.Window.{Window}
 use Rattle.pt_manifest.specs.Days.{day_text}
 use Rattle.pt_manifest.specs.declared.sheets.DaySheet.{DaySheet}
@@ -22,12 +23,17 @@ abbrev pub window_text : Option Window → List ℕ
 window_text (Some window) = codes " window " ++ minute_text window.from ++ codes "-" ++ minute_text window.to
 window_text None = []
 
--- a stop, with the persons aboard after it
-abbrev pub stop_line : TourStop → List ℕ
-stop_line stop =
+-- who is aboard: how many on seats, and in a vehicle with wheelchair places how many on these
+abbrev pub load_text : ℕ → Load → List ℕ
+load_text chairs load =
+    codes " load " ++ decimal load.seats ++ (if chairs == 0 then [] else codes " chairs " ++ decimal load.chairs)
+
+-- a stop of a vehicle with so many wheelchair places, with who is aboard after it
+abbrev pub stop_line : ℕ → TourStop → List ℕ
+stop_line chairs stop =
     minute_text stop.minute ++ stop_word stop.window
     ++ codes " trip " ++ decimal stop.trip ++ codes " rider " ++ decimal stop.rider
-    ++ codes " place " ++ decimal stop.place ++ codes " load " ++ decimal stop.aboard
+    ++ codes " place " ++ decimal stop.place ++ load_text chairs stop.aboard
     ++ window_text stop.window ++ codes "\n"
 
 -- the depot, when the vehicle leaves it or is back
@@ -38,7 +44,7 @@ depot_line minute depot = minute_text minute ++ codes " DEPOT " ++ decimal depot
 abbrev pub tour_text : Option Tour → List ℕ
 tour_text None = codes "NO STOPS\n"
 tour_text (Some tour) =
-    depot_line tour.leaves tour.depot ++ flat_map stop_line tour.stops.items ++ depot_line tour.returns tour.depot
+    depot_line tour.leaves tour.depot ++ flat_map (stop_line tour.chairs) tour.stops.items ++ depot_line tour.returns tour.depot
 
 -- what a vehicle does on a day
 abbrev pub manifest_text : ℕ → VehicleSheet → List ℕ

@@ -1,6 +1,6 @@
 ghost use Rattle.std.specs.Prelude.{◌<◌, vec_len};
 
-use pt_base::{Day, Minute, PlaceId, RiderId, TripId, VehicleId};
+use pt_base::{Day, Load, Minute, PlaceId, RiderId, TripId, VehicleId};
 use pt_booking::Window;
 
 /// A stop of a tour.
@@ -13,14 +13,16 @@ pub struct TourStop {
     pub trip: TripId,
     pub rider: RiderId,
     pub place: PlaceId,
-    /// How many persons are aboard after the stop.
-    pub aboard: u16,
+    /// Who is aboard after the stop.
+    pub aboard: Load,
 }
 
 /// A vehicle's way from its depot over at least one stop and back.
 #[derive(Debug, Drop, PartialEq, Eq)]
 pub struct Tour {
     pub depot: PlaceId,
+    /// How many wheelchair places the vehicle has.
+    pub chairs: u16,
     /// When the vehicle leaves its depot.
     pub leaves: Minute,
     /// The stops in their order.

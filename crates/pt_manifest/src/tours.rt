@@ -3,12 +3,12 @@ ghost use Rattle.std.specs.List.{flat_map};
 ghost use Rattle.pt_base.specs.Codes.{memory_refused};
 ghost use Rattle.pt_base.specs.Fault.{fault};
 ghost use Rattle.pt_manifest.specs.Manifests.{day_sheet_text, manifest_text, tour_text};
-ghost use Rattle.pt_manifest.specs.Manifests.{stop_line, depot_line, stop_word, window_text};
+ghost use Rattle.pt_manifest.specs.Manifests.{stop_line, depot_line, stop_word, load_text, window_text};
 
 use crate::writing::{write_day, write_minute, write_number};
 use crate::{DaySheet, Tour, TourStop, VehicleSheet};
 use itoa::Buffer;
-use pt_base::{Day, Fault, Minute, PlaceId};
+use pt_base::{Day, Fault, Load, Minute, PlaceId};
 use pt_booking::Window;
 use std::alloc::Global;
 
@@ -69,7 +69,7 @@ fn write_tour(tour: &Tour, out: &mut Vec<u8>) -> Result<(), Fault>
     ensures memory { IfErr result (λ error. error ≡ fault memory_refused) }
 {
     write_depot(tour.leaves, tour.depot, out)?;
-    write_stops(&tour.stops, out)?;
+    write_stops(&tour.stops, tour.chairs, out)?;
     write_depot(tour.returns, tour.depot, out)
 }
 
@@ -84,20 +84,20 @@ fn write_depot(minute: Minute, depot: PlaceId, out: &mut Vec<u8>) -> Result<(), 
     Ok(())
 }
 
-/// Adds the lines of the stops.
-fn write_stops(stops: &[TourStop], out: &mut Vec<u8>) -> Result<(), Fault>
-    ensures text { OnOk result (out.new.items ≡ out.old.items ++ flat_map stop_line stops.now) }
+/// Adds the lines of the stops of a vehicle with so many wheelchair places.
+fn write_stops(stops: &[TourStop], chairs: u16, out: &mut Vec<u8>) -> Result<(), Fault>
+    ensures text { OnOk result (out.new.items ≡ out.old.items ++ flat_map (stop_line chairs) stops.now) }
     ensures memory { IfErr result (λ error. error ≡ fault memory_refused) }
 {
     for stop in stops {
-        write_stop(stop, out)?;
+        write_stop(stop, chairs, out)?;
     }
     Ok(())
 }
 
 /// Adds the line of a stop.
-fn write_stop(stop: &TourStop, out: &mut Vec<u8>) -> Result<(), Fault>
-    ensures text { OnOk result (out.new.items ≡ out.old.items ++ stop_line stop.now) }
+fn write_stop(stop: &TourStop, chairs: u16, out: &mut Vec<u8>) -> Result<(), Fault>
+    ensures text { OnOk result (out.new.items ≡ out.old.items ++ stop_line chairs stop.now) }
     ensures memory { IfErr result (λ error. error ≡ fault memory_refused) }
 {
     write_minute(stop.minute, out)?;
@@ -105,9 +105,21 @@ fn write_stop(stop: &TourStop, out: &mut Vec<u8>) -> Result<(), Fault>
     write_number(b" trip ", stop.trip.number(), out)?;
     write_number(b" rider ", stop.rider.number(), out)?;
     write_number(b" place ", stop.place.number(), out)?;
-    write_number(b" load ", u32::from(stop.aboard), out)?;
+    write_load(stop.aboard, chairs, out)?;
     write_window(stop.window, out)?;
     out.extend_from_slice(b"\n")?;
+    Ok(())
+}
+
+/// Adds how many sit on seats, and in a vehicle with wheelchair places how many take these.
+fn write_load(load: Load, chairs: u16, out: &mut Vec<u8>) -> Result<(), Fault>
+    ensures text { OnOk result (out.new.items ≡ out.old.items ++ load_text chairs load) }
+    ensures memory { IfErr result (λ error. error ≡ fault memory_refused) }
+{
+    write_number(b" load ", u32::from(load.seats), out)?;
+    if chairs > 0 {
+        write_number(b" chairs ", u32::from(load.chairs), out)?;
+    }
     Ok(())
 }
 

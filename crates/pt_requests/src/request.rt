@@ -45,7 +45,7 @@ pub enum Write {
     PutPlace(Place),
     /// Makes a fixed route, or replaces the one of that number.
     PutRoute(FixedRoute),
-    /// Makes a rider's record, or changes whether it names an attendant.
+    /// Makes a rider's record, or changes whether it names an attendant, and whether the rider rides in a wheelchair.
     PutRider(Rider),
     /// Enters something in a resident's case file.
     Enter { rider: RiderId, entry: Entry },

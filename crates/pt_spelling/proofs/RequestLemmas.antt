@@ -1,5 +1,5 @@
 -- No two requests have one spelling.
-use Rattle.std.proofs.Common.{◌≡◌, ℕ, ◌≤◌, List, [], ◌∷◌, ◌++◌, get_or, drop, refl, sym, ap, ◌∙◌, append_assoc, arith}
+use Rattle.std.proofs.Common.{◌≡◌, ℕ, ◌≤◌, Bool, true, false, length, List, [], ◌∷◌, ◌++◌, get_or, drop, refl, sym, ap, ◌∙◌, arith}
 use Rattle.std.specs.List.{All}
 use Rattle.pt_base.specs.declared.place.Place.{Place}
 use Rattle.pt_base.specs.declared.policy.Policy.{Policy}
@@ -19,7 +19,7 @@ use Rattle.pt_travel.specs.Chain.{Row}
 use Rattle.pt_travel.specs.Table.{IsTable}
 use Rattle.pt_spelling.specs.Fields.{number_bytes, numbers_bytes, truth_bytes, optional_bytes, list_bytes}
 use Rattle.pt_spelling.specs.Ranges.{IsWord, IsEntry, IsWish, IsRow, IsRequest}
-use Rattle.pt_spelling.specs.Requests.{kind_number, outcome_number, rider_bytes, entry_bytes, wish_bytes, row_bytes, spelling}
+use Rattle.pt_spelling.specs.Requests.{kind_number, outcome_number, wheelchair_bytes, rider_bytes, entry_bytes, wish_bytes, row_bytes, spelling}
 use Rattle.pt_spelling.proofs.EntryLemmas.{entry-same}
 use Rattle.pt_spelling.proofs.FieldLemmas.{four_parts, byte-then, number-then, number-same, numbers-then, list-same, truth-then, optional-then}
 use Rattle.pt_spelling.proofs.SettingLemmas.{caller-same, policy-same, place-same, route-same, vehicle-same, row-then}
@@ -32,14 +32,22 @@ kind-same Resident Resident e = refl
 kind-same Visitor Visitor e = refl
 kind-same one other e = absurd (omega arith)
 
+wheelchair-same : (one other : Bool) → wheelchair_bytes one ≡ wheelchair_bytes other → one ≡ other
+wheelchair-same false false e = refl
+wheelchair-same true true e = refl
+wheelchair-same false true e = absurd (let lengths = ap (length {A = ℕ}) e in omega arith)
+wheelchair-same true false e = absurd (let lengths = ap (length {A = ℕ}) e in omega arith)
+
 rider-same : (one other : Rider) → IsWord one.id → IsWord other.id → rider_bytes one ≡ rider_bytes other → one ≡ other
 rider-same one other ones others e =
-    let grouped : number_bytes one.id ++ (kind_number one.kind ∷ truth_bytes one.attendant) ≡ number_bytes other.id ++ (kind_number other.kind ∷ truth_bytes other.attendant) = simp append_assoc at e in
+    let parts : (r : Rider) → rider_bytes r ≡ number_bytes r.id ++ (kind_number r.kind ∷ (truth_bytes r.attendant ++ wheelchair_bytes r.wheelchair)) = λ r. four_parts (number_bytes r.id) (kind_number r.kind ∷ []) (truth_bytes r.attendant) (wheelchair_bytes r.wheelchair) in
+    let grouped = sym (parts one) ∙ e ∙ parts other in
     let id = number-then one.id other.id _ _ ones others grouped in
     let kind = byte-then (kind_number one.kind) (kind_number other.kind) _ _ id.1 in
-    let attendant = truth-then one.attendant other.attendant [] [] (ap (λ (t : List ℕ). t ++ []) kind.1) in
+    let attendant = truth-then one.attendant other.attendant _ _ kind.1 in
+    let wheelchair = wheelchair-same one.wheelchair other.wheelchair attendant.1 in
     let residence = kind-same one.kind other.kind kind.0 in
-    λ i. record { id = id.0 i; kind = residence i; attendant = attendant.0 i }
+    λ i. record { id = id.0 i; kind = residence i; attendant = attendant.0 i; wheelchair = wheelchair i }
 
 wish-same : (one other : Wish) → IsWish one → IsWish other → wish_bytes one ≡ wish_bytes other → one ≡ other
 wish-same one other ones others e =

@@ -1,8 +1,9 @@
 -- Callers, policies, places, routes, vehicles and rows of travel tables are told apart by their bytes.
 use mathlib.Core.HLevel.{is_prop→PathP}
-use Rattle.std.proofs.Common.{◌≡◌, ℕ, ◌<◌, ◌≤◌, List, [], ◌∷◌, ◌++◌, get_or, refl, sym, ap, ◌∙◌, append_assoc, arith}
+use Rattle.std.proofs.Common.{◌≡◌, ℕ, zero, suc, ◌<◌, ◌≤◌, List, length, [], ◌∷◌, ◌++◌, get_or, refl, sym, ap, ◌∙◌, append_assoc, arith}
+use Rattle.std.proofs.lemmas.Bool.{cond-false, ne_eqb}
 use Rattle.std.proofs.Props.{props}
-use Rattle.std.specs.Prelude.{ℤ}
+use Rattle.std.specs.Prelude.{ℤ, ◌==◌}
 use Rattle.std.specs.Int.{IsInRange}
 use Rattle.pt_base.specs.Place.{IsOnPlane}
 use Rattle.pt_base.specs.declared.place.Place.{Place}
@@ -16,8 +17,8 @@ use Rattle.pt_requests.specs.declared.caller.Role.TheVariants.{Rider, Clerk, Exa
 use Rattle.pt_travel.specs.Chain.{Row}
 use Rattle.pt_spelling.specs.Fields.{number_bytes, numbers_bytes, truth_bytes, days_byte, list_bytes}
 use Rattle.pt_spelling.specs.Ranges.{IsWord, IsRole, IsCaller, IsRoute, IsVehicle, IsRow}
-use Rattle.pt_spelling.specs.Requests.{role_number, subject_of, caller_bytes, policy_bytes, point_bytes, place_bytes, route_bytes, vehicle_bytes, row_bytes}
-use Rattle.pt_spelling.proofs.FieldLemmas.{five_parts, byte-then, number-then, numbers-then, numbers-same, list-then, signed-then, truth-then, days-same}
+use Rattle.pt_spelling.specs.Requests.{role_number, subject_of, caller_bytes, policy_bytes, point_bytes, place_bytes, route_bytes, chairs_bytes, vehicle_bytes, row_bytes}
+use Rattle.pt_spelling.proofs.FieldLemmas.{four_parts, five_parts, byte-then, length-number, number-same, number-then, numbers-then, numbers-same, list-then, signed-then, truth-then, days-same}
 
 at_most-prop : (most n : ℕ) → IsProp (n ≤ most)
 at_most-prop most n = hlevel props
@@ -149,17 +150,20 @@ route-same one other ones others e =
 -- ---- vehicles
 
 vehicle-from : (a b : Vehicle) → (a.id ∷ a.from_day ∷ []) ≡ (b.id ∷ b.from_day ∷ []) → a.days ≡ b.days
-    → (a.depot ∷ a.capacity ∷ a.opens ∷ a.closes ∷ a.duration ∷ []) ≡ (b.depot ∷ b.capacity ∷ b.opens ∷ b.closes ∷ b.duration ∷ []) → a ≡ b
-vehicle-from a b front days duty = λ i. record {
+    → (a.depot ∷ a.capacity ∷ a.opens ∷ a.closes ∷ a.duration ∷ []) ≡ (b.depot ∷ b.capacity ∷ b.opens ∷ b.closes ∷ b.duration ∷ [])
+    → a.chairs ≡ b.chairs → a ≡ b
+vehicle-from a b front days duty chairs = λ i. record {
   id = get_or (front i) 0 0;
   from_day = get_or (front i) 1 0;
   days = days i;
   depot = get_or (duty i) 0 0;
   capacity = get_or (duty i) 1 0;
+  chairs = chairs i;
   opens = get_or (duty i) 2 0;
   closes = get_or (duty i) 3 0;
   duration = get_or (duty i) 4 0;
   capacity_in_range = is_prop→PathP (λ j. IsInRange 1 30 (get_or (duty j) 1 0)) (λ j. range-prop _ _ _) a.capacity_in_range b.capacity_in_range i;
+  chairs_in_range = is_prop→PathP (λ j. chairs j ≤ 10) (λ j. at_most-prop _ _) a.chairs_in_range b.chairs_in_range i;
   hours_ordered = is_prop→PathP (λ j. get_or (duty j) 2 0 ≤ get_or (duty j) 3 0) (λ j. at_most-prop _ _) a.hours_ordered b.hours_ordered i;
   duration_in_range = is_prop→PathP (λ j. IsInRange 1 1_439 (get_or (duty j) 4 0)) (λ j. range-prop _ _ _) a.duration_in_range b.duration_in_range i;
 }
@@ -173,16 +177,34 @@ duty-words v fits =
     let closes = fits.closes in
     (fits.depot, omega arith, omega arith, closes, omega arith)
 
+-- the wheelchair places of a vehicle, or none
+chairs-some : (more : ℕ) → chairs_bytes (suc more) ≡ number_bytes (suc more)
+chairs-some more = cond-false (suc more == 0) [] (number_bytes (suc more)) (ne_eqb (suc more) 0 (omega arith))
+
+chairs-length : (more : ℕ) → length (chairs_bytes (suc more)) ≡ 4
+chairs-length more = ap (length {A = ℕ}) (chairs-some more) ∙ length-number (suc more)
+
+chairs-same : (one other : ℕ) → one ≤ 10 → other ≤ 10 → chairs_bytes one ≡ chairs_bytes other → one ≡ other
+chairs-same zero zero ones others e = refl
+chairs-same (suc one) (suc other) ones others e =
+    number-same (suc one) (suc other) (omega arith) (omega arith) (sym (chairs-some one) ∙ e ∙ chairs-some other)
+chairs-same zero (suc other) ones others e =
+    absurd (let none : 0 ≡ length (chairs_bytes (suc other)) = ap (length {A = ℕ}) e in omega (arith, none, chairs-length other))
+chairs-same (suc one) zero ones others e =
+    absurd (let none : length (chairs_bytes (suc one)) ≡ 0 = ap (length {A = ℕ}) e in omega (arith, none, chairs-length one))
+
 pub vehicle-same : (one other : Vehicle) → IsVehicle one → IsVehicle other → vehicle_bytes one ≡ vehicle_bytes other → one ≡ other
 vehicle-same one other ones others e =
     let duty : Vehicle → List ℕ = λ v. v.depot ∷ v.capacity ∷ v.opens ∷ v.closes ∷ v.duration ∷ [] in
-    let grouped : numbers_bytes (one.id ∷ one.from_day ∷ []) ++ (days_byte one.days ∷ numbers_bytes (duty one)) ≡ numbers_bytes (other.id ∷ other.from_day ∷ []) ++ (days_byte other.days ∷ numbers_bytes (duty other)) = sym (append_assoc (numbers_bytes (one.id ∷ one.from_day ∷ [])) (days_byte one.days ∷ []) (numbers_bytes (duty one))) ∙ e ∙ append_assoc (numbers_bytes (other.id ∷ other.from_day ∷ [])) (days_byte other.days ∷ []) (numbers_bytes (duty other)) in
+    let parts : (v : Vehicle) → vehicle_bytes v ≡ numbers_bytes (v.id ∷ v.from_day ∷ []) ++ (days_byte v.days ∷ (numbers_bytes (duty v) ++ chairs_bytes v.chairs)) = λ v. four_parts (numbers_bytes (v.id ∷ v.from_day ∷ [])) (days_byte v.days ∷ []) (numbers_bytes (duty v)) (chairs_bytes v.chairs) in
+    let grouped = sym (parts one) ∙ e ∙ parts other in
     let front = numbers-then (one.id ∷ one.from_day ∷ []) (other.id ∷ other.from_day ∷ []) _ _ refl (ones.id, (ones.from_day, tt)) (others.id, (others.from_day, tt)) grouped in
     let days = byte-then (days_byte one.days) (days_byte other.days) _ _ front.1 in
     let a = duty-words one ones in
     let b = duty-words other others in
-    let rest = numbers-same (duty one) (duty other) refl (a.0, (a.1, (a.2, (a.3, (a.4, tt))))) (b.0, (b.1, (b.2, (b.3, (b.4, tt))))) days.1 in
-    vehicle-from one other front.0 (days-same one.days other.days ones.days others.days days.0) rest
+    let rest = numbers-then (duty one) (duty other) _ _ refl (a.0, (a.1, (a.2, (a.3, (a.4, tt))))) (b.0, (b.1, (b.2, (b.3, (b.4, tt))))) days.1 in
+    let chairs = chairs-same one.chairs other.chairs one.chairs_in_range other.chairs_in_range rest.1 in
+    vehicle-from one other front.0 (days-same one.days other.days ones.days others.days days.0) rest.0 chairs
 
 -- ---- rows
 

@@ -1,5 +1,5 @@
 -- How a request that may change something is spelled in bytes.
-use Rattle.std.specs.Prelude.{ℕ, List, [], ◌∷◌, ◌++◌}
+use Rattle.std.specs.Prelude.{ℕ, Bool, true, false, ◌==◌, if◌then◌else◌, List, [], ◌∷◌, ◌++◌}
 use Rattle.pt_base.specs.declared.place.Place.{Place}
 use Rattle.pt_base.specs.declared.place.Point.{Point}
 use Rattle.pt_base.specs.declared.policy.Policy.{Policy}
@@ -64,10 +64,15 @@ route_bytes route =
     numbers_bytes (route.id ∷ route.width ∷ []) ++ list_bytes point_bytes route.points ++ truth_bytes route.accessible
     ++ days_byte route.days ∷ [] ++ numbers_bytes (route.first ∷ route.last ∷ [])
 
+-- a vehicle's wheelchair places are spelled where it has some
+abbrev pub chairs_bytes : ℕ → List ℕ
+chairs_bytes chairs = if chairs == 0 then [] else number_bytes chairs
+
 abbrev pub vehicle_bytes : Vehicle → List ℕ
 vehicle_bytes vehicle =
     numbers_bytes (vehicle.id ∷ vehicle.from_day ∷ []) ++ days_byte vehicle.days ∷ []
     ++ numbers_bytes (vehicle.depot ∷ vehicle.capacity ∷ vehicle.opens ∷ vehicle.closes ∷ vehicle.duration ∷ [])
+    ++ chairs_bytes vehicle.chairs
 
 abbrev pub row_bytes : Row → List ℕ
 row_bytes row = numbers_bytes (row.0 ∷ row.1 ∷ row.2 ∷ [])
@@ -78,8 +83,15 @@ abbrev pub kind_number : Residence → ℕ
 kind_number Resident = 0
 kind_number Visitor = 1
 
+-- a wheelchair is spelled where the rider has one
+abbrev pub wheelchair_bytes : Bool → List ℕ
+wheelchair_bytes false = []
+wheelchair_bytes true = 1 ∷ []
+
 abbrev pub rider_bytes : Rider → List ℕ
-rider_bytes rider = number_bytes rider.id ++ kind_number rider.kind ∷ [] ++ truth_bytes rider.attendant
+rider_bytes rider =
+    number_bytes rider.id ++ kind_number rider.kind ∷ [] ++ truth_bytes rider.attendant
+    ++ wheelchair_bytes rider.wheelchair
 
 -- a condition is spelled as its text
 abbrev pub condition_bytes : Condition → List ℕ

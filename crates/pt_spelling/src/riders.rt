@@ -2,7 +2,7 @@ ghost use Rattle.std.specs.Prelude.{◌≡◌, ◌++◌, All, OnOk};
 ghost use Rattle.pt_rights.specs.Conditions.{IsCondition, IsConditions};
 ghost use Rattle.pt_spelling.specs.Fields.{list_bytes};
 ghost use Rattle.pt_spelling.specs.Ranges.{IsWord, IsGrant, IsEntry};
-ghost use Rattle.pt_spelling.specs.Requests.{rider_bytes, condition_bytes, grant_bytes, entry_number, particulars_of};
+ghost use Rattle.pt_spelling.specs.Requests.{wheelchair_bytes, rider_bytes, condition_bytes, grant_bytes, entry_number, particulars_of};
 ghost use Rattle.pt_spelling.specs.Requests.{entry_bytes};
 
 use crate::fields::{push_number, push_numbers, push_text, push_truth};
@@ -21,7 +21,18 @@ pub(crate) fn push_rider(rider: &Rider, out: &mut Vec<u8>) -> Result<(), AllocEr
         Residence::Resident => out.push(0)?,
         Residence::Visitor => out.push(1)?,
     }
-    push_truth(rider.attendant, out)
+    push_truth(rider.attendant, out)?;
+    push_wheelchair(rider.wheelchair, out)
+}
+
+/// Adds a byte for a rider in a wheelchair.
+fn push_wheelchair(wheelchair: bool, out: &mut Vec<u8>) -> Result<(), AllocError>
+    ensures text { OnOk result (out.new.items ≡ out.old.items ++ wheelchair_bytes wheelchair) }
+{
+    if wheelchair {
+        out.push(1)?;
+    }
+    Ok(())
 }
 
 /// Adds the kind of an entry of a case file, and what it has beside.

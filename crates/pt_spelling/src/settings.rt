@@ -3,7 +3,7 @@ ghost use Rattle.pt_corridor.specs.Route.{HasPoints, IsRouteOnPlane};
 ghost use Rattle.pt_spelling.specs.Fields.{list_bytes};
 ghost use Rattle.pt_spelling.specs.Ranges.{IsWord, IsRole, IsCaller, IsRoute, IsVehicle, IsRow};
 ghost use Rattle.pt_spelling.specs.Requests.{role_number, subject_of, caller_bytes, policy_bytes, point_bytes};
-ghost use Rattle.pt_spelling.specs.Requests.{place_bytes, route_bytes, vehicle_bytes, row_bytes};
+ghost use Rattle.pt_spelling.specs.Requests.{place_bytes, route_bytes, chairs_bytes, vehicle_bytes, row_bytes};
 ghost use Rattle.pt_travel.specs.Table.{IsTable};
 
 use crate::fields::{push_days, push_number, push_numbers, push_signed, push_truth};
@@ -126,7 +126,18 @@ pub(crate) fn push_vehicle(vehicle: &Vehicle, out: &mut Vec<u8>) -> Result<(), A
         vehicle.closes.number(),
         u32::from(vehicle.duration),
     ];
-    push_numbers(&numbers, out)
+    push_numbers(&numbers, out)?;
+    push_chairs(vehicle.chairs, out)
+}
+
+/// Adds the wheelchair places of a vehicle that has some.
+fn push_chairs(chairs: u16, out: &mut Vec<u8>) -> Result<(), AllocError>
+    ensures text { OnOk result (out.new.items ≡ out.old.items ++ chairs_bytes chairs) }
+{
+    if chairs == 0 {
+        return Ok(());
+    }
+    push_number(u32::from(chairs), out)
 }
 
 /// Adds the number of rows of a travel table, and the rows.

@@ -1,5 +1,4 @@
-use Rattle.std.proofs.Common.{rules, ◌∙◌, ℕ, ap, refl}
-use Rattle.pt_base.specs.declared.load.Load.{Load}
+use Rattle.std.proofs.Common.{rules, ◌∙◌, ℕ, sym, refl}
 use Rattle.pt_feasible.specs.Route.{stops_of}
 use Rattle.pt_manifest.specs.declared.sheets.TourStop.{TourStop}
 use Rattle.pt_desk_rules.specs.Tours.{IsShownAt}
@@ -28,5 +27,5 @@ loop-k-preserved c =
           (shown_at trips stops times c.loop-k.k c.stop-stop.result c.trip_at-trip.result.now _
           c.stop-stop.ensures.value c.trip_at-trip.ensures
           (c.minute_of.ensures ∙ (rw c.as_slice.ensures.value refl)) c.window_of.ensures refl refl
-          c.place_of.ensures (ap (λ (load : Load). load.seats) aboard))));
+          c.place_of.ensures aboard)));
     }
