@@ -14,12 +14,12 @@ use Rattle.sqlite_keyed.proofs.ListLemmas.{IsPermutation-same}
 use Rattle.pt_base.specs.declared.policy.Policy.{Policy}
 use Rattle.pt_desk_rules.specs.State.{State}
 use Rattle.pt_tables_writing.specs.Least.{first_admin, IsNew, HasNewRows}
-use Rattle.pt_tables_rows.specs.Rows.{desk_row, caller_row, kept_row, place_row, route_row, vehicle_row, rider_row, entry_row, trip_row, stop_rows, travel_rows}
-use Rattle.pt_tables_rows.specs.Schema.{desk_schema, no_schema, tables, desk_table, callers_table, kept_table, places_table, fixed_table, vehicles_table, riders_table, entries_table, trips_table, stops_table, travel_table}
+use Rattle.pt_tables_rows.specs.Rows.{desk_row, caller_row, kept_row, place_row, route_row, vehicle_row, rider_row, entry_row, trip_row, stop_rows, travel_rows, rider_chair_rows, vehicle_chair_rows, trip_chair_rows}
+use Rattle.pt_tables_rows.specs.Schema.{desk_schema, no_schema, tables, desk_table, callers_table, kept_table, places_table, fixed_table, vehicles_table, riders_table, entries_table, trips_table, stops_table, travel_table, rider_chairs_table, vehicle_chairs_table, trip_chairs_table}
 use Rattle.pt_tables_rows.specs.Tables.{columns_of, AreRows, HasRows, HaveRowids, IsBlank, IsKept, Fills, Stands}
 
 -- a table with no row stands for no record
-none_there : (table : Table) (trees : Trees) (rows : List Row) → trees table.tree ≡ [] → rows ≡ [] → AreRows table trees rows
+pub none_there : (table : Table) (trees : Trees) (rows : List Row) → trees table.tree ≡ [] → rows ≡ [] → AreRows table trees rows
 none_there table trees rows empty none = IsPermutation-same _ rows (ap (map (columns_of table)) empty ∙ sym none)
 
 no_rowids : (rows : List Row) → rows ≡ [] → HaveRowids rows
@@ -29,18 +29,23 @@ module _ (policy : Policy) (digest : List ℕ) (blank desked done : Database) (f
     (admin : Fills callers_table (caller_row (first_admin digest)) desked done) where
   rows_of_new : (content : State) → IsNew policy digest content → HasRows content done.trees
   rows_of_new content is = record {
-    desk = subst (λ rows. IsPermutation (map (columns_of desk_table) rows) (desk_row content.policy content.last_trip ∷ [])) (sym (admin.others.0 (λ e. cc)))
-        (subst (λ row. AreRows desk_table desked.trees (row ∷ [])) (sym is.desk) (desk.rows first.rows.0));
-    callers = subst (λ cs. AreRows callers_table done.trees (map caller_row cs)) (sym is.callers) (admin.rows (desk.others.1.0 (λ e. cc) ∙ first.rows.1.0));
-    kept = none_there kept_table done.trees (map kept_row content.kept) (admin.others.1.1.0 (λ e. cc) ∙ desk.others.1.1.0 (λ e. cc) ∙ first.rows.1.1.0) (ap (map kept_row) is.kept);
-    places = none_there places_table done.trees (map place_row content.places) (admin.others.1.1.1.0 (λ e. cc) ∙ desk.others.1.1.1.0 (λ e. cc) ∙ first.rows.1.1.1.0) (ap (map place_row) is.places);
-    fixed = none_there fixed_table done.trees (map route_row content.routes) (admin.others.1.1.1.1.0 (λ e. cc) ∙ desk.others.1.1.1.1.0 (λ e. cc) ∙ first.rows.1.1.1.1.0) (ap (map route_row) is.routes);
-    vehicles = none_there vehicles_table done.trees (map vehicle_row content.vehicles) (admin.others.1.1.1.1.1.0 (λ e. cc) ∙ desk.others.1.1.1.1.1.0 (λ e. cc) ∙ first.rows.1.1.1.1.1.0) (ap (map vehicle_row) is.vehicles);
-    riders = none_there riders_table done.trees (map rider_row content.riders) (admin.others.1.1.1.1.1.1.0 (λ e. cc) ∙ desk.others.1.1.1.1.1.1.0 (λ e. cc) ∙ first.rows.1.1.1.1.1.1.0) (ap (map rider_row) is.riders);
-    entries = none_there entries_table done.trees (map entry_row content.entries) (admin.others.1.1.1.1.1.1.1.0 (λ e. cc) ∙ desk.others.1.1.1.1.1.1.1.0 (λ e. cc) ∙ first.rows.1.1.1.1.1.1.1.0) (ap (map entry_row) is.entries);
-    trips = none_there trips_table done.trees (map trip_row content.trips) (admin.others.1.1.1.1.1.1.1.1.0 (λ e. cc) ∙ desk.others.1.1.1.1.1.1.1.1.0 (λ e. cc) ∙ first.rows.1.1.1.1.1.1.1.1.0) (ap (map trip_row) is.trips);
-    stops = none_there stops_table done.trees (flat_map stop_rows content.planned) (admin.others.1.1.1.1.1.1.1.1.1.0 (λ e. cc) ∙ desk.others.1.1.1.1.1.1.1.1.1.0 (λ e. cc) ∙ first.rows.1.1.1.1.1.1.1.1.1.0) (ap (flat_map stop_rows) is.planned);
-    travel = none_there travel_table done.trees (flat_map travel_rows content.travel) (admin.others.1.1.1.1.1.1.1.1.1.1.0 (λ e. cc) ∙ desk.others.1.1.1.1.1.1.1.1.1.1.0 (λ e. cc) ∙ first.rows.1.1.1.1.1.1.1.1.1.1.0) (ap (flat_map travel_rows) is.travel);
+    records = record {
+      desk = subst (λ rows. IsPermutation (map (columns_of desk_table) rows) (desk_row content.policy content.last_trip ∷ [])) (sym (admin.others.0 (λ e. cc)))
+          (subst (λ row. AreRows desk_table desked.trees (row ∷ [])) (sym is.desk) (desk.rows first.rows.0));
+      callers = subst (λ cs. AreRows callers_table done.trees (map caller_row cs)) (sym is.callers) (admin.rows (desk.others.1.0 (λ e. cc) ∙ first.rows.1.0));
+      kept = none_there kept_table done.trees (map kept_row content.kept) (admin.others.1.1.0 (λ e. cc) ∙ desk.others.1.1.0 (λ e. cc) ∙ first.rows.1.1.0) (ap (map kept_row) is.kept);
+      places = none_there places_table done.trees (map place_row content.places) (admin.others.1.1.1.0 (λ e. cc) ∙ desk.others.1.1.1.0 (λ e. cc) ∙ first.rows.1.1.1.0) (ap (map place_row) is.places);
+      fixed = none_there fixed_table done.trees (map route_row content.routes) (admin.others.1.1.1.1.0 (λ e. cc) ∙ desk.others.1.1.1.1.0 (λ e. cc) ∙ first.rows.1.1.1.1.0) (ap (map route_row) is.routes);
+      vehicles = none_there vehicles_table done.trees (map vehicle_row content.vehicles) (admin.others.1.1.1.1.1.0 (λ e. cc) ∙ desk.others.1.1.1.1.1.0 (λ e. cc) ∙ first.rows.1.1.1.1.1.0) (ap (map vehicle_row) is.vehicles);
+      riders = none_there riders_table done.trees (map rider_row content.riders) (admin.others.1.1.1.1.1.1.0 (λ e. cc) ∙ desk.others.1.1.1.1.1.1.0 (λ e. cc) ∙ first.rows.1.1.1.1.1.1.0) (ap (map rider_row) is.riders);
+      entries = none_there entries_table done.trees (map entry_row content.entries) (admin.others.1.1.1.1.1.1.1.0 (λ e. cc) ∙ desk.others.1.1.1.1.1.1.1.0 (λ e. cc) ∙ first.rows.1.1.1.1.1.1.1.0) (ap (map entry_row) is.entries);
+      trips = none_there trips_table done.trees (map trip_row content.trips) (admin.others.1.1.1.1.1.1.1.1.0 (λ e. cc) ∙ desk.others.1.1.1.1.1.1.1.1.0 (λ e. cc) ∙ first.rows.1.1.1.1.1.1.1.1.0) (ap (map trip_row) is.trips);
+      stops = none_there stops_table done.trees (flat_map stop_rows content.planned) (admin.others.1.1.1.1.1.1.1.1.1.0 (λ e. cc) ∙ desk.others.1.1.1.1.1.1.1.1.1.0 (λ e. cc) ∙ first.rows.1.1.1.1.1.1.1.1.1.0) (ap (flat_map stop_rows) is.planned);
+      travel = none_there travel_table done.trees (flat_map travel_rows content.travel) (admin.others.1.1.1.1.1.1.1.1.1.1.0 (λ e. cc) ∙ desk.others.1.1.1.1.1.1.1.1.1.1.0 (λ e. cc) ∙ first.rows.1.1.1.1.1.1.1.1.1.1.0) (ap (flat_map travel_rows) is.travel);
+    };
+    rider_chairs = none_there rider_chairs_table done.trees (flat_map rider_chair_rows content.riders) (admin.others.1.1.1.1.1.1.1.1.1.1.1.0 (λ e. cc) ∙ desk.others.1.1.1.1.1.1.1.1.1.1.1.0 (λ e. cc) ∙ first.rows.1.1.1.1.1.1.1.1.1.1.1.0) (ap (flat_map rider_chair_rows) is.riders);
+    vehicle_chairs = none_there vehicle_chairs_table done.trees (flat_map vehicle_chair_rows content.vehicles) (admin.others.1.1.1.1.1.1.1.1.1.1.1.1.0 (λ e. cc) ∙ desk.others.1.1.1.1.1.1.1.1.1.1.1.1.0 (λ e. cc) ∙ first.rows.1.1.1.1.1.1.1.1.1.1.1.1.0) (ap (flat_map vehicle_chair_rows) is.vehicles);
+    trip_chairs = none_there trip_chairs_table done.trees (flat_map trip_chair_rows content.trips) (admin.others.1.1.1.1.1.1.1.1.1.1.1.1.1.0 (λ e. cc) ∙ desk.others.1.1.1.1.1.1.1.1.1.1.1.1.1.0 (λ e. cc) ∙ first.rows.1.1.1.1.1.1.1.1.1.1.1.1.1.0) (ap (flat_map trip_chair_rows) is.trips);
   }
 
   rowids_of_new : AllByRecursion (λ t. HaveRowids (done.trees t.tree)) tables
@@ -67,7 +72,7 @@ module _ (policy : Policy) (digest : List ℕ) (blank desked done : Database) (f
                           no_rowids (trees stops_table.tree) (admin.others.1.1.1.1.1.1.1.1.1.0 (λ e. cc) ∙ desk.others.1.1.1.1.1.1.1.1.1.0 (λ e. cc) ∙ first.rows.1.1.1.1.1.1.1.1.1.0),
                           (
                             no_rowids (trees travel_table.tree) (admin.others.1.1.1.1.1.1.1.1.1.1.0 (λ e. cc) ∙ desk.others.1.1.1.1.1.1.1.1.1.1.0 (λ e. cc) ∙ first.rows.1.1.1.1.1.1.1.1.1.1.0),
-                            tt,
+                            (no_rowids (trees rider_chairs_table.tree) (admin.others.1.1.1.1.1.1.1.1.1.1.1.0 (λ e. cc) ∙ desk.others.1.1.1.1.1.1.1.1.1.1.1.0 (λ e. cc) ∙ first.rows.1.1.1.1.1.1.1.1.1.1.1.0), (no_rowids (trees vehicle_chairs_table.tree) (admin.others.1.1.1.1.1.1.1.1.1.1.1.1.0 (λ e. cc) ∙ desk.others.1.1.1.1.1.1.1.1.1.1.1.1.0 (λ e. cc) ∙ first.rows.1.1.1.1.1.1.1.1.1.1.1.1.0), (no_rowids (trees trip_chairs_table.tree) (admin.others.1.1.1.1.1.1.1.1.1.1.1.1.1.0 (λ e. cc) ∙ desk.others.1.1.1.1.1.1.1.1.1.1.1.1.1.0 (λ e. cc) ∙ first.rows.1.1.1.1.1.1.1.1.1.1.1.1.1.0), tt))),
                           ),
                         ),
                       ),

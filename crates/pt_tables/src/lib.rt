@@ -2,6 +2,8 @@
 #![tactic(auto)]
 
 pub use keeper::SqlKeeper;
+pub use migration::migrate;
 pub use pt_tables_opening::OpenFault;
 
 mod keeper;
+mod migration;

@@ -14,14 +14,14 @@ use Rattle.pt_tables_opening.specs.Told.{IsAgencyOf, HasOtherVersion, IsOtherVer
 
 module _ (trees : Trees) (rows : List Row) (are : AreRows desk_table trees rows) where
   -- one row is all rows
-  only_row : (row : Row) → AreRows desk_table trees (row ∷ []) → row ∷ [] ≡ rows
+  pub only_row : (row : Row) → AreRows desk_table trees (row ∷ []) → row ∷ [] ≡ rows
   only_row row one = sym (one_permutation row rows (IsPermutation-trans (row ∷ []) _ rows (IsPermutation-sym _ (row ∷ []) one) are))
 
   other_version : IsOtherVersion rows → HasOtherVersion trees
   other_version h = (h.0, subst (AreRows desk_table trees) (sym h.1) are, h.2)
 
   no_agency : TellsNoAgency rows → AreUnsound trees
-  no_agency h = λ s sound ranges are. h.none (s.policy, s.last_trip) ranges.last_trip (only_row (desk_row s.policy s.last_trip) are.desk)
+  no_agency h = λ s sound ranges are. h.none (s.policy, s.last_trip) ranges.last_trip (only_row (desk_row s.policy s.last_trip) are.records.desk)
 
   pub agency_told : {F : Type 0} (r : Result (Policy × ℕ) F) → IfOk r (λ agency. (agency_row agency ∷ [] ≡ rows) × FitsAgency agency) → IfOk r (IsAgencyOf trees)
   agency_told (Ok agency) h = record { row_is = subst (AreRows desk_table trees) (sym h.0) are; fits = h.1 }

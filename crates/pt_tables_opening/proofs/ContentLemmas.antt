@@ -9,8 +9,8 @@ use Rattle.pt_desk_rules.specs.declared.change.Change.{Change}
 use Rattle.pt_records.specs.Records.{Edit, edited, put_all, take_all}
 use Rattle.pt_records.specs.declared.span.Span.{Span}
 use Rattle.pt_scheduling.specs.Plan.{plan_key}
-use Rattle.pt_tables_rows.specs.Rows.{desk_row, caller_row, kept_row, place_row, route_row, vehicle_row, rider_row, entry_row, trip_row, stop_rows, travel_rows}
-use Rattle.pt_tables_rows.specs.Schema.{desk_table, callers_table, kept_table, places_table, fixed_table, vehicles_table, riders_table, entries_table, trips_table, stops_table, travel_table}
+use Rattle.pt_tables_rows.specs.Rows.{desk_row, caller_row, kept_row, place_row, route_row, vehicle_row, rider_row, entry_row, trip_row, stop_rows, travel_rows, rider_chair_rows, vehicle_chair_rows, trip_chair_rows}
+use Rattle.pt_tables_rows.specs.Schema.{desk_table, callers_table, kept_table, places_table, fixed_table, vehicles_table, riders_table, entries_table, trips_table, stops_table, travel_table, rider_chairs_table, vehicle_chairs_table, trip_chairs_table}
 use Rattle.pt_tables_rows.specs.Tables.{AreRows, HasRows}
 use Rattle.pt_tables_opening.specs.Told.{HasPut, HasToldRows, IsWhole, PutsInOrder, numbers}
 use Rattle.pt_tables_opening.proofs.ToldLemmas.{put_none}
@@ -53,15 +53,20 @@ policy_told o p q is h = rw is at h
 
 pub rows_put : (change : Change) (content : State) (trees : Trees) → HasPut change content → HasToldRows change trees → HasRows content trees
 rows_put change content trees put told = record {
-  desk = subst₂ (λ p n. AreRows desk_table trees (desk_row p n ∷ [])) (sym (policy_told change.policy told.policy content.policy told.policy_is put.policy)) (sym put.last_trip) told.desk;
-  callers = subst (λ xs. AreRows callers_table trees (map caller_row xs)) (sym put.callers) told.callers;
-  kept = subst (λ xs. AreRows kept_table trees (map kept_row xs)) (sym put.kept) told.kept;
-  places = subst (λ xs. AreRows places_table trees (map place_row xs)) (sym put.places) told.places;
-  fixed = subst (λ xs. AreRows fixed_table trees (map route_row xs)) (sym put.routes) told.fixed;
-  vehicles = subst (λ xs. AreRows vehicles_table trees (map vehicle_row xs)) (sym put.vehicles) told.vehicles;
-  riders = subst (λ xs. AreRows riders_table trees (map rider_row xs)) (sym put.riders) told.riders;
-  entries = subst (λ xs. AreRows entries_table trees (map entry_row xs)) (sym put.entries) told.entries;
-  trips = subst (λ xs. AreRows trips_table trees (map trip_row xs)) (sym put.trips) told.trips;
-  stops = subst (λ xs. AreRows stops_table trees (flat_map stop_rows xs)) (sym put.planned) told.stops;
-  travel = subst (λ xs. AreRows travel_table trees (flat_map travel_rows xs)) (sym put.travel) told.travel;
+  records = record {
+    desk = subst₂ (λ p n. AreRows desk_table trees (desk_row p n ∷ [])) (sym (policy_told change.policy told.policy content.policy told.policy_is put.policy)) (sym put.last_trip) told.desk;
+    callers = subst (λ xs. AreRows callers_table trees (map caller_row xs)) (sym put.callers) told.callers;
+    kept = subst (λ xs. AreRows kept_table trees (map kept_row xs)) (sym put.kept) told.kept;
+    places = subst (λ xs. AreRows places_table trees (map place_row xs)) (sym put.places) told.places;
+    fixed = subst (λ xs. AreRows fixed_table trees (map route_row xs)) (sym put.routes) told.fixed;
+    vehicles = subst (λ xs. AreRows vehicles_table trees (map vehicle_row xs)) (sym put.vehicles) told.vehicles;
+    riders = subst (λ xs. AreRows riders_table trees (map rider_row xs)) (sym put.riders) told.riders;
+    entries = subst (λ xs. AreRows entries_table trees (map entry_row xs)) (sym put.entries) told.entries;
+    trips = subst (λ xs. AreRows trips_table trees (map trip_row xs)) (sym put.trips) told.trips;
+    stops = subst (λ xs. AreRows stops_table trees (flat_map stop_rows xs)) (sym put.planned) told.stops;
+    travel = subst (λ xs. AreRows travel_table trees (flat_map travel_rows xs)) (sym put.travel) told.travel;
+  };
+  rider_chairs = subst (λ xs. AreRows rider_chairs_table trees (flat_map rider_chair_rows xs)) (sym put.riders) told.rider_chairs;
+  vehicle_chairs = subst (λ xs. AreRows vehicle_chairs_table trees (flat_map vehicle_chair_rows xs)) (sym put.vehicles) told.vehicle_chairs;
+  trip_chairs = subst (λ xs. AreRows trip_chairs_table trees (flat_map trip_chair_rows xs)) (sym put.trips) told.trip_chairs;
 }

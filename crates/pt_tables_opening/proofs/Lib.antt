@@ -1,5 +1,7 @@
 pub mod AgencyLemmas
+pub mod BesideLemmas
 pub mod ContentLemmas
+pub mod FirstLemmas
 pub mod GatheredLemmas
 pub mod NoneLemmas
 pub mod OrderedLemmas

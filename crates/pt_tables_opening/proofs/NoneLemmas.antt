@@ -84,7 +84,7 @@ plan_by_rows x y one other same = plan-told x y one.some other.some (alike (stop
 
 pub no_plans : (trees : Trees) → IsUngathered plan_key stops_table stop_rows FitsPlan trees → AreUnsound trees
 no_plans trees h = λ s sound ranges are.
-    none_have plan_key stops_table stop_rows FitsPlan BeginsPlan plan-once plan_by_rows 4_294_967_296 plan_spans trees h s.planned ranges.planned sound.planned_in_order are.stops
+    none_have plan_key stops_table stop_rows FitsPlan BeginsPlan plan-once plan_by_rows 4_294_967_296 plan_spans trees h s.planned ranges.planned sound.planned_in_order are.records.stops
 
 -- ---- travel tables
 
@@ -142,7 +142,7 @@ travel_by_rows x y one other same = table-told x y one.table.in_order other.tabl
 pub no_travel : (trees : Trees) → IsUngathered travel_key travel_table travel_rows FitsTravel trees → AreUnsound trees
 no_travel trees h = λ s sound ranges are.
     none_have travel_key travel_table travel_rows FitsTravel BeginsTravel travel-once travel_by_rows 18_446_744_073_709_551_616 travel_spans trees h s.travel ranges.travel
-    sound.travel.in_order are.travel
+    sound.travel.in_order are.records.travel
 
 -- ---- refusals
 

@@ -11,7 +11,8 @@ use Rattle.sqlite.proofs.Callers.{never_commits, unchanged_then}
 use Rattle.sqlite.proofs.StateLemmas.{survives_then, survives_weaker}
 use Rattle.sqlite_resolve.specs.declared.compiled.Compiled.{Compiled}
 use Rattle.sqlite_schema.specs.declared.command.Returning.{Returning}
-use Rattle.pt_tables_opening.specs.Opening.{Stays, Rests}
+use Rattle.sqlite.specs.Schema.{Schema}
+use Rattle.pt_tables_opening.specs.Opening.{Stays, Rests, RestsOn}
 use Rattle.pt_tables_rows.specs.Schema.{desk_schema}
 
 -- ---- one query
@@ -45,7 +46,7 @@ shown_same : (sql : List ℕ) (params : Row) (old new : Connected) (rows : List 
 unfolding Shown
 shown_same sql params old new rows plain h = shows_rows old new sql h.0 _ rows h.0.returning (subst IsPlain h.1.is plain).0 h.2
 
-module _ (sql : List ℕ) (params : Row) (old new : Connected) where
+module _ (schema : Schema) (sql : List ℕ) (params : Row) (old new : Connected) where
   queried_same : (r : Result (Vec Row Global) Error) → IsPlain (understood old.now.schema sql) → IfOk r (λ rows. Shown sql params old new rows.items) → IfOk r (λ _. IsUnchanged old new)
   queried_same (Ok rows) plain ok = shown_same sql params old new rows.items plain ok
   queried_same (Err e) plain ok = tt
@@ -56,17 +57,17 @@ module _ (sql : List ℕ) (params : Row) (old new : Connected) where
   queried_stays (Err e) plain ok err = failed_stays sql params old new e err
 
   -- a query that writes nothing
-  pub queried_rests : (r : Result (Vec Row Global) Error) → IsPlain (understood desk_schema sql) → (HasCleanDisk new → IfOk r (λ rows. Shown sql params old new rows.items))
+  pub queried_rests : (r : Result (Vec Row Global) Error) → IsPlain (understood schema sql) → (HasCleanDisk new → IfOk r (λ rows. Shown sql params old new rows.items))
       → (HasCleanDisk new → IfErr r (FailsToQuery sql params old new)) → (old.in_transaction ≡ false → new.in_transaction ≡ false)
-      → Survives old new (CommitsShowing sql params old) → Rests old new r
+      → Survives old new (CommitsShowing sql params old) → RestsOn schema old new r
   queried_rests r plain ok err mode survives = record {
     settled = mode;
     same = λ clean has. queried_same r (bare has) (ok clean);
     stays = λ clean has. queried_stays r (bare has) (ok clean) (err clean);
-    survives = survives_weaker old new (CommitsShowing sql params old) (λ _. old.now.schema ≢ desk_schema) (λ clean db commits has. never_commits sql params old db (bare has) commits) survives;
+    survives = survives_weaker old new (CommitsShowing sql params old) (λ _. old.now.schema ≢ schema) (λ clean db commits has. never_commits sql params old db (bare has) commits) survives;
   }
     where
-      bare : old.now.schema ≡ desk_schema → IsPlain (understood old.now.schema sql)
+      bare : old.now.schema ≡ schema → IsPlain (understood old.now.schema sql)
       bare has = subst (λ s. IsPlain (understood s sql)) (sym has) plain
 
 -- ---- one after the other

@@ -7,15 +7,32 @@ use Rattle.sqlite_tied.specs.Compute.{everything}
 use Rattle.sqlite_value.specs.Keys.{ascending}
 use Rattle.pt_tables_rows.specs.Schema.{desk_schema, desk_table, callers_table, kept_table, places_table, fixed_table}
 use Rattle.pt_tables_rows.specs.Schema.{vehicles_table, riders_table, entries_table, trips_table, stops_table, travel_table}
+use Rattle.pt_tables_rows.specs.Schema.{first_schema, rider_chairs_table, vehicle_chairs_table, trip_chairs_table}
 use Rattle.pt_tables_opening.specs.declared.table_rows.TheConstants.{DESK_ROWS, CALLER_ROWS, KEPT_ROWS, PLACE_ROWS}
 use Rattle.pt_tables_opening.specs.declared.table_rows.TheConstants.{ROUTE_ROWS, VEHICLE_ROWS, RIDER_ROWS, ENTRY_ROWS}
 use Rattle.pt_tables_opening.specs.declared.table_rows.TheConstants.{TRIP_ROWS, STOP_ROWS, TRAVEL_ROWS}
+use Rattle.pt_tables_opening.specs.declared.table_rows.TheConstants.{RIDER_CHAIR_ROWS, VEHICLE_CHAIR_ROWS, TRIP_CHAIR_ROWS}
 use Rattle.pt_tables_opening.proofs.OrderedQueries.{Orders}
-use Rattle.pt_tables_opening.proofs.WholeQueries.{AsksAll}
+use Rattle.pt_tables_opening.proofs.WholeQueries.{AsksAll, AsksAllIn}
 
 pub desk_rows_text : AsksAll desk_table DESK_ROWS.now
 unfolding understood everything desk_schema
 desk_rows_text = record {
+  fields = col 1 0 ∷ col 1 2 ∷ col 1 3 ∷ col 1 4 ∷ col 1 5 ∷ col 1 6 ∷ col 1 7 ∷ col 1 8 ∷ col 1 9 ∷ col 1 10
+      ∷ col 1 11 ∷ [];
+  order = (col 1 0, ascending Binary) ∷ [];
+  names = codes "id" ∷ codes "version" ∷ codes "base" ∷ codes "transfer" ∷ codes "fare" ∷ codes "service"
+      ∷ codes "extra_ride" ∷ codes "min_missed" ∷ codes "percent" ∷ codes "span_days" ∷ codes "last_trip" ∷ [];
+  is = refl;
+  plain = (refl, refl);
+  unlisted = refl;
+  shows = λ r. refl;
+}
+
+-- the same where the tables are those of the first version
+pub first_rows_text : AsksAllIn first_schema desk_table DESK_ROWS.now
+unfolding understood everything first_schema
+first_rows_text = record {
   fields = col 1 0 ∷ col 1 2 ∷ col 1 3 ∷ col 1 4 ∷ col 1 5 ∷ col 1 6 ∷ col 1 7 ∷ col 1 8 ∷ col 1 9 ∷ col 1 10
       ∷ col 1 11 ∷ [];
   order = (col 1 0, ascending Binary) ∷ [];
@@ -192,3 +209,51 @@ travel_rows_text = record {
 pub travel_rows_order : Orders 3 travel_rows_text.fields travel_rows_text.order
 unfolding travel_rows_text
 travel_rows_order = record { keys = refl; heads = λ r. (refl, (refl, (refl, tt))) }
+
+pub rider_chair_rows_text : AsksAll rider_chairs_table RIDER_CHAIR_ROWS.now
+unfolding understood everything desk_schema
+rider_chair_rows_text = record {
+  fields = col 1 0 ∷ [];
+  order = (col 1 0, ascending Binary) ∷ [];
+  names = codes "rider" ∷ [];
+  is = refl;
+  plain = (refl, refl);
+  unlisted = refl;
+  shows = λ r. refl;
+}
+
+pub vehicle_chair_rows_text : AsksAll vehicle_chairs_table VEHICLE_CHAIR_ROWS.now
+unfolding understood everything desk_schema
+vehicle_chair_rows_text = record {
+  fields = col 1 1 ∷ col 1 2 ∷ col 1 3 ∷ [];
+  order = (col 1 1, ascending Binary) ∷ (col 1 2, ascending Binary) ∷ [];
+  names = codes "id" ∷ codes "from_day" ∷ codes "chairs" ∷ [];
+  is = refl;
+  plain = (refl, refl);
+  unlisted = refl;
+  shows = λ r. refl;
+}
+
+pub trip_chair_rows_text : AsksAll trip_chairs_table TRIP_CHAIR_ROWS.now
+unfolding understood everything desk_schema
+trip_chair_rows_text = record {
+  fields = col 1 0 ∷ [];
+  order = (col 1 0, ascending Binary) ∷ [];
+  names = codes "trip" ∷ [];
+  is = refl;
+  plain = (refl, refl);
+  unlisted = refl;
+  shows = λ r. refl;
+}
+
+pub rider_chair_rows_order : Orders 1 rider_chair_rows_text.fields rider_chair_rows_text.order
+unfolding rider_chair_rows_text
+rider_chair_rows_order = record { keys = refl; heads = λ r. (refl, tt) }
+
+pub vehicle_chair_rows_order : Orders 2 vehicle_chair_rows_text.fields vehicle_chair_rows_text.order
+unfolding vehicle_chair_rows_text
+vehicle_chair_rows_order = record { keys = refl; heads = λ r. (refl, (refl, tt)) }
+
+pub trip_chair_rows_order : Orders 1 trip_chair_rows_text.fields trip_chair_rows_text.order
+unfolding trip_chair_rows_text
+trip_chair_rows_order = record { keys = refl; heads = λ r. (refl, tt) }

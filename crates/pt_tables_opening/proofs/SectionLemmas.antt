@@ -203,7 +203,7 @@ tells_tables db it is other =
     record { tables = λ same. inl other; rows = λ same. let n : it.code ≡ 31 = same in absurd (omega arith) }
 
 -- the faults of a table are refusals
-pub table_refusal : (Told : Type 0) (refused : OpenFault) (table : ℕ) → 1 ≤ table → table ≤ 11
+pub table_refusal : (Told : Type 0) (refused : OpenFault) (table : ℕ) → 1 ≤ table → table ≤ 14
     → (refused ≡ fault memory_refused) ⊎ ((refused ≡ fault store_refused) ⊎ ((refused ≡ unsound table) × Told)) → IsRefusal refused
 table_refusal Told refused table low high (inl memory) = inl memory
 table_refusal Told refused table low high (inr (inl store)) = inr (inl store)

@@ -44,7 +44,7 @@ all_rise : {A : Type 0} (key : A → ℕ) (last : Option ℕ) (x : A) (xs : List
 all_rise key None x xs after h = h
 all_rise key (Some last) x xs after h = ((after, Each-weaker (λ y. key x < key y) (λ y. last < key y) (λ y above. omega arith) xs h.0), h)
 
-next_from : {A : Type 0} (x : A) (xs : List A) (i : ℕ) → i < length xs → x ≡ get_or xs i x → drop i xs ≡ x ∷ drop (i + 1) xs
+pub next_from : {A : Type 0} (x : A) (xs : List A) (i : ℕ) → i < length xs → x ≡ get_or xs i x → drop i xs ≡ x ∷ drop (i + 1) xs
 next_from x xs i lt at =
     drop-cons xs i x lt ∙ ap (λ y. y ∷ drop (suc i) xs) (sym at) ∙ ap (λ n. x ∷ drop n xs) (sym (add-one i))
 

@@ -11,6 +11,7 @@ use Rattle.sqlite.specs.Query.{Query, Output, IsAnswer, inner, end, matches_as, 
 use Rattle.sqlite.specs.Command.TheVariants.{Select}
 use Rattle.sqlite.specs.Given.{IsPlain}
 use Rattle.sqlite.specs.State.{State as Connected, Shown}
+use Rattle.sqlite.specs.Schema.{Schema}
 use Rattle.sqlite.specs.Table.{Table}
 use Rattle.sqlite.specs.Term.{Term, lit, eval_all}
 use Rattle.sqlite.specs.Tree.{Trees}
@@ -35,15 +36,19 @@ whole_query tree fields order = record {
   offset = lit (Int (pos 0));
 }
 
--- the text asks for all rows of the table, with all their columns
-pub record AsksAll (table : Table) (text : List ℕ) : Type 0 where
+-- the text asks for all rows of the table, with all their columns, where the tables have this schema
+pub record AsksAllIn (schema : Schema) (table : Table) (text : List ℕ) : Type 0 where
   pub fields : List Term
   pub order : List (Term × Key)
   pub names : List (List ℕ)
-  pub is : command_of (understood desk_schema text) ≡ Select (record { lets = []; body = whole_query table.tree fields order }) names
-  pub plain : IsPlain (understood desk_schema text)
-  pub unlisted : reads_listing desk_schema text ≡ false
+  pub is : command_of (understood schema text) ≡ Select (record { lets = []; body = whole_query table.tree fields order }) names
+  pub plain : IsPlain (understood schema text)
+  pub unlisted : reads_listing schema text ≡ false
   pub shows : (r : Row) → eval_all fields ([] ∷ r ∷ []) ≡ columns_of table r
+
+-- and where they are the desk's
+abbrev pub AsksAll : Table → List ℕ → Type 0
+AsksAll table text = AsksAllIn desk_schema table text
 
 singles : {X Y : Type 0} (f : X → Y) (xs : List X) → flat_map (λ x. f x ∷ []) xs ≡ map f xs
 singles f [] = refl
@@ -76,15 +81,19 @@ module _ (tree : ℕ) (fields : List Term) (order : List (Term × Key)) (db : Tr
       (subst (λ l. IsPermutation l (map (λ (o : Output). o.1) a.ordered)) shown same)
 
 -- the rows shown are those of the table
-pub shows_all : (table : Table) (text : List ℕ) → AsksAll table text → (old new : Connected) (rows : List Row) → old.now.schema ≡ desk_schema
+pub shows_all : (schema : Schema) (table : Table) (text : List ℕ) → AsksAllIn schema table text → (old new : Connected) (rows : List Row) → old.now.schema ≡ schema
     → Shown text [] old new rows → AreRows table old.now.trees rows
-shows_all table text it old new rows has h =
-    let read = reads_as text [] old new desk_schema has (Select (record { lets = []; body = whole_query table.tree it.fields it.order }) it.names) it.is it.plain it.unlisted rows h in
+shows_all schema table text it old new rows has h =
+    let read = reads_as text [] old new schema has (Select (record { lets = []; body = whole_query table.tree it.fields it.order }) it.names) it.is it.plain it.unlisted rows h in
     let a : IsAnswer (whole_query table.tree it.fields it.order) (overlay old.now.trees []) [] rows = read.answer Null in
     subst (λ l. IsPermutation l rows) (map_same _ (columns_of table) it.shows (old.now.trees table.tree))
     (answered table.tree it.fields it.order old.now.trees rows a)
 
+pub shows_if_ok_in : (schema : Schema) (table : Table) (text : List ℕ) → AsksAllIn schema table text → (old new : Connected) (r : Result (Vec Row Global) Error)
+    → old.now.schema ≡ schema → IfOk r (λ rows. Shown text [] old new rows.items) → IfOk r (λ rows. AreRows table old.now.trees rows.items)
+shows_if_ok_in schema table text it old new (Ok rows) has h = shows_all schema table text it old new rows.items has h
+shows_if_ok_in schema table text it old new (Err e) has h = tt
+
 pub shows_if_ok : (table : Table) (text : List ℕ) → AsksAll table text → (old new : Connected) (r : Result (Vec Row Global) Error) → old.now.schema ≡ desk_schema
     → IfOk r (λ rows. Shown text [] old new rows.items) → IfOk r (λ rows. AreRows table old.now.trees rows.items)
-shows_if_ok table text it old new (Ok rows) has h = shows_all table text it old new rows.items has h
-shows_if_ok table text it old new (Err e) has h = tt
+shows_if_ok table text it old new r has h = shows_if_ok_in desk_schema table text it old new r has h

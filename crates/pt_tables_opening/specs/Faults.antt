@@ -23,10 +23,10 @@ unsound table = record { code = rows_refused; table = table }
 abbrev pub tables_refused : ℕ
 tables_refused = 30
 
--- memory was refused, the store failed, its tables are not the desk's, or the rows of one of the eleven are at fault
+-- memory was refused, the store failed, its tables are not the desk's, or the rows of one of them are at fault
 abbrev pub IsRefusal : OpenFault → Type 0
 IsRefusal refused =
     (refused ≡ fault memory_refused)
     ⊎ ((refused ≡ fault store_refused)
     ⊎ ((refused ≡ fault tables_refused)
-    ⊎ ((table : ℕ) × (1 ≤ table) × (table ≤ 11) × (refused ≡ unsound table))))
+    ⊎ ((table : ℕ) × (1 ≤ table) × (table ≤ 14) × (refused ≡ unsound table))))

@@ -1,11 +1,15 @@
 -- What reads of the tables leave of a connection to them.
-use Rattle.std.specs.Prelude.{◌≡◌, ◌≢◌, false, IsTrue, Result, IfOk}
+use Rattle.std.specs.Prelude.{◌≡◌, ◌≢◌, false, IsTrue, Result, IfOk, [], ◌∷◌}
 use Rattle.std.specs.List.{AllByRecursion}
+use Rattle.sqlite.specs.Effect.{Database}
+use Rattle.sqlite.specs.Order.{Row, column}
+use Rattle.sqlite.specs.Schema.{Schema}
 use Rattle.sqlite.specs.State.{State as Connected, HasCleanDisk, IsUnchanged, Survives}
 use Rattle.sqlite_catalog.specs.Listing.{Lists}
 use Rattle.sqlite_trees.specs.Objects.{catalog_tree}
-use Rattle.pt_tables_rows.specs.Schema.{desk_schema, tables}
-use Rattle.pt_tables_rows.specs.Tables.{HaveRowids}
+use Rattle.pt_tables_rows.specs.Rows.{first_version, number_value}
+use Rattle.pt_tables_rows.specs.Schema.{desk_schema, desk_table, first_schema, tables}
+use Rattle.pt_tables_rows.specs.Tables.{AreRows, HaveRowids}
 
 -- no more is open than was, what was committed stays, and where nothing else was shown that is shown
 pub record Stays (old new : Connected) : Type 0 where
@@ -13,12 +17,17 @@ pub record Stays (old new : Connected) : Type 0 where
   pub now : IsTrue new.is_open → old.committed ≡ old.now → new.now ≡ old.now
   pub committed : IsTrue new.is_open → new.committed ≡ old.committed
 
--- Reads of the tables that answer change nothing, and if they fail nothing is committed, nor is a transaction open.
-pub record Rests {X E : Type 0} (old new : Connected) (result : Result X E) : Type 0 where
+-- Reads of tables with this schema that answer change nothing, and if they fail nothing is committed, nor is a
+-- transaction open.
+pub record RestsOn {X E : Type 0} (schema : Schema) (old new : Connected) (result : Result X E) : Type 0 where
   pub settled : old.in_transaction ≡ false → new.in_transaction ≡ false
-  pub same : HasCleanDisk new → old.now.schema ≡ desk_schema → IfOk result (λ _. IsUnchanged old new)
-  pub stays : HasCleanDisk new → old.now.schema ≡ desk_schema → Stays old new
-  pub survives : Survives old new (λ _. old.now.schema ≢ desk_schema)
+  pub same : HasCleanDisk new → old.now.schema ≡ schema → IfOk result (λ _. IsUnchanged old new)
+  pub stays : HasCleanDisk new → old.now.schema ≡ schema → Stays old new
+  pub survives : Survives old new (λ _. old.now.schema ≢ schema)
+
+-- reads of the desk's tables do so
+abbrev pub Rests : {X E : Type 0} → Connected → Connected → Result X E → Type 0
+Rests old new result = RestsOn desk_schema old new result
 
 -- a new connection to what the other had committed
 pub record IsReopened (old new : Connected) : Type 0 where
@@ -27,3 +36,10 @@ pub record IsReopened (old new : Connected) : Type 0 where
   pub rows : new.now.trees ≡ old.committed.trees
   pub lists : Lists (new.now.trees catalog_tree) new.now.schema
   pub rowids : new.now.schema ≡ desk_schema → AllByRecursion (λ t. HaveRowids (new.now.trees t.tree)) tables
+
+-- the tables are those of the first version, as the agency's one row says too
+pub record IsFirstVersion (db : Database) : Type 0 where
+  pub schema : db.schema ≡ first_schema
+  pub row : Row
+  pub rows : AreRows desk_table db.trees (row ∷ [])
+  pub version : column row 1 ≡ number_value first_version

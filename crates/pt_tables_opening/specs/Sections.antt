@@ -10,8 +10,10 @@ use Rattle.pt_tables_opening.specs.Gathered.{FitsPlan, FitsTravel}
 use Rattle.pt_tables_reading.specs.Reading.{FitsCaller, FitsKept, FitsPlace, FitsRider, FitsTrip}
 use Rattle.pt_tables_rows.specs.Rows.{desk_row, caller_row, kept_row, place_row, route_row, vehicle_row, rider_row}
 use Rattle.pt_tables_rows.specs.Rows.{entry_row, trip_row, stop_rows, travel_rows}
-use Rattle.pt_tables_rows.specs.Schema.{desk_table, callers_table, kept_table, places_table, fixed_table, vehicles_table}
-use Rattle.pt_tables_rows.specs.Schema.{riders_table, entries_table, trips_table, stops_table, travel_table}
+use Rattle.pt_tables_rows.specs.Rows.{rider_chair_rows, vehicle_chair_rows, trip_chair_rows}
+use Rattle.pt_tables_rows.specs.Schema.{desk_table, callers_table, kept_table, places_table, fixed_table}
+use Rattle.pt_tables_rows.specs.Schema.{vehicles_table, riders_table, entries_table, trips_table, stops_table}
+use Rattle.pt_tables_rows.specs.Schema.{travel_table, rider_chairs_table, vehicle_chairs_table, trip_chairs_table}
 use Rattle.pt_tables_rows.specs.Tables.{AreRows}
 use Rattle.pt_tables_opening.specs.Told.{IsFitting}
 use Rattle.pt_tables_opening.specs.declared.parts.Area.{Area}
@@ -38,6 +40,7 @@ pub record IsAreaOf (trees : Trees) (area : Area) : Type 0 where
   pub places : AreRows places_table trees (map place_row area.places.puts)
   pub routes : AreRows fixed_table trees (map route_row area.routes.puts)
   pub vehicles : AreRows vehicles_table trees (map vehicle_row area.vehicles.puts)
+  pub vehicle_chairs : AreRows vehicle_chairs_table trees (flat_map vehicle_chair_rows area.vehicles.puts)
 
 pub record IsService (service : Service) : Type 0 where
   pub riders : IsFitting rider_key FitsRider service.riders
@@ -48,6 +51,8 @@ pub record IsServiceOf (trees : Trees) (service : Service) : Type 0 where
   pub riders : AreRows riders_table trees (map rider_row service.riders.puts)
   pub entries : AreRows entries_table trees (map entry_row service.entries.puts)
   pub trips : AreRows trips_table trees (map trip_row service.trips.puts)
+  pub rider_chairs : AreRows rider_chairs_table trees (flat_map rider_chair_rows service.riders.puts)
+  pub trip_chairs : AreRows trip_chairs_table trees (flat_map trip_chair_rows service.trips.puts)
 
 pub record IsDriving (driving : Driving) : Type 0 where
   pub planned : IsFitting plan_key FitsPlan driving.planned

@@ -15,8 +15,10 @@ use Rattle.pt_scheduling.specs.Plan.{plan_key}
 use Rattle.pt_tables_reading.specs.Reading.{agency_row, FitsAgency}
 use Rattle.pt_tables_rows.specs.Rows.{desk_row, caller_row, kept_row, place_row, route_row, vehicle_row, rider_row}
 use Rattle.pt_tables_rows.specs.Rows.{entry_row, trip_row, stop_rows, travel_rows, number_value, table_version}
-use Rattle.pt_tables_rows.specs.Schema.{desk_table, callers_table, kept_table, places_table, fixed_table, vehicles_table}
-use Rattle.pt_tables_rows.specs.Schema.{riders_table, entries_table, trips_table, stops_table, travel_table}
+use Rattle.pt_tables_rows.specs.Rows.{rider_chair_rows, vehicle_chair_rows, trip_chair_rows}
+use Rattle.pt_tables_rows.specs.Schema.{desk_table, callers_table, kept_table, places_table, fixed_table}
+use Rattle.pt_tables_rows.specs.Schema.{vehicles_table, riders_table, entries_table, trips_table, stops_table}
+use Rattle.pt_tables_rows.specs.Schema.{travel_table, rider_chairs_table, vehicle_chairs_table, trip_chairs_table}
 use Rattle.pt_tables_rows.specs.Tables.{AreRows}
 
 -- the records whose rows these are, in their order, or none where no records that fit have them
@@ -135,3 +137,6 @@ pub record HasToldRows (change : Change) (trees : Trees) : Type 0 where
   pub trips : AreRows trips_table trees (map trip_row change.trips.puts)
   pub stops : AreRows stops_table trees (flat_map stop_rows change.planned.puts)
   pub travel : AreRows travel_table trees (flat_map travel_rows change.travel.puts)
+  pub rider_chairs : AreRows rider_chairs_table trees (flat_map rider_chair_rows change.riders.puts)
+  pub vehicle_chairs : AreRows vehicle_chairs_table trees (flat_map vehicle_chair_rows change.vehicles.puts)
+  pub trip_chairs : AreRows trip_chairs_table trees (flat_map trip_chair_rows change.trips.puts)

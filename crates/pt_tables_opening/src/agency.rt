@@ -13,9 +13,10 @@ ghost use Rattle.pt_tables_opening.specs.Told.{IsAgencyOf, HasOtherVersion, IsOt
 use crate::OpenFault;
 use crate::open_fault::fault_of;
 use crate::table_rows::desk_rows;
-use crate::version::is_this_version;
+use crate::version::has_version;
 use pt_base::Policy;
 use pt_tables_reading::agency_of;
+use pt_tables_rows::TABLE_VERSION;
 use sqlite::{Alter, Connection, Row};
 
 /// The number of the desk's table.
@@ -31,7 +32,7 @@ fn agency_from(rows: &[Row]) -> Result<(Policy, u32), OpenFault>
     let [row] = rows else {
         return Err(OpenFault::unsound(DESK_TABLE));
     };
-    if !is_this_version(row) {
+    if !has_version(row, TABLE_VERSION) {
         return Err(OpenFault::OTHER_TABLES);
     }
     match agency_of(row) {

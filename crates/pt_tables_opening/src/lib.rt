@@ -1,11 +1,14 @@
 //! The content of a database, read back from its tables.
 #![tactic(auto)]
 
+pub use first_version::is_first_version;
 pub use open_fault::{OpenFault, fault_of};
 pub use whole::content_in;
 
 mod agency;
+mod beside;
 mod content;
+mod first_version;
 mod gathered;
 mod one_row;
 mod open_fault;

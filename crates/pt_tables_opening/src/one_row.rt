@@ -42,7 +42,7 @@ impl OneRow for Caller {
     ghost of_states = { λ s trees sound ranges are. record {
       order = sound.callers.in_order;
       each = ranges.callers;
-      rows_are = are.callers;
+      rows_are = are.records.callers;
     } };
 }
 
@@ -84,7 +84,7 @@ impl OneRow for Kept {
     ghost of_states = { λ s trees sound ranges are. record {
       order = sound.kept_in_order;
       each = ranges.kept;
-      rows_are = are.kept;
+      rows_are = are.records.kept;
     } };
 }
 
@@ -112,7 +112,7 @@ impl OneRow for Place {
     ghost of_states = { λ s trees sound ranges are. record {
       order = sound.places.in_order;
       each = ranges.places;
-      rows_are = are.places;
+      rows_are = are.records.places;
     } };
 }
 
@@ -140,7 +140,7 @@ impl OneRow for FixedRoute {
     ghost of_states = { λ s trees sound ranges are. record {
       order = sound.routes.in_order;
       each = ranges.routes;
-      rows_are = are.fixed;
+      rows_are = are.records.fixed;
     } };
 }
 
@@ -168,7 +168,7 @@ impl OneRow for Vehicle {
     ghost of_states = { λ s trees sound ranges are. record {
       order = sound.vehicles_in_order;
       each = ranges.vehicles;
-      rows_are = are.vehicles;
+      rows_are = are.records.vehicles;
     } };
 }
 
@@ -196,7 +196,7 @@ impl OneRow for Rider {
     ghost of_states = { λ s trees sound ranges are. record {
       order = sound.riders.in_order;
       each = ranges.riders;
-      rows_are = are.riders;
+      rows_are = are.records.riders;
     } };
 }
 
@@ -224,7 +224,7 @@ impl OneRow for FiledEntry {
     ghost of_states = { λ s trees sound ranges are. record {
       order = sound.entries_in_order;
       each = ranges.entries;
-      rows_are = are.entries;
+      rows_are = are.records.entries;
     } };
 }
 
@@ -252,6 +252,6 @@ impl OneRow for Trip {
     ghost of_states = { λ s trees sound ranges are. record {
       order = sound.trips_in_order;
       each = ranges.trips;
-      rows_are = are.trips;
+      rows_are = are.records.trips;
     } };
 }

@@ -26,7 +26,7 @@ impl OpenFault {
     pub const STORE: OpenFault = OpenFault { code: 32, table: 0 };
 
     /// The tables are not the desk's, or of another version.
-    pub(crate) const OTHER_TABLES: OpenFault = OpenFault { code: 30, table: 0 };
+    pub const OTHER_TABLES: OpenFault = OpenFault { code: 30, table: 0 };
 
     /// The rows of this table are those of no sound state.
     pub(crate) fn unsound(table: u8) -> OpenFault

@@ -6,7 +6,8 @@ ghost use Rattle.sqlite.specs.Table.{Table as StoredTable};
 ghost use Rattle.pt_desk_rules.specs.State.{State};
 ghost use Rattle.pt_records.specs.Records.{IsInOrder};
 ghost use Rattle.pt_tables_opening.specs.Refused.{AreOfStates, AreUnsound};
-ghost use Rattle.pt_tables_opening.specs.Told.{TellsAll, IsAfter, IsToldBy, IsFitting, IsTableOf, KeepsOrder, TellsNothing};
+ghost use Rattle.pt_tables_opening.specs.Told.{TellsAll, IsAfter, IsToldBy, IsFitting, IsTableOf, KeepsOrder};
+ghost use Rattle.pt_tables_opening.specs.Told.{TellsNothing};
 ghost use Rattle.pt_tables_opening.specs.Opening.{Rests};
 ghost use Rattle.pt_tables_reading.specs.Reading.{Reads};
 ghost use Rattle.pt_tables_rows.specs.Schema.{desk_schema};
@@ -116,7 +117,8 @@ pub(crate) fn told_table<T: OneRow>(
     Ok(records)
 }
 
-/// The records of a table, to be put, read from all its rows: code 31 where no sound state has them, 32 where the store refused or failed, and 0 where memory was refused.
+/// The records of a table, to be put, read from all its rows: code 31 where no sound state has them, 32 where the store
+/// refused or failed, and 0 where memory was refused.
 pub(crate) fn table_of<S: Alter, T: OneRow>(
     alloc: Global,
     conn: &mut Connection<S>,

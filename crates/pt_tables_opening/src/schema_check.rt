@@ -178,7 +178,7 @@ impl Part for Table {
 }
 
 /// Whether a schema is the same as a plain one.
-fn is_same_schema(schema: &Schema, plain: &Schema) -> bool
+pub(crate) fn is_same_schema(schema: &Schema, plain: &Schema) -> bool
     requires plain { IsPlainSchema plain.now }
     ensures value { IsTrue result ↔ (schema.now ≡ plain.now) }
 {

@@ -10,6 +10,7 @@ ghost use Rattle.pt_tables_rows.specs.Schema.{desk_schema};
 
 use crate::OpenFault;
 use crate::agency::agency_in;
+use crate::beside::marked_table;
 use crate::parts::{Area, Driving, Office, Service};
 use crate::plans::planned_in;
 use crate::records::table_of;
@@ -41,6 +42,15 @@ const ENTRIES: u8 = 8;
 /// The number of the table of trips.
 const TRIPS: u8 = 9;
 
+/// The number of the table of riders in wheelchairs.
+const RIDER_CHAIRS: u8 = 12;
+
+/// The number of the table of wheelchair places of vehicles.
+const VEHICLE_CHAIRS: u8 = 13;
+
+/// The number of the table of trips of riders in wheelchairs.
+const TRIP_CHAIRS: u8 = 14;
+
 /// What the first three tables have.
 pub(crate) fn office_in<S: Alter>(
     alloc: Global,
@@ -65,7 +75,7 @@ pub(crate) fn office_in<S: Alter>(
     })
 }
 
-/// What the tables of places, fixed routes and vehicles have.
+/// What the tables of places, fixed routes and vehicles have, and that of wheelchair places.
 pub(crate) fn area_in<S: Alter>(alloc: Global, conn: &mut Connection<S>) -> Result<Area, OpenFault>
     ensures fitting { IfOk result IsArea }
     ensures told { HasCleanDisk (state S.Store conn.new) → (state S.Store conn.old).now.schema ≡ desk_schema
@@ -77,7 +87,7 @@ pub(crate) fn area_in<S: Alter>(alloc: Global, conn: &mut Connection<S>) -> Resu
 {
     let places = table_of(alloc, conn, PLACES)?;
     let routes = table_of(alloc, conn, ROUTES)?;
-    let vehicles = table_of(alloc, conn, VEHICLES)?;
+    let vehicles = marked_table(alloc, conn, VEHICLES, VEHICLE_CHAIRS)?;
     Ok(Area {
         places,
         routes,
@@ -85,7 +95,7 @@ pub(crate) fn area_in<S: Alter>(alloc: Global, conn: &mut Connection<S>) -> Resu
     })
 }
 
-/// What the tables of riders, their entries and their trips have.
+/// What the tables of riders, their entries and their trips have, and those of wheelchairs.
 pub(crate) fn service_in<S: Alter>(
     alloc: Global,
     conn: &mut Connection<S>,
@@ -98,9 +108,9 @@ pub(crate) fn service_in<S: Alter>(
         → IfErr result (TellsWhy (state S.Store conn.old).now.trees) }
     ensures rests { Rests (state S.Store conn.old) (state S.Store conn.new) result }
 {
-    let riders = table_of(alloc, conn, RIDERS)?;
+    let riders = marked_table(alloc, conn, RIDERS, RIDER_CHAIRS)?;
     let entries = table_of(alloc, conn, ENTRIES)?;
-    let trips = table_of(alloc, conn, TRIPS)?;
+    let trips = marked_table(alloc, conn, TRIPS, TRIP_CHAIRS)?;
     Ok(Service {
         riders,
         entries,

@@ -2,12 +2,14 @@ ghost use Rattle.std.specs.Prelude.{◌≡◌, [], IfOk};
 ghost use Rattle.sqlite.specs.Given.{IsPlain};
 ghost use Rattle.sqlite.specs.Held.{state};
 ghost use Rattle.sqlite.specs.Listing.{understood};
+ghost use Rattle.sqlite.specs.Schema.{Schema};
 ghost use Rattle.sqlite.specs.State.{HasCleanDisk, Shown};
 ghost use Rattle.pt_tables_opening.specs.Gathered.{AreInOrder};
-ghost use Rattle.pt_tables_opening.specs.Opening.{Rests};
+ghost use Rattle.pt_tables_opening.specs.Opening.{Rests, RestsOn};
 ghost use Rattle.pt_tables_rows.specs.Schema.{desk_schema, desk_table, callers_table, kept_table, places_table};
 ghost use Rattle.pt_tables_rows.specs.Schema.{fixed_table, vehicles_table, riders_table, entries_table, trips_table};
-ghost use Rattle.pt_tables_rows.specs.Schema.{stops_table, travel_table};
+ghost use Rattle.pt_tables_rows.specs.Schema.{stops_table, travel_table, rider_chairs_table, vehicle_chairs_table};
+ghost use Rattle.pt_tables_rows.specs.Schema.{first_schema, trip_chairs_table};
 ghost use Rattle.pt_tables_rows.specs.Tables.{AreRows};
 
 use sqlite::{Alter, Connection, Error, Row};
@@ -45,21 +47,31 @@ const STOP_ROWS: &str =
 
 const TRAVEL_ROWS: &str = "SELECT from_day, a, b, minutes FROM travel ORDER BY from_day, a, b";
 
+const RIDER_CHAIR_ROWS: &str = "SELECT rider FROM rider_chairs ORDER BY rider";
+
+const VEHICLE_CHAIR_ROWS: &str =
+    "SELECT id, from_day, chairs FROM vehicle_chairs ORDER BY id, from_day";
+
+const TRIP_CHAIR_ROWS: &str = "SELECT trip FROM trip_chairs ORDER BY trip";
+
 /// All rows that a text asks for.
 fn rows_of_table<S: Alter>(conn: &mut Connection<S>, text: &str) -> Result<Vec<Row>, Error>
-    requires plain { IsPlain (understood desk_schema text.now) }
     ensures shown { HasCleanDisk (state S.Store conn.new)
         → IfOk result (λ rows. Shown text.now [] (state S.Store conn.old) (state S.Store conn.new) rows.items) }
-    ensures rests { Rests (state S.Store conn.old) (state S.Store conn.new) result }
+    ensures rests { (schema : Schema) → IsPlain (understood schema text.now)
+        → RestsOn schema (state S.Store conn.old) (state S.Store conn.new) result }
 {
     conn.query_all(text, &[])
 }
 
-/// The row of the desk.
+/// The row of the desk, in tables of either version.
 pub(crate) fn desk_rows<S: Alter>(conn: &mut Connection<S>) -> Result<Vec<Row>, Error>
     ensures rows { HasCleanDisk (state S.Store conn.new) → (state S.Store conn.old).now.schema ≡ desk_schema
         → IfOk result (λ rows. AreRows desk_table (state S.Store conn.old).now.trees rows.items) }
     ensures rests { Rests (state S.Store conn.old) (state S.Store conn.new) result }
+    ensures first_rows { HasCleanDisk (state S.Store conn.new) → (state S.Store conn.old).now.schema ≡ first_schema
+        → IfOk result (λ rows. AreRows desk_table (state S.Store conn.old).now.trees rows.items) }
+    ensures first_rests { RestsOn first_schema (state S.Store conn.old) (state S.Store conn.new) result }
 {
     rows_of_table(conn, DESK_ROWS)
 }
@@ -172,4 +184,37 @@ pub(crate) fn travel_rows<S: Alter>(conn: &mut Connection<S>) -> Result<Vec<Row>
     ensures rests { Rests (state S.Store conn.old) (state S.Store conn.new) result }
 {
     rows_of_table(conn, TRAVEL_ROWS)
+}
+
+/// The rows of the riders in wheelchairs.
+pub(crate) fn rider_chair_rows<S: Alter>(conn: &mut Connection<S>) -> Result<Vec<Row>, Error>
+    ensures rows { HasCleanDisk (state S.Store conn.new) → (state S.Store conn.old).now.schema ≡ desk_schema
+        → IfOk result (λ rows. AreRows rider_chairs_table (state S.Store conn.old).now.trees rows.items) }
+    ensures order { HasCleanDisk (state S.Store conn.new) → (state S.Store conn.old).now.schema ≡ desk_schema
+        → IfOk result (λ rows. AreInOrder 1 rows.items) }
+    ensures rests { Rests (state S.Store conn.old) (state S.Store conn.new) result }
+{
+    rows_of_table(conn, RIDER_CHAIR_ROWS)
+}
+
+/// The rows of the wheelchair places of the vehicles.
+pub(crate) fn vehicle_chair_rows<S: Alter>(conn: &mut Connection<S>) -> Result<Vec<Row>, Error>
+    ensures rows { HasCleanDisk (state S.Store conn.new) → (state S.Store conn.old).now.schema ≡ desk_schema
+        → IfOk result (λ rows. AreRows vehicle_chairs_table (state S.Store conn.old).now.trees rows.items) }
+    ensures order { HasCleanDisk (state S.Store conn.new) → (state S.Store conn.old).now.schema ≡ desk_schema
+        → IfOk result (λ rows. AreInOrder 2 rows.items) }
+    ensures rests { Rests (state S.Store conn.old) (state S.Store conn.new) result }
+{
+    rows_of_table(conn, VEHICLE_CHAIR_ROWS)
+}
+
+/// The rows of the trips of riders in wheelchairs.
+pub(crate) fn trip_chair_rows<S: Alter>(conn: &mut Connection<S>) -> Result<Vec<Row>, Error>
+    ensures rows { HasCleanDisk (state S.Store conn.new) → (state S.Store conn.old).now.schema ≡ desk_schema
+        → IfOk result (λ rows. AreRows trip_chairs_table (state S.Store conn.old).now.trees rows.items) }
+    ensures order { HasCleanDisk (state S.Store conn.new) → (state S.Store conn.old).now.schema ≡ desk_schema
+        → IfOk result (λ rows. AreInOrder 1 rows.items) }
+    ensures rests { Rests (state S.Store conn.old) (state S.Store conn.new) result }
+{
+    rows_of_table(conn, TRIP_CHAIR_ROWS)
 }

@@ -1,6 +1,6 @@
 ghost use Rattle.std.specs.Prelude.{◌≡◌, ◌↔◌, IsTrue};
 ghost use Rattle.sqlite.specs.Order.{column};
-ghost use Rattle.pt_tables_rows.specs.Rows.{number_value, table_version};
+ghost use Rattle.pt_tables_rows.specs.Rows.{number_value};
 
 use sqlite::Row;
 use sqlite::types::ValueRef;
@@ -8,15 +8,12 @@ use sqlite::types::ValueRef;
 /// The column of the desk's row that has the version of the tables.
 const VERSION_COLUMN: usize = 1;
 
-/// The version of these tables.
-const VERSION: i64 = 1;
-
 /// Whether the desk's row says that the tables have this version.
-pub(crate) fn is_this_version(row: &Row) -> bool
-    ensures { IsTrue result ↔ (column row.now 1 ≡ number_value table_version) }
+pub(crate) fn has_version(row: &Row, version: u32) -> bool
+    ensures { IsTrue result ↔ (column row.now 1 ≡ number_value version) }
 {
     match row.get_ref(VERSION_COLUMN) {
-        Ok(ValueRef::Int(version)) => version == VERSION,
+        Ok(ValueRef::Int(told)) => told == i64::from(version),
         _ => false,
     }
 }

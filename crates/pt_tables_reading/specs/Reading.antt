@@ -1,5 +1,5 @@
 -- What a row tells, or a value in a column: the record or the number that has it.
-use Rattle.std.specs.Prelude.{◌≡◌, ℕ, ◌≤◌, Option, None, Some, IfSome, List, length}
+use Rattle.std.specs.Prelude.{◌≡◌, ℕ, ◌≤◌, Option, None, Some, IfSome, List, [], ◌∷◌, length}
 use Rattle.sqlite.specs.Order.{Row}
 use Rattle.pt_base.specs.Day.{IsDay}
 use Rattle.pt_base.specs.Ranges.{last_minute}
@@ -21,6 +21,12 @@ use Rattle.pt_tables_reading.specs.declared.kept.KeptRow.{KeptRow}
 abbrev pub Reads : {A B : Type 0} → (A → B) → (A → Type 0) → B → Option A → Type 0
 Reads written Fits found (Some x) = (written x ≡ found) × Fits x
 Reads written Fits found None = (x : _) → Fits x → written x ≡ found → ⊥
+
+-- what is found is the record with this one's row that has that row beside it, and none where no such record has
+abbrev pub ReadsBeside : {A B C : Type 0} → (A → B) → (A → List C) → (A → Type 0) → A → C → Option A → Type 0
+ReadsBeside written beside Fits known found (Some x) = (written x ≡ written known) × (beside x ≡ found ∷ []) × Fits x
+ReadsBeside written beside Fits known found None =
+    (x : _) → Fits x → written x ≡ written known → beside x ≡ found ∷ [] → ⊥
 
 -- ---- what the types of a record's fields keep to, where definitions see no more than numbers and lists
 

@@ -2,6 +2,7 @@
 #![tactic(auto)]
 
 pub use callers::caller_of;
+pub use chairs::{rider_beside, trip_beside, vehicle_beside};
 pub use desk::agency_of;
 pub use drives::{DriveAt, drive_of};
 pub use entries::entry_of;
@@ -14,6 +15,7 @@ pub use trips::trip_of;
 pub use vehicles::vehicle_of;
 
 mod callers;
+mod chairs;
 mod columns;
 mod conditions;
 mod desk;

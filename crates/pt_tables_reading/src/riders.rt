@@ -9,7 +9,7 @@ use sqlite::Row;
 /// How many columns a rider's row has.
 const COLUMNS: usize = 3;
 
-/// The rider of a row.
+/// The rider of a row, not marked as one in a wheelchair, of which a row of its own tells.
 pub fn rider_of(row: &Row) -> Option<Rider>
     ensures { Reads rider_row FitsRider row.now result }
 {
@@ -20,5 +20,6 @@ pub fn rider_of(row: &Row) -> Option<Rider>
         id: id_at(row, 0)?,
         kind: kind_at(row, 1)?,
         attendant: truth_at(row, 2)?,
+        wheelchair: false,
     })
 }

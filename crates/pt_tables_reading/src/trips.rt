@@ -10,7 +10,7 @@ use sqlite::Row;
 /// How many columns a trip's row has.
 const COLUMNS: usize = 16;
 
-/// The trip of a row.
+/// The trip of a row, not marked as that of a rider in a wheelchair, of which a row of its own tells.
 pub fn trip_of(row: &Row) -> Option<Trip>
     ensures { Reads trip_row FitsTrip row.now result }
 {
@@ -30,6 +30,7 @@ pub fn trip_of(row: &Row) -> Option<Trip>
         id: id_at(row, 0)?,
         rider: id_at(row, 1)?,
         wish,
+        wheelchair: false,
         fare: number_in(row, 9, 0, 100_000)?,
         service: number_in(row, 10, 0, 30)? as u16,
         ride: number_in(row, 11, 0, 1_679)? as u16,

@@ -11,7 +11,7 @@ use sqlite::Row;
 /// How many columns a vehicle's row has.
 const COLUMNS: usize = 8;
 
-/// The vehicle, as it is from a day on, of a row.
+/// The vehicle, as it is from a day on, of a row, with no wheelchair place, of which a row of its own tells.
 pub fn vehicle_of(row: &Row) -> Option<Vehicle>
     ensures { Reads vehicle_row FitsVehicle row.now result }
 {
@@ -29,6 +29,7 @@ pub fn vehicle_of(row: &Row) -> Option<Vehicle>
         days: days_at(row, 2)?,
         depot: id_at(row, 3)?,
         capacity: number_in(row, 4, 1, 30)? as u16,
+        chairs: 0,
         opens,
         closes,
         duration: number_in(row, 7, 1, 1_439)? as u16,

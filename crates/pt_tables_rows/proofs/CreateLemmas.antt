@@ -13,22 +13,21 @@ use Rattle.sqlite.specs.Listing.{understood}
 use Rattle.sqlite.specs.State.{State, Writes, Executes}
 use Rattle.sqlite.proofs.Callers.{IsPlain, command_of, statement_of, runs_as}
 use Rattle.sqlite_tied.specs.Compute.{everything}
-use Rattle.pt_tables_rows.specs.Schema.{desk_schema, no_schema, tables}
-use Rattle.pt_tables_rows.specs.declared.schema.TheConstants.{TABLES}
-use Rattle.pt_tables_rows.specs.Tables.{IsBlank}
+use Rattle.pt_tables_rows.specs.Schema.{desk_schema, first_schema, no_schema, first_tables, chairs_tables, desk_table, rider_chairs_table}
+use Rattle.pt_tables_rows.specs.declared.schema.TheConstants.{FIRST_TABLES, CHAIRS_TABLES}
+use Rattle.pt_tables_rows.specs.Tables.{AddsChairs, IsBlank, IsFirstBlank}
 use Rattle.pt_tables_rows.proofs.PartLemmas.{went, same_value}
-use Rattle.pt_tables_rows.specs.Schema.{desk_table}
 
--- the statements that make the tables
+-- the statements that make the tables of the first version
 abbrev pub statements_of_tables : List (List ℕ)
-statements_of_tables = map (λ statement. statement.now) TABLES
+statements_of_tables = map (λ statement. statement.now) FIRST_TABLES
 
 -- the schema after so many of the statements
 abbrev pub schema_after : ℕ → Schema
-schema_after n = fold created no_schema (take n tables)
+schema_after n = fold created no_schema (take n first_tables)
 
-whole : schema_after 11 ≡ desk_schema
-unfolding desk_schema everything
+whole : schema_after 11 ≡ first_schema
+unfolding first_schema everything
 whole = refl
 
 abbrev as_read : Table → Table
@@ -44,7 +43,7 @@ record Step (schema : Schema) (text : List ℕ) (table : Table) : Type 0 where
 
 -- the text at this place makes the table at this place
 abbrev StepAt : ℕ → Type 0
-StepAt n = Step (schema_after n) (slice_index_or statements_of_tables n []) (slice_index_or tables n desk_table)
+StepAt n = Step (schema_after n) (slice_index_or statements_of_tables n []) (slice_index_or first_tables n desk_table)
 
 step_0 : StepAt 0
 unfolding understood everything
@@ -104,10 +103,10 @@ still_empty [] old new keeps empty = tt
 still_empty (t ∷ ts) old new keeps empty = (keeps.0 ∙ empty.0, still_empty ts old new keeps.1 empty.1)
 
 module _ (schema : Schema) (text : List ℕ) (table : Table) (step : Step schema text table) where
-  -- what a CREATE TABLE makes
-  creates : (old new : State) (count : ℕ) → old.now.schema ≡ schema → AllByRecursion (λ t. old.now.trees t.tree ≡ []) schema.tables → Executes text [] old new (Ok count)
-      → (new.now.schema ≡ created schema (as_read table)) × AllByRecursion (λ t. new.now.trees t.tree ≡ []) (created schema (as_read table)).tables
-  creates old new count has empty h =
+  -- what a CREATE TABLE makes: a table with no row, beside others that keep theirs
+  creates : (old new : State) (count : ℕ) → old.now.schema ≡ schema → Executes text [] old new (Ok count)
+      → (new.now.schema ≡ created schema (as_read table)) × KeepsRows schema.tables old.now.trees new.now.trees × (new.now.trees (next_tree schema) ≡ [])
+  creates old new count has h =
       let w = subst (λ t. Writes old new None CreateTable t [] count) step.whole (runs_as text [] old new schema has CreateTable step.is step.plain count h) in
       let all = went w.changed in
       let first = went all.1 in
@@ -119,12 +118,12 @@ module _ (schema : Schema) (text : List ℕ) (table : Table) (step : Step schema
       let keeps : KeepsRows schema.tables old.now.trees first.0.trees = subst (λ s. KeepsRows s.tables old.now.trees first.0.trees) has made.others in
       let none_new : first.0.trees (next_tree schema) ≡ [] = subst (λ s. first.0.trees (next_tree s) ≡ []) has made.empty in (
         ap (λ (d : Database). d.schema) now ∙ after,
-        subst (λ (d : Database). AllByRecursion (λ t. d.trees t.tree ≡ []) (created schema (as_read table)).tables) (sym now)
-            (all_last (λ t. first.0.trees t.tree ≡ []) schema.tables (record table { tree = next_tree schema }) (still_empty schema.tables old.now.trees first.0.trees keeps empty) none_new),
+        subst (λ (d : Database). KeepsRows schema.tables old.now.trees d.trees) (sym now) keeps,
+        subst (λ (d : Database). d.trees (next_tree schema) ≡ []) (sym now) none_new,
       )
 
 abbrev Next : ℕ → Type 0
-Next n = created (schema_after n) (as_read (slice_index_or tables n desk_table)) ≡ schema_after (n + 1)
+Next n = created (schema_after n) (as_read (slice_index_or first_tables n desk_table)) ≡ schema_after (n + 1)
 
 next : (n : ℕ) → n < 11 → StepAt n × Next n
 unfolding everything
@@ -143,15 +142,148 @@ next (suc (suc (suc (suc (suc (suc (suc (suc (suc (suc (suc n))))))))))) low = a
 
 pub makes_next : (n : ℕ) → n < 11 → (old new : State) (count : ℕ) → IsMade n old.now → Executes (slice_index_or statements_of_tables n []) [] old new (Ok count) → IsMade (n + 1) new.now
 makes_next n low old new count made h =
-    let it = creates (schema_after n) (slice_index_or statements_of_tables n []) (slice_index_or tables n desk_table) (next n low).0 old new count made.schema made.rows h in
+    let schema = schema_after n in
+    let table = slice_index_or first_tables n desk_table in
+    let it = creates schema (slice_index_or statements_of_tables n []) table (next n low).0 old new count made.schema h in
+    let rows : AllByRecursion (λ t. new.now.trees t.tree ≡ []) (created schema (as_read table)).tables =
+    all_last (λ t. new.now.trees t.tree ≡ []) schema.tables (record table { tree = next_tree schema }) (still_empty schema.tables old.now.trees new.now.trees it.1 made.rows) it.2 in
     record {
       schema = it.0 ∙ (next n low).1;
-      rows = subst (λ (s : Schema). AllByRecursion (λ t. new.now.trees t.tree ≡ []) s.tables) (next n low).1 it.1;
+      rows = subst (λ (s : Schema). AllByRecursion (λ t. new.now.trees t.tree ≡ []) s.tables) (next n low).1 rows;
     }
 
 pub begins : (db : Database) → db.schema ≡ no_schema → IsMade 0 db
 begins db is = record { schema = is; rows = tt }
 
-pub ends : (db : Database) → IsMade 11 db → IsBlank db
-unfolding desk_schema
+pub ends : (db : Database) → IsMade 11 db → IsFirstBlank db
+unfolding first_schema
 ends db made = record { schema = made.schema ∙ whole; rows = made.rows }
+
+-- ---- the tables that are added to those of the first version
+
+-- the statements that make them
+abbrev pub statements_of_chairs : List (List ℕ)
+statements_of_chairs = map (λ statement. statement.now) CHAIRS_TABLES
+
+-- the schema after so many of the statements
+abbrev pub chairs_after : ℕ → Schema
+chairs_after n = fold created first_schema (take n chairs_tables)
+
+-- the table that the statement at this place makes
+abbrev chairs_table : ℕ → Table
+chairs_table n = slice_index_or chairs_tables n rider_chairs_table
+
+-- the text at this place makes the table at this place, after those that are there
+record ChairsStep (n : ℕ) : Type 0 where
+  step : Step (chairs_after n) (slice_index_or statements_of_chairs n []) (chairs_table n)
+  next : created (chairs_after n) (as_read (chairs_table n)) ≡ chairs_after (n + 1)
+  there : (chairs_after n).tables ≡ first_tables ++ take n chairs_tables
+  tree : next_tree (chairs_after n) ≡ (chairs_table n).tree
+  more : take n chairs_tables ++ chairs_table n ∷ [] ≡ take (n + 1) chairs_tables
+
+chairs_0 : ChairsStep 0
+unfolding understood first_schema everything
+chairs_0 = record {
+  step = record { is = refl; whole = refl; plain = (refl, refl); defined = refl; counts = refl };
+  next = refl;
+  there = refl;
+  tree = refl;
+  more = refl;
+}
+
+chairs_1 : ChairsStep 1
+unfolding understood first_schema everything
+chairs_1 = record {
+  step = record { is = refl; whole = refl; plain = (refl, refl); defined = refl; counts = refl };
+  next = refl;
+  there = refl;
+  tree = refl;
+  more = refl;
+}
+
+chairs_2 : ChairsStep 2
+unfolding understood first_schema everything
+chairs_2 = record {
+  step = record { is = refl; whole = refl; plain = (refl, refl); defined = refl; counts = refl };
+  next = refl;
+  there = refl;
+  tree = refl;
+  more = refl;
+}
+
+chairs_step : (n : ℕ) → n < 3 → ChairsStep n
+chairs_step zero low = chairs_0
+chairs_step (suc zero) low = chairs_1
+chairs_step (suc (suc zero)) low = chairs_2
+chairs_step (suc (suc (suc n))) low = absurd (omega arith)
+
+whole_chairs : chairs_after 3 ≡ desk_schema
+unfolding first_schema desk_schema everything
+whole_chairs = refl
+
+abbrev Same : Trees → Trees → Table → Type 0
+Same old new t = new t.tree ≡ old t.tree
+
+abbrev Empty : Trees → Table → Type 0
+Empty trees t = trees t.tree ≡ []
+
+-- so many of the tables stand beside the first ones, with no row
+pub record IsAdded (n : ℕ) (old db : Database) : Type 0 where
+  pub schema : db.schema ≡ chairs_after n
+  pub kept : AllByRecursion (λ t. db.trees t.tree ≡ old.trees t.tree) first_tables
+  pub empty : AllByRecursion (λ t. db.trees t.tree ≡ []) (take n chairs_tables)
+
+front : {A : Type 0} (P : A → Type 0) (xs ys : List A) → AllByRecursion P (xs ++ ys) → AllByRecursion P xs
+front P [] ys all = tt
+front P (x ∷ xs) ys all = (all.0, front P xs ys all.1)
+
+back : {A : Type 0} (P : A → Type 0) (xs ys : List A) → AllByRecursion P (xs ++ ys) → AllByRecursion P ys
+back P [] ys all = all
+back P (x ∷ xs) ys all = back P xs ys all.1
+
+still_same : (ts : List Table) (old mid new : Trees) → AllByRecursion (Same mid new) ts → AllByRecursion (Same old mid) ts → AllByRecursion (Same old new) ts
+still_same [] old mid new later early = tt
+still_same (t ∷ ts) old mid new later early = (later.0 ∙ early.0, still_same ts old mid new later.1 early.1)
+
+all_same : (ts : List Table) (old : Trees) → AllByRecursion (Same old old) ts
+all_same [] old = tt
+all_same (t ∷ ts) old = (refl, all_same ts old)
+
+pub adds_next : (n : ℕ) → n < 3 → (base : Database) (old new : State) (count : ℕ) → IsAdded n base old.now → Executes (slice_index_or statements_of_chairs n []) [] old new (Ok count) → IsAdded (n + 1) base new.now
+adds_next n low base old new count added h =
+    let s = chairs_step n low in
+    let it = creates (chairs_after n) (slice_index_or statements_of_chairs n []) (chairs_table n) s.step old new count added.schema h in
+    let keeps : AllByRecursion (Same old.now.trees new.now.trees) (first_tables ++ take n chairs_tables) = subst (AllByRecursion (Same old.now.trees new.now.trees)) s.there it.1 in
+    let none : new.now.trees (chairs_table n).tree ≡ [] = subst (λ tree. new.now.trees tree ≡ []) s.tree it.2 in
+    record {
+      schema = it.0 ∙ s.next;
+      kept = still_same first_tables base.trees old.now.trees new.now.trees (front (Same old.now.trees new.now.trees) first_tables (take n chairs_tables) keeps) added.kept;
+      empty = subst (AllByRecursion (Empty new.now.trees)) s.more
+          (all_last (Empty new.now.trees) (take n chairs_tables) (chairs_table n)
+          (still_empty (take n chairs_tables) old.now.trees new.now.trees (back (Same old.now.trees new.now.trees) first_tables (take n chairs_tables) keeps) added.empty) none);
+    }
+
+pub adding_begins : (db : Database) → db.schema ≡ first_schema → IsAdded 0 db db
+adding_begins db is = record { schema = is; kept = all_same first_tables db.trees; empty = tt }
+
+pub adding_ends : (old db : Database) → IsAdded 3 old db → AddsChairs old db
+adding_ends old db added = record {
+  schema = added.schema ∙ whole_chairs;
+  kept = added.kept;
+  rider_chairs = added.empty.0;
+  vehicle_chairs = added.empty.1.0;
+  trip_chairs = added.empty.1.1.0;
+}
+
+-- ---- all tables
+
+join : {A : Type 0} (P : A → Type 0) (xs ys : List A) → AllByRecursion P xs → AllByRecursion P ys → AllByRecursion P (xs ++ ys)
+join P [] ys early later = later
+join P (x ∷ xs) ys early later = (early.0, join P xs ys early.1 later)
+
+pub blank_then : (old new : Database) → IsFirstBlank old → AddsChairs old new → IsBlank new
+blank_then old new blank adds = record {
+  schema = adds.schema;
+  rows = join (Empty new.trees) first_tables chairs_tables (still_empty first_tables old.trees new.trees adds.kept blank.rows)
+      (adds.rider_chairs, (adds.vehicle_chairs, (adds.trip_chairs, tt)));
+}

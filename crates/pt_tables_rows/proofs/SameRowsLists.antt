@@ -40,7 +40,7 @@ all_front P (x ∷ xs) ys all = (all.0, all_front P xs ys all.1)
 module _ {A R : Type 0} (key : A → ℕ) (key_in : R → ℕ) (rows : A → List R)
     (keyed : (x : A) → AllByRecursion (λ r. key_in r ≡ key x) (rows x)) where
   -- the rows of records above a key are above it
-  rows_above : (k : ℕ) (xs : List A) → Each (λ x. k < key x) xs → AllByRecursion (λ r. k < key_in r) (flat_map rows xs)
+  pub rows_above : (k : ℕ) (xs : List A) → Each (λ x. k < key x) xs → AllByRecursion (λ r. k < key_in r) (flat_map rows xs)
   rows_above k [] above = tt
   rows_above k (x ∷ xs) above =
       let here = all_weaker (λ r. key_in r ≡ key x) (λ r. k < key_in r)
@@ -169,6 +169,41 @@ told_by_row {A} {R} key key_in row Fits keyed told xs ys one other ones others s
     (λ x y fits others_fit alike. told x y fits others_fit (one_same (row x) (row y) alike)) xs ys one other ones others
     (subst (λ rs. IsPermutation rs (flat_map (λ x. row x ∷ []) ys)) (sym (map_as_flat_map row xs))
     (subst (IsPermutation (map row xs)) (sym (map_as_flat_map row ys)) same))
+
+-- records of one row each and of rows beside it
+pub told_beside : {A R S : Type 0} (key : A → ℕ) (key_in : R → ℕ) (row : A → R) (key_beside : S → ℕ) (beside : A → List S)
+    (Fits : A → Type 0) (keyed : (x : A) → key_in (row x) ≡ key x)
+    (also_keyed : (x : A) → AllByRecursion (λ s. key_beside s ≡ key x) (beside x))
+    (told : (x y : A) → Fits x → Fits y → row x ≡ row y → IsPermutation (beside x) (beside y) → x ≡ y)
+    (xs ys : List A) → IsInOrder key xs → IsInOrder key ys → Each Fits xs → Each Fits ys
+    → IsPermutation (map row xs) (map row ys) → IsPermutation (flat_map beside xs) (flat_map beside ys) → xs ≡ ys
+told_beside {A} {R} {S} key key_in row key_beside beside Fits keyed also_keyed told xs ys one other ones others same also =
+    go xs ys one other ones others
+    (subst (λ rs. IsPermutation rs (flat_map rows ys)) (sym (map_as_flat_map row xs))
+    (subst (IsPermutation (map row xs)) (sym (map_as_flat_map row ys)) same)) also
+  where
+    rows : A → List R
+    rows x = row x ∷ []
+
+    each_keyed : (x : A) → AllByRecursion (λ r. key_in r ≡ key x) (rows x)
+    each_keyed x = (keyed x, tt)
+
+    go : (xs ys : List A) → IsInOrder key xs → IsInOrder key ys → Each Fits xs → Each Fits ys
+        → IsPermutation (flat_map rows xs) (flat_map rows ys)
+        → IsPermutation (flat_map beside xs) (flat_map beside ys) → xs ≡ ys
+    go [] [] one other ones others same also = refl
+    go [] (y ∷ ys) one other ones others same also = absurd (no_rows rows y ys (omega arith) (length_permutation _ _ same))
+    go (x ∷ xs) [] one other ones others same also =
+        absurd (no_rows rows x xs (omega arith) (sym (length_permutation _ _ same)))
+    go (x ∷ xs) (y ∷ ys) one other ones others same also =
+        let low = no_lower key key_in rows each_keyed x y xs ys (omega arith) other (IsPermutation-sym _ _ same) in
+        let high = no_lower key key_in rows each_keyed y x ys xs (omega arith) one same in
+        let level : key x ≡ key y = omega (arith, low, high) in
+        let first = one_same (row x) (row y) (first_among key key_in rows each_keyed x y xs ys level one other same) in
+        let later = others_among key key_in rows each_keyed x y xs ys level one other same in
+        let first_also = first_among key key_beside beside also_keyed x y xs ys level one other also in
+        let later_also = others_among key key_beside beside also_keyed x y xs ys level one other also in
+        ap₂ ◌∷◌ (told x y ones.0 others.0 first first_also) (go xs ys one.1 other.1 ones.1 others.1 later later_also)
 
 -- nothing is said of each
 pub each_any : {A : Type 0} (xs : List A) → Each (λ x. Unit {0}) xs

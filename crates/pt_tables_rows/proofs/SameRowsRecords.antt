@@ -1,10 +1,13 @@
 -- Records of one row are told by it.
 use mathlib.Core.HLevel.{is_prop→PathP}
-use Rattle.std.proofs.Common.{◌≡◌, ℕ, ◌≤◌, List, [], ◌∷◌, Option, None, Some, refl, sym, ap, ◌∙◌, arith}
+use Rattle.std.proofs.Common.{◌≡◌, ℕ, zero, suc, ◌≤◌, Bool, true, false, not, List, [], ◌∷◌, Option, None, Some, refl, sym, ap, subst, ◌∙◌, arith}
 use Rattle.std.proofs.Props.{props}
 use Rattle.std.proofs.lemmas.List.Elements.{recursion_from_All}
 use Rattle.std.specs.Int.{IsInRange}
-use Rattle.std.specs.Prelude.{ℤ, pos, negsuc}
+use Rattle.std.specs.Prelude.{ℤ, ◌==◌, pos, negsuc, IsPermutation}
+use Rattle.std.specs.List.{AllByRecursion}
+use Rattle.std.proofs.lemmas.Bool.Decides.{nat_tests}
+use Rattle.std.proofs.lemmas.List.Sorted.{length_permutation}
 use Rattle.sqlite.specs.declared.types.Value.{Value}
 use Rattle.sqlite.specs.declared.types.Value.TheVariants.{Null, Int, Real, Text, Blob}
 use Rattle.sqlite.specs.Order.{Row, bytes, column}
@@ -37,7 +40,9 @@ use Rattle.pt_spelling.proofs.FieldLemmas.{bool-same, days-same}
 use Rattle.pt_spelling.proofs.SettingLemmas.{policy-same}
 use Rattle.pt_tables_rows.specs.Rows.{desk_row, caller_row, place_row, rider_row, vehicle_row, trip_row, status_number}
 use Rattle.pt_tables_rows.specs.Rows.{optional_value, route_row, kept_row, entry_row, first_number, second_number}
-use Rattle.pt_tables_rows.specs.Rows.{entry_conditions, entry_words}
+use Rattle.pt_tables_rows.specs.Rows.{entry_conditions, entry_words, row_if, rider_chair_rows, vehicle_chair_rows}
+use Rattle.pt_tables_rows.specs.Rows.{trip_chair_rows}
+use Rattle.pt_tables_rows.proofs.SameRowsLists.{one_same}
 use Rattle.pt_tables_rows.specs.WellFormed.{GrantsInRange}
 use Rattle.pt_tables_rows.proofs.SameRowsBytes.{line-told, reply-told, grant-told}
 
@@ -128,11 +133,43 @@ place-told one other same =
           (λ j. plane-prop _ _) one.on_plane other.on_plane i;
     }
 
+-- ---- rows that stand where something is so
+
+-- they are told by how many there are
+pub so_told : (one other : Bool) (a b : Row) → IsPermutation (row_if one a) (row_if other b) → one ≡ other
+so_told true true a b same = refl
+so_told false false a b same = refl
+so_told true false a b same = absurd (let count = length_permutation _ _ same in omega arith)
+so_told false true a b same = absurd (let count = length_permutation _ _ same in omega arith)
+
+-- and have the key of their record
+pub so_keyed : (so : Bool) (row : Row) (key_in : Row → ℕ) (key : ℕ) → key_in row ≡ key
+    → AllByRecursion (λ r. key_in r ≡ key) (row_if so row)
+so_keyed true row key_in key is = (is, tt)
+so_keyed false row key_in key is = tt
+
+-- a number is told where it is not nought
+is_some : (n : ℕ) → not (suc n == 0) ≡ true
+is_some n = grind (arith, nat_tests)
+
+number_told : (one other : ℕ) (a b : Row) → number_in 2 a ≡ one → number_in 2 b ≡ other
+    → IsPermutation (row_if (not (one == 0)) a) (row_if (not (other == 0)) b) → one ≡ other
+number_told zero zero a b is_one is_other same = refl
+number_told (suc n) zero a b is_one is_other same =
+    let so = so_told (not (suc n == 0)) (not (0 == 0)) a b same in let yes = is_some n in absurd (cc)
+number_told zero (suc n) a b is_one is_other same =
+    let so = so_told (not (0 == 0)) (not (suc n == 0)) a b same in let yes = is_some n in absurd (cc)
+number_told (suc n) (suc m) a b is_one is_other same =
+    let both = subst (λ s. IsPermutation (row_if s a) (row_if (not (suc m == 0)) b)) (is_some n) same in
+    let one_each = subst (λ s. IsPermutation (a ∷ []) (row_if s b)) (is_some m) both in
+    sym is_one ∙ ap (number_in 2) (one_same a b one_each) ∙ is_other
+
 -- ---- vehicles
 
 pub vehicle-told : (one other : Vehicle) → IsWeek one.days → IsWeek other.days → vehicle_row one ≡ vehicle_row other
-    → one ≡ other
-vehicle-told one other ones others same =
+    → IsPermutation (vehicle_chair_rows one) (vehicle_chair_rows other) → one ≡ other
+vehicle-told one other ones others same also =
+    let chairs = number_told one.chairs other.chairs _ _ refl refl also in
     let days = days-same one.days other.days ones others (ap (number_in 2) same) in
     λ i. record {
       id = number_in 0 (same i);
@@ -140,11 +177,14 @@ vehicle-told one other ones others same =
       days = days i;
       depot = number_in 3 (same i);
       capacity = number_in 4 (same i);
+      chairs = chairs i;
       opens = number_in 5 (same i);
       closes = number_in 6 (same i);
       duration = number_in 7 (same i);
       capacity_in_range = is_prop→PathP (λ j. IsInRange 1 30 (number_in 4 (same j))) (λ j. range-prop _ _ _)
           one.capacity_in_range other.capacity_in_range i;
+      chairs_in_range = is_prop→PathP (λ j. chairs j ≤ 10) (λ j. at_most-prop _ _)
+          one.chairs_in_range other.chairs_in_range i;
       hours_ordered = is_prop→PathP (λ j. number_in 5 (same j) ≤ number_in 6 (same j)) (λ j. at_most-prop _ _)
           one.hours_ordered other.hours_ordered i;
       duration_in_range = is_prop→PathP (λ j. IsInRange 1 1_439 (number_in 7 (same j))) (λ j. range-prop _ _ _)
@@ -158,11 +198,18 @@ kind-told Resident Resident same = refl
 kind-told Visitor Visitor same = refl
 kind-told one other same = absurd (omega arith)
 
-pub rider-told : (one other : Rider) → rider_row one ≡ rider_row other → one ≡ other
-rider-told one other same =
+pub rider-told : (one other : Rider) → rider_row one ≡ rider_row other
+    → IsPermutation (rider_chair_rows one) (rider_chair_rows other) → one ≡ other
+rider-told one other same also =
+    let wheelchair = so_told one.wheelchair other.wheelchair _ _ also in
     let kind = kind-told one.kind other.kind (ap (number_in 1) same) in
     let attendant = bool-same one.attendant other.attendant (ap (number_in 2) same) in
-    λ i. record { id = number_in 0 (same i); kind = kind i; attendant = attendant i }
+    λ i. record {
+      id = number_in 0 (same i);
+      kind = kind i;
+      attendant = attendant i;
+      wheelchair = wheelchair i;
+    }
 
 -- ---- trips
 
@@ -174,8 +221,10 @@ status-told MissedRider MissedRider same = refl
 status-told MissedOperator MissedOperator same = refl
 status-told one other same = absurd (omega arith)
 
-pub trip-told : (one other : Trip) → trip_row one ≡ trip_row other → one ≡ other
-trip-told one other same =
+pub trip-told : (one other : Trip) → trip_row one ≡ trip_row other
+    → IsPermutation (trip_chair_rows one) (trip_chair_rows other) → one ≡ other
+trip-told one other same also =
+    let wheelchair = so_told one.wheelchair other.wheelchair _ _ also in
     let by : one.wish.by ≡ other.wish.by =
     sym (known-value one.wish.by) ∙ ap (known_in 6) same ∙ known-value other.wish.by in
     let attendant = bool-same one.wish.attendant other.wish.attendant (ap (number_in 7) same) in
@@ -192,6 +241,7 @@ trip-told one other same =
         attendant = attendant i;
         companions = number_in 8 (same i);
       };
+      wheelchair = wheelchair i;
       fare = number_in 9 (same i);
       service = number_in 10 (same i);
       ride = number_in 11 (same i);

@@ -1,5 +1,6 @@
 -- The rows of the tables, as a query shows them: the values of the columns in their order.
-use Rattle.std.specs.Prelude.{ℕ, ℤ, ◌+◌, pos, negsuc, List, [], ◌∷◌, map, flat_map, Bool, Option, None, Some}
+use Rattle.std.specs.Prelude.{ℕ, ℤ, ◌+◌, ◌==◌, pos, negsuc, not, true, false, List, [], ◌∷◌, map, flat_map, Bool}
+use Rattle.std.specs.Prelude.{Option, None, Some}
 use Rattle.std.specs.Int.{from_bool}
 use Rattle.std.specs.List.{join_with_byte}
 use Rattle.sqlite.specs.declared.types.Value.{Value}
@@ -33,7 +34,11 @@ use Rattle.pt_travel.specs.Chain as travel
 
 -- the version of these tables
 abbrev pub table_version : ℕ
-table_version = 1
+table_version = 2
+
+-- the version of tables with no place for wheelchairs
+abbrev pub first_version : ℕ
+first_version = 1
 
 abbrev pub number_value : ℕ → Value
 number_value n = Int (pos n)
@@ -48,12 +53,16 @@ optional_value None = Int (negsuc 0)
 optional_value (Some n) = number_value n
 
 -- the agency's one row: the version, the policy, and the number that was last given to a trip
-abbrev pub desk_row : Policy → ℕ → Row
-desk_row policy last_trip =
-    number_value 1 ∷ number_value table_version ∷ number_value policy.base ∷ number_value policy.transfer
+abbrev pub versioned_row : ℕ → Policy → ℕ → Row
+versioned_row version policy last_trip =
+    number_value 1 ∷ number_value version ∷ number_value policy.base ∷ number_value policy.transfer
     ∷ number_value policy.fare ∷ number_value policy.service ∷ number_value policy.extra_ride
     ∷ number_value policy.min_missed ∷ number_value policy.percent ∷ number_value policy.span_days
     ∷ number_value last_trip ∷ []
+
+-- that of these tables
+abbrev pub desk_row : Policy → ℕ → Row
+desk_row policy last_trip = versioned_row table_version policy last_trip
 
 abbrev pub caller_row : Caller → Row
 caller_row caller =
@@ -161,6 +170,27 @@ stop_rows_from place vehicle day (stop ∷ later) =
 
 abbrev pub stop_rows : Plan → List Row
 stop_rows plan = stop_rows_from 0 plan.vehicle plan.day plan.stops
+
+-- ---- wheelchairs and their places
+
+-- a row that stands where something is so
+abbrev pub row_if : Bool → Row → List Row
+row_if true row = row ∷ []
+row_if false row = []
+
+-- a rider in a wheelchair
+abbrev pub rider_chair_rows : Rider → List Row
+rider_chair_rows rider = row_if rider.wheelchair (number_value rider.id ∷ [])
+
+-- the wheelchair places of a vehicle that has some, as it is from a day on
+abbrev pub vehicle_chair_rows : Vehicle → List Row
+vehicle_chair_rows version =
+    row_if (not (version.chairs == 0))
+    (number_value version.id ∷ number_value version.from_day ∷ number_value version.chairs ∷ [])
+
+-- the trip of a rider in a wheelchair
+abbrev pub trip_chair_rows : Trip → List Row
+trip_chair_rows trip = row_if trip.wheelchair (number_value trip.id ∷ [])
 
 -- ---- driving times
 

@@ -1,5 +1,5 @@
--- The eleven tables.
-use Rattle.std.specs.Prelude.{ℕ, List, [], ◌∷◌, ◌+◌, true, false, None, Some, codes}
+-- The fourteen tables, and the eleven that the first version had.
+use Rattle.std.specs.Prelude.{ℕ, List, [], ◌∷◌, ◌++◌, ◌+◌, true, false, None, Some, codes}
 use Rattle.sqlite.specs.Collation.TheVariants.{Binary}
 use Rattle.sqlite.specs.declared.types.Value.TheVariants.{Null}
 use Rattle.sqlite.specs.Table.{Table}
@@ -46,6 +46,10 @@ refers column parent = record {
   on_update = NoAction;
   is_deferred = false;
 }
+
+-- columns that are the key of another table's rows
+abbrev pub refers_by : List ℕ → List ℕ → List (List ℕ) → Reference
+refers_by columns parent key = record (refers 0 parent) { columns = columns; parent_columns = key }
 
 abbrev pub ascending : Order
 ascending = record { digits = 0 }
@@ -140,10 +144,34 @@ travel_table = keyed_table (codes "travel") 14
     (number (codes "from_day") ∷ number (codes "a") ∷ number (codes "b") ∷ number (codes "minutes") ∷ [])
     (1 ∷ 2 ∷ 3 ∷ []) []
 
-abbrev pub tables : List Table
-tables =
+-- the riders in wheelchairs
+abbrev pub rider_chairs_table : Table
+rider_chairs_table =
+    numbered_table (codes "rider_chairs") 16 (row_number (codes "rider") ∷ []) (refers 0 (codes "riders") ∷ [])
+
+-- the wheelchair places of vehicles that have some
+abbrev pub vehicle_chairs_table : Table
+vehicle_chairs_table = keyed_table (codes "vehicle_chairs") 17
+    (number (codes "id") ∷ number (codes "from_day") ∷ number (codes "chairs") ∷ []) (1 ∷ 2 ∷ [])
+    (refers_by (1 ∷ 2 ∷ []) (codes "vehicles") (codes "id" ∷ codes "from_day" ∷ []) ∷ [])
+
+-- the trips of riders in wheelchairs
+abbrev pub trip_chairs_table : Table
+trip_chairs_table =
+    numbered_table (codes "trip_chairs") 19 (row_number (codes "trip") ∷ []) (refers 0 (codes "trips") ∷ [])
+
+-- the tables of the first version
+abbrev pub first_tables : List Table
+first_tables =
     desk_table ∷ callers_table ∷ kept_table ∷ places_table ∷ fixed_table ∷ vehicles_table ∷ riders_table
     ∷ entries_table ∷ trips_table ∷ stops_table ∷ travel_table ∷ []
+
+-- those that the second version has beside them
+abbrev pub chairs_tables : List Table
+chairs_tables = rider_chairs_table ∷ vehicle_chairs_table ∷ trip_chairs_table ∷ []
+
+abbrev pub tables : List Table
+tables = first_tables ++ chairs_tables
 
 -- what keeps a key apart from the others of its table
 abbrev pub key_index : List ℕ → Table → List ℕ → Index
@@ -156,18 +184,24 @@ key_index name table columns = record {
   is_unique = true;
 }
 
+abbrev pub first_indexes : List Index
+first_indexes =
+    key_index (codes "sqlite_autoindex_callers_1") callers_table (4 ∷ [])
+    ∷ key_index (codes "sqlite_autoindex_vehicles_1") vehicles_table (1 ∷ 2 ∷ [])
+    ∷ key_index (codes "sqlite_autoindex_entries_1") entries_table (1 ∷ 2 ∷ [])
+    ∷ key_index (codes "sqlite_autoindex_stops_1") stops_table (1 ∷ 2 ∷ 3 ∷ [])
+    ∷ key_index (codes "sqlite_autoindex_travel_1") travel_table (1 ∷ 2 ∷ 3 ∷ []) ∷ []
+
+abbrev pub chairs_index : Index
+chairs_index = key_index (codes "sqlite_autoindex_vehicle_chairs_1") vehicle_chairs_table (1 ∷ 2 ∷ [])
+
 -- the database has these tables, and no others
 unfoldable pub desk_schema : Schema
-desk_schema = record {
-  tables = tables;
-  indexes =
-      key_index (codes "sqlite_autoindex_callers_1") callers_table (4 ∷ [])
-      ∷ key_index (codes "sqlite_autoindex_vehicles_1") vehicles_table (1 ∷ 2 ∷ [])
-      ∷ key_index (codes "sqlite_autoindex_entries_1") entries_table (1 ∷ 2 ∷ [])
-      ∷ key_index (codes "sqlite_autoindex_stops_1") stops_table (1 ∷ 2 ∷ 3 ∷ [])
-      ∷ key_index (codes "sqlite_autoindex_travel_1") travel_table (1 ∷ 2 ∷ 3 ∷ []) ∷ [];
-  views = [];
-}
+desk_schema = record { tables = tables; indexes = first_indexes ++ chairs_index ∷ []; views = [] }
+
+-- the database has those of the first version, and no others
+unfoldable pub first_schema : Schema
+first_schema = record { tables = first_tables; indexes = first_indexes; views = [] }
 
 -- a database with nothing in it
 abbrev pub no_schema : Schema

@@ -1,5 +1,5 @@
 -- The tables of a database, and the content that they stand for.
-use Rattle.std.specs.Prelude.{◌≡◌, ◌≢◌, List, [], ◌∷◌, drop, map, flat_map, IsTrue, IsPermutation, Result, Ok, Err}
+use Rattle.std.specs.Prelude.{◌≡◌, ◌≢◌, ℕ, false, List, [], ◌∷◌, drop, map, flat_map, IsTrue, IsPermutation, Result, Ok, Err}
 use Rattle.std.specs.List.{AllByRecursion}
 use Rattle.sqlite.specs.declared.error.Error.{Error}
 use Rattle.sqlite.specs.Effect.{Database}
@@ -10,11 +10,28 @@ use Rattle.sqlite.specs.Table.{Table}
 use Rattle.sqlite.specs.Tree.{Trees, IsTable, rowid}
 use Rattle.sqlite.specs.View.{is_int}
 use Rattle.pt_desk_rules.specs.State.{State}
-use Rattle.pt_tables_rows.specs.Rows.{desk_row, caller_row, kept_row, place_row, route_row, vehicle_row, rider_row}
-use Rattle.pt_tables_rows.specs.Rows.{entry_row, trip_row, stop_rows, travel_rows}
+use Rattle.pt_records.specs.Records.{Each}
+use Rattle.pt_tables_rows.specs.Rows.{versioned_row, first_version, table_version, caller_row, kept_row, place_row}
+use Rattle.pt_tables_rows.specs.Rows.{route_row, vehicle_row, rider_row}
+use Rattle.pt_tables_rows.specs.Rows.{entry_row, trip_row, stop_rows, travel_rows, rider_chair_rows, vehicle_chair_rows}
+use Rattle.pt_tables_rows.specs.Rows.{trip_chair_rows}
 use Rattle.pt_tables_rows.specs.Schema.{desk_schema, tables, desk_table, callers_table, kept_table, places_table}
 use Rattle.pt_tables_rows.specs.Schema.{fixed_table, vehicles_table, riders_table, entries_table, trips_table}
-use Rattle.pt_tables_rows.specs.Schema.{stops_table, travel_table}
+use Rattle.pt_tables_rows.specs.Schema.{stops_table, travel_table, first_tables, first_schema, rider_chairs_table}
+use Rattle.pt_tables_rows.specs.Schema.{vehicle_chairs_table, trip_chairs_table}
+
+-- the tables of the first version are there, and have no row
+pub record IsFirstBlank (db : Database) : Type 0 where
+  pub schema : db.schema ≡ first_schema
+  pub rows : AllByRecursion (λ t. db.trees t.tree ≡ []) first_tables
+
+-- beside the tables of the first version, which keep their rows, stand the others, which have none
+pub record AddsChairs (old new : Database) : Type 0 where
+  pub schema : new.schema ≡ desk_schema
+  pub kept : AllByRecursion (λ t. new.trees t.tree ≡ old.trees t.tree) first_tables
+  pub rider_chairs : new.trees rider_chairs_table.tree ≡ []
+  pub vehicle_chairs : new.trees vehicle_chairs_table.tree ≡ []
+  pub trip_chairs : new.trees trip_chairs_table.tree ≡ []
 
 -- the tables are there, and have no row
 pub record IsBlank (db : Database) : Type 0 where
@@ -29,9 +46,9 @@ columns_of table row = drop 1 (shown table row)
 abbrev pub AreRows : Table → Trees → List Row → Type 0
 AreRows table trees rows = IsPermutation (map (columns_of table) (trees table.tree)) rows
 
--- the rows of the tables are those of the content
-pub record HasRows (content : State) (trees : Trees) : Type 0 where
-  pub desk : AreRows desk_table trees (desk_row content.policy content.last_trip ∷ [])
+-- the rows of the tables that each version has are those of the content, in tables of this version
+pub record HasRecords (version : ℕ) (content : State) (trees : Trees) : Type 0 where
+  pub desk : AreRows desk_table trees (versioned_row version content.policy content.last_trip ∷ [])
   pub callers : AreRows callers_table trees (map caller_row content.callers)
   pub kept : AreRows kept_table trees (map kept_row content.kept)
   pub places : AreRows places_table trees (map place_row content.places)
@@ -42,6 +59,24 @@ pub record HasRows (content : State) (trees : Trees) : Type 0 where
   pub trips : AreRows trips_table trees (map trip_row content.trips)
   pub stops : AreRows stops_table trees (flat_map stop_rows content.planned)
   pub travel : AreRows travel_table trees (flat_map travel_rows content.travel)
+
+-- the rows of the tables are those of the content
+pub record HasRows (content : State) (trees : Trees) : Type 0 where
+  pub records : HasRecords table_version content trees
+  pub rider_chairs : AreRows rider_chairs_table trees (flat_map rider_chair_rows content.riders)
+  pub vehicle_chairs : AreRows vehicle_chairs_table trees (flat_map vehicle_chair_rows content.vehicles)
+  pub trip_chairs : AreRows trip_chairs_table trees (flat_map trip_chair_rows content.trips)
+
+-- no rider and no trip is marked, and no vehicle has a wheelchair place
+pub record HasNoChairs (content : State) : Type 0 where
+  pub riders : Each (λ rider. rider.wheelchair ≡ false) content.riders
+  pub vehicles : Each (λ version. version.chairs ≡ 0) content.vehicles
+  pub trips : Each (λ trip. trip.wheelchair ≡ false) content.trips
+
+-- the rows of the tables of the first version are those of the content
+pub record HasFirstRows (content : State) (trees : Trees) : Type 0 where
+  pub records : HasRecords first_version content trees
+  pub no_chairs : HasNoChairs content
 
 -- the rowids are integers that rise
 pub record HaveRowids (rows : List Row) : Type 0 where
@@ -75,6 +110,12 @@ abbrev pub ChangesIfOk : {X : Type 0} → Connected → Connected → (Database 
 ChangesIfOk old new Changes (Ok x) =
     KeepsCommit old new × IsTrue new.in_transaction × (old.now.schema ≡ desk_schema → Changes old.now new.now)
 ChangesIfOk old new Changes (Err e) = KeepsCommit old new
+
+-- Statements of a transaction do so where the tables are those of the first version, and commit nothing.
+abbrev pub AddsIfOk : {X : Type 0} → Connected → Connected → Result X Error → Type 0
+AddsIfOk old new (Ok x) =
+    KeepsCommit old new × IsTrue new.in_transaction × (old.now.schema ≡ first_schema → AddsChairs old.now new.now)
+AddsIfOk old new (Err e) = KeepsCommit old new
 
 -- Statements of a transaction lead from such a database to such a one, and commit nothing, nor do they where they fail.
 abbrev pub LeadsIfOk : {X : Type 0} → Connected → Connected → (Database → Type 0) → (Database → Type 0)

@@ -2,18 +2,21 @@ ghost use Rattle.std.specs.Prelude.{◌≡◌, IsTrue, map};
 ghost use Rattle.sqlite.specs.Held.{state};
 ghost use Rattle.sqlite.specs.State.{HasCleanDisk, Survives};
 ghost use Rattle.pt_tables_rows.specs.Schema.{no_schema};
-ghost use Rattle.pt_tables_rows.specs.Tables.{IsBlank, LeadsIfOk};
+ghost use Rattle.pt_tables_rows.specs.Tables.{AddsIfOk, IsBlank, IsFirstBlank, LeadsIfOk};
 
 use sqlite::{Alter, Error, Transaction};
 
 /// The version of these tables.
-pub const TABLE_VERSION: u32 = 1;
+pub const TABLE_VERSION: u32 = 2;
+
+/// The version of tables with no place for wheelchairs.
+pub const FIRST_VERSION: u32 = 1;
 
 /// The number of the agency's one row.
 pub const DESK: u32 = 1;
 
-/// The statements that make the tables, each after those that it refers to.
-const TABLES: [&str; 11] = [
+/// The statements that make the tables of the first version, each after those that it refers to.
+const FIRST_TABLES: [&str; 11] = [
     "CREATE TABLE desk (id INTEGER PRIMARY KEY, version INTEGER NOT NULL, base INTEGER NOT NULL, \
      transfer INTEGER NOT NULL, fare INTEGER NOT NULL, service INTEGER NOT NULL, \
      extra_ride INTEGER NOT NULL, min_missed INTEGER NOT NULL, percent INTEGER NOT NULL, \
@@ -51,19 +54,65 @@ const TABLES: [&str; 11] = [
      minutes INTEGER NOT NULL, PRIMARY KEY (from_day, a, b)) STRICT",
 ];
 
-/// Makes the tables by their statements, in a database that has none.
-fn create_each<S: Alter>(tx: &mut Transaction<'_, S>, statements: &[&str]) -> Result<(), Error>
-    requires all { map (λ statement. statement.now) statements.now ≡ map (λ statement. statement.now) TABLES }
+/// The statements that make the others, after those.
+const CHAIRS_TABLES: [&str; 3] = [
+    "CREATE TABLE rider_chairs (rider INTEGER PRIMARY KEY REFERENCES riders (id)) STRICT",
+    "CREATE TABLE vehicle_chairs (id INTEGER NOT NULL, from_day INTEGER NOT NULL, \
+     chairs INTEGER NOT NULL, PRIMARY KEY (id, from_day), \
+     FOREIGN KEY (id, from_day) REFERENCES vehicles (id, from_day)) STRICT",
+    "CREATE TABLE trip_chairs (trip INTEGER PRIMARY KEY REFERENCES trips (id)) STRICT",
+];
+
+/// Makes the tables of the first version by their statements, in a database that has none.
+fn create_first<S: Alter>(tx: &mut Transaction<'_, S>, statements: &[&str]) -> Result<(), Error>
+    requires all { map (λ statement. statement.now) statements.now ≡ map (λ statement. statement.now) FIRST_TABLES }
     ensures same_reference { tx.new.conn.ghost_name ≡ tx.old.conn.ghost_name }
     ensures made { HasCleanDisk (state S.Store tx.new.conn.now) → IsTrue (state S.Store tx.old.conn.now).in_transaction
         → LeadsIfOk (state S.Store tx.old.conn.now) (state S.Store tx.new.conn.now)
-        (λ db. db.schema ≡ no_schema) IsBlank result }
+        (λ db. db.schema ≡ no_schema) IsFirstBlank result }
     ensures survives { Survives (state S.Store tx.old.conn.now) (state S.Store tx.new.conn.now) (λ _. ⊥) }
 {
     for statement in statements {
         tx.execute(statement, &[])?;
     }
     Ok(())
+}
+
+/// Makes the other tables by their statements, in a database that has those of the first version.
+fn add_others<S: Alter>(tx: &mut Transaction<'_, S>, statements: &[&str]) -> Result<(), Error>
+    requires all { map (λ statement. statement.now) statements.now ≡ map (λ statement. statement.now) CHAIRS_TABLES }
+    ensures same_reference { tx.new.conn.ghost_name ≡ tx.old.conn.ghost_name }
+    ensures added { HasCleanDisk (state S.Store tx.new.conn.now)
+        → IsTrue (state S.Store tx.old.conn.now).in_transaction
+        → AddsIfOk (state S.Store tx.old.conn.now) (state S.Store tx.new.conn.now) result }
+    ensures survives { Survives (state S.Store tx.old.conn.now) (state S.Store tx.new.conn.now) (λ _. ⊥) }
+{
+    for statement in statements {
+        tx.execute(statement, &[])?;
+    }
+    Ok(())
+}
+
+/// Makes the tables of the first version, in a database that has none.
+pub fn create_first_tables<S: Alter>(tx: &mut Transaction<'_, S>) -> Result<(), Error>
+    ensures same_reference { tx.new.conn.ghost_name ≡ tx.old.conn.ghost_name }
+    ensures made { HasCleanDisk (state S.Store tx.new.conn.now) → IsTrue (state S.Store tx.old.conn.now).in_transaction
+        → LeadsIfOk (state S.Store tx.old.conn.now) (state S.Store tx.new.conn.now)
+        (λ db. db.schema ≡ no_schema) IsFirstBlank result }
+    ensures survives { Survives (state S.Store tx.old.conn.now) (state S.Store tx.new.conn.now) (λ _. ⊥) }
+{
+    create_first(tx, &FIRST_TABLES)
+}
+
+/// Makes the tables of wheelchairs and their places beside those of the first version.
+pub fn add_chairs_tables<S: Alter>(tx: &mut Transaction<'_, S>) -> Result<(), Error>
+    ensures same_reference { tx.new.conn.ghost_name ≡ tx.old.conn.ghost_name }
+    ensures added { HasCleanDisk (state S.Store tx.new.conn.now)
+        → IsTrue (state S.Store tx.old.conn.now).in_transaction
+        → AddsIfOk (state S.Store tx.old.conn.now) (state S.Store tx.new.conn.now) result }
+    ensures survives { Survives (state S.Store tx.old.conn.now) (state S.Store tx.new.conn.now) (λ _. ⊥) }
+{
+    add_others(tx, &CHAIRS_TABLES)
 }
 
 /// Makes the tables, in a database that has none.
@@ -74,5 +123,6 @@ pub fn create_tables<S: Alter>(tx: &mut Transaction<'_, S>) -> Result<(), Error>
         (λ db. db.schema ≡ no_schema) IsBlank result }
     ensures survives { Survives (state S.Store tx.old.conn.now) (state S.Store tx.new.conn.now) (λ _. ⊥) }
 {
-    create_each(tx, &TABLES)
+    create_first_tables(tx)?;
+    add_chairs_tables(tx)
 }

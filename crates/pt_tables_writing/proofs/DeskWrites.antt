@@ -22,16 +22,16 @@ use Rattle.pt_tables_writing.proofs.NumberedWrites.{put_rewrites}
 use Rattle.pt_tables_writing.proofs.UpsertLemmas.{IsUpsert, upserted, only_first}
 
 -- the columns after the number
-abbrev rest : Policy → ℕ → Row
+abbrev pub rest : Policy → ℕ → Row
 rest policy last_trip =
     number_value table_version ∷ number_value policy.base ∷ number_value policy.transfer ∷ number_value policy.fare ∷ number_value policy.service ∷ number_value policy.extra_ride
     ∷ number_value policy.min_missed ∷ number_value policy.percent ∷ number_value policy.span_days ∷ number_value last_trip ∷ []
 
 -- the row as it is stored, its number as its rowid
-abbrev stored : Policy → ℕ → Row
+abbrev pub stored : Policy → ℕ → Row
 stored policy last_trip = number_value 1 ∷ Null ∷ rest policy last_trip
 
-stored_cast : (policy : Policy) (last_trip : ℕ) → cast_row desk_table (stored policy last_trip) ≡ stored policy last_trip
+pub stored_cast : (policy : Policy) (last_trip : ℕ) → cast_row desk_table (stored policy last_trip) ≡ stored policy last_trip
 stored_cast policy last_trip = simp (cast_null, cast_int)
 
 write_text : (policy : Policy) (last_trip : ℕ) → IsUpsert WRITE_DESK.now (desk_row policy last_trip) desk_table (pos 1) (stored policy last_trip)

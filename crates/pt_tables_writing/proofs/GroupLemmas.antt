@@ -5,16 +5,18 @@ use Rattle.sqlite.specs.Effect.{Database}
 use Rattle.pt_base.specs.declared.policy.Policy.{Policy}
 use Rattle.pt_desk_rules.specs.State.{State, caller_key, kept_key, place_key, route_key, rider_key, entry_key, vehicle_key, travel_key, trip_key}
 use Rattle.pt_desk_rules.specs.declared.change.Change.{Change}
-use Rattle.pt_records.specs.Records.{Each, IsInOrder, edited}
+use Rattle.pt_records.specs.Records.{Each, IsInOrder, edited, put_all, take_all}
+use Rattle.pt_records.proofs.TableLemmas.{IsInOrder-take_all}
+use Rattle.pt_tables_writing.proofs.StoredLemmas.{Each-take_all}
 use Rattle.pt_scheduling.specs.Plan.{plan_key}
-use Rattle.pt_tables_writing.specs.Groups.{Leads, with_people, with_area, with_trips}
-use Rattle.pt_tables_rows.specs.Rows.{desk_row, caller_row, kept_row, place_row, route_row, vehicle_row, rider_row, entry_row, trip_row, stop_rows, travel_rows}
-use Rattle.pt_tables_rows.specs.Schema.{desk_schema, desk_table, callers_table, kept_table, places_table, fixed_table, vehicles_table, riders_table, entries_table, trips_table, stops_table, travel_table}
-use Rattle.pt_tables_writing.specs.Stored.{EditsTable}
+use Rattle.pt_tables_writing.specs.Groups.{Leads, WritesFleet, WritesRiders, WritesTrips, with_people, with_area, with_trips}
+use Rattle.pt_tables_rows.specs.Rows.{desk_row, caller_row, kept_row, place_row, route_row, vehicle_row, rider_row, entry_row, trip_row, stop_rows, travel_rows, rider_chair_rows, vehicle_chair_rows, trip_chair_rows}
+use Rattle.pt_tables_rows.specs.Schema.{desk_schema, desk_table, callers_table, kept_table, places_table, fixed_table, vehicles_table, riders_table, entries_table, trips_table, stops_table, travel_table, rider_chairs_table, vehicle_chairs_table, trip_chairs_table}
+use Rattle.pt_tables_writing.specs.Stored.{EditsTable, PutsAll, TakesSpans}
 use Rattle.pt_tables_rows.specs.Tables.{Stands}
 use Rattle.pt_tables_rows.specs.WellFormed.{IsFiled, IsVersion, IsStoredPlan}
 use Rattle.pt_tables_writing.specs.Writes.{Rewrites}
-use Rattle.pt_tables_writing.proofs.PartsLemmas.{HoldAll, parts, parted, whole, desk_turned, callers_turned, kept_turned, places_turned, routes_turned, vehicles_turned, riders_turned, entries_turned, trips_turned, planned_turned, travel_turned}
+use Rattle.pt_tables_writing.proofs.PartsLemmas.{HoldAll, Marks, marks_of, parts, parted, whole, rider_chairs_turned, vehicle_chairs_turned, trip_chairs_turned, desk_turned, callers_turned, kept_turned, places_turned, routes_turned, vehicles_turned, riders_turned, entries_turned, trips_turned, planned_turned, travel_turned}
 
 -- nothing is asked of the records of most tables
 any : {A : Type 0} (xs : List A) → Each (λ _. Unit {0}) xs
@@ -22,14 +24,14 @@ any [] = tt
 any (x ∷ xs) = (tt, any xs)
 
 -- the tables are there, each with its rows
-pub record Are (s : State) (db : Database) : Type 0 where
+pub record Are (s : State) (m : Marks) (db : Database) : Type 0 where
   pub schema : db.schema ≡ desk_schema
-  pub parts : HoldAll db.trees (parts s)
+  pub parts : HoldAll db.trees (parts s m)
 
-are : (s : State) (db : Database) → Stands s db → Are s db
+are : (s : State) (db : Database) → Stands s db → Are s (marks_of s) db
 are s db stands = record { schema = stands.schema; parts = parted s db stands }
 
-stand : (s : State) (db : Database) → Are s db → Stands s db
+stand : (s : State) (db : Database) → Are s (marks_of s) db → Stands s db
 stand s db all = whole s db all.schema all.parts
 
 -- the edit of a table, where the records of that table are those of the content
@@ -63,114 +65,170 @@ Edits-trips change s = EditsTable trips_table trip_key (λ _. Unit {0}) (λ x. t
 abbrev pub Edits-planned : Change → State → Database → Database → Type 0
 Edits-planned change s = EditsTable stops_table plan_key IsStoredPlan stop_rows change.planned s.planned
 
-callers_step : (change : Change) (s : State) (a b : Database) → IsInOrder caller_key s.callers
-    → (a.schema ≡ desk_schema → Edits-callers change s a b) → Are s a → Are (record s { callers = edited caller_key change.callers s.callers }) b
-callers_step change s a b order edit all =
+callers_step : (change : Change) (s : State) (m : Marks) (a b : Database) → IsInOrder caller_key s.callers
+    → (a.schema ≡ desk_schema → Edits-callers change s a b) → Are s m a → Are (record s { callers = edited caller_key change.callers s.callers }) m b
+callers_step change s m a b order edit all =
     let done = edit all.schema (any change.callers.puts) order (any s.callers) in
-    record { schema = done.schema; parts = callers_turned s (edited caller_key change.callers s.callers) a b done all.parts }
+    record { schema = done.schema; parts = callers_turned s m (edited caller_key change.callers s.callers) a b done all.parts }
 
-kept_step : (change : Change) (s : State) (a b : Database) → IsInOrder kept_key s.kept
-    → (a.schema ≡ desk_schema → Edits-kept change s a b) → Are s a → Are (record s { kept = edited kept_key change.kept s.kept }) b
-kept_step change s a b order edit all =
+kept_step : (change : Change) (s : State) (m : Marks) (a b : Database) → IsInOrder kept_key s.kept
+    → (a.schema ≡ desk_schema → Edits-kept change s a b) → Are s m a → Are (record s { kept = edited kept_key change.kept s.kept }) m b
+kept_step change s m a b order edit all =
     let done = edit all.schema (any change.kept.puts) order (any s.kept) in
-    record { schema = done.schema; parts = kept_turned s (edited kept_key change.kept s.kept) a b done all.parts }
+    record { schema = done.schema; parts = kept_turned s m (edited kept_key change.kept s.kept) a b done all.parts }
 
-riders_step : (change : Change) (s : State) (a b : Database) → IsInOrder rider_key s.riders
-    → (a.schema ≡ desk_schema → Edits-riders change s a b) → Are s a → Are (record s { riders = edited rider_key change.riders s.riders }) b
-riders_step change s a b order edit all =
+riders_step : (change : Change) (s : State) (m : Marks) (a b : Database) → IsInOrder rider_key s.riders
+    → (a.schema ≡ desk_schema → Edits-riders change s a b) → Are s m a → Are (record s { riders = edited rider_key change.riders s.riders }) m b
+riders_step change s m a b order edit all =
     let done = edit all.schema (any change.riders.puts) order (any s.riders) in
-    record { schema = done.schema; parts = riders_turned s (edited rider_key change.riders s.riders) a b done all.parts }
+    record { schema = done.schema; parts = riders_turned s m (edited rider_key change.riders s.riders) a b done all.parts }
 
-entries_step : (change : Change) (s : State) (a b : Database) → IsInOrder entry_key s.entries → Each IsFiled s.entries → Each IsFiled change.entries.puts
-    → (a.schema ≡ desk_schema → Edits-entries change s a b) → Are s a → Are (record s { entries = edited entry_key change.entries s.entries }) b
-entries_step change s a b order told puts edit all =
+entries_step : (change : Change) (s : State) (m : Marks) (a b : Database) → IsInOrder entry_key s.entries → Each IsFiled s.entries → Each IsFiled change.entries.puts
+    → (a.schema ≡ desk_schema → Edits-entries change s a b) → Are s m a → Are (record s { entries = edited entry_key change.entries s.entries }) m b
+entries_step change s m a b order told puts edit all =
     let done = edit all.schema puts order told in
-    record { schema = done.schema; parts = entries_turned s (edited entry_key change.entries s.entries) a b done all.parts }
+    record { schema = done.schema; parts = entries_turned s m (edited entry_key change.entries s.entries) a b done all.parts }
 
-places_step : (change : Change) (s : State) (a b : Database) → IsInOrder place_key s.places
-    → (a.schema ≡ desk_schema → Edits-places change s a b) → Are s a → Are (record s { places = edited place_key change.places s.places }) b
-places_step change s a b order edit all =
+places_step : (change : Change) (s : State) (m : Marks) (a b : Database) → IsInOrder place_key s.places
+    → (a.schema ≡ desk_schema → Edits-places change s a b) → Are s m a → Are (record s { places = edited place_key change.places s.places }) m b
+places_step change s m a b order edit all =
     let done = edit all.schema (any change.places.puts) order (any s.places) in
-    record { schema = done.schema; parts = places_turned s (edited place_key change.places s.places) a b done all.parts }
+    record { schema = done.schema; parts = places_turned s m (edited place_key change.places s.places) a b done all.parts }
 
-routes_step : (change : Change) (s : State) (a b : Database) → IsInOrder route_key s.routes
-    → (a.schema ≡ desk_schema → Edits-routes change s a b) → Are s a → Are (record s { routes = edited route_key change.routes s.routes }) b
-routes_step change s a b order edit all =
+routes_step : (change : Change) (s : State) (m : Marks) (a b : Database) → IsInOrder route_key s.routes
+    → (a.schema ≡ desk_schema → Edits-routes change s a b) → Are s m a → Are (record s { routes = edited route_key change.routes s.routes }) m b
+routes_step change s m a b order edit all =
     let done = edit all.schema (any change.routes.puts) order (any s.routes) in
-    record { schema = done.schema; parts = routes_turned s (edited route_key change.routes s.routes) a b done all.parts }
+    record { schema = done.schema; parts = routes_turned s m (edited route_key change.routes s.routes) a b done all.parts }
 
-vehicles_step : (change : Change) (s : State) (a b : Database) → IsInOrder vehicle_key s.vehicles → Each IsVersion s.vehicles → Each IsVersion change.vehicles.puts
-    → (a.schema ≡ desk_schema → Edits-vehicles change s a b) → Are s a → Are (record s { vehicles = edited vehicle_key change.vehicles s.vehicles }) b
-vehicles_step change s a b order told puts edit all =
+vehicles_step : (change : Change) (s : State) (m : Marks) (a b : Database) → IsInOrder vehicle_key s.vehicles → Each IsVersion s.vehicles → Each IsVersion change.vehicles.puts
+    → (a.schema ≡ desk_schema → Edits-vehicles change s a b) → Are s m a → Are (record s { vehicles = edited vehicle_key change.vehicles s.vehicles }) m b
+vehicles_step change s m a b order told puts edit all =
     let done = edit all.schema puts order told in
-    record { schema = done.schema; parts = vehicles_turned s (edited vehicle_key change.vehicles s.vehicles) a b done all.parts }
+    record { schema = done.schema; parts = vehicles_turned s m (edited vehicle_key change.vehicles s.vehicles) a b done all.parts }
 
-travel_step : (change : Change) (s : State) (a b : Database) → IsInOrder travel_key s.travel
-    → (a.schema ≡ desk_schema → Edits-travel change s a b) → Are s a → Are (record s { travel = edited travel_key change.travel s.travel }) b
-travel_step change s a b order edit all =
+travel_step : (change : Change) (s : State) (m : Marks) (a b : Database) → IsInOrder travel_key s.travel
+    → (a.schema ≡ desk_schema → Edits-travel change s a b) → Are s m a → Are (record s { travel = edited travel_key change.travel s.travel }) m b
+travel_step change s m a b order edit all =
     let done = edit all.schema (any change.travel.puts) order (any s.travel) in
-    record { schema = done.schema; parts = travel_turned s (edited travel_key change.travel s.travel) a b done all.parts }
+    record { schema = done.schema; parts = travel_turned s m (edited travel_key change.travel s.travel) a b done all.parts }
 
-trips_step : (change : Change) (s : State) (a b : Database) → IsInOrder trip_key s.trips
-    → (a.schema ≡ desk_schema → Edits-trips change s a b) → Are s a → Are (record s { trips = edited trip_key change.trips s.trips }) b
-trips_step change s a b order edit all =
+trips_step : (change : Change) (s : State) (m : Marks) (a b : Database) → IsInOrder trip_key s.trips
+    → (a.schema ≡ desk_schema → Edits-trips change s a b) → Are s m a → Are (record s { trips = edited trip_key change.trips s.trips }) m b
+trips_step change s m a b order edit all =
     let done = edit all.schema (any change.trips.puts) order (any s.trips) in
-    record { schema = done.schema; parts = trips_turned s (edited trip_key change.trips s.trips) a b done all.parts }
+    record { schema = done.schema; parts = trips_turned s m (edited trip_key change.trips s.trips) a b done all.parts }
 
-planned_step : (change : Change) (s : State) (a b : Database) → IsInOrder plan_key s.planned → Each IsStoredPlan s.planned → Each IsStoredPlan change.planned.puts
-    → (a.schema ≡ desk_schema → Edits-planned change s a b) → Are s a → Are (record s { planned = edited plan_key change.planned s.planned }) b
-planned_step change s a b order told puts edit all =
+planned_step : (change : Change) (s : State) (m : Marks) (a b : Database) → IsInOrder plan_key s.planned → Each IsStoredPlan s.planned → Each IsStoredPlan change.planned.puts
+    → (a.schema ≡ desk_schema → Edits-planned change s a b) → Are s m a → Are (record s { planned = edited plan_key change.planned s.planned }) m b
+planned_step change s m a b order told puts edit all =
     let done = edit all.schema puts order told in
-    record { schema = done.schema; parts = planned_turned s (edited plan_key change.planned s.planned) a b done all.parts }
+    record { schema = done.schema; parts = planned_turned s m (edited plan_key change.planned s.planned) a b done all.parts }
+
+-- the rows of riders, vehicles and trips in their second tables
+abbrev pub Marks-riders : Change → State → Database → Database → Type 0
+Marks-riders change s = EditsTable rider_chairs_table rider_key (λ _. Unit {0}) rider_chair_rows change.riders s.riders
+
+abbrev pub Marks-trips : Change → State → Database → Database → Type 0
+Marks-trips change s = EditsTable trip_chairs_table trip_key (λ _. Unit {0}) trip_chair_rows change.trips s.trips
+
+abbrev pub Unmarks-vehicles : Change → State → Database → Database → Type 0
+Unmarks-vehicles change s = TakesSpans vehicle_chairs_table vehicle_key IsVersion vehicle_chair_rows change.vehicles.away s.vehicles
+
+abbrev pub Marks-vehicles : Change → Database → Database → Type 0
+Marks-vehicles change = PutsAll vehicle_chairs_table vehicle_key IsVersion vehicle_chair_rows change.vehicles.puts
+
+rider_marks_step : (change : Change) (s : State) (m : Marks) (a b : Database) → IsInOrder rider_key m.riders
+    → (a.schema ≡ desk_schema → EditsTable rider_chairs_table rider_key (λ _. Unit {0}) rider_chair_rows change.riders m.riders a b) → Are s m a
+    → Are s (record m { riders = edited rider_key change.riders m.riders }) b
+rider_marks_step change s m a b order edit all =
+    let done = edit all.schema (any change.riders.puts) order (any m.riders) in
+    record { schema = done.schema; parts = rider_chairs_turned s m (edited rider_key change.riders m.riders) a b done all.parts }
+
+trip_marks_step : (change : Change) (s : State) (m : Marks) (a b : Database) → IsInOrder trip_key m.trips
+    → (a.schema ≡ desk_schema → EditsTable trip_chairs_table trip_key (λ _. Unit {0}) trip_chair_rows change.trips m.trips a b) → Are s m a
+    → Are s (record m { trips = edited trip_key change.trips m.trips }) b
+trip_marks_step change s m a b order edit all =
+    let done = edit all.schema (any change.trips.puts) order (any m.trips) in
+    record { schema = done.schema; parts = trip_chairs_turned s m (edited trip_key change.trips m.trips) a b done all.parts }
+
+unmarks_step : (change : Change) (s : State) (m : Marks) (a b : Database) → IsInOrder vehicle_key m.vehicles → Each IsVersion m.vehicles
+    → (a.schema ≡ desk_schema → TakesSpans vehicle_chairs_table vehicle_key IsVersion vehicle_chair_rows change.vehicles.away m.vehicles a b) → Are s m a
+    → Are s (record m { vehicles = take_all vehicle_key change.vehicles.away m.vehicles }) b
+unmarks_step change s m a b order told takes all =
+    let done = takes all.schema order told in
+    record { schema = done.schema; parts = vehicle_chairs_turned s m (take_all vehicle_key change.vehicles.away m.vehicles) a b done all.parts }
+
+vehicle_marks_step : (change : Change) (s : State) (m : Marks) (a b : Database) → IsInOrder vehicle_key m.vehicles → Each IsVersion m.vehicles → Each IsVersion change.vehicles.puts
+    → (a.schema ≡ desk_schema → Marks-vehicles change a b) → Are s m a → Are s (record m { vehicles = put_all vehicle_key change.vehicles.puts m.vehicles }) b
+vehicle_marks_step change s m a b order told puts puts_all all =
+    let done = puts_all all.schema puts m.vehicles order told in
+    record { schema = done.schema; parts = vehicle_chairs_turned s m (put_all vehicle_key change.vehicles.puts m.vehicles) a b done all.parts }
 
 pub people_lead : (change : Change) (content : State) (a b c d e : Database)
     → (a.schema ≡ desk_schema → Edits-callers change content a b)
     → (b.schema ≡ desk_schema → Edits-kept change content b c)
-    → (c.schema ≡ desk_schema → Edits-riders change content c d)
+    → (c.schema ≡ desk_schema → WritesRiders change content c d)
     → (d.schema ≡ desk_schema → Edits-entries change content d e)
     → Leads change content content (with_people change content) a e
 people_lead change content a b c d e one two three four told puts stands =
     let s = content in
-    let all_1 = callers_step change s a b told.callers one (are s a stands) in
+    let m = marks_of content in
+    let all_1 = callers_step change s m a b told.callers one (are s a stands) in
     let s1 : State = record s { callers = edited caller_key change.callers s.callers } in
-    let all_2 = kept_step change s1 b c told.kept two all_1 in
+    let all_2 = kept_step change s1 m b c told.kept two all_1 in
     let s2 : State = record s1 { kept = edited kept_key change.kept s1.kept } in
-    let all_3 = riders_step change s2 c d told.riders three all_2 in
+    let both = three all_2.schema in
+    let all_3 = riders_step change s2 m c both.0 told.riders (λ _. both.1) all_2 in
     let s3 : State = record s2 { riders = edited rider_key change.riders s2.riders } in
-    let all_4 = entries_step change s3 d e told.entries told.filed puts.filed four all_3 in
-    stand (with_people change s) e all_4
+    let all_4 = rider_marks_step change s3 m both.0 d told.riders both.2 all_3 in
+    let n : Marks = record m { riders = edited rider_key change.riders m.riders } in
+    let all_5 = entries_step change s3 n d e told.entries told.filed puts.filed four all_4 in
+    stand (with_people change s) e all_5
 
 pub area_leads : (change : Change) (content : State) (a b c d e : Database)
     → (a.schema ≡ desk_schema → Edits-places change content a b)
     → (b.schema ≡ desk_schema → Edits-routes change content b c)
-    → (c.schema ≡ desk_schema → Edits-vehicles change content c d)
+    → (c.schema ≡ desk_schema → WritesFleet change content c d)
     → (d.schema ≡ desk_schema → Edits-travel change content d e)
     → Leads change content (with_people change content) (with_area change (with_people change content)) a e
 area_leads change content a b c d e one two three four told puts stands =
     let s = with_people change content in
-    let all_1 = places_step change s a b told.places one (are s a stands) in
+    let m = marks_of s in
+    let all_1 = places_step change s m a b told.places one (are s a stands) in
     let s1 : State = record s { places = edited place_key change.places s.places } in
-    let all_2 = routes_step change s1 b c told.routes two all_1 in
+    let all_2 = routes_step change s1 m b c told.routes two all_1 in
     let s2 : State = record s1 { routes = edited route_key change.routes s1.routes } in
-    let all_3 = vehicles_step change s2 c d told.vehicles told.versions puts.versions three all_2 in
+    let first = three all_2.schema in
+    let all_3 = unmarks_step change s2 m c first.0 told.vehicles told.versions (λ _. first.1) all_2 in
+    let left : Marks = record m { vehicles = take_all vehicle_key change.vehicles.away m.vehicles } in
+    let rest = first.2 all_3.schema in
+    let all_4 = vehicles_step change s2 left first.0 rest.0 told.vehicles told.versions puts.versions (λ _. rest.1) all_3 in
     let s3 : State = record s2 { vehicles = edited vehicle_key change.vehicles s2.vehicles } in
-    let all_4 = travel_step change s3 d e told.travel four all_3 in
-    stand (with_area change s) e all_4
+    let all_5 = vehicle_marks_step change s3 left rest.0 d (IsInOrder-take_all vehicle_key change.vehicles.away m.vehicles told.vehicles)
+    (Each-take_all IsVersion vehicle_key change.vehicles.away m.vehicles told.versions) puts.versions rest.2 all_4 in
+    let n : Marks = record m { vehicles = edited vehicle_key change.vehicles m.vehicles } in
+    let all_6 = travel_step change s3 n d e told.travel four all_5 in
+    stand (with_area change s) e all_6
 
 pub trips_lead : (change : Change) (content : State) (a b c d : Database)
-    → (a.schema ≡ desk_schema → Edits-trips change content a b)
+    → (a.schema ≡ desk_schema → WritesTrips change content a b)
     → (b.schema ≡ desk_schema → Edits-planned change content b c)
     → (c.schema ≡ desk_schema → (p : Policy) (n : ℕ) → Rewrites desk_table (desk_row p n ∷ [])
     (desk_row (unwrap_or change.policy content.policy) (unwrap_or change.last_trip content.last_trip) ∷ []) c d)
     → Leads change content (with_area change (with_people change content)) (with_trips change (with_area change (with_people change content))) a d
 trips_lead change content a b c d one two three told puts stands =
     let s = with_area change (with_people change content) in
-    let all_1 = trips_step change s a b told.trips one (are s a stands) in
+    let m = marks_of s in
+    let both = one stands.schema in
+    let all_1 = trips_step change s m a both.0 told.trips (λ _. both.1) (are s a stands) in
     let s1 : State = record s { trips = edited trip_key change.trips s.trips } in
-    let all_2 = planned_step change s1 b c told.planned told.stops puts.stops two all_1 in
+    let all_2 = trip_marks_step change s1 m both.0 b told.trips both.2 all_1 in
+    let n : Marks = record m { trips = edited trip_key change.trips m.trips } in
+    let all_3 = planned_step change s1 n b c told.planned told.stops puts.stops two all_2 in
     let s2 : State = record s1 { planned = edited plan_key change.planned s1.planned } in
-    let done = three all_2.schema content.policy content.last_trip in
+    let done = three all_3.schema content.policy content.last_trip in
     stand (with_trips change s) d (record {
       schema = done.schema;
-      parts = desk_turned s2 (unwrap_or change.policy content.policy) (unwrap_or change.last_trip content.last_trip) c d done all_2.parts;
+      parts = desk_turned s2 n (unwrap_or change.policy content.policy) (unwrap_or change.last_trip content.last_trip) c d done all_3.parts;
     })

@@ -1,6 +1,7 @@
 pub mod AppendLemmas
 pub mod CallerWrites
 pub mod CastLemmas
+pub mod ChairWrites
 pub mod ChangeLemmas
 pub mod CommitLemmas
 pub mod DeleteLemmas
@@ -16,6 +17,7 @@ pub mod NumberedLemmas
 pub mod NumberedWrites
 pub mod PartsLemmas
 pub mod PlaceWrites
+pub mod RaiseWrites
 pub mod RecordRows
 pub mod RemovalLemmas
 pub mod RiderWrites

@@ -132,7 +132,7 @@ is_eq_cmp : (a b : ℕ) → is_eq (nat_cmp a b) ≡ (a == b)
 is_eq_cmp a b = grind (arith, nat_tests)
 
 module _ {A : Type 0} (key : A → ℕ) (row : A → Row) (keyed : (x : A) → rowid (row x) ≡ Int (pos (key x))) where
-  row_test : (k : ℕ) (x : A) → has_rowid (pos k) (row x) ≡ (key x == k)
+  pub row_test : (k : ℕ) (x : A) → has_rowid (pos k) (row x) ≡ (key x == k)
   row_test k x = ap (λ v. is_eq (value_cmp v (Int (pos k)))) (keyed x) ∙ ap is_eq (value_cmp-Int (pos (key x)) (pos k) ∙ int_cmp-pos (key x) k) ∙ is_eq_cmp (key x) k
 
   -- the rows without the number are the rows of the records without it

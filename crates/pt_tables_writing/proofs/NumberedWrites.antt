@@ -21,10 +21,10 @@ use Rattle.pt_tables_writing.proofs.UpsertLemmas.{HasNumbers, PutsIn, PutsNumber
 abbrev pub IsNumbered : Table → Type 0
 IsNumbered table = (r : Row) → rowid (columns_of table r) ≡ rowid r
 
-rising-without : (id : ℤ) (tree : List Row) → IsTable tree → IsTable (without_rowid id tree)
+pub rising-without : (id : ℤ) (tree : List Row) → IsTable tree → IsTable (without_rowid id tree)
 rising-without id tree = ascending-filter _ (λ r. not (has_rowid id r)) tree
 
-numbers-without : (id : ℤ) (tree : List Row) → HasNumbers tree → HasNumbers (without_rowid id tree)
+pub numbers-without : (id : ℤ) (tree : List Row) → HasNumbers tree → HasNumbers (without_rowid id tree)
 numbers-without id tree = all-filter (λ r. is_int (rowid r) ≡ true) (λ r. not (has_rowid id r)) tree
 
 module _ (table : Table) (numbered : IsNumbered table) where

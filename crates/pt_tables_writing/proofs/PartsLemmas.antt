@@ -23,8 +23,8 @@ use Rattle.pt_desk_rules.specs.declared.change.FiledEntry.{FiledEntry}
 use Rattle.pt_desk_rules.specs.declared.kept.Kept.{Kept}
 use Rattle.pt_requests.specs.declared.caller.Caller.{Caller}
 use Rattle.pt_scheduling.specs.Plan.{Plan}
-use Rattle.pt_tables_rows.specs.Rows.{desk_row, caller_row, kept_row, place_row, route_row, vehicle_row, rider_row, entry_row, trip_row, stop_rows, travel_rows}
-use Rattle.pt_tables_rows.specs.Schema.{desk_schema, tables, desk_table, callers_table, kept_table, places_table, fixed_table, vehicles_table, riders_table, entries_table, trips_table, stops_table, travel_table}
+use Rattle.pt_tables_rows.specs.Rows.{desk_row, caller_row, kept_row, place_row, route_row, vehicle_row, rider_row, entry_row, trip_row, stop_rows, travel_rows, rider_chair_rows, vehicle_chair_rows, trip_chair_rows}
+use Rattle.pt_tables_rows.specs.Schema.{desk_schema, desk_table, callers_table, kept_table, places_table, fixed_table, vehicles_table, riders_table, entries_table, trips_table, stops_table, travel_table, rider_chairs_table, vehicle_chairs_table, trip_chairs_table}
 use Rattle.pt_tables_rows.specs.Tables.{AreRows, HaveRowids, Stands, columns_of}
 use Rattle.pt_tables_writing.specs.Writes.{Holds, Rewrites}
 
@@ -37,9 +37,18 @@ pub record Part : Type 0 where
 abbrev pub each_row : {A : Type 0} → (A → Row) → List A → List Row
 each_row row = flat_map (λ x. row x ∷ [])
 
--- the parts of a content, in the order of the tables
-abbrev pub parts : State → List Part
-parts s =
+-- the records that may have rows in a second table, which is written before or after their own
+pub record Marks : Type 0 where
+  pub riders : List Rider
+  pub vehicles : List Vehicle
+  pub trips : List Trip
+
+abbrev pub marks_of : State → Marks
+marks_of s = record { riders = s.riders; vehicles = s.vehicles; trips = s.trips }
+
+-- the parts of a content, in the order of the tables, with the rows of these records in the last three
+abbrev pub parts : State → Marks → List Part
+parts s m =
     record { table = desk_table; rows = desk_row s.policy s.last_trip ∷ [] }
     ∷ record { table = callers_table; rows = each_row caller_row s.callers }
     ∷ record { table = kept_table; rows = each_row kept_row s.kept }
@@ -50,7 +59,10 @@ parts s =
     ∷ record { table = entries_table; rows = each_row entry_row s.entries }
     ∷ record { table = trips_table; rows = each_row trip_row s.trips }
     ∷ record { table = stops_table; rows = flat_map stop_rows s.planned }
-    ∷ record { table = travel_table; rows = flat_map travel_rows s.travel } ∷ []
+    ∷ record { table = travel_table; rows = flat_map travel_rows s.travel }
+    ∷ record { table = rider_chairs_table; rows = flat_map rider_chair_rows m.riders }
+    ∷ record { table = vehicle_chairs_table; rows = flat_map vehicle_chair_rows m.vehicles }
+    ∷ record { table = trip_chairs_table; rows = flat_map trip_chair_rows m.trips } ∷ []
 
 -- each table has its rows
 abbrev pub HoldAll : Trees → List Part → Type 0
@@ -70,9 +82,10 @@ holds t rows trees are ids = record { rows = are; rising = ids.rising; whole = i
 rowids : (t : Table) (rows : List Row) (trees : Trees) → Holds t rows trees → HaveRowids (trees t.tree)
 rowids t rows trees held = record { rising = held.rising; whole = held.whole }
 
-pub parted : (s : State) (db : Database) → Stands s db → HoldAll db.trees (parts s)
+pub parted : (s : State) (db : Database) → Stands s db → HoldAll db.trees (parts s (marks_of s))
 parted s db h =
-    let r = h.rows in
+    let all = h.rows in
+    let r = all.records in
     let up = h.rowids in
     let trees = db.trees in (
       holds desk_table (desk_row s.policy s.last_trip ∷ []) trees r.desk up.0,
@@ -96,7 +109,13 @@ parted s db h =
                         holds stops_table (flat_map stop_rows s.planned) trees r.stops up.1.1.1.1.1.1.1.1.1.0,
                         (
                           holds travel_table (flat_map travel_rows s.travel) trees r.travel up.1.1.1.1.1.1.1.1.1.1.0,
-                          tt,
+                          (
+                            holds rider_chairs_table (flat_map rider_chair_rows s.riders) trees all.rider_chairs up.1.1.1.1.1.1.1.1.1.1.1.0,
+                            (
+                              holds vehicle_chairs_table (flat_map vehicle_chair_rows s.vehicles) trees all.vehicle_chairs up.1.1.1.1.1.1.1.1.1.1.1.1.0,
+                              (holds trip_chairs_table (flat_map trip_chair_rows s.trips) trees all.trip_chairs up.1.1.1.1.1.1.1.1.1.1.1.1.1.0, tt),
+                            ),
+                          ),
                         ),
                       ),
                     ),
@@ -109,23 +128,28 @@ parted s db h =
       ),
     )
 
-pub whole : (s : State) (db : Database) → db.schema ≡ desk_schema → HoldAll db.trees (parts s) → Stands s db
+pub whole : (s : State) (db : Database) → db.schema ≡ desk_schema → HoldAll db.trees (parts s (marks_of s)) → Stands s db
 whole s db has h =
     let trees = db.trees in
     record {
       schema = has;
       rows = record {
-        desk = h.0.rows;
-        callers = as_map callers_table caller_row s.callers trees h.1.0.rows;
-        kept = as_map kept_table kept_row s.kept trees h.1.1.0.rows;
-        places = as_map places_table place_row s.places trees h.1.1.1.0.rows;
-        fixed = as_map fixed_table route_row s.routes trees h.1.1.1.1.0.rows;
-        vehicles = as_map vehicles_table vehicle_row s.vehicles trees h.1.1.1.1.1.0.rows;
-        riders = as_map riders_table rider_row s.riders trees h.1.1.1.1.1.1.0.rows;
-        entries = as_map entries_table entry_row s.entries trees h.1.1.1.1.1.1.1.0.rows;
-        trips = as_map trips_table trip_row s.trips trees h.1.1.1.1.1.1.1.1.0.rows;
-        stops = h.1.1.1.1.1.1.1.1.1.0.rows;
-        travel = h.1.1.1.1.1.1.1.1.1.1.0.rows;
+        records = record {
+          desk = h.0.rows;
+          callers = as_map callers_table caller_row s.callers trees h.1.0.rows;
+          kept = as_map kept_table kept_row s.kept trees h.1.1.0.rows;
+          places = as_map places_table place_row s.places trees h.1.1.1.0.rows;
+          fixed = as_map fixed_table route_row s.routes trees h.1.1.1.1.0.rows;
+          vehicles = as_map vehicles_table vehicle_row s.vehicles trees h.1.1.1.1.1.0.rows;
+          riders = as_map riders_table rider_row s.riders trees h.1.1.1.1.1.1.0.rows;
+          entries = as_map entries_table entry_row s.entries trees h.1.1.1.1.1.1.1.0.rows;
+          trips = as_map trips_table trip_row s.trips trees h.1.1.1.1.1.1.1.1.0.rows;
+          stops = h.1.1.1.1.1.1.1.1.1.0.rows;
+          travel = h.1.1.1.1.1.1.1.1.1.1.0.rows;
+        };
+        rider_chairs = h.1.1.1.1.1.1.1.1.1.1.1.0.rows;
+        vehicle_chairs = h.1.1.1.1.1.1.1.1.1.1.1.1.0.rows;
+        trip_chairs = h.1.1.1.1.1.1.1.1.1.1.1.1.1.0.rows;
       };
       rowids = (
         rowids desk_table (desk_row s.policy s.last_trip ∷ []) trees h.0,
@@ -149,7 +173,13 @@ whole s db has h =
                           rowids stops_table (flat_map stop_rows s.planned) trees h.1.1.1.1.1.1.1.1.1.0,
                           (
                             rowids travel_table (flat_map travel_rows s.travel) trees h.1.1.1.1.1.1.1.1.1.1.0,
-                            tt,
+                            (
+                              rowids rider_chairs_table (flat_map rider_chair_rows s.riders) trees h.1.1.1.1.1.1.1.1.1.1.1.0,
+                              (
+                                rowids vehicle_chairs_table (flat_map vehicle_chair_rows s.vehicles) trees h.1.1.1.1.1.1.1.1.1.1.1.1.0,
+                                (rowids trip_chairs_table (flat_map trip_chair_rows s.trips) trees h.1.1.1.1.1.1.1.1.1.1.1.1.1.0, tt),
+                              ),
+                            ),
                           ),
                         ),
                       ),
@@ -217,59 +247,74 @@ module _ (t : Table) (before after : List Row) (a b : Database) (change : Rewrit
       (still_all front (all_front IsOther front (one ∷ back) others) apart (all_front P front (one ∷ back) held))
       (change.rows rest.0, still_all back rest_others.1 apart_back rest.1)
 
-pub desk_turned : (s : State) (policy : Policy) (last_trip : ℕ) (a b : Database)
-    → Rewrites desk_table (desk_row s.policy s.last_trip ∷ []) (desk_row policy last_trip ∷ []) a b → HoldAll a.trees (parts s)
-    → HoldAll b.trees (parts (record s { policy = policy; last_trip = last_trip }))
-desk_turned s policy last_trip a b change held =
+pub desk_turned : (s : State) (m : Marks) (policy : Policy) (last_trip : ℕ) (a b : Database)
+    → Rewrites desk_table (desk_row s.policy s.last_trip ∷ []) (desk_row policy last_trip ∷ []) a b → HoldAll a.trees (parts s m)
+    → HoldAll b.trees (parts (record s { policy = policy; last_trip = last_trip }) m)
+desk_turned s m policy last_trip a b change held =
     turned desk_table (desk_row s.policy s.last_trip ∷ []) (desk_row policy last_trip ∷ []) a b change
-    [] (drop 1 (parts s)) refl refl change.others held
+    [] (drop 1 (parts s m)) refl refl change.others held
 
-pub callers_turned : (s : State) (new : List Caller) (a b : Database) → Rewrites callers_table (each_row caller_row s.callers) (each_row caller_row new) a b
-    → HoldAll a.trees (parts s) → HoldAll b.trees (parts (record s { callers = new }))
-callers_turned s new a b change held =
-    turned callers_table (each_row caller_row s.callers) (each_row caller_row new) a b change (take 1 (parts s)) (drop 2 (parts s)) refl refl change.others held
+pub callers_turned : (s : State) (m : Marks) (new : List Caller) (a b : Database) → Rewrites callers_table (each_row caller_row s.callers) (each_row caller_row new) a b
+    → HoldAll a.trees (parts s m) → HoldAll b.trees (parts (record s { callers = new }) m)
+callers_turned s m new a b change held =
+    turned callers_table (each_row caller_row s.callers) (each_row caller_row new) a b change (take 1 (parts s m)) (drop 2 (parts s m)) refl refl change.others held
 
-pub kept_turned : (s : State) (new : List Kept) (a b : Database) → Rewrites kept_table (each_row kept_row s.kept) (each_row kept_row new) a b
-    → HoldAll a.trees (parts s) → HoldAll b.trees (parts (record s { kept = new }))
-kept_turned s new a b change held =
-    turned kept_table (each_row kept_row s.kept) (each_row kept_row new) a b change (take 2 (parts s)) (drop 3 (parts s)) refl refl change.others held
+pub kept_turned : (s : State) (m : Marks) (new : List Kept) (a b : Database) → Rewrites kept_table (each_row kept_row s.kept) (each_row kept_row new) a b
+    → HoldAll a.trees (parts s m) → HoldAll b.trees (parts (record s { kept = new }) m)
+kept_turned s m new a b change held =
+    turned kept_table (each_row kept_row s.kept) (each_row kept_row new) a b change (take 2 (parts s m)) (drop 3 (parts s m)) refl refl change.others held
 
-pub places_turned : (s : State) (new : List Place) (a b : Database) → Rewrites places_table (each_row place_row s.places) (each_row place_row new) a b
-    → HoldAll a.trees (parts s) → HoldAll b.trees (parts (record s { places = new }))
-places_turned s new a b change held =
-    turned places_table (each_row place_row s.places) (each_row place_row new) a b change (take 3 (parts s)) (drop 4 (parts s)) refl refl change.others held
+pub places_turned : (s : State) (m : Marks) (new : List Place) (a b : Database) → Rewrites places_table (each_row place_row s.places) (each_row place_row new) a b
+    → HoldAll a.trees (parts s m) → HoldAll b.trees (parts (record s { places = new }) m)
+places_turned s m new a b change held =
+    turned places_table (each_row place_row s.places) (each_row place_row new) a b change (take 3 (parts s m)) (drop 4 (parts s m)) refl refl change.others held
 
-pub routes_turned : (s : State) (new : List Route) (a b : Database) → Rewrites fixed_table (each_row route_row s.routes) (each_row route_row new) a b
-    → HoldAll a.trees (parts s) → HoldAll b.trees (parts (record s { routes = new }))
-routes_turned s new a b change held =
-    turned fixed_table (each_row route_row s.routes) (each_row route_row new) a b change (take 4 (parts s)) (drop 5 (parts s)) refl refl change.others held
+pub routes_turned : (s : State) (m : Marks) (new : List Route) (a b : Database) → Rewrites fixed_table (each_row route_row s.routes) (each_row route_row new) a b
+    → HoldAll a.trees (parts s m) → HoldAll b.trees (parts (record s { routes = new }) m)
+routes_turned s m new a b change held =
+    turned fixed_table (each_row route_row s.routes) (each_row route_row new) a b change (take 4 (parts s m)) (drop 5 (parts s m)) refl refl change.others held
 
-pub vehicles_turned : (s : State) (new : List Vehicle) (a b : Database) → Rewrites vehicles_table (each_row vehicle_row s.vehicles) (each_row vehicle_row new) a b
-    → HoldAll a.trees (parts s) → HoldAll b.trees (parts (record s { vehicles = new }))
-vehicles_turned s new a b change held =
-    turned vehicles_table (each_row vehicle_row s.vehicles) (each_row vehicle_row new) a b change (take 5 (parts s)) (drop 6 (parts s)) refl refl change.others held
+pub vehicles_turned : (s : State) (m : Marks) (new : List Vehicle) (a b : Database) → Rewrites vehicles_table (each_row vehicle_row s.vehicles) (each_row vehicle_row new) a b
+    → HoldAll a.trees (parts s m) → HoldAll b.trees (parts (record s { vehicles = new }) m)
+vehicles_turned s m new a b change held =
+    turned vehicles_table (each_row vehicle_row s.vehicles) (each_row vehicle_row new) a b change (take 5 (parts s m)) (drop 6 (parts s m)) refl refl change.others held
 
-pub riders_turned : (s : State) (new : List Rider) (a b : Database) → Rewrites riders_table (each_row rider_row s.riders) (each_row rider_row new) a b
-    → HoldAll a.trees (parts s) → HoldAll b.trees (parts (record s { riders = new }))
-riders_turned s new a b change held =
-    turned riders_table (each_row rider_row s.riders) (each_row rider_row new) a b change (take 6 (parts s)) (drop 7 (parts s)) refl refl change.others held
+pub riders_turned : (s : State) (m : Marks) (new : List Rider) (a b : Database) → Rewrites riders_table (each_row rider_row s.riders) (each_row rider_row new) a b
+    → HoldAll a.trees (parts s m) → HoldAll b.trees (parts (record s { riders = new }) m)
+riders_turned s m new a b change held =
+    turned riders_table (each_row rider_row s.riders) (each_row rider_row new) a b change (take 6 (parts s m)) (drop 7 (parts s m)) refl refl change.others held
 
-pub entries_turned : (s : State) (new : List FiledEntry) (a b : Database) → Rewrites entries_table (each_row entry_row s.entries) (each_row entry_row new) a b
-    → HoldAll a.trees (parts s) → HoldAll b.trees (parts (record s { entries = new }))
-entries_turned s new a b change held =
-    turned entries_table (each_row entry_row s.entries) (each_row entry_row new) a b change (take 7 (parts s)) (drop 8 (parts s)) refl refl change.others held
+pub entries_turned : (s : State) (m : Marks) (new : List FiledEntry) (a b : Database) → Rewrites entries_table (each_row entry_row s.entries) (each_row entry_row new) a b
+    → HoldAll a.trees (parts s m) → HoldAll b.trees (parts (record s { entries = new }) m)
+entries_turned s m new a b change held =
+    turned entries_table (each_row entry_row s.entries) (each_row entry_row new) a b change (take 7 (parts s m)) (drop 8 (parts s m)) refl refl change.others held
 
-pub trips_turned : (s : State) (new : List Trip) (a b : Database) → Rewrites trips_table (each_row trip_row s.trips) (each_row trip_row new) a b
-    → HoldAll a.trees (parts s) → HoldAll b.trees (parts (record s { trips = new }))
-trips_turned s new a b change held =
-    turned trips_table (each_row trip_row s.trips) (each_row trip_row new) a b change (take 8 (parts s)) (drop 9 (parts s)) refl refl change.others held
+pub trips_turned : (s : State) (m : Marks) (new : List Trip) (a b : Database) → Rewrites trips_table (each_row trip_row s.trips) (each_row trip_row new) a b
+    → HoldAll a.trees (parts s m) → HoldAll b.trees (parts (record s { trips = new }) m)
+trips_turned s m new a b change held =
+    turned trips_table (each_row trip_row s.trips) (each_row trip_row new) a b change (take 8 (parts s m)) (drop 9 (parts s m)) refl refl change.others held
 
-pub planned_turned : (s : State) (new : List Plan) (a b : Database) → Rewrites stops_table (flat_map stop_rows s.planned) (flat_map stop_rows new) a b
-    → HoldAll a.trees (parts s) → HoldAll b.trees (parts (record s { planned = new }))
-planned_turned s new a b change held =
-    turned stops_table (flat_map stop_rows s.planned) (flat_map stop_rows new) a b change (take 9 (parts s)) (drop 10 (parts s)) refl refl change.others held
+pub planned_turned : (s : State) (m : Marks) (new : List Plan) (a b : Database) → Rewrites stops_table (flat_map stop_rows s.planned) (flat_map stop_rows new) a b
+    → HoldAll a.trees (parts s m) → HoldAll b.trees (parts (record s { planned = new }) m)
+planned_turned s m new a b change held =
+    turned stops_table (flat_map stop_rows s.planned) (flat_map stop_rows new) a b change (take 9 (parts s m)) (drop 10 (parts s m)) refl refl change.others held
 
-pub travel_turned : (s : State) (new : List DatedTable) (a b : Database) → Rewrites travel_table (flat_map travel_rows s.travel) (flat_map travel_rows new) a b
-    → HoldAll a.trees (parts s) → HoldAll b.trees (parts (record s { travel = new }))
-travel_turned s new a b change held =
-    turned travel_table (flat_map travel_rows s.travel) (flat_map travel_rows new) a b change (take 10 (parts s)) (drop 11 (parts s)) refl refl change.others held
+pub travel_turned : (s : State) (m : Marks) (new : List DatedTable) (a b : Database) → Rewrites travel_table (flat_map travel_rows s.travel) (flat_map travel_rows new) a b
+    → HoldAll a.trees (parts s m) → HoldAll b.trees (parts (record s { travel = new }) m)
+travel_turned s m new a b change held =
+    turned travel_table (flat_map travel_rows s.travel) (flat_map travel_rows new) a b change (take 10 (parts s m)) (drop 11 (parts s m)) refl refl change.others held
+
+pub rider_chairs_turned : (s : State) (m : Marks) (new : List Rider) (a b : Database) → Rewrites rider_chairs_table (flat_map rider_chair_rows m.riders) (flat_map rider_chair_rows new) a b
+    → HoldAll a.trees (parts s m) → HoldAll b.trees (parts s (record m { riders = new }))
+rider_chairs_turned s m new a b change held =
+    turned rider_chairs_table (flat_map rider_chair_rows m.riders) (flat_map rider_chair_rows new) a b change (take 11 (parts s m)) (drop 12 (parts s m)) refl refl change.others held
+
+pub vehicle_chairs_turned : (s : State) (m : Marks) (new : List Vehicle) (a b : Database) → Rewrites vehicle_chairs_table (flat_map vehicle_chair_rows m.vehicles) (flat_map vehicle_chair_rows new) a b
+    → HoldAll a.trees (parts s m) → HoldAll b.trees (parts s (record m { vehicles = new }))
+vehicle_chairs_turned s m new a b change held =
+    turned vehicle_chairs_table (flat_map vehicle_chair_rows m.vehicles) (flat_map vehicle_chair_rows new) a b change (take 12 (parts s m)) (drop 13 (parts s m)) refl refl change.others held
+
+pub trip_chairs_turned : (s : State) (m : Marks) (new : List Trip) (a b : Database) → Rewrites trip_chairs_table (flat_map trip_chair_rows m.trips) (flat_map trip_chair_rows new) a b
+    → HoldAll a.trees (parts s m) → HoldAll b.trees (parts s (record m { trips = new }))
+trip_chairs_turned s m new a b change held =
+    turned trip_chairs_table (flat_map trip_chair_rows m.trips) (flat_map trip_chair_rows new) a b change (take 13 (parts s m)) (drop 14 (parts s m)) refl refl change.others held

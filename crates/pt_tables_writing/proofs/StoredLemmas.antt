@@ -1,5 +1,5 @@
 -- What puts and takes of records make of one table, one after the other.
-use Rattle.std.proofs.Common.{◌≡◌, ◌+◌, ◌++◌, ℕ, Bool, true, false, not, cond, List, [], ◌∷◌, flat_map, filter, refl, sym, ap, subst, ◌∙◌}
+use Rattle.std.proofs.Common.{◌≡◌, ◌++◌, ℕ, Bool, true, false, not, cond, List, [], ◌∷◌, flat_map, filter, refl, sym, ap, subst, ◌∙◌}
 use Rattle.std.specs.Prelude.{◌==◌, ◌||◌}
 use Rattle.std.proofs.lemmas.Bool.Decides.{nat_tests}
 use Rattle.std.proofs.Common.{arith}
@@ -61,7 +61,7 @@ take_all-push : {A : Type 0} (key : A → ℕ) (done : List Span) (span : Span) 
 take_all-push key [] span xs = refl
 take_all-push key (s ∷ done) span xs = take_all-push key done span (take_away key s xs)
 
-Each-take_all : {A : Type 0} (P : A → Type 0) (key : A → ℕ) (spans : List Span) (xs : List A) → Each P xs
+pub Each-take_all : {A : Type 0} (P : A → Type 0) (key : A → ℕ) (spans : List Span) (xs : List A) → Each P xs
     → Each P (take_all key spans xs)
 Each-take_all P key [] xs each = each
 Each-take_all P key (s ∷ spans) xs each =

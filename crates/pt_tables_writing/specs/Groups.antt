@@ -1,4 +1,5 @@
 -- What a change makes of a content, some tables at a time.
+use Rattle.std.specs.Prelude.{◌≡◌, [], ◌∷◌}
 use Rattle.std.specs.Option.{unwrap_or}
 use Rattle.sqlite.specs.Effect.{Database}
 use Rattle.pt_desk_rules.specs.State.{State, caller_key, kept_key, place_key, route_key, rider_key, entry_key}
@@ -6,8 +7,13 @@ use Rattle.pt_desk_rules.specs.State.{vehicle_key, travel_key, trip_key}
 use Rattle.pt_desk_rules.specs.declared.change.Change.{Change}
 use Rattle.pt_records.specs.Records.{edited}
 use Rattle.pt_scheduling.specs.Plan.{plan_key}
+use Rattle.pt_tables_rows.specs.Rows.{rider_row, trip_row, vehicle_row, rider_chair_rows, trip_chair_rows}
+use Rattle.pt_tables_rows.specs.Rows.{vehicle_chair_rows}
+use Rattle.pt_tables_rows.specs.Schema.{desk_schema, riders_table, trips_table, vehicles_table, rider_chairs_table}
+use Rattle.pt_tables_rows.specs.Schema.{trip_chairs_table, vehicle_chairs_table}
 use Rattle.pt_tables_rows.specs.Tables.{Stands}
-use Rattle.pt_tables_rows.specs.WellFormed.{IsWellFormed, PutsWellFormed}
+use Rattle.pt_tables_rows.specs.WellFormed.{IsVersion, IsWellFormed, PutsWellFormed}
+use Rattle.pt_tables_writing.specs.Stored.{EditsTable, PutsAll, TakesSpans}
 
 -- callers and what is kept for them, riders and what was entered on them
 abbrev pub with_people : Change → State → State
@@ -41,3 +47,31 @@ with_trips change s = record s {
 abbrev pub Leads : Change → State → State → State → Database → Database → Type 0
 Leads change content before after old new =
     IsWellFormed content → PutsWellFormed change → Stands before old → Stands after new
+
+-- the one change, and then the other
+abbrev pub Then : (Database → Database → Type 0) → (Database → Database → Type 0) → Database → Database → Type 0
+Then First Next old new = (mid : Database) × First old mid × (mid.schema ≡ desk_schema → Next mid new)
+
+-- the edit of riders, and then of the rows of those in wheelchairs
+abbrev pub WritesRiders : Change → State → Database → Database → Type 0
+WritesRiders change s =
+    Then (EditsTable riders_table rider_key (λ _. Unit {0}) (λ x. rider_row x ∷ []) change.riders s.riders)
+    (EditsTable rider_chairs_table rider_key (λ _. Unit {0}) rider_chair_rows change.riders s.riders)
+
+-- the edit of trips, and then of the rows of those of riders in wheelchairs
+abbrev pub WritesTrips : Change → State → Database → Database → Type 0
+WritesTrips change s =
+    Then (EditsTable trips_table trip_key (λ _. Unit {0}) (λ x. trip_row x ∷ []) change.trips s.trips)
+    (EditsTable trip_chairs_table trip_key (λ _. Unit {0}) trip_chair_rows change.trips s.trips)
+
+-- the edit of vehicles, and then the wheelchair places of those that are put
+abbrev pub WritesVehicles : Change → State → Database → Database → Type 0
+WritesVehicles change s =
+    Then (EditsTable vehicles_table vehicle_key IsVersion (λ x. vehicle_row x ∷ []) change.vehicles s.vehicles)
+    (PutsAll vehicle_chairs_table vehicle_key IsVersion vehicle_chair_rows change.vehicles.puts)
+
+-- the same, after the wheelchair places of those that are taken away
+abbrev pub WritesFleet : Change → State → Database → Database → Type 0
+WritesFleet change s =
+    Then (TakesSpans vehicle_chairs_table vehicle_key IsVersion vehicle_chair_rows change.vehicles.away s.vehicles)
+    (WritesVehicles change s)

@@ -1,5 +1,5 @@
 -- What statements of a transaction make of one table.
-use Rattle.std.specs.Prelude.{◌≡◌, IsTrue, ℕ, ◌==◌, not, List, flat_map, filter, Some}
+use Rattle.std.specs.Prelude.{◌≡◌, IsTrue, ℕ, ◌==◌, not, List, [], ◌∷◌, flat_map, filter, Some}
 use Rattle.std.specs.List.{AllByRecursion}
 use Rattle.sqlite.specs.Effect.{Database}
 use Rattle.sqlite.specs.Order.{Row}
@@ -7,7 +7,9 @@ use Rattle.sqlite.specs.Table.{Table}
 use Rattle.sqlite.specs.Tree.{Trees, IsTable, rowid}
 use Rattle.sqlite.specs.View.{is_int}
 use Rattle.pt_records.specs.Records.{Each, IsInOrder, put, record_at}
-use Rattle.pt_tables_rows.specs.Schema.{desk_schema}
+use Rattle.pt_base.specs.declared.policy.Policy.{Policy}
+use Rattle.pt_tables_rows.specs.Rows.{desk_row, first_version, versioned_row}
+use Rattle.pt_tables_rows.specs.Schema.{desk_schema, desk_table}
 use Rattle.pt_tables_rows.specs.Tables.{AreRows, Others}
 
 -- the rows of the table are these, and their rowids are integers that rise
@@ -40,3 +42,9 @@ abbrev pub Replaces : {A : Type 0} → Table → (A → ℕ) → (A → Type 0) 
 Replaces {A} table key Fits rows before new old_db new_db =
     Fits new → (xs : List A) → IsInOrder key xs → Each Fits xs → record_at key (key new) xs ≡ Some before
     → Rewrites table (flat_map rows xs) (flat_map rows (put key new xs)) old_db new_db
+
+-- the agency's row, if it was that of the first version, is that of these tables, and each other table has what it had
+pub record RaisesVersion (old new : Database) : Type 0 where
+  pub schema : new.schema ≡ desk_schema
+  pub rows : (policy : Policy) (last_trip : ℕ)
+      → Rewrites desk_table (versioned_row first_version policy last_trip ∷ []) (desk_row policy last_trip ∷ []) old new

@@ -2,11 +2,14 @@
 #![tactic(auto)]
 
 pub use first_rows::{insert_admin, insert_desk};
+pub use numbered::raise_version;
 pub use told::is_told;
 pub use writes::write_change;
 
+mod chairs;
 mod first_rows;
 mod grouped;
+mod marked;
 mod numbered;
 mod plans;
 mod stored;

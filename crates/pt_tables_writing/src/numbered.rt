@@ -2,6 +2,7 @@
 
 pub(crate) use callers::{put_caller, take_caller};
 pub(crate) use columns::days_number;
+pub use desk::raise_version;
 pub(crate) use desk::write_desk;
 pub(crate) use kept::{put_kept, take_kept};
 pub(crate) use places::{put_place, take_place};

@@ -5,6 +5,7 @@ ghost use Rattle.sqlite.specs.State.{HasCleanDisk, Survives};
 ghost use Rattle.pt_desk_rules.specs.State.{applied};
 ghost use Rattle.pt_tables_writing.specs.Committing.{IsMade, LeadsTo};
 ghost use Rattle.pt_tables_writing.specs.Groups.{Leads, with_people, with_area, with_trips};
+ghost use Rattle.pt_tables_writing.specs.Groups.{WritesRiders, WritesVehicles, WritesFleet, WritesTrips};
 ghost use Rattle.pt_tables_writing.specs.Least.{IsUndone};
 ghost use Rattle.pt_tables_rows.specs.Rows.{desk_row};
 ghost use Rattle.pt_tables_rows.specs.Schema.{desk_table};
@@ -12,6 +13,7 @@ ghost use Rattle.pt_tables_rows.specs.Tables.{ChangesIfOk};
 ghost use Rattle.pt_tables_rows.specs.WellFormed.{IsWellFormed, PutsWellFormed};
 ghost use Rattle.pt_tables_writing.specs.Writes.{Rewrites};
 
+use crate::marked::{mark_each, unmark_spans, write_marks};
 use crate::numbered::write_desk;
 use crate::plans::write_plans;
 use crate::stored::write_edits;
@@ -19,6 +21,24 @@ use pt_base::Policy;
 use pt_desk::ListKeeper;
 use pt_desk_rules::Change;
 use sqlite::{Alter, Connection, Error, Transaction};
+
+/// Writes what the change makes of riders, and then of those in wheelchairs.
+fn write_riders<S: Alter>(
+    tx: &mut Transaction<'_, S>,
+    change: &Change,
+    mirror: &ListKeeper,
+) -> Result<(), Error>
+    ensures same_reference { tx.new.conn.ghost_name ≡ tx.old.conn.ghost_name }
+    ensures written { let content = mirror.now.content in HasCleanDisk (state S.Store tx.new.conn.now)
+        → IsTrue (state S.Store tx.old.conn.now).in_transaction
+        → ChangesIfOk (state S.Store tx.old.conn.now) (state S.Store tx.new.conn.now)
+        (WritesRiders change.now content) result }
+    ensures survives { Survives (state S.Store tx.old.conn.now) (state S.Store tx.new.conn.now) (λ _. ⊥) }
+{
+    let riders = mirror.riders_table();
+    write_edits(tx, &change.riders, riders)?;
+    write_marks(tx, &change.riders, riders)
+}
 
 /// Writes what the change makes of callers, what is kept for them, riders and entries; `mirror` has what is there.
 fn write_people<S: Alter>(
@@ -35,8 +55,42 @@ fn write_people<S: Alter>(
 {
     write_edits(tx, &change.callers, mirror.callers_table())?;
     write_edits(tx, &change.kept, mirror.kept_table())?;
-    write_edits(tx, &change.riders, mirror.riders_table())?;
+    write_riders(tx, change, mirror)?;
     write_edits(tx, &change.entries, mirror.entries_table())
+}
+
+/// Writes what the change makes of vehicles, and then the wheelchair places of those that it puts.
+fn write_vehicles<S: Alter>(
+    tx: &mut Transaction<'_, S>,
+    change: &Change,
+    mirror: &ListKeeper,
+) -> Result<(), Error>
+    ensures same_reference { tx.new.conn.ghost_name ≡ tx.old.conn.ghost_name }
+    ensures written { let content = mirror.now.content in HasCleanDisk (state S.Store tx.new.conn.now)
+        → IsTrue (state S.Store tx.old.conn.now).in_transaction
+        → ChangesIfOk (state S.Store tx.old.conn.now) (state S.Store tx.new.conn.now)
+        (WritesVehicles change.now content) result }
+    ensures survives { Survives (state S.Store tx.old.conn.now) (state S.Store tx.new.conn.now) (λ _. ⊥) }
+{
+    write_edits(tx, &change.vehicles, mirror.vehicles_table())?;
+    mark_each(tx, change.vehicles.puts())
+}
+
+/// Takes away the wheelchair places of the vehicles that the change takes away, and then writes what it makes of vehicles.
+fn write_fleet<S: Alter>(
+    tx: &mut Transaction<'_, S>,
+    change: &Change,
+    mirror: &ListKeeper,
+) -> Result<(), Error>
+    ensures same_reference { tx.new.conn.ghost_name ≡ tx.old.conn.ghost_name }
+    ensures written { let content = mirror.now.content in HasCleanDisk (state S.Store tx.new.conn.now)
+        → IsTrue (state S.Store tx.old.conn.now).in_transaction
+        → ChangesIfOk (state S.Store tx.old.conn.now) (state S.Store tx.new.conn.now)
+        (WritesFleet change.now content) result }
+    ensures survives { Survives (state S.Store tx.old.conn.now) (state S.Store tx.new.conn.now) (λ _. ⊥) }
+{
+    unmark_spans(tx, change.vehicles.spans(), mirror.vehicles_table())?;
+    write_vehicles(tx, change, mirror)
 }
 
 /// Writes what the change makes of places, routes, vehicles and driving times, after callers and riders.
@@ -54,7 +108,7 @@ fn write_area<S: Alter>(
 {
     write_edits(tx, &change.places, mirror.places_table())?;
     write_edits(tx, &change.routes, mirror.routes_table())?;
-    write_edits(tx, &change.vehicles, mirror.vehicles_table())?;
+    write_fleet(tx, change, mirror)?;
     write_edits(tx, &change.travel, mirror.travel_table())
 }
 
@@ -99,6 +153,24 @@ fn write_settings<S: Alter>(
     write_desk(tx, &policy, last_trip_after(change, mirror))
 }
 
+/// Writes what the change makes of trips, and then of those of riders in wheelchairs.
+fn write_booked<S: Alter>(
+    tx: &mut Transaction<'_, S>,
+    change: &Change,
+    mirror: &ListKeeper,
+) -> Result<(), Error>
+    ensures same_reference { tx.new.conn.ghost_name ≡ tx.old.conn.ghost_name }
+    ensures written { let content = mirror.now.content in HasCleanDisk (state S.Store tx.new.conn.now)
+        → IsTrue (state S.Store tx.old.conn.now).in_transaction
+        → ChangesIfOk (state S.Store tx.old.conn.now) (state S.Store tx.new.conn.now)
+        (WritesTrips change.now content) result }
+    ensures survives { Survives (state S.Store tx.old.conn.now) (state S.Store tx.new.conn.now) (λ _. ⊥) }
+{
+    let trips = mirror.trips_table();
+    write_edits(tx, &change.trips, trips)?;
+    write_marks(tx, &change.trips, trips)
+}
+
 /// Writes what the change makes of trips, of the stops that are planned and of the agency's row, after all others.
 fn write_trips<S: Alter>(
     tx: &mut Transaction<'_, S>,
@@ -115,7 +187,7 @@ fn write_trips<S: Alter>(
         → OnOk result (IsTrue (state S.Store tx.old.conn.now).is_open) }
     ensures survives { Survives (state S.Store tx.old.conn.now) (state S.Store tx.new.conn.now) (λ _. ⊥) }
 {
-    write_edits(tx, &change.trips, mirror.trips_table())?;
+    write_booked(tx, change, mirror)?;
     write_plans(tx, &change.planned, mirror.planned_table())?;
     write_settings(tx, change, mirror)
 }

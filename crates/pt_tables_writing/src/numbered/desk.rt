@@ -4,7 +4,7 @@ ghost use Rattle.sqlite.specs.State.{HasCleanDisk, Survives};
 ghost use Rattle.pt_tables_rows.specs.Rows.{desk_row};
 ghost use Rattle.pt_tables_rows.specs.Schema.{desk_table};
 ghost use Rattle.pt_tables_rows.specs.Tables.{ChangesIfOk};
-ghost use Rattle.pt_tables_writing.specs.Writes.{Rewrites};
+ghost use Rattle.pt_tables_writing.specs.Writes.{Rewrites, RaisesVersion};
 
 use pt_base::Policy;
 use pt_tables_rows::{DESK, TABLE_VERSION};
@@ -16,6 +16,8 @@ const WRITE_DESK: &str = "INSERT INTO desk (id, version, base, transfer, fare, s
     ON CONFLICT (id) DO UPDATE SET version = ?2, base = ?3, transfer = ?4, fare = ?5, \
     service = ?6, extra_ride = ?7, min_missed = ?8, percent = ?9, span_days = ?10, \
     last_trip = ?11";
+
+const RAISE_VERSION: &str = "UPDATE desk SET version = ?2 WHERE id = ?1";
 
 /// Writes the agency's row anew.
 pub(crate) fn write_desk<S: Alter>(
@@ -50,5 +52,21 @@ pub(crate) fn write_desk<S: Alter>(
             last_trip
         ],
     )?;
+    Ok(())
+}
+
+/// Makes the version of the agency's row that of these tables, where it is that of the first.
+pub fn raise_version<S: Alter>(tx: &mut Transaction<'_, S>) -> Result<(), Error>
+    ensures same_reference { tx.new.conn.ghost_name ≡ tx.old.conn.ghost_name }
+    ensures raised { HasCleanDisk (state S.Store tx.new.conn.now)
+        → IsTrue (state S.Store tx.old.conn.now).in_transaction
+        → ChangesIfOk (state S.Store tx.old.conn.now) (state S.Store tx.new.conn.now)
+        RaisesVersion result }
+    ensures open { HasCleanDisk (state S.Store tx.new.conn.now)
+        → IsTrue (state S.Store tx.old.conn.now).in_transaction
+        → OnOk result (IsTrue (state S.Store tx.old.conn.now).is_open) }
+    ensures survives { Survives (state S.Store tx.old.conn.now) (state S.Store tx.new.conn.now) (λ _. ⊥) }
+{
+    tx.execute(RAISE_VERSION, params![DESK, TABLE_VERSION])?;
     Ok(())
 }

@@ -13,15 +13,15 @@ returns-in_err-routes-clause-rests g c =
 
 pub returns-in_err-vehicles-clause-rests : goal.returns-in_err-vehicles-clause-rests
 returns-in_err-vehicles-clause-rests g c =
-    next (state g.S.Store c.args.conn.now) (state g.S.Store c.table_of.new.conn) (state g.S.Store c.table_of-3.new.conn) c.table_of.result _ c.in_ok-places.was c.table_of.ensures.rests c.from_residual-in_err-vehicles.result
-    (next (state g.S.Store c.table_of.new.conn) (state g.S.Store c.table_of-2.new.conn) (state g.S.Store c.table_of-3.new.conn) c.table_of-2.result _ c.in_ok-routes.was c.table_of-2.ensures.rests c.from_residual-in_err-vehicles.result
-    (refused (state g.S.Store c.table_of-2.new.conn) (state g.S.Store c.table_of-3.new.conn) c.table_of-3.result c.from_residual-in_err-vehicles.result c.from_residual-in_err-vehicles.ensures.0 c.table_of-3.ensures.rests))
+    next (state g.S.Store c.args.conn.now) (state g.S.Store c.table_of.new.conn) (state g.S.Store c.marked_table.new.conn) c.table_of.result _ c.in_ok-places.was c.table_of.ensures.rests c.from_residual-in_err-vehicles.result
+    (next (state g.S.Store c.table_of.new.conn) (state g.S.Store c.table_of-2.new.conn) (state g.S.Store c.marked_table.new.conn) c.table_of-2.result _ c.in_ok-routes.was c.table_of-2.ensures.rests c.from_residual-in_err-vehicles.result
+    (refused (state g.S.Store c.table_of-2.new.conn) (state g.S.Store c.marked_table.new.conn) c.marked_table.result c.from_residual-in_err-vehicles.result c.from_residual-in_err-vehicles.ensures.0 c.marked_table.ensures.rests))
 
 pub returns-clause-rests : goal.returns-clause-rests
 returns-clause-rests g c =
-    next (state g.S.Store c.args.conn.now) (state g.S.Store c.table_of.new.conn) (state g.S.Store c.table_of-3.new.conn) c.table_of.result _ c.in_ok-places.was c.table_of.ensures.rests _
-    (next (state g.S.Store c.table_of.new.conn) (state g.S.Store c.table_of-2.new.conn) (state g.S.Store c.table_of-3.new.conn) c.table_of-2.result _ c.in_ok-routes.was c.table_of-2.ensures.rests _
-    (last (state g.S.Store c.table_of-2.new.conn) (state g.S.Store c.table_of-3.new.conn) c.table_of-3.result _ c.in_ok-vehicles.was c.table_of-3.ensures.rests _))
+    next (state g.S.Store c.args.conn.now) (state g.S.Store c.table_of.new.conn) (state g.S.Store c.marked_table.new.conn) c.table_of.result _ c.in_ok-places.was c.table_of.ensures.rests _
+    (next (state g.S.Store c.table_of.new.conn) (state g.S.Store c.table_of-2.new.conn) (state g.S.Store c.marked_table.new.conn) c.table_of-2.result _ c.in_ok-routes.was c.table_of-2.ensures.rests _
+    (last (state g.S.Store c.table_of-2.new.conn) (state g.S.Store c.marked_table.new.conn) c.marked_table.result _ c.in_ok-vehicles.was c.marked_table.ensures.rests _))
 
 pub returns-in_err-places-clause-why : goal.returns-in_err-places-clause-why
 returns-in_err-places-clause-why g c clean has =
@@ -42,7 +42,7 @@ returns-in_err-vehicles-clause-why g c clean has =
     let old = state g.S.Store c.args.conn.now in
     let s1 = state g.S.Store c.table_of.new.conn in
     let s2 = state g.S.Store c.table_of-2.new.conn in
-    let s3 = state g.S.Store c.table_of-3.new.conn in
-    passed_on (TellsWhy old.now.trees) _ (tells_later old s1 s3 c.table_of.result _ c.in_ok-places.was c.table_of.ensures.rests c.table_of-3.result (next s1 s2 s3 c.table_of-2.result _ c.in_ok-routes.was c.table_of-2.ensures.rests c.table_of-3.result c.table_of-3.ensures.rests) _
-    (tells_later s1 s2 s3 c.table_of-2.result _ c.in_ok-routes.was c.table_of-2.ensures.rests c.table_of-3.result c.table_of-3.ensures.rests _
-    (table_tells (HasCleanDisk s3) (s2.now.schema ≡ desk_schema) s2.now.trees 6 _ c.in_err-vehicles.ensures.faults)) clean has) c.from_residual-in_err-vehicles.result c.from_residual-in_err-vehicles.ensures.1
+    let s3 = state g.S.Store c.marked_table.new.conn in
+    passed_on (TellsWhy old.now.trees) _ (tells_later old s1 s3 c.table_of.result _ c.in_ok-places.was c.table_of.ensures.rests c.marked_table.result (next s1 s2 s3 c.table_of-2.result _ c.in_ok-routes.was c.table_of-2.ensures.rests c.marked_table.result c.marked_table.ensures.rests) _
+    (tells_later s1 s2 s3 c.table_of-2.result _ c.in_ok-routes.was c.table_of-2.ensures.rests c.marked_table.result c.marked_table.ensures.rests _
+    c.in_err-vehicles.ensures.why) clean has) c.from_residual-in_err-vehicles.result c.from_residual-in_err-vehicles.ensures.1

@@ -4,6 +4,6 @@ use Rattle.pt_tables_opening.proofs.RestLemmas.{queried_rests}
 use Rattle.pt_tables_opening.proofs.table_rows.rows_of_table.Goals as goal
 
 pub returns-clause-rests : goal.returns-clause-rests
-returns-clause-rests g c =
-    queried_rests c.args.text.now [] (state g.S.Store c.args.conn.now) (state g.S.Store c.query_all.new.self) c.query_all.result c.requires.plain
+returns-clause-rests g c schema plain =
+    queried_rests schema c.args.text.now [] (state g.S.Store c.args.conn.now) (state g.S.Store c.query_all.new.self) c.query_all.result plain
     c.query_all.ensures.ok c.query_all.ensures.err c.query_all.ensures.mode c.query_all.ensures.survives

@@ -1,5 +1,5 @@
 use Rattle.sqlite.specs.Held.{state}
-use Rattle.pt_tables_rows.specs.Schema.{vehicles_table}
+use Rattle.pt_tables_rows.specs.Schema.{desk_schema, vehicles_table}
 use Rattle.pt_tables_opening.specs.declared.table_rows.TheConstants.{VEHICLE_ROWS}
 use Rattle.pt_tables_opening.proofs.OrderedQueries.{shows_order}
 use Rattle.pt_tables_opening.proofs.RowTexts.{vehicle_rows_order, vehicle_rows_text}
@@ -16,5 +16,5 @@ returns-clause-order g c clean has =
     shows_order 2 vehicles_table VEHICLE_ROWS.now vehicle_rows_text vehicle_rows_order (state g.S.Store c.args.conn.now) (state g.S.Store c.rows_of_table.new.conn)
     c.rows_of_table.result has (c.rows_of_table.ensures.shown clean)
 
-pub rows_of_table-requires : goal.rows_of_table-requires
-rows_of_table-requires g c = record { plain = vehicle_rows_text.plain }
+pub returns-clause-rests : goal.returns-clause-rests
+returns-clause-rests g c = c.rows_of_table.ensures.rests desk_schema vehicle_rows_text.plain

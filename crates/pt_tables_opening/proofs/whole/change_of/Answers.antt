@@ -21,4 +21,7 @@ returns-clause-told c trees office area service driving = record {
   trips = service.trips;
   stops = driving.stops;
   travel = driving.travel;
+  rider_chairs = service.rider_chairs;
+  vehicle_chairs = area.vehicle_chairs;
+  trip_chairs = service.trip_chairs;
 }

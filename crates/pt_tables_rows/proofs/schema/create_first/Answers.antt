@@ -5,7 +5,7 @@ use Rattle.sqlite.specs.State.{HasCleanDisk, Executes}
 use Rattle.sqlite.proofs.StateLemmas.{survives_then}
 use Rattle.pt_tables_rows.proofs.CreateLemmas.{IsMade, makes_next, ends}
 use Rattle.pt_tables_rows.proofs.StateLemmas.{keeps_then, keeps_shown}
-use Rattle.pt_tables_rows.proofs.schema.create_each.Goals as goal
+use Rattle.pt_tables_rows.proofs.schema.create_first.Goals as goal
 
 pub loop-statement-preserved : goal.loop-statement-preserved
 loop-statement-preserved g c =

@@ -3,7 +3,7 @@ use Rattle.sqlite.specs.Held.{state}
 use Rattle.sqlite.specs.State.{HasCleanDisk, KeepsCommit, Survives}
 use Rattle.pt_tables_rows.specs.Schema.{no_schema}
 use Rattle.pt_tables_rows.proofs.CreateLemmas.{IsMade}
-use Rattle.pt_tables_rows.proofs.schema.create_each.Given as goal
+use Rattle.pt_tables_rows.proofs.schema.create_first.Given as goal
 
 abbrev pub invariant-loop-statement : goal.invariant-loop-statement
 invariant-loop-statement g l =

@@ -1,0 +1,142 @@
+-- The tables of the first version as a transaction makes them those of this one, and what a crash leaves of it.
+use Rattle.std.proofs.Common.{◌≡◌, List, [], ◌∷◌, ◌++◌, not, map, flat_map, IsPermutation, IsTrue, true, false, refl, sym, ap, subst, ◌∙◌, arith}
+use Rattle.sqlite.specs.Store.{Ghosts}
+use Rattle.sqlite.specs.Held.{Held, state}
+use Rattle.sqlite.specs.Order.{Row}
+use Rattle.sqlite.specs.Effect.{Database}
+use Rattle.sqlite.specs.State.{State as Connected, KeepsCommit, HasCleanDisk, Survives, Shows}
+use Rattle.sqlite.specs.Table.{Table}
+use Rattle.sqlite.specs.Tree.{Trees}
+use Rattle.sqlite.proofs.Callers.{survives_begin}
+use Rattle.sqlite.proofs.StateLemmas.{survives_then}
+use Rattle.std.specs.Prelude.{◌==◌}
+use Rattle.pt_base.specs.declared.rider.Rider.{Rider}
+use Rattle.pt_base.specs.declared.trip.Trip.{Trip}
+use Rattle.pt_base.specs.declared.vehicle.Vehicle.{Vehicle}
+use Rattle.pt_desk_rules.specs.State.{State}
+use Rattle.pt_records.specs.Records.{Each}
+use Rattle.pt_tables.specs.Migration.{HasMigratedRows, IsMigrated, IsRaised}
+use Rattle.pt_tables_opening.specs.Opening.{IsFirstVersion}
+use Rattle.pt_tables_rows.specs.Rows.{desk_row, first_version, versioned_row, number_value, row_if, rider_chair_rows, vehicle_chair_rows, trip_chair_rows}
+use Rattle.pt_tables_rows.specs.Schema.{desk_schema, first_schema, desk_table, callers_table, kept_table, places_table, fixed_table, vehicles_table, riders_table, entries_table, trips_table, stops_table, travel_table, rider_chairs_table, vehicle_chairs_table, trip_chairs_table}
+use Rattle.pt_tables_rows.specs.Tables.{AddsChairs, AreRows, HasFirstRows, HasRows, columns_of}
+use Rattle.pt_tables_writing.specs.Writes.{Rewrites, RaisesVersion}
+use Rattle.pt_tables_writing.proofs.RaiseWrites.{row_holds}
+use Rattle.pt_tables.proofs.NewLemmas.{none_there}
+
+-- where none is marked none has a row
+no_riders : (riders : List Rider) → Each (λ rider. rider.wheelchair ≡ false) riders → flat_map rider_chair_rows riders ≡ []
+no_riders [] none = refl
+no_riders (x ∷ xs) none = ap (λ s. row_if s (number_value x.id ∷ []) ++ flat_map rider_chair_rows xs) none.0 ∙ no_riders xs none.1
+
+no_vehicles : (versions : List Vehicle) → Each (λ version. version.chairs ≡ 0) versions → flat_map vehicle_chair_rows versions ≡ []
+no_vehicles [] none = refl
+no_vehicles (x ∷ xs) none =
+    ap (λ n. row_if (not (n == 0)) (number_value x.id ∷ number_value x.from_day ∷ number_value x.chairs ∷ []) ++ flat_map vehicle_chair_rows xs) none.0 ∙ no_vehicles xs none.1
+
+no_trips : (trips : List Trip) → Each (λ trip. trip.wheelchair ≡ false) trips → flat_map trip_chair_rows trips ≡ []
+no_trips [] none = refl
+no_trips (x ∷ xs) none = ap (λ s. row_if s (number_value x.id ∷ []) ++ flat_map trip_chair_rows xs) none.0 ∙ no_trips xs none.1
+
+-- a table with the rows that it had has the rows of the same records
+still : (t : Table) (old new : Trees) (rows : List Row) → new t.tree ≡ old t.tree → AreRows t old rows → AreRows t new rows
+still t old new rows same are = subst (λ rs. IsPermutation (map (columns_of t) rs) rows) (sym same) are
+
+module _ (old mid new : Database) (adds : AddsChairs old mid) (raises : RaisesVersion mid new) (content : State) (was : HasFirstRows content old.trees) where
+  raised : Rewrites desk_table (versioned_row first_version content.policy content.last_trip ∷ []) (desk_row content.policy content.last_trip ∷ []) mid new
+  raised = raises.rows content.policy content.last_trip
+
+  agency_there : AreRows desk_table mid.trees (versioned_row first_version content.policy content.last_trip ∷ [])
+  agency_there = still desk_table old.trees mid.trees _ adds.kept.0 was.records.desk
+
+  pub rows_raised : HasRows content new.trees
+  rows_raised = record {
+    records = record {
+      desk = (raised.rows (row_holds content.policy content.last_trip mid.trees agency_there)).rows;
+      callers = still callers_table old.trees new.trees _ (raised.others.1.0 (λ e. cc) ∙ adds.kept.1.0) was.records.callers;
+      kept = still kept_table old.trees new.trees _ (raised.others.1.1.0 (λ e. cc) ∙ adds.kept.1.1.0) was.records.kept;
+      places = still places_table old.trees new.trees _ (raised.others.1.1.1.0 (λ e. cc) ∙ adds.kept.1.1.1.0) was.records.places;
+      fixed = still fixed_table old.trees new.trees _ (raised.others.1.1.1.1.0 (λ e. cc) ∙ adds.kept.1.1.1.1.0) was.records.fixed;
+      vehicles = still vehicles_table old.trees new.trees _ (raised.others.1.1.1.1.1.0 (λ e. cc) ∙ adds.kept.1.1.1.1.1.0) was.records.vehicles;
+      riders = still riders_table old.trees new.trees _ (raised.others.1.1.1.1.1.1.0 (λ e. cc) ∙ adds.kept.1.1.1.1.1.1.0) was.records.riders;
+      entries = still entries_table old.trees new.trees _ (raised.others.1.1.1.1.1.1.1.0 (λ e. cc) ∙ adds.kept.1.1.1.1.1.1.1.0) was.records.entries;
+      trips = still trips_table old.trees new.trees _ (raised.others.1.1.1.1.1.1.1.1.0 (λ e. cc) ∙ adds.kept.1.1.1.1.1.1.1.1.0) was.records.trips;
+      stops = still stops_table old.trees new.trees _ (raised.others.1.1.1.1.1.1.1.1.1.0 (λ e. cc) ∙ adds.kept.1.1.1.1.1.1.1.1.1.0) was.records.stops;
+      travel = still travel_table old.trees new.trees _ (raised.others.1.1.1.1.1.1.1.1.1.1.0 (λ e. cc) ∙ adds.kept.1.1.1.1.1.1.1.1.1.1.0) was.records.travel;
+    };
+    rider_chairs = none_there rider_chairs_table new.trees (flat_map rider_chair_rows content.riders) (raised.others.1.1.1.1.1.1.1.1.1.1.1.0 (λ e. cc) ∙ adds.rider_chairs) (no_riders content.riders was.no_chairs.riders);
+    vehicle_chairs = none_there vehicle_chairs_table new.trees (flat_map vehicle_chair_rows content.vehicles) (raised.others.1.1.1.1.1.1.1.1.1.1.1.1.0 (λ e. cc) ∙ adds.vehicle_chairs) (no_vehicles content.vehicles was.no_chairs.vehicles);
+    trip_chairs = none_there trip_chairs_table new.trees (flat_map trip_chair_rows content.trips) (raised.others.1.1.1.1.1.1.1.1.1.1.1.1.1.0 (λ e. cc) ∙ adds.trip_chairs) (no_trips content.trips was.no_chairs.trips);
+  }
+
+module _ {S : Type 0} (g : Ghosts S) (old begun one two : Held S) (is : begun ≡ record old { in_transaction = true })
+    (added_survives : Survives (state g begun) (state g one) (λ _. ⊥)) (raised_survives : Survives (state g one) (state g two) (λ _. ⊥))
+    (added : HasCleanDisk (state g one) → IsTrue begun.in_transaction
+    → KeepsCommit (state g begun) (state g one) × IsTrue one.in_transaction × ((state g begun).now.schema ≡ first_schema → AddsChairs (state g begun).now (state g one).now))
+    (raised : HasCleanDisk (state g two) → IsTrue one.in_transaction
+    → KeepsCommit (state g one) (state g two) × IsTrue two.in_transaction × ((state g one).now.schema ≡ desk_schema → RaisesVersion (state g one).now (state g two).now)) where
+  record Turned : Type 0 where
+    adds : AddsChairs (state g begun).now (state g one).now
+    raises : RaisesVersion (state g one).now (state g two).now
+
+  now_same : (state g begun).now ≡ (state g old).now
+  now_same = ap (λ (h : Held S). (state g h).now) is
+
+  turned : HasCleanDisk (state g two) → (state g old).now.schema ≡ first_schema → Turned
+  turned clean has =
+      let clean_one : HasCleanDisk (state g one) = omega (arith, raised_survives.clean) in
+      let inside : IsTrue begun.in_transaction = subst (λ (h : Held S). IsTrue h.in_transaction) (sym is) refl in
+      let first = added clean_one inside in
+      let second = raised clean first.1 in
+      let adds = first.2 (ap (λ (d : Database). d.schema) now_same ∙ has) in
+      record { adds = adds; raises = second.2 adds.schema }
+
+  rows : HasCleanDisk (state g two) → HasMigratedRows (state g old) (state g two).now.trees
+  rows clean has content was =
+      let it = turned clean has in
+      rows_raised (state g begun).now (state g one).now (state g two).now it.adds it.raises content
+      (subst (λ (d : Database). HasFirstRows content d.trees) (sym now_same) was)
+
+  schema_is : HasCleanDisk (state g two) → (state g old).now.schema ≡ first_schema → (state g two).now.schema ≡ desk_schema
+  schema_is clean has =
+      (turned clean has).raises.schema
+
+  -- once it is committed
+  pub is_raised : (end : Connected) → HasCleanDisk (state g two) → Shows (state g two) end (state g two).now (state g two).now false → IsRaised (state g old) end
+  is_raised end clean shows = record {
+    is_open = shows.is_open;
+    committed = shows.committed_is ∙ sym shows.now_is;
+    schema = λ has. ap (λ (d : Database). d.schema) shows.now_is ∙ schema_is clean has;
+    rows = λ has content was. subst (λ (d : Database). HasRows content d.trees) (sym shows.now_is) (rows clean has content was);
+  }
+
+  -- a crash leaves what stood before, or these rows
+  pub survive : (end : Connected) → Survives (state g two) end (λ db. db ≡ (state g two).now.trees) → Survives (state g old) end (HasMigratedRows (state g old))
+  survive end last =
+      let inside = survives_then (state g begun) (state g one) (state g two) (λ _. ⊥) (λ _. ⊥) (λ _. ⊥) (λ _ db nothing. nothing) (λ _ db nothing. nothing) added_survives raised_survives in
+      let from = survives_begin g old (state g two) (λ _. ⊥) (subst (λ h. Survives (state g h) (state g two) (λ _. ⊥)) is inside) in
+      survives_then (state g old) (state g two) end (λ _. ⊥) (λ db. db ≡ (state g two).now.trees) (HasMigratedRows (state g old)) (λ _ db nothing. absurd nothing)
+      (λ clean db same has content was. subst (HasRows content) (sym same) (rows (omega (arith, last.clean)) has content was)) from last
+
+-- ---- after a read of the version
+
+module _ (old mid new : Connected) (same : mid.now ≡ old.now) where
+  migrated_rows : (trees : Trees) → HasMigratedRows mid trees → HasMigratedRows old trees
+  migrated_rows trees rows has content was =
+      rows (ap (λ (d : Database). d.schema) same ∙ has) content (subst (λ (d : Database). HasFirstRows content d.trees) (sym same) was)
+
+  pub is_migrated : IsFirstVersion old.now → IsRaised mid new → IsMigrated old new
+  is_migrated was raised = record {
+    was = was;
+    raised = record {
+      is_open = raised.is_open;
+      committed = raised.committed;
+      schema = λ has. raised.schema (ap (λ (d : Database). d.schema) same ∙ has);
+      rows = migrated_rows new.now.trees raised.rows;
+    };
+  }
+
+pub survive_read : (old mid new : Connected) → (HasCleanDisk mid → mid.now ≡ old.now) → Survives old mid (λ _. ⊥) → Survives mid new (HasMigratedRows mid) → Survives old new (HasMigratedRows old)
+survive_read old mid new same read raised =
+    survives_then old mid new (λ _. ⊥) (HasMigratedRows mid) (HasMigratedRows old) (λ _ db nothing. absurd nothing)
+    (λ clean db rows. migrated_rows old mid new (same (omega (arith, raised.clean))) db rows) read raised

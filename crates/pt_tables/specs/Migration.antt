@@ -1,0 +1,25 @@
+-- What becomes of the tables of the first version.
+use Rattle.std.specs.Prelude.{◌≡◌, IsTrue}
+use Rattle.sqlite.specs.State.{State as Connected}
+use Rattle.sqlite.specs.Tree.{Trees}
+use Rattle.pt_desk_rules.specs.State.{State}
+use Rattle.pt_tables_opening.specs.Opening.{IsFirstVersion}
+use Rattle.pt_tables_rows.specs.Schema.{desk_schema, first_schema}
+use Rattle.pt_tables_rows.specs.Tables.{HasFirstRows, HasRows}
+
+-- each content whose rows the tables of the first version had has the rows of these
+abbrev pub HasMigratedRows : Connected → Trees → Type 0
+HasMigratedRows old trees =
+    old.now.schema ≡ first_schema → (content : State) → HasFirstRows content old.now.trees → HasRows content trees
+
+-- a transaction has made the tables those of this version, and all is committed
+pub record IsRaised (old new : Connected) : Type 0 where
+  pub is_open : IsTrue new.is_open
+  pub committed : new.committed ≡ new.now
+  pub schema : old.now.schema ≡ first_schema → new.now.schema ≡ desk_schema
+  pub rows : HasMigratedRows old new.now.trees
+
+-- the database had the tables of the first version, and they are those of this version
+pub record IsMigrated (old new : Connected) : Type 0 where
+  pub was : IsFirstVersion old.now
+  pub raised : IsRaised old new

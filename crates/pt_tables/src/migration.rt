@@ -1,0 +1,62 @@
+ghost use Rattle.std.specs.Prelude.{◌≡◌, ◌⊎◌, IsTrue, IfOk, IfErr, OnOk, OnErr, false};
+ghost use Rattle.sqlite.specs.Held.{state};
+ghost use Rattle.sqlite.specs.State.{HasCleanDisk, Survives};
+ghost use Rattle.pt_base.specs.Codes.{memory_refused};
+ghost use Rattle.pt_tables.specs.Migration.{HasMigratedRows, IsMigrated, IsRaised};
+ghost use Rattle.pt_tables_opening.specs.Faults.{fault, store_refused, tables_refused};
+ghost use Rattle.pt_tables_opening.specs.Opening.{IsFirstVersion};
+ghost use Rattle.pt_tables_writing.specs.Least.{IsAsBefore, IsUndone};
+
+use pt_tables_opening::{OpenFault, fault_of, is_first_version};
+use pt_tables_rows::add_chairs_tables;
+use pt_tables_writing::raise_version;
+use sqlite::{Alter, Connection, Error};
+use std::alloc::Global;
+
+/// Makes the tables of this version of those of the first, in one transaction.
+fn raise<S: Alter>(conn: &mut Connection<S>) -> Result<(), Error>
+    requires settled { conn.old.in_transaction ≡ false }
+    ensures settled { conn.new.in_transaction ≡ false }
+    ensures raised { HasCleanDisk (state S.Store conn.new)
+        → OnOk result (IsRaised (state S.Store conn.old) (state S.Store conn.new)) }
+    ensures undone { HasCleanDisk (state S.Store conn.new)
+        → OnErr result (IsUndone (state S.Store conn.old) (state S.Store conn.new)) }
+    ensures survives { Survives (state S.Store conn.old) (state S.Store conn.new)
+        (HasMigratedRows (state S.Store conn.old)) }
+{
+    let mut tx = conn.transaction();
+    add_chairs_tables(&mut tx)?;
+    raise_version(&mut tx)?;
+    tx.commit()
+}
+
+/// Makes a database with the tables of the first version one of this version, whose rows are those of the same content.
+///
+/// Code 30 where its tables are not those of the first version, by their schema or by the version that the agency's row
+/// says; 32 where a transaction is open, or the store refused or failed; 0 where memory was refused. After a refusal the
+/// connection shows what it showed before.
+pub fn migrate<S: Alter>(alloc: Global, conn: &mut Connection<S>) -> Result<(), OpenFault>
+    ensures settled { conn.old.in_transaction ≡ false → conn.new.in_transaction ≡ false }
+    ensures migrated { HasCleanDisk (state S.Store conn.new)
+        → OnOk result (IsMigrated (state S.Store conn.old) (state S.Store conn.new)) }
+    ensures in_use { IsTrue (state S.Store conn.old).in_transaction → result ≡ Err (fault store_refused) }
+    ensures faults { IfErr result (λ refused. (refused ≡ fault memory_refused)
+        ⊎ ((refused ≡ fault store_refused) ⊎ (refused ≡ fault tables_refused))) }
+    ensures other_tables { HasCleanDisk (state S.Store conn.new) → IfErr result (λ refused.
+        refused.code ≡ tables_refused → IsFirstVersion (state S.Store conn.old).now → ⊥) }
+    ensures unchanged { HasCleanDisk (state S.Store conn.new)
+        → OnErr result (IsAsBefore (state S.Store conn.old) (state S.Store conn.new)) }
+    ensures crash { Survives (state S.Store conn.old) (state S.Store conn.new)
+        (HasMigratedRows (state S.Store conn.old)) }
+{
+    if !conn.is_autocommit() {
+        return Err(OpenFault::STORE);
+    }
+    if !is_first_version(alloc, conn)? {
+        return Err(OpenFault::OTHER_TABLES);
+    }
+    match raise(conn) {
+        Ok(()) => Ok(()),
+        Err(error) => Err(fault_of(&error)),
+    }
+}

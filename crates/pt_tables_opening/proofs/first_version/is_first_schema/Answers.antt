@@ -1,0 +1,15 @@
+use Rattle.std.proofs.Common.{◌∙◌}
+use Rattle.sqlite.proofs.Callers.{memory_is_clean}
+use Rattle.pt_tables_rows.specs.Schema.{first_schema}
+use Rattle.pt_tables_opening.proofs.SchemaLemmas.{first_schema_plain, made_plain, same_as}
+use Rattle.pt_tables_opening.proofs.first_version.is_first_schema.Goals as goal
+
+pub is_same_schema-requires : goal.is_same_schema-requires
+is_same_schema-requires c =
+    let is = c.schema.ensures.value ∙ c.in-Ok-make_first_tables.ensures.made (memory_is_clean c.make_first_tables.new.conn) in
+    record { plain = made_plain c.schema.result.now first_schema is first_schema_plain }
+
+pub returns-in-Ok-make_first_tables-clause-value : goal.returns-in-Ok-make_first_tables-clause-value
+returns-in-Ok-make_first_tables-clause-value c =
+    let is = c.schema.ensures.value ∙ c.in-Ok-make_first_tables.ensures.made (memory_is_clean c.make_first_tables.new.conn) in
+    same_as c.schema.result.now first_schema is c.args.schema.now c.is_same_schema.result c.is_same_schema.ensures.value

@@ -1,0 +1,54 @@
+-- What rows of a second table tell of records that have one row each in their own.
+use Rattle.std.specs.Prelude.{◌≡◌, ◌⊎◌, ℕ, List, [], ◌∷◌, map, flat_map, Option, None, Some, IsPermutation}
+use Rattle.std.specs.List.{AllByRecursion}
+use Rattle.sqlite.specs.Order.{Row}
+use Rattle.sqlite.specs.Table.{Table}
+use Rattle.sqlite.specs.Tree.{Trees}
+use Rattle.pt_desk_rules.specs.Sound.{IsSound}
+use Rattle.pt_desk_rules.specs.State.{State}
+use Rattle.pt_records.specs.Records.{Each, Edit, IsInOrder}
+use Rattle.pt_tables_opening.specs.Refused.{KeepsRanges}
+use Rattle.pt_tables_opening.specs.Told.{PutsInOrder}
+use Rattle.pt_tables_rows.specs.Tables.{AreRows, HasRows}
+
+-- this record, with no row beside its own
+pub record IsAlone {A : Type 0} (row_of : A → Row) (beside_of : A → List Row) (Fits : A → Type 0) (known alone : A) :
+    Type 0 where
+  pub same : row_of alone ≡ row_of known
+  pub none : beside_of alone ≡ []
+  pub fits : Fits alone
+
+-- one row at most stands beside that of a record, and both tell its key
+pub record AreBeside {A : Type 0} (key : A → ℕ) (row_of : A → Row) (beside_of : A → List Row) : Type 0 where
+  pub key_in : Row → ℕ
+  pub one : (x : A) → (beside_of x ≡ []) ⊎ (row : Row) × (beside_of x ≡ row ∷ [])
+  pub keyed : (x : A) → AllByRecursion (λ row. key_in row ≡ key x) (beside_of x)
+  pub row_keyed : (x : A) → key_in (row_of x) ≡ key x
+
+-- the records of a state have their rows in the second table
+abbrev pub StandBeside : {A : Type 0} → Table → (A → List Row) → (State → List A) → Type 0
+StandBeside second beside_of records = (s : State) (trees : Trees) → IsSound s → KeepsRanges s → HasRows s trees
+    → AreRows second trees (flat_map beside_of (records s))
+
+-- records in the order of their keys that have these rows in some order have them in this one
+abbrev pub KeepsBeside : {A : Type 0} → (A → ℕ) → (A → List Row) → (A → Type 0) → List Row → Type 0
+KeepsBeside {A} key beside_of Fits rows =
+    (xs : List A) → Each Fits xs → IsInOrder key xs → IsPermutation (flat_map beside_of xs) rows
+    → flat_map beside_of xs ≡ rows
+
+-- records with the rows of these that have those rows beside them, or none where no records in order do
+abbrev pub TellsBeside : {A : Type 0} → (A → ℕ) → (A → Row) → (A → List Row) → (A → Type 0) → List A → List Row
+    → Option (Edit A) → Type 0
+TellsBeside key row_of beside_of Fits known rows (Some edit) =
+    PutsInOrder key edit × (map row_of edit.puts ≡ map row_of known) × (flat_map beside_of edit.puts ≡ rows)
+    × Each Fits edit.puts
+TellsBeside key row_of beside_of Fits known rows None =
+    (xs : List _) → Each Fits xs → IsInOrder key xs → map row_of xs ≡ map row_of known → flat_map beside_of xs ≡ rows → ⊥
+
+-- the records to be put are those whose rows both tables have, in the order of their keys
+pub record IsMarkedTable {A : Type 0} (key : A → ℕ) (home second : Table) (row_of : A → Row) (beside_of : A → List Row)
+    (Fits : A → Type 0) (trees : Trees) (edit : Edit A) : Type 0 where
+  pub puts : PutsInOrder key edit
+  pub rows_are : AreRows home trees (map row_of edit.puts)
+  pub beside_are : AreRows second trees (flat_map beside_of edit.puts)
+  pub each : Each Fits edit.puts

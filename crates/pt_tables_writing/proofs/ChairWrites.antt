@@ -1,0 +1,269 @@
+-- What the statements mean that put rows beside those of records, one at most for each.
+use Rattle.std.proofs.Common.{◌≡◌, ℕ, ◌<◌, ◌^◌, ◌==◌, pos, Bool, true, false, not, cond, List, [], ◌∷◌, ◌++◌, map, filter, flat_map, IsTrue, Result, Ok, Err, refl, sym, ap, ap₂, subst, ◌∙◌}
+use Rattle.std.specs.Prelude.{IsPermutation}
+use Rattle.std.specs.List.{AllByRecursion}
+use Rattle.std.proofs.lemmas.List.Elements.{filter-append}
+use Rattle.std.proofs.lemmas.List.Sorted.{IsPermutation-sym}
+use Rattle.sqlite.specs.Cast.{cast_row}
+use Rattle.sqlite.specs.Collation.TheVariants.{Binary}
+use Rattle.sqlite.specs.Edit.{with_rowid}
+use Rattle.sqlite.specs.Effect.{Database}
+use Rattle.sqlite.specs.declared.error.Error.{Error}
+use Rattle.sqlite.specs.Listing.{understood}
+use Rattle.sqlite.specs.Order.{Row}
+use Rattle.sqlite.specs.Rowids.TheVariants.{Chosen}
+use Rattle.sqlite.specs.State.{State, Executes}
+use Rattle.sqlite.specs.Table.{Table}
+use Rattle.sqlite.specs.Term.{lit, col, op2}
+use Rattle.sqlite.specs.Tree.{rowid, has_rowid, without_rowid, IsTable}
+use Rattle.sqlite.specs.declared.types.Value.TheVariants.{Null, Int}
+use Rattle.sqlite_keyed.proofs.ListLemmas.{IsPermutation-flat_map}
+use Rattle.sqlite_sql.specs.declared.ops.BinaryOp.TheVariants.{Compare}
+use Rattle.sqlite_sql.specs.declared.ops.CompareOp.TheVariants.{Eq}
+use Rattle.sqlite_tied.specs.Compute.{everything}
+use Rattle.sqlite_value.specs.Keys.{first_key}
+use Rattle.pt_base.specs.declared.rider.Rider.{Rider}
+use Rattle.pt_base.specs.declared.trip.Trip.{Trip}
+use Rattle.pt_base.specs.declared.vehicle.Vehicle.{Vehicle}
+use Rattle.pt_desk_rules.specs.State.{rider_key, trip_key, vehicle_key}
+use Rattle.pt_records.specs.Records.{IsInOrder, put}
+use Rattle.pt_tables_rows.specs.Rows.{number_value, row_if, rider_chair_rows, trip_chair_rows, vehicle_chair_rows}
+use Rattle.pt_tables_rows.specs.Schema.{desk_schema, rider_chairs_table, trip_chairs_table, vehicle_chairs_table}
+use Rattle.pt_tables_rows.specs.Tables.{ChangesIfOk, columns_of}
+use Rattle.pt_tables_rows.specs.WellFormed.{IsVersion}
+use Rattle.pt_tables_writing.specs.Grouped.{Adds}
+use Rattle.pt_tables_writing.specs.Writes.{Puts, Takes}
+use Rattle.pt_tables_writing.specs.declared.chairs.TheConstants.{PUT_RIDER_CHAIR, TAKE_RIDER_CHAIR, PUT_TRIP_CHAIR, TAKE_TRIP_CHAIR, INSERT_VEHICLE_CHAIRS, DELETE_VEHICLE_CHAIRS}
+use Rattle.pt_tables_writing.proofs.AppendLemmas.{adds, behind}
+use Rattle.pt_tables_writing.proofs.CastLemmas.{cast_null, cast_int}
+use Rattle.pt_tables_writing.proofs.DeleteLemmas.{IsDelete, has_columns, removes}
+use Rattle.pt_tables_writing.proofs.InsertLemmas.{IsInsert}
+use Rattle.pt_tables_writing.proofs.KeyLemmas.{pair-told}
+use Rattle.pt_tables_writing.proofs.NumberedLemmas.{others, put-permutation, row_test, without_shown}
+use Rattle.pt_tables_writing.proofs.NumberedWrites.{IsNumbered, put_rewrites, rising-without, numbers-without}
+use Rattle.pt_tables_writing.proofs.RecordRows.{rewrites-permuted, takes}
+use Rattle.pt_tables_writing.proofs.RemovalLemmas.{IsRemoval, TakesNumbered, removed}
+use Rattle.pt_tables_writing.proofs.TurnLemmas.{rewrites_self}
+use Rattle.pt_tables_writing.proofs.UpsertLemmas.{HasNumbers, IsUpsert, PutsNumbered, upserted, only_first}
+
+nothing : {A : Type 0} (b : Bool) → ◌≡◌ {A = List A} (cond b [] []) []
+nothing true = refl
+nothing false = refl
+
+-- ---- records whose number is the key of their row, where they have one
+
+module _ {A : Type 0} (table : Table) (numbered : IsNumbered table) (key : A → ℕ) (so : A → Bool) (row : A → Row) (keyed : (x : A) → rowid (row x) ≡ Int (pos (key x))) where
+  abbrev rows_of : A → List Row
+  rows_of x = row_if (so x) (row x)
+
+  one_without : (k : ℕ) (s : Bool) (r : Row) → without_rowid (pos k) (row_if s r) ≡ cond (not (has_rowid (pos k) r)) (row_if s r) []
+  one_without k true r = refl
+  one_without k false r = sym (nothing (not (has_rowid (pos k) r)))
+
+  kept : (x : A) (xs : List A) (b : Bool) → cond (not b) (rows_of x) [] ++ flat_map rows_of xs ≡ flat_map rows_of (cond (not b) (x ∷ xs) xs)
+  kept x xs true = refl
+  kept x xs false = refl
+
+  -- the rows without the number are those of the records without it
+  without_so : (gone : A) (xs : List A) → without_rowid (pos (key gone)) (flat_map rows_of xs) ≡ flat_map rows_of (others key gone xs)
+  without_so gone [] = refl
+  without_so gone (x ∷ xs) =
+      let k = key gone in
+      filter-append (λ r. not (has_rowid (pos k) r)) (rows_of x) (flat_map rows_of xs)
+      ∙ ap₂ ◌++◌ (one_without k (so x) (row x)) (without_so gone xs)
+      ∙ ap (λ b. cond (not b) (rows_of x) [] ++ flat_map rows_of (others key gone xs)) (row_test key row keyed k x)
+      ∙ kept x (others key gone xs) (key x == k)
+
+  all_put : (new : A) (xs : List A) → IsInOrder key xs → IsPermutation (rows_of new ++ flat_map rows_of (others key new xs)) (flat_map rows_of (put key new xs))
+  all_put new xs order = IsPermutation-sym _ _ (IsPermutation-flat_map rows_of _ _ (put-permutation key new xs order))
+
+  -- its row is put
+  puts_so : (new : A) (stored : Row) → IsTrue (so new) → columns_of table stored ≡ row new → (old_db new_db : Database) → PutsNumbered table (pos (key new)) stored old_db new_db
+      → Puts table key (λ _. Unit {0}) rows_of new old_db new_db
+  puts_so new stored marked shows old_db new_db puts xs order fits =
+      let id_is : rowid stored ≡ Int (pos (key new)) = sym (numbered stored) ∙ ap rowid shows ∙ keyed new in
+      let own : rows_of new ≡ row new ∷ [] = ap (λ s. row_if s (row new)) marked in
+      put_rewrites table numbered (pos (key new)) stored (row new) (flat_map rows_of xs) (flat_map rows_of (put key new xs)) old_db new_db id_is shows
+      (subst (λ rs. IsPermutation (row new ∷ rs) (flat_map rows_of (put key new xs))) (sym (without_so new xs))
+      (subst (λ rs. IsPermutation (rs ++ flat_map rows_of (others key new xs)) (flat_map rows_of (put key new xs))) own (all_put new xs order))) puts
+
+  -- the row of a record with its key is taken away
+  takes_so : (gone : A) (old_db new_db : Database) → TakesNumbered table (pos (key gone)) old_db new_db → Takes table key (λ _. Unit {0}) rows_of gone old_db new_db
+  takes_so gone old_db new_db took xs order fits = record {
+    schema = took.schema;
+    rows = λ holds.
+        let id = pos (key gone) in
+        let tree = old_db.trees table.tree in
+        let is : new_db.trees table.tree ≡ without_rowid id tree = took.rows holds.rising holds.whole in
+        let left = subst (IsPermutation (map (columns_of table) (without_rowid id tree))) (without_so gone xs) (without_shown table numbered id tree (flat_map rows_of xs) holds.rows) in
+        record {
+          rows = subst (λ rs. IsPermutation (map (columns_of table) rs) (flat_map rows_of (filter (λ x. not (key x == key gone)) xs))) (sym is) left;
+          rising = subst IsTable (sym is) (rising-without id tree holds.rising);
+          whole = subst HasNumbers (sym is) (numbers-without id tree holds.whole);
+        };
+    others = took.others;
+  }
+
+-- a record with no row is put where that of one with its key is taken away
+pub puts_none : {A : Type 0} (table : Table) (key : A → ℕ) (Fits : A → Type 0) (rows_of : A → List Row) (new : A) → rows_of new ≡ [] → (old_db new_db : Database)
+    → Takes table key Fits rows_of new old_db new_db → Puts table key Fits rows_of new old_db new_db
+puts_none table key Fits rows_of new none old_db new_db took xs order fits =
+    let all : IsPermutation (rows_of new ++ flat_map rows_of (others key new xs)) (flat_map rows_of (put key new xs)) = IsPermutation-sym _ _ (IsPermutation-flat_map rows_of _ _ (put-permutation key new xs order)) in
+    rewrites-permuted table (flat_map rows_of xs) (flat_map rows_of (others key new xs)) (flat_map rows_of (put key new xs)) old_db new_db
+    (subst (λ rs. IsPermutation (rs ++ flat_map rows_of (others key new xs)) (flat_map rows_of (put key new xs))) none all) (took xs order fits)
+
+pub changes_none : {A X : Type 0} (table : Table) (key : A → ℕ) (Fits : A → Type 0) (rows_of : A → List Row) (new : A) → rows_of new ≡ [] → (old_state new_state : State) (r : Result X Error)
+    → ChangesIfOk old_state new_state (Takes table key Fits rows_of new) r → ChangesIfOk old_state new_state (Puts table key Fits rows_of new) r
+changes_none table key Fits rows_of new none a b (Ok x) h = (h.0, h.1, λ has. puts_none table key Fits rows_of new none a.now b.now (h.2 has))
+changes_none table key Fits rows_of new none a b (Err e) h = h
+
+-- ---- riders
+
+abbrev rider_row_beside : Rider → Row
+rider_row_beside rider = number_value rider.id ∷ []
+
+abbrev rider_stored : Rider → Row
+rider_stored rider = number_value rider.id ∷ Null ∷ []
+
+rider_cast : (rider : Rider) → cast_row rider_chairs_table (rider_stored rider) ≡ rider_stored rider
+rider_cast rider = simp (cast_null, cast_int)
+
+put_rider_text : (rider : Rider) → IsUpsert PUT_RIDER_CHAIR.now (rider_row_beside rider) rider_chairs_table (pos rider.id) (rider_stored rider)
+unfolding understood everything desk_schema first_key
+put_rider_text rider = record {
+  at = 11;
+  terms = col 0 0 ∷ lit Null ∷ [];
+  width = 2;
+  place = 1;
+  fields = col 1 0 ∷ col 0 0 ∷ lit Null ∷ [];
+  there = refl;
+  is = refl;
+  plain = (refl, refl);
+  uncounted = refl;
+  values = refl;
+  cast = rider_cast rider;
+  keyed = refl;
+  alone = λ r h. only_first _ h;
+  asks = refl;
+  shows = λ r is. is;
+  changes = λ r is. refl;
+}
+
+take_rider_text : IsRemoval TAKE_RIDER_CHAIR.now rider_chairs_table
+unfolding understood everything desk_schema
+take_rider_text = record { at = 11; fields = col 1 0 ∷ []; there = refl; is = refl; plain = (refl, refl); shows = λ given r. refl }
+
+module _ (rider : Rider) (old new : State) (count : ℕ) (has : old.now.schema ≡ desk_schema) where
+  pub puts_rider_chair : IsTrue rider.wheelchair → Executes PUT_RIDER_CHAIR.now (rider_row_beside rider) old new (Ok count) → Puts rider_chairs_table rider_key (λ _. Unit {0}) rider_chair_rows rider old.now new.now
+  puts_rider_chair marked h =
+      puts_so rider_chairs_table (λ r. refl) rider_key (λ x. x.wheelchair) rider_row_beside (λ x. refl) rider (rider_stored rider) marked refl old.now new.now
+      (upserted PUT_RIDER_CHAIR.now (rider_row_beside rider) rider_chairs_table (pos rider.id) (rider_stored rider) (put_rider_text rider) old new count has h)
+
+  pub takes_rider_chair : Executes TAKE_RIDER_CHAIR.now (number_value rider.id ∷ []) old new (Ok count) → Takes rider_chairs_table rider_key (λ _. Unit {0}) rider_chair_rows rider old.now new.now
+  takes_rider_chair h =
+      takes_so rider_chairs_table (λ r. refl) rider_key (λ x. x.wheelchair) rider_row_beside (λ x. refl) rider old.now new.now
+      (removed TAKE_RIDER_CHAIR.now rider_chairs_table take_rider_text (pos rider.id) old new count has h)
+
+-- ---- trips
+
+abbrev trip_row_beside : Trip → Row
+trip_row_beside trip = number_value trip.id ∷ []
+
+abbrev trip_stored : Trip → Row
+trip_stored trip = number_value trip.id ∷ Null ∷ []
+
+trip_cast : (trip : Trip) → cast_row trip_chairs_table (trip_stored trip) ≡ trip_stored trip
+trip_cast trip = simp (cast_null, cast_int)
+
+put_trip_text : (trip : Trip) → IsUpsert PUT_TRIP_CHAIR.now (trip_row_beside trip) trip_chairs_table (pos trip.id) (trip_stored trip)
+unfolding understood everything desk_schema first_key
+put_trip_text trip = record {
+  at = 13;
+  terms = col 0 0 ∷ lit Null ∷ [];
+  width = 2;
+  place = 1;
+  fields = col 1 0 ∷ col 0 0 ∷ lit Null ∷ [];
+  there = refl;
+  is = refl;
+  plain = (refl, refl);
+  uncounted = refl;
+  values = refl;
+  cast = trip_cast trip;
+  keyed = refl;
+  alone = λ r h. only_first _ h;
+  asks = refl;
+  shows = λ r is. is;
+  changes = λ r is. refl;
+}
+
+take_trip_text : IsRemoval TAKE_TRIP_CHAIR.now trip_chairs_table
+unfolding understood everything desk_schema
+take_trip_text = record { at = 13; fields = col 1 0 ∷ []; there = refl; is = refl; plain = (refl, refl); shows = λ given r. refl }
+
+module _ (trip : Trip) (old new : State) (count : ℕ) (has : old.now.schema ≡ desk_schema) where
+  pub puts_trip_chair : IsTrue trip.wheelchair → Executes PUT_TRIP_CHAIR.now (trip_row_beside trip) old new (Ok count) → Puts trip_chairs_table trip_key (λ _. Unit {0}) trip_chair_rows trip old.now new.now
+  puts_trip_chair marked h =
+      puts_so trip_chairs_table (λ r. refl) trip_key (λ x. x.wheelchair) trip_row_beside (λ x. refl) trip (trip_stored trip) marked refl old.now new.now
+      (upserted PUT_TRIP_CHAIR.now (trip_row_beside trip) trip_chairs_table (pos trip.id) (trip_stored trip) (put_trip_text trip) old new count has h)
+
+  pub takes_trip_chair : Executes TAKE_TRIP_CHAIR.now (number_value trip.id ∷ []) old new (Ok count) → Takes trip_chairs_table trip_key (λ _. Unit {0}) trip_chair_rows trip old.now new.now
+  takes_trip_chair h =
+      takes_so trip_chairs_table (λ r. refl) trip_key (λ x. x.wheelchair) trip_row_beside (λ x. refl) trip old.now new.now
+      (removed TAKE_TRIP_CHAIR.now trip_chairs_table take_trip_text (pos trip.id) old new count has h)
+
+-- ---- vehicles
+
+abbrev vehicle_row_beside : Vehicle → Row
+vehicle_row_beside version = number_value version.id ∷ number_value version.from_day ∷ number_value version.chairs ∷ []
+
+vehicle_cast : (version : Vehicle) → cast_row vehicle_chairs_table (Null ∷ vehicle_row_beside version) ≡ Null ∷ vehicle_row_beside version
+vehicle_cast version = simp (cast_null, cast_int)
+
+vehicle_insert : (version : Vehicle) → IsInsert INSERT_VEHICLE_CHAIRS.now (vehicle_row_beside version) vehicle_chairs_table (behind (vehicle_row_beside version))
+unfolding understood everything desk_schema
+vehicle_insert version = record {
+  at = 12;
+  terms = lit Null ∷ col 0 0 ∷ col 0 1 ∷ col 0 2 ∷ [];
+  width = 4;
+  source = Null ∷ vehicle_row_beside version;
+  there = refl;
+  is = refl;
+  plain = (refl, refl);
+  uncounted = refl;
+  values = refl;
+  news = λ rows. ap (λ r. with_rowid Chosen rows r ∷ []) (vehicle_cast version);
+}
+
+vehicle_delete : (id day : ℕ) → IsDelete DELETE_VEHICLE_CHAIRS.now (number_value id ∷ number_value day ∷ []) vehicle_chairs_table (has_columns (number_value id ∷ number_value day ∷ []))
+unfolding understood everything desk_schema
+vehicle_delete id day = record {
+  at = 12;
+  test = op2 (Compare Eq Binary) (col 1 1) (col 0 0) ∷ op2 (Compare Eq Binary) (col 1 2) (col 0 1) ∷ [];
+  there = refl;
+  is = refl;
+  plain = (refl, refl);
+  says = λ r. refl;
+}
+
+so_all : (P : Row → Type 0) (so : Bool) (row : Row) → P row → AllByRecursion P (row_if so row)
+so_all P true row holds = (holds, tt)
+so_all P false row holds = tt
+
+module _ (version : Vehicle) (old new : State) (count : ℕ) (has : old.now.schema ≡ desk_schema) where
+  pub adds_vehicle_chairs : IsTrue (not (version.chairs == 0)) → Executes INSERT_VEHICLE_CHAIRS.now (vehicle_row_beside version) old new (Ok count) → Adds vehicle_chairs_table (vehicle_chair_rows version) old.now new.now
+  adds_vehicle_chairs marked h =
+      let own : vehicle_chair_rows version ≡ vehicle_row_beside version ∷ [] = ap (λ s. row_if s (vehicle_row_beside version)) marked in
+      subst (λ rs. Adds vehicle_chairs_table rs old.now new.now) (sym own)
+      (adds vehicle_chairs_table (vehicle_row_beside version) (vehicle_row_beside version) (λ id. refl) INSERT_VEHICLE_CHAIRS.now (vehicle_row_beside version) (vehicle_insert version) old new count has h)
+
+  pub takes_vehicle_chairs : version.from_day < 2 ^ 32 → Executes DELETE_VEHICLE_CHAIRS.now (number_value version.id ∷ number_value version.from_day ∷ []) old new (Ok count)
+      → Takes vehicle_chairs_table vehicle_key IsVersion vehicle_chair_rows version old.now new.now
+  takes_vehicle_chairs low h =
+      let params = number_value version.id ∷ number_value version.from_day ∷ [] in
+      takes vehicle_key vehicle_chair_rows vehicle_chairs_table IsVersion version (has_columns params)
+      (λ x fits. so_all _ (not (x.chairs == 0)) (vehicle_row_beside x) (pair-told x.id x.from_day version.id version.from_day (number_value x.chairs ∷ []) fits.0 low)) old.now new.now
+      (removes DELETE_VEHICLE_CHAIRS.now params vehicle_chairs_table (has_columns params) (vehicle_delete version.id version.from_day) old new count has h)
+
+-- no row is added
+pub adds_none : (table : Table) (db : Database) → db.schema ≡ desk_schema → Adds table [] db db
+adds_none table db has before = rewrites_self table before db has

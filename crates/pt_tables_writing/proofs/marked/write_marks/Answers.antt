@@ -1,0 +1,23 @@
+use Rattle.sqlite.specs.Held.{state}
+use Rattle.pt_tables_writing.specs.Stored.{PutsAll, TakesSpans, EditsTable}
+use Rattle.pt_tables_writing.proofs.TurnLemmas.{did_then}
+use Rattle.pt_tables_writing.proofs.StoredLemmas.{edits_made}
+use Rattle.pt_tables_writing.proofs.marked.write_marks.Goals as goal
+
+pub returns-clause-written : goal.returns-clause-written
+returns-clause-written g c =
+    let t = g.T.Marked.home in
+    let key = g.T.Keyed.key in
+    let Fits = g.T.Marked.Fits in
+    let rows = g.T.Marked.rows_of in
+    let old = state g.S.Store c.args.tx.now.conn.now in
+    let mid = state g.S.Store c.unmark_spans.new.tx.conn.now in
+    let new = state g.S.Store c.mark_each.new.tx.conn.now in
+    let edit = c.args.edits.now in
+    let xs = c.args.records.now.items in
+    let spans = c.spans.result.now in
+    let puts = c.puts.result.now in
+    did_then {X = Unit {0}} {Y = Unit {0}} old mid new (TakesSpans t key Fits rows spans xs) (PutsAll t key Fits rows puts)
+    (EditsTable t key Fits rows edit xs) c.in_ok-unmark_spans.field-0 c.mark_each.result
+    (λ has first next. edits_made t key Fits rows edit spans puts xs c.spans.ensures.value c.puts.ensures.value old.now mid.now new.now first next)
+    c.mark_each.ensures.survives c.in_ok-unmark_spans.ensures.written c.mark_each.ensures.written

@@ -1,0 +1,200 @@
+//! The rows of riders and trips in wheelchairs, and of the wheelchair places of vehicles.
+
+ghost use Rattle.std.specs.Prelude.{◌≡◌, ◌==◌, not, IsTrue};
+ghost use Rattle.sqlite.specs.Held.{state};
+ghost use Rattle.sqlite.specs.State.{HasCleanDisk, Survives};
+ghost use Rattle.pt_desk_rules.specs.State.{rider_key, trip_key, vehicle_key};
+ghost use Rattle.pt_tables_rows.specs.Rows.{rider_chair_rows, trip_chair_rows, vehicle_chair_rows};
+ghost use Rattle.pt_tables_rows.specs.Schema.{rider_chairs_table, trip_chairs_table, vehicle_chairs_table};
+ghost use Rattle.pt_tables_rows.specs.Tables.{ChangesIfOk};
+ghost use Rattle.pt_tables_rows.specs.WellFormed.{IsVersion};
+ghost use Rattle.pt_tables_writing.specs.Grouped.{Adds};
+ghost use Rattle.pt_tables_writing.specs.Writes.{Puts, Takes};
+
+use pt_base::{Rider, Trip, Vehicle};
+use sqlite::{Alter, Error, Transaction, params};
+
+const PUT_RIDER_CHAIR: &str = "INSERT INTO rider_chairs (rider) VALUES (?1) \
+    ON CONFLICT (rider) DO UPDATE SET rider = ?1";
+
+const TAKE_RIDER_CHAIR: &str = "DELETE FROM rider_chairs WHERE rider = ?1";
+
+const PUT_TRIP_CHAIR: &str = "INSERT INTO trip_chairs (trip) VALUES (?1) \
+    ON CONFLICT (trip) DO UPDATE SET trip = ?1";
+
+const TAKE_TRIP_CHAIR: &str = "DELETE FROM trip_chairs WHERE trip = ?1";
+
+const INSERT_VEHICLE_CHAIRS: &str = "INSERT INTO vehicle_chairs (id, from_day, chairs) \
+    VALUES (?1, ?2, ?3)";
+
+const DELETE_VEHICLE_CHAIRS: &str = "DELETE FROM vehicle_chairs WHERE id = ?1 AND from_day = ?2";
+
+/// Puts the row of a rider in a wheelchair; of another it takes the row away.
+pub(crate) fn put_rider_chair<S: Alter>(
+    tx: &mut Transaction<'_, S>,
+    rider: &Rider,
+) -> Result<(), Error>
+    ensures same_reference { tx.new.conn.ghost_name ≡ tx.old.conn.ghost_name }
+    ensures written { HasCleanDisk (state S.Store tx.new.conn.now)
+        → IsTrue (state S.Store tx.old.conn.now).in_transaction
+        → ChangesIfOk (state S.Store tx.old.conn.now) (state S.Store tx.new.conn.now)
+        (Puts rider_chairs_table rider_key (λ _. Unit {0}) rider_chair_rows rider.now) result }
+    ensures survives { Survives (state S.Store tx.old.conn.now) (state S.Store tx.new.conn.now) (λ _. ⊥) }
+{
+    if !rider.wheelchair {
+        return take_rider_chair(tx, rider);
+    }
+    add_rider_chair(tx, rider)
+}
+
+/// Puts the row of a rider in a wheelchair.
+fn add_rider_chair<S: Alter>(tx: &mut Transaction<'_, S>, rider: &Rider) -> Result<(), Error>
+    requires marked { IsTrue rider.now.wheelchair }
+    ensures same_reference { tx.new.conn.ghost_name ≡ tx.old.conn.ghost_name }
+    ensures written { HasCleanDisk (state S.Store tx.new.conn.now)
+        → IsTrue (state S.Store tx.old.conn.now).in_transaction
+        → ChangesIfOk (state S.Store tx.old.conn.now) (state S.Store tx.new.conn.now)
+        (Puts rider_chairs_table rider_key (λ _. Unit {0}) rider_chair_rows rider.now) result }
+    ensures survives { Survives (state S.Store tx.old.conn.now) (state S.Store tx.new.conn.now) (λ _. ⊥) }
+{
+    tx.execute(PUT_RIDER_CHAIR, params![rider.id.number()])?;
+    Ok(())
+}
+
+/// Takes away the row of the rider with the number of this one.
+pub(crate) fn take_rider_chair<S: Alter>(
+    tx: &mut Transaction<'_, S>,
+    rider: &Rider,
+) -> Result<(), Error>
+    ensures same_reference { tx.new.conn.ghost_name ≡ tx.old.conn.ghost_name }
+    ensures written { HasCleanDisk (state S.Store tx.new.conn.now)
+        → IsTrue (state S.Store tx.old.conn.now).in_transaction
+        → ChangesIfOk (state S.Store tx.old.conn.now) (state S.Store tx.new.conn.now)
+        (Takes rider_chairs_table rider_key (λ _. Unit {0}) rider_chair_rows rider.now) result }
+    ensures survives { Survives (state S.Store tx.old.conn.now) (state S.Store tx.new.conn.now) (λ _. ⊥) }
+{
+    tx.execute(TAKE_RIDER_CHAIR, params![rider.id.number()])?;
+    Ok(())
+}
+
+/// Puts the row of the trip of a rider in a wheelchair; of another it takes the row away.
+pub(crate) fn put_trip_chair<S: Alter>(
+    tx: &mut Transaction<'_, S>,
+    trip: &Trip,
+) -> Result<(), Error>
+    ensures same_reference { tx.new.conn.ghost_name ≡ tx.old.conn.ghost_name }
+    ensures written { HasCleanDisk (state S.Store tx.new.conn.now)
+        → IsTrue (state S.Store tx.old.conn.now).in_transaction
+        → ChangesIfOk (state S.Store tx.old.conn.now) (state S.Store tx.new.conn.now)
+        (Puts trip_chairs_table trip_key (λ _. Unit {0}) trip_chair_rows trip.now) result }
+    ensures survives { Survives (state S.Store tx.old.conn.now) (state S.Store tx.new.conn.now) (λ _. ⊥) }
+{
+    if !trip.wheelchair {
+        return take_trip_chair(tx, trip);
+    }
+    add_trip_chair(tx, trip)
+}
+
+/// Puts the row of the trip of a rider in a wheelchair.
+fn add_trip_chair<S: Alter>(tx: &mut Transaction<'_, S>, trip: &Trip) -> Result<(), Error>
+    requires marked { IsTrue trip.now.wheelchair }
+    ensures same_reference { tx.new.conn.ghost_name ≡ tx.old.conn.ghost_name }
+    ensures written { HasCleanDisk (state S.Store tx.new.conn.now)
+        → IsTrue (state S.Store tx.old.conn.now).in_transaction
+        → ChangesIfOk (state S.Store tx.old.conn.now) (state S.Store tx.new.conn.now)
+        (Puts trip_chairs_table trip_key (λ _. Unit {0}) trip_chair_rows trip.now) result }
+    ensures survives { Survives (state S.Store tx.old.conn.now) (state S.Store tx.new.conn.now) (λ _. ⊥) }
+{
+    tx.execute(PUT_TRIP_CHAIR, params![trip.id.number()])?;
+    Ok(())
+}
+
+/// Takes away the row of the trip with the number of this one.
+pub(crate) fn take_trip_chair<S: Alter>(
+    tx: &mut Transaction<'_, S>,
+    trip: &Trip,
+) -> Result<(), Error>
+    ensures same_reference { tx.new.conn.ghost_name ≡ tx.old.conn.ghost_name }
+    ensures written { HasCleanDisk (state S.Store tx.new.conn.now)
+        → IsTrue (state S.Store tx.old.conn.now).in_transaction
+        → ChangesIfOk (state S.Store tx.old.conn.now) (state S.Store tx.new.conn.now)
+        (Takes trip_chairs_table trip_key (λ _. Unit {0}) trip_chair_rows trip.now) result }
+    ensures survives { Survives (state S.Store tx.old.conn.now) (state S.Store tx.new.conn.now) (λ _. ⊥) }
+{
+    tx.execute(TAKE_TRIP_CHAIR, params![trip.id.number()])?;
+    Ok(())
+}
+
+/// Puts the wheelchair places of a vehicle as it is from its day on, in place of what they were from that day on.
+pub(crate) fn put_vehicle_chairs<S: Alter>(
+    tx: &mut Transaction<'_, S>,
+    version: &Vehicle,
+) -> Result<(), Error>
+    ensures same_reference { tx.new.conn.ghost_name ≡ tx.old.conn.ghost_name }
+    ensures written { HasCleanDisk (state S.Store tx.new.conn.now)
+        → IsTrue (state S.Store tx.old.conn.now).in_transaction
+        → ChangesIfOk (state S.Store tx.old.conn.now) (state S.Store tx.new.conn.now)
+        (Puts vehicle_chairs_table vehicle_key IsVersion vehicle_chair_rows version.now) result }
+    ensures survives { Survives (state S.Store tx.old.conn.now) (state S.Store tx.new.conn.now) (λ _. ⊥) }
+{
+    take_vehicle_chairs(tx, version)?;
+    insert_vehicle_chairs(tx, version)
+}
+
+/// Takes away the wheelchair places of the vehicle as it is from that day on.
+pub(crate) fn take_vehicle_chairs<S: Alter>(
+    tx: &mut Transaction<'_, S>,
+    version: &Vehicle,
+) -> Result<(), Error>
+    ensures same_reference { tx.new.conn.ghost_name ≡ tx.old.conn.ghost_name }
+    ensures written { HasCleanDisk (state S.Store tx.new.conn.now)
+        → IsTrue (state S.Store tx.old.conn.now).in_transaction
+        → ChangesIfOk (state S.Store tx.old.conn.now) (state S.Store tx.new.conn.now)
+        (Takes vehicle_chairs_table vehicle_key IsVersion vehicle_chair_rows version.now) result }
+    ensures survives { Survives (state S.Store tx.old.conn.now) (state S.Store tx.new.conn.now) (λ _. ⊥) }
+{
+    tx.execute(
+        DELETE_VEHICLE_CHAIRS,
+        params![version.id.number(), version.from_day.number()],
+    )?;
+    Ok(())
+}
+
+/// Adds the row of the wheelchair places of a vehicle that has some.
+fn insert_vehicle_chairs<S: Alter>(
+    tx: &mut Transaction<'_, S>,
+    version: &Vehicle,
+) -> Result<(), Error>
+    ensures same_reference { tx.new.conn.ghost_name ≡ tx.old.conn.ghost_name }
+    ensures written { HasCleanDisk (state S.Store tx.new.conn.now)
+        → IsTrue (state S.Store tx.old.conn.now).in_transaction
+        → ChangesIfOk (state S.Store tx.old.conn.now) (state S.Store tx.new.conn.now)
+        (Adds vehicle_chairs_table (vehicle_chair_rows version.now)) result }
+    ensures survives { Survives (state S.Store tx.old.conn.now) (state S.Store tx.new.conn.now) (λ _. ⊥) }
+{
+    if version.chairs == 0 {
+        return Ok(());
+    }
+    add_vehicle_chairs(tx, version)
+}
+
+/// Adds that row.
+fn add_vehicle_chairs<S: Alter>(tx: &mut Transaction<'_, S>, version: &Vehicle) -> Result<(), Error>
+    requires some { IsTrue (not (version.now.chairs == 0)) }
+    ensures same_reference { tx.new.conn.ghost_name ≡ tx.old.conn.ghost_name }
+    ensures written { HasCleanDisk (state S.Store tx.new.conn.now)
+        → IsTrue (state S.Store tx.old.conn.now).in_transaction
+        → ChangesIfOk (state S.Store tx.old.conn.now) (state S.Store tx.new.conn.now)
+        (Adds vehicle_chairs_table (vehicle_chair_rows version.now)) result }
+    ensures survives { Survives (state S.Store tx.old.conn.now) (state S.Store tx.new.conn.now) (λ _. ⊥) }
+{
+    tx.execute(
+        INSERT_VEHICLE_CHAIRS,
+        params![
+            version.id.number(),
+            version.from_day.number(),
+            u32::from(version.chairs)
+        ],
+    )?;
+    Ok(())
+}
