@@ -20,13 +20,13 @@ use Rattle.pt_http_reply.specs.declared.fault.FieldName.{FieldName}
 use Rattle.pt_http_reply.specs.declared.fault.FieldName.TheVariants as field
 use Rattle.pt_http_request.proofs.ChoiceLemmas.{Decides-within, test-read}
 use Rattle.pt_http_request.specs.Fields.{◌>>=◌, needed, tested, text_at, id_at, truth_at, day_at, reasons_at}
-use Rattle.pt_http_request.specs.Fields.{are_reasons, within, whole_at, number_within, ranged, ranged_at, in_range}
+use Rattle.pt_http_request.specs.Fields.{are_reasons, holds_nothing, within, whole_at, number_within, ranged, ranged_at, in_range}
 use Rattle.pt_http_request.specs.Numbers.{is_within}
 use Rattle.pt_http_request.specs.Places.{is_on_plane, integer_from, coordinate_from, coordinate, coordinate_at}
 use Rattle.pt_http_request.specs.Places.{on_plane, place_in}
 use Rattle.pt_http_request.specs.Policy.{policy_in}
 use Rattle.pt_http_request.specs.Routes.{days_at}
-use Rattle.pt_http_request.specs.Vehicles.{vehicle_in}
+use Rattle.pt_http_request.specs.Vehicles.{chairs_at, vehicle_in}
 
 -- ---- tests
 
@@ -35,6 +35,9 @@ le-prop a b = hlevel props
 
 range-prop : (least most n : ℕ) → IsProp (IsInRange least most n)
 range-prop least most n = hlevel props
+
+few-prop : (n : ℕ) → IsProp (n ≤ 10)
+few-prop n = hlevel props
 
 coordinate-prop : (z : ℤ) → IsProp (IsCoordinate z)
 coordinate-prop z = hlevel props
@@ -214,19 +217,32 @@ pub vehicle-read : (body : Data) (vehicle : Vehicle) → id_at field.Id body ≡
     → id_at field.Depot body ≡ Ok vehicle.depot → Held field.Capacity 1 30 body vehicle.capacity
     → number_within field.Opens 0 1_439 body ≡ Ok vehicle.opens
     → number_within field.Closes 0 1_439 body ≡ Ok vehicle.closes → Held field.Duration 1 1_439 body vehicle.duration
+    → (chairs : IsInRange 0 10 vehicle.chairs) × (chairs_at body ≡ Ok (ranged vehicle.chairs chairs))
     → Ok vehicle ≡ vehicle_in body
-vehicle-read body vehicle id from_day days depot capacity opens closes duration =
+vehicle-read body vehicle id from_day days depot capacity opens closes duration chairs =
     let ordered = ordered-known {E = FieldName} vehicle.opens vehicle.closes field.Opens vehicle.hours_ordered in
-    rw (id, from_day, days, depot, capacity.1, opens, closes, ordered, duration.1) (λ i. Ok (record {
+    rw (id, from_day, days, depot, capacity.1, opens, closes, ordered, duration.1, chairs.1) (λ i. Ok (record {
       id = vehicle.id;
       from_day = vehicle.from_day;
       days = vehicle.days;
       depot = vehicle.depot;
       capacity = vehicle.capacity;
+      chairs = vehicle.chairs;
       opens = vehicle.opens;
       closes = vehicle.closes;
       duration = vehicle.duration;
       capacity_in_range = range-prop _ _ _ vehicle.capacity_in_range capacity.0 i;
+      chairs_in_range = few-prop _ vehicle.chairs_in_range chairs.0.1 i;
       hours_ordered = vehicle.hours_ordered;
       duration_in_range = range-prop _ _ _ vehicle.duration_in_range duration.0 i;
     }))
+
+-- ---- a field that may hold nothing
+
+pub chairs-none : (body : Data) → holds_nothing (get (field_name field.Chairs) body) ≡ true → chairs_at body ≡ Ok (ranged 0 (in_range 0 10 0 refl))
+chairs-none body nothing =
+    ap (λ b. if b then Ok (ranged 0 (in_range 0 10 0 refl)) else ranged_at field.Chairs 0 10 body) nothing
+
+pub chairs-some : (body : Data) → holds_nothing (get (field_name field.Chairs) body) ≡ false → chairs_at body ≡ ranged_at field.Chairs 0 10 body
+chairs-some body something =
+    ap (λ b. if b then Ok (ranged 0 (in_range 0 10 0 refl)) else ranged_at field.Chairs 0 10 body) something

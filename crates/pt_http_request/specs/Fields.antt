@@ -1,5 +1,5 @@
 -- The fields of a JSON object by their names, and what each may hold.
-use Rattle.std.specs.Prelude.{◌≡◌, ℕ, ◌&&◌, List, length, Bool, true, false, Option, Some, None, Result, Ok, Err}
+use Rattle.std.specs.Prelude.{◌≡◌, ℕ, ◌&&◌, List, length, Bool, true, false, Option, Some, None, is_some, Result, Ok, Err}
 use Rattle.std.specs.Prelude.{if◌then◌else◌, option_and_then, refl}
 use Rattle.std.proofs.lemmas.Bool.{leb-true, and_parts}
 use Rattle.std.specs.Int.{IsInRange}
@@ -7,7 +7,7 @@ use Rattle.std.specs.List.{list_all}
 use Rattle.hex.specs.Hex.{decode_sized}
 use Rattle.hex.specs.declared.error.FromHexError.{FromHexError}
 use Rattle.serde_json.specs.Data.{Data}
-use Rattle.serde_json.specs.Find.{get, as_bool, as_number, as_u64, as_str}
+use Rattle.serde_json.specs.Find.{get, as_bool, as_null, as_number, as_u64, as_str}
 use Rattle.pt_http_request.specs.Days.{day_from}
 use Rattle.pt_http_request.specs.Numbers.{is_within, id_of}
 use Rattle.pt_http_reply.specs.Fault.{field_name}
@@ -45,6 +45,15 @@ text_at name body = needed (option_and_then as_str (get (field_name name) body))
 -- the truth value that a field holds
 abbrev pub truth_at : FieldName → Data → Result Bool FieldName
 truth_at name body = needed (option_and_then as_bool (get (field_name name) body)) name
+
+-- a field holds nothing: it is missing, or null
+abbrev pub holds_nothing : Option Data → Bool
+holds_nothing None = true
+holds_nothing (Some found) = is_some (as_null found)
+
+-- the truth value that a field holds, and false where it holds nothing
+abbrev pub truth_if_any_at : FieldName → Data → Result Bool FieldName
+truth_if_any_at name body = if holds_nothing (get (field_name name) body) then Ok false else truth_at name body
 
 -- the number of a record that a field holds
 abbrev pub id_at : FieldName → Data → Result ℕ FieldName

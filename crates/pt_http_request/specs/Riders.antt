@@ -4,7 +4,7 @@ use Rattle.pt_base.specs.declared.rider.Residence.{Residence}
 use Rattle.pt_base.specs.declared.rider.Residence.TheVariants as residence
 use Rattle.pt_base.specs.declared.rider.Rider.{Rider}
 use Rattle.serde_json.specs.Data.{Data}
-use Rattle.pt_http_request.specs.Fields.{text_at, truth_at, id_at, needed, ◌>>=◌}
+use Rattle.pt_http_request.specs.Fields.{text_at, truth_at, truth_if_any_at, id_at, needed, ◌>>=◌}
 use Rattle.pt_http_reply.specs.declared.fault.FieldName.{FieldName}
 use Rattle.pt_http_reply.specs.declared.fault.FieldName.TheVariants as field
 
@@ -21,10 +21,11 @@ residence_at name body = do
   text ← text_at name body
   needed (residence_named text) name
 
--- the rider's record that a body spells: id, kind, attendant
+-- the rider's record that a body spells: id, kind, attendant, wheelchair
 abbrev pub rider_in : Data → Result Rider FieldName
 rider_in body = do
   id ← id_at field.Id body
   residence ← residence_at field.Kind body
   attendant ← truth_at field.Attendant body
-  Ok (record { id = id; kind = residence; attendant = attendant })
+  wheelchair ← truth_if_any_at field.Wheelchair body
+  Ok (record { id = id; kind = residence; attendant = attendant; wheelchair = wheelchair })

@@ -1,21 +1,16 @@
 -- The trip that a body wishes, or how it ended, field by field: the first field that is not as it should be is the
 -- fault.
-use Rattle.std.specs.Prelude.{ℕ, List, codes, bytes_eq, Bool, true, Option, Some, None, is_some, Result, Ok}
+use Rattle.std.specs.Prelude.{ℕ, List, codes, bytes_eq, Option, Some, None, Result, Ok}
 use Rattle.std.specs.Prelude.{if◌then◌else◌}
 use Rattle.pt_base.specs.declared.trip.Wish.{Wish}
 use Rattle.pt_rights.specs.declared.tally.Outcome.{Outcome}
 use Rattle.pt_rights.specs.declared.tally.Outcome.TheVariants as outcome
 use Rattle.serde_json.specs.Data.{Data}
-use Rattle.serde_json.specs.Find.{get, as_null}
-use Rattle.pt_http_request.specs.Fields.{text_at, truth_at, id_at, day_at, number_within, needed, ◌>>=◌}
+use Rattle.serde_json.specs.Find.{get}
+use Rattle.pt_http_request.specs.Fields.{text_at, truth_at, id_at, day_at, number_within, holds_nothing, needed, ◌>>=◌}
 use Rattle.pt_http_reply.specs.Fault.{field_name}
 use Rattle.pt_http_reply.specs.declared.fault.FieldName.{FieldName}
 use Rattle.pt_http_reply.specs.declared.fault.FieldName.TheVariants as field
-
--- a field holds nothing: it is missing, or null
-abbrev pub holds_nothing : Option Data → Bool
-holds_nothing None = true
-holds_nothing (Some found) = is_some (as_null found)
 
 -- the minute of the day that a field holds, if it holds anything
 abbrev pub minute_if_any_at : FieldName → Data → Result (Option ℕ) FieldName

@@ -1,12 +1,21 @@
 -- The vehicle that a body spells, field by field: the first field that is not as it should be is the fault.
-use Rattle.std.specs.Prelude.{nat_le, Result, Ok}
+use Rattle.std.specs.Prelude.{nat_le, if◌then◌else◌, Result, Ok, refl}
 use Rattle.std.proofs.lemmas.Bool.{leb-true}
 use Rattle.pt_base.specs.declared.vehicle.Vehicle.{Vehicle}
 use Rattle.serde_json.specs.Data.{Data}
+use Rattle.serde_json.specs.Find.{get}
 use Rattle.pt_http_request.specs.Fields.{id_at, day_at, number_within, ranged_at, needed, tested, ◌>>=◌}
+use Rattle.pt_http_request.specs.Fields.{Ranged, holds_nothing, in_range, ranged}
 use Rattle.pt_http_request.specs.Routes.{days_at}
+use Rattle.pt_http_reply.specs.Fault.{field_name}
 use Rattle.pt_http_reply.specs.declared.fault.FieldName.{FieldName}
 use Rattle.pt_http_reply.specs.declared.fault.FieldName.TheVariants as field
+
+-- how many wheelchair places a body gives a vehicle, none where it does not say
+abbrev pub chairs_at : Data → Result (Ranged 0 10) FieldName
+chairs_at body =
+    if holds_nothing (get (field_name field.Chairs) body) then Ok (ranged 0 (in_range 0 10 0 refl))
+    else ranged_at field.Chairs 0 10 body
 
 -- the vehicle that a body spells; it may leave its depot no later than it has to be back
 abbrev pub vehicle_in : Data → Result Vehicle FieldName
@@ -20,16 +29,19 @@ vehicle_in body = do
   closes ← number_within field.Closes 0 1_439 body
   hours_ordered ← tested (nat_le opens closes) (leb-true opens closes) field.Opens
   duration ← ranged_at field.Duration 1 1_439 body
+  chairs ← chairs_at body
   Ok (record {
     id = id;
     from_day = from_day;
     days = days;
     depot = depot;
     capacity = capacity.number;
+    chairs = chairs.number;
     opens = opens;
     closes = closes;
     duration = duration.number;
     capacity_in_range = capacity.in_range;
+    chairs_in_range = chairs.in_range.1;
     hours_ordered = hours_ordered;
     duration_in_range = duration.in_range;
   })

@@ -2,7 +2,10 @@ ghost use Rattle.std.specs.Prelude.{◌≡◌, ℕ, Ok, Err, IfSome, IsNone, IfO
 ghost use Rattle.std.specs.Int.{IsInRange};
 ghost use Rattle.serde_json.specs.View.{view};
 ghost use Rattle.pt_http_request.specs.Days.{SpellsDay, day_from};
-ghost use Rattle.pt_http_request.specs.Fields.{number_within, whole_at, text_at, truth_at, id_at, digest_from};
+ghost use Rattle.pt_http_request.specs.Fields.{number_within, whole_at, text_at, truth_at, truth_if_any_at, id_at, digest_from};
+ghost use Rattle.pt_http_request.specs.Fields.{holds_nothing};
+ghost use Rattle.pt_http_reply.specs.Fault.{field_name};
+ghost use Rattle.serde_json.specs.Find.{get};
 ghost use Rattle.pt_http_request.specs.Fields.{digest_at, day_at, ranged, ranged_at};
 ghost use Rattle.pt_http_request.specs.Numbers.{id_of};
 
@@ -33,6 +36,26 @@ pub(crate) fn truth_at(object: &Value, name: FieldName) -> Result<bool, FieldNam
     ensures { result ≡ truth_at name (view object.now) }
 {
     object.get(name.text()).and_then(Value::as_bool).ok_or(name)
+}
+
+/// Whether a field of an object is missing or null.
+pub(crate) fn holds_nothing(object: &Value, name: FieldName) -> bool
+    ensures { result ≡ holds_nothing (get (field_name name) (view object.now)) }
+{
+    match object.get(name.text()) {
+        Some(value) => value.is_null(),
+        None => true,
+    }
+}
+
+/// The truth value at a field of an object, or the field as a fault. A field that is missing or null has false.
+pub(crate) fn truth_if_any_at(object: &Value, name: FieldName) -> Result<bool, FieldName>
+    ensures { result ≡ truth_if_any_at name (view object.now) }
+{
+    if holds_nothing(object, name) {
+        return Ok(false);
+    }
+    truth_at(object, name)
 }
 
 /// The number, where it may number a record.

@@ -2,7 +2,7 @@ ghost use Rattle.std.specs.Prelude.{◌≡◌};
 ghost use Rattle.serde_json.specs.View.{view};
 ghost use Rattle.pt_http_request.specs.Riders.{residence_named, residence_at, rider_in};
 
-use crate::fields::{id_at, text_at, truth_at};
+use crate::fields::{id_at, text_at, truth_at, truth_if_any_at};
 use pt_base::{Residence, Rider};
 use pt_http_reply::FieldName;
 use serde_json::Value;
@@ -32,9 +32,11 @@ pub(crate) fn rider_of(body: &Value) -> Result<Rider, FieldName>
     let id = id_at(body, FieldName::Id)?;
     let kind = residence_at(body, FieldName::Kind)?;
     let attendant = truth_at(body, FieldName::Attendant)?;
+    let wheelchair = truth_if_any_at(body, FieldName::Wheelchair)?;
     Ok(Rider {
         id,
         kind,
         attendant,
+        wheelchair,
     })
 }

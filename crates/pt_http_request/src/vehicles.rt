@@ -1,12 +1,26 @@
-ghost use Rattle.std.specs.Prelude.{◌≡◌};
+ghost use Rattle.std.specs.Int.{IsInRange};
+ghost use Rattle.std.specs.Prelude.{◌≡◌, Ok, Err, IfOk, IfErr};
 ghost use Rattle.serde_json.specs.View.{view};
-ghost use Rattle.pt_http_request.specs.Vehicles.{vehicle_in};
+ghost use Rattle.pt_http_request.specs.Fields.{ranged};
+ghost use Rattle.pt_http_request.specs.Vehicles.{chairs_at, vehicle_in};
 
-use crate::fields::{day_at, id_at, minute_at, ranged_at};
+use crate::fields::{day_at, holds_nothing, id_at, minute_at, ranged_at};
 use crate::routes::days_of;
 use pt_base::Vehicle;
 use pt_http_reply::FieldName;
 use serde_json::Value;
+
+/// How many wheelchair places an object gives a vehicle, or the field as a fault. A field that is missing or null has none.
+fn chairs_of(body: &Value) -> Result<u32, FieldName>
+    ensures value { IfOk result (λ number. (in_range : IsInRange 0 10 number)
+        × (chairs_at (view body.now) ≡ Ok (ranged number in_range))) }
+    ensures fault { IfErr result (λ bad. chairs_at (view body.now) ≡ Err bad) }
+{
+    if holds_nothing(body, FieldName::Chairs) {
+        return Ok(0);
+    }
+    ranged_at(body, FieldName::Chairs, 0, 10)
+}
 
 /// The vehicle that an object spells, or its first bad field.
 pub(crate) fn vehicle_of(body: &Value) -> Result<Vehicle, FieldName>
@@ -23,12 +37,14 @@ pub(crate) fn vehicle_of(body: &Value) -> Result<Vehicle, FieldName>
         return Err(FieldName::Opens);
     }
     let duration = ranged_at(body, FieldName::Duration, 1, 1_439)?;
+    let chairs = chairs_of(body)?;
     Ok(Vehicle {
         id,
         from_day,
         days,
         depot,
         capacity: capacity as u16,
+        chairs: chairs as u16,
         opens,
         closes,
         duration: duration as u16,

@@ -15,4 +15,4 @@ returns c =
     let opens : number_within field.Opens 0 1_439 (view c.args.body.now) ≡ Ok c.in_ok-opens.opens = search rules in
     let closes : number_within field.Closes 0 1_439 (view c.args.body.now) ≡ Ok c.in_ok-closes.closes = search rules in
     vehicle-read (view c.args.body.now) _ id from_day days depot c.in_ok-capacity.ensures.value opens closes
-    c.in_ok-duration.ensures.value
+    c.in_ok-duration.ensures.value c.in_ok-chairs.ensures.value
