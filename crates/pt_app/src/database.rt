@@ -8,10 +8,10 @@ ghost use Rattle.pt_desk_rules.specs.Sound.{IsSound};
 
 use pt_base::fault::MEMORY;
 use pt_base::{Day, Fault};
-use pt_commands::{Outcome, STORE_REFUSED, ask, fault_of};
+use pt_commands::{Outcome, STORE_REFUSED, ask, fault_of, print_done};
 use pt_desk::{Keeper, Read, Request, Write, place_ids};
 use pt_serve::{Port, moment_at, serve};
-use pt_tables::{OpenFault, SqlKeeper};
+use pt_tables::{OpenFault, SqlKeeper, migrate};
 use pt_travel::Raw;
 use sqlite::{Connection, Error, ErrorCode};
 use sqlite_std_file::File;
@@ -96,6 +96,18 @@ pub(crate) fn init(rt: &HostRuntime, file: &str, key: &str) -> Result<Outcome, F
     match SqlKeeper::create(rt.alloc(), conn, key.as_bytes()) {
         Ok(_) => Ok(Outcome::Done),
         Err((_, refused)) => Err(fault_of_opening(refused)),
+    }
+}
+
+/// Makes the tables of the first version in a file those of this one, and prints `done`.
+pub(crate) fn migrate_file(rt: &HostRuntime, file: &str) -> Result<Outcome, Fault> {
+    if let Err(error) = fs::open(rt, file) {
+        return Err(fault_of_reading(&error));
+    }
+    let mut conn = connected(rt, file)?;
+    match migrate(rt.alloc(), &mut conn) {
+        Ok(()) => print_done(rt.alloc(), &mut rt.stdout()),
+        Err(refused) => Err(fault_of_opening(refused)),
     }
 }
 

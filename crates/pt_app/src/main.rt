@@ -3,7 +3,7 @@
 
 mod database;
 
-use database::{init, print_read, put_times, serve_file};
+use database::{init, migrate_file, print_read, put_times, serve_file};
 use pt_base::Fault;
 use pt_base::fault::MEMORY;
 use pt_command_line::{Line, WRONG_WORDS, line, matches_in};
@@ -45,6 +45,7 @@ fn do_asked(rt: &HostRuntime, asked: Line<'_>) -> Result<Outcome, Fault> {
             Ok(Outcome::Done)
         }
         Line::Init { file, key } => init(rt, file, key),
+        Line::Migrate { file } => migrate_file(rt, file),
         Line::Serve {
             file,
             zone,

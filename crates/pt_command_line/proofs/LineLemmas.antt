@@ -17,6 +17,7 @@ pub serve_port : (rows : List Row) (asked : Line) → Asks (codes "serve") rows 
     → (port : ℕ) × HasNumber rows (codes "PORT") 1 65_535 port
 serve_port rows (line.Rehearse key) asks = absurd (other _ _ refl asks.0)
 serve_port rows (line.Init file key) asks = absurd (other _ _ refl asks.0)
+serve_port rows (line.Migrate file) asks = absurd (other _ _ refl asks.0)
 serve_port rows (line.Serve file zone port count) asks = (port, asks.3)
 serve_port rows (line.Travel file zone key number day csv) asks = absurd (other _ _ refl asks.0)
 serve_port rows (line.Manifest file zone key vehicle day) asks = absurd (other _ _ refl asks.0)
@@ -26,6 +27,7 @@ pub serve_count : (rows : List Row) (asked : Line) → Asks (codes "serve") rows
     → (count : ℕ) × HasNumber rows (codes "COUNT") 1 1_000_000 count
 serve_count rows (line.Rehearse key) asks = absurd (other _ _ refl asks.0)
 serve_count rows (line.Init file key) asks = absurd (other _ _ refl asks.0)
+serve_count rows (line.Migrate file) asks = absurd (other _ _ refl asks.0)
 serve_count rows (line.Serve file zone port count) asks = (count, asks.4)
 serve_count rows (line.Travel file zone key number day csv) asks = absurd (other _ _ refl asks.0)
 serve_count rows (line.Manifest file zone key vehicle day) asks = absurd (other _ _ refl asks.0)
@@ -35,6 +37,7 @@ pub travel_number : (rows : List Row) (asked : Line) → Asks (codes "travel") r
     → (number : ℕ) × HasNumber rows (codes "NUMBER") 0 4_294_967_295 number
 travel_number rows (line.Rehearse key) asks = absurd (other _ _ refl asks.0)
 travel_number rows (line.Init file key) asks = absurd (other _ _ refl asks.0)
+travel_number rows (line.Migrate file) asks = absurd (other _ _ refl asks.0)
 travel_number rows (line.Serve file zone port count) asks = absurd (other _ _ refl asks.0)
 travel_number rows (line.Travel file zone key number day csv) asks = (number, asks.4)
 travel_number rows (line.Manifest file zone key vehicle day) asks = absurd (other _ _ refl asks.0)
@@ -44,6 +47,7 @@ pub travel_day : (rows : List Row) (asked : Line) → Asks (codes "travel") rows
     → (day : ℕ) × HasDay rows (codes "DAY") day
 travel_day rows (line.Rehearse key) asks = absurd (other _ _ refl asks.0)
 travel_day rows (line.Init file key) asks = absurd (other _ _ refl asks.0)
+travel_day rows (line.Migrate file) asks = absurd (other _ _ refl asks.0)
 travel_day rows (line.Serve file zone port count) asks = absurd (other _ _ refl asks.0)
 travel_day rows (line.Travel file zone key number day csv) asks = (day, asks.5)
 travel_day rows (line.Manifest file zone key vehicle day) asks = absurd (other _ _ refl asks.0)
@@ -53,6 +57,7 @@ pub manifest_vehicle : (rows : List Row) (asked : Line) → Asks (codes "manifes
     → (vehicle : ℕ) × HasNumber rows (codes "VEHICLE") 1 4_294_967_295 vehicle
 manifest_vehicle rows (line.Rehearse key) asks = absurd (other _ _ refl asks.0)
 manifest_vehicle rows (line.Init file key) asks = absurd (other _ _ refl asks.0)
+manifest_vehicle rows (line.Migrate file) asks = absurd (other _ _ refl asks.0)
 manifest_vehicle rows (line.Serve file zone port count) asks = absurd (other _ _ refl asks.0)
 manifest_vehicle rows (line.Travel file zone key number day csv) asks = absurd (other _ _ refl asks.0)
 manifest_vehicle rows (line.Manifest file zone key vehicle day) asks = (vehicle, asks.4)
@@ -62,6 +67,7 @@ pub manifest_day : (rows : List Row) (asked : Line) → Asks (codes "manifest") 
     → (day : ℕ) × HasDay rows (codes "DAY") day
 manifest_day rows (line.Rehearse key) asks = absurd (other _ _ refl asks.0)
 manifest_day rows (line.Init file key) asks = absurd (other _ _ refl asks.0)
+manifest_day rows (line.Migrate file) asks = absurd (other _ _ refl asks.0)
 manifest_day rows (line.Serve file zone port count) asks = absurd (other _ _ refl asks.0)
 manifest_day rows (line.Travel file zone key number day csv) asks = absurd (other _ _ refl asks.0)
 manifest_day rows (line.Manifest file zone key vehicle day) asks = (day, asks.5)
@@ -71,6 +77,7 @@ pub trips_day : (rows : List Row) (asked : Line) → Asks (codes "trips") rows a
     → (day : ℕ) × HasDay rows (codes "DAY") day
 trips_day rows (line.Rehearse key) asks = absurd (other _ _ refl asks.0)
 trips_day rows (line.Init file key) asks = absurd (other _ _ refl asks.0)
+trips_day rows (line.Migrate file) asks = absurd (other _ _ refl asks.0)
 trips_day rows (line.Serve file zone port count) asks = absurd (other _ _ refl asks.0)
 trips_day rows (line.Travel file zone key number day csv) asks = absurd (other _ _ refl asks.0)
 trips_day rows (line.Manifest file zone key vehicle day) asks = absurd (other _ _ refl asks.0)

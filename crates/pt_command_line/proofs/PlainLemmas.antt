@@ -69,6 +69,19 @@ unfolding clap_on_literals
 init_taken program file key file_is key_is =
     rw (file_is.dashes, file_is.none, file_is.none) (rw (key_is.dashes, key_is.none, key_is.none) refl)
 
+pub migrate_found : (program file : Text) → IsNoOption file
+    → subcommand_of desk_words (program ∷ codes "migrate" ∷ file ∷ [])
+    ≡ Some (codes "migrate", row (codes "FILE") file ∷ [])
+unfolding clap_on_literals
+migrate_found program file file_is =
+    rw (file_is.dashes, file_is.none, file_is.none) refl
+
+pub migrate_taken : (program file : Text) → IsNoOption file
+    → fault_of desk_words (program ∷ codes "migrate" ∷ file ∷ []) ≡ []
+unfolding clap_on_literals
+migrate_taken program file file_is =
+    rw (file_is.dashes, file_is.none, file_is.none) refl
+
 pub serve_found : (program file zone port count : Text) → IsNoOption file → IsNoOption zone → IsNoOption port → IsNoOption count
     → subcommand_of desk_words (program ∷ codes "serve" ∷ file ∷ zone ∷ port ∷ count ∷ [])
     ≡ Some (codes "serve", row (codes "FILE") file ∷ row (codes "ZONE") zone ∷ row (codes "PORT") port ∷ row (codes "COUNT") count ∷ [])
@@ -209,6 +222,9 @@ spelled_is_line words (line.Init file key) s =
     let f = plain _ s.2 in
     let k = plain _ s.3 in
     rw s.1 (init_taken s.0 _ _ f k, (codes "init", _, init_found s.0 _ _ f k, (refl, refl, refl)))
+spelled_is_line words (line.Migrate file) s =
+    let f = plain _ s.2 in
+    rw s.1 (migrate_taken s.0 _ f, (codes "migrate", _, migrate_found s.0 _ f, (refl, refl)))
 spelled_is_line words (line.Serve file zone port count) s =
     let f = plain _ s.4 in
     let z = plain _ s.5 in

@@ -32,6 +32,8 @@ same_asked name rows (line.Rehearse key) (line.Rehearse read_key) asks reads =
     same_word rows _ _ _ asks.1 reads.1
 same_asked name rows (line.Rehearse key) (line.Init read_file read_key) asks reads =
     absurd (other _ _ refl (subst (λ (text : Text). text ≡ codes "init") asks.0 reads.0))
+same_asked name rows (line.Rehearse key) (line.Migrate read_file) asks reads =
+    absurd (other _ _ refl (subst (λ (text : Text). text ≡ codes "migrate") asks.0 reads.0))
 same_asked name rows (line.Rehearse key) (line.Serve read_file read_zone read_port read_count) asks reads =
     absurd (other _ _ refl (subst (λ (text : Text). text ≡ codes "serve") asks.0 reads.0))
 same_asked name rows (line.Rehearse key) (line.Travel read_file read_zone read_key read_number read_day read_csv) asks reads =
@@ -44,6 +46,8 @@ same_asked name rows (line.Init file key) (line.Rehearse read_key) asks reads =
     absurd (other _ _ refl (subst (λ (text : Text). text ≡ codes "rehearse") asks.0 reads.0))
 same_asked name rows (line.Init file key) (line.Init read_file read_key) asks reads =
     (same_word rows _ _ _ asks.1 reads.1, same_word rows _ _ _ asks.2 reads.2)
+same_asked name rows (line.Init file key) (line.Migrate read_file) asks reads =
+    absurd (other _ _ refl (subst (λ (text : Text). text ≡ codes "migrate") asks.0 reads.0))
 same_asked name rows (line.Init file key) (line.Serve read_file read_zone read_port read_count) asks reads =
     absurd (other _ _ refl (subst (λ (text : Text). text ≡ codes "serve") asks.0 reads.0))
 same_asked name rows (line.Init file key) (line.Travel read_file read_zone read_key read_number read_day read_csv) asks reads =
@@ -52,10 +56,26 @@ same_asked name rows (line.Init file key) (line.Manifest read_file read_zone rea
     absurd (other _ _ refl (subst (λ (text : Text). text ≡ codes "manifest") asks.0 reads.0))
 same_asked name rows (line.Init file key) (line.Trips read_file read_zone read_key read_day) asks reads =
     absurd (other _ _ refl (subst (λ (text : Text). text ≡ codes "trips") asks.0 reads.0))
+same_asked name rows (line.Migrate file) (line.Rehearse read_key) asks reads =
+    absurd (other _ _ refl (subst (λ (text : Text). text ≡ codes "rehearse") asks.0 reads.0))
+same_asked name rows (line.Migrate file) (line.Init read_file read_key) asks reads =
+    absurd (other _ _ refl (subst (λ (text : Text). text ≡ codes "init") asks.0 reads.0))
+same_asked name rows (line.Migrate file) (line.Migrate read_file) asks reads =
+    same_word rows _ _ _ asks.1 reads.1
+same_asked name rows (line.Migrate file) (line.Serve read_file read_zone read_port read_count) asks reads =
+    absurd (other _ _ refl (subst (λ (text : Text). text ≡ codes "serve") asks.0 reads.0))
+same_asked name rows (line.Migrate file) (line.Travel read_file read_zone read_key read_number read_day read_csv) asks reads =
+    absurd (other _ _ refl (subst (λ (text : Text). text ≡ codes "travel") asks.0 reads.0))
+same_asked name rows (line.Migrate file) (line.Manifest read_file read_zone read_key read_vehicle read_day) asks reads =
+    absurd (other _ _ refl (subst (λ (text : Text). text ≡ codes "manifest") asks.0 reads.0))
+same_asked name rows (line.Migrate file) (line.Trips read_file read_zone read_key read_day) asks reads =
+    absurd (other _ _ refl (subst (λ (text : Text). text ≡ codes "trips") asks.0 reads.0))
 same_asked name rows (line.Serve file zone port count) (line.Rehearse read_key) asks reads =
     absurd (other _ _ refl (subst (λ (text : Text). text ≡ codes "rehearse") asks.0 reads.0))
 same_asked name rows (line.Serve file zone port count) (line.Init read_file read_key) asks reads =
     absurd (other _ _ refl (subst (λ (text : Text). text ≡ codes "init") asks.0 reads.0))
+same_asked name rows (line.Serve file zone port count) (line.Migrate read_file) asks reads =
+    absurd (other _ _ refl (subst (λ (text : Text). text ≡ codes "migrate") asks.0 reads.0))
 same_asked name rows (line.Serve file zone port count) (line.Serve read_file read_zone read_port read_count) asks reads =
     (same_word rows _ _ _ asks.1 reads.1, same_word rows _ _ _ asks.2 reads.2, same_number rows _ _ _ _ _ asks.3 reads.3, same_number rows _ _ _ _ _ asks.4 reads.4)
 same_asked name rows (line.Serve file zone port count) (line.Travel read_file read_zone read_key read_number read_day read_csv) asks reads =
@@ -68,6 +88,8 @@ same_asked name rows (line.Travel file zone key number day csv) (line.Rehearse r
     absurd (other _ _ refl (subst (λ (text : Text). text ≡ codes "rehearse") asks.0 reads.0))
 same_asked name rows (line.Travel file zone key number day csv) (line.Init read_file read_key) asks reads =
     absurd (other _ _ refl (subst (λ (text : Text). text ≡ codes "init") asks.0 reads.0))
+same_asked name rows (line.Travel file zone key number day csv) (line.Migrate read_file) asks reads =
+    absurd (other _ _ refl (subst (λ (text : Text). text ≡ codes "migrate") asks.0 reads.0))
 same_asked name rows (line.Travel file zone key number day csv) (line.Serve read_file read_zone read_port read_count) asks reads =
     absurd (other _ _ refl (subst (λ (text : Text). text ≡ codes "serve") asks.0 reads.0))
 same_asked name rows (line.Travel file zone key number day csv) (line.Travel read_file read_zone read_key read_number read_day read_csv) asks reads =
@@ -80,6 +102,8 @@ same_asked name rows (line.Manifest file zone key vehicle day) (line.Rehearse re
     absurd (other _ _ refl (subst (λ (text : Text). text ≡ codes "rehearse") asks.0 reads.0))
 same_asked name rows (line.Manifest file zone key vehicle day) (line.Init read_file read_key) asks reads =
     absurd (other _ _ refl (subst (λ (text : Text). text ≡ codes "init") asks.0 reads.0))
+same_asked name rows (line.Manifest file zone key vehicle day) (line.Migrate read_file) asks reads =
+    absurd (other _ _ refl (subst (λ (text : Text). text ≡ codes "migrate") asks.0 reads.0))
 same_asked name rows (line.Manifest file zone key vehicle day) (line.Serve read_file read_zone read_port read_count) asks reads =
     absurd (other _ _ refl (subst (λ (text : Text). text ≡ codes "serve") asks.0 reads.0))
 same_asked name rows (line.Manifest file zone key vehicle day) (line.Travel read_file read_zone read_key read_number read_day read_csv) asks reads =
@@ -92,6 +116,8 @@ same_asked name rows (line.Trips file zone key day) (line.Rehearse read_key) ask
     absurd (other _ _ refl (subst (λ (text : Text). text ≡ codes "rehearse") asks.0 reads.0))
 same_asked name rows (line.Trips file zone key day) (line.Init read_file read_key) asks reads =
     absurd (other _ _ refl (subst (λ (text : Text). text ≡ codes "init") asks.0 reads.0))
+same_asked name rows (line.Trips file zone key day) (line.Migrate read_file) asks reads =
+    absurd (other _ _ refl (subst (λ (text : Text). text ≡ codes "migrate") asks.0 reads.0))
 same_asked name rows (line.Trips file zone key day) (line.Serve read_file read_zone read_port read_count) asks reads =
     absurd (other _ _ refl (subst (λ (text : Text). text ≡ codes "serve") asks.0 reads.0))
 same_asked name rows (line.Trips file zone key day) (line.Travel read_file read_zone read_key read_number read_day read_csv) asks reads =

@@ -19,6 +19,10 @@ rehearse_words = command (codes "rehearse") (codes "KEY" ∷ [])
 abbrev pub init_words : App
 init_words = command (codes "init") (codes "FILE" ∷ codes "KEY" ∷ [])
 
+-- migrate FILE
+abbrev pub migrate_words : App
+migrate_words = command (codes "migrate") (codes "FILE" ∷ [])
+
 -- serve FILE ZONE PORT COUNT
 abbrev pub serve_words : App
 serve_words = command (codes "serve") (codes "FILE" ∷ codes "ZONE" ∷ codes "PORT" ∷ codes "COUNT" ∷ [])
@@ -49,4 +53,4 @@ program_words = on_top (λ top. record top {
 -- desk and its commands
 abbrev pub desk_words : App
 desk_words = fold (λ desk command. with_subcommand desk command.top) program_words
-    (rehearse_words ∷ init_words ∷ serve_words ∷ travel_words ∷ manifest_words ∷ trips_words ∷ [])
+    (rehearse_words ∷ init_words ∷ serve_words ∷ travel_words ∷ manifest_words ∷ trips_words ∷ migrate_words ∷ [])

@@ -29,6 +29,7 @@ abbrev pub Asks : Text → List Row → Line → Type 0
 Asks name rows (line.Rehearse key) = (name ≡ codes "rehearse") × HasWord rows (codes "KEY") key.now
 Asks name rows (line.Init file key) =
     (name ≡ codes "init") × HasWord rows (codes "FILE") file.now × HasWord rows (codes "KEY") key.now
+Asks name rows (line.Migrate file) = (name ≡ codes "migrate") × HasWord rows (codes "FILE") file.now
 Asks name rows (line.Serve file zone port count) =
     (name ≡ codes "serve") × HasWord rows (codes "FILE") file.now × HasWord rows (codes "ZONE") zone.now
     × HasNumber rows (codes "PORT") 1 65_535 port × HasNumber rows (codes "COUNT") 1 1_000_000 count
@@ -64,6 +65,8 @@ SpellsLine words (line.Rehearse key) =
 SpellsLine words (line.Init file key) =
     (program : Text) × (words ≡ program ∷ codes "init" ∷ file.now ∷ key.now ∷ [])
     × IsPlainWord file.now × IsPlainWord key.now
+SpellsLine words (line.Migrate file) =
+    (program : Text) × (words ≡ program ∷ codes "migrate" ∷ file.now ∷ []) × IsPlainWord file.now
 SpellsLine words (line.Serve file zone port count) =
     (program first second : Text)
     × (words ≡ program ∷ codes "serve" ∷ file.now ∷ zone.now ∷ first ∷ second ∷ [])
@@ -88,6 +91,7 @@ SpellsLine words (line.Trips file zone key day) =
 abbrev pub IsSameLine : Line → Line → Type 0
 IsSameLine (line.Rehearse key) (line.Rehearse read_key) = read_key.now ≡ key.now
 IsSameLine (line.Init file key) (line.Init read_file read_key) = (read_file.now ≡ file.now) × (read_key.now ≡ key.now)
+IsSameLine (line.Migrate file) (line.Migrate read_file) = read_file.now ≡ file.now
 IsSameLine (line.Serve file zone port count) (line.Serve read_file read_zone read_port read_count) =
     (read_file.now ≡ file.now) × (read_zone.now ≡ zone.now) × (read_port ≡ port) × (read_count ≡ count)
 IsSameLine (line.Travel file zone key number day csv) (line.Travel file_read zone_read key_read count on table) =

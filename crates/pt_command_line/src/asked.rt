@@ -25,6 +25,10 @@ pub enum Line<'a> {
         file: &'a str,
         key: &'a str,
     },
+    /// To make a database of the first version one of this version.
+    Migrate {
+        file: &'a str,
+    },
     /// To answer so many connections on a port, by the clocks of a zone.
     Serve {
         file: &'a str,
@@ -108,6 +112,16 @@ fn init_line<'a>(words: &ArgMatches<'a>) -> Option<Line<'a>>
     Some(Line::Init { file, key })
 }
 
+/// What `migrate` asks for with these words.
+fn migrate_line<'a>(words: &ArgMatches<'a>) -> Option<Line<'a>>
+    ensures line { IfSome result (Asks (codes "migrate") (rows_of (found_of words.now))) }
+    ensures none { IsNone result → (asked : Line)
+        → ¬ (Asks (codes "migrate") (rows_of (found_of words.now)) asked) }
+{
+    let file = word_at(words, "FILE")?;
+    Some(Line::Migrate { file })
+}
+
 /// What `serve` asks for with these words.
 fn serve_line<'a>(words: &ArgMatches<'a>) -> Option<Line<'a>>
     ensures line { IfSome result (Asks (codes "serve") (rows_of (found_of words.now))) }
@@ -175,6 +189,7 @@ fn line_of<'a>(name: &str, words: &ArgMatches<'a>) -> Option<Line<'a>>
     match name {
         "rehearse" => rehearse_line(words),
         "init" => init_line(words),
+        "migrate" => migrate_line(words),
         "serve" => serve_line(words),
         "travel" => travel_line(words),
         "manifest" => manifest_line(words),

@@ -2,8 +2,9 @@ ghost use Rattle.std.specs.Prelude.{◌≡◌, ◌≢◌, ◌⊎◌, Err, IfErr,
 ghost use Rattle.clap.specs.Words.{FailsBy, HasMatchesOf, app_of, fault_of, new_app, with_rule, with_subcommand};
 ghost use Rattle.clap.specs.declared.error.kind.ErrorKind.TheVariants.{OutOfMemory};
 ghost use Rattle.clap.specs.declared.builder.command.Command.TheViews.{out-Command as fields_of};
-ghost use Rattle.pt_command_line.specs.CommandLine.{desk_words, init_words, manifest_words, place, program_words};
-ghost use Rattle.pt_command_line.specs.CommandLine.{rehearse_words, serve_words, travel_words, trips_words};
+ghost use Rattle.pt_command_line.specs.CommandLine.{desk_words, init_words, manifest_words, migrate_words, place};
+ghost use Rattle.pt_command_line.specs.CommandLine.{program_words, rehearse_words, serve_words, travel_words};
+ghost use Rattle.pt_command_line.specs.CommandLine.{trips_words};
 ghost use Rattle.pt_command_line.specs.Codes.{wrong_words};
 ghost use Rattle.pt_command_line.specs.Line.{IsLine, IsSameLine, SpellsLine};
 ghost use Rattle.pt_command_line.specs.declared.asked.Line.{Line};
@@ -28,7 +29,8 @@ const ABOUT: &str = "The office system of a transit agency that gives complement
 const VERSION: &str = "0.9.0";
 
 const EXIT_STATUS: &str = "Exit status: 0 done, 1 denied, 2 wrong words, 3 want of memory or the \
-store, 4 another fault. With 3 and 4 standard error has the line `fault C row R`.";
+store, 4 another fault. With 3 and 4 standard error has the line `fault C row R`.\n\
+A file of version 1 is refused with fault 30: `desk migrate FILE` turns it into one of this version.";
 
 const REHEARSE: &str = "Answers HTTP requests from standard input, on a desk in memory that \
 begins with one admin. Before each request stands a line `@ YYYY-MM-DD M`: its day, and the \
@@ -36,6 +38,9 @@ minute of that day. Replies go to standard output. For example: desk rehearse KE
 
 const INIT: &str = "Makes a new database with one caller, the admin, who has number 1. \
 For example: desk init desk.db KEY";
+
+const MIGRATE: &str = "Turns a file of version 1 into one of this version, and prints `done`. \
+For example: desk migrate desk.db";
 
 const SERVE: &str = "Answers HTTP requests on 127.0.0.1, one on each connection, one connection \
 after another. For example: desk serve desk.db EST5EDT,M3.2.0,M11.1.0 8080 1000000";
@@ -113,6 +118,15 @@ fn init_command<'a>(alloc: Global) -> Result<Command<'a>, AllocError>
     let command = command_of(alloc, "init", INIT);
     let command = with_place(alloc, command, "FILE", NEW_FILE)?;
     with_place(alloc, command, "KEY", ADMIN_KEY)
+}
+
+/// The command `migrate`.
+fn migrate_command<'a>(alloc: Global) -> Result<Command<'a>, AllocError>
+    ensures app { IfOk result (λ command. app_of command ≡ migrate_words) }
+    ensures local { IfOk result (λ command. (fields_of command).has_globals ≡ false) }
+{
+    let command = command_of(alloc, "migrate", MIGRATE);
+    with_place(alloc, command, "FILE", FILE)
 }
 
 /// The command `serve`.
@@ -194,7 +208,8 @@ fn desk_command<'a>(alloc: Global) -> Result<Command<'a>, AllocError>
     let desk = with_command(desk, serve_command(alloc)?)?;
     let desk = with_command(desk, travel_command(alloc)?)?;
     let desk = with_command(desk, manifest_command(alloc)?)?;
-    with_command(desk, trips_command(alloc)?)
+    let desk = with_command(desk, trips_command(alloc)?)?;
+    with_command(desk, migrate_command(alloc)?)
 }
 
 /// What stands at the places of the command that the words name, the program's own name first.

@@ -1,5 +1,6 @@
-ghost use Rattle.std.specs.Prelude.{◌≡◌, ◌++◌, codes, IfErr, IfOk, OnOk, Ok, Result};
+ghost use Rattle.std.specs.Prelude.{◌≡◌, ◌⊎◌, ◌++◌, codes, IfErr, IfOk, OnOk, Ok, Result};
 ghost use Rattle.std.specs.Io.KnownBytes.{Appends};
+ghost use Rattle.pt_commands.specs.declared.outcome.Outcome.TheVariants.{Done};
 ghost use Rattle.pt_commands.specs.Told.{EndsBy, ending_of, fault_of, told_text};
 ghost use Rattle.pt_base.specs.Codes.{memory_refused, write_failed};
 ghost use Rattle.pt_base.specs.Fault.{fault};
@@ -68,6 +69,19 @@ fn print<W: Write>(text: &[u8], out: &mut W) -> Result<(), Fault>
         return Err(Fault::of(WRITE_FAILED));
     }
     Ok(())
+}
+
+/// Says that what was asked for is done.
+///
+/// The error is want of memory, or a write that failed: it is done all the same.
+pub fn print_done<W: Write>(alloc: Global, out: &mut W) -> Result<Outcome, Fault>
+    ensures done { IfOk result (λ outcome. outcome ≡ Done) }
+    ensures printed { OnOk result (Appends (W.contents out.old) (W.contents out.new) (codes "done\n")) }
+    ensures fault { IfErr result (λ error. (error ≡ fault memory_refused) ⊎ (error ≡ fault write_failed)) }
+{
+    let text = line_of(alloc, "done")?;
+    print(text.as_slice(), out)?;
+    Ok(Outcome::Done)
 }
 
 /// Prints what a reply tells.

@@ -1,7 +1,7 @@
 //! What a command of the program `desk` asks the desk, prints and ends with, and the exit status that tells it.
 #![tactic(auto)]
 
-pub use asking::{ask, fault_of};
+pub use asking::{ask, fault_of, print_done};
 pub use outcome::{Outcome, STORE_REFUSED, exit_status, outcome_of, outcome_of_refusal};
 pub use rehearsal::rehearse_with_key;
 

@@ -19,6 +19,7 @@ returns c =
     ≡ more (more (more (more program_words rehearse_words) init_words) serve_words) travel_words =
     c.in_ok-desk-4.ensures ∙ ap₂ more third c.in_ok-travel_command.ensures.app in
     let fifth = c.in_ok-desk-5.ensures ∙ ap₂ more fourth c.in_ok-manifest_command.ensures.app in
-    IfOk-weaker c.with_command-6.result _ _
-    (λ command added. added ∙ ap₂ more fifth c.in_ok-trips_command.ensures.app)
-    c.with_command-6.ensures
+    let sixth = c.in_ok-desk-6.ensures ∙ ap₂ more fifth c.in_ok-trips_command.ensures.app in
+    IfOk-weaker c.with_command-7.result _ _
+    (λ command added. added ∙ ap₂ more sixth c.in_ok-migrate_command.ensures.app)
+    c.with_command-7.ensures
