@@ -13,13 +13,14 @@ function record() {
     const outcome = make("div", { role: "status" }), id = idField("id", "Rider number");
     id.write(subjectOf("rider"));
     const whole = form({ name: "Rider's record", action: "Put the record", purpose: "rider",
-        fields: [id, choiceField("kind", "Kind", KINDS), tickField("attendant", "May bring an attendant, who rides free")],
+        fields: [id, choiceField("kind", "Kind", KINDS), tickField("attendant", "May bring an attendant, who rides free"),
+            tickField("wheelchair", "Comes in a wheelchair, and takes a wheelchair place")],
         send: desk.putRider, done: (_, values) => {
             keepSubject("rider", values.id);
             outcome.replaceChildren(make("p", { class: "good" }, `Rider ${values.id} is on record as a ${values.kind}.`));
         } });
     return make("section", { class: "card" }, make("h2", {}, "A rider's record"),
-        make("p", { class: "hint" }, "Makes the record, or changes whether it names an attendant."), whole, outcome);
+        make("p", { class: "hint" }, "Makes the record, or changes what it says of an attendant and a wheelchair. Trips that are booked keep what it said."), whole, outcome);
 }
 
 const forRider = (draw) => () => withSubject("rider", "Rider number", "Show", draw);

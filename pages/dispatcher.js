@@ -143,7 +143,8 @@ function vehicles() {
     const whole = form({ name: "A vehicle", action: "Put the vehicle", purpose: "vehicle", fields: [
         idField("id", "Vehicle number"), textField("name", "Name, for the pages alone", { optional: true }),
         dayField("from_day", "This holds from", { value: today() }), weekdaysField("days", "On duty on"),
-        choiceField("depot", "Depot", placePairs(), { empty: "Choose…" }), numberField("capacity", "Persons that it carries", 1, 30), opens, closes,
+        choiceField("depot", "Depot", placePairs(), { empty: "Choose…" }), numberField("capacity", "Seats", 1, 30),
+        numberField("chairs", "Wheelchair places", 0, 10, { value: 0 }), opens, closes,
         numberField("duration", "Minutes that it may be out", 1, 1439)],
     send: ({ name, ...fields }) => (fields.opens > fields.closes ? { denied: "http.field", field: "opens" } : desk.putVehicle(fields)),
     done: (_, { id, name, from_day: day }) => {

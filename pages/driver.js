@@ -6,7 +6,7 @@ import * as desk from "./desk.js";
 import { denialOf } from "./fields.js";
 import { asked, button, make, say, sheetOf } from "./page.js";
 import { withSubject } from "./subject.js";
-import { manifestsIn } from "./texts.js";
+import { aboardWords, manifestsIn } from "./texts.js";
 
 const RENEWED = 60_000;
 const OUTCOMES = { ridden: ["Ridden", "The rider rode."], "missed-rider": ["Rider did not come", "The rider was not there, or did not want to ride."],
@@ -36,7 +36,7 @@ function stopWords(stop) {
     const window = stop.window && make("p", {}, `Promised between ${clock(stop.window[0])} and ${clock(stop.window[1])}.`);
     return [make("p", { class: "when" }, clock(stop.at)),
         make("h2", {}, stop.trip ? `${WORDS[stop.what]} rider ${stop.rider}` : WORDS.DEPOT), place, window,
-        stop.trip && make("p", {}, `Trip ${stop.trip}. ${stop.load} aboard after this stop.`)];
+        stop.trip && make("p", {}, `Trip ${stop.trip}. Aboard after this stop: ${aboardWords(stop)}.`)];
 }
 
 function nextStop(stop, { told, passedOn, outcome }) {

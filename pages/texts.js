@@ -2,7 +2,7 @@
 
 import { dayInWords, isDay } from "./clock.js";
 
-const STOP = /^(\d\d):(\d\d) (?:(DEPOT) (\d+)|(PICK|DROP) trip (\d+) rider (\d+) place (\d+) load (\d+)(.*))$/;
+const STOP = /^(\d\d):(\d\d) (?:(DEPOT) (\d+)|(PICK|DROP) trip (\d+) rider (\d+) place (\d+) load (\d+)(?: chairs (\d+))?(.*))$/;
 const WINDOW = /window (\d\d):(\d\d)-(\d\d):(\d\d)/;
 
 const minute = (hours, minutes) => Number(hours) * 60 + Number(minutes);
@@ -12,10 +12,14 @@ function stopOf(line) {
     if (!found) return null;
     const at = minute(found[1], found[2]);
     if (found[3]) return { at, what: "DEPOT", place: Number(found[4]), load: 0 };
-    const window = WINDOW.exec(found[10]);
+    const window = WINDOW.exec(found[11]);
     return { at, what: found[5], trip: Number(found[6]), rider: Number(found[7]), place: Number(found[8]), load: Number(found[9]),
-        window: window && [minute(window[1], window[2]), minute(window[3], window[4])] };
+        chairs: found[10] && Number(found[10]), window: window && [minute(window[1], window[2]), minute(window[3], window[4])] };
 }
+
+// How many are aboard after a stop, in seats and in wheelchair places; and that in words, the places only where the vehicle has some.
+export const aboardAt = ({ load, chairs }) => load + (chairs ?? 0);
+export const aboardWords = ({ load, chairs }) => (chairs === undefined ? `${load}` : `${load} in seats, ${chairs} in wheelchairs`);
 
 // The manifests of a manifest or of a day sheet: {vehicle, day, stops, text}.
 export function manifestsIn(text) {

@@ -3,6 +3,7 @@
 import { placeName, vehicleName } from "./agency.js";
 import { clock } from "./clock.js";
 import { button, draw, make, table } from "./page.js";
+import { aboardAt, aboardWords } from "./texts.js";
 
 const HEIGHT = 64, LANE = 40, HOUR = 60, WORDS = { DEPOT: "depot", PICK: "pickup", DROP: "drop" };
 
@@ -33,10 +34,10 @@ function stopShape({ at, what }, x) {
 // The way from a stop to the next, as thick as the vehicle is full, with the number aboard where there is room for it.
 function legShape(stop, next, x) {
     const wide = x(next.at) - x(stop.at);
-    const leg = draw("line", { class: stop.load ? "leg loaded" : "leg", x1: x(stop.at), x2: x(next.at), y1: LANE, y2: LANE,
-        "stroke-width": stop.load ? Math.min(9, 2 + stop.load) : 1.5 });
-    const number = stop.load > 0 && wide > 26 && draw("text", { class: "load", x: x(stop.at) + wide / 2, y: LANE + 18, "text-anchor": "middle" },
-        String(stop.load));
+    const leg = draw("line", { class: aboardAt(stop) ? "leg loaded" : "leg", x1: x(stop.at), x2: x(next.at), y1: LANE, y2: LANE,
+        "stroke-width": aboardAt(stop) ? Math.min(9, 2 + aboardAt(stop)) : 1.5 });
+    const number = aboardAt(stop) > 0 && wide > 26 && draw("text", { class: "load", x: x(stop.at) + wide / 2, y: LANE + 18, "text-anchor": "middle" },
+        String(aboardAt(stop)));
     return [leg, number];
 }
 
@@ -84,5 +85,5 @@ export function tableOfDay(manifests) {
         { head: "What", cell: ({ what }) => WORDS[what] ?? "" }, { head: "Trip", cell: ({ trip }) => String(trip ?? "") },
         { head: "Rider", cell: ({ rider }) => String(rider ?? "") },
         { head: "Where", cell: ({ place }) => (place ? placeName(place) : "") },
-        { head: "Aboard after", cell: ({ load }) => String(load ?? ""), number: true }, { head: "Promised", cell: windowWords }], rows);
+        { head: "Aboard after", cell: (stop) => (stop.load === undefined ? "" : aboardWords(stop)), number: true }, { head: "Promised", cell: windowWords }], rows);
 }

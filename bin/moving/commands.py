@@ -205,8 +205,8 @@ def vehicles(words):
     print(f"{len(records)} vehicles:")
     for it in records:
         hours = f"{fixed.days_text(it['days'])} {fixed.clock(it['opens'])}-{fixed.clock(it['closes'])}"
-        print(f"  {it['number']}: {it['name']}: from {it['from_day']}, {hours}, {it['capacity']} persons, "
-              f"depot {it['depot']}")
+        print(f"  {it['number']}: {it['name']}: from {it['from_day']}, {hours}, {it['capacity']} seats, "
+              f"{it['chairs']} wheelchair places, depot {it['depot']}")
     carry.planned(refused, unread_told(unread))
     if words.plan:
         return ended(refused)

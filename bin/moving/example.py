@@ -131,9 +131,9 @@ def records(today):
     return {
         "places": [("number", "name", "latitude", "longitude", "core"),
                    *((number, name, *position(x, y), core) for number, name, x, y, core in PLACES)],
-        "vehicles": [("number", "name", "from_day", "days", "depot", "capacity", "opens", "closes", "duration"),
-                     (1, "Van 12", today, "1-7", 1, 4, "05:00", "23:00", 900),
-                     (2, "Van 14", today, "1-5", 1, 8, "06:00", "20:00", 840)],
+        "vehicles": [("number", "name", "from_day", "days", "depot", "capacity", "opens", "closes", "duration", "chairs"),
+                     (1, "Van 12", today, "1-7", 1, 4, "05:00", "23:00", 900, 1),
+                     (2, "Van 14", today, "1-5", 1, 8, "06:00", "20:00", 840, 2)],
         "callers": [("number", "name", "role", "subject"), (2, "Ana Ruiz", "clerk", ""),
                     (3, "Bo Lind", "dispatcher", ""), (4, "Cy Odum", "examiner", ""), (5, "Di Park", "officer", "")],
         "riders": [("number", "kind", "attendant", "wheelchair", "until", "conditions"), *riders,

@@ -43,13 +43,14 @@ def told_riders(records):
         print(f"  {without} residents have no last day in the table, and get a record alone: they may not ride yet")
     marked = sum(it["wheelchair"] for it in records)
     if marked:
-        print(f"  {marked} riders use a wheelchair; the desk does not keep that yet, so keep the table")
+        print(f"  {marked} riders come in a wheelchair: their vehicles need a wheelchair place")
 
 
 def put_rider(record, clerk, examiner):
     """The record, then the application and its grant, unless the rider has that grant already."""
     def do():
-        body = {"id": record["number"], "kind": record["kind"], "attendant": record["attendant"]}
+        body = {"id": record["number"], "kind": record["kind"], "attendant": record["attendant"],
+                "wheelchair": record["wheelchair"]}
         accepted(clerk.post("/riders", body))
         if record["until"]:
             grant(record, clerk, examiner)

@@ -4,7 +4,7 @@ import csv
 import datetime
 import re
 
-from moving.limits import GREATEST_COORDINATE, HIGHEST_NUMBER, LAST_MINUTE, MOST_PERSONS, Wrong
+from moving.limits import GREATEST_COORDINATE, HIGHEST_NUMBER, LAST_MINUTE, MOST_CHAIRS, MOST_SEATS, Wrong
 
 CONDITION = re.compile(r"always|nolift|farther:[1-9]\d*|months:[1-9]\d?(,[1-9]\d?)*")
 WEEKDAY_PART = re.compile(r"([1-7])(?:-([1-7]))?")
@@ -107,8 +107,9 @@ COLUMNS = {
     },
     "vehicles": {
         "number": NUMBER, "name": NAME, "from_day": Column(day, REQUIRED), "days": Column(weekdays, []),
-        "depot": NUMBER, "capacity": Column(whole(1, MOST_PERSONS), REQUIRED), "opens": Column(minute, REQUIRED),
+        "depot": NUMBER, "capacity": Column(whole(1, MOST_SEATS), REQUIRED), "opens": Column(minute, REQUIRED),
         "closes": Column(minute, REQUIRED), "duration": Column(whole(1, LAST_MINUTE), REQUIRED),
+        "chairs": Column(whole(0, MOST_CHAIRS), 0),
     },
     "callers": {
         "number": Column(whole(2, HIGHEST_NUMBER), REQUIRED), "name": NAME,
