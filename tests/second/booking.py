@@ -7,7 +7,7 @@ from second.replies import Denied
 MINUTES_FROM_WISH, MINUTES_PROMISED, DAYS_AHEAD = 60, 15, 14
 
 Wish = collections.namedtuple("Wish", "day wish origin goal by attendant companions")
-Trip = collections.namedtuple("Trip", "number rider wish fare service ride vehicle window status")
+Trip = collections.namedtuple("Trip", "number rider wish fare service ride vehicle window status wheelchair")
 
 
 def wish_in(values):
@@ -60,7 +60,7 @@ def planned(desk, number, rider, wish):
     direct = times.between(wish.origin, wish.goal)
     wide = max(0, wish.wish - MINUTES_FROM_WISH), min(days.LAST_MINUTE, wish.wish + MINUTES_FROM_WISH)
     ride = (direct or 0) + desk.policy["extra_ride"]
-    trip = Trip(number, rider, wish, parties.fare(desk, wish), desk.policy["service"], ride, None, wide, "booked")
+    trip = Trip(number, rider, wish, parties.fare(desk, wish), desk.policy["service"], ride, None, wide, "booked", desk.riders[rider].wheelchair)
     found = insertion.best(vehicles.on_duty(desk, wish.day), routes_without(desk, wish.day, number), trip, times)
     if found is None:
         raise Denied("no vehicle")

@@ -38,6 +38,15 @@ def truth(value):
     return value
 
 
+def truth_if_any(value):
+    return value is not None and truth(value)
+
+
+def whole_if_any(low, high):
+    """A whole number, or 0 where there is none."""
+    return lambda value: 0 if value is None else whole(low, high)(value)
+
+
 def day(value):
     found = days.day_in(value)
     if found is None:

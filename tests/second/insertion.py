@@ -20,7 +20,7 @@ def pairs_of_places(stops, trip):
 def tried(version, stops, times):
     """The minutes and the driving of a route, or None where it breaks a limit."""
     visits = service_times.visits_of(version, stops)
-    if max(service_times.loads(visits, parties.persons)) > version.capacity:
+    if any(seats > version.capacity or chairs > version.chairs for seats, chairs in service_times.loads(visits, parties.load)):
         return None
     legs = service_times.drives(visits, times)
     minutes = None if legs is None else service_times.least(visits, legs, version.duration)

@@ -4,13 +4,13 @@ from second.days import clock
 from second.replies import Denied
 
 
-def line_of(visit, minute, load):
+def line_of(version, visit, minute, load):
     if visit.trip is None:
         return f"{clock(minute)} DEPOT {visit.place}"
     trip, is_pickup = visit.trip, visit.kind == service_times.PICKUP
     window = f" window {clock(trip.window[0])}-{clock(trip.window[1])}" if is_pickup else ""
     return (f"{clock(minute)} {'PICK' if is_pickup else 'DROP'} trip {trip.number} rider {trip.rider} place {visit.place} "
-            f"load {load}{window}")
+            f"load {load[0]}{f' chairs {load[1]}' if version.chairs else ''}{window}")
 
 
 def lines(desk, number, day):
@@ -21,7 +21,7 @@ def lines(desk, number, day):
     visits = service_times.visits_of(version, stops)
     legs = service_times.drives(visits, travel.Times(desk, day))
     minutes = service_times.least(visits, legs, version.duration)
-    return [line_of(*it) for it in zip(visits, minutes, service_times.loads(visits, parties.persons))]
+    return [line_of(version, *it) for it in zip(visits, minutes, service_times.loads(visits, parties.load))]
 
 
 def manifest_lines(desk, number, day):

@@ -12,6 +12,11 @@ def persons(wish):
     return 1 + wish.companions + wish.attendant
 
 
+def load(trip):
+    """The seats and the wheelchair places that the party takes."""
+    return persons(trip.wish) - trip.wheelchair, int(trip.wheelchair)
+
+
 def fare(desk, wish):
     """The fare of one person in cents: the agency's, but at most twice that of fixed routes."""
     ends = [desk.places[wish.origin], desk.places[wish.goal]]

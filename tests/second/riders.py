@@ -5,7 +5,7 @@ from second.replies import Denied
 
 MOST_RIDERS = 100_000
 
-Rider = collections.namedtuple("Rider", "kind attendant")
+Rider = collections.namedtuple("Rider", "kind attendant wheelchair")
 
 
 def put(desk, values):
@@ -14,7 +14,7 @@ def put(desk, values):
         raise Denied("desk.exists")
     if not there and len(desk.riders) >= MOST_RIDERS:
         raise Denied("desk.full")
-    desk.riders[values["id"]] = Rider(values["kind"], values["attendant"])
+    desk.riders[values["id"]] = Rider(values["kind"], values["attendant"], values["wheelchair"])
 
 
 def need(desk, number):

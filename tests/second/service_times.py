@@ -55,11 +55,13 @@ def least(visits, legs, duration):
     return minutes
 
 
-def loads(visits, persons):
-    """Who is aboard after each visit."""
-    aboard, found = 0, []
+def loads(visits, load):
+    """The seats and the wheelchair places that are taken after each visit."""
+    seats, chairs, found = 0, 0, []
     for visit in visits:
         if visit.trip:
-            aboard += persons(visit.trip.wish) if visit.kind == PICKUP else -persons(visit.trip.wish)
-        found.append(aboard)
+            more, places = load(visit.trip)
+            sign = 1 if visit.kind == PICKUP else -1
+            seats, chairs = seats + sign * more, chairs + sign * places
+        found.append((seats, chairs))
     return found

@@ -11,12 +11,13 @@ NONE = -1
 # What is read of each table. How a request and a reply are spelled in `kept` is no part of docs/FORMATS.md.
 QUERIES = {
     table: f"SELECT {'caller, number' if table == 'kept' else '*'} FROM {table}"
-    for table in ["desk", "callers", "kept", "places", "fixed", "vehicles", "riders", "entries", "trips", "stops", "travel"]
+    for table in ["desk", "callers", "kept", "places", "fixed", "vehicles", "riders", "entries", "trips", "stops", "travel",
+                  "rider_chairs", "vehicle_chairs", "trip_chairs"]
 }
 
 
 def desk(it):
-    return [(1, 1, *it.policy.values(), it.last_trip)]
+    return [(1, 2, *it.policy.values(), it.last_trip)]
 
 
 def callers(it):
@@ -40,7 +41,7 @@ def fixed(it):
 
 def vehicles(it):
     return [
-        (number, number_of(day), bits(one.days), *one[1:]) for number, versions in it.vehicles.items() for day, one in versions.items()
+        (number, number_of(day), bits(one.days), *one[1:-1]) for number, versions in it.vehicles.items() for day, one in versions.items()
     ]
 
 
@@ -84,7 +85,21 @@ def travel(it):
     ]
 
 
-MAKERS = [desk, callers, kept, places, fixed, vehicles, riders, entries, trips, stops, travel]
+def rider_chairs(it):
+    return [(number,) for number, rider in it.riders.items() if rider.wheelchair]
+
+
+def vehicle_chairs(it):
+    return [
+        (number, number_of(day), one.chairs) for number, versions in it.vehicles.items() for day, one in versions.items() if one.chairs
+    ]
+
+
+def trip_chairs(it):
+    return [(trip.number,) for trip in it.trips.values() if trip.wheelchair]
+
+
+MAKERS = [desk, callers, kept, places, fixed, vehicles, riders, entries, trips, stops, travel, rider_chairs, vehicle_chairs, trip_chairs]
 
 
 def rows(it):

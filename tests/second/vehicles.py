@@ -6,7 +6,7 @@ from second.replies import Denied
 
 MOST_VEHICLES, MOST_VERSIONS = 50, 20
 
-Version = collections.namedtuple("Version", "days depot capacity opens closes duration")
+Version = collections.namedtuple("Version", "days depot capacity opens closes duration chairs")
 
 
 def put(desk, values):

@@ -32,14 +32,14 @@ LINES = [
 ]
 # With "from_day" as days from the first day of the trial. The first vehicle has another version later.
 VEHICLES = [
-    {"id": 1, "from_day": -50, "days": EACH_DAY, "depot": 1, "capacity": 3, "opens": 480, "closes": 1080, "duration": 420},
+    {"id": 1, "from_day": -50, "days": EACH_DAY, "depot": 1, "capacity": 3, "opens": 480, "closes": 1080, "duration": 420, "chairs": 1},
     {"id": 1, "from_day": 4, "days": WORKDAYS, "depot": 4, "capacity": 2, "opens": 400, "closes": 1000, "duration": 540},
-    {"id": 2, "from_day": -50, "days": [1, 2, 3, 4, 5, 6], "depot": 4, "capacity": 4, "opens": 420, "closes": 1200, "duration": 600},
+    {"id": 2, "from_day": -50, "days": [1, 2, 3, 4, 5, 6], "depot": 4, "capacity": 4, "opens": 420, "closes": 1200, "duration": 600, "chairs": 2},
     {"id": 3, "from_day": -50, "days": [1, 3, 5, 7], "depot": 6, "capacity": 2, "opens": 0, "closes": 1439, "duration": 1439},
-    {"id": 4, "from_day": -50, "days": EACH_DAY, "depot": 3, "capacity": 1, "opens": 540, "closes": 660, "duration": 90},
+    {"id": 4, "from_day": -50, "days": EACH_DAY, "depot": 3, "capacity": 1, "opens": 540, "closes": 660, "duration": 90, "chairs": 1},
 ]
 RIDERS = {**dict.fromkeys([1, 2, 3, 4, 5, 6, 10], "resident"), **dict.fromkeys([7, 8, 9], "visitor")}
-WITH_ATTENDANT = [2, 4, 9]
+WITH_ATTENDANT, IN_WHEELCHAIR = [2, 4, 9], [3, 4, 8]
 # Driving times from a day on, as days from the first day of the trial; later there is no way back from place 4 to place 2.
 TABLES = {
     -50: [(1, 2, 20), (1, 3, 40), (2, 1, 20), (2, 3, 30), (2, 4, 10), (3, 1, 40), (3, 2, 30), (3, 4, 25), (4, 2, 10), (4, 3, 25),
@@ -75,7 +75,8 @@ def put_all(trial, begin):
     for vehicle in (1, 2, 3):
         trial.post("/callers", ADMIN, {"id": 20 + vehicle, "role": "driver", "subject": vehicle, "key": drivers_key(vehicle)})
     for rider, kind in RIDERS.items():
-        trial.post("/riders", CLERK, {"id": rider, "kind": kind, "attendant": rider in WITH_ATTENDANT})
+        body = {"id": rider, "kind": kind, "attendant": rider in WITH_ATTENDANT, "wheelchair": rider in IN_WHEELCHAIR}
+        trial.post("/riders", CLERK, body)
         trial.post("/callers", ADMIN, {"id": 30 + rider, "role": "rider", "subject": rider, "key": own_key(rider)})
 
 

@@ -225,16 +225,24 @@ class Random(Trial):
         rider = self.rider()
         kind = self.chance.choice([agency.RIDERS.get(rider, "resident"), agency.RIDERS.get(rider, "resident"), "visitor", "resident"])
         rider = rider if rider < 11 else self.chance.randint(100, 120)
-        return "POST", "/riders", [CLERK], {"id": rider, "kind": kind, "attendant": self.chance.random() < 0.4}
+        return "POST", "/riders", [CLERK], {"id": rider, "kind": kind, "attendant": self.chance.random() < 0.4, **self.wheelchair()}
+
+    def wheelchair(self):
+        """The mark of a rider, which may be left out."""
+        return self.chance.choice([{}, {"wheelchair": None}, {"wheelchair": False}, {"wheelchair": True}, {"wheelchair": True}])
 
     def vehicle(self):
         """A version from a day on, on which trips may stand."""
         number = self.chance.choice([1, 2, 2, 3, 4, 5, 200, self.chance.randint(6, 60)])
-        first = plus(self.day, self.chance.choice([0, 2, 6, 16]))
+        first = plus(self.day, self.chance.choice([0, 0, 2, 2, 6, 16]))
         opens = self.chance.randint(0, 600)
         body = {"id": number, "from_day": first, "days": self.chance.sample(agency.EACH_DAY, self.chance.randint(4, 7))}
         body.update(depot=some_place(self.chance), capacity=self.chance.randint(1, 5), opens=opens, closes=self.chance.randint(900, 1439))
-        return "POST", "/vehicles", [DISPATCHER], {**body, "duration": self.chance.randint(60, 1439)}
+        return "POST", "/vehicles", [DISPATCHER], {**body, "duration": self.chance.randint(60, 1439), **self.chairs()}
+
+    def chairs(self):
+        """The wheelchair places of a vehicle, which may be left out."""
+        return self.chance.choice([{}, {"chairs": None}, *({"chairs": it} for it in (0, 1, 2, 10))])
 
     def standing(self):
         rider, day = self.rider(), plus(self.day, self.chance.randint(-20, 40))
