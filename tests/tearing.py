@@ -1,0 +1,39 @@
+"""The files of a database with only some of their sectors written, as a power cut leaves them: for tests/cuts, tests/migrate."""
+import os
+
+SECTOR = 512
+
+
+def files_of(file):
+    """The bytes of the database and of its log, by their names."""
+    found = {}
+    for name in (file, f"{file}-wal"):
+        if os.path.exists(name):
+            with open(name, "rb") as it:
+                found[os.path.basename(name)] = it.read()
+    return found
+
+
+def put_files(folder, files):
+    for name, content in files.items():
+        with open(f"{folder}/{name}", "wb") as it:
+            it.write(content)
+
+
+def sectors_of(before, after):
+    """Each sector in which a file is another one after, in the order of the file: its name and where it begins."""
+    for name in sorted(after):
+        old, new = before.get(name, b""), after[name]
+        for at in range(0, max(len(old), len(new)), SECTOR):
+            if old[at:at + SECTOR] != new[at:at + SECTOR]:
+                yield name, at
+
+
+def torn(before, after, written):
+    """The files with these sectors alone written, and no longer than they have to be."""
+    made = {name: bytearray(bytes_) for name, bytes_ in before.items()}
+    for name, at in written:
+        file, piece = made.setdefault(name, bytearray()), after[name][at:at + SECTOR]
+        file.extend(bytes(max(0, at - len(file))))
+        file[at:at + len(piece)] = piece
+    return made
