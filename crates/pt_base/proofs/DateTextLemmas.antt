@@ -1,8 +1,8 @@
 -- Dates and the numbers in their texts.
-use Rattle.std.proofs.Common.{rules, unwrap_or, ◌≡◌, ℕ, ◌<◌, ◌≤◌, ◌↔◌, List, [], ◌∷◌, ◌++◌, Option, Some, None, IsNone, Result, Ok, Err, IsOk, refl, sym, ap, ◌∙◌, subst, arith, ℤ, pos, negsuc, ◌≤ℤ◌, unsigned_abs}
+use Rattle.std.proofs.Common.{rules, unwrap_or, ◌≡◌, ℕ, ◌<◌, ◌≤◌, ◌↔◌, List, [], ◌∷◌, ◌++◌, Option, Some, IsNone, Result, Ok, Err, IsOk, refl, sym, ap, ◌∙◌, arith, ℤ, pos, negsuc, ◌≤ℤ◌, unsigned_abs}
 use Rattle.std.proofs.lemmas.Int.{ints}
 use Rattle.std.specs.Result.{result_ok}
-use Rattle.jiff_core.specs.Calendar.{IsDate, IsYear, IsBetween, days_in_month}
+use Rattle.jiff_core.specs.Calendar.{IsDate, IsYear}
 use Rattle.jiff_core.specs.declared.civil.date.Date.{Date}
 use Rattle.jiff_core.proofs.CalendarLemmas.{days_in_month_bounds}
 use Rattle.jiff_fmt.specs.Text.{pad2, year_text, date_text}

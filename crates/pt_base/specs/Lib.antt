@@ -6,5 +6,7 @@ pub mod Load
 pub mod Place
 pub mod Ranges
 pub mod Rule
+pub mod SpelledNumber
+pub mod SpelledDay
 pub mod TripStatus
 pub mod Weekday

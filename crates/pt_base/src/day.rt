@@ -1,5 +1,5 @@
 ghost use Rattle.std.specs.Prelude.{◌≡◌, ℕ, ◌+◌, ◌%◌, ◌≤◌, ◌↔◌, ◌++◌, List, ℤ, pos, ◌≤ℤ◌, Ok, Err, IsTrue};
-ghost use Rattle.std.specs.Prelude.{IsSome, IfSome, IfOk, IfErr, OnOk, OnErr};
+ghost use Rattle.std.specs.Prelude.{IsSome, IsNone, IfSome, IfOk, IfErr, OnOk, OnErr};
 ghost use Rattle.std.specs.Int.{IsInRange};
 ghost use Rattle.jiff_core.specs.Date.{epoch_day};
 ghost use Rattle.pt_base.specs.DateText.{IsDateText, IsInMonth};
@@ -8,6 +8,7 @@ ghost use Rattle.pt_base.specs.Fault.{fault};
 ghost use Rattle.pt_base.specs.Codes.{memory_refused, no_such_date, date_out_of_range};
 ghost use Rattle.pt_base.specs.Weekday.{number_of};
 ghost use Rattle.pt_base.specs.Ranges.{last_day};
+ghost use Rattle.pt_base.specs.SpelledDay.{SpellsDay, day_from};
 
 use crate::fault::{DATE_OUT_OF_RANGE, NO_SUCH_DATE};
 use crate::{Fault, Weekday, date_text};
@@ -141,4 +142,13 @@ pub fn bookable(today: Day, day: Day) -> bool
     let first = today.number() + 1;
     let last = today.number() + 14;
     first <= day.number() && day.number() <= last
+}
+
+/// The day that a text of the form `YYYY-MM-DD` spells.
+pub fn day_from(text: &str) -> Option<Day>
+    ensures value { result ≡ day_from text.now }
+    ensures spelled { IfSome result (λ day. SpellsDay text.now day) }
+    ensures none { IsNone result → (day : ℕ) → ¬ (SpellsDay text.now day) }
+{
+    Day::parse(text).ok()
 }

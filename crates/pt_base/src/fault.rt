@@ -45,24 +45,6 @@ pub const TRAVEL_PAIR: u16 = 24;
 /// There are more than 100 places to travel between.
 pub const TRAVEL_PLACES: u16 = 25;
 
-/// A request's head cannot be read.
-pub const HTTP_HEAD: u16 = 40;
-
-/// A request's body is not of a length that is taken.
-pub const HTTP_LENGTH: u16 = 41;
-
-/// A request's body is no JSON object.
-pub const HTTP_JSON: u16 = 42;
-
-/// A header or a field of a request is missing, of another kind or out of range.
-pub const HTTP_FIELD: u16 = 43;
-
-/// A request's path is none of the desk's.
-pub const HTTP_PATH: u16 = 44;
-
-/// A request's method is not the path's.
-pub const HTTP_METHOD: u16 = 45;
-
 /// A read failed, or too many reads or messages came.
 pub const READ_FAILED: u16 = 46;
 

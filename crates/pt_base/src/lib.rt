@@ -1,7 +1,7 @@
 //! Days, minutes, numbers of records and the plain records of a paratransit desk.
 #![tactic(auto)]
 
-pub use day::{Day, FIRST_DAY, LAST_DAY, bookable};
+pub use day::{Day, FIRST_DAY, LAST_DAY, bookable, day_from};
 pub use fault::Fault;
 pub use id::{
     CallerId, CallerKind, Id, PlaceId, PlaceKind, RiderId, RiderKind, RouteId, RouteKind, TripId,
@@ -9,6 +9,7 @@ pub use id::{
 };
 pub use load::Load;
 pub use minute::{LAST_MINUTE, Minute};
+pub use numbers::number_from;
 pub use place::{Place, Point};
 pub use policy::Policy;
 pub use rider::{Residence, Rider};
@@ -17,6 +18,7 @@ pub use trip::{Trip, Wish};
 pub use trip_status::TripStatus;
 pub use vehicle::Vehicle;
 pub use weekday::{Weekday, Weekdays};
+pub use window::Window;
 
 mod date_text;
 mod day;
@@ -24,6 +26,7 @@ pub mod fault;
 mod id;
 mod load;
 mod minute;
+mod numbers;
 mod place;
 mod policy;
 mod rider;
@@ -32,3 +35,4 @@ mod trip;
 mod trip_status;
 mod vehicle;
 mod weekday;
+mod window;

@@ -26,7 +26,7 @@ use Rattle.pt_booking.specs.Request.{Request}
 use Rattle.pt_booking.specs.Rules.{IsFirstFailing, riders_rules}
 use Rattle.pt_booking.specs.declared.booking.Decision.{Decision}
 use Rattle.pt_booking.specs.declared.booking.Decision.TheVariants.{Denied}
-use Rattle.pt_booking.specs.declared.window.Window.{Window}
+use Rattle.pt_base.specs.declared.window.Window.{Window}
 use Rattle.pt_booking.proofs.DutyLemmas.{Any-map, no_any, same-duty}
 use Rattle.pt_booking.proofs.RuleLemmas.{first-unique, first-behind}
 use Rattle.pt_booking.proofs.WindowLemmas.{moved, pickup-visit, moved-loads, moved-least}

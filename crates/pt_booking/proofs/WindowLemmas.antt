@@ -19,7 +19,7 @@ use Rattle.pt_insertion.specs.Asked.{pickup_stop, drop_stop}
 use Rattle.pt_insertion.specs.Insertion.{with_trip}
 use Rattle.pt_insertion.specs.declared.asked.Asked.{Asked}
 use Rattle.pt_insertion.proofs.InsertionLemmas.{length-with_trip, with_trip_before, with_trip_pickup, with_trip_between, with_trip_drop, with_trip_after}
-use Rattle.pt_booking.specs.declared.window.Window.{Window}
+use Rattle.pt_base.specs.declared.window.Window.{Window}
 
 -- the same trip with its pickup in this window
 abbrev pub moved : Asked → Window → Asked

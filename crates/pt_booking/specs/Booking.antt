@@ -16,7 +16,7 @@ use Rattle.pt_booking.specs.Window.{wished_window, promised_window}
 use Rattle.pt_booking.specs.declared.booking.Booking.{Booking}
 use Rattle.pt_booking.specs.declared.booking.Decision.{Decision}
 use Rattle.pt_booking.specs.declared.booking.Decision.TheVariants.{Booked, Denied}
-use Rattle.pt_booking.specs.declared.window.Window.{Window}
+use Rattle.pt_base.specs.declared.window.Window.{Window}
 
 -- the fare, by whether one route that runs at the day and the wished minute joins both ends (49 CFR 37.131(c)(1))
 abbrev pub IsFare : Request → ℕ → Type 0

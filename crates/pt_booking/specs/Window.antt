@@ -1,7 +1,7 @@
 -- Windows of a pickup, in minutes of the day.
 use Rattle.std.specs.Prelude.{ℕ, ◌+◌, ◌-◌, max, min}
 use Rattle.pt_base.specs.Ranges.{last_minute}
-use Rattle.pt_booking.specs.declared.window.Window.{Window}
+use Rattle.pt_base.specs.declared.window.Window.{Window}
 
 -- how far from the wished minute a pickup may be planned: one hour, as far as 49 CFR 37.131(b)(2) lets an agency go
 -- (that the desk goes so far is our choice)

@@ -15,10 +15,8 @@ ghost use Rattle.pt_booking.specs.Request.{party_of, request_of};
 ghost use Rattle.pt_booking.specs.Rules.{IsFirstFailing};
 
 use crate::planning::ride_limit;
-use crate::{
-    TripRequest, Window, asked_for, asked_of, promised_window, riders_denial, wished_window,
-};
-use pt_base::{Fault, Minute, Rule, Trip, TripStatus, VehicleId};
+use crate::{TripRequest, asked_for, asked_of, promised_window, riders_denial, wished_window};
+use pt_base::{Fault, Minute, Rule, Trip, TripStatus, VehicleId, Window};
 use pt_corridor::one_route;
 use pt_feasible::Route;
 use pt_insertion::{Chosen, Duty, RouteEdits, best};

@@ -6,7 +6,7 @@ pub use booking::{Booking, Decision, book};
 pub use planning::{asked_for, asked_of};
 pub use request::{TripRequest, party_of};
 pub use riders::riders_denial;
-pub use window::{Window, promised_window, wished_window};
+pub use window::{promised_window, wished_window};
 
 mod booking;
 mod planning;

@@ -2,20 +2,13 @@ ghost use Rattle.std.specs.Prelude.{◌≡◌, ◌+◌, ◌-◌, min};
 ghost use Rattle.pt_base.specs.Ranges.{last_minute};
 ghost use Rattle.pt_booking.specs.Window as spec;
 
-use pt_base::{LAST_MINUTE, Minute};
+use pt_base::{LAST_MINUTE, Minute, Window};
 
 /// How many minutes from the wished one a pickup may be planned.
 const WISHED_LEEWAY: u16 = 60;
 
 /// How many minutes from the planned one a pickup may come.
 const PROMISED_LEEWAY: u16 = 15;
-
-/// From which to which minute of the day a pickup may begin.
-#[derive(Clone, Copy, Debug, PartialEq, Eq)]
-pub struct Window {
-    pub from: Minute,
-    pub to: Minute,
-}
 
 /// The window in which a pickup is planned that is wished for at this minute.
 pub fn wished_window(wish: Minute) -> Window

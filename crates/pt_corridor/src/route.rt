@@ -4,6 +4,7 @@ ghost use Rattle.pt_base.specs.declared.fault.Fault.{Fault};
 ghost use Rattle.pt_corridor.specs.Route.{route_of, IsFixedRoute, IsFirst, faults, HasPoints, HasWidth, IsRouteOnPlane};
 
 use pt_base::{Fault, Minute, Point, RouteId, Weekdays, fault};
+use pt_records::{Key, Keyed};
 use std::alloc::AllocError;
 use std::marker::Model;
 
@@ -173,4 +174,12 @@ fn are_on_plane(points: &[Point]) -> bool
     points
         .iter()
         .all(|p| is_coordinate(p.x) && is_coordinate(p.y))
+}
+
+impl Keyed for FixedRoute {
+    ghost key = { λ route. route.id };
+
+    fn key(&self) -> Key {
+        Key::of(self.id().number())
+    }
 }

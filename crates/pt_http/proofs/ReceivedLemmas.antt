@@ -12,8 +12,8 @@ use Rattle.pt_http_inbox.specs.declared.head.Head.{Head}
 use Rattle.pt_http_inbox.specs.Inbox.{ReadsOn}
 use Rattle.pt_http_inbox.specs.declared.inbox.Inbox.{Inbox}
 use Rattle.pt_http_inbox.proofs.ReadsLemmas.{reads_known}
-use Rattle.pt_http_reply.specs.declared.fault.RequestFault.{RequestFault}
-use Rattle.pt_http_reply.specs.declared.fault.RequestFault.TheVariants as fault
+use Rattle.pt_http_request.specs.declared.fault.RequestFault.{RequestFault}
+use Rattle.pt_http_request.specs.declared.fault.RequestFault.TheVariants as fault
 use Rattle.pt_http_request.specs.Headers.{IsBodyLength}
 use Rattle.pt_http_request.specs.Messages.{SpellsMessage, IsMessageFault}
 use Rattle.pt_http_request.specs.declared.message.Message.{Message}

@@ -8,8 +8,8 @@ use Rattle.std.proofs.Math.Seq.{drop-append_seam, take-append_seam}
 use Rattle.httparse.specs.Grammar.{RequestHead}
 use Rattle.httparse.proofs.GrammarLemmas.{request_unique}
 use Rattle.pt_http_inbox.specs.Head.{HasNoHead}
-use Rattle.pt_http_reply.specs.declared.fault.RequestFault.{RequestFault}
-use Rattle.pt_http_reply.specs.declared.fault.RequestFault.TheVariants as fault
+use Rattle.pt_http_request.specs.declared.fault.RequestFault.{RequestFault}
+use Rattle.pt_http_request.specs.declared.fault.RequestFault.TheVariants as fault
 use Rattle.pt_http_request.specs.Headers.{IsBodyLength}
 use Rattle.pt_http_request.specs.Messages.{SpellsMessage, IsMessageFault, IsSameMessage}
 use Rattle.pt_http_request.specs.Targets.{desk_routes}

@@ -10,7 +10,7 @@ use Rattle.pt_desk_rules.specs.Step.{IsOutcome}
 use Rattle.pt_desk.specs.declared.keeper.StoreFault.{StoreFault}
 use Rattle.pt_requests.specs.declared.request.Answer.{Answer}
 use Rattle.pt_requests.specs.declared.request.Answer.TheVariants.{Denied}
-use Rattle.pt_http_reply.specs.declared.fault.RequestFault.TheVariants.{Head, Length}
+use Rattle.pt_http_request.specs.declared.fault.RequestFault.TheVariants.{Head, Length}
 use Rattle.pt_http_reply.specs.declared.response.Response.{Response}
 use Rattle.pt_http_reply.specs.declared.response.Response.TheVariants as response
 use Rattle.pt_http_request.specs.declared.message.Message.{Message}

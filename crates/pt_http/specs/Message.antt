@@ -2,8 +2,8 @@
 use Rattle.std.specs.Prelude.{ℕ, ◌<◌, List, length}
 use Rattle.httparse.specs.Grammar.{RequestHead}
 use Rattle.pt_http_inbox.specs.Head.{BeginsWithHead, HasNoHead}
-use Rattle.pt_http_reply.specs.declared.fault.RequestFault.{RequestFault}
-use Rattle.pt_http_reply.specs.declared.fault.RequestFault.TheVariants as fault
+use Rattle.pt_http_request.specs.declared.fault.RequestFault.{RequestFault}
+use Rattle.pt_http_request.specs.declared.fault.RequestFault.TheVariants as fault
 use Rattle.pt_http_request.specs.Headers.{IsBodyLength}
 use Rattle.pt_http_request.specs.Messages.{SpellsMessage, IsMessageFault}
 use Rattle.pt_http_request.specs.Targets.{desk_routes}

@@ -13,8 +13,7 @@ use matchit::Router;
 use pt_base::Fault;
 use pt_base::fault::MEMORY;
 use pt_http_inbox::{Head, Inbox};
-use pt_http_reply::RequestFault;
-use pt_http_request::{Message, MessageFault, Path, body_length, message_from};
+use pt_http_request::{Message, MessageFault, Path, RequestFault, body_length, message_from};
 use std::alloc::Global;
 use std::io::Read;
 

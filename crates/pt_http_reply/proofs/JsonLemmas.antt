@@ -1,7 +1,7 @@
 -- Members of objects, one after another.
 use Rattle.std.proofs.Common.{ℕ, zero, suc, ◌<◌, List, [], ◌∷◌, length, get_or, arith}
+use Rattle.pt_http_request.specs.declared.field_name.FieldName.{FieldName}
 use Rattle.pt_http_reply.specs.Json.{IsShortValue, AreShort}
-use Rattle.pt_http_reply.specs.declared.fault.FieldName.{FieldName}
 use Rattle.pt_http_reply.specs.declared.json.MemberValue.{MemberValue}
 
 -- each of the members is short

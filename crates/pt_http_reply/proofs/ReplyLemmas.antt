@@ -4,7 +4,7 @@ use denote.Ref.{Bor}
 use Rattle.std.specs.Prelude.{option_map}
 use Rattle.http.specs.StatusCode.{reason_phrase}
 use Rattle.pt_base.specs.declared.rule.Rule.TheVariants as rule
-use Rattle.pt_http_reply.specs.declared.fault.RequestFault.TheVariants as fault
+use Rattle.pt_http_request.specs.declared.fault.RequestFault.TheVariants as fault
 use Rattle.pt_rights.specs.declared.case_file.Standing.{Standing}
 use Rattle.pt_rights.specs.declared.case_file.Standing.TheVariants as standing
 use Rattle.pt_desk.specs.declared.keeper.StoreFault.TheVariants.{Memory, Store}
@@ -32,6 +32,7 @@ answer_body-unique (answer.Entered place) a b is other = is ∙ sym other
 answer_body-unique (answer.Standing standing suspended) a b is other = standing_body-unique standing suspended a b is other
 answer_body-unique (answer.Visitor may_use) a b is other = is ∙ sym other
 answer_body-unique (answer.Booked told) a b is other = is ∙ sym other
+answer_body-unique answer.Possible a b is other = is ∙ sym other
 answer_body-unique (answer.Trips trips) a b is other = trips_body-unique trips a b is other
 answer_body-unique (answer.Letter letter) a b is other = is ∙ sym other
 answer_body-unique (answer.Manifest day sheet) a b is other = is ∙ sym other

@@ -14,11 +14,11 @@ use Rattle.pt_manifest.specs.Letters.{letter_text}
 use Rattle.pt_manifest.specs.Manifests.{day_sheet_text, manifest_text}
 use Rattle.pt_requests.specs.declared.request.Answer.{Answer}
 use Rattle.pt_requests.specs.declared.request.Answer.TheVariants as answer
-use Rattle.pt_http_reply.specs.Fault.{fault_name, field_name}
+use Rattle.pt_http_request.specs.Names.{fault_name, field_name}
+use Rattle.pt_http_request.specs.declared.fault.RequestFault.{RequestFault}
+use Rattle.pt_http_request.specs.declared.fault.RequestFault.TheVariants as fault
 use Rattle.pt_http_reply.specs.Json.{truth_text, quoted}
 use Rattle.pt_http_reply.specs.Trips.{confirmation_body, IsTripsBody}
-use Rattle.pt_http_reply.specs.declared.fault.RequestFault.{RequestFault}
-use Rattle.pt_http_reply.specs.declared.fault.RequestFault.TheVariants as fault
 use Rattle.pt_http_reply.specs.declared.response.Response.{Response}
 use Rattle.pt_http_reply.specs.declared.response.Response.TheVariants as response
 
@@ -65,6 +65,7 @@ IsAnswerBody (answer.Entered place) body = body ≡ codes "{\"entered\":" ++ dec
 IsAnswerBody (answer.Standing standing suspended) body = IsStandingBody standing suspended body
 IsAnswerBody (answer.Visitor may_use) body = body ≡ visitor_body may_use
 IsAnswerBody (answer.Booked told) body = body ≡ confirmation_body told
+IsAnswerBody answer.Possible body = body ≡ codes "{\"possible\":true}"
 IsAnswerBody (answer.Trips trips) body = IsTripsBody trips body
 IsAnswerBody (answer.Letter letter) body = body ≡ letter_text letter
 IsAnswerBody (answer.Manifest day sheet) body = body ≡ manifest_text day sheet

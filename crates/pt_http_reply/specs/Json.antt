@@ -1,8 +1,8 @@
 -- Compact JSON (RFC 8259): values, members and objects.
 use Rattle.std.specs.Prelude.{◌≤◌, ℕ, List, [], ◌∷◌, ◌++◌, length, Bool, true, false, codes, decimal}
 use Rattle.std.specs.List.{join_with_byte}
-use Rattle.pt_http_reply.specs.Fault.{field_name}
-use Rattle.pt_http_reply.specs.declared.fault.FieldName.{FieldName}
+use Rattle.pt_http_request.specs.Names.{field_name}
+use Rattle.pt_http_request.specs.declared.field_name.FieldName.{FieldName}
 use Rattle.pt_http_reply.specs.declared.json.MemberValue.{MemberValue}
 use Rattle.pt_http_reply.specs.declared.json.MemberValue.TheVariants as value
 

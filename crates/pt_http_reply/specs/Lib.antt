@@ -1,6 +1,5 @@
 pub mod Status
 pub mod ContentType
-pub mod Fault
 pub mod Json
 pub mod Trips
 pub mod Body

@@ -2,14 +2,14 @@
 use Rattle.std.specs.Prelude.{◌≡◌, ℕ, List, [], ◌++◌, length, codes, decimal, Ok, Err}
 use Rattle.pt_base.specs.declared.rule.Rule.TheVariants.{Key}
 use Rattle.pt_requests.specs.declared.request.Answer.TheVariants as answer
+use Rattle.pt_http_request.specs.Names.{method_name, status_of_fault}
+use Rattle.pt_http_request.specs.declared.fault.RequestFault.TheVariants as fault
+use Rattle.http.specs.StatusCode.{status_text}
 use Rattle.pt_http_reply.specs.Body.{IsBody}
 use Rattle.pt_http_reply.specs.ContentType.{type_text}
 use Rattle.pt_http_reply.specs.declared.content_type.ContentType.{ContentType}
 use Rattle.pt_http_reply.specs.declared.content_type.ContentType.TheVariants.{Json, Text, Csv}
-use Rattle.pt_http_reply.specs.Fault.{method_name, status_of_fault}
-use Rattle.http.specs.StatusCode.{status_text}
 use Rattle.pt_http_reply.specs.Status.{status_of_rule}
-use Rattle.pt_http_reply.specs.declared.fault.RequestFault.TheVariants as fault
 use Rattle.pt_http_reply.specs.declared.response.Response.{Response}
 use Rattle.pt_http_reply.specs.declared.response.Response.TheVariants as response
 

@@ -7,9 +7,9 @@ use Rattle.pt_base.specs.declared.trip_status.TripStatus.{TripStatus}
 use Rattle.pt_base.specs.declared.trip_status.TripStatus.TheVariants as status
 use Rattle.pt_booking.specs.Request.{party_of}
 use Rattle.pt_requests.specs.declared.request.Confirmation.{Confirmation}
-use Rattle.pt_http_reply.specs.Json.{truth_text, quoted, member, object}
-use Rattle.pt_http_reply.specs.declared.fault.FieldName.TheVariants as field
+use Rattle.pt_http_request.specs.declared.field_name.FieldName.TheVariants as field
 use Rattle.pt_party.specs.Fare.{due_of}
+use Rattle.pt_http_reply.specs.Json.{truth_text, quoted, member, object}
 
 -- how far a trip has come
 abbrev pub status_name : TripStatus → List ℕ

@@ -4,10 +4,11 @@ ghost use Rattle.pt_http_reply.specs.Reply.{bytes_in, IsShort, IsFixed, is_told}
 
 use crate::standing::{standing_body, visitor_body};
 use crate::trips::{confirmation_body, trips_body};
-use crate::{ReplyBuffer, RequestFault, Response};
+use crate::{ReplyBuffer, Response};
 use itoa::Buffer;
 use pt_base::Fault;
 use pt_desk::{Answer, StoreFault};
+use pt_http_request::RequestFault;
 use pt_manifest::{day_sheet, decision_letter, manifest, trips_csv};
 use std::alloc::Global;
 
@@ -46,6 +47,9 @@ pub(crate) fn body_of(alloc: Global, response: &Response) -> Result<Body, Fault>
             Ok(Body::Grown(visitor_body(alloc, *may_use)?))
         }
         Response::Answered(Ok(Answer::Booked(told))) => Ok(Body::Fixed(confirmation_body(told))),
+        Response::Answered(Ok(Answer::Possible)) => Ok(Body::Fixed(ReplyBuffer::of(
+            b"{\"possible\":true}",
+        ))),
         Response::Answered(Ok(Answer::Trips(trips))) => {
             Ok(Body::Grown(trips_body(alloc, trips)?))
         }

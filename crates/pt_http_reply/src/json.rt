@@ -1,9 +1,10 @@
 ghost use Rattle.std.specs.Prelude.{◌≡◌, ◌≤◌, ◌+◌, ◌*◌, ◌++◌, map, length, OnOk};
 ghost use Rattle.pt_http_reply.specs.Json.{truth_text, value_text, member_text, object, IsShortValue, AreShort};
 
-use crate::{FieldName, ReplyBuffer};
+use crate::ReplyBuffer;
 use itoa::Buffer;
 use pt_base::Fault;
+use pt_http_request::FieldName;
 
 /// The value of a member of an object.
 #[derive(Clone, Copy, Debug)]

@@ -1,18 +1,15 @@
 //! Replies in bytes: what the desk tells over HTTP. What a read is told may be of any length; every other reply is
-//! formed
-//! in fixed room.
+//! formed in fixed room.
 #![tactic(auto)]
 
 pub use buffer::{LONGEST_REPLY, ReplyBuffer};
 pub use content_type::ContentType;
-pub use fault::{AllowedMethod, FieldName, RequestFault};
 pub use reply_bytes::{ReplyBytes, reply_to};
 pub use response::Response;
 
 mod body;
 mod buffer;
 mod content_type;
-mod fault;
 mod json;
 mod reply_bytes;
 mod response;

@@ -4,11 +4,12 @@ ghost use Rattle.pt_http_reply.specs.ContentType.{type_text};
 ghost use Rattle.pt_http_reply.specs.Response.{status_of, type_of, line, own_lines, head_text};
 
 use crate::status::status_of_rule;
-use crate::{ContentType, ReplyBuffer, RequestFault};
+use crate::{ContentType, ReplyBuffer};
 use http::StatusCode;
 use itoa::Buffer;
 use pt_base::Rule;
 use pt_desk::{Answer, Reply};
+use pt_http_request::RequestFault;
 
 /// What goes out in reply to the bytes that came in.
 #[derive(Debug, Drop)]

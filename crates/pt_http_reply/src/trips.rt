@@ -3,11 +3,12 @@ ghost use Rattle.pt_http_reply.specs.Json.{value_text, IsShortValue};
 ghost use Rattle.pt_http_reply.specs.Trips.{status_name, minute_or_null, confirmation_body, trip_object};
 ghost use Rattle.pt_http_reply.specs.Trips.{IsTripList, IsTripsBody};
 
+use crate::ReplyBuffer;
 use crate::json::{MemberValue, object, push};
-use crate::{FieldName, ReplyBuffer};
 use pt_base::{Fault, Minute, Trip, TripStatus};
 use pt_booking::party_of;
 use pt_desk::Confirmation;
+use pt_http_request::FieldName;
 use pt_party::due;
 use pt_records::Rows;
 use std::alloc::Global;

@@ -12,9 +12,9 @@ use Rattle.pt_rights.specs.Limits.{most_conditions}
 use Rattle.pt_rights.specs.Months.{numbers_of}
 use Rattle.pt_rights.specs.declared.conditions.Condition.{Condition}
 use Rattle.pt_rights.specs.declared.conditions.Condition.TheVariants.{Always, Months, Farther, NoLift}
-use Rattle.pt_http_request.proofs.ChoiceLemmas.{Decides-within, test-read}
+use Rattle.pt_base.proofs.ChoiceLemmas.{Decides-within, test-read}
+use Rattle.pt_base.specs.SpelledNumber.{is_within}
 use Rattle.pt_http_request.specs.Entries.{few}
-use Rattle.pt_http_request.specs.Numbers.{is_within}
 use Rattle.pt_http_request.specs.Conditions.{mark_sets, month_sets, distances, conditions, condition_from}
 
 -- ---- lists

@@ -14,14 +14,14 @@ use Rattle.pt_base.specs.Place.{IsCoordinate}
 use Rattle.pt_base.specs.declared.place.Place.{Place}
 use Rattle.pt_base.specs.declared.policy.Policy.{Policy}
 use Rattle.pt_base.specs.declared.vehicle.Vehicle.{Vehicle}
+use Rattle.pt_base.proofs.ChoiceLemmas.{Decides-within, test-read}
+use Rattle.pt_base.specs.SpelledNumber.{is_within}
 use Rattle.pt_rights.specs.Reasons.{IsPrintable, IsReasons}
-use Rattle.pt_http_reply.specs.Fault.{field_name}
-use Rattle.pt_http_reply.specs.declared.fault.FieldName.{FieldName}
-use Rattle.pt_http_reply.specs.declared.fault.FieldName.TheVariants as field
-use Rattle.pt_http_request.proofs.ChoiceLemmas.{Decides-within, test-read}
+use Rattle.pt_http_request.specs.Names.{field_name}
+use Rattle.pt_http_request.specs.declared.field_name.FieldName.{FieldName}
+use Rattle.pt_http_request.specs.declared.field_name.FieldName.TheVariants as field
 use Rattle.pt_http_request.specs.Fields.{◌>>=◌, needed, tested, text_at, id_at, truth_at, day_at, reasons_at}
 use Rattle.pt_http_request.specs.Fields.{are_reasons, holds_nothing, within, whole_at, number_within, ranged, ranged_at, in_range}
-use Rattle.pt_http_request.specs.Numbers.{is_within}
 use Rattle.pt_http_request.specs.Places.{is_on_plane, integer_from, coordinate_from, coordinate, coordinate_at}
 use Rattle.pt_http_request.specs.Places.{on_plane, place_in}
 use Rattle.pt_http_request.specs.Policy.{policy_in}

@@ -1,7 +1,4 @@
 pub mod ListLemmas
-pub mod ChoiceLemmas
-pub mod NumberLemmas
-pub mod DayLemmas
 pub mod ConditionLemmas
 pub mod FieldLemmas
 pub mod TargetLemmas

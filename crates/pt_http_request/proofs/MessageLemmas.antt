@@ -7,21 +7,21 @@ use Rattle.std.specs.Prelude.{IfOk, IfErr, IsSome, IsUtf8}
 use Rattle.std.specs.Str.{is_utf8}
 use Rattle.matchit.specs.Router.{RouteOf}
 use Rattle.matchit.specs.Rows.{RowsOf}
-use Rattle.pt_http_reply.specs.declared.fault.AllowedMethod.{AllowedMethod}
-use Rattle.pt_http_reply.specs.declared.fault.AllowedMethod.TheVariants as way
-use Rattle.pt_http_reply.specs.declared.fault.FieldName.{FieldName}
-use Rattle.pt_http_reply.specs.declared.fault.RequestFault.{RequestFault}
-use Rattle.pt_http_reply.specs.declared.fault.RequestFault.TheVariants as fault
-use Rattle.pt_http_request.specs.Fields.{needed, ◌>>=◌}
 use Rattle.serde_json.specs.Data.{Data}
 use Rattle.serde_json.specs.Find.{as_object}
 use Rattle.serde_json.specs.Read.{read}
+use Rattle.pt_base.specs.SpelledNumber.{SpellsNumber}
+use Rattle.pt_http_request.specs.declared.fault.AllowedMethod.{AllowedMethod}
+use Rattle.pt_http_request.specs.declared.fault.AllowedMethod.TheVariants as way
+use Rattle.pt_http_request.specs.declared.field_name.FieldName.{FieldName}
+use Rattle.pt_http_request.specs.declared.fault.RequestFault.{RequestFault}
+use Rattle.pt_http_request.specs.declared.fault.RequestFault.TheVariants as fault
+use Rattle.pt_http_request.specs.Fields.{needed, ◌>>=◌}
 use Rattle.pt_http_request.specs.Faults.{OnRefused}
 use Rattle.pt_http_request.specs.Headers.{values_named, IsLengthIn, IsBodyLength}
 use Rattle.pt_http_request.specs.Messages.{body_text, object_from, Sent, sent, by_field, read_with, write_with}
 use Rattle.pt_http_request.specs.Messages.{write_from, request_in, message_in, SpellsMessage, IsMessageFault}
 use Rattle.pt_http_request.specs.Messages.{IsSameMessage, IsMessageRead, IsRefusedFor}
-use Rattle.pt_http_request.specs.Numbers.{SpellsNumber}
 use Rattle.pt_http_request.specs.Targets.{target_in, path_of}
 use Rattle.pt_http_request.specs.declared.fault.MessageFault.{MessageFault}
 use Rattle.pt_http_request.specs.declared.fault.MessageFault.TheVariants.{Refused, Memory}

@@ -5,8 +5,8 @@ use Rattle.pt_requests.specs.declared.caller.Role.{Role}
 use Rattle.pt_requests.specs.declared.caller.Role.TheVariants as role
 use Rattle.serde_json.specs.Data.{Data}
 use Rattle.pt_http_request.specs.Fields.{whole_at, text_at, id_at, digest_at, ◌>>=◌}
-use Rattle.pt_http_reply.specs.declared.fault.FieldName.{FieldName}
-use Rattle.pt_http_reply.specs.declared.fault.FieldName.TheVariants as field
+use Rattle.pt_http_request.specs.declared.field_name.FieldName.{FieldName}
+use Rattle.pt_http_request.specs.declared.field_name.FieldName.TheVariants as field
 
 -- a rider's or a driver's role, with the number of the rider or the vehicle as its subject
 abbrev pub role_with_subject : (ℕ → Role) → Data → Result Role FieldName

@@ -9,15 +9,16 @@ use Rattle.pt_rights.specs.declared.entry.Entry.TheVariants as entry
 use Rattle.pt_rights.specs.declared.entry.Grant.{Grant}
 use Rattle.serde_json.specs.Data.{Data}
 use Rattle.serde_json.specs.Find.{get, as_str}
+use Rattle.pt_base.specs.SpelledNumber.{is_within}
 use Rattle.pt_http_request.specs.Conditions.{condition_from}
 use Rattle.pt_http_request.specs.Fields.{text_at, day_at, reasons_at, number_within, needed, result_map, ◌>>=◌}
-use Rattle.pt_http_request.specs.Numbers.{is_within, last_position}
+use Rattle.pt_http_request.specs.Numbers.{last_position}
 use Rattle.pt_http_request.specs.Routes.{each, values_of}
 use Rattle.pt_http_request.specs.declared.entries.EntryKind.{EntryKind}
 use Rattle.pt_http_request.specs.declared.entries.EntryKind.TheVariants as kind
-use Rattle.pt_http_reply.specs.Fault.{field_name}
-use Rattle.pt_http_reply.specs.declared.fault.FieldName.{FieldName}
-use Rattle.pt_http_reply.specs.declared.fault.FieldName.TheVariants as field
+use Rattle.pt_http_request.specs.Names.{field_name}
+use Rattle.pt_http_request.specs.declared.field_name.FieldName.{FieldName}
+use Rattle.pt_http_request.specs.declared.field_name.FieldName.TheVariants as field
 
 -- the kind of entry of this name
 abbrev pub kind_named : List ℕ → Option EntryKind

@@ -1,6 +1,6 @@
 -- The fields of a JSON object by their names, and what each may hold.
-use Rattle.std.specs.Prelude.{◌≡◌, ℕ, ◌&&◌, List, length, Bool, true, false, Option, Some, None, is_some, Result, Ok, Err}
-use Rattle.std.specs.Prelude.{if◌then◌else◌, option_and_then, refl}
+use Rattle.std.specs.Prelude.{◌≡◌, ℕ, ◌&&◌, List, length, Bool, true, false, Option, Some, None, is_some}
+use Rattle.std.specs.Prelude.{Result, Ok, Err, if◌then◌else◌, option_and_then, refl}
 use Rattle.std.proofs.lemmas.Bool.{leb-true, and_parts}
 use Rattle.std.specs.Int.{IsInRange}
 use Rattle.std.specs.List.{list_all}
@@ -8,10 +8,11 @@ use Rattle.hex.specs.Hex.{decode_sized}
 use Rattle.hex.specs.declared.error.FromHexError.{FromHexError}
 use Rattle.serde_json.specs.Data.{Data}
 use Rattle.serde_json.specs.Find.{get, as_bool, as_null, as_number, as_u64, as_str}
-use Rattle.pt_http_request.specs.Days.{day_from}
-use Rattle.pt_http_request.specs.Numbers.{is_within, id_of}
-use Rattle.pt_http_reply.specs.Fault.{field_name}
-use Rattle.pt_http_reply.specs.declared.fault.FieldName.{FieldName}
+use Rattle.pt_base.specs.SpelledDay.{day_from}
+use Rattle.pt_base.specs.SpelledNumber.{is_within}
+use Rattle.pt_http_request.specs.Numbers.{id_of}
+use Rattle.pt_http_request.specs.Names.{field_name}
+use Rattle.pt_http_request.specs.declared.field_name.FieldName.{FieldName}
 
 infixl 10 ◌>>=◌
 -- what comes next, where what came before is as it should be

@@ -2,10 +2,10 @@
 use Rattle.std.specs.Prelude.{◌≡◌, ◌⊎◌, ◌<◌, ℕ, List, [], ◌∷◌, codes, map, filter, length, bytes_eq, Bool, Option, Some}
 use Rattle.std.specs.Prelude.{None, Result, Ok, Err}
 use Rattle.std.specs.Char.{to_ascii_lowercase}
+use Rattle.pt_base.specs.SpelledNumber.{SpellsNumber, number_from}
 use Rattle.pt_http_request.specs.Fields.{needed}
-use Rattle.pt_http_request.specs.Numbers.{SpellsNumber, number_from}
-use Rattle.pt_http_reply.specs.declared.fault.FieldName.{FieldName}
-use Rattle.pt_http_reply.specs.declared.fault.FieldName.TheVariants as field
+use Rattle.pt_http_request.specs.declared.field_name.FieldName.{FieldName}
+use Rattle.pt_http_request.specs.declared.field_name.FieldName.TheVariants as field
 use Rattle.pt_http_request.specs.declared.headers.Given.{Given}
 use Rattle.pt_http_request.specs.declared.headers.Given.TheVariants as given
 

@@ -1,5 +1,5 @@
+pub mod Names
 pub mod Numbers
-pub mod Days
 pub mod Conditions
 pub mod Fields
 pub mod Faults

@@ -10,13 +10,13 @@ use Rattle.pt_requests.specs.declared.request.Request.{Request}
 use Rattle.pt_requests.specs.declared.request.Request.TheVariants as request
 use Rattle.pt_requests.specs.declared.request.Write.{Write}
 use Rattle.pt_requests.specs.declared.request.Write.TheVariants as write
-use Rattle.pt_http_reply.specs.declared.fault.AllowedMethod.TheVariants as way
-use Rattle.pt_http_reply.specs.declared.fault.FieldName.{FieldName}
-use Rattle.pt_http_reply.specs.declared.fault.RequestFault.{RequestFault}
-use Rattle.pt_http_reply.specs.declared.fault.RequestFault.TheVariants as fault
 use Rattle.serde_json.specs.Data.{Data}
 use Rattle.serde_json.specs.Find.{as_object}
 use Rattle.serde_json.specs.Read.{read}
+use Rattle.pt_http_request.specs.declared.fault.AllowedMethod.TheVariants as way
+use Rattle.pt_http_request.specs.declared.field_name.FieldName.{FieldName}
+use Rattle.pt_http_request.specs.declared.fault.RequestFault.{RequestFault}
+use Rattle.pt_http_request.specs.declared.fault.RequestFault.TheVariants as fault
 use Rattle.pt_http_request.specs.Callers.{caller_in}
 use Rattle.pt_http_request.specs.Riders.{rider_in}
 use Rattle.pt_http_request.specs.Entries.{entry_in}

@@ -1,26 +1,8 @@
 -- Numbers written in decimal digits, as paths and headers give them.
-use Rattle.std.specs.Prelude.{◌≡◌, ℕ, ◌≤◌, ◌^◌, ◌-◌, ◌&&◌, Bool, List, length, nat_lt, nat_le, Option, Some, None}
+use Rattle.std.specs.Prelude.{ℕ, ◌^◌, ◌-◌, ◌&&◌, List, nat_lt, Option, Some, None}
 use Rattle.std.specs.Prelude.{option_and_then, if◌then◌else◌}
-use Rattle.std.specs.Char.{is_digit}
-use Rattle.std.specs.List.{list_all}
-use Rattle.std.specs.Str.Parse.{IsNumeral, digits_value}
+use Rattle.pt_base.specs.SpelledNumber.{number_from}
 use Rattle.pt_rights.specs.Limits.{most_entries}
-
--- whether the number lies in this range
-abbrev pub is_within : ℕ → ℕ → ℕ → Bool
-is_within least most number = nat_le least number && nat_le number most
-
--- the text is one to so many digits, zeros in front among them, of a number up to the most
-abbrev pub SpellsNumber : ℕ → ℕ → List ℕ → ℕ → Type 0
-SpellsNumber digits most text number =
-    IsNumeral 10 text × (length text ≤ digits) × (digits_value 10 text ≡ number) × (number ≤ most)
-
--- the number that a text spells so
-unfoldable pub number_from : ℕ → ℕ → List ℕ → Option ℕ
-number_from digits most text =
-    if nat_lt 0 (length text) && list_all (λ byte. is_digit byte 10) text && nat_le (length text) digits
-    && nat_le (digits_value 10 text) most
-    then Some (digits_value 10 text) else None
 
 -- the number, where it may number a record: 1 to 4,294,967,295
 abbrev pub id_of : ℕ → Option ℕ

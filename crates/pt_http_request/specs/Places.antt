@@ -9,9 +9,9 @@ use Rattle.pt_base.specs.declared.place.Place.{Place}
 use Rattle.serde_json.specs.Data.{Data}
 use Rattle.serde_json.specs.Find.{get, as_number, as_i64}
 use Rattle.pt_http_request.specs.Fields.{truth_at, id_at, needed, tested, ◌>>=◌}
-use Rattle.pt_http_reply.specs.Fault.{field_name}
-use Rattle.pt_http_reply.specs.declared.fault.FieldName.{FieldName}
-use Rattle.pt_http_reply.specs.declared.fault.FieldName.TheVariants as field
+use Rattle.pt_http_request.specs.Names.{field_name}
+use Rattle.pt_http_request.specs.declared.field_name.FieldName.{FieldName}
+use Rattle.pt_http_request.specs.declared.field_name.FieldName.TheVariants as field
 
 -- whether a coordinate is of the plane
 abbrev pub is_on_plane : ℤ → Bool

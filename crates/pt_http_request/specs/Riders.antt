@@ -5,8 +5,8 @@ use Rattle.pt_base.specs.declared.rider.Residence.TheVariants as residence
 use Rattle.pt_base.specs.declared.rider.Rider.{Rider}
 use Rattle.serde_json.specs.Data.{Data}
 use Rattle.pt_http_request.specs.Fields.{text_at, truth_at, truth_if_any_at, id_at, needed, ◌>>=◌}
-use Rattle.pt_http_reply.specs.declared.fault.FieldName.{FieldName}
-use Rattle.pt_http_reply.specs.declared.fault.FieldName.TheVariants as field
+use Rattle.pt_http_request.specs.declared.field_name.FieldName.{FieldName}
+use Rattle.pt_http_request.specs.declared.field_name.FieldName.TheVariants as field
 
 -- the residence of this name
 abbrev pub residence_named : List ℕ → Option Residence

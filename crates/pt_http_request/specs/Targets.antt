@@ -11,14 +11,14 @@ use Rattle.matchit.specs.Router.{RouteOf, route_from}
 use Rattle.matchit.specs.Rows.{RowsOf}
 use Rattle.matchit.specs.Seek.{first}
 use Rattle.matchit.specs.declared.error.InsertError.{InsertError}
-use Rattle.pt_http_request.specs.Days.{day_from}
+use Rattle.pt_base.specs.SpelledDay.{day_from}
+use Rattle.pt_requests.specs.declared.request.Read.TheVariants as read
 use Rattle.pt_http_request.specs.Numbers.{id_from, position_from}
 use Rattle.pt_http_request.specs.declared.targets.Path.{Path}
 use Rattle.pt_http_request.specs.declared.targets.Path.TheVariants as path
 use Rattle.pt_http_request.specs.declared.targets.Target.{Target}
 use Rattle.pt_http_request.specs.declared.targets.Target.TheVariants as target
 use Rattle.pt_http_request.specs.declared.targets.WriteTarget.TheVariants as writes
-use Rattle.pt_requests.specs.declared.request.Read.TheVariants as read
 
 -- the rows with one route more
 abbrev pub with_route : Result Scan InsertError → Path → RowsOf (RouteOf Path) → RowsOf (RouteOf Path)

@@ -8,9 +8,9 @@ use Rattle.pt_rights.specs.declared.tally.Outcome.TheVariants as outcome
 use Rattle.serde_json.specs.Data.{Data}
 use Rattle.serde_json.specs.Find.{get}
 use Rattle.pt_http_request.specs.Fields.{text_at, truth_at, id_at, day_at, number_within, holds_nothing, needed, ◌>>=◌}
-use Rattle.pt_http_reply.specs.Fault.{field_name}
-use Rattle.pt_http_reply.specs.declared.fault.FieldName.{FieldName}
-use Rattle.pt_http_reply.specs.declared.fault.FieldName.TheVariants as field
+use Rattle.pt_http_request.specs.Names.{field_name}
+use Rattle.pt_http_request.specs.declared.field_name.FieldName.{FieldName}
+use Rattle.pt_http_request.specs.declared.field_name.FieldName.TheVariants as field
 
 -- the minute of the day that a field holds, if it holds anything
 abbrev pub minute_if_any_at : FieldName → Data → Result (Option ℕ) FieldName

@@ -7,9 +7,9 @@ use Rattle.serde_json.specs.Find.{get}
 use Rattle.pt_http_request.specs.Fields.{id_at, day_at, number_within, ranged_at, needed, tested, ◌>>=◌}
 use Rattle.pt_http_request.specs.Fields.{Ranged, holds_nothing, in_range, ranged}
 use Rattle.pt_http_request.specs.Routes.{days_at}
-use Rattle.pt_http_reply.specs.Fault.{field_name}
-use Rattle.pt_http_reply.specs.declared.fault.FieldName.{FieldName}
-use Rattle.pt_http_reply.specs.declared.fault.FieldName.TheVariants as field
+use Rattle.pt_http_request.specs.Names.{field_name}
+use Rattle.pt_http_request.specs.declared.field_name.FieldName.{FieldName}
+use Rattle.pt_http_request.specs.declared.field_name.FieldName.TheVariants as field
 
 -- how many wheelchair places a body gives a vehicle, none where it does not say
 abbrev pub chairs_at : Data → Result (Ranged 0 10) FieldName

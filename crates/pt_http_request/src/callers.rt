@@ -3,9 +3,9 @@ ghost use Rattle.pt_requests.specs.declared.caller.Role.{Role};
 ghost use Rattle.serde_json.specs.View.{view};
 ghost use Rattle.pt_http_request.specs.Callers.{role_alone, role_named, caller_in};
 
+use crate::FieldName;
 use crate::fields::{digest_at, id_at, text_at, whole_at};
-use pt_desk::{Caller, Role};
-use pt_http_reply::FieldName;
+use pt_requests::{Caller, Role};
 use serde_json::Value;
 
 /// A role of nobody in particular, whose subject is written as 0.

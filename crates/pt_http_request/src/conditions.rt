@@ -2,10 +2,10 @@ ghost use Rattle.std.specs.Prelude.{◌≡◌, map};
 ghost use Rattle.serde_json.specs.View.{view};
 ghost use Rattle.pt_http_request.specs.Entries.{condition_in, conditions_from, conditions_at};
 
+use crate::FieldName;
 use crate::routes::values_of;
 use arrayvec::ArrayVec;
 use pt_conditions::condition_from;
-use pt_http_reply::FieldName;
 use pt_rights::{Condition, Conditions, MOST_CONDITIONS};
 use serde_json::Value;
 

@@ -5,11 +5,11 @@ ghost use Rattle.pt_http_request.specs.Entries.{kind_named, kind_in, grant_in, p
 ghost use Rattle.pt_http_request.specs.Entries.{entry_of_kind, entry_in};
 ghost use Rattle.pt_http_request.specs.Faults.{OnField, OnRefused};
 
+use crate::FieldName;
 use crate::conditions::conditions_at;
 use crate::fault::MessageFault;
 use crate::fields::{day_at, number_within, text_at};
 use crate::numbers::LAST_POSITION;
-use pt_http_reply::FieldName;
 use pt_rights::{Entry, Grant, Reasons};
 use serde_json::Value;
 use std::alloc::Global;

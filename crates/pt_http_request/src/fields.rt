@@ -1,18 +1,16 @@
-ghost use Rattle.std.specs.Prelude.{◌≡◌, ℕ, Ok, Err, IfSome, IsNone, IfOk, IfErr};
+ghost use Rattle.std.specs.Prelude.{◌≡◌, Ok, Err, IfOk, IfErr};
 ghost use Rattle.std.specs.Int.{IsInRange};
 ghost use Rattle.serde_json.specs.View.{view};
-ghost use Rattle.pt_http_request.specs.Days.{SpellsDay, day_from};
-ghost use Rattle.pt_http_request.specs.Fields.{number_within, whole_at, text_at, truth_at, truth_if_any_at, id_at, digest_from};
-ghost use Rattle.pt_http_request.specs.Fields.{holds_nothing};
-ghost use Rattle.pt_http_reply.specs.Fault.{field_name};
 ghost use Rattle.serde_json.specs.Find.{get};
-ghost use Rattle.pt_http_request.specs.Fields.{digest_at, day_at, ranged, ranged_at};
+ghost use Rattle.pt_http_request.specs.Names.{field_name};
+ghost use Rattle.pt_http_request.specs.Fields.{number_within, whole_at, text_at, truth_at, truth_if_any_at, id_at};
+ghost use Rattle.pt_http_request.specs.Fields.{digest_from, digest_at, day_at, ranged, ranged_at, holds_nothing};
 ghost use Rattle.pt_http_request.specs.Numbers.{id_of};
 
+use crate::FieldName;
 use hex::FromHex;
-use pt_base::{Day, Id, LAST_MINUTE, Minute};
-use pt_desk::Digest;
-use pt_http_reply::FieldName;
+use pt_base::{Day, Id, LAST_MINUTE, Minute, day_from};
+use pt_requests::Digest;
 use serde_json::Value;
 
 /// The whole number at a field of an object, or the field as a fault.
@@ -85,15 +83,6 @@ pub(crate) fn digest_at(object: &Value, name: FieldName) -> Result<Digest, Field
     ensures { result ≡ digest_at name (view object.now) }
 {
     digest_from(text_at(object, name)?).ok_or(name)
-}
-
-/// The day that a text of the form `YYYY-MM-DD` spells.
-pub fn day_from(text: &str) -> Option<Day>
-    ensures value { result ≡ day_from text.now }
-    ensures spelled { IfSome result (λ day. SpellsDay text.now day) }
-    ensures none { IsNone result → (day : ℕ) → ¬ (SpellsDay text.now day) }
-{
-    Day::parse(text).ok()
 }
 
 /// The day at a field of an object, or the field as a fault.

@@ -5,9 +5,9 @@ ghost use Rattle.pt_http_request.specs.Faults.{OnField, OnRefused};
 ghost use Rattle.pt_http_request.specs.Headers.{same_name, values_named, IsGiven, IsBodyLength, key_in, number_of};
 
 use crate::fault::MessageFault;
-use crate::numbers::number_from;
+use crate::{FieldName, RequestFault};
 use httparse::spans::HeaderSpan;
-use pt_http_reply::{FieldName, RequestFault};
+use pt_base::number_from;
 use std::alloc::Global;
 
 /// What the headers of a message give under one name.

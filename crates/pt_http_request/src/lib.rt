@@ -1,17 +1,17 @@
 //! Requests to the desk as HTTP messages: what the bytes of a message ask, or the first fault in them.
 #![tactic(auto)]
 
-pub use fault::MessageFault;
-pub use fields::day_from;
+pub use fault::{AllowedMethod, MessageFault, RequestFault};
+pub use field_name::FieldName;
 pub use headers::body_length;
 pub use message::{Message, message_from};
-pub use numbers::number_from;
 pub use targets::{Path, Target, WriteTarget, desk_router};
 
 mod callers;
 mod conditions;
 mod entries;
 mod fault;
+mod field_name;
 mod fields;
 mod headers;
 mod message;

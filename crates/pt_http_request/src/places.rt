@@ -3,10 +3,10 @@ ghost use Rattle.serde_json.specs.View.{view};
 ghost use Rattle.pt_base.specs.Place.{IsCoordinate};
 ghost use Rattle.pt_http_request.specs.Places.{coordinate_from, coordinate, coordinate_at, place_in};
 
+use crate::FieldName;
 use crate::fields::{id_at, truth_at};
 use pt_base::{Place, Point};
 use pt_corridor::MAX_COORDINATE;
-use pt_http_reply::FieldName;
 use serde_json::Value;
 
 /// The coordinate that a value spells.

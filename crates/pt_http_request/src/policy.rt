@@ -2,9 +2,9 @@ ghost use Rattle.std.specs.Prelude.{◌≡◌};
 ghost use Rattle.serde_json.specs.View.{view};
 ghost use Rattle.pt_http_request.specs.Policy.{policy_in};
 
+use crate::FieldName;
 use crate::fields::ranged_at;
 use pt_base::Policy;
-use pt_http_reply::FieldName;
 use serde_json::Value;
 
 /// The policy that an object spells, or its first bad field.

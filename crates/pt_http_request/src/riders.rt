@@ -2,9 +2,9 @@ ghost use Rattle.std.specs.Prelude.{◌≡◌};
 ghost use Rattle.serde_json.specs.View.{view};
 ghost use Rattle.pt_http_request.specs.Riders.{residence_named, residence_at, rider_in};
 
+use crate::FieldName;
 use crate::fields::{id_at, text_at, truth_at, truth_if_any_at};
 use pt_base::{Residence, Rider};
-use pt_http_reply::FieldName;
 use serde_json::Value;
 
 /// The residence of this name.

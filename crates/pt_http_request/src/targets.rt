@@ -2,11 +2,10 @@ ghost use Rattle.std.specs.Prelude.{◌≡◌, map, slice_get, IsUtf8, IfOk};
 ghost use Rattle.std.specs.Option.{option_copied};
 ghost use Rattle.pt_http_request.specs.Targets.{desk_routes, AreTexts, target_from, target_in, path_of};
 
-use crate::fields::day_from;
 use crate::numbers::{id_from, position_from};
 use matchit::{InsertError, ParamsIter, Router};
-use pt_base::{RiderId, TripId};
-use pt_desk::Read;
+use pt_base::{RiderId, TripId, day_from};
+use pt_requests::Read;
 use std::alloc::Global;
 use std::str;
 

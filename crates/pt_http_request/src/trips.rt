@@ -2,9 +2,9 @@ ghost use Rattle.std.specs.Prelude.{◌≡◌};
 ghost use Rattle.serde_json.specs.View.{view};
 ghost use Rattle.pt_http_request.specs.Trips.{minute_if_any_at, wish_in, booking_in, outcome_named, outcome_in};
 
+use crate::FieldName;
 use crate::fields::{day_at, id_at, minute_at, number_within, text_at, truth_at};
 use pt_base::{Minute, RiderId, Wish};
-use pt_http_reply::FieldName;
 use pt_rights::Outcome;
 use serde_json::Value;
 

@@ -4,13 +4,14 @@ ghost use Rattle.serde_json.specs.View.{view};
 ghost use Rattle.pt_http_request.specs.Fields.{ranged};
 ghost use Rattle.pt_http_request.specs.Vehicles.{chairs_at, vehicle_in};
 
+use crate::FieldName;
 use crate::fields::{day_at, holds_nothing, id_at, minute_at, ranged_at};
 use crate::routes::days_of;
 use pt_base::Vehicle;
-use pt_http_reply::FieldName;
 use serde_json::Value;
 
-/// How many wheelchair places an object gives a vehicle, or the field as a fault. A field that is missing or null has none.
+/// How many wheelchair places an object gives a vehicle, or the field as a fault. A field that is missing or null has
+/// none.
 fn chairs_of(body: &Value) -> Result<u32, FieldName>
     ensures value { IfOk result (λ number. (in_range : IsInRange 0 10 number)
         × (chairs_at (view body.now) ≡ Ok (ranged number in_range))) }

@@ -1,32 +1,16 @@
 -- Letters that tell riders decisions (49 CFR 37.125(d), (e), (g), (h)): every line ends with a newline.
-use Rattle.std.specs.Prelude.{ℕ, List, [], ◌++◌, Bool, true, false, Option, None, Some, codes, decimal}
+use Rattle.std.specs.Prelude.{ℕ, List, [], ◌++◌, Bool, true, false, codes, decimal}
 use Rattle.std.specs.List.{join_by}
 use Rattle.pt_conditions.specs.Texts.{condition_text}
 use Rattle.pt_rights.specs.declared.conditions.Condition.{Condition}
-use Rattle.pt_rights.specs.declared.entry.Entry.{Entry}
-use Rattle.pt_rights.specs.declared.entry.Entry.TheVariants as entry
 use Rattle.pt_rights.specs.declared.entry.Grant.{Grant}
+use Rattle.pt_requests.specs.declared.letters.Determination.{Determination}
+use Rattle.pt_requests.specs.declared.letters.Determination.TheVariants as decision
+use Rattle.pt_requests.specs.declared.letters.Letter.{Letter}
 use Rattle.pt_manifest.specs.Days.{day_text}
-use Rattle.pt_manifest.specs.declared.letters.Decision.{Decision}
-use Rattle.pt_manifest.specs.declared.letters.Decision.TheVariants as decision
-use Rattle.pt_manifest.specs.declared.letters.Letter.{Letter}
-
--- the decision that an entry of a case file makes: the other kinds have no letter
-abbrev pub decision_of : Entry → Option Decision
-decision_of entry.Complete = None
-decision_of (entry.Grant grant) = Some (decision.Granted grant)
-decision_of (entry.Refuse reasons) = Some (decision.Refused reasons)
-decision_of (entry.Appeal against) = None
-decision_of entry.Heard = None
-decision_of (entry.AppealGranted grant) = Some (decision.AppealGranted grant)
-decision_of (entry.AppealDenied reasons) = Some (decision.AppealDenied reasons)
-decision_of entry.Overturn = Some decision.Overturned
-decision_of (entry.Notice basis) = Some (decision.Notice basis)
-decision_of entry.NoticeHeard = None
-decision_of (entry.Suspend starts ends reasons) = Some (decision.Suspended starts ends reasons)
 
 -- the words for a decision
-abbrev pub words_of : Decision → List ℕ
+abbrev pub words_of : Determination → List ℕ
 words_of (decision.Granted grant) = codes "granted"
 words_of (decision.Refused reasons) = codes "refused"
 words_of (decision.AppealGranted grant) = codes "appeal granted"
@@ -56,7 +40,7 @@ abbrev pub reasons_line : List ℕ → List ℕ
 reasons_line reasons = codes "REASONS " ++ reasons ++ codes "\n"
 
 -- what else the letter tells of a decision, by whether the rider's record names an attendant
-abbrev pub particulars : Decision → Bool → List ℕ
+abbrev pub particulars : Determination → Bool → List ℕ
 particulars (decision.Granted grant) attendant = grant_lines grant attendant
 particulars (decision.Refused reasons) attendant = reasons_line reasons
 particulars (decision.AppealGranted grant) attendant = grant_lines grant attendant

@@ -3,12 +3,12 @@ use Rattle.std.specs.Prelude.{ℕ, ◌/◌, ◌%◌, ◌==◌, if◌then◌else�
 use Rattle.std.specs.List.{flat_map}
 use Rattle.jiff_fmt.specs.Text.{pad2}
 use Rattle.pt_base.specs.declared.load.Load.{Load}
-use Rattle.pt_booking.specs.declared.window.Window.{Window}
+use Rattle.pt_base.specs.declared.window.Window.{Window}
+use Rattle.pt_requests.specs.declared.sheets.DaySheet.{DaySheet}
+use Rattle.pt_requests.specs.declared.sheets.Tour.{Tour}
+use Rattle.pt_requests.specs.declared.sheets.TourStop.{TourStop}
+use Rattle.pt_requests.specs.declared.sheets.VehicleSheet.{VehicleSheet}
 use Rattle.pt_manifest.specs.Days.{day_text}
-use Rattle.pt_manifest.specs.declared.sheets.DaySheet.{DaySheet}
-use Rattle.pt_manifest.specs.declared.sheets.Tour.{Tour}
-use Rattle.pt_manifest.specs.declared.sheets.TourStop.{TourStop}
-use Rattle.pt_manifest.specs.declared.sheets.VehicleSheet.{VehicleSheet}
 
 -- a minute of the day as `HH:MM`, two digits each
 abbrev pub minute_text : ℕ → List ℕ
@@ -44,7 +44,8 @@ depot_line minute depot = minute_text minute ++ codes " DEPOT " ++ decimal depot
 abbrev pub tour_text : Option Tour → List ℕ
 tour_text None = codes "NO STOPS\n"
 tour_text (Some tour) =
-    depot_line tour.leaves tour.depot ++ flat_map (stop_line tour.chairs) tour.stops.items ++ depot_line tour.returns tour.depot
+    depot_line tour.leaves tour.depot ++ flat_map (stop_line tour.chairs) tour.stops.items
+    ++ depot_line tour.returns tour.depot
 
 -- what a vehicle does on a day
 abbrev pub manifest_text : ℕ → VehicleSheet → List ℕ

@@ -3,13 +3,11 @@
 
 pub use export::{status_text, trips_csv};
 pub use law::day_text_is_the_date;
-pub use letters::{Decision, Letter, decision_letter};
-pub use sheets::{DaySheet, Tour, TourStop, VehicleSheet};
+pub use letters::decision_letter;
 pub use tours::{day_sheet, manifest};
 
 mod export;
 mod law;
 mod letters;
-mod sheets;
 mod tours;
 mod writing;

@@ -6,10 +6,9 @@ ghost use Rattle.pt_manifest.specs.Manifests.{day_sheet_text, manifest_text, tou
 ghost use Rattle.pt_manifest.specs.Manifests.{stop_line, depot_line, stop_word, load_text, window_text};
 
 use crate::writing::{write_day, write_minute, write_number};
-use crate::{DaySheet, Tour, TourStop, VehicleSheet};
 use itoa::Buffer;
-use pt_base::{Day, Fault, Load, Minute, PlaceId};
-use pt_booking::Window;
+use pt_base::{Day, Fault, Load, Minute, PlaceId, Window};
+use pt_requests::{DaySheet, Tour, TourStop, VehicleSheet};
 use std::alloc::Global;
 
 /// What the vehicle's driver carries on the day. The error is want of memory.

@@ -1,6 +1,5 @@
 use crate::{Key, Keyed};
 use pt_base::{Day, Place, Rider, Trip, Vehicle};
-use pt_corridor::FixedRoute;
 
 impl Keyed for Day {
     ghost key = { λ day. day };
@@ -23,14 +22,6 @@ impl Keyed for Rider {
 
     fn key(&self) -> Key {
         Key::of(self.id.number())
-    }
-}
-
-impl Keyed for FixedRoute {
-    ghost key = { λ route. route.id };
-
-    fn key(&self) -> Key {
-        Key::of(self.id().number())
     }
 }
 

@@ -1,8 +1,8 @@
 -- The line that leads each message of a rehearsal, and gives the moment at which the message comes.
 use Rattle.std.specs.Prelude.{◌≡◌, ◌≢◌, ℕ, List, ◌∷◌, ◌++◌, codes, All}
 use Rattle.std.specs.Str.Lines.{strip_carriage_return}
-use Rattle.pt_http_request.specs.Days.{SpellsDay}
-use Rattle.pt_http_request.specs.Numbers.{SpellsNumber}
+use Rattle.pt_base.specs.SpelledDay.{SpellsDay}
+use Rattle.pt_base.specs.SpelledNumber.{SpellsNumber}
 
 -- the text is `@`, a date and digits, with one space between them and none in the date
 pub record AreParts (text date digits : List ℕ) : Type 0 where

@@ -2,8 +2,7 @@ ghost use Rattle.std.specs.Prelude.{◌≡◌, ℕ, ◌+◌, ◌≤◌, ◌==◌
 ghost use Rattle.std.specs.Str.Lines.{strip_carriage_return};
 ghost use Rattle.pt_rehearsal.specs.Moment.{IsMoment, AreParts, BeginsWithLine, BeginsWithMoment};
 
-use pt_base::{Day, Minute};
-use pt_http_request::{day_from, number_from};
+use pt_base::{Day, Minute, day_from, number_from};
 use std::str;
 
 /// The most bytes that a line with a moment has, its newline among them.

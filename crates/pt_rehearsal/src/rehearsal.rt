@@ -17,8 +17,8 @@ use pt_base::{Day, Fault, Minute};
 use pt_desk::Keeper;
 use pt_http::exchange;
 use pt_http_inbox::Inbox;
-use pt_http_reply::{RequestFault, Response};
-use pt_http_request::{Path, desk_router};
+use pt_http_reply::Response;
+use pt_http_request::{Path, RequestFault, desk_router};
 use std::alloc::Global;
 use std::io::{Read, Write};
 

@@ -1,11 +1,10 @@
 ghost use Rattle.std.specs.Prelude.{◌≤◌};
 
-use crate::Caller;
+use crate::{Caller, DaySheet, Letter, VehicleSheet};
 use pt_base::{
     Day, Minute, Place, Policy, Rider, RiderId, Rule, Trip, TripId, Vehicle, VehicleId, Wish,
 };
 use pt_corridor::FixedRoute;
-use pt_manifest::{DaySheet, Letter, VehicleSheet};
 use pt_records::Rows;
 use pt_rights::{Entry, Outcome, Standing};
 use pt_travel::Raw;
@@ -15,6 +14,8 @@ use pt_travel::Raw;
 pub enum Request {
     Read(Read),
     Write(Write),
+    /// Asks whether a rider's wish could be booked. It changes nothing.
+    Explain { rider: RiderId, wish: Wish },
 }
 
 /// A request that changes nothing.
@@ -92,6 +93,8 @@ pub enum Answer {
     Visitor { may_use: bool },
     /// The trip is booked.
     Booked(Confirmation),
+    /// The wish could be booked.
+    Possible,
     /// The rider's trips by rising number, cancelled ones too.
     Trips(Rows<Trip>),
     /// The letter that tells a decision.

@@ -2,8 +2,8 @@ ghost use Rattle.std.specs.Prelude.{◌≡◌, ◌++◌, All, OnOk};
 ghost use Rattle.pt_rights.specs.Conditions.{IsCondition, IsConditions};
 ghost use Rattle.pt_spelling.specs.Fields.{list_bytes};
 ghost use Rattle.pt_spelling.specs.Ranges.{IsWord, IsGrant, IsEntry};
-ghost use Rattle.pt_spelling.specs.Requests.{wheelchair_bytes, rider_bytes, condition_bytes, grant_bytes, entry_number, particulars_of};
-ghost use Rattle.pt_spelling.specs.Requests.{entry_bytes};
+ghost use Rattle.pt_spelling.specs.Requests.{wheelchair_bytes, rider_bytes, condition_bytes, grant_bytes};
+ghost use Rattle.pt_spelling.specs.Requests.{entry_bytes, entry_number, particulars_of};
 
 use crate::fields::{push_number, push_numbers, push_text, push_truth};
 use pt_base::{Residence, Rider};

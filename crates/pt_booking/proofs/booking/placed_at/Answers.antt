@@ -6,7 +6,7 @@ use Rattle.pt_insertion.specs.declared.asked.Asked.{Asked}
 use Rattle.pt_booking.specs.Booking.{IsTripIn}
 use Rattle.pt_booking.specs.Planning.{asked_for}
 use Rattle.pt_booking.specs.Request.{request_of}
-use Rattle.pt_booking.specs.declared.window.Window.{Window}
+use Rattle.pt_base.specs.declared.window.Window.{Window}
 use Rattle.pt_booking.proofs.PlacedLemmas.{chosen-found, chosen-in, planned, new-route}
 use Rattle.pt_booking.proofs.booking.placed_at.Goals as goal
 

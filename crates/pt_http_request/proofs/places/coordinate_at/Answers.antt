@@ -1,9 +1,9 @@
 use Rattle.std.proofs.Common.{◌≡◌, rules}
 use Rattle.std.specs.Prelude.{IfOk}
 use Rattle.pt_base.specs.Place.{IsCoordinate}
-use Rattle.pt_http_reply.specs.Fault.{field_name}
 use Rattle.serde_json.specs.Find.{get}
 use Rattle.serde_json.specs.View.{view}
+use Rattle.pt_http_request.specs.Names.{field_name}
 use Rattle.pt_http_request.proofs.FieldLemmas.{plain_feet, coordinate-known}
 use Rattle.pt_http_request.proofs.places.coordinate_at.Goals as goal
 

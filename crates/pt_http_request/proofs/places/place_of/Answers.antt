@@ -1,6 +1,6 @@
 use Rattle.std.proofs.Common.{◌≡◌, Ok, rules}
 use Rattle.serde_json.specs.View.{view}
-use Rattle.pt_http_reply.specs.declared.fault.FieldName.TheVariants as field
+use Rattle.pt_http_request.specs.declared.field_name.FieldName.TheVariants as field
 use Rattle.pt_http_request.proofs.FieldLemmas.{placed-same, place-read}
 use Rattle.pt_http_request.specs.Fields.{id_at, truth_at}
 use Rattle.pt_http_request.proofs.places.place_of.Goals as goal

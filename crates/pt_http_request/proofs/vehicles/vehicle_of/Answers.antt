@@ -1,6 +1,6 @@
 use Rattle.std.proofs.Common.{◌≡◌, Ok, Some, rules}
 use Rattle.serde_json.specs.View.{view}
-use Rattle.pt_http_reply.specs.declared.fault.FieldName.TheVariants as field
+use Rattle.pt_http_request.specs.declared.field_name.FieldName.TheVariants as field
 use Rattle.pt_http_request.proofs.FieldLemmas.{vehicle-read}
 use Rattle.pt_http_request.specs.Fields.{id_at, day_at, number_within}
 use Rattle.pt_http_request.specs.Routes.{days_at}

@@ -1,6 +1,6 @@
 use Rattle.std.proofs.Common.{refl, sym, ◌∙◌, subst}
-use Rattle.pt_http_request.proofs.ListLemmas.{error-from_none}
-use Rattle.pt_http_request.specs.Days.{SpellsDay}
+use Rattle.pt_base.proofs.ReadLemmas.{error-from_none}
+use Rattle.pt_base.specs.SpelledDay.{SpellsDay}
 use Rattle.pt_rehearsal.specs.Moment.{AreParts}
 use Rattle.pt_rehearsal.proofs.MomentLemmas.{moment_utf8, text_of_ok, parts_of_moment, parts_unique}
 use Rattle.pt_rehearsal.proofs.moment.moment_from.Goals as goal

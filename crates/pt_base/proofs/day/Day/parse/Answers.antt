@@ -1,9 +1,8 @@
-use Rattle.std.proofs.Common.{◌≡◌, ◌∙◌, ◌⊎◌, inl, inr, sym, ap, subst, refl, ℤ, pos, ◌≤ℤ◌, ◌<ℤ◌, Err, arith, to_z, of_z, w32}
+use Rattle.std.proofs.Common.{inl, inr, ap, refl, Err, arith}
 use Rattle.std.proofs.lemmas.Int.{ints, to_z-of_z}
 use Rattle.jiff_core.specs.Date.{epoch_day}
 use Rattle.pt_base.specs.Day.{IsOutside}
 use Rattle.pt_base.specs.DateText.{IsDateText}
-use Rattle.pt_base.proofs.CalendarLemmas.{IsDateText-day}
 use Rattle.pt_base.proofs.FaultLemmas.{no_other_fault, fault-is, ok_is_no_fault}
 use Rattle.pt_base.proofs.day.Day.parse.Goals as goal
 use Rattle.pt_base.proofs.day.Day.parse.Goals.{then-number-via-then-number, then-number-via-else-number+then-number-2}

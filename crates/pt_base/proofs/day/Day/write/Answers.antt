@@ -1,4 +1,4 @@
-use Rattle.std.proofs.Common.{◌≡◌, ◌++◌, ◌∙◌, ap, refl}
+use Rattle.std.proofs.Common.{◌++◌, ◌∙◌, ap}
 use Rattle.pt_base.proofs.CalendarLemmas.{IsDateText-text}
 use Rattle.pt_base.proofs.day.Day.write.Goals as goal
 

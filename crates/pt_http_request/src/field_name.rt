@@ -1,27 +1,5 @@
 ghost use Rattle.std.specs.Prelude.{◌≡◌, ◌≤◌, length};
-ghost use Rattle.pt_http_reply.specs.Fault.{fault_name, field_name, method_name, status_of_fault};
-
-use http::StatusCode;
-
-/// A method that a path takes.
-#[derive(Clone, Copy, Debug, PartialEq, Eq)]
-pub enum AllowedMethod {
-    Get,
-    Post,
-}
-
-impl AllowedMethod {
-    /// The method as HTTP spells it.
-    pub fn name(self) -> &'static str
-        ensures value { result.now ≡ method_name self }
-        ensures short { length result.now ≤ 4 }
-    {
-        match self {
-            AllowedMethod::Get => "GET",
-            AllowedMethod::Post => "POST",
-        }
-    }
-}
+ghost use Rattle.pt_http_request.specs.Names.{field_name};
 
 /// A header of a request, which must have it in a given form, or a field of a body, of a request or of a reply.
 #[derive(Clone, Copy, Debug, PartialEq, Eq)]
@@ -147,54 +125,6 @@ impl FieldName {
             FieldName::WindowFrom => "window_from",
             FieldName::WindowTo => "window_to",
             FieldName::Status => "status",
-        }
-    }
-}
-
-/// Why bytes are no request that the desk could answer.
-#[derive(Clone, Copy, Debug, PartialEq, Eq)]
-pub enum RequestFault {
-    /// The head cannot be read.
-    Head,
-    /// The body is not of a length that is taken.
-    Length,
-    /// The path is none of the desk's.
-    Path,
-    /// The path takes this method alone.
-    Method(AllowedMethod),
-    /// The body is no JSON object.
-    Json,
-    /// This header or field is missing, of another kind or out of range.
-    Field(FieldName),
-}
-
-impl RequestFault {
-    /// The name that a reply gives.
-    pub fn name(self) -> &'static str
-        ensures value { result.now ≡ fault_name self }
-        ensures short { length result.now ≤ 11 }
-    {
-        match self {
-            RequestFault::Head => "http.head",
-            RequestFault::Length => "http.length",
-            RequestFault::Path => "http.path",
-            RequestFault::Method(_) => "http.method",
-            RequestFault::Json => "http.json",
-            RequestFault::Field(_) => "http.field",
-        }
-    }
-
-    /// The status of the reply that names it.
-    pub fn status(self) -> StatusCode
-        ensures { result ≡ status_of_fault self }
-    {
-        match self {
-            RequestFault::Path => StatusCode::NOT_FOUND,
-            RequestFault::Method(_) => StatusCode::METHOD_NOT_ALLOWED,
-            RequestFault::Head
-            | RequestFault::Length
-            | RequestFault::Json
-            | RequestFault::Field(_) => StatusCode::BAD_REQUEST,
         }
     }
 }

@@ -11,9 +11,9 @@ use Rattle.pt_base.proofs.DateTextLemmas.{date_text-text_of, pos-unsigned_abs}
 use Rattle.pt_base.specs.DateText.{text_of}
 use Rattle.pt_base.specs.Day.{IsDay}
 use Rattle.pt_base.specs.Ranges.{first_day, last_day}
-use Rattle.pt_http_request.proofs.ChoiceLemmas.{Decides-le, Decides-within, chosen, chosen-known}
-use Rattle.pt_http_request.specs.Days.{SpellsDay, year_in, month_in, date_in, has_date, of_century, day_of_date}
-use Rattle.pt_http_request.specs.Days.{day_from}
+use Rattle.pt_base.proofs.ChoiceLemmas.{Decides-le, Decides-within, chosen, chosen-known}
+use Rattle.pt_base.specs.SpelledDay.{SpellsDay, year_in, month_in, date_in, has_date, of_century, day_of_date}
+use Rattle.pt_base.specs.SpelledDay.{day_from}
 
 of_century-day : (number : ℤ) (day : ℕ) → of_century number ≡ Some day → (number ≡ pos day) × IsDay day
 of_century-day (pos n) day e =

@@ -1,7 +1,6 @@
 ghost use Rattle.std.specs.Prelude.{◌<◌, vec_len};
 
-use pt_base::{Day, Load, Minute, PlaceId, RiderId, TripId, VehicleId};
-use pt_booking::Window;
+use pt_base::{Day, Load, Minute, PlaceId, RiderId, TripId, VehicleId, Window};
 
 /// A stop of a tour.
 #[derive(Clone, Copy, Debug, PartialEq, Eq)]

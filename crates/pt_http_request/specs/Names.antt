@@ -1,11 +1,11 @@
--- Bytes that are no request.
+-- How methods, fields and faults of a request are named.
 use Rattle.std.specs.Prelude.{ℕ, List, codes}
-use Rattle.pt_http_reply.specs.declared.fault.AllowedMethod.{AllowedMethod}
-use Rattle.pt_http_reply.specs.declared.fault.AllowedMethod.TheVariants.{Get, Post}
-use Rattle.pt_http_reply.specs.declared.fault.FieldName.{FieldName}
-use Rattle.pt_http_reply.specs.declared.fault.FieldName.TheVariants as field
-use Rattle.pt_http_reply.specs.declared.fault.RequestFault.{RequestFault}
-use Rattle.pt_http_reply.specs.declared.fault.RequestFault.TheVariants as fault
+use Rattle.pt_http_request.specs.declared.fault.AllowedMethod.{AllowedMethod}
+use Rattle.pt_http_request.specs.declared.fault.AllowedMethod.TheVariants.{Get, Post}
+use Rattle.pt_http_request.specs.declared.field_name.FieldName.{FieldName}
+use Rattle.pt_http_request.specs.declared.field_name.FieldName.TheVariants as field
+use Rattle.pt_http_request.specs.declared.fault.RequestFault.{RequestFault}
+use Rattle.pt_http_request.specs.declared.fault.RequestFault.TheVariants as fault
 
 -- a method as HTTP spells it
 abbrev pub method_name : AllowedMethod → List ℕ

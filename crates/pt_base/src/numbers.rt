@@ -1,0 +1,29 @@
+ghost use Rattle.std.specs.Prelude.{◌≡◌, ℕ, IfSome, IsNone};
+ghost use Rattle.pt_base.specs.SpelledNumber.{SpellsNumber, number_from};
+
+use std::str;
+
+/// The number that one to so many digits spell, where it is at most this.
+pub fn number_from(bytes: &[u8], digits: usize, most: u64) -> Option<u64>
+    ensures value { result ≡ number_from digits most bytes.now }
+    ensures spelled { IfSome result (SpellsNumber digits most bytes.now) }
+    ensures none { IsNone result → (number : ℕ) → ¬ (SpellsNumber digits most bytes.now number) }
+{
+    spelled_number(bytes, digits, most)
+}
+
+/// The same, as the digits are read.
+fn spelled_number(bytes: &[u8], digits: usize, most: u64) -> Option<u64>
+    ensures spelled { IfSome result (SpellsNumber digits most bytes.now) }
+    ensures none { IsNone result → (number : ℕ) → ¬ (SpellsNumber digits most bytes.now number) }
+{
+    if bytes.is_empty() || bytes.len() > digits || bytes[0] == b'+' {
+        return None;
+    }
+    let text = str::from_utf8(bytes).ok()?;
+    let number = u64::from_str_radix(text, 10).ok()?;
+    if number > most {
+        return None;
+    }
+    Some(number)
+}

@@ -1,0 +1,8 @@
+use crate::Minute;
+
+/// From which to which minute of the day a pickup may begin.
+#[derive(Clone, Copy, Debug, PartialEq, Eq)]
+pub struct Window {
+    pub from: Minute,
+    pub to: Minute,
+}

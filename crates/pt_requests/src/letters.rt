@@ -1,0 +1,66 @@
+ghost use Rattle.std.specs.Prelude.{◌≡◌};
+ghost use Rattle.pt_requests.specs.Letters.{decision_of};
+
+use pt_base::{Day, Rider};
+use pt_rights::{Entry, Grant, Reasons};
+
+/// What was decided on a rider's application, appeal or suspension, and is told by letter.
+#[derive(Debug, Drop, PartialEq, Eq)]
+pub enum Determination {
+    /// The application is granted.
+    Granted(Grant),
+    /// The application is refused.
+    Refused(Reasons),
+    /// The appeal against a refusal is granted.
+    AppealGranted(Grant),
+    /// The appeal is denied.
+    AppealDenied(Reasons),
+    /// The appeal against a suspension is granted.
+    Overturned,
+    /// A suspension is proposed, on this basis.
+    Notice(Reasons),
+    /// The rider is suspended.
+    Suspended {
+        /// The first day of the suspension.
+        starts: Day,
+        /// The last day of the suspension.
+        ends: Day,
+        reasons: Reasons,
+    },
+}
+
+impl Determination {
+    /// The decision that an entry makes; `None` where its kind has no letter.
+    pub fn of(entry: Entry) -> Option<Self>
+        ensures value { result ≡ decision_of entry }
+    {
+        match entry {
+            Entry::Grant(grant) => Some(Determination::Granted(grant)),
+            Entry::Refuse(reasons) => Some(Determination::Refused(reasons)),
+            Entry::AppealGranted(grant) => Some(Determination::AppealGranted(grant)),
+            Entry::AppealDenied(reasons) => Some(Determination::AppealDenied(reasons)),
+            Entry::Overturn => Some(Determination::Overturned),
+            Entry::Notice(basis) => Some(Determination::Notice(basis)),
+            Entry::Suspend {
+                starts,
+                ends,
+                reasons,
+            } => Some(Determination::Suspended {
+                starts,
+                ends,
+                reasons,
+            }),
+            Entry::Complete | Entry::Appeal { .. } | Entry::Heard | Entry::NoticeHeard => None,
+        }
+    }
+}
+
+/// What a letter tells a rider.
+#[derive(Debug, Drop, PartialEq, Eq)]
+pub struct Letter {
+    /// The rider's record as it is.
+    pub rider: Rider,
+    /// The day of the decision.
+    pub day: Day,
+    pub decision: Determination,
+}
