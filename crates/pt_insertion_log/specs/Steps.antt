@@ -1,5 +1,5 @@
 -- Steps of a case: a bound that a constraint raises, or a constraint that is broken.
-use Rattle.std.specs.Prelude.{◌≡◌, ℕ, ◌+◌, ◌-◌, ◌^◌, ◌<◌, ◌≤◌, IsTrue, List, length, Option, Some, slice_get}
+use Rattle.std.specs.Prelude.{⊤, ◌≡◌, ℕ, ◌+◌, ◌-◌, ◌^◌, ◌<◌, ◌≤◌, IsTrue, List, length, Option, Some, slice_get}
 use Rattle.pt_base.specs.declared.vehicle.Vehicle.{Vehicle}
 use Rattle.pt_feasible.specs.declared.stop.Stop.{Stop}
 use Rattle.pt_feasible.specs.declared.visit.Visit.{Visit}
@@ -45,6 +45,20 @@ pub record IsKeptAt (minutes : ℕ → ℕ → Option ℕ) (vehicle : Vehicle) (
   pub driven : IsDriven minutes vehicle stops bound k
   pub ridden : IsRidden stops bound k
   pub back : k ≡ 0 → bound (length stops + 1) - bound 0 ≤ vehicle.duration
+
+-- the visits before visit n keep their constraints
+abbrev pub AreKeptBefore : (ℕ → ℕ → Option ℕ) → Vehicle → List Stop → (ℕ → ℕ) → ℕ → Type 0
+AreKeptBefore minutes vehicle stops bound n = (k : ℕ) → k < n → IsKeptAt minutes vehicle stops bound k
+
+-- a raise at visit k, or an end
+abbrev pub IsAt : ℕ → Step → Type 0
+IsAt k (step.Raise raise) = visit_of raise ≡ k
+IsAt k (step.End end) = ⊤
+
+-- the visits before that of a raise keep their constraints
+abbrev pub IsFirst : (ℕ → ℕ → Option ℕ) → Vehicle → List Stop → (ℕ → ℕ) → Step → Type 0
+IsFirst minutes vehicle stops bound (step.Raise raise) = AreKeptBefore minutes vehicle stops bound (visit_of raise)
+IsFirst minutes vehicle stops bound (step.End end) = ⊤
 
 -- an end that is right whatever the bounds are
 abbrev pub IsLasting : (ℕ → ℕ → Option ℕ) → Vehicle → List Stop → End → Type 0

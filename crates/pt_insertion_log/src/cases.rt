@@ -8,6 +8,7 @@ ghost use Rattle.pt_insertion_log.specs.Steps.{IsLasting, IsClear};
 ghost use Rattle.pt_insertion_log.specs.Written.{WritesCases};
 
 use crate::steps::{Step, next_step};
+use crate::touched::first_touched;
 use crate::writing::write_line;
 use pt_audit::{End, Insertion, Line, MAX_VISITS, Raise, is_right_end, raise_bound};
 use pt_base::Fault;
@@ -36,11 +37,13 @@ pub fn explain_case<T: Times, W: Write>(
         return write_line(Line::End(end), out);
     }
     let mut bounds = [0; MAX_VISITS];
+    let mut from = 0;
     loop {
-        match next_step(insertion, times, &bounds) {
+        match next_step(insertion, times, &bounds, from) {
             Some(Step::Raise(raise)) => {
                 write_line(Line::Raise(raise), out)?;
                 raise_bound(&mut bounds, raise);
+                from = first_touched(insertion, raise);
             }
             Some(Step::End(end)) => return write_line(Line::End(end), out),
             None => return Ok(()),

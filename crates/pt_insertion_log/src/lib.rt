@@ -7,4 +7,5 @@ mod cases;
 mod explaining;
 mod limits;
 mod steps;
+mod touched;
 mod writing;

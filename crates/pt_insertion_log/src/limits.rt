@@ -2,6 +2,7 @@ ghost use Rattle.std.specs.Prelude.{◌≡◌, ℕ, ◌+◌, ◌-◌, ◌<◌, �
 ghost use Rattle.std.specs.Prelude.{IsNone, IfSome, Option};
 ghost use Rattle.pt_feasible.specs.declared.stop.Stop.{Stop};
 ghost use Rattle.pt_feasible.specs.Stop.{is_pickup, is_drop};
+ghost use Rattle.pt_audit.specs.Bounds.{visit_of};
 ghost use Rattle.pt_audit.specs.declared.bounds.TheConstants.{MAX_VISITS};
 ghost use Rattle.pt_audit.specs.Insertion.{inserted_stops};
 ghost use Rattle.pt_insertion_log.specs.Steps.{Raises, IsDriven, IsRidden};
@@ -21,6 +22,7 @@ pub fn drive_raise<T: Times>(
     requires short { k < MAX_VISITS }
     ensures raise { IfSome result (Raises (T.minutes times.now) insertion.now.vehicle.now
         (inserted_stops insertion.now) (slice_index bounds.now)) }
+    ensures at { IfSome result (λ raise. visit_of raise ≡ k) }
     ensures none { IsNone result → IsDriven (T.minutes times.now) insertion.now.vehicle.now
         (inserted_stops insertion.now) (slice_index bounds.now) k }
 {
@@ -42,6 +44,7 @@ pub fn ride_raise(insertion: &Insertion<'_>, bounds: &Bounds, k: usize) -> Optio
     requires { k < length (inserted_stops insertion.now) + 2 }
     ensures raise { (minutes : ℕ → ℕ → Option ℕ) → IfSome result (Raises minutes insertion.now.vehicle.now
         (inserted_stops insertion.now) (slice_index bounds.now)) }
+    ensures at { IfSome result (λ raise. visit_of raise ≡ k) }
     ensures none { IsNone result → IsRidden (inserted_stops insertion.now) (slice_index bounds.now) k }
 {
     if k == 0 || k > insertion.len() {

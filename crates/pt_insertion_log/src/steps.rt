@@ -3,7 +3,7 @@ ghost use Rattle.pt_audit.specs.Bounds.{IsRightEnd};
 ghost use Rattle.pt_audit.specs.declared.bounds.TheConstants.{MAX_VISITS};
 ghost use Rattle.pt_audit.specs.Insertion.{inserted_stops};
 ghost use Rattle.pt_audit.specs.declared.line.End.TheVariants as end;
-ghost use Rattle.pt_insertion_log.specs.Steps.{IsStep, IsKeptAt};
+ghost use Rattle.pt_insertion_log.specs.Steps.{IsStep, IsAt, IsFirst, IsKeptAt, AreKeptBefore};
 
 use crate::limits::{drive_raise, ride_raise};
 use pt_audit::{Bounds, End, Insertion, Raise};
@@ -18,15 +18,24 @@ pub enum Step {
     End(End),
 }
 
-/// The first step that the bounds ask for; `None` where they keep all constraints.
-pub fn next_step<T: Times>(insertion: &Insertion<'_>, times: &T, bounds: &Bounds) -> Option<Step>
+/// The first step that the bounds ask for, looked for from visit `from` on; `None` where they keep all constraints.
+pub fn next_step<T: Times>(
+    insertion: &Insertion<'_>,
+    times: &T,
+    bounds: &Bounds,
+    from: usize,
+) -> Option<Step>
+    requires { AreKeptBefore (T.minutes times.now) insertion.now.vehicle.now (inserted_stops insertion.now)
+        (slice_index bounds.now) from }
     ensures step { IfSome result (IsStep (T.minutes times.now) insertion.now.vehicle.now
+        (inserted_stops insertion.now) (slice_index bounds.now)) }
+    ensures first { IfSome result (IsFirst (T.minutes times.now) insertion.now.vehicle.now
         (inserted_stops insertion.now) (slice_index bounds.now)) }
     ensures none { IsNone result → (k : ℕ) → k < length (inserted_stops insertion.now) + 2 →
         IsKeptAt (T.minutes times.now) insertion.now.vehicle.now (inserted_stops insertion.now)
         (slice_index bounds.now) k }
 {
-    for k in 0..insertion.len() + 2 {
+    for k in from..insertion.len() + 2 {
         if let Some(step) = step_at(insertion, times, bounds, k) {
             return Some(step);
         }
@@ -45,6 +54,7 @@ fn step_at<T: Times>(
     requires short { k < MAX_VISITS }
     ensures step { IfSome result (IsStep (T.minutes times.now) insertion.now.vehicle.now
         (inserted_stops insertion.now) (slice_index bounds.now)) }
+    ensures at { IfSome result (IsAt k) }
     ensures none { IsNone result → IsKeptAt (T.minutes times.now) insertion.now.vehicle.now
         (inserted_stops insertion.now) (slice_index bounds.now) k }
 {

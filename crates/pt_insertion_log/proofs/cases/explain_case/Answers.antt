@@ -1,14 +1,16 @@
-use Rattle.std.proofs.Common.{arith, ◌+◌, ◌≤◌, ◌∷◌, [], ℕ, length, slice_index, refl, sym, subst}
+use Rattle.std.proofs.Common.{arith, ◌≡◌, ◌+◌, ◌≤◌, ◌∷◌, [], ℕ, length, slice_index, refl, sym, subst}
 use Rattle.pt_feasible.specs.Route.{stops_of}
 use Rattle.pt_feasible.specs.ServiceTimes.{TimesFit}
 use Rattle.pt_insertion.specs.Possible.{IsPossible}
 use Rattle.pt_insertion.proofs.InsertionLemmas.{length-with_trip}
 use Rattle.pt_audit.specs.declared.line.Line.TheVariants as line
 use Rattle.pt_audit.specs.Insertion.{case_of, inserted_stops}
+use Rattle.pt_audit.specs.Bounds.{raised}
 use Rattle.pt_audit.specs.RightLog.{case_line}
 use Rattle.pt_audit.specs.Text.{line_text, IsInForm}
 use Rattle.std.specs.Io.KnownBytes.{Appends}
 use Rattle.pt_audit.proofs.ReadingLemmas.{all_zero, visit-among}
+use Rattle.pt_insertion_log.specs.Steps.{IsKeptAt}
 use Rattle.pt_insertion_log.specs.Written.{WritesCases}
 use Rattle.pt_insertion_log.proofs.FitLemmas.{fit, times_of, clear-loads, clear-room, raise-room}
 use Rattle.pt_insertion_log.proofs.WrittenLemmas.{IsBegun, begun_first, begun_raise, begun_end, on_ok}
@@ -41,7 +43,11 @@ loop-raise-init g c =
       begun = subst (IsBegun minutes case (contents c.args.out.now) (contents c.write_line.new.out)) (sym (all_zero 104))
           (begun_first minutes case (contents c.args.out.now) (contents c.write_line.new.out) (contents c.write_line.new.out) form written);
       long = refl;
+      kept = λ k below. absurd (omega arith);
     }
+
+pub next_step-requires : goal.next_step-requires
+next_step-requires g c = c.loop-raise.invariant.kept
 
 pub raise_bound-requires : goal.raise_bound-requires
 raise_bound-requires g c =
@@ -59,11 +65,17 @@ pub loop-raise-preserved : goal.loop-raise-preserved
 loop-raise-preserved g c =
     let minutes = g.T.Times.minutes c.args.times.now in
     let contents = g.W.Write.contents in
+    let vehicle = c.args.insertion.now.vehicle.now in
+    let stops = inserted_stops c.args.insertion.now in
     let step = rw c.in-Some-Raise.field-0-is at c.in-Some-Raise.ensures.step in
+    let first = rw c.in-Some-Raise.field-0-is at c.in-Some-Raise.ensures.first in
+    let bounds : raised (slice_index c.loop-raise.bounds) c.in-Some-Raise.raise ≡ slice_index c.raise_bound.new.bounds = λ i k. sym (c.raise_bound.ensures k) i in
     record {
       begun = begun_raise minutes (case_of c.args.insertion.now) (contents c.args.out.now) (contents c.loop-raise.out) (contents c.write_line-in-Some-Raise.new.out) (slice_index c.loop-raise.bounds) (slice_index c.raise_bound.new.bounds) c.in-Some-Raise.raise
           c.loop-raise.invariant.begun step.0 c.write_line-in-Some-Raise.ensures.in_form c.in_ok-write_line-in-Some-Raise.ensures.line c.raise_bound.ensures;
       long = c.raise_bound.array_long;
+      kept = λ k below. subst (λ (bound : ℕ → ℕ). IsKeptAt minutes vehicle stops bound k) bounds
+          (c.first_touched-from.ensures.kept minutes (slice_index c.loop-raise.bounds) k below (first k (omega (arith, below, c.first_touched-from.ensures.no_later))));
     }
 
 pub returns-in-Some-End-clause-written : goal.returns-in-Some-End-clause-written
