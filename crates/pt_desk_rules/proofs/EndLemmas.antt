@@ -19,9 +19,10 @@ use Rattle.pt_scheduling.specs.declared.planned.PlannedStop.{PlannedStop}
 use Rattle.pt_scheduling.proofs.PlanLemmas.{found_key}
 use Rattle.pt_scheduling.proofs.RouteLemmas.{Each-found}
 use Rattle.pt_desk_rules.specs.Outcomes.{ended, status_of}
-use Rattle.pt_desk_rules.specs.Sound.{CanServe, FitsIn, IsSound, IsNumberedTo, HasDay, HasPlaces, HasStandingTrips, HasVehicle, IsOfRider, IsPlanned, StandsIn}
+use Rattle.pt_desk_rules.specs.Sound.{IsSound, IsNumberedTo, HasDay, HasPlaces, HasStandingTrips, HasVehicle, IsOfRider, IsPlanned, StandsIn}
 use Rattle.pt_desk_rules.specs.State.{State, trip_key, trip_of}
 use Rattle.pt_desk_rules.specs.Trips.{is_booked}
+use Rattle.pt_desk_rules.proofs.FitLemmas.{each_drive, each_load, planned_fit, CanServe, FitsIn}
 use Rattle.pt_desk_rules.proofs.PlannedLemmas.{put_stands, still_stands}
 
 -- whatever came of a trip that was not cancelled, it stands
@@ -85,5 +86,7 @@ end_sound end id trip s sound found booked =
     let planned = Each-put (IsPlanned s.planned) trip_key (ended end trip) s.trips sound.standing_planned (λ _. Each-found (IsPlanned s.planned) trip_key id trip s.trips sound.standing_planned found (booked_stands trip.status booked)) in
     let fit = Each-weaker (FitsIn s.vehicles s.travel s.trips) (FitsIn s.vehicles s.travel (put trip_key (ended end trip) s.trips))
     (λ plan fits. subst (λ (stops : List Stop). CanServe s.vehicles s.travel plan.vehicle plan.day stops) (sym (ended_stops end trip s.trips here plan.stops)) fits)
-    s.planned sound.planned_fit in
+    s.planned (planned_fit s sound) in
+    let drive = each_drive s.vehicles s.travel (put trip_key (ended end trip) s.trips) s.planned fit in
+    let load = each_load s.vehicles s.travel (put trip_key (ended end trip) s.trips) s.planned fit in
     search rules

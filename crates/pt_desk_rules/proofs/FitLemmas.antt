@@ -9,9 +9,10 @@ use Rattle.pt_base.specs.TripStatus.{stands}
 use Rattle.pt_base.specs.declared.trip.Trip.{Trip}
 use Rattle.pt_base.specs.declared.vehicle.Vehicle.{Vehicle}
 use Rattle.pt_booking.specs.Request as request_of
+use Rattle.pt_feasible.specs.Loads.{LoadsFit}
 use Rattle.pt_feasible.specs.declared.stop.Stop.{Stop}
 use Rattle.pt_records.specs.Keys.{pair_key}
-use Rattle.pt_records.specs.Records.{is_within, put, record_at, take_away, Each}
+use Rattle.pt_records.specs.Records.{is_within, put, record_at, take_away, Each, IsInOrder}
 use Rattle.pt_records.proofs.OrderLemmas.{record_at-put_other, record_at-put_same, Each-both, Each-weaker}
 use Rattle.pt_records.proofs.SplitLemmas.{Each-at}
 use Rattle.pt_records.proofs.TableLemmas.{same_or_other, Each-filter}
@@ -24,12 +25,13 @@ use Rattle.pt_scheduling.proofs.RouteLemmas.{booked_plan, has_trip, Each-found}
 use Rattle.pt_desk_rules.specs.Booking.{routes_on, rows_of, AreTimes}
 use Rattle.pt_desk_rules.specs.Fleet.{has_weekday, is_newer, is_on_duty, on_duty, ClosesInDay}
 use Rattle.pt_desk_rules.specs.Planned.{is_booked_from, is_standing_from, planned_on, trips_on}
-use Rattle.pt_desk_rules.specs.Sound.{CanDrive, CanServe, FitsIn, HasDay, HasFirstDay, HasStandingTrips, HasStops}
-use Rattle.pt_desk_rules.specs.Sound.{IsOnDay, IsSound, StandsIn}
-use Rattle.pt_desk_rules.specs.State.{tables_before, tables_from, travel_key, trip_key, State}
+use Rattle.pt_desk_rules.specs.Sound.{CanDrive, DrivesIn, HasDay, HasFirstDay, HasStandingTrips, HasStops, HasTimes}
+use Rattle.pt_desk_rules.specs.Sound.{HoldsOnDuty, IsOnDay, IsSound, LoadsFitIn, StandsIn}
+use Rattle.pt_desk_rules.specs.State.{tables_before, tables_from, travel_key, trip_key, vehicle_key, State}
 use Rattle.pt_desk_rules.specs.Travel as dated
 use Rattle.pt_desk_rules.specs.Travel.{holds_on, table_on, DatedTable}
 use Rattle.pt_desk_rules.specs.Trips.{plan_of_stops, plan_span}
+use Rattle.pt_desk_rules.proofs.DutyLemmas.{duty_order, each_one, id_of}
 use Rattle.pt_desk_rules.proofs.FleetLemmas.{filter-kept, filter-put_other, fleet_with, kept_versions}
 use Rattle.pt_desk_rules.proofs.PlannedLemmas.{filter-gives, own_key, place_of_old, standing_at, stands_below}
 use Rattle.pt_desk_rules.proofs.StandingLemmas.{same_place, trip_on}
@@ -137,6 +139,88 @@ any_moves P test gives xs ys same (k, a, within, at, holds) =
     some_any P ys
     (some_passed P test ys (subst (λ zs. Some_of P zs) same
     (some_passes P test gives xs (some_at P xs k a within at holds))))
+
+any_gives : {A : Type 0} (P Q : A → Type 0) → ((x : A) → P x → Q x) → (xs : List A) → Any P xs → Any Q xs
+any_gives P Q gives xs (k, a, within, at, holds) = (k, a, within, at, gives a holds)
+
+-- The one version of a vehicle that is on duty drives its stops, and has room.
+
+-- the version of this vehicle that is on duty on this day can drive the stops by the travel table that holds then
+abbrev pub CanServe : List Vehicle → List DatedTable → ℕ → ℕ → List Stop → Type 0
+CanServe vehicles travel id day stops = HoldsOnDuty (CanDrive (rows_of (table_on day travel)) stops) vehicles id day
+
+-- the vehicle of a plan can drive the stops of its trips on its day
+abbrev pub FitsIn : List Vehicle → List DatedTable → List Trip → Plan → Type 0
+FitsIn vehicles travel trips plan =
+    CanServe vehicles travel plan.vehicle plan.day (stops_among trips plan.stops)
+
+none_above : (P : Vehicle → Type 0) (id : ℕ) (x : Vehicle) (ys : List Vehicle) → x.id ≡ id
+    → Each (λ (y : Vehicle). x.id < y.id) ys → Some_of (λ v. (v.id ≡ id) × P v) ys → ⊥
+none_above P id x [] own above some = some
+none_above P id x (y ∷ ys) own above (inl (is, holds)) = absurd (omega (arith, above.0, is, own))
+none_above P id x (y ∷ ys) own above (inr rest) = none_above P id x ys own above.1 rest
+
+-- of vehicles by rising number, what holds of one of this number and what holds of one hold of the same
+one_both : (P Q : Vehicle → Type 0) (id : ℕ) (xs : List Vehicle) → IsInOrder id_of xs
+    → Some_of (λ v. (v.id ≡ id) × P v) xs → Some_of (λ v. (v.id ≡ id) × Q v) xs
+    → Some_of (λ v. (v.id ≡ id) × (P v × Q v)) xs
+one_both P Q id [] order some also = some
+one_both P Q id (x ∷ xs) order (inl (own, holds)) (inl (is, too)) = inl (own, (holds, too))
+one_both P Q id (x ∷ xs) order (inl (own, holds)) (inr rest) = absurd (none_above Q id x xs own order.0 rest)
+one_both P Q id (x ∷ xs) order (inr rest) (inl (own, too)) = absurd (none_above P id x xs own order.0 rest)
+one_both P Q id (x ∷ xs) order (inr some) (inr also) = inr (one_both P Q id xs order.1 some also)
+
+-- so a plan whose vehicle drives its stops, and has room, fits
+both_fit : (vehicles : List Vehicle) (travel : List DatedTable) (trips : List Trip) (plan : Plan)
+    → Each HasFirstDay vehicles → IsInOrder vehicle_key vehicles → DrivesIn vehicles travel trips plan
+    → LoadsFitIn vehicles trips plan → FitsIn vehicles travel trips plan
+both_fit vehicles travel trips plan days order (k, first, within, at, drives) (l, second, below, is, loads) =
+    let rows = rows_of (table_on plan.day travel) in
+    let stops = stops_among trips plan.stops in
+    let duty = on_duty plan.day vehicles in
+    any_gives
+    (λ (v : Vehicle). (v.id ≡ plan.vehicle) × (HasTimes rows stops v × LoadsFit v stops))
+    (λ (v : Vehicle). (v.id ≡ plan.vehicle) × CanDrive rows stops v)
+    (λ v (own, ((minutes, times, b, fits), room)).
+    (own, (minutes, times, record { loads = room; times = (b, fits) }))) duty
+    (some_any (λ (v : Vehicle). (v.id ≡ plan.vehicle) × (HasTimes rows stops v × LoadsFit v stops)) duty
+    (one_both (HasTimes rows stops) (λ (v : Vehicle). LoadsFit v stops) plan.vehicle duty
+    (duty_order plan.day vehicles vehicles (each_one vehicles) days order)
+    (some_at (λ (v : Vehicle). (v.id ≡ plan.vehicle) × HasTimes rows stops v) duty k first within at drives)
+    (some_at (λ (v : Vehicle). (v.id ≡ plan.vehicle) × LoadsFit v stops) duty l second below is loads)))
+
+-- and so does each plan of a sound state
+pub planned_fit : (s : State) → IsSound s → Each (FitsIn s.vehicles s.travel s.trips) s.planned
+planned_fit s sound =
+    Each-both (DrivesIn s.vehicles s.travel s.trips) (LoadsFitIn s.vehicles s.trips) (FitsIn s.vehicles s.travel s.trips)
+    (λ plan drives loads. both_fit s.vehicles s.travel s.trips plan sound.first_days sound.vehicles_in_order drives loads)
+    s.planned sound.planned_drive sound.planned_load
+
+-- the vehicle of a plan that fits drives its stops
+pub each_drive : (vehicles : List Vehicle) (travel : List DatedTable) (trips : List Trip) (plans : List Plan)
+    → Each (FitsIn vehicles travel trips) plans → Each (DrivesIn vehicles travel trips) plans
+each_drive vehicles travel trips plans each =
+    Each-weaker (FitsIn vehicles travel trips) (DrivesIn vehicles travel trips)
+    (λ plan fits. any_gives
+    (λ (v : Vehicle). (v.id ≡ plan.vehicle)
+    × CanDrive (rows_of (table_on plan.day travel)) (stops_among trips plan.stops) v)
+    (λ (v : Vehicle). (v.id ≡ plan.vehicle)
+    × HasTimes (rows_of (table_on plan.day travel)) (stops_among trips plan.stops) v)
+    (λ v (own, (minutes, times, feasible)).
+    let (b, fit) = feasible.times in (own, (minutes, times, b, fit))) (on_duty plan.day vehicles) fits)
+    plans each
+
+-- and has room
+pub each_load : (vehicles : List Vehicle) (travel : List DatedTable) (trips : List Trip) (plans : List Plan)
+    → Each (FitsIn vehicles travel trips) plans → Each (LoadsFitIn vehicles trips) plans
+each_load vehicles travel trips plans each =
+    Each-weaker (FitsIn vehicles travel trips) (LoadsFitIn vehicles trips)
+    (λ plan fits. any_gives
+    (λ (v : Vehicle). (v.id ≡ plan.vehicle)
+    × CanDrive (rows_of (table_on plan.day travel)) (stops_among trips plan.stops) v)
+    (λ (v : Vehicle). (v.id ≡ plan.vehicle) × LoadsFit v (stops_among trips plan.stops))
+    (λ v (own, (minutes, times, feasible)). (own, feasible.loads)) (on_duty plan.day vehicles) fits)
+    plans each
 
 first_no : (a b : Bool) → a ≡ false → (a && b) ≡ false
 first_no false b fails = refl
@@ -318,7 +402,7 @@ sound_plans s sound =
     (Each-both (HasStandingTrips s.trips) (FitsIn s.vehicles s.travel s.trips)
     (λ plan. HasStandingTrips s.trips plan × FitsIn s.vehicles s.travel s.trips plan)
     (λ plan standing fits. (standing, fits)) s.planned
-    sound.planned_trips_stand sound.planned_fit))
+    sound.planned_trips_stand (planned_fit s sound)))
 
 -- each plan fits still where a version is put whose vehicle is free
 pub vehicle_fits : (new : Vehicle) (s : State) → IsSound s → HasFirstDay new

@@ -6,8 +6,8 @@ use Rattle.pt_base.specs.Day.{IsDay}
 use Rattle.pt_base.specs.declared.trip.Trip.{Trip}
 use Rattle.pt_base.specs.declared.vehicle.Vehicle.{Vehicle}
 use Rattle.pt_feasible.specs.declared.stop.Stop.{Stop}
-use Rattle.pt_manifest.specs.declared.sheets.Tour.{Tour}
-use Rattle.pt_manifest.specs.declared.sheets.VehicleSheet.{VehicleSheet}
+use Rattle.pt_requests.specs.declared.sheets.Tour.{Tour}
+use Rattle.pt_requests.specs.declared.sheets.VehicleSheet.{VehicleSheet}
 use Rattle.pt_records.specs.Keys.{pair_key}
 use Rattle.pt_records.specs.Records.{record_at, Each, IsInOrder}
 use Rattle.pt_scheduling.specs.Plan.{Plan, after_stop, plan_key, planned_stops, stops_among, stops_of_plan, IsRoutePlan}
@@ -20,12 +20,12 @@ use Rattle.pt_desk_rules.specs.Booking.{rows_of}
 use Rattle.pt_desk_rules.specs.Facts.{day_of}
 use Rattle.pt_desk_rules.specs.Fleet.{duty_of, is_on_duty, on_duty}
 use Rattle.pt_desk_rules.specs.Planned.{planned_on, trips_on}
-use Rattle.pt_desk_rules.specs.Sound.{CanDrive, CanServe, FitsIn, HasDay, HasStandingTrips, IsOnDay, IsSound, StandsIn}
+use Rattle.pt_desk_rules.specs.Sound.{CanDrive, HasDay, HasStandingTrips, IsOnDay, IsSound, StandsIn}
 use Rattle.pt_desk_rules.specs.State.{trip_key, State}
 use Rattle.pt_desk_rules.specs.Tours.{HasTour, HasTours, IsManifestOf, IsSheetOf, IsTourOrNone}
 use Rattle.pt_desk_rules.specs.Travel.{table_on}
 use Rattle.pt_desk_rules.proofs.DutyLemmas.{duty_order, each_one, id_of}
-use Rattle.pt_desk_rules.proofs.FitLemmas.{is_no, some_at, Some_of}
+use Rattle.pt_desk_rules.proofs.FitLemmas.{is_no, planned_fit, some_at, CanServe, FitsIn, Some_of}
 use Rattle.pt_desk_rules.proofs.StandingLemmas.{is_same, record_at-filter, same_day, same_place, same_vehicle, trip_on}
 
 -- the first that passes two tests is the first that passes one, of those that pass the other
@@ -99,7 +99,8 @@ plan_tour s id day plan sheet sound is_day found some shows =
     let of_vehicle : plan.vehicle ≡ id = same_vehicle plan.vehicle plan.day id day on.1 is_day.1 same in
     let of_day : plan.day ≡ day = same_day plan.vehicle plan.day id day on.1 is_day.1 same in
     let stand = Each-found (HasStandingTrips s.trips) plan_key key plan s.planned sound.planned_trips_stand found in
-    let fits = Each-found (FitsIn s.vehicles s.travel s.trips) plan_key key plan s.planned sound.planned_fit found in
+    let fits = Each-found (FitsIn s.vehicles s.travel s.trips) plan_key key plan s.planned (planned_fit s sound) found
+    in
     let stops = stops_among s.trips plan.stops in
     let rows = rows_of (table_on day s.travel) in
     let (k, version, within, at, holds) = subst (λ (v : ℕ). CanServe s.vehicles s.travel v day stops) of_vehicle

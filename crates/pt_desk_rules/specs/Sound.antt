@@ -8,6 +8,8 @@ use Rattle.pt_base.specs.declared.rider.Rider.{Rider}
 use Rattle.pt_base.specs.declared.trip.Trip.{Trip}
 use Rattle.pt_base.specs.declared.vehicle.Vehicle.{Vehicle}
 use Rattle.pt_corridor.specs.Route.{IsFixedRoute}
+use Rattle.pt_feasible.specs.Loads.{LoadsFit}
+use Rattle.pt_feasible.specs.ServiceTimes.{TimesFit}
 use Rattle.pt_feasible.specs.declared.stop.Stop.{Stop}
 use Rattle.pt_records.specs.Keys.{pair_key}
 use Rattle.pt_records.specs.Records.{Each, IsInOrder, IsTable, record_at}
@@ -146,15 +148,25 @@ abbrev pub CanDrive : List Row → List Stop → Vehicle → Type 0
 CanDrive rows stops vehicle =
     (minutes : ℕ → ℕ → Option ℕ) × AreTimes rows minutes × IsFeasible minutes vehicle stops
 
--- the version of this vehicle that is on duty on this day can drive the stops by the travel table that holds then
-abbrev pub CanServe : List Vehicle → List DatedTable → ℕ → ℕ → List Stop → Type 0
-CanServe vehicles travel id day stops =
-    Any (λ version. (version.id ≡ id) × CanDrive (rows_of (table_on day travel)) stops version) (on_duty day vehicles)
+-- by the driving times of these rows there are service times at which the vehicle keeps its limits at the stops
+abbrev pub HasTimes : List Row → List Stop → Vehicle → Type 0
+HasTimes rows stops vehicle =
+    (minutes : ℕ → ℕ → Option ℕ) × AreTimes rows minutes × (b : List ℕ) × TimesFit minutes vehicle stops b
 
--- the vehicle of a plan can drive the stops of its trips on its day
-abbrev pub FitsIn : List Vehicle → List DatedTable → List Trip → Plan → Type 0
-FitsIn vehicles travel trips plan =
-    CanServe vehicles travel plan.vehicle plan.day (stops_among trips plan.stops)
+-- this holds of the version of this vehicle that is on duty on this day
+abbrev pub HoldsOnDuty : (Vehicle → Type 0) → List Vehicle → ℕ → ℕ → Type 0
+HoldsOnDuty P vehicles id day = Any (λ version. (version.id ≡ id) × P version) (on_duty day vehicles)
+
+-- the vehicle of a plan can keep its times at the stops of its trips, by the travel table that holds on its day
+abbrev pub DrivesIn : List Vehicle → List DatedTable → List Trip → Plan → Type 0
+DrivesIn vehicles travel trips plan =
+    HoldsOnDuty (HasTimes (rows_of (table_on plan.day travel)) (stops_among trips plan.stops))
+    vehicles plan.vehicle plan.day
+
+-- and has seats and wheelchair places for all who are aboard after each of them
+abbrev pub LoadsFitIn : List Vehicle → List Trip → Plan → Type 0
+LoadsFitIn vehicles trips plan =
+    HoldsOnDuty (λ version. LoadsFit version (stops_among trips plan.stops)) vehicles plan.vehicle plan.day
 
 -- Each line speaks of the tables that it needs and of no other, so that a write of another table leaves it as it is.
 -- The ranges of a place, a vehicle, a trip and the policy are fields of their records, so that every state keeps them.
@@ -193,5 +205,6 @@ pub record IsSound (s : State) : Type 0 where
   pub planned_trips_stand : Each (HasStandingTrips s.trips) s.planned
   pub planned_days : Each IsOnDay s.planned
   pub planned_have_stops : Each HasStops s.planned
-  pub planned_fit : Each (FitsIn s.vehicles s.travel s.trips) s.planned
+  pub planned_drive : Each (DrivesIn s.vehicles s.travel s.trips) s.planned
+  pub planned_load : Each (LoadsFitIn s.vehicles s.trips) s.planned
   pub standing_planned : Each (IsPlanned s.planned) s.trips

@@ -1,4 +1,4 @@
--- Whether a vehicle's version on duty can drive what is planned for it.
+-- Whether a vehicle's version on duty can drive what is planned for it, and has room.
 use Rattle.std.proofs.Common.{◌≡◌, ◌⊎◌, inl, inr, ℕ, ◌+◌, ◌<◌, ◌≤◌, zero, suc, Bool, true, false, not, IsTrue, List, [], ◌∷◌, length, cond, refl, sym, ap, ◌∙◌, subst, arith, drop, get_or, Option, Some, None, Any}
 use Rattle.std.specs.Prelude.{◌==◌, ◌&&◌, ◌||◌, nat_le, filter, Result, Ok, Err, IfOk}
 use Rattle.std.specs.List.{list_any}
@@ -6,15 +6,12 @@ use Rattle.std.proofs.lemmas.List.{drop_all}
 use Rattle.std.proofs.lemmas.Bool.{and_parts}
 use Rattle.std.proofs.lemmas.Bool.Decides.{nat_tests}
 use Rattle.pt_base.specs.declared.vehicle.Vehicle.{Vehicle}
-use Rattle.pt_feasible.specs.declared.stop.Stop.{Stop}
 use Rattle.pt_travel.specs.Chain.{Row, IsTime}
-use Rattle.pt_desk_rules.specs.Booking.{rows_of, AreTimes}
+use Rattle.pt_desk_rules.specs.Booking.{AreTimes}
 use Rattle.pt_desk_rules.specs.Fleet.{is_newer, is_on_duty, has_weekday, on_duty, versions_of}
-use Rattle.pt_desk_rules.specs.Sound.{CanDrive, CanServe, FitsIn}
-use Rattle.pt_base.specs.declared.trip.Trip.{Trip}
-use Rattle.pt_scheduling.specs.Plan.{Plan, stops_among}
+use Rattle.pt_desk_rules.specs.Sound.{HoldsOnDuty}
+use Rattle.pt_scheduling.specs.Plan.{Plan}
 use Rattle.pt_scheduling.specs.declared.planned.PlannedStop.{PlannedStop}
-use Rattle.pt_desk_rules.specs.Travel.{table_on, DatedTable}
 use Rattle.pt_soundness.proofs.EachLemmas.{next_from}
 
 -- the driving times by rows are these and no other
@@ -134,41 +131,36 @@ if_ok : {A E : Type 0} (P Q : A → Type 0) → ((x : A) → P x → Q x) → (r
 if_ok P Q gives (Ok x) holds = gives x holds
 if_ok P Q gives (Err e) holds = holds
 
--- the same by rows and stops that are the same
-pub alike : (rows others : List Row) (stops route : List Stop) (versions duty : List Vehicle) (b : Bool) → rows ≡ others → stops ≡ route → versions ≡ duty
-    → (IsTrue b → Any (λ version. CanDrive rows stops version) versions) × (Any (λ version. CanDrive rows stops version) versions → IsTrue b)
-    → (IsTrue b → Any (λ version. CanDrive others route version) duty) × (Any (λ version. CanDrive others route version) duty → IsTrue b)
-alike rows others stops route versions duty b same_rows same_stops same_versions both =
-    subst (λ (vs : List Vehicle). (IsTrue b → Any (λ version. CanDrive others route version) vs) × (Any (λ version. CanDrive others route version) vs → IsTrue b)) same_versions
-    (subst (λ (ss : List Stop). (IsTrue b → Any (λ version. CanDrive others ss version) versions) × (Any (λ version. CanDrive others ss version) versions → IsTrue b)) same_stops
-    (subst (λ (rs : List Row). (IsTrue b → Any (λ version. CanDrive rs stops version) versions) × (Any (λ version. CanDrive rs stops version) versions → IsTrue b)) same_rows both))
+-- a test tells whether this holds of one of these
+abbrev pub Tells : (Vehicle → Type 0) → List Vehicle → Bool → Type 0
+Tells P versions b = (IsTrue b → Any P versions) × (Any P versions → IsTrue b)
 
-abbrev pub Tells : List Row → List Stop → List Vehicle → Bool → Type 0
-Tells rows stops versions b =
-    (IsTrue b → Any (λ version. CanDrive rows stops version) versions) × (Any (λ version. CanDrive rows stops version) versions → IsTrue b)
+-- it tells the same by rows or stops that are the same
+pub alike : {X : Type 0} (P : X → Vehicle → Type 0) (x y : X) (versions duty : List Vehicle) (b : Bool) → x ≡ y → versions ≡ duty
+    → Tells (P x) versions b → Tells (P y) duty b
+alike P x y versions duty b same same_versions told =
+    subst (λ (vs : List Vehicle). Tells (P y) vs b) same_versions (subst (λ z. Tells (P z) versions b) same told)
 
-pub all_alike : {E : Type 0} (rows : List Row) (stops route : List Stop) (versions duty : List Vehicle) (r : Result Bool E) → stops ≡ route → versions ≡ duty
-    → IfOk r (Tells rows stops versions) → IfOk r (Tells rows route duty)
-all_alike rows stops route versions duty r same_stops same_versions told =
-    if_ok (Tells rows stops versions) (Tells rows route duty) (λ b. alike rows rows stops route versions duty b refl same_stops same_versions) r told
+pub all_alike : {X E : Type 0} (P : X → Vehicle → Type 0) (x y : X) (versions duty : List Vehicle) (r : Result Bool E) → x ≡ y → versions ≡ duty
+    → IfOk r (Tells (P x) versions) → IfOk r (Tells (P y) duty)
+all_alike P x y versions duty r same same_versions told =
+    if_ok (Tells (P x) versions) (Tells (P y) duty) (λ b. alike P x y versions duty b same same_versions) r told
 
--- one of a vehicle's versions on duty can drive the stops where the vehicle can serve them
-serves : (vehicles : List Vehicle) (travel : List DatedTable) (id day : ℕ) (stops : List Stop) (b : Bool)
-    → Tells (rows_of (table_on day travel)) stops (on_duty day (versions_of id vehicles)) b
-    → (IsTrue b → CanServe vehicles travel id day stops) × (CanServe vehicles travel id day stops → IsTrue b)
-serves vehicles travel id day stops b told = (
-  λ holds. own_serve id day (CanDrive (rows_of (table_on day travel)) stops) vehicles (told.0 holds),
-  λ can. told.1 (serve_own id day (CanDrive (rows_of (table_on day travel)) stops) vehicles can),
+-- what holds of one of a vehicle's versions on duty holds of the vehicle's version on duty
+holds : (P : Vehicle → Type 0) (vehicles : List Vehicle) (id day : ℕ) (b : Bool) → Tells P (on_duty day (versions_of id vehicles)) b
+    → (IsTrue b → HoldsOnDuty P vehicles id day) × (HoldsOnDuty P vehicles id day → IsTrue b)
+holds P vehicles id day b told = (
+  λ is. own_serve id day P vehicles (told.0 is),
+  λ can. told.1 (serve_own id day P vehicles can),
 )
 
-pub all_serve : {E : Type 0} (vehicles versions : List Vehicle) (travel : List DatedTable) (id day : ℕ) (stops : List Stop) (r : Result Bool E)
-    → versions ≡ versions_of id vehicles → IfOk r (Tells (rows_of (table_on day travel)) stops (on_duty day versions))
-    → IfOk r (λ b. (IsTrue b → CanServe vehicles travel id day stops) × (CanServe vehicles travel id day stops → IsTrue b))
-all_serve vehicles versions travel id day stops r is told =
-    if_ok (Tells (rows_of (table_on day travel)) stops (on_duty day (versions_of id vehicles)))
-    (λ b. (IsTrue b → CanServe vehicles travel id day stops) × (CanServe vehicles travel id day stops → IsTrue b))
-    (serves vehicles travel id day stops) r
-    (subst (λ (vs : List Vehicle). IfOk r (Tells (rows_of (table_on day travel)) stops (on_duty day vs))) is told)
+all_hold : {E : Type 0} (P : Vehicle → Type 0) (vehicles versions : List Vehicle) (id day : ℕ) (r : Result Bool E)
+    → versions ≡ versions_of id vehicles → IfOk r (Tells P (on_duty day versions))
+    → IfOk r (λ b. (IsTrue b → HoldsOnDuty P vehicles id day) × (HoldsOnDuty P vehicles id day → IsTrue b))
+all_hold P vehicles versions id day r is told =
+    if_ok (Tells P (on_duty day (versions_of id vehicles)))
+    (λ b. (IsTrue b → HoldsOnDuty P vehicles id day) × (HoldsOnDuty P vehicles id day → IsTrue b))
+    (holds P vehicles id day) r (subst (λ (vs : List Vehicle). IfOk r (Tells P (on_duty day vs))) is told)
 
 pub some_past : {A : Type 0} (P : A → Type 0) (x : A) (xs : List A) (i : ℕ) (b : Bool) → i < length xs → x ≡ get_or xs i x
     → (P x → IsTrue b) → b ≡ false → (HasSome P xs → HasSome P (drop i xs)) → HasSome P xs → HasSome P (drop (i + 1) xs)
@@ -190,13 +182,14 @@ is_none P xs i end there = (
   λ any. absurd (subst (HasSome P) (drop_all i xs end) (there (any_some P xs any))),
 )
 
--- and where it can serve the stops of a plan, the plan fits
-pub plan_fits : {E : Type 0} (vehicles versions : List Vehicle) (travel : List DatedTable) (trips : List Trip) (plan : Plan) (vehicle day : ℕ)
+-- and so it does by the stops of a plan, on its day
+pub plan_holds : {E : Type 0} (P : ℕ → List PlannedStop → Vehicle → Type 0) (vehicles versions : List Vehicle) (plan : Plan) (vehicle day : ℕ)
     (planned stops : List PlannedStop) (r : Result Bool E) → plan ≡ record { vehicle = vehicle; day = day; stops = stops } → planned ≡ stops
-    → versions ≡ versions_of vehicle vehicles
-    → IfOk r (Tells (rows_of (table_on day travel)) (stops_among trips planned) (on_duty day versions))
-    → IfOk r (λ b. (IsTrue b → FitsIn vehicles travel trips plan) × (FitsIn vehicles travel trips plan → IsTrue b))
-plan_fits vehicles versions travel trips plan vehicle day planned stops r is same own told =
-    subst (λ (p : Plan). IfOk r (λ b. (IsTrue b → FitsIn vehicles travel trips p) × (FitsIn vehicles travel trips p → IsTrue b))) (sym is)
-    (all_serve vehicles versions travel vehicle day (stops_among trips stops) r own
-    (subst (λ (ps : List PlannedStop). IfOk r (Tells (rows_of (table_on day travel)) (stops_among trips ps) (on_duty day versions))) same told))
+    → versions ≡ versions_of vehicle vehicles → IfOk r (Tells (P day planned) (on_duty day versions))
+    → IfOk r (λ b. (IsTrue b → HoldsOnDuty (P plan.day plan.stops) vehicles plan.vehicle plan.day)
+    × (HoldsOnDuty (P plan.day plan.stops) vehicles plan.vehicle plan.day → IsTrue b))
+plan_holds P vehicles versions plan vehicle day planned stops r is same own told =
+    subst (λ (p : Plan). IfOk r (λ b. (IsTrue b → HoldsOnDuty (P p.day p.stops) vehicles p.vehicle p.day)
+    × (HoldsOnDuty (P p.day p.stops) vehicles p.vehicle p.day → IsTrue b))) (sym is)
+    (all_hold (P day stops) vehicles versions vehicle day r own
+    (subst (λ (ps : List PlannedStop). IfOk r (Tells (P day ps) (on_duty day versions))) same told))

@@ -90,8 +90,11 @@ sound_in s sound table.Travel = record {
   table = sound.travel;
   days = sound.travel_days;
   of_places = sound.travel_of_places;
-  fit = sound.planned_fit;
+  drive = sound.planned_drive;
 }
+sound_in s sound table.RiderChairs = tt
+sound_in s sound table.VehicleChairs = tt
+sound_in s sound table.TripChairs = sound.planned_load
 
 sound_of : (s : State) → ((t : UnsoundTable) → IsSoundIn s t) → IsSound s
 sound_of s each =
@@ -140,22 +143,26 @@ sound_of s each =
       planned_trips_stand = plans.trips_stand;
       planned_days = plans.days;
       planned_have_stops = plans.have_stops;
-      planned_fit = travel.fit;
+      planned_drive = travel.drive;
+      planned_load = each table.TripChairs;
       standing_planned = plans.standing_planned;
     }
 
-below_twelve : (t : UnsoundTable) → number_of t < 12
-below_twelve table.Desk = omega arith
-below_twelve table.Callers = omega arith
-below_twelve table.Kept = omega arith
-below_twelve table.Places = omega arith
-below_twelve table.Fixed = omega arith
-below_twelve table.Vehicles = omega arith
-below_twelve table.Riders = omega arith
-below_twelve table.Entries = omega arith
-below_twelve table.Trips = omega arith
-below_twelve table.Stops = omega arith
-below_twelve table.Travel = omega arith
+below_fifteen : (t : UnsoundTable) → number_of t < 15
+below_fifteen table.Desk = omega arith
+below_fifteen table.Callers = omega arith
+below_fifteen table.Kept = omega arith
+below_fifteen table.Places = omega arith
+below_fifteen table.Fixed = omega arith
+below_fifteen table.Vehicles = omega arith
+below_fifteen table.Riders = omega arith
+below_fifteen table.Entries = omega arith
+below_fifteen table.Trips = omega arith
+below_fifteen table.Stops = omega arith
+below_fifteen table.Travel = omega arith
+below_fifteen table.RiderChairs = omega arith
+below_fifteen table.VehicleChairs = omega arith
+below_fifteen table.TripChairs = omega arith
 
 abbrev nth : ℕ → List UnsoundTable → UnsoundTable
 nth n [] = table.Desk
@@ -164,7 +171,7 @@ nth (suc n) (t ∷ ts) = nth n ts
 
 abbrev tables : List UnsoundTable
 tables = table.Desk ∷ table.Desk ∷ table.Callers ∷ table.Kept ∷ table.Places ∷ table.Fixed ∷ table.Vehicles ∷ table.Riders
-    ∷ table.Entries ∷ table.Trips ∷ table.Stops ∷ table.Travel ∷ []
+    ∷ table.Entries ∷ table.Trips ∷ table.Stops ∷ table.Travel ∷ table.RiderChairs ∷ table.VehicleChairs ∷ table.TripChairs ∷ []
 
 nth_itself : (t : UnsoundTable) → nth (number_of t) tables ≡ t
 nth_itself table.Desk = refl
@@ -178,6 +185,9 @@ nth_itself table.Entries = refl
 nth_itself table.Trips = refl
 nth_itself table.Stops = refl
 nth_itself table.Travel = refl
+nth_itself table.RiderChairs = refl
+nth_itself table.VehicleChairs = refl
+nth_itself table.TripChairs = refl
 
 one_number : (t u : UnsoundTable) → number_of t ≡ number_of u → t ≡ u
 one_number t u same = sym (nth_itself t) ∙ ap (λ (n : ℕ). nth n tables) same ∙ nth_itself u
@@ -190,10 +200,10 @@ before_more s n t b is before tells holds u below = elim (same_or_other (number_
   | inr other ↦ before u (omega arith)
 ]
 
-pub all_sound : (s : State) (n : ℕ) → 12 ≤ n → AreSoundBefore s n → IsSound s
-all_sound s n end before = sound_of s (λ t. before t (let small = below_twelve t in omega arith))
+pub all_sound : (s : State) (n : ℕ) → 15 ≤ n → AreSoundBefore s n → IsSound s
+all_sound s n end before = sound_of s (λ t. before t (let small = below_fifteen t in omega arith))
 
-pub found_sound : (s : State) (n : ℕ) (found : Option UnsoundTable) → found ≡ None → 12 ≤ n → AreSoundBefore s n
+pub found_sound : (s : State) (n : ℕ) (found : Option UnsoundTable) → found ≡ None → 15 ≤ n → AreSoundBefore s n
     → (found ≡ None → IsSound s) × (IsSound s → found ≡ None)
 found_sound s n found none end before = (λ is. all_sound s n end before, λ sound. none)
 
@@ -215,7 +225,7 @@ days_before s t u is before above =
     let vehicles = before table.Vehicles (subst (λ (v : UnsoundTable). 6 < number_of v) (sym is) above) in
     vehicles.first_days
 
-pub routes_before : (s : State) (t : UnsoundTable) → t ≡ table.Travel → AreSoundBefore s (number_of t) → Each IsRoutePlan s.planned
-routes_before s t is before =
-    let plans = before table.Stops (subst (λ (v : UnsoundTable). 10 < number_of v) (sym is) (omega arith)) in
+pub routes_before : (s : State) (t u : UnsoundTable) → t ≡ u → AreSoundBefore s (number_of t) → 10 < number_of u → Each IsRoutePlan s.planned
+routes_before s t u is before above =
+    let plans = before table.Stops (subst (λ (v : UnsoundTable). 10 < number_of v) (sym is) above) in
     plans.routes

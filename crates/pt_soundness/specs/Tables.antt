@@ -3,11 +3,12 @@ use Rattle.std.specs.Prelude.{ℕ, ◌<◌}
 use Rattle.pt_desk_rules.specs.State.{State}
 use Rattle.pt_soundness.specs.Unsound.{AreSoundCallers, AreSoundKept, AreSoundPlaces, AreSoundRoutes, AreSoundVehicles}
 use Rattle.pt_soundness.specs.Unsound.{AreSoundRiders, AreSoundEntries, AreSoundTrips, AreSoundPlans, AreSoundTables}
+use Rattle.pt_soundness.specs.Unsound.{AreSoundLoads}
 use Rattle.pt_soundness.specs.declared.unsound_table.UnsoundTable.{UnsoundTable}
 use Rattle.pt_soundness.specs.declared.unsound_table.UnsoundTable.TheVariants as table
 
 abbrev pub table_count : ℕ
-table_count = 11
+table_count = 14
 
 abbrev pub number_of : UnsoundTable → ℕ
 number_of table.Desk = 1
@@ -21,6 +22,9 @@ number_of table.Entries = 8
 number_of table.Trips = 9
 number_of table.Stops = 10
 number_of table.Travel = 11
+number_of table.RiderChairs = 12
+number_of table.VehicleChairs = 13
+number_of table.TripChairs = 14
 
 -- the lines of soundness that are a table's
 abbrev pub IsSoundIn : State → UnsoundTable → Type 0
@@ -35,6 +39,9 @@ IsSoundIn s table.Entries = AreSoundEntries s.callers s.riders s.entries
 IsSoundIn s table.Trips = AreSoundTrips s.places s.vehicles s.riders s.last_trip s.trips
 IsSoundIn s table.Stops = AreSoundPlans s.trips s.planned
 IsSoundIn s table.Travel = AreSoundTables s.places s.vehicles s.trips s.planned s.travel
+IsSoundIn s table.RiderChairs = Unit {0}
+IsSoundIn s table.VehicleChairs = Unit {0}
+IsSoundIn s table.TripChairs = AreSoundLoads s.vehicles s.trips s.planned
 
 -- each table before this number is sound
 abbrev pub AreSoundBefore : State → ℕ → Type 0

@@ -15,7 +15,7 @@ use Rattle.pt_desk_rules.specs.Limits.{most_callers, most_places, most_routes, m
 use Rattle.pt_desk_rules.specs.Sound.{HasDigest, HasOneHolder, IsOfCaller, IsOfResident, HasAuthor, IsEntered}
 use Rattle.pt_desk_rules.specs.Sound.{IsSoundFile, HasFirstDay, HasDepot, IsFleet, HoldsFromDay, IsOfPlaces}
 use Rattle.pt_desk_rules.specs.Sound.{IsNumberedTo, IsOfRider, HasPlaces, HasVehicle, HasDay, HasStandingTrips}
-use Rattle.pt_desk_rules.specs.Sound.{IsOnDay, HasStops, FitsIn, IsPlanned}
+use Rattle.pt_desk_rules.specs.Sound.{IsOnDay, HasStops, DrivesIn, LoadsFitIn, IsPlanned}
 use Rattle.pt_desk_rules.specs.State.{caller_key, kept_key, place_key, route_key, rider_key, entry_key}
 use Rattle.pt_desk_rules.specs.State.{vehicle_key, travel_key, trip_key, entries_of}
 use Rattle.pt_desk_rules.specs.Travel.{DatedTable}
@@ -94,10 +94,14 @@ pub record AreSoundPlans (trips : List Trip) (plans : List Plan) : Type 0 where
   pub have_stops : Each HasStops plans
   pub standing_planned : Each (IsPlanned plans) trips
 
--- the travel tables, and what takes all tables: that the vehicles can drive what is planned for them
+-- the travel tables, and that by their times the vehicles can drive what is planned for them
 pub record AreSoundTables (places : List Place) (vehicles : List Vehicle) (trips : List Trip) (plans : List Plan)
     (travel : List DatedTable) : Type 0 where
   pub table : IsTable travel_key most_tables travel
   pub days : Each HoldsFromDay travel
   pub of_places : Each (IsOfPlaces places) travel
-  pub fit : Each (FitsIn vehicles travel trips) plans
+  pub drive : Each (DrivesIn vehicles travel trips) plans
+
+-- what takes the last tables too, the wheelchair places and who takes them: that the vehicles have room for all aboard
+abbrev pub AreSoundLoads : List Vehicle → List Trip → List Plan → Type 0
+AreSoundLoads vehicles trips plans = Each (LoadsFitIn vehicles trips) plans

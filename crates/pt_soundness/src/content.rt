@@ -6,6 +6,7 @@ use crate::UnsoundTable;
 use crate::callers::{are_sound_callers, are_sound_kept};
 use crate::entries::are_sound_entries;
 use crate::fits::are_sound_tables;
+use crate::loads::are_sound_loads;
 use crate::places::{are_sound_places, are_sound_riders, are_sound_routes};
 use crate::plans::are_sound_plans;
 use crate::trips::are_sound_trips;
@@ -14,7 +15,7 @@ use pt_desk::ListKeeper;
 use std::alloc::{AllocError, Global};
 
 /// The number of the last table.
-const LAST_TABLE: u32 = 11;
+const LAST_TABLE: u32 = 14;
 
 /// Whether the table is that of a sound state, where all before it are.
 fn is_sound_in(alloc: Global, content: &ListKeeper, table: UnsoundTable) -> Result<bool, AllocError>
@@ -25,7 +26,7 @@ fn is_sound_in(alloc: Global, content: &ListKeeper, table: UnsoundTable) -> Resu
     let (riders, vehicles) = (content.riders_table(), content.vehicles_table());
     let (trips, plans) = (content.trips_table(), content.planned_table());
     let sound = match table {
-        UnsoundTable::Desk => true,
+        UnsoundTable::Desk | UnsoundTable::RiderChairs | UnsoundTable::VehicleChairs => true,
         UnsoundTable::Callers => are_sound_callers(callers),
         UnsoundTable::Kept => are_sound_kept(callers, content.kept_table()),
         UnsoundTable::Places => are_sound_places(places),
@@ -47,6 +48,7 @@ fn is_sound_in(alloc: Global, content: &ListKeeper, table: UnsoundTable) -> Resu
                 content.travel_table(),
             )?
         }
+        UnsoundTable::TripChairs => are_sound_loads(alloc, vehicles, trips, plans)?,
     };
     Ok(sound)
 }

@@ -2,7 +2,7 @@ ghost use Rattle.std.specs.Prelude.{◌≡◌, ◌↔◌, [], Any, IfOk, IsTrue}
 ghost use Rattle.pt_base.specs.declared.vehicle.Vehicle.{Vehicle};
 ghost use Rattle.pt_desk_rules.specs.Booking.{rows_of};
 ghost use Rattle.pt_desk_rules.specs.Fleet.{on_duty, versions_of};
-ghost use Rattle.pt_desk_rules.specs.Sound.{CanDrive, FitsIn, HasFirstDay};
+ghost use Rattle.pt_desk_rules.specs.Sound.{DrivesIn, HasFirstDay, HasTimes};
 ghost use Rattle.pt_desk_rules.specs.Travel.{table_on};
 ghost use Rattle.pt_feasible.specs.Route.{stops_of};
 ghost use Rattle.pt_records.specs.Records.{Each};
@@ -14,7 +14,7 @@ use crate::vehicles::versions_of;
 use pt_base::{Day, Place, Trip, Vehicle};
 use pt_booking::asked_of;
 use pt_desk_rules::{MOST_TABLES, PlannedRoute, PlannedStop, TravelTable, on_duty, table_on};
-use pt_feasible::{Route, Stop, StopKind, loads_fit, settle};
+use pt_feasible::{Route, Stop, StopKind, settle};
 use pt_records::{Key, Table};
 use pt_travel::Raw;
 use std::alloc::{AllocError, Global};
@@ -48,7 +48,7 @@ fn stops_among(
 }
 
 /// The route of these stops.
-fn route_of(
+pub(crate) fn route_of(
     alloc: Global,
     trips: &Table<Trip>,
     planned: &[PlannedStop],
@@ -60,13 +60,10 @@ fn route_of(
     Ok(Route::of(stops).unwrap())
 }
 
-/// Whether the vehicle can drive the route by the driving times of the table.
+/// Whether the vehicle can drive the route by the driving times of the table, whatever its loads.
 fn can_drive(table: &TravelTable, route: &Route, version: &Vehicle) -> bool
-    ensures { IsTrue result ↔ CanDrive table.now.rows (stops_of route.now) version.now }
+    ensures { IsTrue result ↔ HasTimes table.now.rows (stops_of route.now) version.now }
 {
-    if !loads_fit(route, version) {
-        return false;
-    }
     match settle(route, table.times(), version) {
         Some(_) => true,
         None => false,
@@ -75,7 +72,7 @@ fn can_drive(table: &TravelTable, route: &Route, version: &Vehicle) -> bool
 
 /// Whether one of these can drive the route by the driving times of the table.
 fn can_serve(table: &TravelTable, route: &Route, versions: &[Vehicle]) -> bool
-    ensures { IsTrue result ↔ Any (λ version. CanDrive table.now.rows (stops_of route.now) version) versions.now }
+    ensures { IsTrue result ↔ Any (λ version. HasTimes table.now.rows (stops_of route.now) version) versions.now }
 {
     for version in versions {
         if can_drive(table, route, version) {
@@ -101,7 +98,7 @@ fn can_serve_on(
     versions: &[Vehicle],
 ) -> Result<bool, AllocError>
     ensures { IfOk result (λ can. IsTrue can
-        ↔ Any (λ version. CanDrive (rows_of (table_on day travel.now)) (stops_of route.now) version) versions.now) }
+        ↔ Any (λ version. HasTimes (rows_of (table_on day travel.now)) (stops_of route.now) version) versions.now) }
 {
     match table_on(travel, day) {
         Some(table) => Ok(can_serve(table, route, versions)),
@@ -123,7 +120,7 @@ fn can_drive_on(
 ) -> Result<bool, AllocError>
     requires route { IsPlannedRoute planned.now }
     ensures { IfOk result (λ can. IsTrue can
-        ↔ Any (CanDrive (rows_of (table_on day travel.now)) (stops_among trips.now.items planned.now))
+        ↔ Any (HasTimes (rows_of (table_on day travel.now)) (stops_among trips.now.items planned.now))
         (on_duty day versions.now)) }
 {
     let route = route_of(alloc, trips, planned)?;
@@ -132,7 +129,7 @@ fn can_drive_on(
 }
 
 /// Whether the vehicle of a plan can drive its stops on its day.
-fn fits(
+fn drives(
     alloc: Global,
     vehicles: &Table<Vehicle>,
     travel: &[TravelTable],
@@ -141,14 +138,14 @@ fn fits(
 ) -> Result<bool, AllocError>
     requires days { Each HasFirstDay vehicles.now.items }
     requires route { IsRoutePlan plan.now }
-    ensures { IfOk result (λ fits. IsTrue fits ↔ FitsIn vehicles.now.items travel.now trips.now.items plan.now) }
+    ensures { IfOk result (λ drives. IsTrue drives ↔ DrivesIn vehicles.now.items travel.now trips.now.items plan.now) }
 {
     let versions = versions_of(vehicles, plan.vehicle);
     can_drive_on(alloc, versions, travel, trips, plan.day, &plan.stops)
 }
 
 /// Whether the vehicles of the plans can drive their stops on their days.
-fn all_fit(
+fn all_drive(
     alloc: Global,
     vehicles: &Table<Vehicle>,
     travel: &[TravelTable],
@@ -157,18 +154,18 @@ fn all_fit(
 ) -> Result<bool, AllocError>
     requires days { Each HasFirstDay vehicles.now.items }
     requires routes { Each IsRoutePlan plans.now }
-    ensures { IfOk result (λ fit. IsTrue fit
-        ↔ Each (FitsIn vehicles.now.items travel.now trips.now.items) plans.now) }
+    ensures { IfOk result (λ drive. IsTrue drive
+        ↔ Each (DrivesIn vehicles.now.items travel.now trips.now.items) plans.now) }
 {
     for plan in plans {
-        if !fits(alloc, vehicles, travel, trips, plan)? {
+        if !drives(alloc, vehicles, travel, trips, plan)? {
             return Ok(false);
         }
     }
     Ok(true)
 }
 
-/// Whether the travel tables are those of a sound state, and the vehicles can drive what is planned for them.
+/// Whether the travel tables are those of a sound state, and by them the vehicles can drive what is planned for them.
 pub(crate) fn are_sound_tables(
     alloc: Global,
     places: &Table<Place>,
@@ -186,5 +183,5 @@ pub(crate) fn are_sound_tables(
     if tables.len() > MOST_TABLES || !hold_from_days(tables) || !are_of_places(places, tables) {
         return Ok(false);
     }
-    all_fit(alloc, vehicles, tables, trips, plans.as_slice())
+    all_drive(alloc, vehicles, tables, trips, plans.as_slice())
 }

@@ -9,6 +9,7 @@ mod content;
 mod entries;
 mod files;
 mod fits;
+mod loads;
 mod pairs;
 mod places;
 mod plans;

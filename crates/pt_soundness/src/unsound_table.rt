@@ -17,6 +17,11 @@ pub enum UnsoundTable {
     Trips,
     Stops,
     Travel,
+    /// Who comes in a wheelchair: whoever does, it is sound.
+    RiderChairs,
+    /// How many wheelchair places the vehicles have: however many, it is sound.
+    VehicleChairs,
+    TripChairs,
 }
 
 impl UnsoundTable {
@@ -39,6 +44,9 @@ impl UnsoundTable {
             UnsoundTable::Trips => 9,
             UnsoundTable::Stops => 10,
             UnsoundTable::Travel => 11,
+            UnsoundTable::RiderChairs => 12,
+            UnsoundTable::VehicleChairs => 13,
+            UnsoundTable::TripChairs => 14,
         }
     }
 
@@ -59,6 +67,9 @@ impl UnsoundTable {
             9 => Some(UnsoundTable::Trips),
             10 => Some(UnsoundTable::Stops),
             11 => Some(UnsoundTable::Travel),
+            12 => Some(UnsoundTable::RiderChairs),
+            13 => Some(UnsoundTable::VehicleChairs),
+            14 => Some(UnsoundTable::TripChairs),
             _ => None,
         }
     }

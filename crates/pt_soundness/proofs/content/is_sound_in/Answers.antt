@@ -20,4 +20,14 @@ are_sound_tables-requires-clause-days c =
 pub are_sound_tables-requires-clause-routes : goal.are_sound_tables-requires-clause-routes
 are_sound_tables-requires-clause-routes c =
     subst (Each IsRoutePlan) (sym c.planned_table-plans.ensures.value)
-    (routes_before c.args.content.now.content c.args.table c.in-Travel.is c.requires.before)
+    (routes_before c.args.content.now.content c.args.table table.Travel c.in-Travel.is c.requires.before (omega arith))
+
+pub are_sound_loads-requires-clause-days : goal.are_sound_loads-requires-clause-days
+are_sound_loads-requires-clause-days c =
+    subst (Each HasFirstDay) (sym c.vehicles_table-vehicles.ensures.value)
+    (days_before c.args.content.now.content c.args.table table.TripChairs c.in-TripChairs.is c.requires.before (omega arith))
+
+pub are_sound_loads-requires-clause-routes : goal.are_sound_loads-requires-clause-routes
+are_sound_loads-requires-clause-routes c =
+    subst (Each IsRoutePlan) (sym c.planned_table-plans.ensures.value)
+    (routes_before c.args.content.now.content c.args.table table.TripChairs c.in-TripChairs.is c.requires.before (omega arith))

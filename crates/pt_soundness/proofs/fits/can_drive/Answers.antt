@@ -8,8 +8,7 @@ use Rattle.pt_soundness.proofs.fits.can_drive.Goals as goal
 pub returns-in-None : goal.returns-in-None
 returns-in-None c = (
   λ no. absurd (cc),
-  λ (minutes, times, feasible).
-      let (b, fits) = feasible.times in
+  λ (minutes, times, b, fits).
       absurd (c.in-None.ensures.none b (subst (λ (m : ℕ → ℕ → Option ℕ). TimesFit m c.args.version.now (stops_of c.args.route.now)
       b) (minutes_one c.args.table.now.rows minutes (time_in c.times.result.now) times c.times.ensures.least) fits)),
 )

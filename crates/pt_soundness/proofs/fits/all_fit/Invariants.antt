@@ -1,9 +1,0 @@
-use Rattle.std.proofs.Common.{drop}
-use Rattle.pt_desk_rules.specs.Sound.{FitsIn}
-use Rattle.pt_records.specs.Records.{Each}
-use Rattle.pt_soundness.proofs.fits.all_fit.Given as goal
-
-abbrev pub invariant-loop-plan : goal.invariant-loop-plan
-invariant-loop-plan l =
-    Each (FitsIn l.vehicles.items l.travel l.trips.items) (drop l.plan-index l.plans)
-    → Each (FitsIn l.vehicles.items l.travel l.trips.items) l.plans

@@ -1,0 +1,15 @@
+use Rattle.std.proofs.Common.{sym}
+use Rattle.pt_desk_rules.specs.Booking.{rows_of}
+use Rattle.pt_desk_rules.specs.Sound.{HasTimes}
+use Rattle.pt_desk_rules.specs.Travel.{table_on}
+use Rattle.pt_scheduling.specs.Plan.{stops_among}
+use Rattle.pt_soundness.proofs.FitLemmas.{plan_holds}
+use Rattle.pt_soundness.proofs.fits.drives.Goals as goal
+
+pub returns : goal.returns
+returns c =
+    plan_holds
+    (λ day stops. HasTimes (rows_of (table_on day c.args.travel.now)) (stops_among c.args.trips.now.items stops))
+    c.args.vehicles.now.items c.versions_of-versions.result.now c.args.plan.now c.plan.inside.vehicle
+    c.plan.inside.day c.deref.result.now c.plan.inside.stops.items c.can_drive_on.result (sym c.plan.view_is)
+    c.deref.ensures.value c.versions_of-versions.ensures c.can_drive_on.ensures
