@@ -6,3 +6,4 @@ mod AnswerLemmas
 mod ReadLemmas
 mod QuietLemmas
 mod PlaceLemmas
+mod RefusalLemmas

@@ -10,7 +10,7 @@ use Rattle.pt_desk_rules.specs.Step.{IsOutcome, state_after}
 use Rattle.pt_requests.specs.declared.request.Answer.{Answer}
 use Rattle.pt_requests.specs.declared.request.Answer.TheVariants.{Denied}
 use Rattle.pt_requests.specs.declared.request.Request.{Request}
-use Rattle.pt_requests.specs.declared.request.Request.TheVariants.{Read, Write}
+use Rattle.pt_requests.specs.declared.request.Request.TheVariants.{Explain, Read, Write}
 use Rattle.pt_desk.specs.Store.{Answers, IsSettled, Store as Kept, TellsBy}
 use Rattle.pt_desk.specs.declared.keeper.StoreFault.{StoreFault}
 use Rattle.pt_desk.specs.declared.keeper.StoreFault.TheVariants.{Memory, Store}
@@ -19,6 +19,7 @@ use Rattle.pt_desk.specs.declared.running.Call.{Call}
 -- a request that only asks
 abbrev pub IsRead : Request → Type 0
 IsRead (Read asked) = Unit {0}
+IsRead (Explain rider wish) = Unit {0}
 IsRead (Write asked) = ⊥
 
 -- a reply that names the rule by which a request is denied

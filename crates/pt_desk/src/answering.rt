@@ -1,16 +1,17 @@
 ghost use Rattle.std.specs.Prelude.{◌≡◌, ◌<◌, ◌≤◌, ℕ, Option, None, Err};
 ghost use Rattle.pt_desk_rules.specs.State.{State};
 ghost use Rattle.pt_desk_rules.specs.Step.{sent_with, told_of, left_of};
-ghost use Rattle.pt_desk_rules.specs.Step.{IsReadOutcome, IsDecidedOutcome, IsWriteOutcome, IsOutcome};
+ghost use Rattle.pt_desk_rules.specs.Step.{IsExplainOutcome, IsReadOutcome, IsDecidedOutcome, IsWriteOutcome};
+ghost use Rattle.pt_desk_rules.specs.Step.{IsOutcome};
 ghost use Rattle.pt_requests.specs.declared.request.Answer.{Answer};
 ghost use Rattle.pt_desk.specs.Store.{Store, Answers, ChangesNothing, Goes, Reads, Fails, IsSoundKept};
 ghost use Rattle.pt_desk.specs.Run.{IsDenial, IsRead};
 
-use crate::gathering::{gather, gather_read};
+use crate::gathering::{gather, gather_read, gather_wish};
 use crate::{Keeper, Reply, StoreFault};
-use pt_base::{Day, Minute, Rule};
+use pt_base::{Day, Minute, RiderId, Rule, Wish};
 use pt_desk_rules::{
-    Answer, Arrival, Caller, Decision, Digest, Read, Request, Sent, Write, decide, tell,
+    Answer, Arrival, Caller, Decision, Digest, Read, Request, Sent, Write, decide, explain, tell,
 };
 use pt_spelling::spell;
 use std::alloc::Global;
@@ -27,6 +28,22 @@ fn answer_read<K: Keeper>(
 {
     let facts = gather_read(alloc, keeper, read)?;
     Ok(tell(alloc, facts, me, now, read)?)
+}
+
+/// Answers whether a rider's wish could be booked.
+fn answer_explain<K: Keeper>(
+    alloc: Global,
+    keeper: &mut K,
+    me: &Caller,
+    now: (Day, Minute),
+    rider: RiderId,
+    wish: &Wish,
+) -> Reply
+    ensures goes { Answers (K.store keeper.old) (K.store keeper.new)
+        (IsExplainOutcome rider wish.now me.now now) result }
+{
+    let facts = gather_wish(alloc, keeper, rider, wish, &None)?;
+    Ok(explain(alloc, &facts, me, now, wish)?)
 }
 
 /// Tells what was decided, and commits the change of an accepted write.
@@ -98,6 +115,9 @@ fn answer_by_rules<K: Keeper>(
     match request {
         Request::Read(read) => answer_read(alloc, keeper, &me, now, read),
         Request::Write(write) => answer_write(alloc, keeper, &me, now, number, write),
+        Request::Explain { rider, wish } => {
+            answer_explain(alloc, keeper, &me, now, *rider, wish)
+        }
     }
 }
 

@@ -237,7 +237,7 @@ fn gather_booking<K: Keeper>(
 }
 
 /// What a rider's wish looks at, where it stands for a trip that is there, if any.
-fn gather_wish<K: Keeper>(
+pub(crate) fn gather_wish<K: Keeper>(
     alloc: Global,
     keeper: &mut K,
     rider: RiderId,

@@ -4,13 +4,17 @@
 
 pub use answering::answer;
 pub use keeper::{Keeper, Reply, StoreFault};
-pub use laws::{answers_outlive_crashes, runs_are_calls, runs_leave_accepted_writes};
+pub use laws::{
+    answers_outlive_crashes, refusals_are_told, runs_are_calls, runs_leave_accepted_writes,
+};
 pub use list_keeper::ListKeeper;
 pub use places::place_ids;
 pub use pt_desk_rules::{
-    Answer, Caller, Change, Confirmation, Decision, Digest, FiledEntry, Kept, MOST_CALLERS,
-    MOST_PLACES, MOST_RIDERS, MOST_ROUTES, Read, ReadFacts, Request, Role, Write, WriteFacts,
+    Answer, Caller, Change, Confirmation, Decision, Digest, FiledEntry, Inquiry, Kept,
+    MOST_CALLERS, MOST_PLACES, MOST_RIDERS, MOST_ROUTES, Read, ReadFacts, RefusalFacts, Request,
+    Role, Write, WriteFacts,
 };
+pub use refusals::facts;
 pub use running::{Call, run};
 
 mod answering;
@@ -19,4 +23,5 @@ mod keeper;
 mod laws;
 mod list_keeper;
 mod places;
+mod refusals;
 mod running;

@@ -23,14 +23,15 @@ use Rattle.pt_scheduling.specs.Scheduling.{AreRoutes, IsScheduled}
 use Rattle.pt_scheduling.specs.Uses.{AreUses}
 use Rattle.pt_scheduling.specs.declared.scheduling.Scheduled.{Scheduled}
 use Rattle.pt_scheduling.specs.declared.scheduling.Scheduled.TheVariants as scheduled
-use Rattle.pt_desk_rules.specs.Booking.{routes_for, rows_of, HasRoutes, IsBooking, IsRequestBy, IsToldOf}
+use Rattle.pt_desk_rules.specs.Booking.{routes_for, rows_of, HasRoutes, IsAnswered, IsBooking, IsRequestBy, IsToldOf}
 use Rattle.pt_desk_rules.specs.Deciding.{booked, changed, kept_in, IsCancelDecided, IsChangeDecided, IsEndDecided}
 use Rattle.pt_desk_rules.specs.Deciding.{IsDecidedBy, IsDecisionAfter, IsToldAfter, IsToldOfKind, IsToldRead}
 use Rattle.pt_desk_rules.specs.Deciding.{IsToldStanding}
-use Rattle.pt_desk_rules.specs.Facts.{change_facts, facts_of, read_facts_of}
+use Rattle.pt_desk_rules.specs.Explaining.{next_trip, IsExplainedAfter, IsToldPossible}
+use Rattle.pt_desk_rules.specs.Facts.{change_facts, facts_of, read_facts_of, wish_facts}
 use Rattle.pt_desk_rules.specs.Letters.{letter_at, IsToldLetter}
 use Rattle.pt_desk_rules.specs.Numbers.{DenialsAreTheSameAgain}
-use Rattle.pt_desk_rules.specs.Rules.{read_rules, rules_of}
+use Rattle.pt_desk_rules.specs.Rules.{explain_rules, read_rules, rules_of}
 use Rattle.pt_desk_rules.specs.State.{State, trip_of}
 use Rattle.pt_desk_rules.specs.Step.{arrival_in, left_of, sender, sent_with, state_after, told_of}
 use Rattle.pt_desk_rules.specs.Step.{IsOutcome, IsOutcomeAs, IsOutcomeBy}
@@ -47,7 +48,7 @@ use Rattle.pt_desk_rules.specs.declared.kept.Arrival.{Arrival}
 use Rattle.pt_desk_rules.specs.declared.kept.Arrival.TheVariants.{New, Repeated, Stale}
 use Rattle.pt_desk_rules.specs.declared.kept.Kept.{Kept}
 use Rattle.pt_desk_rules.specs.declared.kept.Sent.{Sent}
-use Rattle.pt_manifest.specs.declared.letters.Letter.{Letter}
+use Rattle.pt_requests.specs.declared.letters.Letter.{Letter}
 use Rattle.pt_requests.specs.declared.caller.Caller.{Caller}
 use Rattle.pt_requests.specs.declared.request.Answer.{Answer}
 use Rattle.pt_requests.specs.declared.request.Answer.TheVariants as answer
@@ -170,15 +171,13 @@ scheduled_one minutes vehicles asked rule (scheduled.Denied also) routes one two
 scheduled_one minutes vehicles asked rule (scheduled.Booked trip plan) routes one two =
     absurd (let same = failing_one (booking_rules minutes vehicles asked) None (Some rule) two.0 (one routes) in cc)
 
-booking_one : (change also : Trip → Plan → Change) (number : ℕ) (left_out : Option ℕ) (today : ℕ) (wish : Wish)
-    (facts : WriteFacts) (rule : Rule) (d e : Decision) → AreRoutes number (routes_for number wish facts)
-    → d ≡ decision.Denied rule → IsBooking change number left_out today wish facts d
-    → IsBooking also number left_out today wish facts e → e ≡ decision.Denied rule
-booking_one change also number left_out today wish facts rule d e routes denied
-    (scheduled.Booked trip plan, answered, (told, confirms, is)) second = absurd (cc)
-booking_one change also number left_out today wish facts rule d e routes denied
-    (scheduled.Denied first, (asked, by, (minutes, times, is)), told)
-    (other, (again, by_too, (minutes_too, times_too, is_too)), told_too) =
+-- one wish in one state is denied by one rule
+pub answered_one : (number : ℕ) (left_out : Option ℕ) (today : ℕ) (wish : Wish) (facts : WriteFacts) (rule : Rule)
+    (other : Scheduled) → AreRoutes number (routes_for number wish facts)
+    → IsAnswered number left_out today wish facts (scheduled.Denied rule)
+    → IsAnswered number left_out today wish facts other → other ≡ scheduled.Denied rule
+answered_one number left_out today wish facts rule other routes (asked, by, (minutes, times, is))
+    (again, by_too, (minutes_too, times_too, is_too)) =
     let rows = rows_of facts.booking.day.travel in
     let vehicles = routes_for number wish facts in
     let there = subst (λ n. AreRoutes n vehicles) (sym by.trip) routes in
@@ -186,7 +185,17 @@ booking_one change also number left_out today wish facts rule d e routes denied
     let same_request = request_one facts number left_out today wish again asked by_too by in
     let moved = subst (λ m. IsScheduled m vehicles asked other) same_minutes
     (subst (λ q. IsScheduled minutes_too vehicles q other) same_request is_too) in
-    let one = scheduled_one minutes vehicles asked first other there is moved in
+    scheduled_one minutes vehicles asked rule other there is moved
+
+booking_one : (change also : Trip → Plan → Change) (number : ℕ) (left_out : Option ℕ) (today : ℕ) (wish : Wish)
+    (facts : WriteFacts) (rule : Rule) (d e : Decision) → AreRoutes number (routes_for number wish facts)
+    → d ≡ decision.Denied rule → IsBooking change number left_out today wish facts d
+    → IsBooking also number left_out today wish facts e → e ≡ decision.Denied rule
+booking_one change also number left_out today wish facts rule d e routes denied
+    (scheduled.Booked trip plan, answered, (told, confirms, is)) second = absurd (cc)
+booking_one change also number left_out today wish facts rule d e routes denied
+    (scheduled.Denied first, answered, told) (other, again, told_too) =
+    let one = answered_one number left_out today wish facts first other routes answered again in
     let denied_too : e ≡ decision.Denied first = subst (λ o. IsToldOf also o e) one told_too in
     denied_too ∙ sym told ∙ denied
 
@@ -293,6 +302,19 @@ read_one : (first : Option Rule) (asked : Read) (today : ℕ) (facts : ReadFacts
 read_one (Some first) asked today facts rule told one two = two ∙ sym one
 read_one None asked today facts rule told one two = absurd (read_not_denied asked today facts rule one)
 
+-- an explanation that names a rule names it again
+explained_one : (first : Option Rule) (rider : ℕ) (wish : Wish) (today : ℕ) (s : State) (rule : Rule) (told : Answer)
+    → HasRoutes s → IsExplainedAfter first wish today (wish_facts rider wish None s) (answer.Denied rule)
+    → IsExplainedAfter first wish today (wish_facts rider wish None s) told → told ≡ answer.Denied rule
+explained_one (Some first) rider wish today s rule told routes one two = two ∙ sym one
+explained_one None rider wish today s rule told routes (scheduled.Booked trip plan, answered, says) two = absurd (cc)
+explained_one None rider wish today s rule told routes (scheduled.Denied first, answered, says) (other, again, tells) =
+    let facts = wish_facts rider wish None s in
+    let one = answered_one (next_trip facts) None today wish facts first other (routes (s.last_trip + 1) wish.day)
+    answered again in
+    let tells_so : told ≡ answer.Denied first = subst (λ o. IsToldPossible o told) one tells in
+    tells_so ∙ sym says
+
 denied_one : (found : Option Caller) (now : ℕ × ℕ) (number : ℕ) (asked : Asked) (s : State) (rule : Rule)
     (told : Answer) (left after : Option State) → HasRoutes s
     → IsOutcomeBy found now number asked s (answer.Denied rule) left
@@ -301,6 +323,10 @@ denied_one None now number asked s rule told left after routes (tells, leaves) (
 denied_one (Some me) now number (request.Read asked) s rule told left after routes (tells, leaves) (tell, leave) =
     let facts = read_facts_of asked s in
     (read_one (first_failing (read_rules asked me facts)) asked now.0 facts rule told tells tell, leave)
+denied_one (Some me) now number (request.Explain rider wish) s rule told left after routes (tells, leaves)
+    (tell, leave) =
+    let facts = wish_facts rider wish None s in
+    (explained_one (first_failing (explain_rules wish me facts)) rider wish now.0 s rule told routes tells tell, leave)
 denied_one (Some me) now number (request.Write asked) s rule told left after routes one two =
     write_one (arrival_in s asked me number) asked me now number s rule told left after routes one two
 

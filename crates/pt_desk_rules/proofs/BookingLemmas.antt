@@ -4,14 +4,17 @@ use Rattle.pt_records.specs.Records.{Edit}
 use Rattle.pt_base.specs.declared.rule.Rule.{Rule}
 use Rattle.pt_base.specs.declared.trip.Trip.{Trip}
 use Rattle.pt_base.specs.declared.trip.Wish.{Wish}
+use Rattle.pt_base.specs.declared.vehicle.Vehicle.{Vehicle}
 use Rattle.pt_booking.specs.Planning.{OnDuty}
 use Rattle.pt_booking.specs.Request.{Request}
 use Rattle.pt_scheduling.specs.Plan.{Plan}
+use Rattle.pt_scheduling.specs.Routes.{routes_without}
 use Rattle.pt_scheduling.specs.Scheduling.{IsScheduled}
 use Rattle.pt_scheduling.specs.declared.scheduling.Scheduled.{Scheduled}
 use Rattle.pt_scheduling.specs.declared.scheduling.Scheduled.TheVariants as scheduled
 use Rattle.pt_travel.specs.Chain.{Row}
 use Rattle.pt_desk_rules.specs.Booking.{AreTimes, IsAnswered, IsBooking, IsRequestBy, IsScheduledBy, routes_for, rows_of}
+use Rattle.pt_desk_rules.specs.Fleet.{on_duty}
 use Rattle.pt_desk_rules.specs.State.{puts_one}
 use Rattle.pt_desk_rules.specs.Deciding.{booked, changed, no_change, kept_by, kept_in, IsChangeDecided}
 use Rattle.pt_desk_rules.specs.Trips.{moves_to, IsConfirmation}
@@ -42,6 +45,24 @@ pub answered : {E : Type 0} (number : ℕ) (left_out : Option ℕ) (today : ℕ)
     → IfOk r (λ s. IsScheduledBy (rows_of facts.booking.day.travel) (routes_for number wish facts) request s) → IfOk r (λ s. IsAnswered number left_out today wish facts s)
 answered number left_out today wish facts request r asked holds =
     if_ok (λ s. IsScheduledBy (rows_of facts.booking.day.travel) (routes_for number wish facts) request s) (λ s. IsAnswered number left_out today wish facts s) (λ s by. (request, asked, by)) r holds
+
+-- and of vehicles on duty
+pub answered_of : {E : Type 0} (number : ℕ) (left_out : Option ℕ) (today : ℕ) (wish : Wish) (facts : WriteFacts)
+    (request : Request) (vehicles : List Vehicle) (r : Result Scheduled E)
+    → vehicles ≡ on_duty wish.day facts.vehicles → IsRequestBy facts number left_out today wish request
+    → IfOk r (λ s. IsScheduledBy (rows_of facts.booking.day.travel) (routes_without request.trip request.wish.day
+    facts.booking.day.trips facts.booking.day.plans vehicles) request s)
+    → IfOk r (λ s. IsAnswered number left_out today wish facts s)
+answered_of number left_out today wish facts request vehicles r same by holds =
+    let day = facts.booking.day in
+    let rows = rows_of day.travel in
+    answered number left_out today wish facts request r by
+    (subst (λ (v : List Vehicle). IfOk r (λ s. IsScheduledBy rows (routes_without number wish.day day.trips day.plans v)
+    request s)) same
+    (subst (λ (w : Wish). IfOk r (λ s. IsScheduledBy rows (routes_without number w.day day.trips day.plans vehicles)
+    request s)) by.wished
+    (subst (λ (n : ℕ). IfOk r (λ s. IsScheduledBy rows (routes_without n request.wish.day day.trips day.plans vehicles)
+    request s)) by.trip holds)))
 
 -- a wish that is denied
 pub denied : (change : Trip → Plan → Change) (number given : ℕ) (left_out : Option ℕ) (today : ℕ) (wish : Wish) (facts : WriteFacts) (found : Scheduled) (rule : Rule)

@@ -16,3 +16,4 @@ pub mod AgainLemmas
 mod ShownLemmas
 mod KeyLemmas
 pub mod SameLemmas
+pub mod ExplainLemmas

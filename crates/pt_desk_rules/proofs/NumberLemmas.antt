@@ -258,6 +258,8 @@ own_moves : (me : Caller) (now : ℕ × ℕ) (number : ℕ) (asked : Request) (s
     → Moves me.id s (state_after left s) (kept_where me.id number asked told left)
 own_moves me now number (request.Read asked) s told left outcome =
     ap (λ l. kept_of me.id (state_after l s)) outcome.1
+own_moves me now number (request.Explain rider wish) s told left outcome =
+    ap (λ l. kept_of me.id (state_after l s)) outcome.1
 own_moves me now number (request.Write asked) s told None outcome = refl
 own_moves me now number (request.Write asked) s told (Some new) outcome =
     own_write me number asked told s new
@@ -268,6 +270,8 @@ other_moves : (id : ℕ) (me : Caller) (now : ℕ × ℕ) (number : ℕ) (asked 
     (left : Option State) → id ≢ me.id → IsOutcomeBy (Some me) now number asked s told left
     → Moves id s (state_after left s) None
 other_moves id me now number (request.Read asked) s told left other outcome =
+    ap (λ l. kept_of id (state_after l s)) outcome.1
+other_moves id me now number (request.Explain rider wish) s told left other outcome =
     ap (λ l. kept_of id (state_after l s)) outcome.1
 other_moves id me now number (request.Write asked) s told None other outcome = refl
 other_moves id me now number (request.Write asked) s told (Some new) other outcome =
@@ -341,6 +345,8 @@ commits_by_write : (found : Option Caller) (now : ℕ × ℕ) (number : ℕ) (as
 commits_by_write None now number asked s told left new is outcome = absurd (let none = sym is ∙ outcome.1 in cc)
 commits_by_write (Some me) now number (request.Read asked) s told left new is outcome =
     absurd (let none = sym is ∙ outcome.1 in cc)
+commits_by_write (Some me) now number (request.Explain rider wish) s told left new is outcome =
+    absurd (let none = sym is ∙ outcome.1 in cc)
 commits_by_write (Some me) now number (request.Write asked) s told left new is outcome = tt
 
 -- what committed nothing was kept of nobody
@@ -352,6 +358,7 @@ none_kept id (Some me) call is =
   where
     none_where : (id number : ℕ) (asked : Request) (told : Answer) → kept_where id number asked told None ≡ None
     none_where id number (request.Read asked) told = refl
+    none_where id number (request.Explain rider wish) told = refl
     none_where id number (request.Write asked) told = refl
 
     none_if : (own : Bool) (kept : Option Kept) → kept ≡ None → cond own kept None ≡ None

@@ -89,6 +89,7 @@ pub commits_nothing : (caller : Option Caller) (now : ℕ × ℕ) (number : ℕ)
     → IsOutcomeBy caller now number asked s told left → is_of_write told ≡ false → left ≡ None
 commits_nothing None now number asked s told left (tells, leaves) other = leaves
 commits_nothing (Some me) now number (request.Read read) s told left (tells, leaves) other = leaves
+commits_nothing (Some me) now number (request.Explain rider wish) s told left (tells, leaves) other = leaves
 commits_nothing (Some me) now number (request.Write asked) s told left outcome other =
     write_commits_nothing (arrival_in s asked me number) asked me now number s told left outcome other
 

@@ -11,36 +11,40 @@ use Rattle.pt_base.specs.declared.rider.Rider.{Rider}
 use Rattle.pt_base.specs.declared.rule.Rule.{Rule}
 use Rattle.pt_base.specs.declared.rule.Rule.TheVariants as rule
 use Rattle.pt_base.specs.declared.trip.Trip.{Trip}
+use Rattle.pt_base.specs.declared.trip.Wish.{Wish}
 use Rattle.pt_base.specs.declared.vehicle.Vehicle.{Vehicle}
 use Rattle.pt_feasible.specs.Loads.{load_aboard}
 use Rattle.pt_feasible.specs.ServiceTimes.{IsLeastSchedule}
 use Rattle.pt_feasible.specs.declared.stop.Stop.{Stop}
-use Rattle.pt_manifest.specs.declared.letters.Letter.{Letter}
-use Rattle.pt_manifest.specs.declared.sheets.DaySheet.{DaySheet}
-use Rattle.pt_manifest.specs.declared.sheets.Tour.{Tour}
-use Rattle.pt_manifest.specs.declared.sheets.TourStop.{TourStop}
-use Rattle.pt_manifest.specs.declared.sheets.VehicleSheet.{VehicleSheet}
+use Rattle.pt_requests.specs.declared.letters.Letter.{Letter}
+use Rattle.pt_requests.specs.declared.sheets.DaySheet.{DaySheet}
+use Rattle.pt_requests.specs.declared.sheets.Tour.{Tour}
+use Rattle.pt_requests.specs.declared.sheets.TourStop.{TourStop}
+use Rattle.pt_requests.specs.declared.sheets.VehicleSheet.{VehicleSheet}
 use Rattle.pt_records.specs.Records.{record_at}
 use Rattle.pt_rights.specs.Rules.{first_failing}
 use Rattle.pt_rights.specs.declared.entry.Entered.{Entered}
+use Rattle.pt_scheduling.specs.declared.scheduling.Scheduled.TheVariants as scheduled
 use Rattle.pt_travel.specs.Chain.{Row}
 use Rattle.pt_visitors.specs.Periods.{MayUse}
 use Rattle.pt_desk_rules.specs.Again.{IsSameAnswer, IsSameDaySheet, IsSameSheet, IsSameTour}
 use Rattle.pt_desk_rules.specs.Again.{IsToldAgain}
 use Rattle.pt_desk_rules.specs.Again.{IsSameTourOrNone, ReadsAreTheSameAgain, RequestsAreTheSameAgain}
-use Rattle.pt_desk_rules.specs.Booking.{rows_of}
+use Rattle.pt_desk_rules.specs.Booking.{rows_of, HasRoutes}
 use Rattle.pt_desk_rules.specs.Deciding.{IsToldAfter, IsToldOfKind, IsToldRead, IsToldStanding}
-use Rattle.pt_desk_rules.specs.Facts.{read_facts_of}
+use Rattle.pt_desk_rules.specs.Explaining.{next_trip, IsExplainedAfter, IsToldPossible}
+use Rattle.pt_desk_rules.specs.Facts.{read_facts_of, wish_facts}
 use Rattle.pt_desk_rules.specs.Fleet.{duty_of, on_duty}
 use Rattle.pt_desk_rules.specs.Letters.{letter_at, IsToldLetter}
-use Rattle.pt_desk_rules.specs.Rules.{read_rules}
+use Rattle.pt_desk_rules.specs.Rules.{explain_rules, read_rules}
 use Rattle.pt_desk_rules.specs.Sound.{IsSound}
 use Rattle.pt_desk_rules.specs.State.{trip_key, State}
 use Rattle.pt_desk_rules.specs.Step.{arrival_in, left_of, sender, state_after, told_of}
 use Rattle.pt_desk_rules.specs.Step.{IsOutcome, IsOutcomeAs, IsOutcomeBy}
 use Rattle.pt_desk_rules.specs.Tours.{tour_stop, IsDaySheet, IsManifestOf, IsSheetOf, IsShownAt, IsTour}
 use Rattle.pt_desk_rules.specs.Tours.{AreShown, IsTourOrNone}
-use Rattle.pt_desk_rules.proofs.AgainLemmas.{denials_are_the_same_again, uses_one}
+use Rattle.pt_desk_rules.proofs.AgainLemmas.{answered_one, denials_are_the_same_again, uses_one}
+use Rattle.pt_desk_rules.proofs.DutyLemmas.{has_routes}
 use Rattle.pt_desk_rules.proofs.KeyLemmas.{key_stays}
 use Rattle.pt_desk_rules.proofs.NumberLemmas.{writes_may_be_sent_again}
 use Rattle.pt_desk_rules.proofs.SoundLemmas.{request_sound}
@@ -267,6 +271,28 @@ write_again New key now number asked me s told again after sound by comes (decid
     (whole again after two) in
     (like told again (told_so ∙ sym same.0), same.1)
 
+-- an explanation comes again
+explained_again : (first : Option Rule) (rider : ℕ) (wish : Wish) (today : ℕ) (s : State) (told again : Answer)
+    → HasRoutes s → IsExplainedAfter first wish today (wish_facts rider wish None s) told
+    → IsExplainedAfter first wish today (wish_facts rider wish None s) again → told ≡ again
+explained_again (Some first) rider wish today s told again routes one two = one ∙ sym two
+explained_again None rider wish today s told again routes (scheduled.Denied first, answered, says)
+    (other, answers, tells) =
+    let facts = wish_facts rider wish None s in
+    let one = answered_one (next_trip facts) None today wish facts first other (routes (s.last_trip + 1) wish.day)
+    answered answers in
+    let tells_so : again ≡ answer.Denied first = subst (λ o. IsToldPossible o again) one tells in
+    says ∙ sym tells_so
+explained_again None rider wish today s told again routes (found, answered, says)
+    (scheduled.Denied first, answers, tells) =
+    let facts = wish_facts rider wish None s in
+    let one = answered_one (next_trip facts) None today wish facts first found (routes (s.last_trip + 1) wish.day)
+    answers answered in
+    let says_so : told ≡ answer.Denied first = subst (λ o. IsToldPossible o told) one says in
+    says_so ∙ sym tells
+explained_again None rider wish today s told again routes (scheduled.Booked trip plan, answered, says)
+    (scheduled.Booked other planned, answers, tells) = says ∙ sym tells
+
 -- a request that committed nothing comes again
 untouched_again : (found : Option Caller) (key : List ℕ) (now : ℕ × ℕ) (number : ℕ) (asked : Request) (s : State)
     (told again : Answer) (after : Option State) → IsSound s → sender key s ≡ found
@@ -276,6 +302,9 @@ untouched_again None key now number asked s told again after sound by one two =
     (like told again (one.0 ∙ sym two.0), two.1)
 untouched_again (Some me) key now number (request.Read asked) s told again after sound by one two =
     read_one (Some me) now number number asked s told again None after one two
+untouched_again (Some me) key now number (request.Explain rider wish) s told again after sound by one two =
+    let first = first_failing (explain_rules wish me (wish_facts rider wish None s)) in
+    (like told again (explained_again first rider wish now.0 s told again (has_routes s sound) one.0 two.0), two.1)
 untouched_again (Some me) key now number (request.Write asked) s told again after sound by one two =
     write_again (arrival_in s asked me number) key now number asked me s told again after sound by refl one two
 
@@ -312,6 +341,8 @@ committed_again None key now number asked s new told again after sound sound_aft
     absurd (let none = one.1 in cc)
 committed_again (Some me) key now number (request.Read asked) s new told again after sound sound_after by one two =
     absurd (let none = one.1 in cc)
+committed_again (Some me) key now number (request.Explain rider wish) s new told again after sound sound_after by one
+    two = absurd (let none = one.1 in cc)
 committed_again (Some me) key now number (request.Write asked) s new told again after sound sound_after by one two =
     elim (key_stays key me now number asked s new told sound sound_after by one) [
       | inl stays ↦

@@ -47,10 +47,10 @@ use Rattle.pt_scheduling.proofs.PlanLemmas.{any_kept, found_key}
 use Rattle.pt_scheduling.proofs.RouteLemmas.{booked_has, booked_keeps, booked_plan, booked_route, booked_trips, booked_vehicle, has_trip, left_has, left_route, planned_route, Each-found}
 use Rattle.pt_desk_rules.specs.Fleet.{ClosesInDay}
 use Rattle.pt_desk_rules.specs.Filed.{IsEntry, IsInPlace}
-use Rattle.pt_desk_rules.specs.Sound.{FitsIn, HasStops, HoldsFromDay, IsEntered}
+use Rattle.pt_desk_rules.specs.Sound.{HasStops, HoldsFromDay, IsEntered}
 use Rattle.pt_desk_rules.proofs.FiledLemmas.{admitted_in_place, AllHold}
-use Rattle.pt_desk_rules.proofs.FitLemmas.{booked_fits, fit_after, fit_beside, has_stops, left_fits, left_has_stops}
-use Rattle.pt_desk_rules.proofs.FitLemmas.{travel_fits, vehicle_fits}
+use Rattle.pt_desk_rules.proofs.FitLemmas.{booked_fits, each_drive, each_load, fit_after, fit_beside, has_stops}
+use Rattle.pt_desk_rules.proofs.FitLemmas.{left_fits, left_has_stops, travel_fits, vehicle_fits, FitsIn}
 use Rattle.pt_desk_rules.proofs.StandingLemmas.{each_found, has_on, plans_left, put_planned, same_place, stays_beside, stays_planned, trip_on, Each-put_over}
 use Rattle.pt_desk_rules.proofs.PlannedLemmas.{left_standing, plans_after, plans_beside, put_stands, standing_without}
 use Rattle.pt_scheduling.specs.declared.scheduling.Scheduled.TheVariants as scheduled
@@ -319,6 +319,8 @@ put_vehicle_sound new s sound day closes depot free room =
     let hours = Each-put ClosesInDay vehicle_key new left (Each-filter ClosesInDay kept s.vehicles sound.hours) closes
     in
     let fit = vehicle_fits new s sound day free in
+    let drive = each_drive (put vehicle_key new left) s.travel s.trips s.planned fit in
+    let load = each_load (put vehicle_key new left) s.travel s.trips s.planned fit in
     let depots = Each-put (HasDepot s.places) vehicle_key new left (Each-filter (HasDepot s.places) kept s.vehicles sound.depots_there) depot in
     let fleet = fleet_stays new s.vehicles day sound.first_days sound.fleet (below_is _ 20 rooms.0) (below_is _ 50 rooms.1) in
     let subjects = Each-weaker (HasSubject s.riders s.vehicles) (HasSubject s.riders (put vehicle_key new left)) (λ caller there. driver_stays new s.riders s.vehicles caller.role day sound.first_days there) s.callers sound.subjects_there in
@@ -334,6 +336,7 @@ put_travel_sound new s sound day is free room =
     (Each-filter HoldsFromDay (λ table. not (is_within (travel_key table) (tables_from new.from_day))) s.travel
     sound.travel_days) day in
     let fit = travel_fits new s sound free in
+    let drive = each_drive s.vehicles (put travel_key new (tables_before new.from_day s.travel)) s.trips s.planned fit in
     let table = IsTable-replace travel_key (tables_from new.from_day) new s.travel most_tables sound.travel room in
     let of_places = Each-put (IsOfPlaces s.places) travel_key new (tables_before new.from_day s.travel)
     (Each-filter (IsOfPlaces s.places) (λ table. not (is_within (travel_key table) (tables_from new.from_day))) s.travel sound.travel_of_places) is in
@@ -368,6 +371,8 @@ book_sound trip plan s sound is there route standing day on planned_all some fit
     let have_stops = Each-put HasStops plan_key plan s.planned sound.planned_have_stops some in
     let fit = Each-put (FitsIn s.vehicles s.travel (put trip_key trip s.trips)) plan_key plan s.planned
     (fit_after trip s sound is) fits in
+    let drive = each_drive s.vehicles s.travel (put trip_key trip s.trips) (put plan_key plan s.planned) fit in
+    let load = each_load s.vehicles s.travel (put trip_key trip s.trips) (put plan_key plan s.planned) fit in
     let trips = IsInOrder-put trip_key trip s.trips sound.trips_in_order in
     let numbered = Each-put (IsNumberedTo trip.id) trip_key trip s.trips (numbered_on s.last_trip trip.id (omega arith) s.trips sound.trips_numbered) (omega arith) in
     let planned = IsInOrder-put plan_key plan s.planned sound.planned_in_order in
@@ -410,6 +415,10 @@ edit_sound trip away plans s sound below there new standing beside day on planne
     (Each-filter HasStops (λ plan. not (is_within (plan_key plan) away)) s.planned sound.planned_have_stops) in
     let fit = put_all_each (FitsIn s.vehicles s.travel (put trip_key trip s.trips)) plans
     (take_away plan_key away s.planned) fits fits_beside in
+    let drive = each_drive s.vehicles s.travel (put trip_key trip s.trips)
+    (put_all plan_key plans (take_away plan_key away s.planned)) fit in
+    let load = each_load s.vehicles s.travel (put trip_key trip s.trips)
+    (put_all plan_key plans (take_away plan_key away s.planned)) fit in
     let trips = IsInOrder-put trip_key trip s.trips sound.trips_in_order in
     let numbered = Each-put (IsNumberedTo s.last_trip) trip_key trip s.trips sound.trips_numbered below in
     let planned = put_all_order plans (take_away plan_key away s.planned) (IsInOrder-filter plan_key (λ plan. not (is_within (plan_key plan) away)) s.planned sound.planned_in_order) in
@@ -702,6 +711,7 @@ by_sound : (digest : List ℕ) (found : Option Caller) (now : ℕ × ℕ) (numbe
     → IsOutcomeBy found now number asked s told left → IsSound (state_after left s)
 by_sound digest None now number asked s told left is sound (tells, leaves) = subst (λ l. IsSound (state_after l s)) (sym leaves) sound
 by_sound digest (Some me) now number (request.Read read) s told left is sound (tells, leaves) = subst (λ l. IsSound (state_after l s)) (sym leaves) sound
+by_sound digest (Some me) now number (request.Explain rider wish) s told left is sound (tells, leaves) = subst (λ l. IsSound (state_after l s)) (sym leaves) sound
 by_sound digest (Some me) now number (request.Write asked) s told left is sound outcome =
     write_sound asked me now number s (arrival_in s asked me number) told left sound (found_by_key caller_key (λ caller. bytes_eq caller.digest digest) me s.callers is) outcome
 

@@ -11,7 +11,7 @@ use Rattle.pt_feasible.specs.Loads.{load_aboard}
 use Rattle.pt_feasible.specs.ServiceTimes.{KeepsTimeWindows}
 use Rattle.pt_feasible.specs.Visit.{depot_visit, stop_visit, visits}
 use Rattle.pt_feasible.proofs.VisitLemmas.{visits-stop}
-use Rattle.pt_manifest.specs.declared.sheets.TourStop.{TourStop}
+use Rattle.pt_requests.specs.declared.sheets.TourStop.{TourStop}
 use Rattle.pt_records.specs.Records.{record_at, Each}
 use Rattle.pt_records.proofs.TableLemmas.{found_is_some}
 use Rattle.pt_scheduling.specs.Plan.{after_stop, stops_among, trip_stop}

@@ -4,9 +4,9 @@ use Rattle.std.specs.List.{AllZip}
 use Rattle.std.specs.Option.{option_map}
 use Rattle.sha2.specs.Sha256.{sha256}
 use Rattle.pt_base.specs.declared.rule.Rule.TheVariants as rule
-use Rattle.pt_manifest.specs.declared.sheets.DaySheet.{DaySheet}
-use Rattle.pt_manifest.specs.declared.sheets.Tour.{Tour}
-use Rattle.pt_manifest.specs.declared.sheets.VehicleSheet.{VehicleSheet}
+use Rattle.pt_requests.specs.declared.sheets.DaySheet.{DaySheet}
+use Rattle.pt_requests.specs.declared.sheets.Tour.{Tour}
+use Rattle.pt_requests.specs.declared.sheets.VehicleSheet.{VehicleSheet}
 use Rattle.pt_desk_rules.specs.Sound.{IsSound}
 use Rattle.pt_desk_rules.specs.State.{State, caller_with}
 use Rattle.pt_desk_rules.specs.Step.{sender, state_after, IsOutcome}

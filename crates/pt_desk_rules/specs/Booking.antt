@@ -17,6 +17,7 @@ use Rattle.pt_desk_rules.specs.Planned.{planned_on, trips_on}
 use Rattle.pt_desk_rules.specs.State.{State, place_key}
 use Rattle.pt_desk_rules.specs.Travel.{DatedTable}
 use Rattle.pt_desk_rules.specs.Trips.{IsConfirmation}
+use Rattle.pt_desk_rules.specs.declared.booking.Asking.{Asking}
 use Rattle.pt_desk_rules.specs.declared.change.Change.{Change}
 use Rattle.pt_desk_rules.specs.declared.deciding.Decision.{Decision}
 use Rattle.pt_desk_rules.specs.declared.deciding.Decision.TheVariants.{Denied, Accepted}
@@ -38,6 +39,13 @@ pub record IsRequestBy (facts : WriteFacts) (number : ℕ) (left_out : Option �
   pub to : record_at place_key wish.to facts.places ≡ Some request.to
   pub day : request.today ≡ today
   pub wished : request.wish ≡ wish
+
+-- what a request is made of beside these facts
+pub record IsAsking (left_out : Option ℕ) (wish : Wish) (facts : WriteFacts) (asking : Asking) : Type 0 where
+  pub rider : facts.rider ≡ Some asking.rider
+  pub from : record_at place_key wish.from facts.places ≡ Some asking.from
+  pub to : record_at place_key wish.to facts.places ≡ Some asking.to
+  pub uses : AreUses left_out facts.booking.trips asking.uses.items
 
 -- before the first travel table there are no rows
 abbrev pub rows_of : Option DatedTable → List Row

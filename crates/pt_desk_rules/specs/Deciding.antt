@@ -9,8 +9,8 @@ use Rattle.pt_base.specs.declared.rule.Rule.{Rule}
 use Rattle.pt_base.specs.declared.trip.Trip.{Trip}
 use Rattle.pt_base.specs.declared.trip.Wish.{Wish}
 use Rattle.pt_corridor.specs.Route.{IsFixedRoute}
-use Rattle.pt_manifest.specs.declared.sheets.DaySheet.{DaySheet}
-use Rattle.pt_manifest.specs.declared.sheets.VehicleSheet.{VehicleSheet}
+use Rattle.pt_requests.specs.declared.sheets.DaySheet.{DaySheet}
+use Rattle.pt_requests.specs.declared.sheets.VehicleSheet.{VehicleSheet}
 use Rattle.pt_rights.specs.Rules.{first_failing}
 use Rattle.pt_rights.specs.Standing.{standing_of}
 use Rattle.pt_rights.specs.Suspension.{is_suspended}

@@ -2,8 +2,8 @@
 use Rattle.std.specs.Prelude.{◌≡◌, ℕ, List, Option, Some, None, slice_get}
 use Rattle.std.specs.Option.{option_and_then, option_map}
 use Rattle.pt_base.specs.declared.rider.Rider.{Rider}
-use Rattle.pt_manifest.specs.Letters.{decision_of}
-use Rattle.pt_manifest.specs.declared.letters.Letter.{Letter}
+use Rattle.pt_requests.specs.Letters.{decision_of}
+use Rattle.pt_requests.specs.declared.letters.Letter.{Letter}
 use Rattle.pt_requests.specs.declared.request.Answer.{Answer}
 use Rattle.pt_requests.specs.declared.request.Answer.TheVariants as answer
 use Rattle.pt_rights.specs.declared.entry.Entered.{Entered}

@@ -15,6 +15,8 @@ pub mod Filed
 pub mod Outcomes
 pub mod Letters
 pub mod Booking
+pub mod Refusal
+pub mod Explaining
 pub mod Tours
 pub mod Privacy
 pub mod Numbers

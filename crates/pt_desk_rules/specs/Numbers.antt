@@ -73,6 +73,7 @@ AreCalls s (call ∷ later) after =
 -- spelling and what was told, and nothing of any other
 abbrev pub kept_where : ℕ → ℕ → Request → Answer → Option State → Option Kept
 kept_where id number (request.Read read) told left = None
+kept_where id number (request.Explain rider wish) told left = None
 kept_where id number (request.Write write) told None = None
 kept_where id number (request.Write write) told (Some new) =
     Some (kept_by id (sent_with number write) (unwrap_or (reply_of told) Done))
@@ -105,6 +106,7 @@ committed calls = filter (λ call. is_some call.left) calls
 -- a request that changes something
 abbrev pub IsWrite : Request → Type 0
 IsWrite (request.Read asked) = ⊥
+IsWrite (request.Explain rider wish) = ⊥
 IsWrite (request.Write asked) = Unit {0}
 
 -- The state that calls leave is what their accepted writes alone leave, each of them once and in its turn: those that

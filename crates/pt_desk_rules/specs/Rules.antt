@@ -8,6 +8,7 @@ use Rattle.pt_base.specs.declared.rider.Residence.TheVariants.{Resident, Visitor
 use Rattle.pt_base.specs.declared.rider.Rider.{Rider}
 use Rattle.pt_base.specs.declared.rule.Rule.{Rule}
 use Rattle.pt_base.specs.declared.rule.Rule.TheVariants as rule
+use Rattle.pt_base.specs.declared.trip.Wish.{Wish}
 use Rattle.pt_base.specs.declared.vehicle.Vehicle.{Vehicle}
 use Rattle.pt_records.specs.Records.{record_at}
 use Rattle.pt_rights.specs.Admission.{admission_rules, is_resident}
@@ -62,6 +63,18 @@ entry_rules None entry today author facts = []
 entry_rules (Some there) entry today author facts =
     admission_rules facts.file there entry today author facts.tallies facts.policy
 
+-- what a rider's wish needs before the rules of the trip itself: the rider and both places are there, and there is a
+-- number for the trip
+abbrev pub wish_rules : Wish → WriteFacts → List (Rule × Bool)
+wish_rules wish facts =
+    (rule.Unknown, is_some facts.rider && has_ends wish facts.places)
+    ∷ (rule.Full, nat_lt facts.booking.last_trip last_trip_number)
+    ∷ []
+
+-- the rules of an explanation by this caller: dispatchers ask for it, and it is tried as a booking from there on
+abbrev pub explain_rules : Wish → Caller → WriteFacts → List (Rule × Bool)
+explain_rules wish me facts = (rule.Caller, is_dispatcher me.role) ∷ wish_rules wish facts
+
 -- the rules of a write by this caller at this moment, each with whether it holds
 abbrev pub rules_of : Write → Caller → (ℕ × ℕ) → WriteFacts → List (Rule × Bool)
 rules_of (write.PutCaller new) me now facts =
@@ -104,10 +117,7 @@ rules_of (write.Travel day rows) me now facts =
     ∷ []
 -- the rules of the trip itself come after these
 rules_of (write.Book rider wish) me now facts =
-    (rule.Caller, may_book rider facts.rider me.role)
-    ∷ (rule.Unknown, is_some facts.rider && has_ends wish facts.places)
-    ∷ (rule.Full, nat_lt facts.booking.last_trip last_trip_number)
-    ∷ []
+    (rule.Caller, may_book rider facts.rider me.role) ∷ wish_rules wish facts
 rules_of (write.Change trip wish) me now facts =
     (rule.Caller, may_alter facts.booking.trip facts.rider me.role)
     ∷ (rule.Unknown, is_some facts.booking.trip && is_some facts.rider && has_ends wish facts.places)

@@ -2,11 +2,13 @@
 use Rattle.std.specs.Prelude.{◌≡◌, ℕ, List, Option, Some, None}
 use Rattle.sha2.specs.Sha256.{sha256}
 use Rattle.pt_base.specs.declared.rule.Rule.TheVariants as rule
+use Rattle.pt_base.specs.declared.trip.Wish.{Wish}
 use Rattle.pt_spelling.specs.Replies.{answer_of}
 use Rattle.pt_spelling.specs.Requests.{spelling}
 use Rattle.pt_desk_rules.specs.Arrival.{arrival_of}
 use Rattle.pt_desk_rules.specs.State.{State, caller_with, kept_of, applied}
-use Rattle.pt_desk_rules.specs.Facts.{facts_of, read_facts_of}
+use Rattle.pt_desk_rules.specs.Explaining.{IsExplained}
+use Rattle.pt_desk_rules.specs.Facts.{facts_of, read_facts_of, wish_facts}
 use Rattle.pt_desk_rules.specs.Deciding.{IsDecision, IsTold, IsMadeIf}
 use Rattle.pt_requests.specs.declared.caller.Caller.{Caller}
 use Rattle.pt_desk_rules.specs.declared.kept.Arrival.{Arrival}
@@ -44,6 +46,11 @@ sent_with number asked = record { number = number; request = spelling asked }
 abbrev pub IsReadOutcome : Read → Caller → (ℕ × ℕ) → State → Answer → Option State → Type 0
 IsReadOutcome asked me now s told left = IsTold asked me now (read_facts_of asked s) told × (left ≡ None)
 
+-- what is told of a rider's wish, and that it commits nothing
+abbrev pub IsExplainOutcome : ℕ → Wish → Caller → (ℕ × ℕ) → State → Answer → Option State → Type 0
+IsExplainOutcome rider wish me now s told left =
+    IsExplained wish me now (wish_facts rider wish None s) told × (left ≡ None)
+
 -- what a write is told by the rules, and what it commits
 abbrev pub IsDecidedOutcome : Write → Caller → (ℕ × ℕ) → ℕ → State → Answer → Option State → Type 0
 IsDecidedOutcome asked me now number s told left =
@@ -71,6 +78,8 @@ abbrev pub IsOutcomeBy : Option Caller → (ℕ × ℕ) → ℕ → Request → 
 IsOutcomeBy None now number asked s told left = (told ≡ answer.Denied rule.Key) × (left ≡ None)
 IsOutcomeBy (Some me) now number (request.Read read) s told left = IsReadOutcome read me now s told left
 IsOutcomeBy (Some me) now number (request.Write write) s told left = IsWriteOutcome write me now number s told left
+IsOutcomeBy (Some me) now number (request.Explain rider wish) s told left =
+    IsExplainOutcome rider wish me now s told left
 
 -- the caller who holds the key
 abbrev pub sender : List ℕ → State → Option Caller

@@ -8,16 +8,16 @@ use Rattle.pt_base.specs.TripStatus.{stands}
 use Rattle.pt_base.specs.declared.load.Load.{Load}
 use Rattle.pt_base.specs.declared.trip.Trip.{Trip}
 use Rattle.pt_base.specs.declared.vehicle.Vehicle.{Vehicle}
-use Rattle.pt_booking.specs.declared.window.Window.{Window}
+use Rattle.pt_base.specs.declared.window.Window.{Window}
 use Rattle.pt_feasible.specs.Loads.{load_aboard}
 use Rattle.pt_feasible.specs.ServiceTimes.{IsLeastSchedule}
 use Rattle.pt_feasible.specs.declared.stop.Stop.{Stop}
 use Rattle.pt_feasible.specs.declared.stop.StopKind.{StopKind}
 use Rattle.pt_feasible.specs.declared.stop.StopKind.TheVariants.{Pickup, Drop}
-use Rattle.pt_manifest.specs.declared.sheets.DaySheet.{DaySheet}
-use Rattle.pt_manifest.specs.declared.sheets.Tour.{Tour}
-use Rattle.pt_manifest.specs.declared.sheets.TourStop.{TourStop}
-use Rattle.pt_manifest.specs.declared.sheets.VehicleSheet.{VehicleSheet}
+use Rattle.pt_requests.specs.declared.sheets.DaySheet.{DaySheet}
+use Rattle.pt_requests.specs.declared.sheets.Tour.{Tour}
+use Rattle.pt_requests.specs.declared.sheets.TourStop.{TourStop}
+use Rattle.pt_requests.specs.declared.sheets.VehicleSheet.{VehicleSheet}
 use Rattle.pt_records.specs.Records.{record_at}
 use Rattle.pt_scheduling.specs.Plan.{planned_stops}
 use Rattle.pt_scheduling.specs.Routes.{stops_on, IsRoute}

@@ -1,9 +1,9 @@
-ghost use Rattle.std.specs.Prelude.{◌≡◌, ◌+◌, ◌<◌, None, Some, IsTrue, is_some, IfOk};
+ghost use Rattle.std.specs.Prelude.{◌≡◌, ℕ, ◌+◌, ◌<◌, Option, None, Some, IsTrue, is_some, IfOk};
 ghost use Rattle.std.specs.List.Sorted.{IsStrictlyIncreasing};
 ghost use Rattle.pt_base.specs.Day.{IsDay};
 ghost use Rattle.pt_booking.specs.Request.{request_of};
 ghost use Rattle.pt_scheduling.specs.Routes.{routes_without};
-ghost use Rattle.pt_desk_rules.specs.Booking.{IsAnswered, IsBooking, IsScheduledBy, rows_of};
+ghost use Rattle.pt_desk_rules.specs.Booking.{IsAnswered, IsAsking, IsBooking, IsRequestBy, IsScheduledBy, rows_of};
 ghost use Rattle.pt_desk_rules.specs.Deciding.{booked, changed, given_up, kept_by, kept_in, IsChangeDecided};
 ghost use Rattle.pt_desk_rules.specs.declared.deciding.Decision.TheVariants.{Accepted};
 ghost use Rattle.pt_requests.specs.declared.request.Answer.TheVariants.{Booked, Done};
@@ -19,9 +19,9 @@ use crate::trips::{cancelled, confirmation_of, giving_up, moving};
 use crate::{
     Answer, Change, DayFacts, Decision, Kept, KeptReply, Sent, TravelTable, WriteFacts, on_duty,
 };
-use pt_base::{CallerId, Day, Place, PlaceId, Trip, TripId, Vehicle, Wish};
+use pt_base::{CallerId, Day, Place, PlaceId, Rider, Trip, TripId, Vehicle, Wish};
 use pt_booking::TripRequest;
-use pt_records::{Key, Rows};
+use pt_records::{Key, Rows, Table};
 use pt_scheduling::{DayPlans, PlannedRoute, Scheduled, days_of_use, schedule};
 use std::alloc::{AllocError, Global};
 
@@ -64,8 +64,65 @@ fn place_at(places: &Rows<Place>, id: PlaceId) -> Place
     *places.find(&Key::of(id.number())).unwrap()
 }
 
+/// What a request is made of beside the facts: the rider, the places of both ends, and a visitor's days of use.
+#[derive(Debug, Drop)]
+pub(crate) struct Asking {
+    rider: Rider,
+    from: Place,
+    to: Place,
+    uses: Table<Day>,
+}
+
+impl Asking {
+    /// The same of the facts; the trip that is left out makes no day of use.
+    pub(crate) fn of(
+        alloc: Global,
+        facts: &WriteFacts,
+        left_out: &Option<TripId>,
+        wish: &Wish,
+    ) -> Result<Self, AllocError>
+        requires rider { IsTrue (is_some facts.now.rider) }
+        requires ends { IsTrue (has_ends wish.now facts.now.places) }
+        ensures { IfOk result (λ asking. IsAsking left_out.now wish.now facts.now asking) }
+    {
+        Ok(Asking {
+            rider: facts.rider.unwrap(),
+            from: place_at(&facts.places, wish.from),
+            to: place_at(&facts.places, wish.to),
+            uses: days_of_use(alloc, facts.booking.trips.as_slice(), left_out)?,
+        })
+    }
+
+    /// The request that the facts make of a wish, for a trip of this number.
+    pub(crate) fn request<'a>(
+        &'a self,
+        facts: &'a WriteFacts,
+        trip: TripId,
+        today: Day,
+        wish: &Wish,
+    ) -> TripRequest<'a>
+        ensures value { (left_out : Option ℕ) → IsAsking left_out wish.now facts.now self.now
+            → IsRequestBy facts.now trip left_out today wish.now (request_of result) }
+        ensures uses { (left_out : Option ℕ) → IsAsking left_out wish.now facts.now self.now
+            → IsStrictlyIncreasing result.uses.now }
+    {
+        TripRequest {
+            trip,
+            rider: &self.rider,
+            file: &facts.file,
+            uses: self.uses.as_slice(),
+            policy: &facts.policy,
+            routes: facts.booking.routes.as_slice(),
+            from: &self.from,
+            to: &self.to,
+            today,
+            wish: *wish,
+        }
+    }
+}
+
 /// Schedules a wish for a trip of this number; the trip that is left out makes no day of use.
-fn answer_wish(
+pub(crate) fn answer_wish(
     alloc: Global,
     facts: &WriteFacts,
     trip: TripId,
@@ -77,25 +134,9 @@ fn answer_wish(
     requires ends { IsTrue (has_ends wish.now facts.now.places) }
     ensures { IfOk result (λ scheduled. IsAnswered trip left_out.now today wish.now facts.now scheduled) }
 {
-    let rider = facts.rider.unwrap();
-    let (from, to) = (
-        place_at(&facts.places, wish.from),
-        place_at(&facts.places, wish.to),
-    );
-    let uses = days_of_use(alloc, facts.booking.trips.as_slice(), left_out)?;
+    let asking = Asking::of(alloc, facts, left_out, wish)?;
     let vehicles = on_duty(alloc, facts.vehicles.as_slice(), wish.day)?;
-    let request = TripRequest {
-        trip,
-        rider: &rider,
-        file: &facts.file,
-        uses: uses.as_slice(),
-        policy: &facts.policy,
-        routes: facts.booking.routes.as_slice(),
-        from: &from,
-        to: &to,
-        today,
-        wish: *wish,
-    };
+    let request = asking.request(facts, trip, today, wish);
     schedule_on(alloc, &facts.booking.day, &vehicles, &request)
 }
 

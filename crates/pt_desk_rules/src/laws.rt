@@ -1,5 +1,6 @@
 ghost use Rattle.pt_desk_rules.specs.Again.{ReadsAreTheSameAgain, RequestsAreTheSameAgain};
 ghost use Rattle.pt_desk_rules.specs.Booking.{HasRoutes};
+ghost use Rattle.pt_desk_rules.specs.Explaining.{RefusalsAreShown};
 ghost use Rattle.pt_desk_rules.specs.Numbers.{AcceptedNumbersRise, AcceptedWritesAreKept, LastAcceptedIsKept};
 ghost use Rattle.pt_desk_rules.specs.Numbers.{AcceptedWritesMakeTheState};
 ghost use Rattle.pt_desk_rules.specs.Numbers.{DenialsAreTheSameAgain, RepeatsAreToldTheSame, WritesMayBeSentAgain};
@@ -75,4 +76,9 @@ pub fn reads_are_the_same_again()
 /// unless it put its own caller under another key: then the key that it came with is nobody's any more.
 pub fn requests_are_the_same_again()
     ensures { RequestsAreTheSameAgain }
+{}
+
+/// A law: a wish for which no vehicle of a refusal's facts has a place is denied for want of a vehicle.
+pub fn refusals_are_shown()
+    ensures { RefusalsAreShown }
 {}

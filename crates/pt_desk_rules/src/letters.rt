@@ -6,7 +6,7 @@ ghost use Rattle.pt_requests.specs.declared.request.Read.TheVariants.{Letter as 
 use crate::permission::may_see_standing;
 use crate::{Answer, Caller, ReadFacts};
 use pt_base::{Rider, RiderId, Rule};
-use pt_manifest::{Decision, Letter};
+use pt_requests::{Determination, Letter};
 use pt_rights::{CaseFile, Entered};
 use std::alloc::AllocError;
 
@@ -14,7 +14,7 @@ use std::alloc::AllocError;
 fn letter_of(rider: &Rider, entered: &Entered) -> Result<Option<Letter>, AllocError>
     ensures { IfOk result (λ letter. letter ≡ letter_of rider.now entered.now) }
 {
-    match Decision::of(entered.entry.clone()?) {
+    match Determination::of(entered.entry.clone()?) {
         Some(decision) => Ok(Some(Letter {
             rider: *rider,
             day: entered.day,

@@ -18,11 +18,10 @@ ghost use Rattle.pt_desk_rules.specs.Tours.{IsDaySheet, IsManifestOf, IsSheetOf}
 use crate::fleet::{duty_of, has_version};
 use crate::permission::{is_dispatcher, may_run};
 use crate::{Answer, Caller, DayFacts, ReadFacts, TravelTable, on_duty};
-use pt_base::{Day, Load, Minute, PlaceId, Rule, Trip, TripId, Vehicle, VehicleId};
-use pt_booking::Window;
+use pt_base::{Day, Load, Minute, PlaceId, Rule, Trip, TripId, Vehicle, VehicleId, Window};
 use pt_feasible::{Route, Schedule, StopKind, Stops, aboard_after, loads_fit, settle};
-use pt_manifest::{DaySheet, Tour, TourStop, VehicleSheet};
 use pt_records::{Key, Rows};
+use pt_requests::{DaySheet, Tour, TourStop, VehicleSheet};
 use pt_scheduling::route_on;
 use std::alloc::{AllocError, Global};
 

@@ -1,4 +1,4 @@
-mod ListLemmas
+pub mod ListLemmas
 mod ScheduledLemmas
 mod UseLemmas
 pub mod PlanLemmas

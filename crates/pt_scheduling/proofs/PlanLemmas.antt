@@ -1,6 +1,6 @@
 -- The stops of a plan, each by its trip, are a route.
-use Rattle.std.proofs.Common.{◌≡◌, ◌≢◌, ◌⊎◌, ℕ, ◌+◌, ◌<◌, ◌≤◌, zero, suc, Bool, true, false, not, IsTrue, List, [], ◌∷◌, ◌++◌, length, map, take, drop, Option, Some, None, cond, refl, sym, ap, ◌∙◌, subst, inl, inr, arith}
-use Rattle.std.specs.Prelude.{◌==◌, ◌&&◌, filter, slice_get, find}
+use Rattle.std.proofs.Common.{◌≡◌, ◌≢◌, ◌⊎◌, ℕ, ◌+◌, ◌<◌, ◌≤◌, zero, suc, Bool, true, false, List, [], ◌∷◌, length, Option, Some, None, cond, refl, sym, ap, ◌∙◌, subst, inl, inr, arith}
+use Rattle.std.specs.Prelude.{◌==◌, filter, slice_get}
 use Rattle.std.specs.List.{list_any}
 use Rattle.std.proofs.lemmas.Bool.{or_cases, or_left, or_right}
 use Rattle.std.proofs.lemmas.Bool.Decides.{nat_tests}
@@ -11,7 +11,7 @@ use Rattle.pt_feasible.specs.declared.stop.Stop.{Stop}
 use Rattle.pt_feasible.specs.declared.stop.StopKind.{StopKind}
 use Rattle.pt_feasible.specs.declared.stop.StopKind.TheVariants.{Pickup, Drop}
 use Rattle.pt_records.specs.Records.{record_at}
-use Rattle.pt_scheduling.specs.Plan.{after_stop, stops_among, stops_of_trip, trip_stop, without, IsPair, IsPlannedRoute}
+use Rattle.pt_scheduling.specs.Plan.{after_stop, stops_among, stops_of_trip, trip_stop, IsPair}
 use Rattle.pt_scheduling.specs.declared.planned.PlannedStop.{PlannedStop}
 
 -- an element of a list

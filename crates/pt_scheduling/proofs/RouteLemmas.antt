@@ -1,6 +1,6 @@
 -- Plans that are routes stay so: without a trip, and with the trip that is booked.
-use Rattle.std.proofs.Common.{◌≡◌, ◌≢◌, ◌⊎◌, ℕ, ◌+◌, ◌<◌, ◌≤◌, zero, suc, Bool, true, false, not, List, [], ◌∷◌, ◌++◌, length, map, take, drop, Option, Some, None, All, Any, AllPairs, get_or, cond, refl, sym, ap, ◌∙◌, subst, inl, inr, arith}
-use Rattle.std.specs.Prelude.{◌==◌, ◌||◌, filter, find, slice_get}
+use Rattle.std.proofs.Common.{◌≡◌, ℕ, ◌<◌, ◌≤◌, zero, suc, Bool, true, false, not, List, [], ◌∷◌, ◌++◌, length, map, take, drop, Option, Some, None, AllPairs, get_or, cond, refl, sym, ap, ◌∙◌, subst, inl, inr, arith}
+use Rattle.std.specs.Prelude.{◌==◌, ◌||◌, filter, find}
 use Rattle.std.proofs.lemmas.Bool.{or_cases, or_left, or_right}
 use Rattle.std.proofs.lemmas.Bool.Decides.{nat_tests}
 use Rattle.std.proofs.lemmas.Map.Views.{any-filter_same}
@@ -28,7 +28,7 @@ use Rattle.pt_scheduling.specs.Plan.{after_stop, trip_stop, Plan, plan_key, plan
 use Rattle.pt_scheduling.specs.Routes.{routes_without, stops_without, IsRoute}
 use Rattle.pt_scheduling.specs.Scheduling.{AreRoutes, IsBookedIn}
 use Rattle.pt_scheduling.specs.declared.planned.PlannedStop.{PlannedStop}
-use Rattle.pt_scheduling.proofs.PlanLemmas.{among_kept_at, among_of_trip, eq_self, found_key, is_number, is_of, length-among, number_of, of_each, paired_among, pair_of, stop_trip}
+use Rattle.pt_scheduling.proofs.PlanLemmas.{among_kept_at, among_of_trip, eq_self, found_key, is_number, is_of, length-among, number_of, of_each, paired_among, stop_trip}
 
 same_trip : (k t : ℕ) (stop : PlannedStop) (rest : List PlannedStop) (b : Bool) → k ≡ t → (stop.trip == t) ≡ b → stops_of_trip k rest ≡ [] → stops_of_trip k (cond (not b) (stop ∷ rest) rest) ≡ []
 same_trip k t stop rest true same is none = none

@@ -1,11 +1,9 @@
 -- What is scheduled where the routes are those of a day.
-use Rattle.std.proofs.Common.{◌≡◌, ℕ, ◌<◌, List, Option, Some, None, Result, Ok, map, Any, All, AllPairs, ap, sym, subst, ◌∙◌, refl}
+use Rattle.std.proofs.Common.{◌≡◌, ℕ, ◌<◌, List, Option, None, Result, Ok, map, Any, All, AllPairs, ap, subst, ◌∙◌}
 use Rattle.std.specs.Prelude.{◌↔◌}
 use Rattle.pt_base.specs.declared.fault.Fault.{Fault}
-use Rattle.pt_base.specs.declared.rule.Rule.{Rule}
 use Rattle.pt_base.specs.declared.trip.Trip.{Trip}
 use Rattle.pt_feasible.specs.Route.{stops_of}
-use Rattle.pt_feasible.specs.declared.route.Route.{Route}
 use Rattle.pt_feasible.specs.declared.stop.Stop.{Stop}
 use Rattle.pt_insertion.specs.Insertion.{IsWithout}
 use Rattle.pt_insertion.specs.declared.chosen.Chosen.{Chosen}

@@ -1,5 +1,5 @@
 -- Days in rising order, each once.
-use Rattle.std.proofs.Common.{◌≡◌, ℕ, ◌+◌, ◌<◌, zero, suc, Bool, true, false, List, [], ◌∷◌, length, Option, arith, refl, sym, ap, add-one, ◌∙◌, inl, inr}
+use Rattle.std.proofs.Common.{◌≡◌, ℕ, ◌<◌, zero, suc, Bool, true, false, List, [], ◌∷◌, length, Option, arith, refl, sym, ap, add-one, ◌∙◌, inl, inr}
 use Rattle.std.specs.Prelude.{◌==◌, ◌||◌, ◌&&◌, slice_index}
 use Rattle.pt_base.specs.declared.trip.Trip.{Trip}
 use Rattle.pt_scheduling.specs.Uses.{is_other, is_used, is_use_of}

@@ -3,8 +3,8 @@
 #![tactic(auto)]
 
 pub use planned::{PlannedRoute, PlannedStop};
-pub use routes::route_on;
-pub use scheduling::{DayPlans, Scheduled, schedule};
+pub use routes::{DayRoute, duties_of, route_on, routes_without};
+pub use scheduling::{DayPlans, Scheduled, are_without_trip, schedule};
 pub use uses::days_of_use;
 
 mod planned;

@@ -15,9 +15,9 @@ use std::alloc::{AllocError, Global};
 
 /// A vehicle on duty, and its route of the day.
 #[derive(Debug, Drop)]
-pub(crate) struct DayRoute {
-    vehicle: Vehicle,
-    route: Route,
+pub struct DayRoute {
+    pub vehicle: Vehicle,
+    pub route: Route,
 }
 
 /// A trip's stop of this kind.
@@ -92,7 +92,7 @@ fn route_without(
 }
 
 /// The routes of a day's vehicles without this trip; `None` where the stops of one are no route.
-pub(crate) fn routes_without(
+pub fn routes_without(
     alloc: Global,
     trip: TripId,
     day: Day,
@@ -117,10 +117,7 @@ pub(crate) fn routes_without(
 }
 
 /// The routes, lent.
-pub(crate) fn duties_of<'a>(
-    alloc: Global,
-    routes: &'a [DayRoute],
-) -> Result<Vec<Duty<'a>>, AllocError>
+pub fn duties_of<'a>(alloc: Global, routes: &'a [DayRoute]) -> Result<Vec<Duty<'a>>, AllocError>
     ensures { IfOk result (λ duties. on_duty duties.items ≡ map day_route routes.now) }
 {
     let mut duties = Vec::new(alloc);

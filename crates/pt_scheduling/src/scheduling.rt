@@ -54,7 +54,7 @@ fn plan_of(alloc: Global, booking: &Booking) -> Result<PlannedRoute, AllocError>
 }
 
 /// Whether the vehicles' numbers rise, and none of the routes has a stop of the trip.
-fn are_without_trip(duties: &[Duty<'_>], trip: TripId) -> bool
+pub fn are_without_trip(duties: &[Duty<'_>], trip: TripId) -> bool
     ensures { IsTrue result ↔ (AllPairs (λ first second. first.vehicle.now.id < second.vehicle.now.id) duties.now
         × All (λ duty. IsWithout trip (stops_of duty.route.now)) duties.now) }
 {

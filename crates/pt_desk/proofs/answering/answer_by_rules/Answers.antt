@@ -1,9 +1,9 @@
 use Rattle.std.proofs.Common.{◌≡◌, ◌∙◌, refl, sym, ap, subst, Ok, Err, Some, None, Option, true, false, ℕ, List}
 use Rattle.pt_requests.specs.declared.request.Request.{Request}
 use Rattle.pt_base.specs.declared.rule.Rule.TheVariants.{Key, Number}
-use Rattle.pt_desk_rules.specs.Deciding.{IsDecision, IsTold}
+use Rattle.pt_desk_rules.specs.Deciding.{IsDecision}
 use Rattle.pt_desk_rules.specs.State.{State, kept_of, caller_with}
-use Rattle.pt_desk_rules.specs.Step.{sent_with, told_of, left_of, IsReadOutcome, IsDecidedOutcome, IsWriteOutcome, IsOutcomeBy, IsOutcome}
+use Rattle.pt_desk_rules.specs.Step.{sent_with, told_of, left_of, IsExplainOutcome, IsReadOutcome, IsDecidedOutcome, IsWriteOutcome, IsOutcomeBy, IsOutcome}
 use Rattle.pt_requests.specs.declared.request.Answer.{Answer}
 use Rattle.pt_requests.specs.declared.request.Answer.TheVariants.{Done, Denied}
 use Rattle.pt_desk.specs.Store.{Answers}
@@ -45,6 +45,21 @@ returns-in-Read g c =
           (λ is told left outcome. subst (λ found. IsOutcomeBy found c.args.now c.args.number c.args.request.now a.content told left)
           (sym c.in-Some.is ∙ is ∙ ap (λ (digest : List ℕ). caller_with digest a.content) c.of_key.ensures.value)
           (subst (λ (asked : Request). IsOutcomeBy (Some c.in-Some.me) c.args.now c.args.number asked a.content told left) (sym c.in-Read.is) outcome));
+    }
+
+pub returns-in-Explain : goal.returns-in-Explain
+returns-in-Explain g c =
+    let a = g.K.Keeper.store c.args.keeper.now in
+    let b = g.K.Keeper.store c.caller_with.new.self in
+    let d = g.K.Keeper.store c.answer_explain.new.keeper in
+    let Is = IsOutcome c.args.key.now c.args.now c.args.number c.args.request.now in
+    let IsTold = IsExplainOutcome c.in-Explain.rider c.in-Explain.wish c.in-Some.me c.args.now in
+    record {
+      goes = read_then a b d c.in_ok-me.field-0 (caller_with c.of_key.result a.content) IsTold Is c.answer_explain.result
+          c.in_ok-me.ensures.reads c.answer_explain.ensures.goes
+          (λ is told left outcome. subst (λ found. IsOutcomeBy found c.args.now c.args.number c.args.request.now a.content told left)
+          (sym c.in-Some.is ∙ is ∙ ap (λ (digest : List ℕ). caller_with digest a.content) c.of_key.ensures.value)
+          (subst (λ (asked : Request). IsOutcomeBy (Some c.in-Some.me) c.args.now c.args.number asked a.content told left) (sym c.in-Explain.is) outcome));
     }
 
 pub returns-in-Write : goal.returns-in-Write

@@ -2,7 +2,7 @@ use Rattle.std.proofs.Common.{◌≡◌, ◌+◌, ◌++◌, [], ◌∷◌, List,
 use Rattle.std.specs.List.{AllZip}
 use Rattle.std.proofs.lemmas.List.{take_more}
 use Rattle.pt_base.specs.declared.vehicle.Vehicle.{Vehicle}
-use Rattle.pt_manifest.specs.declared.sheets.VehicleSheet.{VehicleSheet}
+use Rattle.pt_requests.specs.declared.sheets.VehicleSheet.{VehicleSheet}
 use Rattle.pt_desk_rules.specs.Tours.{IsSheetOf}
 use Rattle.pt_desk_rules.proofs.TourLemmas.{zip_pushed}
 use Rattle.pt_desk_rules.proofs.tours.sheets_of.Goals as goal

@@ -1,6 +1,5 @@
 use Rattle.std.proofs.Common.{◌+◌, ◌∷◌, [], drop, map, ap, sym, ◌∙◌, append_assoc}
 use Rattle.std.specs.Prelude.{◌++◌}
-use Rattle.std.proofs.lemmas.List.{drop_more}
 use Rattle.pt_feasible.specs.Route.{stops_of}
 use Rattle.pt_scheduling.specs.Plan.{planned_stop}
 use Rattle.pt_scheduling.proofs.ListLemmas.{drop-found}

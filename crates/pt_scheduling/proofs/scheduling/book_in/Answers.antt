@@ -1,7 +1,6 @@
 use Rattle.std.proofs.Common.{ap, ◌∙◌, Ok}
 use Rattle.pt_booking.specs.Planning.{on_duty}
 use Rattle.pt_booking.specs.Request.{request_of}
-use Rattle.pt_booking.specs.declared.booking.Decision.{Decision}
 use Rattle.pt_scheduling.proofs.ScheduledLemmas.{are_without, booked}
 use Rattle.pt_scheduling.proofs.scheduling.book_in.Goals as goal
 
