@@ -6,9 +6,12 @@ ghost use Rattle.pt_base.specs.Codes.{memory_refused};
 ghost use Rattle.pt_base.specs.Fault.{fault};
 ghost use Rattle.pt_desk_rules.specs.Sound.{IsSound};
 
+use pt_audit::read_log;
 use pt_base::fault::MEMORY;
-use pt_base::{Day, Fault};
-use pt_commands::{Outcome, STORE_REFUSED, ask, fault_of, print_done};
+use pt_base::{Day, Fault, RiderId, Wish};
+use pt_commands::{
+    Outcome, STORE_REFUSED, ask, audit_refusal, explain_refusal, fault_of, print_done,
+};
 use pt_desk::{Keeper, Read, Request, Write, place_ids};
 use pt_serve::{Port, moment_at, serve};
 use pt_tables::{OpenFault, SqlKeeper, migrate};
@@ -17,7 +20,7 @@ use sqlite::{Connection, Error, ErrorCode};
 use sqlite_std_file::File;
 use sqlite_store::FileStore;
 use std::alloc::Global;
-use std::io::ErrorKind;
+use std::io::{BufWriter, ErrorKind};
 use std::{fs, io};
 
 /// A file that is not there, or cannot be read.
@@ -160,6 +163,16 @@ pub(crate) fn print_read(
     )
 }
 
+/// The bytes of a file that should be there.
+fn read_file(rt: &HostRuntime, path: &str) -> Result<Vec<u8>, Fault>
+    ensures fault { IfErr result (λ error. (error ≡ fault memory_refused) ⊎ (error ≡ fault no_such_file)) }
+{
+    match fs::read(rt, path) {
+        Ok(bytes) => Ok(bytes),
+        Err(error) => Err(fault_of_reading(&error)),
+    }
+}
+
 /// Reads a travel table for the places of a desk.
 fn times_for<K: Keeper>(alloc: Global, keeper: &mut K, text: &[u8]) -> Result<Raw, Fault> {
     match place_ids(alloc, keeper) {
@@ -178,10 +191,7 @@ pub(crate) fn put_times(
     csv: &str,
 ) -> Result<Outcome, Fault> {
     let now = moment_at(rt, zone)?;
-    let text = match fs::read(rt, csv) {
-        Ok(text) => text,
-        Err(error) => return Err(fault_of_reading(&error)),
-    };
+    let text = read_file(rt, csv)?;
     let mut keeper = opened(rt, file)?;
     let rows = times_for(rt.alloc(), &mut keeper, text.as_slice())?;
     let (key, number) = caller;
@@ -193,6 +203,57 @@ pub(crate) fn put_times(
         key.as_bytes(),
         number,
         &request,
+        &mut rt.stdout(),
+    )
+}
+
+/// Prints the log of a refusal from the desk in a file, with few writes.
+pub(crate) fn print_refusal(
+    rt: &HostRuntime,
+    file: &str,
+    zone: &str,
+    key: &str,
+    rider: RiderId,
+    wish: &Wish,
+) -> Result<Outcome, Fault> {
+    let now = moment_at(rt, zone)?;
+    let mut keeper = opened(rt, file)?;
+    let Ok(mut out) = BufWriter::new(rt.alloc(), rt.stdout()) else {
+        return Err(Fault::of(MEMORY));
+    };
+    explain_refusal(
+        rt.alloc(),
+        &mut keeper,
+        now,
+        key.as_bytes(),
+        rider,
+        wish,
+        &mut out,
+    )
+}
+
+/// Prints whether the log in a file shows, of the desk in another, that no vehicle can take the trip.
+pub(crate) fn print_verdict(
+    rt: &HostRuntime,
+    log: &str,
+    file: &str,
+    zone: &str,
+    key: &str,
+    rider: RiderId,
+    wish: &Wish,
+) -> Result<Outcome, Fault> {
+    let now = moment_at(rt, zone)?;
+    let text = read_file(rt, log)?;
+    let mut keeper = opened(rt, file)?;
+    let log = read_log(rt.alloc(), text.as_slice())?;
+    audit_refusal(
+        rt.alloc(),
+        &mut keeper,
+        now,
+        key.as_bytes(),
+        rider,
+        wish,
+        &log,
         &mut rt.stdout(),
     )
 }

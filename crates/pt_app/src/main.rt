@@ -3,7 +3,9 @@
 
 mod database;
 
-use database::{init, migrate_file, print_read, put_times, serve_file};
+use database::{
+    init, migrate_file, print_read, print_refusal, print_verdict, put_times, serve_file,
+};
 use pt_base::Fault;
 use pt_base::fault::MEMORY;
 use pt_command_line::{Line, WRONG_WORDS, line, matches_in};
@@ -38,7 +40,7 @@ fn refuse(rt: &HostRuntime, words: &[String]) -> Outcome {
 }
 
 /// Does what was asked for.
-fn do_asked(rt: &HostRuntime, asked: Line<'_>) -> Result<Outcome, Fault> {
+fn do_asked(rt: &HostRuntime, asked: &Line<'_>) -> Result<Outcome, Fault> {
     match asked {
         Line::Rehearse { key } => {
             rehearse_with_key(rt.alloc(), key.as_bytes(), rt.stdin(), &mut rt.stdout())?;
@@ -51,7 +53,7 @@ fn do_asked(rt: &HostRuntime, asked: Line<'_>) -> Result<Outcome, Fault> {
             zone,
             port,
             count,
-        } => serve_file(rt, file, zone, port, count),
+        } => serve_file(rt, file, zone, *port, *count),
         Line::Travel {
             file,
             zone,
@@ -59,27 +61,48 @@ fn do_asked(rt: &HostRuntime, asked: Line<'_>) -> Result<Outcome, Fault> {
             number,
             day,
             csv,
-        } => put_times(rt, file, zone, (key, number), day, csv),
+        } => put_times(rt, file, zone, (key, *number), *day, csv),
         Line::Manifest {
             file,
             zone,
             key,
             vehicle,
             day,
-        } => print_read(rt, file, zone, key, Read::Manifest { vehicle, day }),
+        } => {
+            let read = Read::Manifest {
+                vehicle: *vehicle,
+                day: *day,
+            };
+            print_read(rt, file, zone, key, read)
+        }
         Line::Trips {
             file,
             zone,
             key,
             day,
-        } => print_read(rt, file, zone, key, Read::Export(day)),
+        } => print_read(rt, file, zone, key, Read::Export(*day)),
+        Line::Explain {
+            file,
+            zone,
+            key,
+            rider,
+            wish,
+        } => print_refusal(rt, file, zone, key, *rider, wish),
+        Line::Audit {
+            log,
+            file,
+            zone,
+            key,
+            rider,
+            wish,
+        } => print_verdict(rt, log, file, zone, key, *rider, wish),
     }
 }
 
 /// Does what the words ask for.
 fn do_line(rt: &HostRuntime, words: &[String]) -> Outcome {
     match line(rt.alloc(), words) {
-        Ok(asked) => outcome_of(do_asked(rt, asked)),
+        Ok(asked) => outcome_of(do_asked(rt, &asked)),
         Err(fault) if fault.code == WRONG_WORDS => refuse(rt, words),
         Err(fault) => Outcome::Failed(fault),
     }

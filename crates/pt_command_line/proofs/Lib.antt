@@ -1,4 +1,5 @@
 mod LineLemmas
+mod PlaceLemmas
 mod PlainLemmas
 mod SameLemmas
 mod WordLemmas

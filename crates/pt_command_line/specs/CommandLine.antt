@@ -7,9 +7,13 @@ use Rattle.clap.specs.Simple.{on_top}
 abbrev pub place : Text → Rule
 place name = record (new_rule name) { required = true }
 
+-- a command with more places, in order
+abbrev pub with_places : App → List Text → App
+with_places app places = fold (λ app name. with_rule app (place name)) app places
+
 -- a command, and the places of its words in order
 abbrev pub command : Text → List Text → App
-command name places = fold (λ app name. with_rule app (place name)) (new_app name) places
+command name places = with_places (new_app name) places
 
 -- rehearse KEY
 abbrev pub rehearse_words : App
@@ -41,6 +45,19 @@ manifest_words = command (codes "manifest")
 abbrev pub trips_words : App
 trips_words = command (codes "trips") (codes "FILE" ∷ codes "ZONE" ∷ codes "KEY" ∷ codes "DAY" ∷ [])
 
+-- the places of a question about a rider's wish: whom it is put to, and what it is
+abbrev pub question_places : List Text
+question_places = codes "FILE" ∷ codes "ZONE" ∷ codes "KEY" ∷ codes "RIDER" ∷ codes "DAY" ∷ codes "WISH"
+    ∷ codes "FROM" ∷ codes "TO" ∷ codes "BY" ∷ codes "ATTENDANT" ∷ codes "COMPANIONS" ∷ []
+
+-- explain FILE ZONE KEY RIDER DAY WISH FROM TO BY ATTENDANT COMPANIONS
+abbrev pub explain_words : App
+explain_words = command (codes "explain") question_places
+
+-- audit LOG FILE ZONE KEY RIDER DAY WISH FROM TO BY ATTENDANT COMPANIONS
+abbrev pub audit_words : App
+audit_words = command (codes "audit") (codes "LOG" ∷ question_places)
+
 -- desk before its commands are named, one of which may not be left out; it tells its version
 abbrev pub program_words : App
 program_words = on_top (λ top. record top {
@@ -53,4 +70,5 @@ program_words = on_top (λ top. record top {
 -- desk and its commands
 abbrev pub desk_words : App
 desk_words = fold (λ desk command. with_subcommand desk command.top) program_words
-    (rehearse_words ∷ init_words ∷ serve_words ∷ travel_words ∷ manifest_words ∷ trips_words ∷ migrate_words ∷ [])
+    (rehearse_words ∷ init_words ∷ serve_words ∷ travel_words ∷ manifest_words ∷ trips_words ∷ explain_words
+    ∷ audit_words ∷ migrate_words ∷ [])

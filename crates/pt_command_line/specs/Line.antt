@@ -1,8 +1,11 @@
 -- What the program is asked to do, by the words at the places of its commands.
-use Rattle.std.specs.Prelude.{◌≡◌, ◌≢◌, ◌≤◌, ℕ, List, [], ◌∷◌, codes, Option, Some, slice_get}
+use Rattle.std.specs.Prelude.{◌≡◌, ◌≢◌, ◌≤◌, ℕ, All, Bool, List, [], ◌∷◌, codes, Option, None, Some, slice_get}
+use Rattle.std.specs.Int.{from_bool}
 use Rattle.clap.specs.Words.{Row, Text, fault_of, first_of, subcommand_of}
-use Rattle.pt_http_request.specs.Days.{SpellsDay}
-use Rattle.pt_http_request.specs.Numbers.{SpellsNumber}
+use Rattle.pt_base.specs.Ranges.{last_minute}
+use Rattle.pt_base.specs.SpelledDay.{SpellsDay}
+use Rattle.pt_base.specs.SpelledNumber.{SpellsNumber}
+use Rattle.pt_base.specs.declared.trip.Wish.{Wish}
 use Rattle.pt_command_line.specs.CommandLine.{desk_words}
 use Rattle.pt_command_line.specs.declared.asked.Line.{Line}
 use Rattle.pt_command_line.specs.declared.asked.Line.TheVariants as line
@@ -11,18 +14,57 @@ use Rattle.pt_command_line.specs.declared.asked.Line.TheVariants as line
 abbrev pub HasWord : List Row → Text → Text → Type 0
 HasWord rows place word = first_of place rows ≡ Some word
 
+-- a word of which this holds stands there
+abbrev pub HasWordThat : List Row → Text → (Text → Type 0) → Type 0
+HasWordThat rows place Fits = (word : Text) × HasWord rows place word × Fits word
+
 -- one to ten digits spell this number, which lies in this range
 abbrev pub IsNumberWord : ℕ → ℕ → Text → ℕ → Type 0
 IsNumberWord least most word number = SpellsNumber 10 most word number × (least ≤ number)
 
 -- such a number stands there
 abbrev pub HasNumber : List Row → Text → ℕ → ℕ → ℕ → Type 0
-HasNumber rows place least most number =
-    (word : Text) × HasWord rows place word × IsNumberWord least most word number
+HasNumber rows place least most number = HasWordThat rows place (λ word. IsNumberWord least most word number)
 
 -- this day stands there
 abbrev pub HasDay : List Row → Text → ℕ → Type 0
-HasDay rows place day = (word : Text) × HasWord rows place word × SpellsDay word day
+HasDay rows place day = HasWordThat rows place (λ word. SpellsDay word day)
+
+-- the greatest number of a record or of a request
+abbrev pub last_number : ℕ
+last_number = 4_294_967_295
+
+-- the number of a rider, a place or a vehicle
+abbrev pub IsRecordWord : Text → ℕ → Type 0
+IsRecordWord word number = IsNumberWord 1 last_number word number
+
+-- a minute of the day
+abbrev pub IsMinuteWord : Text → ℕ → Type 0
+IsMinuteWord word minute = IsNumberWord 0 last_minute word minute
+
+-- the minute by which the rider has to be there, or `none` where there is none
+abbrev pub IsByWord : Text → Option ℕ → Type 0
+IsByWord word (Some minute) = IsMinuteWord word minute
+IsByWord word None = word ≡ codes "none"
+
+-- 1 where an attendant comes along, else 0
+abbrev pub IsAttendantWord : Text → Bool → Type 0
+IsAttendantWord word attendant = IsNumberWord 0 1 word (from_bool attendant)
+
+-- how many companions come along
+abbrev pub IsCompanionsWord : Text → ℕ → Type 0
+IsCompanionsWord word companions = IsNumberWord 0 255 word companions
+
+-- this wish stands at its places
+abbrev pub HasWish : List Row → Wish → Type 0
+HasWish rows wish =
+    HasDay rows (codes "DAY") wish.day
+    × HasWordThat rows (codes "WISH") (λ word. IsMinuteWord word wish.pickup)
+    × HasWordThat rows (codes "FROM") (λ word. IsRecordWord word wish.from)
+    × HasWordThat rows (codes "TO") (λ word. IsRecordWord word wish.to)
+    × HasWordThat rows (codes "BY") (λ word. IsByWord word wish.by)
+    × HasWordThat rows (codes "ATTENDANT") (λ word. IsAttendantWord word wish.attendant)
+    × HasWordThat rows (codes "COMPANIONS") (λ word. IsCompanionsWord word wish.companions)
 
 -- the command of this name, with these words at its places, asks for this
 abbrev pub Asks : Text → List Row → Line → Type 0
@@ -35,15 +77,23 @@ Asks name rows (line.Serve file zone port count) =
     × HasNumber rows (codes "PORT") 1 65_535 port × HasNumber rows (codes "COUNT") 1 1_000_000 count
 Asks name rows (line.Travel file zone key number day csv) =
     (name ≡ codes "travel") × HasWord rows (codes "FILE") file.now × HasWord rows (codes "ZONE") zone.now
-    × HasWord rows (codes "KEY") key.now × HasNumber rows (codes "NUMBER") 0 4_294_967_295 number
+    × HasWord rows (codes "KEY") key.now × HasNumber rows (codes "NUMBER") 0 last_number number
     × HasDay rows (codes "DAY") day × HasWord rows (codes "CSV") csv.now
 Asks name rows (line.Manifest file zone key vehicle day) =
     (name ≡ codes "manifest") × HasWord rows (codes "FILE") file.now × HasWord rows (codes "ZONE") zone.now
-    × HasWord rows (codes "KEY") key.now × HasNumber rows (codes "VEHICLE") 1 4_294_967_295 vehicle
+    × HasWord rows (codes "KEY") key.now × HasNumber rows (codes "VEHICLE") 1 last_number vehicle
     × HasDay rows (codes "DAY") day
 Asks name rows (line.Trips file zone key day) =
     (name ≡ codes "trips") × HasWord rows (codes "FILE") file.now × HasWord rows (codes "ZONE") zone.now
     × HasWord rows (codes "KEY") key.now × HasDay rows (codes "DAY") day
+Asks name rows (line.Explain file zone key rider wish) =
+    (name ≡ codes "explain") × HasWord rows (codes "FILE") file.now × HasWord rows (codes "ZONE") zone.now
+    × HasWord rows (codes "KEY") key.now
+    × HasWordThat rows (codes "RIDER") (λ word. IsRecordWord word rider) × HasWish rows wish
+Asks name rows (line.Audit log file zone key rider wish) =
+    (name ≡ codes "audit") × HasWord rows (codes "LOG") log.now × HasWord rows (codes "FILE") file.now
+    × HasWord rows (codes "ZONE") zone.now × HasWord rows (codes "KEY") key.now
+    × HasWordThat rows (codes "RIDER") (λ word. IsRecordWord word rider) × HasWish rows wish
 
 -- what the command that was found asks for
 abbrev pub AsksOf : Option (Text × List Row) → Line → Type 0
@@ -56,6 +106,15 @@ IsLine words asked = (fault_of desk_words words ≡ []) × AsksOf (subcommand_of
 -- a word that does not begin with a hyphen
 abbrev pub IsPlainWord : Text → Type 0
 IsPlainWord word = slice_get word 0 ≢ Some 45
+
+-- the words are a rider's number and wish: the day, the minute, from where to where, by when, and who comes along
+abbrev pub SpellsWish : List Text → ℕ → Wish → Type 0
+SpellsWish words rider wish =
+    (who day pickup from to by attendant companions : Text)
+    × (words ≡ who ∷ day ∷ pickup ∷ from ∷ to ∷ by ∷ attendant ∷ companions ∷ [])
+    × IsRecordWord who rider × SpellsDay day wish.day × IsMinuteWord pickup wish.pickup
+    × IsRecordWord from wish.from × IsRecordWord to wish.to × IsByWord by wish.by
+    × IsAttendantWord attendant wish.attendant × IsCompanionsWord companions wish.companions
 
 -- the words are the program's name, a command and the words at its places, none of which begins with a hyphen, and
 -- ask for this
@@ -76,16 +135,24 @@ SpellsLine words (line.Travel file zone key number day csv) =
     (program first second : Text)
     × (words ≡ program ∷ codes "travel" ∷ file.now ∷ zone.now ∷ key.now ∷ first ∷ second ∷ csv.now ∷ [])
     × IsPlainWord file.now × IsPlainWord zone.now × IsPlainWord key.now × IsPlainWord first × IsPlainWord second
-    × IsPlainWord csv.now × IsNumberWord 0 4_294_967_295 first number × SpellsDay second day
+    × IsPlainWord csv.now × IsNumberWord 0 last_number first number × SpellsDay second day
 SpellsLine words (line.Manifest file zone key vehicle day) =
     (program first second : Text)
     × (words ≡ program ∷ codes "manifest" ∷ file.now ∷ zone.now ∷ key.now ∷ first ∷ second ∷ [])
     × IsPlainWord file.now × IsPlainWord zone.now × IsPlainWord key.now × IsPlainWord first × IsPlainWord second
-    × IsNumberWord 1 4_294_967_295 first vehicle × SpellsDay second day
+    × IsRecordWord first vehicle × SpellsDay second day
 SpellsLine words (line.Trips file zone key day) =
     (program first : Text)
     × (words ≡ program ∷ codes "trips" ∷ file.now ∷ zone.now ∷ key.now ∷ first ∷ [])
     × IsPlainWord file.now × IsPlainWord zone.now × IsPlainWord key.now × IsPlainWord first × SpellsDay first day
+SpellsLine words (line.Explain file zone key rider wish) =
+    (program : Text) × (asked : List Text)
+    × (words ≡ program ∷ codes "explain" ∷ file.now ∷ zone.now ∷ key.now ∷ asked)
+    × All IsPlainWord (file.now ∷ zone.now ∷ key.now ∷ asked) × SpellsWish asked rider wish
+SpellsLine words (line.Audit log file zone key rider wish) =
+    (program : Text) × (asked : List Text)
+    × (words ≡ program ∷ codes "audit" ∷ log.now ∷ file.now ∷ zone.now ∷ key.now ∷ asked)
+    × All IsPlainWord (log.now ∷ file.now ∷ zone.now ∷ key.now ∷ asked) × SpellsWish asked rider wish
 
 -- both ask for the same
 abbrev pub IsSameLine : Line → Line → Type 0
@@ -102,4 +169,10 @@ IsSameLine (line.Manifest file zone key vehicle day) (line.Manifest file_read zo
     × (on ≡ day)
 IsSameLine (line.Trips file zone key day) (line.Trips read_file read_zone read_key read_day) =
     (read_file.now ≡ file.now) × (read_zone.now ≡ zone.now) × (read_key.now ≡ key.now) × (read_day ≡ day)
+IsSameLine (line.Explain file zone key rider wish) (line.Explain read_file read_zone read_key who read) =
+    (read_file.now ≡ file.now) × (read_zone.now ≡ zone.now) × (read_key.now ≡ key.now) × (who ≡ rider)
+    × (read ≡ wish)
+IsSameLine (line.Audit log file zone key rider wish) (line.Audit read_log read_file read_zone read_key who read) =
+    (read_log.now ≡ log.now) × (read_file.now ≡ file.now) × (read_zone.now ≡ zone.now) × (read_key.now ≡ key.now)
+    × (who ≡ rider) × (read ≡ wish)
 IsSameLine _ _ = ⊥

@@ -1,17 +1,21 @@
-ghost use Rattle.std.specs.Prelude.{◌≡◌, ℕ, IfSome, IsNone, codes, option_map};
+ghost use Rattle.std.specs.Prelude.{◌≡◌, ℕ, IfSome, IsNone, Option, codes, option_map};
 ghost use Rattle.clap.specs.Words.{first_of, found_of, rows_of, subcommand_rows_of};
-ghost use Rattle.pt_command_line.specs.Line.{Asks, AsksOf, HasDay, HasNumber};
+ghost use Rattle.pt_base.specs.declared.trip.Wish.{Wish};
+ghost use Rattle.pt_command_line.specs.Line.{Asks, AsksOf, HasDay, HasNumber, HasWish, HasWordThat, IsByWord};
+ghost use Rattle.pt_command_line.specs.Line.{IsMinuteWord, IsRecordWord};
 ghost use Rattle.pt_command_line.specs.declared.asked.Line.{Line};
 
 use clap::ArgMatches;
-use pt_base::{Day, VehicleId};
-use pt_http_request::{day_from, number_from};
+use pt_base::{Day, Id, LAST_MINUTE, Minute, RiderId, VehicleId, Wish, day_from, number_from};
 
 /// The last port.
 const LAST_PORT: u32 = 65_535;
 
 /// The most connections that one command answers.
 const MOST_CONNECTIONS: u32 = 1_000_000;
+
+/// The most companions that a wish may name.
+const MOST_COMPANIONS: u32 = 255;
 
 /// What the program is asked to do.
 #[derive(Clone, Copy, Debug)]
@@ -60,6 +64,23 @@ pub enum Line<'a> {
         key: &'a str,
         day: Day,
     },
+    /// To print the log of a refusal: that no vehicle can take this wish of the rider's.
+    Explain {
+        file: &'a str,
+        zone: &'a str,
+        key: &'a str,
+        rider: RiderId,
+        wish: Wish,
+    },
+    /// To check such a log.
+    Audit {
+        log: &'a str,
+        file: &'a str,
+        zone: &'a str,
+        key: &'a str,
+        rider: RiderId,
+        wish: Wish,
+    },
 }
 
 /// The word at a place of a command.
@@ -89,6 +110,55 @@ fn day_at(words: &ArgMatches<'_>, place: &str) -> Option<Day>
     ensures none { IsNone result → (day : ℕ) → ¬ (HasDay (rows_of (found_of words.now)) place.now day) }
 {
     day_from(word_at(words, place)?)
+}
+
+/// The number of a record at a place of a command.
+fn id_at<Kind>(words: &ArgMatches<'_>, place: &str) -> Option<Id<Kind>>
+    ensures id { IfSome result (λ id.
+        HasWordThat (rows_of (found_of words.now)) place.now (λ word. IsRecordWord word id)) }
+    ensures none { IsNone result → (id : ℕ)
+        → ¬ (HasWordThat (rows_of (found_of words.now)) place.now (λ word. IsRecordWord word id)) }
+{
+    Id::of(number_at(words, place, 1, u32::MAX)?)
+}
+
+/// The minute of the day at a place of a command.
+fn minute_at(words: &ArgMatches<'_>, place: &str) -> Option<Minute>
+    ensures minute { IfSome result (λ minute.
+        HasWordThat (rows_of (found_of words.now)) place.now (λ word. IsMinuteWord word minute)) }
+    ensures none { IsNone result → (minute : ℕ)
+        → ¬ (HasWordThat (rows_of (found_of words.now)) place.now (λ word. IsMinuteWord word minute)) }
+{
+    Minute::of(number_at(words, place, 0, LAST_MINUTE)?)
+}
+
+/// The minute by which the rider has to be there, if by any: where the word is `none`, by none.
+fn by_at(words: &ArgMatches<'_>) -> Option<Option<Minute>>
+    ensures by { IfSome result (λ by.
+        HasWordThat (rows_of (found_of words.now)) (codes "BY") (λ word. IsByWord word by)) }
+    ensures none { IsNone result → (by : Option ℕ)
+        → ¬ (HasWordThat (rows_of (found_of words.now)) (codes "BY") (λ word. IsByWord word by)) }
+{
+    match word_at(words, "BY")? {
+        "none" => Some(None),
+        _ => Some(Some(minute_at(words, "BY")?)),
+    }
+}
+
+/// The wish at the places of a command.
+fn wish_at(words: &ArgMatches<'_>) -> Option<Wish>
+    ensures wish { IfSome result (HasWish (rows_of (found_of words.now))) }
+    ensures none { IsNone result → (wish : Wish) → ¬ (HasWish (rows_of (found_of words.now)) wish) }
+{
+    Some(Wish {
+        day: day_at(words, "DAY")?,
+        pickup: minute_at(words, "WISH")?,
+        from: id_at(words, "FROM")?,
+        to: id_at(words, "TO")?,
+        by: by_at(words)?,
+        attendant: number_at(words, "ATTENDANT", 0, 1)? == 1,
+        companions: number_at(words, "COMPANIONS", 0, MOST_COMPANIONS)? as u8,
+    })
 }
 
 /// What `rehearse` asks for with these words.
@@ -181,6 +251,37 @@ fn trips_line<'a>(words: &ArgMatches<'a>) -> Option<Line<'a>>
     })
 }
 
+/// What `explain` asks for with these words.
+fn explain_line<'a>(words: &ArgMatches<'a>) -> Option<Line<'a>>
+    ensures line { IfSome result (Asks (codes "explain") (rows_of (found_of words.now))) }
+    ensures none { IsNone result → (asked : Line)
+        → ¬ (Asks (codes "explain") (rows_of (found_of words.now)) asked) }
+{
+    Some(Line::Explain {
+        file: word_at(words, "FILE")?,
+        zone: word_at(words, "ZONE")?,
+        key: word_at(words, "KEY")?,
+        rider: id_at(words, "RIDER")?,
+        wish: wish_at(words)?,
+    })
+}
+
+/// What `audit` asks for with these words.
+fn audit_line<'a>(words: &ArgMatches<'a>) -> Option<Line<'a>>
+    ensures line { IfSome result (Asks (codes "audit") (rows_of (found_of words.now))) }
+    ensures none { IsNone result → (asked : Line)
+        → ¬ (Asks (codes "audit") (rows_of (found_of words.now)) asked) }
+{
+    Some(Line::Audit {
+        log: word_at(words, "LOG")?,
+        file: word_at(words, "FILE")?,
+        zone: word_at(words, "ZONE")?,
+        key: word_at(words, "KEY")?,
+        rider: id_at(words, "RIDER")?,
+        wish: wish_at(words)?,
+    })
+}
+
 /// What the command of this name asks for with these words.
 fn line_of<'a>(name: &str, words: &ArgMatches<'a>) -> Option<Line<'a>>
     ensures line { IfSome result (Asks name.now (rows_of (found_of words.now))) }
@@ -194,6 +295,8 @@ fn line_of<'a>(name: &str, words: &ArgMatches<'a>) -> Option<Line<'a>>
         "travel" => travel_line(words),
         "manifest" => manifest_line(words),
         "trips" => trips_line(words),
+        "explain" => explain_line(words),
+        "audit" => audit_line(words),
         _ => None,
     }
 }

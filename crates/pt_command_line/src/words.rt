@@ -2,9 +2,10 @@ ghost use Rattle.std.specs.Prelude.{◌≡◌, ◌≢◌, ◌⊎◌, Err, IfErr,
 ghost use Rattle.clap.specs.Words.{FailsBy, HasMatchesOf, app_of, fault_of, new_app, with_rule, with_subcommand};
 ghost use Rattle.clap.specs.declared.error.kind.ErrorKind.TheVariants.{OutOfMemory};
 ghost use Rattle.clap.specs.declared.builder.command.Command.TheViews.{out-Command as fields_of};
-ghost use Rattle.pt_command_line.specs.CommandLine.{desk_words, init_words, manifest_words, migrate_words, place};
-ghost use Rattle.pt_command_line.specs.CommandLine.{program_words, rehearse_words, serve_words, travel_words};
-ghost use Rattle.pt_command_line.specs.CommandLine.{trips_words};
+ghost use Rattle.pt_command_line.specs.CommandLine.{audit_words, desk_words, explain_words, init_words};
+ghost use Rattle.pt_command_line.specs.CommandLine.{manifest_words, migrate_words, place, program_words};
+ghost use Rattle.pt_command_line.specs.CommandLine.{question_places, rehearse_words, serve_words, travel_words};
+ghost use Rattle.pt_command_line.specs.CommandLine.{trips_words, with_places};
 ghost use Rattle.pt_command_line.specs.Codes.{wrong_words};
 ghost use Rattle.pt_command_line.specs.Line.{IsLine, IsSameLine, SpellsLine};
 ghost use Rattle.pt_command_line.specs.declared.asked.Line.{Line};
@@ -28,8 +29,9 @@ const ABOUT: &str = "The office system of a transit agency that gives complement
 /// The version of the program, which `--version` prints.
 const VERSION: &str = "0.9.0";
 
-const EXIT_STATUS: &str = "Exit status: 0 done, 1 denied, 2 wrong words, 3 want of memory or the \
-store, 4 another fault. With 3 and 4 standard error has the line `fault C row R`.\n\
+const EXIT_STATUS: &str = "Exit status: 0 done, 1 denied, `possible` or `no`, 2 wrong words, \
+3 want of memory or the store, 4 another fault. With 3 and 4 standard error has the line \
+`fault C row R`.\n\
 A file of version 1 is refused with fault 30: `desk migrate FILE` turns it into one of this version.";
 
 const REHEARSE: &str = "Answers HTTP requests from standard input, on a desk in memory that \
@@ -53,6 +55,14 @@ For example: desk manifest desk.db EST5EDT,M3.2.0,M11.1.0 KEY 1 2025-03-11";
 
 const TRIPS: &str = "Prints the trips of a day as CSV. \
 For example: desk trips desk.db EST5EDT,M3.2.0,M11.1.0 KEY 2025-03-11";
+
+const EXPLAIN: &str = "Prints the log of a refusal where a booking would be denied `no vehicle`, \
+else `possible` or the denial. For example: \
+desk explain desk.db EST5EDT,M3.2.0,M11.1.0 KEY 7 2025-03-11 540 2 3 none 0 0 > refusal.log";
+
+const AUDIT: &str = "Prints `yes` where the log shows that no vehicle can take the trip, else `no` \
+or the denial. For example: \
+desk audit refusal.log desk.db EST5EDT,M3.2.0,M11.1.0 KEY 7 2025-03-11 540 2 3 none 0 0";
 
 const ADMIN_KEY: &str =
     "The admin's key, which requests give in the header Desk-Key: it has no blank at either end";
@@ -78,6 +88,22 @@ const DAY: &str = "The day, YYYY-MM-DD";
 const CSV: &str = "The file of the times, with the header from,to,minutes";
 
 const VEHICLE: &str = "The vehicle's number";
+
+const LOG: &str = "The file of the log, as `explain` printed it";
+
+const RIDER: &str = "The rider's number";
+
+const WISH: &str = "The minute when the rider wishes to be picked up, 0 to 1439";
+
+const FROM: &str = "The number of the place where the trip begins";
+
+const TO: &str = "The number of the place where the trip ends";
+
+const BY: &str = "The minute by which the rider has to be there, 0 to 1439, or `none`";
+
+const ATTENDANT: &str = "Whether an attendant comes along: 1, else 0";
+
+const COMPANIONS: &str = "How many companions come along, 0 to 255";
 
 /// The command with one more place for a word, which may not be left out.
 fn with_place<'a>(
@@ -180,6 +206,44 @@ fn trips_command<'a>(alloc: Global) -> Result<Command<'a>, AllocError>
     with_place(alloc, command, "DAY", DAY)
 }
 
+/// The command with the places of a question about a rider's wish.
+fn with_question<'a>(alloc: Global, command: Command<'a>) -> Result<Command<'a>, AllocError>
+    ensures app { IfOk result (λ more. app_of more ≡ with_places (app_of command.entry) question_places) }
+    ensures local { (fields_of command.entry).has_globals ≡ false
+        → IfOk result (λ more. (fields_of more).has_globals ≡ false) }
+{
+    let command = with_place(alloc, command, "FILE", FILE)?;
+    let command = with_place(alloc, command, "ZONE", ZONE)?;
+    let command = with_place(alloc, command, "KEY", KEY)?;
+    let command = with_place(alloc, command, "RIDER", RIDER)?;
+    let command = with_place(alloc, command, "DAY", DAY)?;
+    let command = with_place(alloc, command, "WISH", WISH)?;
+    let command = with_place(alloc, command, "FROM", FROM)?;
+    let command = with_place(alloc, command, "TO", TO)?;
+    let command = with_place(alloc, command, "BY", BY)?;
+    let command = with_place(alloc, command, "ATTENDANT", ATTENDANT)?;
+    with_place(alloc, command, "COMPANIONS", COMPANIONS)
+}
+
+/// The command `explain`.
+fn explain_command<'a>(alloc: Global) -> Result<Command<'a>, AllocError>
+    ensures app { IfOk result (λ command. app_of command ≡ explain_words) }
+    ensures local { IfOk result (λ command. (fields_of command).has_globals ≡ false) }
+{
+    let command = command_of(alloc, "explain", EXPLAIN);
+    with_question(alloc, command)
+}
+
+/// The command `audit`.
+fn audit_command<'a>(alloc: Global) -> Result<Command<'a>, AllocError>
+    ensures app { IfOk result (λ command. app_of command ≡ audit_words) }
+    ensures local { IfOk result (λ command. (fields_of command).has_globals ≡ false) }
+{
+    let command = command_of(alloc, "audit", AUDIT);
+    let command = with_place(alloc, command, "LOG", LOG)?;
+    with_question(alloc, command)
+}
+
 /// The program's words before its commands are named, one of which may not be left out.
 fn program_command<'a>(alloc: Global) -> Command<'a>
     ensures { app_of result ≡ program_words }
@@ -209,6 +273,8 @@ fn desk_command<'a>(alloc: Global) -> Result<Command<'a>, AllocError>
     let desk = with_command(desk, travel_command(alloc)?)?;
     let desk = with_command(desk, manifest_command(alloc)?)?;
     let desk = with_command(desk, trips_command(alloc)?)?;
+    let desk = with_command(desk, explain_command(alloc)?)?;
+    let desk = with_command(desk, audit_command(alloc)?)?;
     with_command(desk, migrate_command(alloc)?)
 }
 

@@ -1,3 +1,4 @@
+pub mod Refusals
 pub mod Rehearsal
 pub mod Status
 pub mod Told

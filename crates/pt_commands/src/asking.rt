@@ -28,7 +28,7 @@ pub fn fault_of(failed: StoreFault) -> Fault
 }
 
 /// A word on a line of its own.
-fn line_of(alloc: Global, word: &str) -> Result<Vec<u8>, AllocError>
+pub(crate) fn line_of(alloc: Global, word: &str) -> Result<Vec<u8>, AllocError>
     ensures { IfOk result (λ line. line.items ≡ word.now ++ codes "\n") }
 {
     let mut line = Vec::from_slice(alloc, word.as_bytes())?;
@@ -61,7 +61,7 @@ fn ending_of(told: &Answer) -> Outcome
 }
 
 /// Writes a text, and sees it off. The error is a write that failed.
-fn print<W: Write>(text: &[u8], out: &mut W) -> Result<(), Fault>
+pub(crate) fn print<W: Write>(text: &[u8], out: &mut W) -> Result<(), Fault>
     ensures written { OnOk result (Appends (W.contents out.old) (W.contents out.new) text.now) }
     ensures fault { IfErr result (λ error. error ≡ fault write_failed) }
 {

@@ -1,5 +1,5 @@
 use Rattle.std.proofs.Common.{◌≡◌, subst}
-use Rattle.pt_http_request.specs.Days.{SpellsDay}
+use Rattle.pt_base.specs.SpelledDay.{SpellsDay}
 use Rattle.pt_command_line.proofs.asked.day_at.Goals as goal
 
 pub returns-clause-none : goal.returns-clause-none

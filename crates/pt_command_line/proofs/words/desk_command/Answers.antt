@@ -1,7 +1,7 @@
 use Rattle.std.proofs.Common.{◌≡◌, ◌∙◌, ap₂}
 use Rattle.std.proofs.lemmas.Result.{IfOk-weaker}
 use Rattle.clap.specs.Words.{App, app_of, with_subcommand}
-use Rattle.pt_command_line.specs.CommandLine.{init_words, manifest_words, program_words, rehearse_words, serve_words, travel_words, trips_words}
+use Rattle.pt_command_line.specs.CommandLine.{init_words, program_words, rehearse_words, serve_words, travel_words}
 use Rattle.pt_command_line.proofs.words.desk_command.Goals as goal
 
 abbrev more : App → App → App
@@ -20,6 +20,8 @@ returns c =
     c.in_ok-desk-4.ensures ∙ ap₂ more third c.in_ok-travel_command.ensures.app in
     let fifth = c.in_ok-desk-5.ensures ∙ ap₂ more fourth c.in_ok-manifest_command.ensures.app in
     let sixth = c.in_ok-desk-6.ensures ∙ ap₂ more fifth c.in_ok-trips_command.ensures.app in
-    IfOk-weaker c.with_command-7.result _ _
-    (λ command added. added ∙ ap₂ more sixth c.in_ok-migrate_command.ensures.app)
-    c.with_command-7.ensures
+    let seventh = c.in_ok-desk-7.ensures ∙ ap₂ more sixth c.in_ok-explain_command.ensures.app in
+    let eighth = c.in_ok-desk-8.ensures ∙ ap₂ more seventh c.in_ok-audit_command.ensures.app in
+    IfOk-weaker c.with_command-9.result _ _
+    (λ command added. added ∙ ap₂ more eighth c.in_ok-migrate_command.ensures.app)
+    c.with_command-9.ensures

@@ -1,0 +1,126 @@
+-- What an audit of a refusal shows, and how commands that ask for it end.
+use Rattle.std.proofs.Common.{◌≡◌, ℕ, true, false, List, Option, Some, None, Result, Ok, Any, refl, subst}
+use Rattle.std.proofs.KnownBytes.{Appends-kept}
+use Rattle.std.proofs.lemmas.List.Elements.{All-map}
+use Rattle.std.specs.Io.KnownBytes.{Keeps}
+use Rattle.std.specs.Prelude.{is_some, IfNone, IfSome}
+use Rattle.pt_audit.specs.RightLog.{IsNowherePossible}
+use Rattle.pt_base.specs.declared.fault.Fault.{Fault}
+use Rattle.pt_base.specs.declared.rule.Rule.TheVariants.{NoVehicle}
+use Rattle.pt_base.specs.declared.trip.Wish.{Wish}
+use Rattle.pt_booking.proofs.DutyLemmas.{Any-map, no_any}
+use Rattle.pt_booking.specs.Planning.{OnDuty, SomeVehicleCan, on_duty}
+use Rattle.pt_desk.specs.Refusals.{IsFacts, IsInquiryBy}
+use Rattle.pt_desk_rules.proofs.AgainLemmas.{denials_are_the_same_again}
+use Rattle.pt_desk_rules.proofs.ExplainLemmas.{refusals_are_shown}
+use Rattle.pt_desk_rules.specs.Booking.{AreTimes}
+use Rattle.pt_desk_rules.specs.Facts.{wish_facts}
+use Rattle.pt_desk_rules.specs.Refusal.{Refusal}
+use Rattle.pt_desk_rules.specs.Sound.{IsSound}
+use Rattle.pt_desk_rules.specs.State.{State}
+use Rattle.pt_desk_rules.specs.Step.{sender, IsOutcome, IsOutcomeBy}
+use Rattle.pt_desk_rules.specs.declared.explaining.Inquiry.{Inquiry}
+use Rattle.pt_desk_rules.specs.declared.explaining.Inquiry.TheVariants as inquiry
+use Rattle.pt_feasible.specs.Route.{stops_of}
+use Rattle.pt_insertion.specs.Choice.{IsChosenIn}
+use Rattle.pt_insertion.specs.Possible.{IsPossible}
+use Rattle.pt_insertion.specs.declared.asked.Asked.{Asked}
+use Rattle.pt_insertion.specs.declared.chosen.Chosen.{Chosen}
+use Rattle.pt_insertion.specs.declared.duty.Duty.{Duty}
+use Rattle.pt_insertion_log.specs.Written.{WritesRightLog}
+use Rattle.pt_requests.specs.declared.caller.Caller.{Caller}
+use Rattle.pt_requests.specs.declared.request.Answer.{Answer}
+use Rattle.pt_requests.specs.declared.request.Answer.TheVariants as answer
+use Rattle.pt_requests.specs.declared.request.Request.TheVariants.{Explain}
+use Rattle.pt_commands.specs.Refusals.{IsAuditedFrom, IsExplainedFrom, NoneCan, SomeCan}
+use Rattle.pt_commands.specs.declared.outcome.Outcome.{Outcome}
+use Rattle.pt_commands.specs.declared.outcome.Outcome.TheVariants.{Done}
+use Rattle.pt_audit.specs.declared.line.Line.{Line}
+
+abbrev lent : Duty → OnDuty
+lent duty = record { vehicle = duty.vehicle.now; stops = stops_of duty.route.now }
+
+-- the vehicle can take the trip
+abbrev Can : (ℕ → ℕ → Option ℕ) → Asked → OnDuty → Type 0
+Can minutes asked duty = (i : ℕ) × (j : ℕ) × IsPossible minutes duty.vehicle duty.stops asked i j
+
+-- where no vehicle that is lent has a place, none of the refusal's has
+pub none_can : (found : Refusal) (minutes : ℕ → ℕ → Option ℕ) (duties : List Duty) (asked : Asked)
+    → AreTimes found.rows minutes → on_duty duties ≡ found.vehicles → asked ≡ found.asked
+    → IsNowherePossible minutes duties asked → NoneCan found
+none_can found minutes duties asked times same is never =
+    let none = no_any (Can minutes asked) (on_duty duties) (All-map (λ (d : OnDuty). ¬ Can minutes asked d) lent duties
+    (λ k d within can. never k d within can.0 can.1 can.2)) in (
+      minutes,
+      times,
+      subst (λ (a : Asked). ¬ SomeVehicleCan minutes found.vehicles a) is
+          (subst (λ (v : List OnDuty). ¬ SomeVehicleCan minutes v asked) same none),
+    )
+
+-- and where one has the best place, some vehicle of the refusal can
+pub some_can : (found : Refusal) (minutes : ℕ → ℕ → Option ℕ) (duties : List Duty) (asked : Asked)
+    (best : Option Chosen) → AreTimes found.rows minutes → on_duty duties ≡ found.vehicles → asked ≡ found.asked
+    → is_some best ≡ true → IfSome best (λ chosen. Any (λ duty. IsChosenIn minutes duty.vehicle.now
+    (stops_of duty.route.now) asked chosen) duties) → SomeCan found
+some_can found minutes duties asked None times same is there possible = absurd (cc)
+some_can found minutes duties asked (Some chosen) times same is there (k, duty, within, at, chooses) =
+    let can = Any-map (Can minutes asked) lent duties (k, duty, within, at, (chosen.i, chosen.j, chooses.possible)) in (
+      minutes,
+      times,
+      subst (λ (a : Asked). SomeVehicleCan minutes found.vehicles a) is
+          (subst (λ (v : List OnDuty). SomeVehicleCan minutes v asked) same can),
+    )
+
+pub nowhere : (minutes : ℕ → ℕ → Option ℕ) (duties : List Duty) (asked : Asked) (best : Option Chosen)
+    → is_some best ≡ false → IfNone best (IsNowherePossible minutes duties asked)
+    → IsNowherePossible minutes duties asked
+nowhere minutes duties asked None there none = none
+nowhere minutes duties asked (Some chosen) there none = absurd (cc)
+
+-- a log that was written stands written
+pub log_stays : (minutes : ℕ → ℕ → Option ℕ) (duties : List Duty) (asked of_refusal : Asked)
+    (old new seen : Option (List ℕ)) → asked ≡ of_refusal → WritesRightLog minutes duties asked old new → Keeps new seen
+    → WritesRightLog minutes duties of_refusal old seen
+log_stays minutes duties asked of_refusal old new seen is writes keeps =
+    let written = subst (λ (a : Asked). WritesRightLog minutes duties a old new) is writes in
+    record {
+      lines = written.lines;
+      text = written.text;
+      right = written.right;
+      is_text = written.is_text;
+      appended = Appends-kept old new seen written.text written.appended keeps;
+    }
+
+-- where no vehicle can, the wish is denied so, and by no other rule
+shown_by : (by : Option Caller) (now : ℕ × ℕ) (number rider : ℕ) (wish : Wish) (s : State) (found : Refusal)
+    (minutes : ℕ → ℕ → Option ℕ) → IsInquiryBy by now rider wish s (inquiry.Facts found) None
+    → AreTimes found.rows minutes → ¬ SomeVehicleCan minutes found.vehicles found.asked
+    → IsOutcomeBy by now number (Explain rider wish) s (answer.Denied NoVehicle) None
+shown_by None now number rider wish s found minutes is times never = absurd (let no = is.0 in cc)
+shown_by (Some me) now number rider wish s found minutes is times never =
+    (refusals_are_shown wish me now (wish_facts rider wish None s) found minutes is.0 times never, refl)
+
+told_none : (key : List ℕ) (now : ℕ × ℕ) (rider : ℕ) (wish : Wish) (s : State) (found : Refusal) → NoneCan found
+    → IsFacts key now rider wish s (inquiry.Facts found) None → IsSound s → (number : ℕ) (told : Answer)
+    (left : Option State) → IsOutcome key now number (Explain rider wish) s told left → told ≡ answer.Denied NoVehicle
+told_none key now rider wish s found (minutes, times, never) facts sound number told left outcome =
+    (denials_are_the_same_again key now number (Explain rider wish) s NoVehicle told None left sound
+    (shown_by (sender key s) now number rider wish s found minutes facts times never) outcome).0
+
+pub explained_none : (key : List ℕ) (now : ℕ × ℕ) (rider : ℕ) (wish : Wish) (s : State) (given : Inquiry)
+    (found : Refusal) (old new : Option (List ℕ)) (result : Result Outcome Fault) → given ≡ inquiry.Facts found
+    → IsExplainedFrom found old new result → result ≡ Ok Done → IsFacts key now rider wish s given None → IsSound s
+    → (number : ℕ) (told : Answer) (left : Option State) → IsOutcome key now number (Explain rider wish) s told left
+    → told ≡ answer.Denied NoVehicle
+explained_none key now rider wish s given found old new result is ends done facts sound number told left outcome =
+    told_none key now rider wish s found (subst (λ r. IsExplainedFrom found old new r) done ends).0
+    (subst (λ f. IsFacts key now rider wish s f None) is facts) sound number told left outcome
+
+pub audited_none : (key : List ℕ) (now : ℕ × ℕ) (rider : ℕ) (wish : Wish) (s : State) (lines : List Line)
+    (given : Inquiry) (found : Refusal) (old new : Option (List ℕ)) (result : Result Outcome Fault)
+    → given ≡ inquiry.Facts found → IsAuditedFrom lines found old new result → result ≡ Ok Done
+    → IsFacts key now rider wish s given None → IsSound s → (number : ℕ) (told : Answer) (left : Option State)
+    → IsOutcome key now number (Explain rider wish) s told left → told ≡ answer.Denied NoVehicle
+audited_none key now rider wish s lines given found old new result is ends done facts sound number told left outcome =
+    told_none key now rider wish s found (subst (λ r. IsAuditedFrom lines found old new r) done ends).0
+    (subst (λ f. IsFacts key now rider wish s f None) is facts) sound number told left outcome

@@ -1,0 +1,38 @@
+use Rattle.std.proofs.Common.{ap, ◌∙◌, sym}
+use Rattle.pt_booking.specs.Planning.{on_duty}
+use Rattle.pt_commands.proofs.RefusalLemmas.{log_stays, none_can, nowhere, some_can}
+use Rattle.pt_commands.proofs.refusals.print_refusal.Goals as goal
+use Rattle.pt_travel.specs.Times.{time_in}
+
+pub returns-then-is_some : goal.returns-then-is_some
+returns-then-is_some g c = (
+  some_can c.args.found.now (time_in c.times-times.result.now) c.as_slice-lent.result.now c.asked-asked.result.now c.best.result
+      c.times-times.ensures.least (ap on_duty c.as_slice-lent.ensures.value ∙ c.in_ok-duties.ensures.vehicles)
+      c.asked-asked.ensures.value (sym c.is_some.ensures ∙ c.if-is_some.true) c.best.ensures.possible,
+  c.in_ok-print.ensures.written,
+)
+
+pub explain-requires-clause-nowhere : goal.explain-requires-clause-nowhere
+explain-requires-clause-nowhere g c =
+    nowhere (time_in c.times-times.result.now) c.as_slice-lent.result.now c.asked-asked.result.now c.best.result
+    (sym c.is_some.ensures ∙ c.if-is_some.false) c.best.ensures.none
+
+pub returns : goal.returns
+returns g c =
+    let minutes = time_in c.times-times.result.now in
+    let duties = c.as_slice-lent.result.now in
+    let same = ap on_duty c.as_slice-lent.ensures.value ∙ c.in_ok-duties.ensures.vehicles in
+    let never = nowhere minutes duties c.asked-asked.result.now c.best.result (sym c.is_some.ensures ∙ c.if-is_some.false)
+    c.best.ensures.none in (
+      none_can c.args.found.now minutes duties c.asked-asked.result.now c.times-times.ensures.least same c.asked-asked.ensures.value
+          never,
+      (
+        minutes,
+        c.times-times.ensures.least,
+        duties,
+        same,
+        log_stays minutes duties c.asked-asked.result.now c.args.found.now.asked (g.W.Write.contents c.args.out.now)
+            (g.W.Write.contents c.explain.new.out) (g.W.Write.contents c.flush.new.self) c.asked-asked.ensures.value
+            c.in_ok-explain.ensures.log c.flush.ensures.bytes,
+      ),
+    )

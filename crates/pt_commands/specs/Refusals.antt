@@ -1,0 +1,79 @@
+-- What `explain` and `audit` print of a refusal, and how they end.
+use Rattle.std.specs.Prelude.{◌≡◌, ◌⊎◌, ℕ, List, ◌++◌, Option, Result, Ok, Err, codes}
+use Rattle.std.specs.Io.KnownBytes.{Appends}
+use Rattle.pt_audit.specs.RightLog.{IsRightLog}
+use Rattle.pt_audit.specs.declared.line.Line.{Line}
+use Rattle.pt_base.specs.Codes.{memory_refused, write_failed}
+use Rattle.pt_base.specs.Fault.{fault}
+use Rattle.pt_base.specs.Rule.{name_of}
+use Rattle.pt_base.specs.declared.fault.Fault.{Fault}
+use Rattle.pt_booking.specs.Planning.{SomeVehicleCan, on_duty}
+use Rattle.pt_desk.specs.declared.keeper.StoreFault.{StoreFault}
+use Rattle.pt_desk_rules.specs.Booking.{AreTimes}
+use Rattle.pt_desk_rules.specs.Refusal.{Refusal}
+use Rattle.pt_desk_rules.specs.declared.explaining.Inquiry.{Inquiry}
+use Rattle.pt_desk_rules.specs.declared.explaining.Inquiry.TheVariants as inquiry
+use Rattle.pt_insertion.specs.declared.duty.Duty.{Duty}
+use Rattle.pt_insertion_log.specs.Written.{WritesRightLog}
+use Rattle.pt_commands.specs.Told.{fault_of}
+use Rattle.pt_commands.specs.declared.outcome.Outcome.{Outcome}
+use Rattle.pt_commands.specs.declared.outcome.Outcome.TheVariants.{Done, Denied}
+
+-- this is so of the vehicles of a refusal, lent with their routes, by the driving times of its rows
+abbrev pub OfRefusal : ((ℕ → ℕ → Option ℕ) → List Duty → Type 0) → Refusal → Type 0
+OfRefusal P found =
+    (minutes : ℕ → ℕ → Option ℕ) × AreTimes found.rows minutes
+    × (duties : List Duty) × (on_duty duties ≡ found.vehicles) × P minutes duties
+
+-- a right log of the refusal was written
+abbrev pub WritesRefusal : Refusal → Option (List ℕ) → Option (List ℕ) → Type 0
+WritesRefusal found old new =
+    OfRefusal (λ minutes duties. WritesRightLog minutes duties found.asked old new) found
+
+-- these are the lines of a right log of the refusal
+abbrev pub IsLogOf : Refusal → List Line → Type 0
+IsLogOf found lines = OfRefusal (λ minutes duties. IsRightLog minutes duties found.asked lines) found
+
+-- and these are not
+abbrev pub IsNoLogOf : Refusal → List Line → Type 0
+IsNoLogOf found lines = OfRefusal (λ minutes duties. ¬ IsRightLog minutes duties found.asked lines) found
+
+-- some vehicle can take the trip
+abbrev pub SomeCan : Refusal → Type 0
+SomeCan found =
+    (minutes : ℕ → ℕ → Option ℕ) × AreTimes found.rows minutes × SomeVehicleCan minutes found.vehicles found.asked
+
+-- no vehicle can
+abbrev pub NoneCan : Refusal → Type 0
+NoneCan found =
+    (minutes : ℕ → ℕ → Option ℕ) × AreTimes found.rows minutes × ¬ SomeVehicleCan minutes found.vehicles found.asked
+
+-- a command ends by a fault that has nothing to do with the desk
+abbrev pub IsOwnFault : Fault → Type 0
+IsOwnFault error = (error ≡ fault memory_refused) ⊎ (error ≡ fault write_failed)
+
+-- how `explain` ends by what a refusal stands on: with its log, or with the word that the wish is possible
+abbrev pub IsExplainedFrom : Refusal → Option (List ℕ) → Option (List ℕ) → Result Outcome Fault → Type 0
+IsExplainedFrom found old new (Ok Done) = NoneCan found × WritesRefusal found old new
+IsExplainedFrom found old new (Ok Denied) = SomeCan found × Appends old new (codes "possible\n")
+IsExplainedFrom found old new (Ok outcome) = ⊥
+IsExplainedFrom found old new (Err error) = IsOwnFault error
+
+-- and `audit` of a log of these lines
+abbrev pub IsAuditedFrom : List Line → Refusal → Option (List ℕ) → Option (List ℕ) → Result Outcome Fault → Type 0
+IsAuditedFrom lines found old new (Ok Done) = NoneCan found × IsLogOf found lines × Appends old new (codes "yes\n")
+IsAuditedFrom lines found old new (Ok Denied) = IsNoLogOf found lines × Appends old new (codes "no\n")
+IsAuditedFrom lines found old new (Ok outcome) = ⊥
+IsAuditedFrom lines found old new (Err error) = IsOwnFault error
+
+-- a denial is printed by the name of its rule
+abbrev pub IsDeniedBy : List ℕ → Option (List ℕ) → Option (List ℕ) → Result Outcome Fault → Type 0
+IsDeniedBy name old new (Ok outcome) = (outcome ≡ Denied) × Appends old new (name ++ codes "\n")
+IsDeniedBy name old new (Err error) = IsOwnFault error
+
+-- how a command ends by what comes of asking for the facts of a refusal
+abbrev pub EndsByFacts : (Refusal → Option (List ℕ) → Option (List ℕ) → Result Outcome Fault → Type 0)
+    → Result Inquiry StoreFault → Option (List ℕ) → Option (List ℕ) → Result Outcome Fault → Type 0
+EndsByFacts Ends (Err failed) old new result = result ≡ Err (fault_of failed)
+EndsByFacts Ends (Ok (inquiry.Denied first)) old new result = IsDeniedBy (name_of first) old new result
+EndsByFacts Ends (Ok (inquiry.Facts found)) old new result = Ends found old new result

@@ -1,0 +1,133 @@
+ghost use Rattle.std.specs.Prelude.{◌≡◌, ℕ, Option, Ok, Result};
+ghost use Rattle.pt_base.specs.Rule.{name_of};
+ghost use Rattle.pt_base.specs.declared.rule.Rule.TheVariants.{NoVehicle};
+ghost use Rattle.pt_commands.specs.Refusals.{EndsByFacts, IsAuditedFrom, IsDeniedBy, IsExplainedFrom};
+ghost use Rattle.pt_commands.specs.declared.outcome.Outcome.TheVariants.{Done};
+ghost use Rattle.pt_desk.specs.Refusals.{IsFacts};
+ghost use Rattle.pt_desk.specs.Store.{Answers};
+ghost use Rattle.pt_desk.specs.declared.keeper.StoreFault.{StoreFault};
+ghost use Rattle.pt_desk_rules.specs.Sound.{IsSound};
+ghost use Rattle.pt_desk_rules.specs.State.{State};
+ghost use Rattle.pt_desk_rules.specs.Step.{IsOutcome};
+ghost use Rattle.pt_desk_rules.specs.declared.explaining.Inquiry.{Inquiry};
+ghost use Rattle.pt_requests.specs.declared.request.Answer.{Answer};
+ghost use Rattle.pt_requests.specs.declared.request.Answer.TheVariants as answer;
+ghost use Rattle.pt_requests.specs.declared.request.Request.TheVariants.{Explain};
+
+use crate::asking::{line_of, print};
+use crate::{Outcome, fault_of};
+use pt_audit::{Log, check};
+use pt_base::fault::WRITE_FAILED;
+use pt_base::{Day, Fault, Minute, RiderId, Rule, Wish};
+use pt_desk::{Inquiry, Keeper, RefusalFacts, facts};
+use pt_insertion::best;
+use pt_insertion_log::explain;
+use std::alloc::Global;
+use std::io::Write;
+
+/// Prints the rule by which a question is denied.
+fn print_denial<W: Write>(alloc: Global, rule: Rule, out: &mut W) -> Result<Outcome, Fault>
+    ensures { IsDeniedBy (name_of rule) (W.contents out.old) (W.contents out.new) result }
+{
+    let text = line_of(alloc, rule.name())?;
+    print(text.as_slice(), out)?;
+    Ok(Outcome::Denied)
+}
+
+/// Prints the log of a refusal, or that the wish is possible.
+fn print_refusal<W: Write>(
+    alloc: Global,
+    found: &RefusalFacts,
+    out: &mut W,
+) -> Result<Outcome, Fault>
+    ensures { IsExplainedFrom found.now (W.contents out.old) (W.contents out.new) result }
+{
+    let duties = found.duties(alloc)?;
+    let (lent, asked, times) = (duties.as_slice(), found.asked(), found.times());
+    if best(lent, asked, times).is_some() {
+        print(b"possible\n", out)?;
+        return Ok(Outcome::Denied);
+    }
+    explain(lent, asked, times, out)?;
+    if out.flush().is_err() {
+        return Err(Fault::of(WRITE_FAILED));
+    }
+    Ok(Outcome::Done)
+}
+
+/// Prints whether the log shows that no vehicle can take the trip.
+fn print_verdict<W: Write>(
+    alloc: Global,
+    log: &Log,
+    found: &RefusalFacts,
+    out: &mut W,
+) -> Result<Outcome, Fault>
+    ensures { IsAuditedFrom log.now.lines.items found.now (W.contents out.old) (W.contents out.new) result }
+{
+    let duties = found.duties(alloc)?;
+    if check(log, duties.as_slice(), found.asked(), found.times()) {
+        print(b"yes\n", out)?;
+        return Ok(Outcome::Done);
+    }
+    print(b"no\n", out)?;
+    Ok(Outcome::Denied)
+}
+
+/// Asks as the caller with this key why a rider's wish would be denied `no vehicle`, and prints the log of the refusal;
+/// else that it is possible, or the rule by which it is denied.
+///
+/// The error is want of memory, a store that failed, or a write that failed: of a log, a part may then be written.
+pub fn explain_refusal<K: Keeper, W: Write>(
+    alloc: Global,
+    keeper: &mut K,
+    now: (Day, Minute),
+    key: &[u8],
+    rider: RiderId,
+    wish: &Wish,
+    out: &mut W,
+) -> Result<Outcome, Fault>
+    ensures asked { (found : Result Inquiry StoreFault)
+        × Answers (K.store keeper.old) (K.store keeper.new) (IsFacts key.now now rider wish.now) found
+        × EndsByFacts IsExplainedFrom found (W.contents out.old) (W.contents out.new) result }
+    // Where a log is printed, a booking with this wish is denied for want of a vehicle, and by no other rule.
+    ensures refused { result ≡ Ok Done → (K.store keeper.new).doubt ≡ 0 → IsSound (K.store keeper.old).content
+        → (number : ℕ) (told : Answer) (left : Option State)
+        → IsOutcome key.now now number (Explain rider wish.now) (K.store keeper.old).content told left
+        → told ≡ answer.Denied NoVehicle }
+{
+    match facts(alloc, keeper, now, key, rider, wish) {
+        Ok(Inquiry::Facts(found)) => print_refusal(alloc, &found, out),
+        Ok(Inquiry::Denied(rule)) => print_denial(alloc, rule, out),
+        Err(failed) => Err(fault_of(failed)),
+    }
+}
+
+/// Asks the same, and prints whether the log shows that no vehicle can take the trip, whoever made it; or the rule by
+/// which the wish is denied before any vehicle is looked at.
+///
+/// The error is want of memory, a store that failed, or a write that failed.
+pub fn audit_refusal<K: Keeper, W: Write>(
+    alloc: Global,
+    keeper: &mut K,
+    now: (Day, Minute),
+    key: &[u8],
+    rider: RiderId,
+    wish: &Wish,
+    log: &Log,
+    out: &mut W,
+) -> Result<Outcome, Fault>
+    ensures asked { (found : Result Inquiry StoreFault)
+        × Answers (K.store keeper.old) (K.store keeper.new) (IsFacts key.now now rider wish.now) found
+        × EndsByFacts (IsAuditedFrom log.now.lines.items) found (W.contents out.old) (W.contents out.new) result }
+    // A yes means that this very question in this very state is answered `no vehicle`, whoever made the log.
+    ensures refused { result ≡ Ok Done → (K.store keeper.new).doubt ≡ 0 → IsSound (K.store keeper.old).content
+        → (number : ℕ) (told : Answer) (left : Option State)
+        → IsOutcome key.now now number (Explain rider wish.now) (K.store keeper.old).content told left
+        → told ≡ answer.Denied NoVehicle }
+{
+    match facts(alloc, keeper, now, key, rider, wish) {
+        Ok(Inquiry::Facts(found)) => print_verdict(alloc, log, &found, out),
+        Ok(Inquiry::Denied(rule)) => print_denial(alloc, rule, out),
+        Err(failed) => Err(fault_of(failed)),
+    }
+}
