@@ -1,6 +1,7 @@
 ghost use Rattle.std.specs.Prelude.{◌≡◌, ◌≤◌, ◌<◌, ◌+◌, ◌*◌, ◌++◌, ℕ, List, [], Some, None, Ok, true, false};
 ghost use Rattle.std.specs.Prelude.{length, drop, IfOk, IfErr, OnErr, IfSome};
 ghost use Rattle.std.specs.Io.KnownBytes.{IsAtEnd, ReadConsumes};
+ghost use Rattle.std.specs.IoError.{error_kind};
 ghost use Rattle.pt_base.specs.Fault.{fault};
 ghost use Rattle.pt_base.specs.Codes.{memory_refused, read_failed};
 ghost use Rattle.pt_http_inbox.specs.Head.{IsHead, HasNoHead};
@@ -12,6 +13,7 @@ use arrayvec::ArrayVec;
 use pt_base::Fault;
 use pt_base::fault::READ_FAILED;
 use std::alloc::{AllocError, Global};
+use std::io;
 use std::io::{ErrorKind, Read};
 
 /// How many bytes a body has at most.
@@ -66,6 +68,7 @@ impl<R: Read + Drop> Inbox<R> {
     pub fn read_more(&mut self) -> Result<bool, Fault>
         requires { length (held self.old) < ROOM }
         ensures reads { ReadsOn R.remaining self.old self.new }
+        ensures counted { IfOk result (λ _. reads_of self.old < reads_of self.new) }
         ensures more { result ≡ Ok true → length (held self.old) < length (held self.new) }
         ensures end { result ≡ Ok false → IsAtEnd (R.remaining (reader_of self.new)) }
         ensures nothing { result ≡ Ok false → held self.new ≡ held self.old }
@@ -74,33 +77,45 @@ impl<R: Read + Drop> Inbox<R> {
     {
         let mut piece = [0; PIECE];
         let room = self.bytes.remaining_capacity().min(PIECE);
-        let count = self.read_piece(&mut piece[..room])?;
+        let Ok(count) = self.read_piece(&mut piece[..room]) else {
+            return Err(Fault::of(READ_FAILED));
+        };
         let _fits = self.bytes.try_extend_from_slice(&piece[..count]);
         Ok(count > 0)
     }
 
-    /// Reads once, and again for as long as reads are interrupted.
-    fn read_piece(&mut self, piece: &mut [u8]) -> Result<usize, Fault>
+    /// Asks the reader once, which counts as a read whatever it gives: nothing else asks it.
+    fn ask_once(&mut self, piece: &mut [u8]) -> io::Result<usize>
+        requires { reads_of self.old < most_reads }
+        ensures counted { reads_of self.new ≡ reads_of self.old + 1 }
+        ensures bytes { ReadConsumes (R.remaining (reader_of self.old)) (R.remaining (reader_of self.new))
+            result piece.new }
+        ensures within { IfOk result (λ count. count ≤ length piece.new) }
+        ensures held { held self.new ≡ held self.old }
+    {
+        self.reads += 1;
+        self.reader.read(piece)
+    }
+
+    /// Asks the reader, and again for as long as it is interrupted: the error is an interruption only where no
+    /// read is left.
+    fn read_piece(&mut self, piece: &mut [u8]) -> io::Result<usize>
         ensures bytes { ReadConsumes (R.remaining (reader_of self.old)) (R.remaining (reader_of self.new))
             result piece.new }
         ensures within { IfOk result (λ count. count ≤ length piece.new) }
         ensures held { held self.new ≡ held self.old }
         ensures counted { reads_of self.old ≤ reads_of self.new }
         ensures one_more { IfOk result (λ _. reads_of self.old < reads_of self.new) }
-        ensures fault { IfErr result (λ error. error ≡ fault read_failed) }
+        ensures retried { IfErr result (λ error. error_kind error ≡ ErrorKind.Interrupted
+            → reads_of self.new ≡ most_reads) }
     {
-        for _ in 0..MOST_READS {
-            if self.reads >= MOST_READS {
-                break;
-            }
-            self.reads += 1;
-            match self.reader.read(piece) {
-                Ok(count) => return Ok(count),
+        for _ in self.reads..MOST_READS {
+            match self.ask_once(piece) {
                 Err(error) if error.kind() == ErrorKind::Interrupted => {}
-                Err(_) => break,
+                answer => return answer,
             }
         }
-        Err(Fault::of(READ_FAILED))
+        Err(ErrorKind::Interrupted.into())
     }
 
     /// Reads until a head stands at the front, and tells where its parts are; `None` where what comes begins
