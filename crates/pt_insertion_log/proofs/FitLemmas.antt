@@ -1,6 +1,7 @@
 -- Bounds that keep all constraints are service times that fit.
 use Rattle.std.proofs.Common.{◌≡◌, ℕ, zero, suc, [], ◌∷◌, ◌==◌, max, ◌+◌, ◌-◌, ◌<◌, ◌≤◌, List, length, take, Option, None, Some, IsSomeAnd, slice_get, slice_index, get_or, arith, refl, sym, subst, inl, inr, length-take}
 use Rattle.std.proofs.lemmas.Bool.{cases_lt, cases_eq, eq-eqb, ne_eqb, cond-true, cond-false}
+use Rattle.pt_audit.specs.declared.line.End.TheVariants as end
 use Rattle.pt_audit.specs.declared.line.Line.TheVariants as line
 use Rattle.pt_audit.specs.declared.line.Raise.{Raise}
 use Rattle.pt_audit.specs.declared.line.Raise.TheVariants.{Window, Drive, Ride, Duration}
@@ -16,7 +17,8 @@ use Rattle.pt_feasible.specs.Loads.{load_aboard, LoadsFit}
 use Rattle.pt_feasible.specs.ServiceTimes.{TimesFit}
 use Rattle.pt_feasible.specs.Visit.{visits}
 use Rattle.pt_feasible.proofs.VisitLemmas.{length-visits}
-use Rattle.pt_insertion_log.specs.Steps.{IsKeptAt, IsClear}
+use Rattle.pt_audit.proofs.LawLemmas.{value_of}
+use Rattle.pt_insertion_log.specs.Steps.{IsKeptAt, IsClear, IsLasting}
 
 -- what a missing value would say does not hold, so there is one
 there_is : (o : Option ℕ) → (o ≡ None → ⊥) → (n : ℕ) × (o ≡ Some n)
@@ -68,6 +70,16 @@ module _ (minutes : ℕ → ℕ → Option ℕ) (vehicle : Vehicle) (stops : Lis
         omega (arith, ridden, at (i + 1) (omega arith), at (j + 1) (omega arith));
     route_duration = omega (arith, (kept 0 (omega arith)).back refl, at 0 (omega arith), at (length stops + 1) (omega arith));
   }
+
+-- a visit without a way on is not the last
+pub no_way-among : (minutes : ℕ → ℕ → Option ℕ) (vehicle : Vehicle) (stops : List Stop) (k : ℕ) →
+    IsLasting minutes vehicle stops (end.NoWay k) → k ≤ length stops
+no_way-among minutes vehicle stops k lasting =
+    let all = visits vehicle stops in
+    let this = value_of (λ (this : Visit). IsSomeAnd (slice_get all (k + 1))
+    (λ next. minutes this.place next.place ≡ None)) (slice_get all k) lasting in
+    let next = value_of (λ (next : Visit). minutes this.0.place next.place ≡ None) (slice_get all (k + 1)) this.2 in
+    omega (arith, slice_get_within all (k + 1) next.0 next.1, length-visits vehicle stops)
 
 -- those aboard always fit
 pub clear-loads : (minutes : ℕ → ℕ → Option ℕ) (vehicle : Vehicle) (stops : List Stop) → ((k : ℕ) → IsClear minutes vehicle stops k) → LoadsFit vehicle stops

@@ -1,2 +1,4 @@
 pub mod FitLemmas
+pub mod RideLemmas
+pub mod TouchLemmas
 pub mod WrittenLemmas

@@ -1,5 +1,5 @@
 -- Steps of a case: a bound that a constraint raises, or a constraint that is broken.
-use Rattle.std.specs.Prelude.{⊤, ◌≡◌, ℕ, ◌+◌, ◌-◌, ◌^◌, ◌<◌, ◌≤◌, IsTrue, List, length, Option, Some, slice_get}
+use Rattle.std.specs.Prelude.{⊤, ◌≡◌, ◌≢◌, ℕ, ◌+◌, ◌-◌, ◌^◌, ◌<◌, ◌≤◌, IsTrue, List, length, Option, Some, slice_get}
 use Rattle.pt_base.specs.declared.vehicle.Vehicle.{Vehicle}
 use Rattle.pt_feasible.specs.declared.stop.Stop.{Stop}
 use Rattle.pt_feasible.specs.declared.visit.Visit.{Visit}
@@ -29,6 +29,16 @@ IsDriven minutes vehicle stops bound k = (before drive : ℕ) (this next : Visit
     minutes this.place next.place ≡ Some drive → next.lo ≤ bound k → bound k < 2 ^ 32 - 1 →
     bound before + this.service + drive ≤ bound k
 
+-- at stop i a trip is picked up, and at stop j it is dropped
+pub record IsRide (stops : List Stop) (i j : ℕ) : Type 0 where
+  pub pickup : Stop
+  pub drop : Stop
+  pub here : slice_get stops i ≡ Some pickup
+  pub there : slice_get stops j ≡ Some drop
+  pub picks : IsTrue (is_pickup pickup)
+  pub drops : IsTrue (is_drop drop)
+  pub same : pickup.trip ≡ drop.trip
+
 -- the drop of a pickup at visit k is no later than its ride limit says
 abbrev pub IsRidden : List Stop → (ℕ → ℕ) → ℕ → Type 0
 IsRidden stops bound k = (i j : ℕ) (pickup drop : Stop) → k ≡ i + 1 →
@@ -49,6 +59,11 @@ pub record IsKeptAt (minutes : ℕ → ℕ → Option ℕ) (vehicle : Vehicle) (
 -- the visits before visit n keep their constraints
 abbrev pub AreKeptBefore : (ℕ → ℕ → Option ℕ) → Vehicle → List Stop → (ℕ → ℕ) → ℕ → Type 0
 AreKeptBefore minutes vehicle stops bound n = (k : ℕ) → k < n → IsKeptAt minutes vehicle stops bound k
+
+-- so do those before visit rest but visit first
+abbrev pub AreKeptBut : (ℕ → ℕ → Option ℕ) → Vehicle → List Stop → (ℕ → ℕ) → ℕ → ℕ → Type 0
+AreKeptBut minutes vehicle stops bound first rest =
+    (k : ℕ) → k < rest → k ≢ first → IsKeptAt minutes vehicle stops bound k
 
 -- a raise at visit k, or an end
 abbrev pub IsAt : ℕ → Step → Type 0

@@ -8,10 +8,12 @@ ghost use Rattle.pt_insertion_log.specs.Steps.{IsLasting, IsClear};
 ghost use Rattle.pt_insertion_log.specs.Written.{WritesCases};
 
 use crate::steps::{Step, next_step};
-use crate::touched::first_touched;
+use crate::touched::{first_touched, raised_visit};
 use crate::writing::write_line;
 use pt_audit::{End, Insertion, Line, MAX_VISITS, Raise, is_right_end, raise_bound};
-use pt_base::Fault;
+use pt_base::{Fault, Load};
+use pt_feasible::aboard_after;
+use pt_insertion::Spliced;
 use pt_travel::Times;
 use std::io::Write;
 
@@ -37,13 +39,15 @@ pub fn explain_case<T: Times, W: Write>(
         return write_line(Line::End(end), out);
     }
     let mut bounds = [0; MAX_VISITS];
-    let mut from = 0;
+    let mut first = 0;
+    let mut rest = 0;
     loop {
-        match next_step(insertion, times, &bounds, from) {
+        match next_step(insertion, times, &bounds, first, rest) {
             Some(Step::Raise(raise)) => {
                 write_line(Line::Raise(raise), out)?;
                 raise_bound(&mut bounds, raise);
-                from = first_touched(insertion, raise);
+                first = first_touched(insertion, raise);
+                rest = raised_visit(raise);
             }
             Some(Step::End(end)) => return write_line(Line::End(end), out),
             None => return Ok(()),
@@ -62,13 +66,25 @@ fn lasting_end<T: Times>(insertion: &Insertion<'_>, times: &T) -> Option<End>
     if is_right_end(insertion, times, &bounds, End::TooLong) {
         return Some(End::TooLong);
     }
-    for k in 0..insertion.len() as u32 + 1 {
-        if is_right_end(insertion, times, &bounds, End::Overloaded(k)) {
-            return Some(End::Overloaded(k));
+    let stops = Spliced::of(insertion.route, insertion.asked, insertion.i, insertion.j);
+    let mut aboard = Load::none();
+    for k in 0..insertion.len() {
+        let no_way = End::NoWay(k as u32);
+        if is_right_end(insertion, times, &bounds, no_way) {
+            return Some(no_way);
         }
-        if is_right_end(insertion, times, &bounds, End::NoWay(k)) {
-            return Some(End::NoWay(k));
+        let overloaded = End::Overloaded(k as u32 + 1);
+        match aboard_after(&stops, k, aboard) {
+            Some(load) => aboard = load,
+            None => return Some(overloaded),
         }
+        if !aboard.fits(insertion.vehicle) {
+            return Some(overloaded);
+        }
+    }
+    let no_way = End::NoWay(insertion.len() as u32);
+    if is_right_end(insertion, times, &bounds, no_way) {
+        return Some(no_way);
     }
     None
 }

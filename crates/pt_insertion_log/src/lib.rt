@@ -6,6 +6,7 @@ pub use explaining::explain;
 mod cases;
 mod explaining;
 mod limits;
+mod rides;
 mod steps;
 mod touched;
 mod writing;

@@ -7,8 +7,8 @@ ghost use Rattle.pt_audit.specs.declared.bounds.TheConstants.{MAX_VISITS};
 ghost use Rattle.pt_audit.specs.Insertion.{inserted_stops};
 ghost use Rattle.pt_insertion_log.specs.Steps.{Raises, IsDriven, IsRidden};
 
+use crate::rides::drop_of;
 use pt_audit::{Bounds, Insertion, Raise};
-use pt_feasible::StopKind;
 use pt_travel::Times;
 
 /// The raise of visit `k` to the vehicle's arrival there, where that is after its bound and after its window begins.
@@ -50,19 +50,12 @@ pub fn ride_raise(insertion: &Insertion<'_>, bounds: &Bounds, k: usize) -> Optio
     if k == 0 || k > insertion.len() {
         return None;
     }
+    let drop = drop_of(insertion, k - 1)?;
     let pickup = insertion.stop(k - 1);
-    if pickup.kind != StopKind::Pickup {
-        return None;
-    }
     let taken = u64::from(pickup.service) + u64::from(pickup.ride);
-    for j in 0..insertion.len() {
-        let drop = insertion.stop(j);
-        if drop.kind == StopKind::Drop && drop.trip == pickup.trip {
-            let needed = u64::from(bounds[j + 1]).saturating_sub(taken);
-            if u64::from(bounds[k]) < needed {
-                return Some(Raise::Ride(k as u32, needed as u32));
-            }
-        }
+    let needed = u64::from(bounds[drop + 1]).saturating_sub(taken);
+    if u64::from(bounds[k]) < needed {
+        return Some(Raise::Ride(k as u32, needed as u32));
     }
     None
 }

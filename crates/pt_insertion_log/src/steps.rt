@@ -3,7 +3,7 @@ ghost use Rattle.pt_audit.specs.Bounds.{IsRightEnd};
 ghost use Rattle.pt_audit.specs.declared.bounds.TheConstants.{MAX_VISITS};
 ghost use Rattle.pt_audit.specs.Insertion.{inserted_stops};
 ghost use Rattle.pt_audit.specs.declared.line.End.TheVariants as end;
-ghost use Rattle.pt_insertion_log.specs.Steps.{IsStep, IsAt, IsFirst, IsKeptAt, AreKeptBefore};
+ghost use Rattle.pt_insertion_log.specs.Steps.{IsStep, IsAt, IsFirst, IsKeptAt, AreKeptBut};
 
 use crate::limits::{drive_raise, ride_raise};
 use pt_audit::{Bounds, End, Insertion, Raise};
@@ -18,15 +18,20 @@ pub enum Step {
     End(End),
 }
 
-/// The first step that the bounds ask for, looked for from visit `from` on; `None` where they keep all constraints.
+/// The first step that the bounds ask for; `None` where they keep all constraints.
+///
+/// Visit `first` is looked at, and then those from `rest` on: the others are known to keep theirs.
 pub fn next_step<T: Times>(
     insertion: &Insertion<'_>,
     times: &T,
     bounds: &Bounds,
-    from: usize,
+    first: usize,
+    rest: usize,
 ) -> Option<Step>
-    requires { AreKeptBefore (T.minutes times.now) insertion.now.vehicle.now (inserted_stops insertion.now)
-        (slice_index bounds.now) from }
+    requires among { rest < length (inserted_stops insertion.now) + 2 }
+    requires before { first ≤ rest }
+    requires kept { AreKeptBut (T.minutes times.now) insertion.now.vehicle.now (inserted_stops insertion.now)
+        (slice_index bounds.now) first rest }
     ensures step { IfSome result (IsStep (T.minutes times.now) insertion.now.vehicle.now
         (inserted_stops insertion.now) (slice_index bounds.now)) }
     ensures first { IfSome result (IsFirst (T.minutes times.now) insertion.now.vehicle.now
@@ -35,7 +40,11 @@ pub fn next_step<T: Times>(
         IsKeptAt (T.minutes times.now) insertion.now.vehicle.now (inserted_stops insertion.now)
         (slice_index bounds.now) k }
 {
-    for k in from..insertion.len() + 2 {
+    let visits = insertion.len() + 2;
+    if let Some(step) = step_at(insertion, times, bounds, first) {
+        return Some(step);
+    }
+    for k in rest.max(first + 1)..visits {
         if let Some(step) = step_at(insertion, times, bounds, k) {
             return Some(step);
         }

@@ -1,16 +1,16 @@
-ghost use Rattle.std.specs.Prelude.{◌≡◌, ℕ, ◌<◌, ◌≤◌, Option};
+ghost use Rattle.std.specs.Prelude.{◌≡◌, ◌≢◌, ℕ, ◌<◌, ◌≤◌, Option};
 ghost use Rattle.pt_audit.specs.Bounds.{visit_of, raised};
 ghost use Rattle.pt_audit.specs.Insertion.{inserted_stops};
 ghost use Rattle.pt_insertion_log.specs.Steps.{IsKeptAt};
 
+use crate::rides::pickup_of;
 use pt_audit::{Insertion, Raise};
-use pt_feasible::StopKind;
 
-/// The first visit whose constraints a raise can break: the raise's own, or the pickup of its drop, or leaving the
-/// depot where coming back is raised.
+/// The first visit whose constraints a raise can break, and the only one before its own: the pickup of its drop, or
+/// leaving the depot where coming back is raised; else its own.
 pub fn first_touched(insertion: &Insertion<'_>, raise: Raise) -> usize
     ensures no_later { result ≤ visit_of raise }
-    ensures kept { (minutes : ℕ → ℕ → Option ℕ) (bound : ℕ → ℕ) (k : ℕ) → k < result →
+    ensures kept { (minutes : ℕ → ℕ → Option ℕ) (bound : ℕ → ℕ) (k : ℕ) → k < visit_of raise → k ≢ result →
         IsKeptAt minutes insertion.now.vehicle.now (inserted_stops insertion.now) bound k →
         IsKeptAt minutes insertion.now.vehicle.now (inserted_stops insertion.now) (raised bound raise) k }
 {
@@ -18,21 +18,14 @@ pub fn first_touched(insertion: &Insertion<'_>, raise: Raise) -> usize
     if k == 0 || k > insertion.len() {
         return 0;
     }
-    let drop = insertion.stop(k - 1);
-    if drop.kind != StopKind::Drop {
-        return k;
+    match pickup_of(insertion, k - 1) {
+        Some(i) => i + 1,
+        None => k,
     }
-    for i in 0..k - 1 {
-        let pickup = insertion.stop(i);
-        if pickup.kind == StopKind::Pickup && pickup.trip == drop.trip {
-            return i + 1;
-        }
-    }
-    k
 }
 
 /// The visit whose bound a raise raises.
-fn raised_visit(raise: Raise) -> usize
+pub fn raised_visit(raise: Raise) -> usize
     ensures { result ≡ visit_of raise }
 {
     match raise {

@@ -1,11 +1,11 @@
-use Rattle.std.proofs.Common.{arith, ◌≡◌, ◌+◌, ◌≤◌, ◌∷◌, [], ℕ, length, slice_index, refl, sym, subst}
+use Rattle.std.proofs.Common.{arith, ◌≡◌, ◌+◌, ◌<◌, ◌≤◌, ◌∷◌, [], ℕ, length, slice_index, refl, sym, subst}
 use Rattle.pt_feasible.specs.Route.{stops_of}
 use Rattle.pt_feasible.specs.ServiceTimes.{TimesFit}
 use Rattle.pt_insertion.specs.Possible.{IsPossible}
 use Rattle.pt_insertion.proofs.InsertionLemmas.{length-with_trip}
 use Rattle.pt_audit.specs.declared.line.Line.TheVariants as line
 use Rattle.pt_audit.specs.Insertion.{case_of, inserted_stops}
-use Rattle.pt_audit.specs.Bounds.{raised}
+use Rattle.pt_audit.specs.Bounds.{visit_of, raised}
 use Rattle.pt_audit.specs.RightLog.{case_line}
 use Rattle.pt_audit.specs.Text.{line_text, IsInForm}
 use Rattle.std.specs.Io.KnownBytes.{Appends}
@@ -43,11 +43,17 @@ loop-raise-init g c =
       begun = subst (IsBegun minutes case (contents c.args.out.now) (contents c.write_line.new.out)) (sym (all_zero 104))
           (begun_first minutes case (contents c.args.out.now) (contents c.write_line.new.out) (contents c.write_line.new.out) form written);
       long = refl;
-      kept = λ k below. absurd (omega arith);
+      among = omega arith;
+      before = omega arith;
+      kept = λ k below other. absurd (omega arith);
     }
 
 pub next_step-requires : goal.next_step-requires
-next_step-requires g c = c.loop-raise.invariant.kept
+next_step-requires g c = record {
+  among = c.loop-raise.invariant.among;
+  before = c.loop-raise.invariant.before;
+  kept = c.loop-raise.invariant.kept;
+}
 
 pub raise_bound-requires : goal.raise_bound-requires
 raise_bound-requires g c =
@@ -74,8 +80,17 @@ loop-raise-preserved g c =
       begun = begun_raise minutes (case_of c.args.insertion.now) (contents c.args.out.now) (contents c.loop-raise.out) (contents c.write_line-in-Some-Raise.new.out) (slice_index c.loop-raise.bounds) (slice_index c.raise_bound.new.bounds) c.in-Some-Raise.raise
           c.loop-raise.invariant.begun step.0 c.write_line-in-Some-Raise.ensures.in_form c.in_ok-write_line-in-Some-Raise.ensures.line c.raise_bound.ensures;
       long = c.raise_bound.array_long;
-      kept = λ k below. subst (λ (bound : ℕ → ℕ). IsKeptAt minutes vehicle stops bound k) bounds
-          (c.first_touched-from.ensures.kept minutes (slice_index c.loop-raise.bounds) k below (first k (omega (arith, below, c.first_touched-from.ensures.no_later))));
+      among = omega (
+        arith,
+        c.raised_visit-rest.ensures,
+        visit-among minutes vehicle stops (slice_index c.loop-raise.bounds) c.in-Some-Raise.raise step.0,
+      );
+      before = omega (arith, c.raised_visit-rest.ensures, c.first_touched-first.ensures.no_later);
+      kept = λ k below other.
+          let inside : k < visit_of c.in-Some-Raise.raise = omega (arith, below, c.raised_visit-rest.ensures) in
+          subst (λ (bound : ℕ → ℕ). IsKeptAt minutes vehicle stops bound k) bounds
+          (c.first_touched-first.ensures.kept minutes (slice_index c.loop-raise.bounds) k inside other
+          (first k inside));
     }
 
 pub returns-in-Some-End-clause-written : goal.returns-in-Some-End-clause-written

@@ -1,0 +1,47 @@
+ghost use Rattle.std.specs.Prelude.{◌≡◌, ℕ, ◌<◌, ◌↔◌, Some, length, IfSome};
+ghost use Rattle.pt_audit.specs.Insertion.{inserted_stops};
+ghost use Rattle.pt_insertion_log.specs.Steps.{IsRide};
+
+use pt_audit::Insertion;
+use pt_feasible::StopKind;
+
+/// Where the trip that stop `i` picks up is dropped, looked for from there on; `None` where it is no pickup.
+pub fn drop_of(insertion: &Insertion<'_>, i: usize) -> Option<usize>
+    ensures drop { (j : ℕ) → (result ≡ Some j) ↔ IsRide (inserted_stops insertion.now) i j }
+    ensures among { IfSome result (λ j. j < length (inserted_stops insertion.now)) }
+{
+    if i >= insertion.len() {
+        return None;
+    }
+    let pickup = insertion.stop(i);
+    if pickup.kind != StopKind::Pickup {
+        return None;
+    }
+    for j in i + 1..insertion.len() {
+        if insertion.stop(j).trip == pickup.trip {
+            return Some(j);
+        }
+    }
+    None
+}
+
+/// Where the trip that stop `j` drops is picked up, looked for from there back; `None` where it is no drop.
+pub fn pickup_of(insertion: &Insertion<'_>, j: usize) -> Option<usize>
+    ensures pickup { (i : ℕ) → (result ≡ Some i) ↔ IsRide (inserted_stops insertion.now) i j }
+    ensures before { IfSome result (λ i. i < j) }
+{
+    if j >= insertion.len() {
+        return None;
+    }
+    let drop = insertion.stop(j);
+    if drop.kind != StopKind::Drop {
+        return None;
+    }
+    for back in 0..j {
+        let i = j - 1 - back;
+        if insertion.stop(i).trip == drop.trip {
+            return Some(i);
+        }
+    }
+    None
+}
