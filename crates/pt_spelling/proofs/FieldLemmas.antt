@@ -7,7 +7,9 @@ use Rattle.std.proofs.lemmas.Int.{ints, to_z-of_z}
 use Rattle.std.proofs.lemmas.List.{take_at, drop_at}
 use Rattle.std.proofs.lemmas.List.Elements.{recursion_from_All}
 use Rattle.std.proofs.lemmas.Nat.{from_be_bytes-to_be_bytes_4}
+use Rattle.pt_base.specs.Day.{IsDay}
 use Rattle.pt_base.specs.Place.{IsCoordinate}
+use Rattle.pt_base.specs.Ranges.{last_minute}
 use Rattle.pt_spelling.specs.Fields.{number_bytes, numbers_bytes, signed_bytes, truth_bytes, days_byte, optional_bytes, text_bytes, list_bytes}
 use Rattle.pt_spelling.specs.Ranges.{IsWord, IsWeek}
 
@@ -27,6 +29,12 @@ pub byte-then : (a b : ℕ) (x y : List ℕ) → a ∷ x ≡ b ∷ y → (a ≡ 
 byte-then a b x y e = (ap (λ (bytes : List ℕ). get_or bytes 0 0) e, ap (drop 1) e)
 
 -- ---- numbers
+
+pub day-word : (n : ℕ) → IsDay n → IsWord n
+day-word n day = let last = day.1 in omega arith
+
+pub minute-word : (n : ℕ) → n ≤ last_minute → IsWord n
+minute-word n last = omega arith
 
 pub length-number : (n : ℕ) → length (number_bytes n) ≡ 4
 unfolding number_bytes
@@ -48,7 +56,7 @@ number-then a b x y one other e =
 abbrev pub IsCode : {A : Type 0} → (A → Type 0) → (A → List ℕ) → Type 0
 IsCode {A} P bytes = (a b : A) (x y : List ℕ) → P a → P b → bytes a ++ x ≡ bytes b ++ y → (a ≡ b) × (x ≡ y)
 
-items-then : {A : Type 0} (P : A → Type 0) (bytes : A → List ℕ) → IsCode P bytes → (one other : List A) (x y : List ℕ) → length one ≡ length other → AllByRecursion P one → AllByRecursion P other → flat_map bytes one ++ x ≡ flat_map bytes other ++ y → (one ≡ other) × (x ≡ y)
+pub items-then : {A : Type 0} (P : A → Type 0) (bytes : A → List ℕ) → IsCode P bytes → (one other : List A) (x y : List ℕ) → length one ≡ length other → AllByRecursion P one → AllByRecursion P other → flat_map bytes one ++ x ≡ flat_map bytes other ++ y → (one ≡ other) × (x ≡ y)
 items-then P bytes apart [] [] x y size ones others e = (refl, e)
 items-then P bytes apart [] (b ∷ other) x y size ones others e = absurd (omega arith)
 items-then P bytes apart (a ∷ one) [] x y size ones others e = absurd (omega arith)
@@ -87,11 +95,11 @@ text-same one other short others_short e = (text-then one other [] [] short othe
 
 -- ---- coordinates
 
-coordinate-fits : (z : ℤ) → IsCoordinate z → FitsSigned w32 z
+pub coordinate-fits : (z : ℤ) → IsCoordinate z → FitsSigned w32 z
 coordinate-fits (pos n) on_plane = record { sfits = omega (arith, ints) }
 coordinate-fits (negsuc n) on_plane = record { sfits = omega (arith, ints) }
 
-coordinate-word : (z : ℤ) → IsCoordinate z → IsWord (cast_unsigned w32 z)
+pub coordinate-word : (z : ℤ) → IsCoordinate z → IsWord (cast_unsigned w32 z)
 coordinate-word (pos n) on_plane = omega (arith, ints)
 coordinate-word (negsuc n) on_plane = omega (arith, ints)
 
@@ -108,7 +116,7 @@ bool-same true true e = refl
 bool-same false true e = absurd (omega arith)
 bool-same true false e = absurd (omega arith)
 
-bool-small : (a : Bool) → from_bool a ≤ 1
+pub bool-small : (a : Bool) → from_bool a ≤ 1
 bool-small false = omega arith
 bool-small true = omega arith
 
@@ -120,7 +128,7 @@ abbrev bits_of : List Bool → ℕ
 bits_of [] = 0
 bits_of (mark ∷ marks) = from_bool mark + 2 * bits_of marks
 
-bits-same : (one other : List Bool) → length one ≡ length other → bits_of one ≡ bits_of other → one ≡ other
+pub bits-same : (one other : List Bool) → length one ≡ length other → bits_of one ≡ bits_of other → one ≡ other
 bits-same [] [] size e = refl
 bits-same [] (b ∷ other) size e = absurd (omega arith)
 bits-same (a ∷ one) [] size e = absurd (omega arith)
@@ -131,7 +139,7 @@ bits-same (a ∷ one) (b ∷ other) size e =
     let rest : bits_of one ≡ bits_of other = omega arith in
     ap (λ (h : Bool). h ∷ one) (bool-same a b first) ∙ ap (λ (t : List Bool). b ∷ t) (bits-same one other (omega arith) rest)
 
-days-bits : (days : List Bool) → IsWeek days → days_byte days ≡ bits_of days
+pub days-bits : (days : List Bool) → IsWeek days → days_byte days ≡ bits_of days
 days-bits (a ∷ b ∷ c ∷ d ∷ e ∷ f ∷ g ∷ []) week = omega arith
 days-bits days week = absurd (omega arith)
 
@@ -139,10 +147,10 @@ pub days-same : (one other : List Bool) → IsWeek one → IsWeek other → days
 days-same one other ones others e =
     bits-same one other (ones ∙ sym others) (sym (days-bits one ones) ∙ e ∙ days-bits other others)
 
-pub optional-then : (one other : Option ℕ) (x y : List ℕ) → IfSome one IsWord → IfSome other IsWord → optional_bytes one ++ x ≡ optional_bytes other ++ y → (one ≡ other) × (x ≡ y)
+pub optional-then : (one other : Option ℕ) (x y : List ℕ) → IfSome one (λ n. n ≤ last_minute) → IfSome other (λ n. n ≤ last_minute) → optional_bytes one ++ x ≡ optional_bytes other ++ y → (one ≡ other) × (x ≡ y)
 optional-then None None x y ones others e = (refl, ap (drop 1) e)
 optional-then None (Some b) x y ones others e = absurd (omega (arith, ap (λ (bytes : List ℕ). get_or bytes 0 0) e))
 optional-then (Some a) None x y ones others e = absurd (omega (arith, ap (λ (bytes : List ℕ). get_or bytes 0 0) e))
 optional-then (Some a) (Some b) x y ones others e =
-    let parts = number-then a b x y ones others (ap (drop 1) e) in
+    let parts = number-then a b x y (minute-word a ones) (minute-word b others) (ap (drop 1) e) in
     (ap (λ (n : ℕ). Some n) parts.0, parts.1)

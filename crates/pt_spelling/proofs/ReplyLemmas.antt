@@ -14,12 +14,12 @@ use Rattle.pt_spelling.proofs.FieldLemmas.{length-number, number-same, numbers-s
 
 -- ---- numbers
 
-length-numbers : (numbers : List ℕ) → length (numbers_bytes numbers) ≡ 4 * length numbers
+pub length-numbers : (numbers : List ℕ) → length (numbers_bytes numbers) ≡ 4 * length numbers
 length-numbers [] = refl
 length-numbers (n ∷ numbers) = omega (arith, length-append (number_bytes n) (numbers_bytes numbers), length-number n, length-numbers numbers)
 
 -- the bytes from one place on are a number and the bytes after it
-piece : (bytes rest : List ℕ) (at next n : ℕ) → number_bytes n ≡ take 4 (drop at bytes) → next ≡ at + 4 → drop next bytes ≡ rest → drop at bytes ≡ number_bytes n ++ rest
+pub piece : (bytes rest : List ℕ) (at next n : ℕ) → number_bytes n ≡ take 4 (drop at bytes) → next ≡ at + 4 → drop next bytes ≡ rest → drop at bytes ≡ number_bytes n ++ rest
 piece bytes rest at next n number step after =
     sym (take-append-drop 4 (drop at bytes)) ∙ ap (λ (p : List ℕ). p ++ drop 4 (drop at bytes)) (sym number)
     ∙ ap (λ (q : List ℕ). number_bytes n ++ q) (drop-drop 4 at bytes ∙ ap (λ (k : ℕ). drop k bytes) (sym step) ∙ after)
@@ -33,7 +33,7 @@ six_numbers bytes a b c d e f size is_a is_b is_c is_d is_e is_f =
 
 -- ---- what is told of a booked trip
 
-at_most-prop : (most n : ℕ) → IsProp (n ≤ most)
+pub at_most-prop : (most n : ℕ) → IsProp (n ≤ most)
 at_most-prop most n = hlevel props
 
 -- whoever tells the same numbers tells the same
@@ -60,7 +60,7 @@ told-is numbers told trip vehicle from to same is_trip is_vehicle is_from is_to 
     let f : told.due ≡ get_or numbers 5 0 = ap (λ (t : List ℕ). get_or t 5 0) same in
     cc
 
-told-words : (told : Confirmation) → IsTold told → AllByRecursion IsWord (numbers_told told)
+pub told-words : (told : Confirmation) → IsTold told → AllByRecursion IsWord (numbers_told told)
 told-words told fits =
     let trip = fits.0.1 in
     let vehicle = fits.1.1 in

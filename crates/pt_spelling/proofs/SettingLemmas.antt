@@ -17,21 +17,22 @@ use Rattle.pt_requests.specs.declared.caller.Role.TheVariants.{Rider, Clerk, Exa
 use Rattle.pt_travel.specs.Chain.{Row}
 use Rattle.pt_spelling.specs.Fields.{number_bytes, numbers_bytes, truth_bytes, days_byte, list_bytes}
 use Rattle.pt_spelling.specs.Ranges.{IsWord, IsRole, IsCaller, IsRoute, IsVehicle, IsRow}
+use Rattle.pt_spelling.specs.Replies.{IsId}
 use Rattle.pt_spelling.specs.Requests.{role_number, subject_of, caller_bytes, policy_bytes, point_bytes, place_bytes, route_bytes, chairs_bytes, vehicle_bytes, row_bytes}
-use Rattle.pt_spelling.proofs.FieldLemmas.{four_parts, five_parts, byte-then, length-number, number-same, number-then, numbers-then, numbers-same, list-then, signed-then, truth-then, days-same}
+use Rattle.pt_spelling.proofs.FieldLemmas.{four_parts, five_parts, day-word, minute-word, byte-then, length-number, number-same, number-then, numbers-then, numbers-same, list-then, signed-then, truth-then, days-same}
 
-at_most-prop : (most n : ℕ) → IsProp (n ≤ most)
+pub at_most-prop : (most n : ℕ) → IsProp (n ≤ most)
 at_most-prop most n = hlevel props
 
-range-prop : (least most n : ℕ) → IsProp (IsInRange least most n)
+pub range-prop : (least most n : ℕ) → IsProp (IsInRange least most n)
 range-prop least most n = hlevel props
 
-plane-prop : (x y : ℤ) → IsProp (IsOnPlane x y)
+pub plane-prop : (x y : ℤ) → IsProp (IsOnPlane x y)
 plane-prop x y = hlevel props
 
 -- ---- callers
 
-role-same : (one other : Role) → role_number one ≡ role_number other → subject_of one ≡ subject_of other → one ≡ other
+pub role-same : (one other : Role) → role_number one ≡ role_number other → subject_of one ≡ subject_of other → one ≡ other
 role-same (Rider a) (Rider b) kind subject = ap (λ (n : ℕ). Rider n) subject
 role-same Clerk Clerk kind subject = refl
 role-same Examiner Examiner kind subject = refl
@@ -41,31 +42,31 @@ role-same (Driver a) (Driver b) kind subject = ap (λ (n : ℕ). Driver n) subje
 role-same Admin Admin kind subject = refl
 role-same one other kind subject = absurd (omega arith)
 
-subject-word : (role : Role) → IsRole role → IsWord (subject_of role)
-subject-word (Rider a) fits = fits
+pub subject-word : (role : Role) → IsRole role → IsWord (subject_of role)
+subject-word (Rider a) fits = fits.1
 subject-word Clerk fits = omega arith
 subject-word Examiner fits = omega arith
 subject-word Officer fits = omega arith
 subject-word Dispatcher fits = omega arith
-subject-word (Driver a) fits = fits
+subject-word (Driver a) fits = fits.1
 subject-word Admin fits = omega arith
 
 pub caller-same : (one other : Caller) → IsCaller one → IsCaller other → caller_bytes one ≡ caller_bytes other → one ≡ other
 caller-same one other ones others e =
     let grouped : number_bytes one.id ++ (role_number one.role ∷ (number_bytes (subject_of one.role) ++ one.digest)) ≡ number_bytes other.id ++ (role_number other.role ∷ (number_bytes (subject_of other.role) ++ other.digest)) = simp append_assoc at e in
-    let id = number-then one.id other.id _ _ ones.0 others.0 grouped in
+    let id = number-then one.id other.id _ _ ones.id.1 others.id.1 grouped in
     let kind = byte-then (role_number one.role) (role_number other.role) _ _ id.1 in
-    let subject = number-then (subject_of one.role) (subject_of other.role) _ _ (subject-word one.role ones.1) (subject-word other.role others.1) kind.1 in
+    let subject = number-then (subject_of one.role) (subject_of other.role) _ _ (subject-word one.role ones.role) (subject-word other.role others.role) kind.1 in
     let role = role-same one.role other.role kind.0 subject.0 in
     λ i. record { id = id.0 i; role = role i; digest = subject.1 i }
 
 -- ---- policies
 
-settled : Policy → List ℕ
+pub settled : Policy → List ℕ
 settled policy =
     policy.base ∷ policy.transfer ∷ policy.fare ∷ policy.service ∷ policy.extra_ride ∷ policy.min_missed ∷ policy.percent ∷ policy.span_days ∷ []
 
-policy-from : (a b : Policy) → settled a ≡ settled b → a ≡ b
+pub policy-from : (a b : Policy) → settled a ≡ settled b → a ≡ b
 unfolding settled
 policy-from a b same = λ i. record {
   base = get_or (same i) 0 0;
@@ -86,11 +87,11 @@ policy-from a b same = λ i. record {
   span_days_in_range = is_prop→PathP (λ j. IsInRange 1 366 (get_or (same j) 7 0)) (λ j. range-prop _ _ _) a.span_days_in_range b.span_days_in_range i;
 }
 
-most-word : (most n : ℕ) → n ≤ most → most < 1_000_000 → IsWord n
+pub most-word : (most n : ℕ) → n ≤ most → most < 1_000_000 → IsWord n
 most-word most n low high = omega arith
 
 -- a policy's numbers are in their ranges
-policy-words : (policy : Policy) → IsWord policy.base × IsWord policy.transfer × IsWord policy.fare × IsWord policy.service × IsWord policy.extra_ride × IsWord policy.min_missed × IsWord policy.percent × IsWord policy.span_days
+pub policy-words : (policy : Policy) → IsWord policy.base × IsWord policy.transfer × IsWord policy.fare × IsWord policy.service × IsWord policy.extra_ride × IsWord policy.min_missed × IsWord policy.percent × IsWord policy.span_days
 policy-words policy =
     let missed = policy.min_missed_in_range.1 in
     let percent = policy.percent_in_range.1 in
@@ -114,7 +115,7 @@ point-then one other x y ones others e =
     let north = signed-then one.y other.y x y ones.1 others.1 east.1 in
     (λ i. record { x = east.0 i; y = north.0 i }, north.1)
 
-place-from : (a b : Place) → a.id ≡ b.id → a.at ≡ b.at → a.core ≡ b.core → a ≡ b
+pub place-from : (a b : Place) → a.id ≡ b.id → a.at ≡ b.at → a.core ≡ b.core → a ≡ b
 place-from a b id point core = λ i. record {
   id = id i;
   at = point i;
@@ -122,10 +123,10 @@ place-from a b id point core = λ i. record {
   on_plane = is_prop→PathP (λ j. IsOnPlane (point j).x (point j).y) (λ j. plane-prop _ _) a.on_plane b.on_plane i;
 }
 
-pub place-same : (one other : Place) → IsWord one.id → IsWord other.id → place_bytes one ≡ place_bytes other → one ≡ other
+pub place-same : (one other : Place) → IsId one.id → IsId other.id → place_bytes one ≡ place_bytes other → one ≡ other
 place-same one other ones others e =
     let grouped : number_bytes one.id ++ (point_bytes one.at ++ truth_bytes one.core) ≡ number_bytes other.id ++ (point_bytes other.at ++ truth_bytes other.core) = sym (append_assoc (number_bytes one.id) (point_bytes one.at) (truth_bytes one.core)) ∙ e ∙ append_assoc (number_bytes other.id) (point_bytes other.at) (truth_bytes other.core) in
-    let id = number-then one.id other.id _ _ ones others grouped in
+    let id = number-then one.id other.id _ _ ones.1 others.1 grouped in
     let point = point-then one.at other.at (truth_bytes one.core) (truth_bytes other.core) one.on_plane other.on_plane id.1 in
     let core = truth-then one.core other.core [] [] (ap (λ (t : List ℕ). t ++ []) point.1) in
     place-from one other id.0 point.0 core.0
@@ -139,17 +140,17 @@ route-same one other ones others e =
     let hours : Route → List ℕ = λ r. numbers_bytes (r.first ∷ r.last ∷ []) in
     let parts : (r : Route) → route_bytes r ≡ front r ++ (line r ++ (truth_bytes r.accessible ++ (days_byte r.days ∷ hours r))) = λ r. five_parts (front r) (line r) (truth_bytes r.accessible) (days_byte r.days ∷ []) (hours r) in
     let grouped : front one ++ (line one ++ (truth_bytes one.accessible ++ (days_byte one.days ∷ hours one))) ≡ front other ++ (line other ++ (truth_bytes other.accessible ++ (days_byte other.days ∷ hours other))) = sym (parts one) ∙ e ∙ parts other in
-    let ends = numbers-then (one.id ∷ one.width ∷ []) (other.id ∷ other.width ∷ []) _ _ refl (ones.id, (let most = ones.fixed.width.1 in omega arith, tt)) (others.id, (let most = others.fixed.width.1 in omega arith, tt)) grouped in
+    let ends = numbers-then (one.id ∷ one.width ∷ []) (other.id ∷ other.width ∷ []) _ _ refl (ones.id.1, (let most = ones.fixed.width.1 in omega arith, tt)) (others.id.1, (let most = others.fixed.width.1 in omega arith, tt)) grouped in
     let points = list-then (λ (p : Point). IsOnPlane p.x p.y) point_bytes point-then one.points other.points _ _ (let most = ones.fixed.points.1 in omega arith) (let most = others.fixed.points.1 in omega arith) ones.fixed.on_plane others.fixed.on_plane ends.1 in
     let accessible = truth-then one.accessible other.accessible _ _ points.1 in
     let days = byte-then (days_byte one.days) (days_byte other.days) _ _ accessible.1 in
-    let minutes = numbers-same (one.first ∷ one.last ∷ []) (other.first ∷ other.last ∷ []) refl (let order = ones.fixed.hours in let last = ones.last in omega arith, (ones.last, tt)) (let order = others.fixed.hours in let last = others.last in omega arith, (others.last, tt)) days.1 in
+    let minutes = numbers-same (one.first ∷ one.last ∷ []) (other.first ∷ other.last ∷ []) refl (let order = ones.fixed.hours in let last = ones.last in omega arith, (minute-word one.last ones.last, tt)) (let order = others.fixed.hours in let last = others.last in omega arith, (minute-word other.last others.last, tt)) days.1 in
     let week = days-same one.days other.days ones.days others.days days.0 in
     λ i. record { id = get_or (ends.0 i) 0 0; width = get_or (ends.0 i) 1 0; points = points.0 i; accessible = accessible.0 i; days = week i; first = get_or (minutes i) 0 0; last = get_or (minutes i) 1 0 }
 
 -- ---- vehicles
 
-vehicle-from : (a b : Vehicle) → (a.id ∷ a.from_day ∷ []) ≡ (b.id ∷ b.from_day ∷ []) → a.days ≡ b.days
+pub vehicle-from : (a b : Vehicle) → (a.id ∷ a.from_day ∷ []) ≡ (b.id ∷ b.from_day ∷ []) → a.days ≡ b.days
     → (a.depot ∷ a.capacity ∷ a.opens ∷ a.closes ∷ a.duration ∷ []) ≡ (b.depot ∷ b.capacity ∷ b.opens ∷ b.closes ∷ b.duration ∷ [])
     → a.chairs ≡ b.chairs → a ≡ b
 vehicle-from a b front days duty chairs = λ i. record {
@@ -169,22 +170,22 @@ vehicle-from a b front days duty chairs = λ i. record {
 }
 
 -- a vehicle's numbers are in their ranges
-duty-words : (v : Vehicle) → IsVehicle v → IsWord v.depot × IsWord v.capacity × IsWord v.opens × IsWord v.closes × IsWord v.duration
+pub duty-words : (v : Vehicle) → IsVehicle v → IsWord v.depot × IsWord v.capacity × IsWord v.opens × IsWord v.closes × IsWord v.duration
 duty-words v fits =
     let capacity = v.capacity_in_range.1 in
     let duration = v.duration_in_range.1 in
     let ordered = v.hours_ordered in
     let closes = fits.closes in
-    (fits.depot, omega arith, omega arith, closes, omega arith)
+    (fits.depot.1, omega arith, omega arith, omega arith, omega arith)
 
 -- the wheelchair places of a vehicle, or none
-chairs-some : (more : ℕ) → chairs_bytes (suc more) ≡ number_bytes (suc more)
+pub chairs-some : (more : ℕ) → chairs_bytes (suc more) ≡ number_bytes (suc more)
 chairs-some more = cond-false (suc more == 0) [] (number_bytes (suc more)) (ne_eqb (suc more) 0 (omega arith))
 
-chairs-length : (more : ℕ) → length (chairs_bytes (suc more)) ≡ 4
+pub chairs-length : (more : ℕ) → length (chairs_bytes (suc more)) ≡ 4
 chairs-length more = ap (length {A = ℕ}) (chairs-some more) ∙ length-number (suc more)
 
-chairs-same : (one other : ℕ) → one ≤ 10 → other ≤ 10 → chairs_bytes one ≡ chairs_bytes other → one ≡ other
+pub chairs-same : (one other : ℕ) → one ≤ 10 → other ≤ 10 → chairs_bytes one ≡ chairs_bytes other → one ≡ other
 chairs-same zero zero ones others e = refl
 chairs-same (suc one) (suc other) ones others e =
     number-same (suc one) (suc other) (omega arith) (omega arith) (sym (chairs-some one) ∙ e ∙ chairs-some other)
@@ -198,7 +199,7 @@ vehicle-same one other ones others e =
     let duty : Vehicle → List ℕ = λ v. v.depot ∷ v.capacity ∷ v.opens ∷ v.closes ∷ v.duration ∷ [] in
     let parts : (v : Vehicle) → vehicle_bytes v ≡ numbers_bytes (v.id ∷ v.from_day ∷ []) ++ (days_byte v.days ∷ (numbers_bytes (duty v) ++ chairs_bytes v.chairs)) = λ v. four_parts (numbers_bytes (v.id ∷ v.from_day ∷ [])) (days_byte v.days ∷ []) (numbers_bytes (duty v)) (chairs_bytes v.chairs) in
     let grouped = sym (parts one) ∙ e ∙ parts other in
-    let front = numbers-then (one.id ∷ one.from_day ∷ []) (other.id ∷ other.from_day ∷ []) _ _ refl (ones.id, (ones.from_day, tt)) (others.id, (others.from_day, tt)) grouped in
+    let front = numbers-then (one.id ∷ one.from_day ∷ []) (other.id ∷ other.from_day ∷ []) _ _ refl (ones.id.1, (day-word one.from_day ones.from_day, tt)) (others.id.1, (day-word other.from_day others.from_day, tt)) grouped in
     let days = byte-then (days_byte one.days) (days_byte other.days) _ _ front.1 in
     let a = duty-words one ones in
     let b = duty-words other others in
@@ -212,5 +213,5 @@ pub row-then : (one other : Row) (x y : List ℕ) → IsRow one × (one.2 ≤ 14
 row-then one other x y ones others e =
     let most = ones.1 in
     let others_most = others.1 in
-    let parts = numbers-then (one.0 ∷ one.1 ∷ one.2 ∷ []) (other.0 ∷ other.1 ∷ other.2 ∷ []) x y refl (ones.0.0, (ones.0.1, (omega arith, tt))) (others.0.0, (others.0.1, (omega arith, tt))) e in
+    let parts = numbers-then (one.0 ∷ one.1 ∷ one.2 ∷ []) (other.0 ∷ other.1 ∷ other.2 ∷ []) x y refl (ones.0.0.1, (ones.0.1.1, (omega arith, tt))) (others.0.0.1, (others.0.1.1, (omega arith, tt))) e in
     (λ i. (get_or (parts.0 i) 0 0, get_or (parts.0 i) 1 0, get_or (parts.0 i) 2 0), parts.1)

@@ -8,21 +8,21 @@ abbrev rank : List ℕ → ℕ → ℕ
 rank [] x = 0
 rank (p ∷ places) x = (1 - (p + 1 - x)) + rank places x
 
-rank-more : (places : List ℕ) (x y : ℕ) → x ≤ y → rank places x ≤ rank places y
+pub rank-more : (places : List ℕ) (x y : ℕ) → x ≤ y → rank places x ≤ rank places y
 rank-more [] x y most = omega arith
 rank-more (p ∷ places) x y most = let rest = rank-more places x y most in omega arith
 
-rank-length : (places : List ℕ) (x : ℕ) → rank places x ≤ length places
+pub rank-length : (places : List ℕ) (x : ℕ) → rank places x ≤ length places
 rank-length [] x = omega arith
 rank-length (p ∷ places) x = let rest = rank-length places x in omega arith
 
 -- a higher number has a higher rank
-rank-rises : (places : List ℕ) (x y : ℕ) → Contains places x → x < y → rank places x < rank places y
+pub rank-rises : (places : List ℕ) (x y : ℕ) → Contains places x → x < y → rank places x < rank places y
 rank-rises [] x y (k, below, is) less = absurd (omega arith)
 rank-rises (p ∷ places) x y (zero, below, is) less = let rest = rank-more places x y (omega arith) in let same : p ≡ x = is in omega arith
 rank-rises (p ∷ places) x y (suc k, below, is) less = let rest = rank-rises places x y (k, omega arith, is) less in omega arith
 
-rank-below : (places : List ℕ) (x : ℕ) → Contains places x → rank places x < length places
+pub rank-below : (places : List ℕ) (x : ℕ) → Contains places x → rank places x < length places
 rank-below [] x (k, below, is) = absurd (omega arith)
 rank-below (p ∷ places) x (zero, below, is) = let rest = rank-length places x in let same : p ≡ x = is in omega arith
 rank-below (p ∷ places) x (suc k, below, is) = let rest = rank-below places x (k, omega arith, is) in omega arith

@@ -1,5 +1,7 @@
 -- What the types of a request keep to, where definitions see no more than numbers and lists.
-use Rattle.std.specs.Prelude.{◌≡◌, ℕ, ◌^◌, ◌<◌, List, Bool, length, All, IfSome}
+use Rattle.std.specs.Prelude.{◌≡◌, ℕ, ◌^◌, ◌<◌, ◌≤◌, List, Bool, length, All, IfSome}
+use Rattle.pt_base.specs.Day.{IsDay}
+use Rattle.pt_base.specs.Ranges.{last_minute}
 use Rattle.pt_base.specs.declared.trip.Wish.{Wish}
 use Rattle.pt_base.specs.declared.vehicle.Vehicle.{Vehicle}
 use Rattle.pt_corridor.specs.Route.{Route, IsFixedRoute}
@@ -13,6 +15,7 @@ use Rattle.pt_rights.specs.Reasons.{IsReasons}
 use Rattle.pt_rights.specs.declared.entry.Entry.{Entry}
 use Rattle.pt_rights.specs.declared.entry.Entry.TheVariants as entry
 use Rattle.pt_rights.specs.declared.entry.Grant.{Grant}
+use Rattle.pt_spelling.specs.Replies.{IsId}
 use Rattle.pt_travel.specs.Chain.{Row}
 use Rattle.pt_travel.specs.Table.{IsTable}
 
@@ -25,63 +28,67 @@ abbrev pub IsWeek : List Bool → Type 0
 IsWeek days = length days ≡ 7
 
 abbrev pub IsRole : Role → Type 0
-IsRole (role.Rider rider) = IsWord rider
-IsRole (role.Driver vehicle) = IsWord vehicle
+IsRole (role.Rider rider) = IsId rider
+IsRole (role.Driver vehicle) = IsId vehicle
 IsRole _ = Unit {0}
 
-abbrev pub IsCaller : Caller → Type 0
-IsCaller caller = IsWord caller.id × IsRole caller.role
+-- a caller's key is known by a digest of 32 bytes
+pub record IsCaller (caller : Caller) : Type 0 where
+  pub id : IsId caller.id
+  pub role : IsRole caller.role
+  pub digest : length caller.digest ≡ 32
 
 pub record IsRoute (route : Route) : Type 0 where
-  pub id : IsWord route.id
+  pub id : IsId route.id
   pub fixed : IsFixedRoute route
   pub days : IsWeek route.days
-  pub last : IsWord route.last
+  pub last : route.last ≤ last_minute
 
 pub record IsVehicle (vehicle : Vehicle) : Type 0 where
-  pub id : IsWord vehicle.id
-  pub from_day : IsWord vehicle.from_day
+  pub id : IsId vehicle.id
+  pub from_day : IsDay vehicle.from_day
   pub days : IsWeek vehicle.days
-  pub depot : IsWord vehicle.depot
-  pub closes : IsWord vehicle.closes
+  pub depot : IsId vehicle.depot
+  pub closes : vehicle.closes ≤ last_minute
 
 abbrev pub IsRow : Row → Type 0
-IsRow row = IsWord row.0 × IsWord row.1
+IsRow row = IsId row.0 × IsId row.1
 
 pub record IsGrant (grant : Grant) : Type 0 where
-  pub until : IsWord grant.until
+  pub until : IsDay grant.until
   pub number : IsConditions grant.conditions
   pub conditions : All IsCondition grant.conditions
 
 abbrev pub IsEntry : Entry → Type 0
 IsEntry (entry.Grant grant) = IsGrant grant
 IsEntry (entry.Refuse reasons) = IsReasons reasons
-IsEntry (entry.Appeal against) = IsWord against
+IsEntry (entry.Appeal against) = against < 2 ^ 8
 IsEntry (entry.AppealGranted grant) = IsGrant grant
 IsEntry (entry.AppealDenied reasons) = IsReasons reasons
 IsEntry (entry.Notice basis) = IsReasons basis
-IsEntry (entry.Suspend starts ends reasons) = IsWord starts × IsWord ends × IsReasons reasons
+IsEntry (entry.Suspend starts ends reasons) = IsDay starts × IsDay ends × IsReasons reasons
 IsEntry _ = Unit {0}
 
 pub record IsWish (wish : Wish) : Type 0 where
-  pub day : IsWord wish.day
-  pub pickup : IsWord wish.pickup
-  pub from : IsWord wish.from
-  pub to : IsWord wish.to
-  pub by : IfSome wish.by IsWord
-  pub companions : IsWord wish.companions
+  pub day : IsDay wish.day
+  pub pickup : wish.pickup ≤ last_minute
+  pub from : IsId wish.from
+  pub to : IsId wish.to
+  pub by : IfSome wish.by (λ minute. minute ≤ last_minute)
+  pub companions : wish.companions < 2 ^ 8
 
--- a request as the program can hold it; what a record keeps itself, as the ranges of a policy, is not said again
+-- a request that may be asked, as the program can hold it; what a record keeps itself, as the ranges of a policy, is
+-- not said again
 abbrev pub IsRequest : Write → Type 0
 IsRequest (write.PutCaller caller) = IsCaller caller
 IsRequest (write.PutPolicy policy) = Unit {0}
-IsRequest (write.PutPlace place) = IsWord place.id
+IsRequest (write.PutPlace place) = IsId place.id
 IsRequest (write.PutRoute route) = IsRoute route
 IsRequest (write.PutVehicle vehicle) = IsVehicle vehicle
-IsRequest (write.PutRider rider) = IsWord rider.id
-IsRequest (write.Enter rider entered) = IsWord rider × IsEntry entered
-IsRequest (write.Book rider wish) = IsWord rider × IsWish wish
-IsRequest (write.Change trip wish) = IsWord trip × IsWish wish
-IsRequest (write.Cancel trip) = IsWord trip
-IsRequest (write.Outcome trip outcome) = IsWord trip
-IsRequest (write.Travel day rows) = IsWord day × IsTable rows × All IsRow rows
+IsRequest (write.PutRider rider) = IsId rider.id
+IsRequest (write.Enter rider entered) = IsId rider × IsEntry entered
+IsRequest (write.Book rider wish) = IsId rider × IsWish wish
+IsRequest (write.Change trip wish) = IsId trip × IsWish wish
+IsRequest (write.Cancel trip) = IsId trip
+IsRequest (write.Outcome trip outcome) = IsId trip
+IsRequest (write.Travel day rows) = IsDay day × IsTable rows × All IsRow rows

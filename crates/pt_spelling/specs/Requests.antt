@@ -1,5 +1,5 @@
 -- How a request that may change something is spelled in bytes.
-use Rattle.std.specs.Prelude.{ℕ, Bool, true, false, ◌==◌, if◌then◌else◌, List, [], ◌∷◌, ◌++◌}
+use Rattle.std.specs.Prelude.{◌≡◌, ℕ, Bool, true, false, ◌==◌, if◌then◌else◌, List, [], ◌∷◌, ◌++◌}
 use Rattle.pt_base.specs.declared.place.Place.{Place}
 use Rattle.pt_base.specs.declared.place.Point.{Point}
 use Rattle.pt_base.specs.declared.policy.Policy.{Policy}
@@ -24,6 +24,7 @@ use Rattle.pt_rights.specs.declared.tally.Outcome.TheVariants as outcome
 use Rattle.pt_travel.specs.Chain.{Row}
 use Rattle.pt_spelling.specs.Fields.{number_bytes, numbers_bytes, signed_bytes, truth_bytes, days_byte, optional_bytes}
 use Rattle.pt_spelling.specs.Fields.{text_bytes, list_bytes}
+use Rattle.pt_spelling.specs.Ranges.{IsRequest}
 
 -- ---- callers
 
@@ -173,3 +174,7 @@ fields_of (write.Travel day rows) = number_bytes day ++ list_bytes row_bytes row
 -- a request: its tag and its fields
 abbrev pub spelling : Write → List ℕ
 spelling asked = tag_of asked ∷ fields_of asked
+
+-- the bytes spell a request that may be asked
+abbrev pub IsSpelling : List ℕ → Type 0
+IsSpelling bytes = (asked : Write) × IsRequest asked × (bytes ≡ spelling asked)

@@ -1,6 +1,7 @@
-ghost use Rattle.std.specs.Prelude.{◌≡◌, ◌++◌, ◌∷◌, [], ◌^◌, ◌<◌, length, OnOk, IfSome};
+ghost use Rattle.std.specs.Prelude.{◌≡◌, ◌++◌, ◌∷◌, [], ◌^◌, ◌<◌, ◌≤◌, length, OnOk, IfSome};
+ghost use Rattle.pt_base.specs.Ranges.{last_minute};
 ghost use Rattle.pt_base.specs.Weekday.{number_of};
-ghost use Rattle.pt_spelling.specs.Ranges.{IsWord, IsWeek};
+ghost use Rattle.pt_spelling.specs.Ranges.{IsWeek};
 ghost use Rattle.pt_spelling.specs.Fields.{number_bytes, numbers_bytes, signed_bytes, truth_bytes, day_bit, days_byte};
 ghost use Rattle.pt_spelling.specs.Fields.{optional_bytes, text_bytes};
 
@@ -75,7 +76,7 @@ fn day_bit(days: Weekdays, weekday: Weekday) -> u8
 /// Adds 0, or 1 and the minute.
 pub(crate) fn push_optional(minute: Option<Minute>, out: &mut Vec<u8>) -> Result<(), AllocError>
     ensures text { OnOk result (out.new.items ≡ out.old.items ++ optional_bytes minute) }
-    ensures range { OnOk result (IfSome minute IsWord) }
+    ensures range { OnOk result (IfSome minute (λ known. known ≤ last_minute)) }
 {
     match minute {
         None => out.push(0)?,

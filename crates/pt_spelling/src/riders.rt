@@ -1,7 +1,8 @@
 ghost use Rattle.std.specs.Prelude.{◌≡◌, ◌++◌, All, OnOk};
 ghost use Rattle.pt_rights.specs.Conditions.{IsCondition, IsConditions};
 ghost use Rattle.pt_spelling.specs.Fields.{list_bytes};
-ghost use Rattle.pt_spelling.specs.Ranges.{IsWord, IsGrant, IsEntry};
+ghost use Rattle.pt_spelling.specs.Ranges.{IsGrant, IsEntry};
+ghost use Rattle.pt_spelling.specs.Replies.{IsId};
 ghost use Rattle.pt_spelling.specs.Requests.{wheelchair_bytes, rider_bytes, condition_bytes, grant_bytes};
 ghost use Rattle.pt_spelling.specs.Requests.{entry_bytes, entry_number, particulars_of};
 
@@ -14,7 +15,7 @@ use std::alloc::AllocError;
 /// Adds the fields of a rider's record. The error is want of memory, here and below.
 pub(crate) fn push_rider(rider: &Rider, out: &mut Vec<u8>) -> Result<(), AllocError>
     ensures text { OnOk result (out.new.items ≡ out.old.items ++ rider_bytes rider.now) }
-    ensures ranges { OnOk result (IsWord rider.now.id) }
+    ensures ranges { OnOk result (IsId rider.now.id) }
 {
     push_number(rider.id.number(), out)?;
     match rider.kind {

@@ -1,7 +1,8 @@
 ghost use Rattle.std.specs.Prelude.{◌≡◌, ◌++◌, All, OnOk};
 ghost use Rattle.pt_corridor.specs.Route.{HasPoints, IsRouteOnPlane};
 ghost use Rattle.pt_spelling.specs.Fields.{list_bytes};
-ghost use Rattle.pt_spelling.specs.Ranges.{IsWord, IsRole, IsCaller, IsRoute, IsVehicle, IsRow};
+ghost use Rattle.pt_spelling.specs.Ranges.{IsRole, IsCaller, IsRoute, IsVehicle, IsRow};
+ghost use Rattle.pt_spelling.specs.Replies.{IsId};
 ghost use Rattle.pt_spelling.specs.Requests.{role_number, subject_of, caller_bytes, policy_bytes, point_bytes};
 ghost use Rattle.pt_spelling.specs.Requests.{place_bytes, route_bytes, chairs_bytes, vehicle_bytes, row_bytes};
 ghost use Rattle.pt_travel.specs.Table.{IsTable};
@@ -48,7 +49,7 @@ pub(crate) fn push_caller(caller: &Caller, out: &mut Vec<u8>) -> Result<(), Allo
     push_number(caller.id.number(), out)?;
     out.push(role_number(&caller.role))?;
     push_number(subject_of(&caller.role), out)?;
-    out.extend_from_slice(caller.digest.bytes())
+    out.extend_from_slice(caller.copied().digest.bytes())
 }
 
 /// Adds the fields of a policy.
@@ -79,7 +80,7 @@ fn push_point(point: Point, out: &mut Vec<u8>) -> Result<(), AllocError>
 /// Adds the fields of a place.
 pub(crate) fn push_place(place: &Place, out: &mut Vec<u8>) -> Result<(), AllocError>
     ensures text { OnOk result (out.new.items ≡ out.old.items ++ place_bytes place.now) }
-    ensures ranges { OnOk result (IsWord place.now.id) }
+    ensures ranges { OnOk result (IsId place.now.id) }
 {
     push_number(place.id.number(), out)?;
     push_point(place.at, out)?;

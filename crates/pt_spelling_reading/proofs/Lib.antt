@@ -1,0 +1,3 @@
+pub mod ConditionAscii
+pub mod ListReading
+pub mod ReadingLemmas
