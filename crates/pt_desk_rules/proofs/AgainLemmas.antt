@@ -162,14 +162,26 @@ failing_one (rule ∷ rules) a b (inl (fails, is)) (inr (holds, it)) = absurd (f
 failing_one (rule ∷ rules) a b (inr (holds, is)) (inl (fails, it)) = absurd (fails holds)
 failing_one (rule ∷ rules) a b (inr (holds, is)) (inr (also, it)) = failing_one rules a b is it
 
+-- what is denied where the vehicles have routes fails that rule first
+pub denied_first : (minutes : ℕ → ℕ → Option ℕ) (vehicles : List OnDuty) (asked : Request) (rule : Rule)
+    → AreRoutes asked.trip vehicles → IsScheduled minutes vehicles asked (scheduled.Denied rule)
+    → IsFirstFailing (booking_rules minutes vehicles asked) (Some rule)
+denied_first minutes vehicles asked rule are (inl first) = first
+denied_first minutes vehicles asked rule are (inr (none, is)) = absurd (none are)
+
 scheduled_one : (minutes : ℕ → ℕ → Option ℕ) (vehicles : List OnDuty) (asked : Request) (rule : Rule)
     (other : Scheduled) → AreRoutes asked.trip vehicles → IsScheduled minutes vehicles asked (scheduled.Denied rule)
     → IsScheduled minutes vehicles asked other → other ≡ scheduled.Denied rule
 scheduled_one minutes vehicles asked rule (scheduled.Denied also) routes one two =
     ap (λ r. scheduled.Denied r) (same_Some also rule
-    (failing_one (booking_rules minutes vehicles asked) (Some also) (Some rule) (two routes) (one routes)))
+    (failing_one (booking_rules minutes vehicles asked) (Some also) (Some rule)
+    (denied_first minutes vehicles asked also routes two) (denied_first minutes vehicles asked rule routes one)))
 scheduled_one minutes vehicles asked rule (scheduled.Booked trip plan) routes one two =
-    absurd (let same = failing_one (booking_rules minutes vehicles asked) None (Some rule) two.0 (one routes) in cc)
+    absurd (
+    let first = denied_first minutes vehicles asked rule routes one in
+    let same = failing_one (booking_rules minutes vehicles asked) None (Some rule) two.0 first in
+    cc
+    )
 
 -- one wish in one state is denied by one rule
 pub answered_one : (number : ℕ) (left_out : Option ℕ) (today : ℕ) (wish : Wish) (facts : WriteFacts) (rule : Rule)
@@ -209,12 +221,12 @@ change_one (Some old) wish kept also today s rule d e routes denied one two =
     booking_one (changed kept old facts.booking.plan) (changed also old facts.booking.plan) old.id (Some old.id) today
     wish facts rule d e (routes old.id wish.day) denied one two
 
-cancel_is_accepted : (found : Option Trip) (kept : Kept) (facts : WriteFacts) (rule : Rule) (d : Decision)
+pub cancel_is_accepted : (found : Option Trip) (kept : Kept) (facts : WriteFacts) (rule : Rule) (d : Decision)
     → d ≡ decision.Denied rule → IsCancelDecided found kept facts d → ⊥
 cancel_is_accepted None kept facts rule d denied is = is
 cancel_is_accepted (Some trip) kept facts rule d denied is = absurd (cc)
 
-end_is_accepted : (found : Option Trip) (outcome : Outcome) (kept : Kept) (rule : Rule) (d : Decision)
+pub end_is_accepted : (found : Option Trip) (outcome : Outcome) (kept : Kept) (rule : Rule) (d : Decision)
     → d ≡ decision.Denied rule → IsEndDecided found outcome kept d → ⊥
 end_is_accepted None outcome kept rule d denied is = is
 end_is_accepted (Some trip) outcome kept rule d denied is = absurd (cc)
@@ -249,7 +261,7 @@ decision_one None asked me now sent s rule d e routes denied one two =
     decided_one asked (kept_in me.id sent d) (kept_in me.id sent e) now.0 s rule d e routes denied one two
 
 -- an acceptance is not told as a denial
-told_denied : (rule : Rule) (d : Decision) → IsOfWrite d → answer.Denied rule ≡ told_of d → d ≡ decision.Denied rule
+pub told_denied : (rule : Rule) (d : Decision) → IsOfWrite d → answer.Denied rule ≡ told_of d → d ≡ decision.Denied rule
 told_denied rule (decision.Denied first) of is = cc
 told_denied rule (decision.Accepted told change) of is = absurd (let same = ap is_of_write is ∙ of in cc)
 

@@ -19,7 +19,7 @@ use Rattle.pt_scheduling.specs.declared.planned.PlannedStop.{PlannedStop}
 use Rattle.pt_scheduling.proofs.PlanLemmas.{found_key}
 use Rattle.pt_scheduling.proofs.RouteLemmas.{Each-found}
 use Rattle.pt_desk_rules.specs.Outcomes.{ended, status_of}
-use Rattle.pt_desk_rules.specs.Sound.{IsSound, IsNumberedTo, HasDay, HasPlaces, HasStandingTrips, HasVehicle, IsOfRider, IsPlanned, StandsIn}
+use Rattle.pt_desk_rules.specs.Sound.{IsSound, IsNumberedTo, HasDay, HasPlaces, HasStandingTrips, IsOfRider, IsPlanned, StandsIn}
 use Rattle.pt_desk_rules.specs.State.{State, trip_key, trip_of}
 use Rattle.pt_desk_rules.specs.Trips.{is_booked}
 use Rattle.pt_desk_rules.proofs.FitLemmas.{each_drive, each_load, planned_fit, CanServe, FitsIn}
@@ -80,7 +80,6 @@ end_sound end id trip s sound found booked =
     let numbered = Each-put (IsNumberedTo s.last_trip) trip_key (ended end trip) s.trips sound.trips_numbered (Each-found (IsNumberedTo s.last_trip) trip_key id trip s.trips sound.trips_numbered found) in
     let riders = Each-put (IsOfRider s.riders) trip_key (ended end trip) s.trips sound.trips_of_riders (Each-found (IsOfRider s.riders) trip_key id trip s.trips sound.trips_of_riders found) in
     let ends = Each-put (HasPlaces s.places) trip_key (ended end trip) s.trips sound.trip_places_there (Each-found (HasPlaces s.places) trip_key id trip s.trips sound.trip_places_there found) in
-    let vehicles = Each-put (HasVehicle s.vehicles) trip_key (ended end trip) s.trips sound.trip_vehicles_there (Each-found (HasVehicle s.vehicles) trip_key id trip s.trips sound.trip_vehicles_there found) in
     let days = Each-put HasDay trip_key (ended end trip) s.trips sound.trip_days (Each-found HasDay trip_key id trip s.trips sound.trip_days found) in
     let standing = plans_stand end trip s.trips s.planned here sound.planned_trips_stand in
     let planned = Each-put (IsPlanned s.planned) trip_key (ended end trip) s.trips sound.standing_planned (λ _. Each-found (IsPlanned s.planned) trip_key id trip s.trips sound.standing_planned found (booked_stands trip.status booked)) in

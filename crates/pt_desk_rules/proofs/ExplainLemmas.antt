@@ -131,7 +131,7 @@ rider_denied wish today facts request rows minutes first by same times fails = (
       (
         minutes,
         subst (λ (r : List Row). AreTimes r minutes) same times,
-        λ routes. first-in-front (riders_rules request) (vehicles_rule wish facts request minutes) first fails,
+        inl (first-in-front (riders_rules request) (vehicles_rule wish facts request minutes) first fails),
       ),
     ),
     refl,
@@ -139,7 +139,7 @@ rider_denied wish today facts request rows minutes first by same times fails = (
   λ routes. before_vehicles request first fails,
 )
 
--- where the vehicles have no routes, `no vehicle` is told, and nothing is said of it
+-- where the vehicles have no routes, `no vehicle` is told
 pub no_routes_denied : (number : ℕ) (wish : Wish) (today : ℕ) (facts : WriteFacts) (request : Request) (rows : List Row)
     (minutes : ℕ → ℕ → Option ℕ) → number ≡ next_trip facts
     → IsRequestBy facts (next_trip facts) None today wish request → rows ≡ rows_of facts.booking.day.travel
@@ -155,8 +155,11 @@ no_routes_denied number wish today facts request rows minutes same by is times n
           (
             minutes,
             subst (λ (r : List Row). AreTimes r minutes) is times,
-            λ routes. absurd (never (subst (λ (n : ℕ). AreRoutes n (routes_for (next_trip facts) wish facts)) by.trip
-                routes)),
+            inr (
+              λ routes. never (subst (λ (n : ℕ). AreRoutes n (routes_for (next_trip facts) wish facts)) by.trip
+                  routes),
+              refl,
+            ),
           ),
         ),
         refl,
@@ -277,8 +280,8 @@ refusals_are_shown wish me now facts found minutes (allowed, are) times none =
         (
           minutes,
           subst (λ (r : List Row). AreTimes r minutes) are.rows times,
-          λ routes. first-behind (riders_rules request) (vehicles_rule wish facts request minutes) (Some rule.NoVehicle)
-              are.rules (inl (never, refl)),
+          inl (first-behind (riders_rules request) (vehicles_rule wish facts request minutes) (Some rule.NoVehicle)
+              are.rules (inl (never, refl))),
         ),
       ),
       refl,

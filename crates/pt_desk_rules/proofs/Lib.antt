@@ -3,7 +3,6 @@ mod BookingLemmas
 mod PlannedLemmas
 mod StandingLemmas
 mod FitLemmas
-mod FiledLemmas
 mod EndLemmas
 mod TourLemmas
 mod HasTourLemmas
@@ -17,3 +16,4 @@ mod ShownLemmas
 mod KeyLemmas
 pub mod SameLemmas
 pub mod ExplainLemmas
+mod RightLemmas

@@ -130,7 +130,7 @@ repeated_is_not_new : (b : Bool) (told : KeptReply) → cond b (Repeated told) S
 repeated_is_not_new true told is = absurd (cc)
 repeated_is_not_new false told is = absurd (cc)
 
-new_is_above : (number : ℕ) (bytes : List ℕ) (found : Option Kept) → arrival_of number bytes found ≡ New
+pub new_is_above : (number : ℕ) (bytes : List ℕ) (found : Option Kept) → arrival_of number bytes found ≡ New
     → number_of found < number
 new_is_above number bytes None is =
     below_is 0 number (new_where (nat_lt 0 number) Stale (λ same. absurd (cc)) is)

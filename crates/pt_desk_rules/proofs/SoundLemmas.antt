@@ -10,29 +10,28 @@ use Rattle.pt_base.specs.Day.{IsDay}
 use Rattle.pt_base.specs.TripStatus.{stands}
 use Rattle.pt_base.specs.declared.place.Place.{Place}
 use Rattle.pt_base.specs.declared.policy.Policy.{Policy}
-use Rattle.pt_base.specs.declared.rider.Residence.{Residence}
-use Rattle.pt_base.specs.declared.rider.Residence.TheVariants.{Resident, Visitor}
 use Rattle.pt_base.specs.declared.rider.Rider.{Rider}
 use Rattle.pt_base.specs.declared.vehicle.Vehicle.{Vehicle}
 use Rattle.pt_base.specs.declared.rule.Rule.{Rule}
 use Rattle.pt_corridor.specs.Route.{Route, IsFixedRoute}
 use Rattle.pt_records.specs.Keys.{pair_key}
 use Rattle.pt_records.specs.Records.{put, put_all, take_away, is_within, record_at, Each, IsInOrder}
-use Rattle.pt_records.proofs.OrderLemmas.{Each-put, Each-weaker, Each-both, IsInOrder-put, record_at-put_same, record_at-put_other}
+use Rattle.pt_records.proofs.OrderLemmas.{Each-put, Each-weaker, Each-both, IsInOrder-put}
 use Rattle.pt_records.proofs.TableLemmas.{same_or_other, stays_there, found_by_key, below_is, IsTable-put, IsTable-add, IsTable-replace, Each-filter, IsInOrder-filter}
 use Rattle.pt_records.proofs.WithinLemmas.{within-put_other, within-put_last, Each-within}
-use Rattle.pt_rights.specs.Admission.{is_resident}
 use Rattle.pt_rights.specs.Rules.{first_failing}
 use Rattle.pt_rights.specs.declared.entry.Entry.{Entry}
 use Rattle.pt_desk_rules.specs.Limits.{most_callers, most_places, most_routes, most_riders, most_tables}
-use Rattle.pt_desk_rules.specs.State.{State, caller_with, rider_of, trip_of, file_of, caller_key, kept_key, place_key, route_key, rider_key, entry_key, vehicle_key, travel_key, trip_key, span_of, versions_from, tables_from, tables_before, entries_of, applied}
+use Rattle.pt_spelling.specs.Requests.{spelling}
+use Rattle.pt_desk_rules.specs.State.{State, caller_with, kept_of, rider_of, trip_of, file_of, caller_key, kept_key, place_key, route_key, rider_key, entry_key, vehicle_key, travel_key, trip_key, span_of, versions_from, tables_from, tables_before, entries_of, applied}
 use Rattle.pt_desk_rules.specs.Facts.{cancel_facts, change_facts, facts_of, has_subject, plan_for}
 use Rattle.pt_travel.specs.Chain.{Row}
 use Rattle.pt_desk_rules.proofs.FleetLemmas.{version_stays, fleet_stays}
-use Rattle.pt_desk_rules.specs.Fleet.{is_on_duty, on_duty, vehicle_count, versions_before, versions_of_others}
+use Rattle.pt_desk_rules.proofs.NumberLemmas.{new_is_above}
+use Rattle.pt_desk_rules.specs.Fleet.{on_duty, vehicle_count, versions_before, versions_of_others}
 use Rattle.pt_desk_rules.specs.Planned.{is_booked_from, planned_on, trips_on}
 use Rattle.pt_desk_rules.specs.Travel.{DatedTable}
-use Rattle.pt_desk_rules.specs.Rules.{rules_of, entry_rules, is_nobody_else, is_of_kind, is_nobody_of_another_kind, are_there, has_room_for}
+use Rattle.pt_desk_rules.specs.Rules.{rules_of, is_nobody_else, is_nobody_of_another_kind, are_there, has_room_for}
 use Rattle.pt_desk_rules.specs.Booking.{routes_on, IsBooking}
 use Rattle.pt_rights.specs.declared.tally.Outcome.{Outcome}
 use Rattle.pt_desk_rules.specs.Outcomes.{awaits_outcome}
@@ -43,12 +42,11 @@ use Rattle.pt_booking.specs.Request as request_of
 use Rattle.pt_scheduling.specs.Plan.{Plan, plan_key, planned_stops, stops_of_plan, without, IsPlannedRoute, IsRoutePlan}
 use Rattle.pt_scheduling.specs.Scheduling.{IsBookedIn}
 use Rattle.pt_scheduling.specs.declared.planned.PlannedStop.{PlannedStop}
-use Rattle.pt_scheduling.proofs.PlanLemmas.{any_kept, found_key}
-use Rattle.pt_scheduling.proofs.RouteLemmas.{booked_has, booked_keeps, booked_plan, booked_route, booked_trips, booked_vehicle, has_trip, left_has, left_route, planned_route, Each-found}
+use Rattle.pt_scheduling.proofs.PlanLemmas.{found_key}
+use Rattle.pt_scheduling.proofs.RouteLemmas.{booked_has, booked_keeps, booked_plan, booked_route, booked_trips, has_trip, left_has, left_route, planned_route, Each-found}
 use Rattle.pt_desk_rules.specs.Fleet.{ClosesInDay}
-use Rattle.pt_desk_rules.specs.Filed.{IsEntry, IsInPlace}
+use Rattle.pt_desk_rules.specs.Filed.{IsEntry}
 use Rattle.pt_desk_rules.specs.Sound.{HasStops, HoldsFromDay, IsEntered}
-use Rattle.pt_desk_rules.proofs.FiledLemmas.{admitted_in_place, AllHold}
 use Rattle.pt_desk_rules.proofs.FitLemmas.{booked_fits, each_drive, each_load, fit_after, fit_beside, has_stops}
 use Rattle.pt_desk_rules.proofs.FitLemmas.{left_fits, left_has_stops, travel_fits, vehicle_fits, FitsIn}
 use Rattle.pt_desk_rules.proofs.StandingLemmas.{each_found, has_on, plans_left, put_planned, same_place, stays_beside, stays_planned, trip_on, Each-put_over}
@@ -58,7 +56,7 @@ use Rattle.pt_base.specs.declared.trip.Trip.{Trip}
 use Rattle.pt_base.specs.declared.trip.Wish.{Wish}
 use Rattle.pt_records.specs.declared.span.Span.{Span}
 use Rattle.pt_desk_rules.specs.Step.{state_after, arrival_in, sent_with, left_of, sender, IsOutcome, IsOutcomeBy, IsOutcomeAs}
-use Rattle.pt_desk_rules.specs.Sound.{IsSound, IsNumberedTo, IsSoundFile, IsIn, HasDigest, HasOneHolder, HasSubject, IsOfCaller, IsResidentIn, IsOfResident, HasAuthor, HasFirstDay, HasDepot, HasDay, HasPlaces, HasStandingTrips, HasVehicle, IsOfPlaces, IsOfRider, IsOnDay, IsPlanned, StandsIn, AreNumberedFrom}
+use Rattle.pt_desk_rules.specs.Sound.{IsSound, IsNumberedTo, IsSoundFile, IsIn, HasDigest, HasOneHolder, HasSubject, IsOfCaller, IsKeptWrite, HasFiledRider, HasAuthor, HasFirstDay, HasDepot, HasDay, HasPlaces, HasStandingTrips, IsOfPlaces, IsOfRider, IsOnDay, IsPlanned, StandsIn, AreNumberedFrom}
 use Rattle.pt_requests.specs.declared.caller.Caller.{Caller}
 use Rattle.pt_desk_rules.specs.declared.kept.Arrival.{Arrival}
 use Rattle.pt_desk_rules.specs.declared.kept.Arrival.TheVariants.{New, Repeated, Stale}
@@ -102,6 +100,11 @@ one_holder-put new callers one are =
     (Each-both (HasOneHolder callers) (λ other. new.digest ≡ other.digest → new.id ≡ other.id) (HasOneHolder (put caller_key new callers))
     (λ a holds is. Each-put (λ b. a.digest ≡ b.digest → a.id ≡ b.id) caller_key new callers holds (λ same. sym (is (sym same)))) callers one are)
     (Each-put (λ b. new.digest ≡ b.digest → new.id ≡ b.id) caller_key new callers are (λ same. refl))
+
+-- each rule of a list holds
+abbrev AllHold : List (Rule × Bool) → Type 0
+AllHold [] = Unit {0}
+AllHold (first ∷ rest) = (first.1 ≡ true) × AllHold rest
 
 -- Each lemma gives the lines that change; `search` takes the others as they are.
 put_caller_sound : (new : Caller) (s : State) → IsSound s → HasDigest new → IsTrue (has_subject new.role s.riders s.vehicles) → IsTrue (is_nobody_else new.id (caller_with new.digest s))
@@ -160,27 +163,12 @@ subject_stays new riders vehicles role.Dispatcher there = there
 subject_stays new riders vehicles (role.Driver vehicle) there = there
 subject_stays new riders vehicles role.Admin there = there
 
--- a record that takes the place of a resident's is a resident's
-resident_by_kind : (kind : Residence) (there : Rider) → IsTrue (is_of_kind kind there) → IsTrue (is_resident there.kind) → IsTrue (is_resident kind)
-resident_by_kind Resident there same resident = refl
-resident_by_kind Visitor there same resident = absurd (cc)
-
--- a resident's record stays a resident's while no record of another kind is put in its place
-resident_stays : (riders : List Rider) (new : Rider) (id : ℕ) → IsTrue (is_nobody_of_another_kind new.kind (record_at rider_key new.id riders)) → IsResidentIn riders id → IsResidentIn (put rider_key new riders) id
-resident_stays riders new id free is = elim (same_or_other new.id id) [
-  | inl same ↦
-      let there : record_at rider_key new.id riders ≡ Some is.0 = ap (λ n. record_at rider_key n riders) same ∙ is.1 in
-      let resident : IsTrue (is_resident new.kind) = resident_by_kind new.kind is.0 (subst (λ found. IsTrue (is_nobody_of_another_kind new.kind found)) there free) is.2 in
-      (new, ap (λ n. record_at rider_key n (put rider_key new riders)) (sym same) ∙ record_at-put_same rider_key new riders, resident)
-  | inr other ↦ (is.0, record_at-put_other rider_key id new riders other ∙ is.1, is.2)
-]
-
 put_rider_sound : (new : Rider) (s : State) → IsSound s → IsTrue (is_nobody_of_another_kind new.kind (rider_of new.id s))
     → IsTrue (is_some (record_at rider_key new.id s.riders) || nat_lt (length s.riders) most_riders) → IsSound (record s { riders = put rider_key new s.riders })
 put_rider_sound new s sound free room =
     let table = IsTable-put rider_key new s.riders most_riders sound.riders room in
     let subjects = Each-weaker (HasSubject s.riders s.vehicles) (HasSubject (put rider_key new s.riders) s.vehicles) (λ caller there. subject_stays new s.riders s.vehicles caller.role there) s.callers sound.subjects_there in
-    let residents = Each-weaker (IsOfResident s.riders) (IsOfResident (put rider_key new s.riders)) (λ filed is. resident_stays s.riders new filed.rider free is) s.entries sound.entries_of_residents in
+    let files = Each-weaker (HasFiledRider s.riders) (HasFiledRider (put rider_key new s.riders)) (λ filed there. stays_there rider_key filed.rider new s.riders there) s.entries sound.entries_of_riders in
     let riders = Each-weaker (IsOfRider s.riders) (IsOfRider (put rider_key new s.riders)) (λ trip there. stays_there rider_key trip.rider new s.riders there) s.trips sound.trips_of_riders in
     search rules
 
@@ -230,12 +218,12 @@ files_stay new entries order files at room rider =
       | inr other ↦ subst IsSoundFile (sym (within-put_other entry_key (span_of rider) new entries (in_no_other_span new.rider rider new.position other here))) (files rider)
     ]
 
-put_entry_sound : (new : FiledEntry) (s : State) → IsSound s → IsResidentIn s.riders new.rider → IsIn caller_key s.callers new.entered.author → new.position ≡ length (entries_of new.rider s.entries) → length (entries_of new.rider s.entries) < 200
+put_entry_sound : (new : FiledEntry) (s : State) → IsSound s → IsIn rider_key s.riders new.rider → IsIn caller_key s.callers new.entered.author → new.position ≡ length (entries_of new.rider s.entries) → length (entries_of new.rider s.entries) < 200
     → IsEntered new → IsSound (record s { entries = put entry_key new s.entries })
-put_entry_sound new s sound resident author at room is =
+put_entry_sound new s sound rider author at room is =
     let made = Each-put IsEntered entry_key new s.entries sound.entries_made is in
     let order = IsInOrder-put entry_key new s.entries sound.entries_in_order in
-    let residents = Each-put (IsOfResident s.riders) entry_key new s.entries sound.entries_of_residents resident in
+    let riders = Each-put (HasFiledRider s.riders) entry_key new s.entries sound.entries_of_riders rider in
     let authors = Each-put (HasAuthor s.callers) entry_key new s.entries sound.authors_there author in
     let files = files_stay new s.entries sound.entries_in_order sound.files at room in
     search rules
@@ -248,10 +236,15 @@ whole_file rider s room =
     let taken : length (take 200 xs) ≡ min 200 (length xs) = length-take 200 xs in
     omega arith
 
-numbered_sound : (kept : Kept) (s : State) → IsSound s → IsIn caller_key s.callers kept.caller → IsSound (record s { kept = put kept_key kept s.kept })
-numbered_sound kept s sound there =
+-- what is kept is a write of a caller who is there
+abbrev IsKeptIn : List Caller → Kept → Type 0
+IsKeptIn callers kept = IsIn caller_key callers kept.caller × IsKeptWrite kept
+
+numbered_sound : (kept : Kept) (s : State) → IsSound s → IsKeptIn s.callers kept → IsSound (record s { kept = put kept_key kept s.kept })
+numbered_sound kept s sound (there, write) =
     let order = IsInOrder-put kept_key kept s.kept sound.kept_in_order in
     let callers = Each-put (IsOfCaller s.callers) kept_key kept s.kept sound.kept_of_callers there in
+    let writes = Each-put IsKeptWrite kept_key kept s.kept sound.kept_writes write in
     search rules
 
 holds_first : (name : Rule) (holds : Bool) (rest : List (Rule × Bool)) → first_failing ((name, holds) ∷ rest) ≡ None → (holds ≡ true) × (first_failing rest ≡ None)
@@ -262,21 +255,6 @@ all_hold : (ordered : List (Rule × Bool)) → first_failing ordered ≡ None �
 all_hold [] none = tt
 all_hold (first ∷ rest) none = let here = holds_first first.0 first.1 rest none in (here.0, all_hold rest here.1)
 
--- a rider whose entry is admitted is a resident
-admitted_resident : (found : Option Rider) (rider : ℕ) (entry : Entry) (me : Caller) (now : ℕ × ℕ) (s : State) → rider_of rider s ≡ found → is_some found ≡ true
-    → AllHold (entry_rules found entry now.0 me.id (facts_of (write.Enter rider entry) s)) → IsResidentIn s.riders rider
-admitted_resident None rider entry me now s is there hold = absurd (cc)
-admitted_resident (Some found) rider entry me now s is there hold = (found, is, hold.0)
-
--- and it is in its place
-in_place : (found : Option Rider) (rider : ℕ) (entry : Entry) (me : Caller) (now : ℕ × ℕ) (s : State)
-    → is_some found ≡ true → AllHold (entry_rules found entry now.0 me.id (facts_of (write.Enter rider entry) s))
-    → IsInPlace (length (file_of rider s)) now.0 entry
-in_place None rider entry me now s there hold = absurd (cc)
-in_place (Some found) rider entry me now s there hold =
-    let facts = facts_of (write.Enter rider entry) s in
-    admitted_in_place facts.file entry now.0 me.id facts.tallies facts.policy hold.1
-
 enter_sound : (rider : ℕ) (entry : Entry) (me : Caller) (now : ℕ × ℕ) (s : State) → IsSound s
     → IsIn caller_key s.callers me.id → AllHold (rules_of (write.Enter rider entry) me now
     (facts_of (write.Enter rider entry) s)) → IsEntry entry → IsDay now.0
@@ -285,12 +263,7 @@ enter_sound rider entry me now s sound there hold is_entry on =
     let room = below_is (length (file_of rider s)) 200 hold.1.1.0 in
     let whole = whole_file rider s room in
     put_entry_sound (record { rider = rider; position = length (file_of rider s); entered = record { entry = entry; day = now.0; author = me.id } }) s sound
-    (admitted_resident (rider_of rider s) rider entry me now s refl hold.1.0 hold.1.1.1) there whole (omega arith)
-    (record {
-      on_day = on;
-      ranges = is_entry;
-      in_place = in_place (rider_of rider s) rider entry me now s hold.1.0 hold.1.1.1;
-    })
+    hold.1.0 there whole (omega arith) (record { on_day = on; ranges = is_entry })
 
 driver_stays : (new : Vehicle) (riders : List Rider) (vehicles : List Vehicle) (role : Role) → HasFirstDay new → Each HasFirstDay vehicles → IsTrue (has_subject role riders vehicles)
     → IsTrue (has_subject role riders (put vehicle_key new (take_away vehicle_key (versions_from new.id new.from_day) vehicles)))
@@ -324,7 +297,6 @@ put_vehicle_sound new s sound day closes depot free room =
     let depots = Each-put (HasDepot s.places) vehicle_key new left (Each-filter (HasDepot s.places) kept s.vehicles sound.depots_there) depot in
     let fleet = fleet_stays new s.vehicles day sound.first_days sound.fleet (below_is _ 20 rooms.0) (below_is _ 50 rooms.1) in
     let subjects = Each-weaker (HasSubject s.riders s.vehicles) (HasSubject s.riders (put vehicle_key new left)) (λ caller there. driver_stays new s.riders s.vehicles caller.role day sound.first_days there) s.callers sound.subjects_there in
-    let trips = Each-weaker (HasVehicle s.vehicles) (HasVehicle (put vehicle_key new left)) (λ trip there. version_stays new trip.vehicle s.vehicles day sound.first_days there) s.trips sound.trip_vehicles_there in
     search rules
 
 put_travel_sound : (new : DatedTable) (s : State) → IsSound s → HoldsFromDay new → IsOfPlaces s.places new
@@ -361,7 +333,7 @@ numbered_on last next le trips numbered = Each-weaker (IsNumberedTo last) (IsNum
 
 -- the records that a trip speaks of are there
 abbrev IsThere : State → Trip → Type 0
-IsThere s trip = IsOfRider s.riders trip × HasPlaces s.places trip × HasVehicle s.vehicles trip
+IsThere s trip = IsOfRider s.riders trip × HasPlaces s.places trip
 
 book_sound : (trip : Trip) (plan : Plan) (s : State) → IsSound s → trip.id ≡ s.last_trip + 1 → IsThere s trip → IsRoutePlan plan → HasStandingTrips (put trip_key trip s.trips) plan
     → HasDay trip → IsOnDay plan → Each (IsPlanned (put plan_key plan s.planned)) (put trip_key trip s.trips)
@@ -383,7 +355,6 @@ book_sound trip plan s sound is there route standing day on planned_all some fit
     let on_days = Each-put IsOnDay plan_key plan s.planned sound.planned_days on in
     let riders = Each-put (IsOfRider s.riders) trip_key trip s.trips sound.trips_of_riders there.0 in
     let ends = Each-put (HasPlaces s.places) trip_key trip s.trips sound.trip_places_there there.1 in
-    let vehicles = Each-put (HasVehicle s.vehicles) trip_key trip s.trips sound.trip_vehicles_there there.2 in
     search rules
 
 put_all_order : (plans : List Plan) (there : List Plan) → IsInOrder plan_key there → IsInOrder plan_key (put_all plan_key plans there)
@@ -428,7 +399,6 @@ edit_sound trip away plans s sound below there new standing beside day on planne
     let routes = put_all_each IsRoutePlan plans (take_away plan_key away s.planned) new (Each-filter IsRoutePlan (λ plan. not (is_within (plan_key plan) away)) s.planned sound.planned_routes) in
     let riders = Each-put (IsOfRider s.riders) trip_key trip s.trips sound.trips_of_riders there.0 in
     let ends = Each-put (HasPlaces s.places) trip_key trip s.trips sound.trip_places_there there.1 in
-    let vehicles = Each-put (HasVehicle s.vehicles) trip_key trip s.trips sound.trip_vehicles_there there.2 in
     search rules
 
 -- the stops that stand of a plan without a trip
@@ -464,9 +434,6 @@ booked_is_there minutes number day rider wish request trip plan s is there from 
     let of_request : trip.wish ≡ wish = booked.1.trip_of.wish ∙ wished in (
       subst (IsIn rider_key s.riders) (sym booked.1.trip_of.rider) (found_by_key rider_key (λ r. rider_key r == rider) request.rider s.riders there),
       subst (λ (w : Wish). IsIn place_key s.places w.from × IsIn place_key s.places w.to) (sym of_request) (ap is_some from, ap is_some to),
-      any_kept (λ version. version.id == trip.vehicle) (is_on_duty day s.vehicles) s.vehicles
-          (booked_vehicle minutes day (trips_on day s.trips) (planned_on day s.planned) (on_duty day s.vehicles) request trip plan
-          (subst (λ (n : ℕ). IsBookedIn minutes (routes_on n day s) request trip plan) (sym is) booked)),
     )
 
 -- what is known of each trip that is kept
@@ -573,7 +540,7 @@ on_day request trip wish is wished = ap (λ (w : Wish). w.day) (is ∙ wished)
 found_again : (id : ℕ) (trip : Trip) (trips : List Trip) → record_at trip_key id trips ≡ Some trip → record_at trip_key trip.id trips ≡ Some trip
 found_again id trip trips found = subst (λ (n : ℕ). record_at trip_key n trips ≡ Some trip) (sym (found_key trip_key id trip trips found)) found
 
-booking_sound : (kept : Kept) (today : ℕ) (rider : ℕ) (wish : Wish) (s : State) (decided : Decision) → IsSound s → IsIn caller_key s.callers kept.caller
+booking_sound : (kept : Kept) (today : ℕ) (rider : ℕ) (wish : Wish) (s : State) (decided : Decision) → IsSound s → IsKeptIn s.callers kept
     → IsMadeIf decided (write.Book rider wish) today → IsBooking (booked kept) (s.last_trip + 1) None today wish (facts_of (write.Book rider wish) s) decided → IsSound (state_after (left_of decided s) s)
 booking_sound kept today rider wish s decided sound there made (scheduled.Denied rule, by, is) = subst (λ d. IsSound (state_after (left_of d s) s)) (sym is) sound
 booking_sound kept today rider wish s decided sound there made (scheduled.Booked trip plan, (request, asked, (minutes, times, (none, (chosen, at)))), (told, confirms, is)) =
@@ -592,7 +559,7 @@ booking_sound kept today rider wish s decided sound there made (scheduled.Booked
     (booked_fits minutes (s.last_trip + 1) wish.day request trip plan s sound asked.trip on is_day times
     (chosen, at))) there)
 
-change_trip_sound : (kept : Kept) (today : ℕ) (found : Option Trip) (id : ℕ) (wish : Wish) (s : State) (decided : Decision) → IsSound s → IsIn caller_key s.callers kept.caller
+change_trip_sound : (kept : Kept) (today : ℕ) (found : Option Trip) (id : ℕ) (wish : Wish) (s : State) (decided : Decision) → IsSound s → IsKeptIn s.callers kept
     → IsMadeIf decided (write.Change id wish) today → trip_of id s ≡ found → IsChangeDecided found wish kept today (change_facts found wish s) decided → IsSound (state_after (left_of decided s) s)
 change_trip_sound kept today None id wish s decided sound there made found changes = absurd changes
 change_trip_sound kept today (Some old) id wish s decided sound there made found (scheduled.Denied rule, by, is) = subst (λ d. IsSound (state_after (left_of d s) s)) (sym is) sound
@@ -622,7 +589,7 @@ change_trip_sound kept today (Some old) id wish s decided sound there made found
     (booked_fits minutes old.id wish.day request trip plan s sound asked.trip on is_day times (chosen, at)))
     (fit_beside old trip s sound number here)) there)
 
-cancel_sound : (kept : Kept) (found : Option Trip) (id : ℕ) (s : State) (decided : Decision) → IsSound s → IsIn caller_key s.callers kept.caller
+cancel_sound : (kept : Kept) (found : Option Trip) (id : ℕ) (s : State) (decided : Decision) → IsSound s → IsKeptIn s.callers kept
     → trip_of id s ≡ found → IsCancelDecided found kept (cancel_facts found s) decided → IsSound (state_after (left_of decided s) s)
 cancel_sound kept None id s decided sound there found cancels = absurd cancels
 cancel_sound kept (Some trip) id s decided sound there found is =
@@ -632,7 +599,6 @@ cancel_sound kept (Some trip) id s decided sound there found is =
     (Each-found (IsNumberedTo s.last_trip) trip_key id trip s.trips sound.trips_numbered found) (
       Each-found (IsOfRider s.riders) trip_key id trip s.trips sound.trips_of_riders found,
       Each-found (HasPlaces s.places) trip_key id trip s.trips sound.trip_places_there found,
-      Each-found (HasVehicle s.vehicles) trip_key id trip s.trips sound.trip_vehicles_there found,
     )
     (left_routes trip left (left_there trip s sound))
     (left_standing (put trip_key (cancelled trip) s.trips) trip left
@@ -644,7 +610,7 @@ cancel_sound kept (Some trip) id s decided sound there found is =
     (Each-found HasDay trip_key id trip s.trips sound.trip_days found) refl)
     (fit_beside trip (cancelled trip) s sound refl (found_again id trip s.trips found))) there)
 
-outcome_sound : (kept : Kept) (outcome : Outcome) (found : Option Trip) (id : ℕ) (s : State) (decided : Decision) → IsSound s → IsIn caller_key s.callers kept.caller
+outcome_sound : (kept : Kept) (outcome : Outcome) (found : Option Trip) (id : ℕ) (s : State) (decided : Decision) → IsSound s → IsKeptIn s.callers kept
     → trip_of id s ≡ found → IsTrue (awaits_outcome found) → IsEndDecided found outcome kept decided → IsSound (state_after (left_of decided s) s)
 outcome_sound kept outcome None id s decided sound there found booked ends = absurd ends
 outcome_sound kept outcome (Some trip) id s decided sound there found booked is =
@@ -660,10 +626,10 @@ cancel_trip None s = refl
 cancel_trip (Some trip) s = refl
 
 -- what an accepted write makes of a sound state
-decided_sound : (asked : Write) (me : Caller) (now : ℕ × ℕ) (sent : Sent) (s : State) (decided : Decision) → IsSound s → IsIn caller_key s.callers me.id → AllHold (rules_of asked me now (facts_of asked s))
+decided_sound : (asked : Write) (me : Caller) (now : ℕ × ℕ) (sent : Sent) (s : State) (decided : Decision) → IsSound s → IsKeptIn s.callers (kept_in me.id sent decided) → AllHold (rules_of asked me now (facts_of asked s))
     → IsDecidedBy asked (kept_in me.id sent decided) now.0 (facts_of asked s) decided → IsMadeIf decided asked now.0 → IsSound (state_after (left_of decided s) s)
 decided_sound (write.PutCaller new) me now sent s decided sound there hold is made =
-    accepted_sound now.0 (write.PutCaller new) s decided _ _ is made (λ made. numbered_sound _ _ (put_caller_sound new s sound made hold.1.0 hold.1.1.0 hold.1.1.1.0) (stays_there caller_key me.id new s.callers there))
+    accepted_sound now.0 (write.PutCaller new) s decided _ _ is made (λ made. numbered_sound _ _ (put_caller_sound new s sound made hold.1.0 hold.1.1.0 hold.1.1.1.0) (stays_there caller_key me.id new s.callers there.0, there.1))
 decided_sound (write.PutPolicy new) me now sent s decided sound there hold is made =
     accepted_sound now.0 (write.PutPolicy new) s decided _ _ is made (λ made. numbered_sound _ _ (put_policy_sound new s sound) there)
 decided_sound (write.PutPlace new) me now sent s decided sound there hold is made =
@@ -674,7 +640,7 @@ decided_sound (write.PutRider new) me now sent s decided sound there hold is mad
     accepted_sound now.0 (write.PutRider new) s decided _ _ is made (λ made. numbered_sound _ _ (put_rider_sound new s sound hold.1.0 hold.1.1.0) there)
 decided_sound (write.Enter rider entry) me now sent s decided sound there hold is made =
     accepted_on now.0 (write.Enter rider entry) s decided _ _ is made
-    (λ made on. numbered_sound _ _ (enter_sound rider entry me now s sound there hold made on) there)
+    (λ made on. numbered_sound _ _ (enter_sound rider entry me now s sound there.0 hold made on) there)
 decided_sound (write.PutVehicle new) me now sent s decided sound there hold is made =
     accepted_sound now.0 (write.PutVehicle new) s decided _ _ is made
     (λ made. numbered_sound _ _ (put_vehicle_sound new s sound made.0 made.1 hold.1.0
@@ -694,18 +660,20 @@ decided_sound (write.Cancel trip) me now sent s decided sound there hold is made
 decided_sound (write.Outcome trip outcome) me now sent s decided sound there hold is made =
     outcome_sound (kept_in me.id sent decided) outcome (trip_of trip s) trip s decided sound there refl hold.1.1.0 is
 
-after_sound : (asked : Write) (me : Caller) (now : ℕ × ℕ) (sent : Sent) (s : State) (first : Option Rule) (decided : Decision) → IsSound s → IsIn caller_key s.callers me.id
+after_sound : (asked : Write) (me : Caller) (now : ℕ × ℕ) (sent : Sent) (s : State) (first : Option Rule) (decided : Decision) → IsSound s → IsKeptIn s.callers (kept_in me.id sent decided)
     → first_failing (rules_of asked me now (facts_of asked s)) ≡ first → IsDecisionAfter first asked me now sent (facts_of asked s) decided → IsMadeIf decided asked now.0 → IsSound (state_after (left_of decided s) s)
 after_sound asked me now sent s (Some rule) decided sound there first is made = subst (λ d. IsSound (state_after (left_of d s) s)) (sym is) sound
 after_sound asked me now sent s None decided sound there first is made =
     decided_sound asked me now sent s decided sound there (all_hold (rules_of asked me now (facts_of asked s)) first) is made
 
 write_sound : (asked : Write) (me : Caller) (now : ℕ × ℕ) (number : ℕ) (s : State) (arrival : Arrival) (told : Answer) (left : Option State) → IsSound s → IsIn caller_key s.callers me.id
-    → IsOutcomeAs arrival asked me now number s told left → IsSound (state_after left s)
-write_sound asked me now number s New told left sound there (decided, is, made, tells, leaves) =
-    subst (λ l. IsSound (state_after l s)) (sym leaves) (after_sound asked me now (sent_with number asked) s (first_failing (rules_of asked me now (facts_of asked s))) decided sound there refl is made)
-write_sound asked me now number s (Repeated reply) told left sound there (tells, leaves) = subst (λ l. IsSound (state_after l s)) (sym leaves) sound
-write_sound asked me now number s Stale told left sound there (tells, leaves) = subst (λ l. IsSound (state_after l s)) (sym leaves) sound
+    → arrival_in s asked me number ≡ arrival → IsOutcomeAs arrival asked me now number s told left → IsSound (state_after left s)
+write_sound asked me now number s New told left sound there comes (decided, is, (made, ranges), tells, leaves) =
+    let above = new_is_above number (spelling asked) (kept_of me.id s) comes in
+    let write : IsKeptWrite (kept_in me.id (sent_with number asked) decided) = record { numbered = omega arith; spelled = (asked, ranges, refl) } in
+    subst (λ l. IsSound (state_after l s)) (sym leaves) (after_sound asked me now (sent_with number asked) s (first_failing (rules_of asked me now (facts_of asked s))) decided sound (there, write) refl is made)
+write_sound asked me now number s (Repeated reply) told left sound there comes (tells, leaves) = subst (λ l. IsSound (state_after l s)) (sym leaves) sound
+write_sound asked me now number s Stale told left sound there comes (tells, leaves) = subst (λ l. IsSound (state_after l s)) (sym leaves) sound
 
 by_sound : (digest : List ℕ) (found : Option Caller) (now : ℕ × ℕ) (number : ℕ) (asked : Request) (s : State) (told : Answer) (left : Option State) → caller_with digest s ≡ found → IsSound s
     → IsOutcomeBy found now number asked s told left → IsSound (state_after left s)
@@ -713,7 +681,7 @@ by_sound digest None now number asked s told left is sound (tells, leaves) = sub
 by_sound digest (Some me) now number (request.Read read) s told left is sound (tells, leaves) = subst (λ l. IsSound (state_after l s)) (sym leaves) sound
 by_sound digest (Some me) now number (request.Explain rider wish) s told left is sound (tells, leaves) = subst (λ l. IsSound (state_after l s)) (sym leaves) sound
 by_sound digest (Some me) now number (request.Write asked) s told left is sound outcome =
-    write_sound asked me now number s (arrival_in s asked me number) told left sound (found_by_key caller_key (λ caller. bytes_eq caller.digest digest) me s.callers is) outcome
+    write_sound asked me now number s (arrival_in s asked me number) told left sound (found_by_key caller_key (λ caller. bytes_eq caller.digest digest) me s.callers is) refl outcome
 
 -- a request leaves a sound state where it finds one
 pub request_sound : (key : List ℕ) (now : ℕ × ℕ) (number : ℕ) (asked : Request) (s : State) (told : Answer) (left : Option State) → IsSound s → IsOutcome key now number asked s told left → IsSound (state_after left s)

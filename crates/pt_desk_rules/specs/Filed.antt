@@ -1,8 +1,7 @@
 -- What an entry of a case file keeps to.
-use Rattle.std.specs.Prelude.{ℕ, ◌<◌, ◌≤◌, IsTrue, All}
+use Rattle.std.specs.Prelude.{All}
 use Rattle.pt_base.specs.Day.{IsDay}
 use Rattle.pt_rights.specs.Conditions.{IsCondition, IsConditions}
-use Rattle.pt_rights.specs.Notices.{is_term}
 use Rattle.pt_rights.specs.Reasons.{IsReasons}
 use Rattle.pt_rights.specs.declared.entry.Entry.{Entry}
 use Rattle.pt_rights.specs.declared.entry.Entry.TheVariants as kind
@@ -21,12 +20,3 @@ IsEntry (kind.AppealDenied reasons) = IsReasons reasons
 IsEntry (kind.Notice basis) = IsReasons basis
 IsEntry (kind.Suspend starts ends reasons) = IsDay starts × IsDay ends × IsReasons reasons
 IsEntry _ = Unit {0}
-
--- At this position of a file and on this day: a grant's last day has not passed (49 CFR 37.125(e)), an appeal is
--- against an earlier entry (37.125(g)), and a suspension starts later and lasts 1 to 30 days (37.125(h)).
-abbrev pub IsInPlace : ℕ → ℕ → Entry → Type 0
-IsInPlace position day (kind.Grant grant) = day ≤ grant.until
-IsInPlace position day (kind.AppealGranted grant) = day ≤ grant.until
-IsInPlace position day (kind.Appeal against) = against < position
-IsInPlace position day (kind.Suspend starts ends reasons) = IsTrue (is_term day starts ends)
-IsInPlace position day _ = Unit {0}

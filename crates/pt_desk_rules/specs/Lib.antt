@@ -21,3 +21,4 @@ pub mod Tours
 pub mod Privacy
 pub mod Numbers
 pub mod Again
+pub mod Laws

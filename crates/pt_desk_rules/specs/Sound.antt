@@ -13,9 +13,9 @@ use Rattle.pt_feasible.specs.ServiceTimes.{TimesFit}
 use Rattle.pt_feasible.specs.declared.stop.Stop.{Stop}
 use Rattle.pt_records.specs.Keys.{pair_key}
 use Rattle.pt_records.specs.Records.{Each, IsInOrder, IsTable, record_at}
-use Rattle.pt_rights.specs.Admission.{is_resident}
 use Rattle.pt_scheduling.specs.Plan.{Plan, plan_key, planned_stops, stops_among, IsRoutePlan}
 use Rattle.pt_scheduling.specs.Routes.{IsFeasible}
+use Rattle.pt_spelling.specs.Requests.{IsSpelling}
 use Rattle.pt_travel.specs.Chain.{Row}
 use Rattle.pt_travel.specs.Table as Travel
 use Rattle.pt_desk_rules.specs.Limits.{most_callers, most_places, most_routes, most_riders, most_entries}
@@ -23,9 +23,9 @@ use Rattle.pt_desk_rules.specs.Limits.{most_vehicles, most_versions, most_tables
 use Rattle.pt_desk_rules.specs.State.{State, caller_key, kept_key, place_key, route_key, rider_key, entry_key}
 use Rattle.pt_desk_rules.specs.State.{vehicle_key, travel_key, trip_key, entries_of}
 use Rattle.pt_desk_rules.specs.Facts.{has_subject}
-use Rattle.pt_desk_rules.specs.Filed.{IsEntry, IsInPlace}
+use Rattle.pt_desk_rules.specs.Filed.{IsEntry}
 use Rattle.pt_desk_rules.specs.Booking.{rows_of, AreTimes}
-use Rattle.pt_desk_rules.specs.Fleet.{has_version, on_duty, vehicle_count, versions_of, ClosesInDay}
+use Rattle.pt_desk_rules.specs.Fleet.{on_duty, vehicle_count, versions_of, ClosesInDay}
 use Rattle.pt_desk_rules.specs.Rules.{are_there}
 use Rattle.pt_desk_rules.specs.Travel.{table_on, DatedTable}
 use Rattle.pt_requests.specs.declared.caller.Caller.{Caller}
@@ -51,23 +51,23 @@ HasSubject riders vehicles caller = IsTrue (has_subject caller.role riders vehic
 abbrev pub IsOfCaller : List Caller → Kept → Type 0
 IsOfCaller callers kept = IsIn caller_key callers kept.caller
 
--- a resident's record is there
-abbrev pub IsResidentIn : List Rider → ℕ → Type 0
-IsResidentIn riders id =
-    (rider : Rider) × (record_at rider_key id riders ≡ Some rider) × IsTrue (is_resident rider.kind)
+-- an accepted write: its number is one, and its bytes spell a request that may be asked
+pub record IsKeptWrite (kept : Kept) : Type 0 where
+  pub numbered : 0 < kept.number
+  pub spelled : IsSpelling kept.request
 
-abbrev pub IsOfResident : List Rider → FiledEntry → Type 0
-IsOfResident riders filed = IsResidentIn riders filed.rider
+-- the rider in whose case file an entry is, is there
+abbrev pub HasFiledRider : List Rider → FiledEntry → Type 0
+HasFiledRider riders filed = IsIn rider_key riders filed.rider
 
 -- who entered it is a caller
 abbrev pub HasAuthor : List Caller → FiledEntry → Type 0
 HasAuthor callers filed = IsIn caller_key callers filed.entered.author
 
--- its day is one, and it keeps to its ranges, and to its rules at its position and on its day
+-- its day is one, and it keeps to its ranges
 pub record IsEntered (filed : FiledEntry) : Type 0 where
   pub on_day : IsDay filed.entered.day
   pub ranges : IsEntry filed.entered.entry
-  pub in_place : IsInPlace filed.position filed.entered.day filed.entered.entry
 
 -- the positions of these entries count up from this number, with no gap
 abbrev pub AreNumberedFrom : ℕ → List FiledEntry → Type 0
@@ -111,10 +111,6 @@ IsOfRider riders trip = IsIn rider_key riders trip.rider
 -- and so are both its places
 abbrev pub HasPlaces : List Place → Trip → Type 0
 HasPlaces places trip = IsIn place_key places trip.wish.from × IsIn place_key places trip.wish.to
-
--- and its vehicle
-abbrev pub HasVehicle : List Vehicle → Trip → Type 0
-HasVehicle vehicles trip = IsTrue (has_version trip.vehicle vehicles)
 
 -- the trip of this number stands in the vehicle and on the day of this key
 abbrev pub StandsIn : List Trip → ℕ → ℕ → Type 0
@@ -177,12 +173,13 @@ pub record IsSound (s : State) : Type 0 where
   pub subjects_there : Each (HasSubject s.riders s.vehicles) s.callers
   pub kept_in_order : IsInOrder kept_key s.kept
   pub kept_of_callers : Each (IsOfCaller s.callers) s.kept
+  pub kept_writes : Each IsKeptWrite s.kept
   pub places : IsTable place_key most_places s.places
   pub routes : IsTable route_key most_routes s.routes
   pub routes_made : Each IsFixedRoute s.routes
   pub riders : IsTable rider_key most_riders s.riders
   pub entries_in_order : IsInOrder entry_key s.entries
-  pub entries_of_residents : Each (IsOfResident s.riders) s.entries
+  pub entries_of_riders : Each (HasFiledRider s.riders) s.entries
   pub authors_there : Each (HasAuthor s.callers) s.entries
   pub entries_made : Each IsEntered s.entries
   pub files : (rider : ℕ) → IsSoundFile (entries_of rider s.entries)
@@ -198,7 +195,6 @@ pub record IsSound (s : State) : Type 0 where
   pub trips_numbered : Each (IsNumberedTo s.last_trip) s.trips
   pub trips_of_riders : Each (IsOfRider s.riders) s.trips
   pub trip_places_there : Each (HasPlaces s.places) s.trips
-  pub trip_vehicles_there : Each (HasVehicle s.vehicles) s.trips
   pub trip_days : Each HasDay s.trips
   pub planned_in_order : IsInOrder plan_key s.planned
   pub planned_routes : Each IsRoutePlan s.planned

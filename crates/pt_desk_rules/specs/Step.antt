@@ -3,6 +3,7 @@ use Rattle.std.specs.Prelude.{◌≡◌, ℕ, List, Option, Some, None}
 use Rattle.sha2.specs.Sha256.{sha256}
 use Rattle.pt_base.specs.declared.rule.Rule.TheVariants as rule
 use Rattle.pt_base.specs.declared.trip.Wish.{Wish}
+use Rattle.pt_spelling.specs.Ranges.{IsRequest}
 use Rattle.pt_spelling.specs.Replies.{answer_of}
 use Rattle.pt_spelling.specs.Requests.{spelling}
 use Rattle.pt_desk_rules.specs.Arrival.{arrival_of}
@@ -51,11 +52,11 @@ abbrev pub IsExplainOutcome : ℕ → Wish → Caller → (ℕ × ℕ) → State
 IsExplainOutcome rider wish me now s told left =
     IsExplained wish me now (wish_facts rider wish None s) told × (left ≡ None)
 
--- what a write is told by the rules, and what it commits
+-- what a write that may be asked is told by the rules, and what it commits
 abbrev pub IsDecidedOutcome : Write → Caller → (ℕ × ℕ) → ℕ → State → Answer → Option State → Type 0
 IsDecidedOutcome asked me now number s told left =
     (decided : Decision) × IsDecision asked me now (sent_with number asked) (facts_of asked s) decided
-    × IsMadeIf decided asked now.0
+    × (IsMadeIf decided asked now.0 × IsRequest asked)
     × (told ≡ told_of decided) × (left ≡ left_of decided s)
 
 -- how a write with this number comes in beside the caller's last accepted one

@@ -1,6 +1,7 @@
 ghost use Rattle.pt_desk_rules.specs.Again.{ReadsAreTheSameAgain, RequestsAreTheSameAgain};
 ghost use Rattle.pt_desk_rules.specs.Booking.{HasRoutes};
 ghost use Rattle.pt_desk_rules.specs.Explaining.{RefusalsAreShown};
+ghost use Rattle.pt_desk_rules.specs.Laws.{DenialsAreRight, OutcomesOfSoundStatesAreSound};
 ghost use Rattle.pt_desk_rules.specs.Numbers.{AcceptedNumbersRise, AcceptedWritesAreKept, LastAcceptedIsKept};
 ghost use Rattle.pt_desk_rules.specs.Numbers.{AcceptedWritesMakeTheState};
 ghost use Rattle.pt_desk_rules.specs.Numbers.{DenialsAreTheSameAgain, RepeatsAreToldTheSame, WritesMayBeSentAgain};
@@ -13,6 +14,17 @@ ghost use Rattle.pt_desk_rules.specs.Tours.{HasTours, ShowStandingTrips};
 /// first of all rules.
 pub fn sound_states_have_routes()
     ensures { (s : State) → IsSound s → HasRoutes s }
+{}
+
+/// A law: a request leaves a sound state where it finds one.
+pub fn outcomes_of_sound_states_are_sound()
+    ensures { OutcomesOfSoundStatesAreSound }
+{}
+
+/// A law: in a sound state a new write that is denied is told the first of all its rules to fail. Where it asks for a
+/// trip, these are its own rules, and then those of a booking.
+pub fn denials_are_right()
+    ensures { DenialsAreRight }
 {}
 
 /// A law: in a sound state every vehicle that has stops on a day has its tour on the manifest.

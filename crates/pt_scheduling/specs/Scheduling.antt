@@ -1,6 +1,7 @@
 -- What comes of a trip that is asked for: a plan with the trip at the best place of the day, or the first rule that
 -- fails.
-use Rattle.std.specs.Prelude.{◌≡◌, ℕ, ◌<◌, List, map, Any, All, AllPairs, Option, Some, None}
+use Rattle.std.specs.Prelude.{◌≡◌, ◌⊎◌, ℕ, ◌<◌, List, map, Any, All, AllPairs, Option, Some, None}
+use Rattle.pt_base.specs.declared.rule.Rule.TheVariants.{NoVehicle}
 use Rattle.pt_base.specs.declared.trip.Trip.{Trip}
 use Rattle.pt_feasible.specs.declared.stop.Stop.{Stop}
 use Rattle.pt_insertion.specs.Insertion.{IsWithout}
@@ -37,10 +38,11 @@ pub record IsBookedAt (minutes : ℕ → ℕ → Option ℕ) (vehicles : List On
 abbrev pub IsBookedIn : (ℕ → ℕ → Option ℕ) → List OnDuty → Request → Trip → Plan → Type 0
 IsBookedIn minutes vehicles request trip plan = (chosen : Chosen) × IsBookedAt minutes vehicles request trip plan chosen
 
--- booked at the best place where no rule fails, or denied by the first rule that fails: that it is, is said where each
--- of the vehicles has a route
+-- Booked at the best place where no rule fails, or denied by the first rule that fails. Where not each of the vehicles
+-- has a route without the trip, there is no vehicle.
 abbrev pub IsScheduled : (ℕ → ℕ → Option ℕ) → List OnDuty → Request → Scheduled → Type 0
 IsScheduled minutes vehicles request (Denied rule) =
-    AreRoutes request.trip vehicles → IsFirstFailing (booking_rules minutes vehicles request) (Some rule)
+    IsFirstFailing (booking_rules minutes vehicles request) (Some rule)
+    ⊎ ((¬ AreRoutes request.trip vehicles) × (rule ≡ NoVehicle))
 IsScheduled minutes vehicles request (Booked trip plan) =
     IsFirstFailing (booking_rules minutes vehicles request) None × IsBookedIn minutes vehicles request trip plan

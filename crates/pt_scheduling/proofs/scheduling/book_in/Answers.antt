@@ -1,11 +1,12 @@
-use Rattle.std.proofs.Common.{ap, ◌∙◌, Ok}
+use Rattle.std.proofs.Common.{ap, ◌∙◌, Ok, inl, inr, refl}
 use Rattle.pt_booking.specs.Planning.{on_duty}
 use Rattle.pt_booking.specs.Request.{request_of}
 use Rattle.pt_scheduling.proofs.ScheduledLemmas.{are_without, booked}
 use Rattle.pt_scheduling.proofs.scheduling.book_in.Goals as goal
 
 pub returns-then-not-are_without_trip : goal.returns-then-not-are_without_trip
-returns-then-not-are_without_trip g c = λ are. absurd (let holds = c.are_without_trip.ensures.1 (are_without c.args.request.now.trip c.args.duties.now are) in cc)
+returns-then-not-are_without_trip g c =
+    inr (λ are. absurd (let holds = c.are_without_trip.ensures.1 (are_without c.args.request.now.trip c.args.duties.now are) in cc), refl)
 
 pub returns-in_ok-plan_of-in-Ok-Booked : goal.returns-in_ok-plan_of-in-Ok-Booked
 returns-in_ok-plan_of-in-Ok-Booked g c =
@@ -13,4 +14,4 @@ returns-in_ok-plan_of-in-Ok-Booked g c =
     c.in-Ok-Booked.is c.in-Ok-Booked.field-0-is c.book.ensures.allowed c.book.ensures.place c.book.ensures.trip c.book.ensures.route c.in_ok-plan_of-in-Ok-Booked.ensures
 
 pub returns-in-Ok-Denied : goal.returns-in-Ok-Denied
-returns-in-Ok-Denied g c = λ _. (c.book.ensures.denied c.in-Ok-Denied.rule).0 (c.in-Ok-Denied.is ∙ ap Ok c.in-Ok-Denied.field-0-is)
+returns-in-Ok-Denied g c = inl ((c.book.ensures.denied c.in-Ok-Denied.rule).0 (c.in-Ok-Denied.is ∙ ap Ok c.in-Ok-Denied.field-0-is))

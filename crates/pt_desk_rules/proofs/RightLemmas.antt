@@ -1,0 +1,109 @@
+-- What is denied in a sound state fails the rule that is told, first of all rules.
+use Rattle.std.proofs.Common.{◌≡◌, ◌∙◌, ◌+◌, inl, inr, ℕ, List, Option, Some, None, refl, sym, ap, subst}
+use Rattle.pt_base.specs.declared.rule.Rule.{Rule}
+use Rattle.pt_base.specs.declared.trip.Trip.{Trip}
+use Rattle.pt_base.specs.declared.trip.Wish.{Wish}
+use Rattle.pt_booking.specs.Planning.{booking_rules}
+use Rattle.pt_booking.specs.Rules.{IsFirstFailing}
+use Rattle.pt_rights.specs.Rules.{first_failing}
+use Rattle.pt_rights.specs.declared.tally.Outcome.{Outcome}
+use Rattle.pt_scheduling.specs.Plan.{Plan}
+use Rattle.pt_scheduling.specs.Scheduling.{AreRoutes}
+use Rattle.pt_scheduling.specs.declared.scheduling.Scheduled.TheVariants as scheduled
+use Rattle.pt_scheduling.proofs.PlanLemmas.{found_key}
+use Rattle.pt_desk_rules.specs.Booking.{routes_for, HasRoutes, IsBooking}
+use Rattle.pt_desk_rules.specs.Deciding.{booked, changed, kept_in, IsChangeDecided, IsDecidedBy, IsDecisionAfter}
+use Rattle.pt_desk_rules.specs.Facts.{change_facts, facts_of}
+use Rattle.pt_desk_rules.specs.Laws.{DenialsAreRight, IsFirstOfAll, IsFirstOfBooking, IsFirstOfTrip}
+use Rattle.pt_desk_rules.specs.Rules.{rules_of}
+use Rattle.pt_desk_rules.specs.State.{State, trip_key, trip_of}
+use Rattle.pt_desk_rules.specs.Step.{sent_with, IsOutcomeAs, IsOutcomeBy}
+use Rattle.pt_desk_rules.specs.declared.change.Change.{Change}
+use Rattle.pt_desk_rules.specs.declared.deciding.Decision.{Decision}
+use Rattle.pt_desk_rules.specs.declared.deciding.Decision.TheVariants as decision
+use Rattle.pt_desk_rules.specs.declared.facts.WriteFacts.{WriteFacts}
+use Rattle.pt_desk_rules.specs.declared.kept.Arrival.TheVariants.{New}
+use Rattle.pt_desk_rules.specs.declared.kept.Kept.{Kept}
+use Rattle.pt_desk_rules.specs.declared.kept.Sent.{Sent}
+use Rattle.pt_desk_rules.proofs.AgainLemmas.{cancel_is_accepted, denied_first, end_is_accepted, told_denied}
+use Rattle.pt_desk_rules.proofs.DutyLemmas.{has_routes}
+use Rattle.pt_desk_rules.proofs.OutcomeLemmas.{decision_is}
+use Rattle.pt_desk_rules.proofs.SoundLemmas.{change_trip}
+use Rattle.pt_requests.specs.declared.caller.Caller.{Caller}
+use Rattle.pt_requests.specs.declared.request.Answer.TheVariants as answer
+use Rattle.pt_requests.specs.declared.request.Request.TheVariants as request
+use Rattle.pt_requests.specs.declared.request.Write.{Write}
+use Rattle.pt_requests.specs.declared.request.Write.TheVariants as write
+
+first_of_booking : (change : Trip → Plan → Change) (number : ℕ) (left_out : Option ℕ) (today : ℕ) (wish : Wish)
+    (facts : WriteFacts) (rule : Rule) (decided : Decision) → AreRoutes number (routes_for number wish facts)
+    → decided ≡ decision.Denied rule → IsBooking change number left_out today wish facts decided
+    → IsFirstOfBooking facts number left_out today wish rule
+first_of_booking change number left_out today wish facts rule decided routes denied
+    (scheduled.Booked trip plan, answered, (told, confirms, is)) = absurd (cc)
+first_of_booking change number left_out today wish facts rule decided routes denied
+    (scheduled.Denied first, (asked, by, (driving, are, is)), told) =
+    let vehicles = routes_for number wish facts in
+    let same : first ≡ rule = cc in
+    let fails = denied_first driving vehicles asked first (subst (λ n. AreRoutes n vehicles) (sym by.trip) routes) is in
+    record {
+      request = asked;
+      of_wish = by;
+      minutes = driving;
+      times = are;
+      first = subst (λ r. IsFirstFailing (booking_rules driving vehicles asked) (Some r)) same fails;
+    }
+
+first_of_change : (found : Option Trip) (id : ℕ) (wish : Wish) (kept : Kept) (today : ℕ) (s : State) (rule : Rule)
+    (decided : Decision) → HasRoutes s → trip_of id s ≡ found → decided ≡ decision.Denied rule
+    → IsChangeDecided found wish kept today (change_facts found wish s) decided
+    → IsFirstOfBooking (change_facts found wish s) id (Some id) today wish rule
+first_of_change None id wish kept today s rule decided routes found denied is = absurd is
+first_of_change (Some old) id wish kept today s rule decided routes found denied is =
+    let facts = change_facts (Some old) wish s in
+    subst (λ n. IsFirstOfBooking facts n (Some n) today wish rule) (found_key trip_key id old s.trips found)
+    (first_of_booking (changed kept old facts.booking.plan) old.id (Some old.id) today wish facts rule decided
+    (routes old.id wish.day) denied is)
+
+first_of_trip : (asked : Write) (kept : Kept) (today : ℕ) (s : State) (rule : Rule) (decided : Decision) → HasRoutes s
+    → decided ≡ decision.Denied rule → IsDecidedBy asked kept today (facts_of asked s) decided
+    → IsFirstOfTrip asked today (facts_of asked s) rule
+first_of_trip (write.Book rider wish) kept today s rule decided routes denied is =
+    first_of_booking (booked kept) (s.last_trip + 1) None today wish (facts_of (write.Book rider wish) s) rule decided
+    (routes (s.last_trip + 1) wish.day) denied is
+first_of_trip (write.Change trip wish) kept today s rule decided routes denied is =
+    let found = trip_of trip s in
+    let facts = change_facts found wish s in
+    first_of_change found trip wish kept today s rule decided routes refl denied
+    (subst (λ f. IsChangeDecided f wish kept today facts decided) (change_trip found wish s) is)
+first_of_trip (write.Cancel trip) kept today s rule decided routes denied is =
+    let facts = facts_of (write.Cancel trip) s in
+    cancel_is_accepted facts.booking.trip kept facts rule decided denied is
+first_of_trip (write.Outcome trip outcome) kept today s rule decided routes denied is =
+    let facts = facts_of (write.Outcome trip outcome) s in
+    end_is_accepted facts.booking.trip outcome kept rule decided denied is
+first_of_trip _ kept today s rule decided routes denied is = absurd (cc)
+
+first_of_all : (first : Option Rule) (asked : Write) (me : Caller) (now : ℕ × ℕ) (sent : Sent) (s : State) (rule : Rule)
+    (decided : Decision) → HasRoutes s → first_failing (rules_of asked me now (facts_of asked s)) ≡ first
+    → decided ≡ decision.Denied rule → IsDecisionAfter first asked me now sent (facts_of asked s) decided
+    → IsFirstOfAll asked me now s rule
+first_of_all (Some first) asked me now sent s rule decided routes fails denied is =
+    let same : first ≡ rule = cc in inl (fails ∙ ap (λ r. Some r) same)
+first_of_all None asked me now sent s rule decided routes fails denied is =
+    inr (fails, first_of_trip asked (kept_in me.id sent decided) now.0 s rule decided routes denied is)
+
+write_denied : (asked : Write) (me : Caller) (now : ℕ × ℕ) (number : ℕ) (s : State) (rule : Rule) (left : Option State)
+    → HasRoutes s → IsOutcomeAs New asked me now number s (answer.Denied rule) left → IsFirstOfAll asked me now s rule
+write_denied asked me now number s rule left routes (decided, is, made, tells, leaves) =
+    let facts = facts_of asked s in
+    let sent = sent_with number asked in
+    let first = first_failing (rules_of asked me now facts) in
+    let denied = told_denied rule decided (decision_is first asked me now sent facts decided is) tells in
+    first_of_all first asked me now sent s rule decided routes refl denied is
+
+pub denials_are_right : DenialsAreRight
+denials_are_right key now number asked me s rule left sound by comes outcome =
+    write_denied asked me now number s rule left (has_routes s sound)
+    (subst (λ a. IsOutcomeAs a asked me now number s (answer.Denied rule) left) comes
+    (subst (λ c. IsOutcomeBy c now number (request.Write asked) s (answer.Denied rule) left) by outcome))

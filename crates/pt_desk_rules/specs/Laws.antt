@@ -1,0 +1,59 @@
+-- What holds of every request in a sound state.
+use Rattle.std.specs.Prelude.{◌≡◌, ◌⊎◌, ℕ, ◌+◌, List, Option, Some, None}
+use Rattle.pt_base.specs.declared.rule.Rule.{Rule}
+use Rattle.pt_base.specs.declared.trip.Wish.{Wish}
+use Rattle.pt_booking.specs.Planning.{booking_rules}
+use Rattle.pt_booking.specs.Request.{Request as TripRequest}
+use Rattle.pt_booking.specs.Rules.{IsFirstFailing}
+use Rattle.pt_rights.specs.Rules.{first_failing}
+use Rattle.pt_desk_rules.specs.Booking.{routes_for, rows_of, AreTimes, IsRequestBy}
+use Rattle.pt_desk_rules.specs.Facts.{facts_of}
+use Rattle.pt_desk_rules.specs.Rules.{rules_of}
+use Rattle.pt_desk_rules.specs.Sound.{IsSound}
+use Rattle.pt_desk_rules.specs.State.{State}
+use Rattle.pt_desk_rules.specs.Step.{arrival_in, sender, state_after, IsOutcome}
+use Rattle.pt_desk_rules.specs.declared.facts.WriteFacts.{WriteFacts}
+use Rattle.pt_desk_rules.specs.declared.kept.Arrival.TheVariants.{New}
+use Rattle.pt_requests.specs.declared.caller.Caller.{Caller}
+use Rattle.pt_requests.specs.declared.request.Answer.{Answer}
+use Rattle.pt_requests.specs.declared.request.Answer.TheVariants as answer
+use Rattle.pt_requests.specs.declared.request.Request.{Request}
+use Rattle.pt_requests.specs.declared.request.Request.TheVariants as request
+use Rattle.pt_requests.specs.declared.request.Write.{Write}
+use Rattle.pt_requests.specs.declared.request.Write.TheVariants as write
+
+-- a request leaves a sound state where it finds one
+abbrev pub OutcomesOfSoundStatesAreSound : Type 0
+OutcomesOfSoundStatesAreSound =
+    (key : List ℕ) (now : ℕ × ℕ) (number : ℕ) (asked : Request) (s : State) (told : Answer) (left : Option State) →
+    IsSound s → IsOutcome key now number asked s told left → IsSound (state_after left s)
+
+-- of the rules of a booking, for a wish under this number and by the driving times of its day, this one fails first
+pub record IsFirstOfBooking (facts : WriteFacts) (number : ℕ) (left_out : Option ℕ) (today : ℕ) (wish : Wish)
+    (rule : Rule) : Type 0 where
+  pub request : TripRequest
+  pub of_wish : IsRequestBy facts number left_out today wish request
+  pub minutes : ℕ → ℕ → Option ℕ
+  pub times : AreTimes (rows_of facts.booking.day.travel) minutes
+  pub first : IsFirstFailing (booking_rules minutes (routes_for number wish facts) request) (Some rule)
+
+-- the same of the trip that a write asks for, if it does
+abbrev pub IsFirstOfTrip : Write → ℕ → WriteFacts → Rule → Type 0
+IsFirstOfTrip (write.Book rider wish) today facts rule =
+    IsFirstOfBooking facts (facts.booking.last_trip + 1) None today wish rule
+IsFirstOfTrip (write.Change trip wish) today facts rule = IsFirstOfBooking facts trip (Some trip) today wish rule
+IsFirstOfTrip _ today facts rule = ⊥
+
+-- of all rules of a write this is the first to fail: of its own, and where they all hold, of those of its trip
+abbrev pub IsFirstOfAll : Write → Caller → (ℕ × ℕ) → State → Rule → Type 0
+IsFirstOfAll asked me now s rule =
+    (first_failing (rules_of asked me now (facts_of asked s)) ≡ Some rule)
+    ⊎ ((first_failing (rules_of asked me now (facts_of asked s)) ≡ None)
+    × IsFirstOfTrip asked now.0 (facts_of asked s) rule)
+
+-- a new write that is denied is told the first of all its rules to fail
+abbrev pub DenialsAreRight : Type 0
+DenialsAreRight =
+    (key : List ℕ) (now : ℕ × ℕ) (number : ℕ) (asked : Write) (me : Caller) (s : State) (rule : Rule)
+    (left : Option State) → IsSound s → sender key s ≡ Some me → arrival_in s asked me number ≡ New →
+    IsOutcome key now number (request.Write asked) s (answer.Denied rule) left → IsFirstOfAll asked me now s rule
