@@ -22,7 +22,7 @@ read_then a b c x v Is Is' r first (told, left, goes, by) gives = (
   (λ clean.
       let up : b.doubt ≤ c.doubt = goes.clean in
       let was : b.doubt ≡ 0 = omega arith in
-      let read = read_tells b.shut a.content b.content v x (first.holds was).tells in
+      let read = read_tells a.content b.content v x (first.holds was).tells in
       elim (by clean) [
         | inl is ↦ inl (gives read.0 told left (subst (λ s. Is s told left) read.1 is))
         | inr fault ↦ inr fault
@@ -51,7 +51,7 @@ read_memory {X} {Y} a b x v w Is first =
         told = λ same. absurd (fine same);
         stays = λ none some. absurd (fine' (first.stays none some));
         settled = first.settled;
-        holds = λ clean. record { tells = λ _. ((first.holds clean).tells).1; crash = (first.holds clean).crash; durable = tt };
+        holds = λ clean. record { tells = ((first.holds clean).tells).1; crash = (first.holds clean).crash; durable = tt };
       },
       (λ _. inr (tt, refl)),
     )
@@ -61,16 +61,16 @@ pub goes_by : {X : Type 0} (a b : Store) (told : X) (left : Option State) (Is : 
 goes_by a b told left Is r goes is = (told, left, goes, λ _. inl is)
 
 -- what they tell, where the store is clean
-pub tells_by : {X : Type 0} (a b : Store) (Is : Outcome X) (r : Result X StoreFault) → Answers a b Is r → b.doubt ≡ 0 → TellsBy b.shut a.content b.content Is r
+pub tells_by : {X : Type 0} (a b : Store) (Is : Outcome X) (r : Result X StoreFault) → Answers a b Is r → b.doubt ≡ 0 → TellsBy a.content b.content Is r
 tells_by a b Is r (told, left, goes, by) clean = (told, left, (goes.holds clean).tells, by clean)
 
-agrees : {X : Type 0} (shut : ℕ) (old new : State) (told : X) (left : Option State) (r : Result X StoreFault) → Tells shut old new told left r → IfOk r (λ x. x ≡ told)
-agrees shut old new told left (Ok x) tells = tells.0
-agrees shut old new told left (Err fault) tells = tt
+agrees : {X : Type 0} (old new : State) (told : X) (left : Option State) (r : Result X StoreFault) → Tells old new told left r → IfOk r (λ x. x ≡ told)
+agrees old new told left (Ok x) tells = tells.0
+agrees old new told left (Err fault) tells = tt
 
-stays : {X : Type 0} (shut : ℕ) (old new : State) (told : X) (left : Option State) (r : Result X StoreFault) → left ≡ None → Tells shut old new told left r → OnOk r (new ≡ old)
-stays shut old new told left (Ok x) none tells = tells.1 ∙ ap (λ left. state_after left old) none
-stays shut old new told left (Err fault) none tells = tt
+stays : {X : Type 0} (old new : State) (told : X) (left : Option State) (r : Result X StoreFault) → left ≡ None → Tells old new told left r → OnOk r (new ≡ old)
+stays old new told left (Ok x) none tells = tells.1 ∙ ap (λ left. state_after left old) none
+stays old new told left (Err fault) none tells = tt
 
 -- where each outcome that agrees with what is told commits nothing, nothing is changed
 pub changes_nothing : {X : Type 0} (a b : Store) (Is : Outcome X) (r : Result X StoreFault) → Answers a b Is r
@@ -78,11 +78,11 @@ pub changes_nothing : {X : Type 0} (a b : Store) (Is : Outcome X) (r : Result X 
 changes_nothing a b Is r (told, left, goes, by) none_by =
     let none : b.doubt ≡ 0 → left ≡ None
     = λ clean. elim (by clean) [
-      | inl is ↦ none_by told left (agrees b.shut a.content b.content told left r (goes.holds clean).tells) is
+      | inl is ↦ none_by told left (agrees a.content b.content told left r (goes.holds clean).tells) is
       | inr fault ↦ fault.1
     ] in
     record {
-      content = λ clean. stays b.shut a.content b.content told left r (none clean) (goes.holds clean).tells;
+      content = λ clean. stays a.content b.content told left r (none clean) (goes.holds clean).tells;
       found = λ clean o found. leaves_nothing a b told left r o goes (none clean) clean found;
     }
 
@@ -104,7 +104,7 @@ no_memory {X} a w Is =
         told = λ same. absurd (fine same);
         stays = λ none some. absurd (omega arith);
         settled = λ settled. settled;
-        holds = λ _. record { tells = λ _. refl; crash = λ o found. inl found; durable = tt };
+        holds = λ _. record { tells = refl; crash = λ o found. inl found; durable = tt };
       },
       (λ _. inr (tt, refl)),
     )

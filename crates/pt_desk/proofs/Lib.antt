@@ -6,4 +6,4 @@ mod AnswerLemmas
 mod ReadLemmas
 mod QuietLemmas
 mod PlaceLemmas
-mod RefusalLemmas
+pub mod RefusalLemmas

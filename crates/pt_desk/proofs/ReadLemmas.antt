@@ -32,9 +32,9 @@ reads_pair {X} {Y} a b c f g x y first next =
 same_fault : {X Y : Type 0} (e : StoreFault) → ◌≡◌ {A = Result Y StoreFault} (Err e) (Err failed) → ◌≡◌ {A = Result X StoreFault} (Err e) (Err failed)
 same_fault e same = let is : e ≡ failed = cc in cc
 
-fault_tells : {X Y : Type 0} (shut : ℕ) (old new : State) (v : X) (w : Y) (e : StoreFault) → Tells {X = X} shut old new v None (Err e) → Tells {X = Y} shut old new w None (Err e)
-fault_tells shut old new v w Memory tells = tells
-fault_tells shut old new v w failed tells = tt
+fault_tells : {X Y : Type 0} (old new : State) (v : X) (w : Y) (e : StoreFault) → Tells {X = X} old new v None (Err e) → Tells {X = Y} old new w None (Err e)
+fault_tells old new v w Memory tells = tells
+fault_tells old new v w failed tells = tt
 
 -- a fault, whatever was to be read
 pub fault_of : {X Y : Type 0} (a b : Store) (v : X) (w : Y) (e : StoreFault) → Goes {X = X} a b v None (Err e) → Goes {X = Y} a b w None (Err e)
@@ -45,7 +45,7 @@ fault_of {X} {Y} a b v w e read = record {
   told = λ same. read.told (same_fault {X = X} {Y = Y} e same);
   stays = λ none some. same_fault {X = Y} {Y = X} e (read.stays none some);
   settled = read.settled;
-  holds = λ clean. record { tells = fault_tells b.shut a.content b.content v w e (read.holds clean).tells; crash = (read.holds clean).crash; durable = tt };
+  holds = λ clean. record { tells = fault_tells a.content b.content v w e (read.holds clean).tells; crash = (read.holds clean).crash; durable = tt };
 }
 
 -- a fault after something was read

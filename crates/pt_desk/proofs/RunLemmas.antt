@@ -1,5 +1,5 @@
 -- One call more of a run.
-use Rattle.std.proofs.Common.{◌≡◌, ℕ, zero, suc, ◌<◌, ◌≤◌, List, [], ◌∷◌, Some, None, Result, Ok, Err, length, drop, get_or, drop-cons, add-one, ◌+◌, arith, refl, sym, ap, ◌∙◌, subst, inl, inr}
+use Rattle.std.proofs.Common.{◌≡◌, ℕ, zero, suc, ◌<◌, ◌≤◌, ◌⊎◌, ◌++◌, List, [], ◌∷◌, Some, None, Result, Ok, Err, length, drop, get_or, drop-cons, add-one, ◌+◌, arith, refl, sym, ap, ◌∙◌, subst, inl, inr}
 use Rattle.std.proofs.lemmas.List.{drop_all}
 use Rattle.pt_desk_rules.specs.State.{State}
 use Rattle.pt_desk.specs.Store.{Store, ChangesNothing, Fails}
@@ -8,7 +8,7 @@ use Rattle.pt_desk.specs.declared.keeper.StoreFault.TheVariants.{Memory, Store a
 use Rattle.pt_requests.specs.declared.request.Answer.{Answer}
 use Rattle.pt_desk.specs.declared.running.Call.{Call}
 use Rattle.pt_desk.specs.Run.{AnswersCall, IsOnlyTold, IsOutcomeOf, Runs, AreOnlyTold, AreRefused, GoesOn}
-use Rattle.pt_desk.specs.Run.{made, AreAnswered, IsToldAfterACrash, RunsAreCalls, RunsLeaveAcceptedWrites}
+use Rattle.pt_desk.specs.Run.{made, AreAnswered, IsToldAfterACrash, RunsAreCalls, RunsLeaveAcceptedWrites, TellOfFailure}
 use Rattle.pt_desk_rules.specs.Again.{IsToldAgain}
 use Rattle.pt_desk_rules.specs.Numbers.{committed, AreMadeBy}
 use Rattle.pt_desk_rules.specs.Step.{state_after}
@@ -20,10 +20,10 @@ abbrev Reply : Type 0
 Reply = Result Answer StoreFault
 
 -- an answer goes before a run
-answered : (call : Call) (calls : List Call) (reply : Reply) (replies : List Reply) (old mid new : State) → AnswersCall 0 call old mid reply → (◌≡◌ {A = Reply} reply (Err failed) → ⊥) → Runs mid calls replies new
+answered : (call : Call) (calls : List Call) (reply : Reply) (replies : List Reply) (old mid new : State) → AnswersCall call old mid reply → (◌≡◌ {A = Reply} reply (Err failed) → ⊥) → Runs mid calls replies new
     → Runs old (call ∷ calls) (reply ∷ replies) new
 answered call calls (Err failed) replies old mid new told fine rest = absurd (fine refl)
-answered call calls (Err Memory) replies old mid new (told, left, tells, by) fine rest = subst (λ s. Runs s calls replies new) (tells refl) rest
+answered call calls (Err Memory) replies old mid new (told, left, tells, by) fine rest = subst (λ s. Runs s calls replies new) tells rest
 answered call calls (Ok answer) replies old mid new (told, left, tells, (inl is)) fine rest =
     (left, subst (λ (a : Answer). IsOutcomeOf call old a left) (sym tells.0) is, subst (λ s. Runs s calls replies new) tells.1 rest)
 answered call calls (Ok answer) replies old mid new (told, left, tells, (inr fault)) fine rest = absurd fault.0
@@ -33,7 +33,7 @@ refused call calls reply replies old new is rest = subst (λ r. Runs old (call �
 
 -- one call more, with its answer
 pub goes_on : (call : Call) (calls : List Call) (reply : Reply) (replies : List Reply) (old mid new : State) (before now : ℕ) → Fails before now reply
-    → AnswersCall 0 call old mid reply → GoesOn now mid calls replies new → GoesOn before old (call ∷ calls) (reply ∷ replies) new
+    → AnswersCall call old mid reply → GoesOn now mid calls replies new → GoesOn before old (call ∷ calls) (reply ∷ replies) new
 goes_on call calls reply replies old mid new before zero fails told rest =
     let grows = fails.grows in
     record {
@@ -55,11 +55,26 @@ ended failures s calls i all = rw drop_all (record { runs = λ _. refl; failed =
 next : (calls : List Call) (i : ℕ) (call : Call) → i < length calls → call ≡ get_or calls i call → drop i calls ≡ call ∷ drop (i + 1) calls
 next calls i call lt here = rw add-one (drop-cons calls i call lt ∙ ap (λ c. c ∷ drop (suc i) calls) (sym here))
 
-pub goes_on_at : (calls : List Call) (i : ℕ) (call : Call) (reply : Reply) (replies : List Reply) (old mid new : State) (before now shut : ℕ) → i < length calls → call ≡ get_or calls i call → Fails before now reply
-    → AnswersCall shut call old mid reply → shut ≡ 0 → GoesOn now mid (drop (i + 1) calls) replies new → GoesOn before old (drop i calls) (reply ∷ replies) new
-goes_on_at calls i call reply replies old mid new before now shut lt here fails told whole rest =
+pub goes_on_at : (calls : List Call) (i : ℕ) (call : Call) (reply : Reply) (replies : List Reply) (old mid new : State) (before now : ℕ) → i < length calls → call ≡ get_or calls i call → Fails before now reply
+    → AnswersCall call old mid reply → GoesOn now mid (drop (i + 1) calls) replies new → GoesOn before old (drop i calls) (reply ∷ replies) new
+goes_on_at calls i call reply replies old mid new before now lt here fails told rest =
     subst (λ cs. GoesOn before old cs (reply ∷ replies) new) (sym (next calls i call lt here))
-    (goes_on call (drop (i + 1) calls) reply replies old mid new before now fails (subst (λ n. AnswersCall n call old mid reply) whole told) rest)
+    (goes_on call (drop (i + 1) calls) reply replies old mid new before now fails told rest)
+
+told_at_last : (replies : List Reply) (reply : Reply) → TellOfFailure (replies ++ reply ∷ []) → TellOfFailure replies ⊎ (◌≡◌ {A = Reply} reply (Err failed))
+told_at_last [] reply (inl is) = inr is
+told_at_last [] reply (inr none) = absurd none
+told_at_last (first ∷ replies) reply (inl is) = inl (inl is)
+told_at_last (first ∷ replies) reply (inr later) = elim (told_at_last replies reply later) [ inl some ↦ inl (inr some) | inr last ↦ inr last ]
+
+-- one reply more: where one says that the store has failed, it has
+pub failure_told : (replies longer : List Reply) (reply : Reply) (before after : ℕ) → longer ≡ replies ++ reply ∷ [] → before ≤ after
+    → (TellOfFailure replies → 0 < before) → (◌≡◌ {A = Reply} reply (Err failed) → 0 < after) → TellOfFailure longer → 0 < after
+failure_told replies longer reply before after is grows so_far now some =
+    elim (told_at_last replies reply (subst TellOfFailure is some)) [
+      | inl earlier ↦ let up = so_far earlier in omega arith
+      | inr last ↦ now last
+    ]
 
 -- where the store is clean, the content is as it was, and a crash leaves no more
 abbrev pub IsSame : Store → Store → Type 0

@@ -42,8 +42,8 @@ abbrev pub IsOutcomeOf : Call → State → Answer → Option State → Type 0
 IsOutcomeOf call s told left = IsOutcome call.key.items call.now call.number call.request s told left
 
 -- the call is answered by the rules, or is refused for want of memory and changes nothing
-abbrev pub AnswersCall : ℕ → Call → State → State → Result Answer StoreFault → Type 0
-AnswersCall shut call old new reply = TellsBy shut old new (IsOutcomeOf call) reply
+abbrev pub AnswersCall : Call → State → State → Result Answer StoreFault → Type 0
+AnswersCall call old new reply = TellsBy old new (IsOutcomeOf call) reply
 
 -- the store has failed, and each of these calls is told so
 abbrev pub AreRefused : List Call → List (Result Answer StoreFault) → Type 0
@@ -80,6 +80,11 @@ AreAnswered (call ∷ calls) (Err fault ∷ replies) answered = AreAnswered call
 AreAnswered (call ∷ calls) (Ok told ∷ replies) (one ∷ answered) =
     (one ≡ made call told one.left) × AreAnswered calls replies answered
 AreAnswered _ _ _ = ⊥
+
+-- some reply says that the store has failed
+abbrev pub TellOfFailure : List (Result Answer StoreFault) → Type 0
+TellOfFailure [] = ⊥
+TellOfFailure (reply ∷ replies) = (reply ≡ Err Store) ⊎ TellOfFailure replies
 
 -- the store answered, or memory was refused
 abbrev pub IsServed : Result Answer StoreFault → Type 0

@@ -29,10 +29,10 @@ IsLeft (Some new) o = o ≡ Some new
 
 -- what they answer, and the content that stands, where `left` is what they commit, if anything: on Ok all is done, for
 -- want of memory nothing
-abbrev pub Tells : {X : Type 0} → ℕ → State → State → X → Option State → Result X StoreFault → Type 0
-Tells shut old new value left (Ok x) = (x ≡ value) × (new ≡ state_after left old)
-Tells shut old new value left (Err Memory) = shut ≡ 0 → new ≡ old
-Tells shut old new value left (Err failed) = Unit {0}
+abbrev pub Tells : {X : Type 0} → State → State → X → Option State → Result X StoreFault → Type 0
+Tells old new value left (Ok x) = (x ≡ value) × (new ≡ state_after left old)
+Tells old new value left (Err Memory) = new ≡ old
+Tells old new value left (Err failed) = Unit {0}
 
 -- once a commit is answered, an opening finds it and nothing else
 abbrev pub IsDurable : {X : Type 0} → Store → Option State → Result X StoreFault → Type 0
@@ -42,7 +42,7 @@ IsDurable after _ _ = Unit {0}
 -- what is said of the content, where the store is clean as the calls end
 pub record Holds {X : Type 0} (before after : Store) (value : X) (left : Option State)
     (result : Result X StoreFault) : Type 0 where
-  pub tells : Tells after.shut before.content after.content value left result
+  pub tells : Tells before.content after.content value left result
   pub crash : (o : Option State) → after.found o → before.found o ⊎ IsLeft left o
   pub durable : IsDurable after left result
 
@@ -70,10 +70,9 @@ IsFault (Err fault) = Unit {0}
 
 -- what they answer, and the content that stands, is by one of these outcomes of the content before, or a fault came
 -- before anything was decided
-abbrev pub TellsBy : {X : Type 0} → ℕ → State → State → (State → X → Option State → Type 0) → Result X StoreFault
-    → Type 0
-TellsBy {X} shut old new IsOutcome result =
-    (told : X) × (left : Option State) × Tells shut old new told left result
+abbrev pub TellsBy : {X : Type 0} → State → State → (State → X → Option State → Type 0) → Result X StoreFault → Type 0
+TellsBy {X} old new IsOutcome result =
+    (told : X) × (left : Option State) × Tells old new told left result
     × (IsOutcome old told left ⊎ (IsFault result × (left ≡ None)))
 
 -- Calls that answer and commit as these outcomes of the content allow, where the store is clean. A fault may come
@@ -91,13 +90,16 @@ Reads before after told result = Goes before after (told before.content) None re
 abbrev pub Commits : Store → Store → (State → State) → Result (Unit {0}) StoreFault → Type 0
 Commits before after changed result = Goes before after tt (Some (changed before.content)) result
 
+-- once a store has failed, it says so whatever it is asked
+abbrev pub Refuses : {X : Type 0} → Store → Result X StoreFault → Type 0
+Refuses before result = 0 < before.failures → result ≡ Err failed
+
 -- `Store` is answered exactly where the store has failed in this call or before it
 pub record Fails {X : Type 0} (before after : ℕ) (result : Result X StoreFault) : Type 0 where
   pub grows : before ≤ after
   pub told : result ≡ Err failed → 0 < after
   pub stays : 0 < after → result ≡ Err failed
 
--- a sound content is left sound, while the store is clean, serves and has not failed
+-- a sound content is left sound, while the store is clean and has not failed
 abbrev pub IsSoundKept : Store → Store → Type 0
-IsSoundKept before after =
-    after.doubt ≡ 0 → after.shut ≡ 0 → after.failures ≡ 0 → IsSound before.content → IsSound after.content
+IsSoundKept before after = after.doubt ≡ 0 → after.failures ≡ 0 → IsSound before.content → IsSound after.content

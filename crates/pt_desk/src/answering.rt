@@ -1,4 +1,5 @@
 ghost use Rattle.std.specs.Prelude.{◌≡◌, ◌<◌, ◌≤◌, ℕ, Option, None, Err};
+ghost use Rattle.pt_spelling.specs.Ranges.{IsRequest};
 ghost use Rattle.pt_desk_rules.specs.State.{State};
 ghost use Rattle.pt_desk_rules.specs.Step.{sent_with, told_of, left_of};
 ghost use Rattle.pt_desk_rules.specs.Step.{IsExplainOutcome, IsReadOutcome, IsDecidedOutcome, IsWriteOutcome};
@@ -70,6 +71,7 @@ fn answer_new<K: Keeper>(
     write: &Write,
 ) -> Reply
     requires spelled { sent ≡ sent_with sent.number write.now }
+    requires ranges { IsRequest write.now }
     ensures goes { Answers (K.store keeper.old) (K.store keeper.new)
         (IsDecidedOutcome write.now me.now now sent.number) result }
 {

@@ -1,8 +1,8 @@
-ghost use Rattle.std.specs.Prelude.{◌≡◌, ◌≤◌, IfOk, IfErr, OnErr};
+ghost use Rattle.std.specs.Prelude.{◌≡◌, ◌<◌, ◌≤◌, IfOk, IfErr, OnErr};
 ghost use Rattle.pt_base.specs.Fault.{fault};
 ghost use Rattle.pt_base.specs.Codes.{memory_refused};
 ghost use Rattle.pt_desk.specs.Store.{Store, Answers, ChangesNothing, Fails, IsSettled, IsSoundKept};
-ghost use Rattle.pt_desk.specs.Run.{AreOnlyTold, GoesOn, IsOnlyTold, IsOutcomeOf};
+ghost use Rattle.pt_desk.specs.Run.{AreOnlyTold, GoesOn, IsOnlyTold, IsOutcomeOf, TellOfFailure};
 
 use crate::{Keeper, Reply, answer};
 use pt_base::{Day, Fault, Minute};
@@ -43,9 +43,11 @@ fn answer_call<K: Keeper>(alloc: Global, keeper: &mut K, call: &Call) -> Reply
 /// The list of replies is made first. The error is want of memory for it, and then no call was answered. Where the
 /// store is shut as the run ends, it has failed, or a reply is want of memory and the store serves no more.
 pub fn run<K: Keeper>(alloc: Global, keeper: &mut K, calls: &[Call]) -> Result<Vec<Reply>, Fault>
-    ensures runs { (K.store keeper.new).doubt ≡ 0 → (K.store keeper.new).shut ≡ 0
+    ensures runs { (K.store keeper.new).doubt ≡ 0
         → IfOk result (λ replies. GoesOn (K.store keeper.old).failures (K.store keeper.old).content calls.now
         replies.items (K.store keeper.new).content) }
+    // A reply that the store has failed comes only where it has, in that call or before it.
+    ensures told { IfOk result (λ replies. TellOfFailure replies.items → 0 < (K.store keeper.new).failures) }
     // A run of denials, and of reads that are answered, changes nothing.
     ensures only_told { IfOk result (λ replies. AreOnlyTold calls.now replies.items
         → ChangesNothing (K.store keeper.old) (K.store keeper.new) result) }

@@ -46,7 +46,7 @@ returns g c =
             decision,
             subst (λ facts. IsDecision c.args.write.now c.args.me.now c.args.now (sent_with c.args.sent.number c.args.write.now) facts decision) is
                 (subst (λ (sent : Sent). IsDecision c.args.write.now c.args.me.now c.args.now sent c.in_ok-facts.facts decision) c.requires.spelled c.in_ok-decision.ensures.decided),
-            c.in_ok-decision.ensures.made,
+            (c.in_ok-decision.ensures.made, c.requires.ranges),
             carried.0,
             carried.1,
           ));

@@ -2,7 +2,7 @@ use Rattle.std.proofs.Common.{◌≡◌, ◌≤◌, ◌∷◌, ◌++◌, [], ari
 use Rattle.std.proofs.lemmas.Grind.{common_steps}
 use Rattle.pt_desk.specs.Run.{AreOnlyTold, IsOutcomeOf}
 use Rattle.pt_desk.proofs.AnswerLemmas.{tells_by}
-use Rattle.pt_desk.proofs.RunLemmas.{goes_on_at, only_told_at, ended}
+use Rattle.pt_desk.proofs.RunLemmas.{ended, failure_told, goes_on_at, only_told_at}
 use Rattle.pt_desk.proofs.running.run.Goals as goal
 
 pub loop-call-preserved : goal.loop-call-preserved
@@ -25,22 +25,23 @@ loop-call-preserved g c =
       serves = omega arith;
       grows = omega arith;
       settled = λ was. goes.settled (c.loop-call.invariant.settled was);
-      sound = λ clean whole none sound. c.answer_call-reply.ensures.sound clean whole none (c.loop-call.invariant.sound (omega arith) (omega arith) (omega arith) sound);
+      sound = λ clean none sound. c.answer_call-reply.ensures.sound clean none (c.loop-call.invariant.sound (omega arith) (omega arith) sound);
+      told = λ some. failure_told c.loop-call.replies.items c.push.new.self.items reply before.failures after.failures pushed growing
+          c.loop-call.invariant.told c.answer_call-reply.ensures.fails.told some;
       only_told = λ rest told.
           let joined : c.push.new.self.items ++ rest ≡ c.loop-call.replies.items ++ reply ∷ rest = rw (pushed, append_assoc) refl in
           only_told_at calls i c.call-item.result reply rest (store c.args.keeper.now) before after c.loop-call-test.true c.call-item.is cleaner c.answer_call-reply.ensures.only_told
           (c.loop-call.invariant.only_told (reply ∷ rest) (subst (λ replies. AreOnlyTold calls replies) joined told));
-      rest = λ clean whole rest new left.
+      rest = λ clean rest new left.
           let was : before.doubt ≡ 0 = omega arith in
-          let served : before.shut ≡ 0 = omega arith in
-          let on = goes_on_at calls i c.call-item.result reply rest before.content after.content new before.failures after.failures after.shut c.loop-call-test.true c.call-item.is c.answer_call-reply.ensures.fails (tells_by before after (IsOutcomeOf c.call-item.result) reply answers clean) whole left in
-          rw (pushed, append_assoc) (c.loop-call.invariant.rest was served (reply ∷ rest) new on);
+          let on = goes_on_at calls i c.call-item.result reply rest before.content after.content new before.failures after.failures c.loop-call-test.true c.call-item.is c.answer_call-reply.ensures.fails (tells_by before after (IsOutcomeOf c.call-item.result) reply answers clean) left in
+          rw (pushed, append_assoc) (c.loop-call.invariant.rest was (reply ∷ rest) new on);
     }
 
 pub returns-clause-runs : goal.returns-clause-runs
-returns-clause-runs g c clean whole =
+returns-clause-runs g c clean =
     let s = g.K.Keeper.store c.loop-call.keeper in
-    rw append-nil at (c.loop-call.invariant.rest clean whole [] s.content (ended s.failures s.content c.args.calls.now c.loop-call.call-index (omega arith)))
+    rw append-nil at (c.loop-call.invariant.rest clean [] s.content (ended s.failures s.content c.args.calls.now c.loop-call.call-index (omega arith)))
 
 pub returns-clause-only_told : goal.returns-clause-only_told
 returns-clause-only_told g c told =

@@ -1,7 +1,7 @@
-use Rattle.std.proofs.Common.{◌≡◌, ◌+◌, ◌-◌, ◌≤◌, ◌++◌, List, Result, drop, length, vec_len, vec_capacity}
+use Rattle.std.proofs.Common.{◌≡◌, ◌+◌, ◌-◌, ◌<◌, ◌≤◌, ◌++◌, List, Result, drop, length, vec_len, vec_capacity}
 use Rattle.pt_desk_rules.specs.State.{State}
 use Rattle.pt_desk_rules.specs.Sound.{IsSound}
-use Rattle.pt_desk.specs.Run.{AreOnlyTold, GoesOn}
+use Rattle.pt_desk.specs.Run.{AreOnlyTold, GoesOn, TellOfFailure}
 use Rattle.pt_desk.specs.Store.{Store, IsSettled}
 use Rattle.pt_desk.specs.declared.keeper.StoreFault.{StoreFault}
 use Rattle.pt_requests.specs.declared.request.Answer.{Answer}
@@ -18,8 +18,9 @@ invariant-loop-call g l =
       serves : (store l.fn.keeper).shut ≤ (store l.keeper).shut;
       grows : (store l.fn.keeper).failures ≤ (store l.keeper).failures;
       settled : IsSettled (store l.fn.keeper) → IsSettled (store l.keeper);
-      sound : (store l.keeper).doubt ≡ 0 → (store l.keeper).shut ≡ 0 → (store l.keeper).failures ≡ 0 → IsSound (store l.fn.keeper).content → IsSound (store l.keeper).content;
+      sound : (store l.keeper).doubt ≡ 0 → (store l.keeper).failures ≡ 0 → IsSound (store l.fn.keeper).content → IsSound (store l.keeper).content;
       only_told : (rest : List (Result Answer StoreFault)) → AreOnlyTold l.calls (l.replies.items ++ rest) → IsSame (store l.fn.keeper) (store l.keeper) × AreOnlyTold (drop l.call-index l.calls) rest;
-      rest : (store l.keeper).doubt ≡ 0 → (store l.keeper).shut ≡ 0 → (rest : List (Result Answer StoreFault)) (new : State) → GoesOn (store l.keeper).failures (store l.keeper).content (drop l.call-index l.calls) rest new
+      told : TellOfFailure l.replies.items → 0 < (store l.keeper).failures;
+      rest : (store l.keeper).doubt ≡ 0 → (rest : List (Result Answer StoreFault)) (new : State) → GoesOn (store l.keeper).failures (store l.keeper).content (drop l.call-index l.calls) rest new
           → GoesOn (store l.fn.keeper).failures (store l.fn.keeper).content l.calls (l.replies.items ++ rest) new;
     }
