@@ -1,23 +1,14 @@
 -- A record that is found is the only one with its key.
 use Rattle.std.proofs.Common.{◌≡◌, ℕ, Bool, IsTrue, List, Option, Some, subst, sym, ◌∙◌}
 use Rattle.pt_base.specs.TripStatus.{stands}
-use Rattle.pt_base.specs.declared.rider.Rider.{Rider}
 use Rattle.pt_base.specs.declared.trip.Trip.{Trip}
 use Rattle.pt_records.specs.Keys.{pair_key}
 use Rattle.pt_records.specs.Records.{record_at}
-use Rattle.pt_rights.specs.Admission.{is_resident}
-use Rattle.pt_desk_rules.specs.Sound.{IsResidentIn, StandsIn}
-use Rattle.pt_desk_rules.specs.State.{rider_key, trip_key}
+use Rattle.pt_desk_rules.specs.Sound.{StandsIn}
+use Rattle.pt_desk_rules.specs.State.{trip_key}
 
 some_one : {A : Type 0} (o : Option A) (x y : A) → o ≡ Some x → o ≡ Some y → y ≡ x
 some_one o x y is also = cc
-
-pub resident_found : (riders : List Rider) (id : ℕ) (rider : Rider) (b : Bool) → record_at rider_key id riders ≡ Some rider
-    → b ≡ is_resident rider.kind → (IsTrue b → IsResidentIn riders id) × (IsResidentIn riders id → IsTrue b)
-resident_found riders id rider b found is = (
-  λ holds. (rider, found, sym is ∙ holds),
-  λ (other, also, holds). is ∙ subst (λ (r : Rider). IsTrue (is_resident r.kind)) (some_one (record_at rider_key id riders) rider other found also) holds,
-)
 
 abbrev IsStandingIn : ℕ → Trip → Type 0
 IsStandingIn key trip = IsTrue (stands trip.status) × (pair_key trip.vehicle trip.wish.day ≡ key)

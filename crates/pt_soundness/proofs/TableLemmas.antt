@@ -48,7 +48,7 @@ rider_of role.Admin riders vehicles there = refl
 sound_in : (s : State) → IsSound s → (t : UnsoundTable) → IsSoundIn s t
 sound_in s sound table.Desk = tt
 sound_in s sound table.Callers = record { table = sound.callers; digests = sound.digests; one_holder_each = sound.one_holder_each }
-sound_in s sound table.Kept = record { in_order = sound.kept_in_order; of_callers = sound.kept_of_callers }
+sound_in s sound table.Kept = record { in_order = sound.kept_in_order; of_callers = sound.kept_of_callers; writes = sound.kept_writes }
 sound_in s sound table.Places = sound.places
 sound_in s sound table.Fixed = record { table = sound.routes; made = sound.routes_made }
 sound_in s sound table.Vehicles = record {
@@ -65,7 +65,7 @@ sound_in s sound table.Riders = record {
 }
 sound_in s sound table.Entries = record {
   in_order = sound.entries_in_order;
-  of_residents = sound.entries_of_residents;
+  of_riders = sound.entries_of_riders;
   authors_there = sound.authors_there;
   made = sound.entries_made;
   files = sound.files;
@@ -75,7 +75,6 @@ sound_in s sound table.Trips = record {
   numbered = sound.trips_numbered;
   of_riders = sound.trips_of_riders;
   places_there = sound.trip_places_there;
-  vehicles_there = sound.trip_vehicles_there;
   days = sound.trip_days;
 }
 sound_in s sound table.Stops = record {
@@ -115,12 +114,13 @@ sound_of s each =
           (λ caller driven there. subject_of caller.role s.riders s.vehicles driven there) s.callers vehicles.driven_there riders.riders_there;
       kept_in_order = kept.in_order;
       kept_of_callers = kept.of_callers;
+      kept_writes = kept.writes;
       places = each table.Places;
       routes = routes.table;
       routes_made = routes.made;
       riders = riders.table;
       entries_in_order = entries.in_order;
-      entries_of_residents = entries.of_residents;
+      entries_of_riders = entries.of_riders;
       authors_there = entries.authors_there;
       entries_made = entries.made;
       files = entries.files;
@@ -136,7 +136,6 @@ sound_of s each =
       trips_numbered = trips.numbered;
       trips_of_riders = trips.of_riders;
       trip_places_there = trips.places_there;
-      trip_vehicles_there = trips.vehicles_there;
       trip_days = trips.days;
       planned_in_order = plans.in_order;
       planned_routes = plans.routes;

@@ -12,9 +12,10 @@ use Rattle.pt_requests.specs.declared.caller.Role.TheVariants as role
 use Rattle.pt_scheduling.specs.Plan.{Plan, plan_key, IsRoutePlan}
 use Rattle.pt_desk_rules.specs.Fleet.{has_version, ClosesInDay}
 use Rattle.pt_desk_rules.specs.Limits.{most_callers, most_places, most_routes, most_riders, most_tables}
-use Rattle.pt_desk_rules.specs.Sound.{HasDigest, HasOneHolder, IsOfCaller, IsOfResident, HasAuthor, IsEntered}
+use Rattle.pt_desk_rules.specs.Sound.{HasDigest, HasOneHolder, IsKeptWrite, IsOfCaller}
+use Rattle.pt_desk_rules.specs.Sound.{HasFiledRider, HasAuthor, IsEntered}
 use Rattle.pt_desk_rules.specs.Sound.{IsSoundFile, HasFirstDay, HasDepot, IsFleet, HoldsFromDay, IsOfPlaces}
-use Rattle.pt_desk_rules.specs.Sound.{IsNumberedTo, IsOfRider, HasPlaces, HasVehicle, HasDay, HasStandingTrips}
+use Rattle.pt_desk_rules.specs.Sound.{IsNumberedTo, IsOfRider, HasPlaces, HasDay, HasStandingTrips}
 use Rattle.pt_desk_rules.specs.Sound.{IsOnDay, HasStops, DrivesIn, LoadsFitIn, IsPlanned}
 use Rattle.pt_desk_rules.specs.State.{caller_key, kept_key, place_key, route_key, rider_key, entry_key}
 use Rattle.pt_desk_rules.specs.State.{vehicle_key, travel_key, trip_key, entries_of}
@@ -46,6 +47,7 @@ pub record AreSoundCallers (callers : List Caller) : Type 0 where
 pub record AreSoundKept (callers : List Caller) (kept : List Kept) : Type 0 where
   pub in_order : IsInOrder kept_key kept
   pub of_callers : Each (IsOfCaller callers) kept
+  pub writes : Each IsKeptWrite kept
 
 abbrev pub AreSoundPlaces : List Place → Type 0
 AreSoundPlaces places = IsTable place_key most_places places
@@ -72,18 +74,16 @@ AreSoundFiles entries = (rider : ℕ) → IsSoundFile (entries_of rider entries)
 
 pub record AreSoundEntries (callers : List Caller) (riders : List Rider) (entries : List FiledEntry) : Type 0 where
   pub in_order : IsInOrder entry_key entries
-  pub of_residents : Each (IsOfResident riders) entries
+  pub of_riders : Each (HasFiledRider riders) entries
   pub authors_there : Each (HasAuthor callers) entries
   pub made : Each IsEntered entries
   pub files : AreSoundFiles entries
 
-pub record AreSoundTrips (places : List Place) (vehicles : List Vehicle) (riders : List Rider) (last : ℕ)
-    (trips : List Trip) : Type 0 where
+pub record AreSoundTrips (places : List Place) (riders : List Rider) (last : ℕ) (trips : List Trip) : Type 0 where
   pub in_order : IsInOrder trip_key trips
   pub numbered : Each (IsNumberedTo last) trips
   pub of_riders : Each (IsOfRider riders) trips
   pub places_there : Each (HasPlaces places) trips
-  pub vehicles_there : Each (HasVehicle vehicles) trips
   pub days : Each HasDay trips
 
 pub record AreSoundPlans (trips : List Trip) (plans : List Plan) : Type 0 where

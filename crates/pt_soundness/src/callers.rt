@@ -1,10 +1,10 @@
 ghost use Rattle.std.specs.Prelude.{◌≡◌, ◌↔◌, IsTrue};
 ghost use Rattle.pt_records.specs.Records.{Each};
-ghost use Rattle.pt_desk_rules.specs.Sound.{HasDigest, HasOneHolder, IsOfCaller};
-ghost use Rattle.pt_soundness.specs.Unsound.{AreSoundCallers, AreSoundKept};
+ghost use Rattle.pt_desk_rules.specs.Sound.{HasDigest, HasOneHolder};
+ghost use Rattle.pt_soundness.specs.Unsound.{AreSoundCallers};
 
-use pt_desk_rules::{Caller, Kept, MOST_CALLERS};
-use pt_records::{Key, Table};
+use pt_desk_rules::{Caller, MOST_CALLERS};
+use pt_records::Table;
 
 /// Whether the caller's digest has 32 bytes.
 fn has_digest(caller: &Caller) -> bool
@@ -47,25 +47,4 @@ pub(crate) fn are_sound_callers(callers: &Table<Caller>) -> bool
 {
     let callers = callers.as_slice();
     callers.len() <= MOST_CALLERS && have_digests(callers) && have_one_holder_each(callers)
-}
-
-/// Whether the caller of a kept write is there.
-fn is_of_caller(callers: &Table<Caller>, kept: &Kept) -> bool
-    ensures { IsTrue result ↔ IsOfCaller callers.now.items kept.now }
-{
-    callers.find(&Key::of(kept.caller.number())).is_some()
-}
-
-/// Whether the callers of the kept writes are there.
-fn are_of_callers(callers: &Table<Caller>, kept: &[Kept]) -> bool
-    ensures { IsTrue result ↔ Each (IsOfCaller callers.now.items) kept.now }
-{
-    kept.iter().all(|one| is_of_caller(callers, one))
-}
-
-/// Whether the kept writes are those of a sound state.
-pub(crate) fn are_sound_kept(callers: &Table<Caller>, kept: &Table<Kept>) -> bool
-    ensures { IsTrue result ↔ AreSoundKept callers.now.items kept.now.items }
-{
-    are_of_callers(callers, kept.as_slice())
 }

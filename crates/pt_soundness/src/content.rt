@@ -3,9 +3,10 @@ ghost use Rattle.pt_desk_rules.specs.Sound.{IsSound};
 ghost use Rattle.pt_soundness.specs.Tables.{number_of, AreSoundBefore, IsFirstUnsound, IsSoundIn};
 
 use crate::UnsoundTable;
-use crate::callers::{are_sound_callers, are_sound_kept};
+use crate::callers::are_sound_callers;
 use crate::entries::are_sound_entries;
 use crate::fits::are_sound_tables;
+use crate::kept::are_sound_kept;
 use crate::loads::are_sound_loads;
 use crate::places::{are_sound_places, are_sound_riders, are_sound_routes};
 use crate::plans::are_sound_plans;
@@ -28,14 +29,14 @@ fn is_sound_in(alloc: Global, content: &ListKeeper, table: UnsoundTable) -> Resu
     let sound = match table {
         UnsoundTable::Desk | UnsoundTable::RiderChairs | UnsoundTable::VehicleChairs => true,
         UnsoundTable::Callers => are_sound_callers(callers),
-        UnsoundTable::Kept => are_sound_kept(callers, content.kept_table()),
+        UnsoundTable::Kept => are_sound_kept(alloc, callers, content.kept_table())?,
         UnsoundTable::Places => are_sound_places(places),
         UnsoundTable::Fixed => are_sound_routes(content.routes_table()),
         UnsoundTable::Vehicles => are_sound_vehicles(callers, places, vehicles),
         UnsoundTable::Riders => are_sound_riders(callers, riders),
         UnsoundTable::Entries => are_sound_entries(callers, riders, content.entries_table()),
         UnsoundTable::Trips => {
-            are_sound_trips(places, vehicles, riders, content.current_last_trip(), trips)
+            are_sound_trips(places, riders, content.current_last_trip(), trips)
         }
         UnsoundTable::Stops => are_sound_plans(trips, plans),
         UnsoundTable::Travel => {

@@ -1,36 +1,21 @@
-ghost use Rattle.std.specs.Prelude.{◌≡◌, ◌↔◌, IsTrue};
-ghost use Rattle.pt_desk_rules.specs.Filed.{IsEntry, IsGrant, IsInPlace};
-ghost use Rattle.pt_desk_rules.specs.Sound.{HasAuthor, IsEntered, IsOfResident};
+ghost use Rattle.std.specs.Prelude.{◌↔◌, IsTrue};
+ghost use Rattle.pt_desk_rules.specs.Filed.{IsEntry, IsGrant};
+ghost use Rattle.pt_desk_rules.specs.Sound.{HasAuthor, HasFiledRider, IsEntered};
 ghost use Rattle.pt_records.specs.Records.{Each};
-ghost use Rattle.pt_rights.specs.Admission.{is_resident};
 ghost use Rattle.pt_rights.specs.Conditions.{IsCondition};
-ghost use Rattle.pt_rights.specs.Notices.{is_term};
 ghost use Rattle.pt_soundness.specs.Unsound.{AreSoundEntries};
 
 use crate::files::are_sound_files;
-use pt_base::{Day, Residence, Rider};
+use pt_base::Rider;
 use pt_desk_rules::{Caller, FiledEntry};
 use pt_records::{Key, Table};
 use pt_rights::{Condition, Entry, Grant};
 
-/// The furthest day of a suspension after its first.
-const MOST_FURTHER_DAYS: u32 = 29;
-
-/// Whether the rider is a resident.
-fn is_resident(rider: &Rider) -> bool
-    ensures { result ≡ is_resident rider.now.kind }
+/// Whether the rider in whose case file the entry is, is there.
+fn has_rider(riders: &Table<Rider>, filed: &FiledEntry) -> bool
+    ensures { IsTrue result ↔ HasFiledRider riders.now.items filed.now }
 {
-    rider.kind == Residence::Resident
-}
-
-/// Whether the rider of an entry is there, and is a resident.
-fn is_of_resident(riders: &Table<Rider>, filed: &FiledEntry) -> bool
-    ensures { IsTrue result ↔ IsOfResident riders.now.items filed.now }
-{
-    match riders.find(&Key::of(filed.rider.number())) {
-        Some(rider) => is_resident(rider),
-        None => false,
-    }
+    riders.find(&Key::of(filed.rider.number())).is_some()
 }
 
 /// Whether who entered it is there.
@@ -92,44 +77,19 @@ fn is_entry(entry: &Entry) -> bool
     true
 }
 
-/// Whether a suspension that was entered on the day may last from the one day to the other.
-fn is_term(day: Day, starts: Day, ends: Day) -> bool
-    ensures { result ≡ is_term day starts ends }
-{
-    day < starts && starts <= ends && ends.number() <= starts.number() + MOST_FURTHER_DAYS
-}
-
-/// Whether an entry of the day keeps to its rules at this position of a file.
-fn is_in_place(position: u32, day: Day, entry: &Entry) -> bool
-    ensures { IsTrue result ↔ IsInPlace position day entry.now }
-{
-    match entry {
-        Entry::Grant(grant) | Entry::AppealGranted(grant) => day <= grant.until,
-        Entry::Appeal { against } => u32::from(*against) < position,
-        Entry::Suspend { starts, ends, .. } => is_term(day, *starts, *ends),
-        _ => true,
-    }
-}
-
-/// Whether an entry keeps to its ranges, and to its rules at its position and on its day.
+/// True: the day and the fields of an entry are such, as their types have it.
 fn is_entered(filed: &FiledEntry) -> bool
     ensures { IsTrue result ↔ IsEntered filed.now }
 {
     let _number = filed.entered.day.number();
     is_entry(&filed.entered.entry)
-        && is_in_place(filed.position, filed.entered.day, &filed.entered.entry)
 }
 
-/// Whether the riders of the entries are residents who are there.
-fn are_of_residents(riders: &Table<Rider>, entries: &[FiledEntry]) -> bool
-    ensures { IsTrue result ↔ Each (IsOfResident riders.now.items) entries.now }
+/// Whether the riders in whose case files the entries are, are there.
+fn have_riders(riders: &Table<Rider>, entries: &[FiledEntry]) -> bool
+    ensures { IsTrue result ↔ Each (HasFiledRider riders.now.items) entries.now }
 {
-    for filed in entries {
-        if !is_of_resident(riders, filed) {
-            return false;
-        }
-    }
-    true
+    entries.iter().all(|filed| has_rider(riders, filed))
 }
 
 /// Whether all who entered them are there.
@@ -139,7 +99,7 @@ fn have_authors(callers: &Table<Caller>, entries: &[FiledEntry]) -> bool
     entries.iter().all(|filed| has_author(callers, filed))
 }
 
-/// Whether the entries keep to their ranges and rules.
+/// True: the entries keep to their ranges, as their types have it.
 fn are_entered(entries: &[FiledEntry]) -> bool
     ensures { IsTrue result ↔ Each IsEntered entries.now }
 {
@@ -155,7 +115,7 @@ pub(crate) fn are_sound_entries(
     ensures { IsTrue result ↔ AreSoundEntries callers.now.items riders.now.items entries.now.items }
 {
     let entries = entries.as_slice();
-    are_of_residents(riders, entries)
+    have_riders(riders, entries)
         && have_authors(callers, entries)
         && are_entered(entries)
         && are_sound_files(entries)

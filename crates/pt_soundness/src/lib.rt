@@ -9,6 +9,7 @@ mod content;
 mod entries;
 mod files;
 mod fits;
+mod kept;
 mod loads;
 mod pairs;
 mod places;

@@ -1,10 +1,9 @@
 ghost use Rattle.std.specs.Prelude.{◌↔◌, IsTrue};
 ghost use Rattle.pt_records.specs.Records.{Each};
-ghost use Rattle.pt_desk_rules.specs.Sound.{HasDay, HasFirstDay, HasPlaces, HasVehicle, IsNumberedTo, IsOfRider};
+ghost use Rattle.pt_desk_rules.specs.Sound.{HasDay, HasPlaces, IsNumberedTo, IsOfRider};
 ghost use Rattle.pt_soundness.specs.Unsound.{AreSoundTrips};
 
-use crate::vehicles::has_version;
-use pt_base::{Place, Rider, Trip, Vehicle};
+use pt_base::{Place, Rider, Trip};
 use pt_records::{Key, Table};
 
 /// Whether the trip has a number that was given.
@@ -27,14 +26,6 @@ fn has_places(places: &Table<Place>, trip: &Trip) -> bool
 {
     places.find(&Key::of(trip.wish.from.number())).is_some()
         && places.find(&Key::of(trip.wish.to.number())).is_some()
-}
-
-/// Whether the vehicle of the trip is there.
-fn has_vehicle(vehicles: &Table<Vehicle>, trip: &Trip) -> bool
-    requires days { Each HasFirstDay vehicles.now.items }
-    ensures { IsTrue result ↔ HasVehicle vehicles.now.items trip.now }
-{
-    has_version(vehicles, trip.vehicle)
 }
 
 /// True: the day of a trip is a day, as its type has it.
@@ -66,14 +57,6 @@ fn have_places(places: &Table<Place>, trips: &[Trip]) -> bool
     trips.iter().all(|trip| has_places(places, trip))
 }
 
-/// Whether the vehicles of the trips are there.
-fn have_vehicles(vehicles: &Table<Vehicle>, trips: &[Trip]) -> bool
-    requires days { Each HasFirstDay vehicles.now.items }
-    ensures { IsTrue result ↔ Each (HasVehicle vehicles.now.items) trips.now }
-{
-    trips.iter().all(|trip| has_vehicle(vehicles, trip))
-}
-
 /// True: the days of the trips are days, as their types have it.
 fn have_days(trips: &[Trip]) -> bool
     ensures { IsTrue result ↔ Each HasDay trips.now }
@@ -81,22 +64,18 @@ fn have_days(trips: &[Trip]) -> bool
     trips.iter().all(has_day)
 }
 
-/// Whether the trips are those of a sound state, with the places, the vehicles and the riders.
+/// Whether the trips are those of a sound state, with the places and the riders.
 pub(crate) fn are_sound_trips(
     places: &Table<Place>,
-    vehicles: &Table<Vehicle>,
     riders: &Table<Rider>,
     last: u32,
     trips: &Table<Trip>,
 ) -> bool
-    requires days { Each HasFirstDay vehicles.now.items }
-    ensures { IsTrue result
-        ↔ AreSoundTrips places.now.items vehicles.now.items riders.now.items last trips.now.items }
+    ensures { IsTrue result ↔ AreSoundTrips places.now.items riders.now.items last trips.now.items }
 {
     let trips = trips.as_slice();
     are_numbered_to(last, trips)
         && are_of_riders(riders, trips)
         && have_places(places, trips)
-        && have_vehicles(vehicles, trips)
         && have_days(trips)
 }

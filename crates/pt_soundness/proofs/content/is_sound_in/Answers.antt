@@ -6,12 +6,6 @@ use Rattle.pt_soundness.specs.declared.unsound_table.UnsoundTable.TheVariants as
 use Rattle.pt_soundness.proofs.TableLemmas.{days_before, routes_before}
 use Rattle.pt_soundness.proofs.content.is_sound_in.Goals as goal
 
-pub are_sound_trips-sound-requires : goal.are_sound_trips-sound-requires
-are_sound_trips-sound-requires c = record {
-  days = subst (Each HasFirstDay) (sym c.vehicles_table-vehicles.ensures.value)
-      (days_before c.args.content.now.content c.args.table table.Trips c.in-Trips.is c.requires.before (omega arith));
-}
-
 pub are_sound_tables-requires-clause-days : goal.are_sound_tables-requires-clause-days
 are_sound_tables-requires-clause-days c =
     subst (Each HasFirstDay) (sym c.vehicles_table-vehicles.ensures.value)
