@@ -1,7 +1,7 @@
 -- A desk whose content was read from the tables is in step with them.
 use Rattle.std.proofs.Common.{◌≡◌, ◌≤◌, inl, inr, false, IsTrue, Ok, refl, sym, subst, ◌∙◌, ap, arith}
 use Rattle.sqlite.specs.Effect.{Database}
-use Rattle.sqlite.specs.State.{State as Connected, HasCleanDisk}
+use Rattle.sqlite.specs.State.{State as Connected, HasCleanDisk, Survives}
 use Rattle.sqlite.specs.Tree.{Trees}
 use Rattle.sqlite.specs.View.{doubt}
 use Rattle.pt_desk_rules.specs.State.{State}
@@ -40,6 +40,13 @@ handed_back old mid new trees is here clean stays falls opened =
     let early : HasCleanDisk mid = omega (arith, clean, falls) in
     let anew = opened early in
     is ∙ ap (λ (d : Database). d.trees) ((stays clean).committed here ∙ anew.committed) ∙ anew.rows
+
+-- where nothing is committed, a crash leaves what it could leave before
+pub left_before : (old new : Connected) → Survives old new (λ _. ⊥) → HasCleanDisk new → (db : Trees) → new.may_leave db → old.may_leave db
+left_before old new survives clean db left = elim (survives.crash clean db left) [
+  | inl before ↦ before
+  | inr nothing ↦ absurd nothing
+]
 
 -- nothing was read
 pub stays_same : (s : Connected) → Stays s s

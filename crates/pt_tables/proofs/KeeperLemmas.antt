@@ -29,7 +29,7 @@ listed content = record { content = content; doubt = 0; shut = 0; failures = 0; 
 -- a read of the mirror leaves its content
 pub same_content : {X : Type 0} (a b : State) (v : X) (r : Result X StoreFault) → Goes (listed a) (listed b) v None r → b ≡ a
 same_content a b v (Ok x) h = (h.holds refl).tells.1
-same_content a b v (Err Memory) h = (h.holds refl).tells refl
+same_content a b v (Err Memory) h = (h.holds refl).tells
 same_content a b v (Err failed) h = absurd (let up = h.told refl in omega arith)
 
 reads_same : {X : Type 0} (s : Connected) (a : State) (f : ℕ) (v : X) (r : Result X StoreFault) → f ≡ 0
@@ -50,7 +50,7 @@ reads_same s a f v (Err Memory) none h = record {
   told = λ is. absurd (cc);
   stays = λ low up. absurd (omega arith);
   settled = λ before. before;
-  holds = λ clean. record { tells = λ _. refl; crash = λ o found. inl found; durable = tt };
+  holds = λ clean. record { tells = refl; crash = λ o found. inl found; durable = tt };
 }
 reads_same s a f v (Err failed) none h = absurd (let up = h.told refl in omega arith)
 
@@ -199,7 +199,7 @@ module _ (old new : Connected) (before after : State) (f : ℕ) (none : f ≡ 0)
         told = λ is. absurd (cc);
         stays = λ low up. absurd (omega arith);
         settled = λ _. settles new before g law (step_undone g most settled (λ _ clean. undone clean));
-        holds = λ clean. record { tells = λ _. refl; crash = crashes; durable = tt };
+        holds = λ clean. record { tells = refl; crash = crashes; durable = tt };
       }
   commits_not g failed on_failed on_memory settled undone =
       let one : g ≡ 1 = on_failed refl in
@@ -233,7 +233,7 @@ wants_memory s a f left r none is = subst (λ r. Goes {X = Unit {0}} (kept_store
   told = λ same. absurd (cc);
   stays = λ low up. absurd (omega arith);
   settled = λ before. before;
-  holds = λ clean. record { tells = λ _. refl; crash = λ o found. inl found; durable = not_lasting (Unit {0}) (kept_store s a f) left Memory };
+  holds = λ clean. record { tells = refl; crash = λ o found. inl found; durable = not_lasting (Unit {0}) (kept_store s a f) left Memory };
 })
 
 -- a commit of a keeper, whose mirror was given room for it

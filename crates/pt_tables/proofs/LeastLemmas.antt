@@ -1,17 +1,21 @@
 -- The least state as a new database has it.
-use Rattle.std.proofs.Common.{◌≡◌, inl, inr, ℕ, List, IsTrue, false, refl, sym, ap, subst, ◌∙◌}
+use Rattle.std.proofs.Common.{◌≡◌, inl, inr, ℕ, List, IsTrue, false, refl, sym, ap, subst, ◌∙◌, arith}
 use Rattle.sha2.specs.Sha256.{sha256}
 use Rattle.sqlite.specs.Effect.{Database}
 use Rattle.sqlite.specs.Tree.{Trees}
-use Rattle.sqlite.specs.State.{State as Connected, Survives}
+use Rattle.sqlite.specs.State.{State as Connected, HasCleanDisk, Survives}
 use Rattle.sqlite.proofs.StateLemmas.{survives_weaker}
 use Rattle.pt_base.specs.declared.policy.Policy.{Policy}
 use Rattle.pt_desk.specs.LeastState.{IsLeastPolicy, IsLeastState}
-use Rattle.pt_desk_rules.specs.State.{State}
-use Rattle.pt_tables_writing.specs.Least.{IsNew, IsAsBefore, IsInUse, IsUndone, HasNewRows, HasLeastRows}
+use Rattle.pt_desk_rules.specs.State.{State, caller_key, kept_key, place_key, route_key, rider_key, entry_key, vehicle_key, travel_key, trip_key}
+use Rattle.pt_records.specs.Records.{Each, IsInOrder}
+use Rattle.pt_scheduling.specs.Plan.{plan_key}
+use Rattle.pt_tables.specs.Mirror.{IsInStep}
+use Rattle.pt_tables_writing.specs.Least.{IsNew, IsAsBefore, IsDeskDatabase, IsInUse, IsUndone, IsNewDesk, IsLeastDesk}
 use Rattle.pt_tables_rows.specs.Rows.{desk_row}
 use Rattle.pt_tables_rows.specs.Schema.{no_schema}
 use Rattle.pt_tables_rows.specs.Tables.{HasRows, IsKept}
+use Rattle.pt_tables_rows.specs.WellFormed.{IsWellFormed, HasReply, HasRisingRows, IsFiled, IsLaid, IsStoredPlan, IsVersion}
 
 same_row : (p q : Policy) (n : ℕ) → IsLeastPolicy p → IsLeastPolicy q → n ≡ 0 → desk_row p n ≡ desk_row q 0
 same_row p q n a b none = rw (a.base, a.transfer, a.fare, a.service, a.extra_ride, a.min_missed, a.percent, a.span_days, b.base, b.transfer, b.fare, b.service, b.extra_ride, b.min_missed, b.percent, b.span_days, none) refl
@@ -31,8 +35,10 @@ least_is_new key s content least is = record {
   planned = is.planned;
 }
 
-pub survives_least : (key : List ℕ) (s : State) (old new : Connected) → IsLeastState key s → Survives old new (HasNewRows s.policy (sha256 key)) → Survives old new (HasLeastRows key)
-survives_least key s old new least = survives_weaker old new (HasNewRows s.policy (sha256 key)) (HasLeastRows key) (λ _ db rows content is. rows content (least_is_new key s content least is))
+pub survives_least : (key : List ℕ) (s : State) (old new : Connected) → IsLeastState key s → Survives old new (IsNewDesk s.policy (sha256 key)) → Survives old new (IsLeastDesk key)
+survives_least key s old new least =
+    survives_weaker old new (IsNewDesk s.policy (sha256 key)) (IsLeastDesk key)
+    (λ _ db desk. record { tables = desk.tables; rows = λ content is. desk.rows content (least_is_new key s content least is) })
 
 pub as_before : (old new : Connected) → (IsTrue old.is_open → old.now ≡ old.committed) → IsUndone old new → IsAsBefore old new
 as_before old new settled undone = record {
@@ -44,11 +50,45 @@ pub untouched : (s : Connected) → IsAsBefore s s
 untouched s = record { now = λ _. refl; committed = λ _. refl }
 
 -- what is committed has the rows of the least state
-pub committed_least : (key : List ℕ) (s content : State) (new : Connected) (db : Trees) → IsLeastState key s → IsLeastState key content → IsTrue new.is_open
-    → ((any : State) → IsNew s.policy (sha256 key) any → IsKept any new) → db ≡ new.committed.trees → HasRows content db
-committed_least key s content new db least is here made same =
-    let kept = made content (least_is_new key s content least is) in
-    subst (HasRows content) (sym (same ∙ ap (λ (d : Database). d.trees) (kept.committed here))) (kept.stands here).rows
+pub committed_least : (key : List ℕ) (s : State) (new : Connected) (db : Trees) → IsLeastState key s → IsTrue new.is_open → IsDeskDatabase new.committed.trees
+    → ((any : State) → IsNew s.policy (sha256 key) any → IsKept any new) → db ≡ new.committed.trees → IsLeastDesk key db
+committed_least key s new db least here tables made same = record {
+  tables = subst IsDeskDatabase (sym same) tables;
+  rows = λ content is.
+      let kept = made content (least_is_new key s content least is) in
+      subst (HasRows content) (sym (same ∙ ap (λ (d : Database). d.trees) (kept.committed here))) (kept.stands here).rows;
+}
+
+-- ---- the least state is in step with the tables that have its rows
+
+least_well_formed : (key : List ℕ) (s : State) → IsLeastState key s → IsWellFormed s
+least_well_formed key s least = record {
+  callers = subst (IsInOrder caller_key) (sym least.callers) (tt, tt);
+  kept = subst (IsInOrder kept_key) (sym least.kept) tt;
+  replies = subst (Each HasReply) (sym least.kept) tt;
+  places = subst (IsInOrder place_key) (sym least.places) tt;
+  routes = subst (IsInOrder route_key) (sym least.routes) tt;
+  lines = subst (Each IsLaid) (sym least.routes) tt;
+  riders = subst (IsInOrder rider_key) (sym least.riders) tt;
+  entries = subst (IsInOrder entry_key) (sym least.entries) tt;
+  filed = subst (Each IsFiled) (sym least.entries) tt;
+  vehicles = subst (IsInOrder vehicle_key) (sym least.vehicles) tt;
+  versions = subst (Each IsVersion) (sym least.vehicles) tt;
+  travel = subst (IsInOrder travel_key) (sym least.travel) tt;
+  rows = subst (Each HasRisingRows) (sym least.travel) tt;
+  trips = subst (IsInOrder trip_key) (sym least.trips) tt;
+  planned = subst (IsInOrder plan_key) (sym least.planned) tt;
+  stops = subst (Each IsStoredPlan) (sym least.planned) tt;
+}
+
+pub least_in_step : (key : List ℕ) (s : State) (new : Connected) → IsLeastState key s → new.in_transaction ≡ false
+    → (HasCleanDisk new → (any : State) → IsNew s.policy (sha256 key) any → IsKept any new) → IsInStep s 0 new
+least_in_step key s new least settled made = record {
+  most = omega arith;
+  settled = settled;
+  told = least_well_formed key s least;
+  kept = λ _ clean. made clean s (least_is_new key s s least least);
+}
 
 pub never_in_use : (s : Connected) → s.in_transaction ≡ false → s.now.schema ≡ no_schema → IsInUse s → ⊥
 never_in_use s alone blank (inl inside) = absurd (let none = subst IsTrue alone inside in cc)

@@ -3,7 +3,8 @@ use Rattle.std.proofs.Common.{◌≡◌, List, [], ◌∷◌, ◌++◌, not, map
 use Rattle.sqlite.specs.Store.{Ghosts}
 use Rattle.sqlite.specs.Held.{Held, state}
 use Rattle.sqlite.specs.Order.{Row}
-use Rattle.sqlite.specs.Effect.{Database}
+use Rattle.sqlite.specs.Schema.{Schema}
+use Rattle.sqlite.specs.Effect.{Database, IsDatabase}
 use Rattle.sqlite.specs.State.{State as Connected, KeepsCommit, HasCleanDisk, Survives, Shows}
 use Rattle.sqlite.specs.Table.{Table}
 use Rattle.sqlite.specs.Tree.{Trees}
@@ -15,11 +16,12 @@ use Rattle.pt_base.specs.declared.trip.Trip.{Trip}
 use Rattle.pt_base.specs.declared.vehicle.Vehicle.{Vehicle}
 use Rattle.pt_desk_rules.specs.State.{State}
 use Rattle.pt_records.specs.Records.{Each}
-use Rattle.pt_tables.specs.Migration.{HasMigratedRows, IsMigrated, IsRaised}
+use Rattle.pt_tables.specs.Migration.{IsMigrated, IsMigratedDesk, IsRaised}
 use Rattle.pt_tables_opening.specs.Opening.{IsFirstVersion}
 use Rattle.pt_tables_rows.specs.Rows.{desk_row, first_version, versioned_row, number_value, row_if, rider_chair_rows, vehicle_chair_rows, trip_chair_rows}
 use Rattle.pt_tables_rows.specs.Schema.{desk_schema, first_schema, desk_table, callers_table, kept_table, places_table, fixed_table, vehicles_table, riders_table, entries_table, trips_table, stops_table, travel_table, rider_chairs_table, vehicle_chairs_table, trip_chairs_table}
 use Rattle.pt_tables_rows.specs.Tables.{AddsChairs, AreRows, HasFirstRows, HasRows, columns_of}
+use Rattle.pt_tables_writing.specs.Least.{IsDeskDatabase}
 use Rattle.pt_tables_writing.specs.Writes.{Rewrites, RaisesVersion}
 use Rattle.pt_tables_writing.proofs.RaiseWrites.{row_holds}
 use Rattle.pt_tables.proofs.NewLemmas.{none_there}
@@ -74,10 +76,12 @@ module _ {S : Type 0} (g : Ghosts S) (old begun one two : Held S) (is : begun �
     (added : HasCleanDisk (state g one) → IsTrue begun.in_transaction
     → KeepsCommit (state g begun) (state g one) × IsTrue one.in_transaction × ((state g begun).now.schema ≡ first_schema → AddsChairs (state g begun).now (state g one).now))
     (raised : HasCleanDisk (state g two) → IsTrue one.in_transaction
-    → KeepsCommit (state g one) (state g two) × IsTrue two.in_transaction × ((state g one).now.schema ≡ desk_schema → RaisesVersion (state g one).now (state g two).now)) where
+    → KeepsCommit (state g one) (state g two) × IsTrue two.in_transaction × ((state g one).now.schema ≡ desk_schema → RaisesVersion (state g one).now (state g two).now))
+    (sound : HasCleanDisk (state g two) → IsTrue one.in_transaction → (state g one).now.schema ≡ desk_schema → IsDatabase (state g two).now) where
   record Turned : Type 0 where
     adds : AddsChairs (state g begun).now (state g one).now
     raises : RaisesVersion (state g one).now (state g two).now
+    is_database : IsDatabase (state g two).now
 
   now_same : (state g begun).now ≡ (state g old).now
   now_same = ap (λ (h : Held S). (state g h).now) is
@@ -89,17 +93,21 @@ module _ {S : Type 0} (g : Ghosts S) (old begun one two : Held S) (is : begun �
       let first = added clean_one inside in
       let second = raised clean first.1 in
       let adds = first.2 (ap (λ (d : Database). d.schema) now_same ∙ has) in
-      record { adds = adds; raises = second.2 adds.schema }
-
-  rows : HasCleanDisk (state g two) → HasMigratedRows (state g old) (state g two).now.trees
-  rows clean has content was =
-      let it = turned clean has in
-      rows_raised (state g begun).now (state g one).now (state g two).now it.adds it.raises content
-      (subst (λ (d : Database). HasFirstRows content d.trees) (sym now_same) was)
+      record { adds = adds; raises = second.2 adds.schema; is_database = sound clean first.1 adds.schema }
 
   schema_is : HasCleanDisk (state g two) → (state g old).now.schema ≡ first_schema → (state g two).now.schema ≡ desk_schema
   schema_is clean has =
       (turned clean has).raises.schema
+
+  desk_there : HasCleanDisk (state g two) → (state g old).now.schema ≡ first_schema → IsMigratedDesk (state g old) (state g two).now.trees
+  desk_there clean has =
+      let it = turned clean has in
+      record {
+        tables = subst (λ (s : Schema). IsDatabase (record { schema = s; trees = (state g two).now.trees })) (schema_is clean has) it.is_database;
+        rows = λ content was.
+            rows_raised (state g begun).now (state g one).now (state g two).now it.adds it.raises content
+            (subst (λ (d : Database). HasFirstRows content d.trees) (sym now_same) was);
+      }
 
   -- once it is committed
   pub is_raised : (end : Connected) → HasCleanDisk (state g two) → Shows (state g two) end (state g two).now (state g two).now false → IsRaised (state g old) end
@@ -107,23 +115,30 @@ module _ {S : Type 0} (g : Ghosts S) (old begun one two : Held S) (is : begun �
     is_open = shows.is_open;
     committed = shows.committed_is ∙ sym shows.now_is;
     schema = λ has. ap (λ (d : Database). d.schema) shows.now_is ∙ schema_is clean has;
-    rows = λ has content was. subst (λ (d : Database). HasRows content d.trees) (sym shows.now_is) (rows clean has content was);
+    desk = λ has. subst (λ (d : Database). IsMigratedDesk (state g old) d.trees) (sym shows.now_is) (desk_there clean has);
   }
 
   -- a crash leaves what stood before, or these rows
-  pub survive : (end : Connected) → Survives (state g two) end (λ db. db ≡ (state g two).now.trees) → Survives (state g old) end (HasMigratedRows (state g old))
+  pub survive : (end : Connected) → Survives (state g two) end (λ db. db ≡ (state g two).now.trees)
+      → Survives (state g old) end (λ db. (state g old).now.schema ≡ first_schema → IsMigratedDesk (state g old) db)
   survive end last =
       let inside = survives_then (state g begun) (state g one) (state g two) (λ _. ⊥) (λ _. ⊥) (λ _. ⊥) (λ _ db nothing. nothing) (λ _ db nothing. nothing) added_survives raised_survives in
       let from = survives_begin g old (state g two) (λ _. ⊥) (subst (λ h. Survives (state g h) (state g two) (λ _. ⊥)) is inside) in
-      survives_then (state g old) (state g two) end (λ _. ⊥) (λ db. db ≡ (state g two).now.trees) (HasMigratedRows (state g old)) (λ _ db nothing. absurd nothing)
-      (λ clean db same has content was. subst (HasRows content) (sym same) (rows (omega (arith, last.clean)) has content was)) from last
+      survives_then (state g old) (state g two) end (λ _. ⊥) (λ db. db ≡ (state g two).now.trees)
+      (λ db. (state g old).now.schema ≡ first_schema → IsMigratedDesk (state g old) db) (λ _ db nothing. absurd nothing)
+      (λ clean db same has. subst (IsMigratedDesk (state g old)) (sym same) (desk_there (omega (arith, clean, last.clean)) has)) from last
 
 -- ---- after a read of the version
 
 module _ (old mid new : Connected) (same : mid.now ≡ old.now) where
-  migrated_rows : (trees : Trees) → HasMigratedRows mid trees → HasMigratedRows old trees
-  migrated_rows trees rows has content was =
-      rows (ap (λ (d : Database). d.schema) same ∙ has) content (subst (λ (d : Database). HasFirstRows content d.trees) (sym same) was)
+  schema_same : old.now.schema ≡ first_schema → mid.now.schema ≡ first_schema
+  schema_same has = ap (λ (d : Database). d.schema) same ∙ has
+
+  migrated_desk : (trees : Trees) → IsMigratedDesk mid trees → IsMigratedDesk old trees
+  migrated_desk trees desk = record {
+    tables = desk.tables;
+    rows = λ content was. desk.rows content (subst (λ (d : Database). HasFirstRows content d.trees) (sym same) was);
+  }
 
   pub is_migrated : IsFirstVersion old.now → IsRaised mid new → IsMigrated old new
   is_migrated was raised = record {
@@ -131,12 +146,16 @@ module _ (old mid new : Connected) (same : mid.now ≡ old.now) where
     raised = record {
       is_open = raised.is_open;
       committed = raised.committed;
-      schema = λ has. raised.schema (ap (λ (d : Database). d.schema) same ∙ has);
-      rows = migrated_rows new.now.trees raised.rows;
+      schema = λ has. raised.schema (schema_same has);
+      desk = λ has. migrated_desk new.now.trees (raised.desk (schema_same has));
     };
   }
 
-pub survive_read : (old mid new : Connected) → (HasCleanDisk mid → mid.now ≡ old.now) → Survives old mid (λ _. ⊥) → Survives mid new (HasMigratedRows mid) → Survives old new (HasMigratedRows old)
-survive_read old mid new same read raised =
-    survives_then old mid new (λ _. ⊥) (HasMigratedRows mid) (HasMigratedRows old) (λ _ db nothing. absurd nothing)
-    (λ clean db rows. migrated_rows old mid new (same (omega (arith, raised.clean))) db rows) read raised
+pub survive_read : (old mid new : Connected) → (HasCleanDisk mid → mid.now ≡ old.now) → (HasCleanDisk mid → IsFirstVersion old.now) → Survives old mid (λ _. ⊥)
+    → Survives mid new (λ db. mid.now.schema ≡ first_schema → IsMigratedDesk mid db) → Survives old new (λ db. IsFirstVersion old.now × IsMigratedDesk old db)
+survive_read old mid new same first read raised =
+    survives_then old mid new (λ _. ⊥) (λ db. mid.now.schema ≡ first_schema → IsMigratedDesk mid db) (λ db. IsFirstVersion old.now × IsMigratedDesk old db) (λ _ db nothing. absurd nothing)
+    (λ clean db desk.
+    let early : HasCleanDisk mid = omega (arith, clean, raised.clean) in
+    let was = first early in
+    (was, migrated_desk old mid new (same early) db (desk (schema_same old mid new (same early) was.schema)))) read raised

@@ -4,7 +4,8 @@ use Rattle.std.specs.List.{AllByRecursion}
 use Rattle.sqlite.specs.Store.{Ghosts}
 use Rattle.sqlite.specs.Held.{Held, state}
 use Rattle.sqlite.specs.Order.{Row}
-use Rattle.sqlite.specs.Effect.{Database}
+use Rattle.sqlite.specs.Schema.{Schema}
+use Rattle.sqlite.specs.Effect.{Database, IsDatabase}
 use Rattle.sqlite.specs.State.{State as Connected, KeepsCommit, HasCleanDisk, Survives, Shows}
 use Rattle.sqlite.specs.Table.{Table}
 use Rattle.sqlite.specs.Tree.{Trees}
@@ -13,7 +14,7 @@ use Rattle.sqlite.proofs.StateLemmas.{survives_then}
 use Rattle.sqlite_keyed.proofs.ListLemmas.{IsPermutation-same}
 use Rattle.pt_base.specs.declared.policy.Policy.{Policy}
 use Rattle.pt_desk_rules.specs.State.{State}
-use Rattle.pt_tables_writing.specs.Least.{first_admin, IsNew, HasNewRows}
+use Rattle.pt_tables_writing.specs.Least.{first_admin, IsDeskDatabase, IsNew, IsNewDesk}
 use Rattle.pt_tables_rows.specs.Rows.{desk_row, caller_row, kept_row, place_row, route_row, vehicle_row, rider_row, entry_row, trip_row, stop_rows, travel_rows, rider_chair_rows, vehicle_chair_rows, trip_chair_rows}
 use Rattle.pt_tables_rows.specs.Schema.{desk_schema, no_schema, tables, desk_table, callers_table, kept_table, places_table, fixed_table, vehicles_table, riders_table, entries_table, trips_table, stops_table, travel_table, rider_chairs_table, vehicle_chairs_table, trip_chairs_table}
 use Rattle.pt_tables_rows.specs.Tables.{columns_of, AreRows, HasRows, HaveRowids, IsBlank, IsKept, Fills, Stands}
@@ -96,11 +97,18 @@ module _ {S : Type 0} (g : Ghosts S) (old begun one two three : Held S) (policy 
     → KeepsCommit (state g one) (state g two) × IsTrue two.in_transaction × ((state g one).now.schema ≡ desk_schema → Fills desk_table (desk_row policy 0) (state g one).now (state g two).now))
     (admin : HasCleanDisk (state g three) → IsTrue two.in_transaction
     → KeepsCommit (state g two) (state g three) × IsTrue three.in_transaction
-    × ((state g two).now.schema ≡ desk_schema → Fills callers_table (caller_row (first_admin digest)) (state g two).now (state g three).now)) where
-  pub stand : HasCleanDisk (state g three) → (content : State) → IsNew policy digest content → Stands content (state g three).now
-  stand clean content new =
-      let clean_two : HasCleanDisk (state g two) = omega (arith, admin_survives.clean) in
-      let clean_one : HasCleanDisk (state g one) = omega (arith, desk_survives.clean) in
+    × ((state g two).now.schema ≡ desk_schema → Fills callers_table (caller_row (first_admin digest)) (state g two).now (state g three).now))
+    (sound : HasCleanDisk (state g three) → IsTrue two.in_transaction → (state g two).now.schema ≡ desk_schema → IsDatabase (state g three).now) where
+  record Filled : Type 0 where
+    empty : IsBlank (state g one).now
+    desked : Fills desk_table (desk_row policy 0) (state g one).now (state g two).now
+    done : Fills callers_table (caller_row (first_admin digest)) (state g two).now (state g three).now
+    is_database : IsDatabase (state g three).now
+
+  filled : HasCleanDisk (state g three) → Filled
+  filled clean =
+      let clean_two : HasCleanDisk (state g two) = omega (arith, clean, admin_survives.clean) in
+      let clean_one : HasCleanDisk (state g one) = omega (arith, clean_two, desk_survives.clean) in
       let inside : IsTrue begun.in_transaction = subst (λ (h : Held S). IsTrue h.in_transaction) (sym is) refl in
       let first = made clean_one inside in
       let second = desk clean_two first.1 in
@@ -108,7 +116,17 @@ module _ {S : Type 0} (g : Ghosts S) (old begun one two three : Held S) (policy 
       let none : (state g begun).now.schema ≡ no_schema = ap (λ (h : Held S). h.schema) is ∙ blank in
       let empty = first.2 none in
       let desked = second.2 empty.schema in
-      stands_new policy digest (state g one).now (state g two).now (state g three).now empty desked (third.2 desked.schema) content new
+      record { empty = empty; desked = desked; done = third.2 desked.schema; is_database = sound clean second.1 desked.schema }
+
+  stand : HasCleanDisk (state g three) → (content : State) → IsNew policy digest content → Stands content (state g three).now
+  stand clean content new =
+      let it = filled clean in
+      stands_new policy digest (state g one).now (state g two).now (state g three).now it.empty it.desked it.done content new
+
+  desk_there : HasCleanDisk (state g three) → IsDeskDatabase (state g three).now.trees
+  desk_there clean =
+      let it = filled clean in
+      subst (λ (s : Schema). IsDatabase (record { schema = s; trees = (state g three).now.trees })) it.done.schema it.is_database
 
   -- once it is committed
   pub kept : (end : Connected) → HasCleanDisk (state g three) → Shows (state g three) end (state g three).now (state g three).now false → (content : State) → IsNew policy digest content → IsKept content end
@@ -117,11 +135,19 @@ module _ {S : Type 0} (g : Ghosts S) (old begun one two three : Held S) (policy 
     committed = λ here. shows.committed_is ∙ sym shows.now_is;
   }
 
+  pub tables_kept : (end : Connected) → HasCleanDisk (state g three) → Shows (state g three) end (state g three).now (state g three).now false → IsDeskDatabase end.committed.trees
+  tables_kept end clean shows = subst (λ (d : Database). IsDeskDatabase d.trees) (sym shows.committed_is) (desk_there clean)
+
   -- a crash leaves what stood before, or these rows
-  pub survive : (end : Connected) → Survives (state g three) end (λ db. db ≡ (state g three).now.trees) → Survives (state g old) end (HasNewRows policy digest)
+  pub survive : (end : Connected) → Survives (state g three) end (λ db. db ≡ (state g three).now.trees) → Survives (state g old) end (IsNewDesk policy digest)
   survive end last =
       let inside = survives_then (state g begun) (state g one) (state g two) (λ _. ⊥) (λ _. ⊥) (λ _. ⊥) (λ _ db nothing. nothing) (λ _ db nothing. nothing) made_survives desk_survives in
       let all = survives_then (state g begun) (state g two) (state g three) (λ _. ⊥) (λ _. ⊥) (λ _. ⊥) (λ _ db nothing. nothing) (λ _ db nothing. nothing) inside admin_survives in
       let from = survives_begin g old (state g three) (λ _. ⊥) (subst (λ h. Survives (state g h) (state g three) (λ _. ⊥)) is all) in
-      survives_then (state g old) (state g three) end (λ _. ⊥) (λ db. db ≡ (state g three).now.trees) (HasNewRows policy digest) (λ _ db nothing. absurd nothing)
-      (λ clean db same content new. subst (HasRows content) (sym same) (stand (omega (arith, last.clean)) content new).rows) from last
+      survives_then (state g old) (state g three) end (λ _. ⊥) (λ db. db ≡ (state g three).now.trees) (IsNewDesk policy digest) (λ _ db nothing. absurd nothing)
+      (λ clean db same.
+      let early : HasCleanDisk (state g three) = omega (arith, clean, last.clean) in
+      record {
+        tables = subst IsDeskDatabase (sym same) (desk_there early);
+        rows = λ content new. subst (HasRows content) (sym same) (stand early content new).rows;
+      }) from last

@@ -6,18 +6,23 @@ use Rattle.pt_desk_rules.specs.State.{State}
 use Rattle.pt_tables_opening.specs.Opening.{IsFirstVersion}
 use Rattle.pt_tables_rows.specs.Schema.{desk_schema, first_schema}
 use Rattle.pt_tables_rows.specs.Tables.{HasFirstRows, HasRows}
+use Rattle.pt_tables_writing.specs.Least.{IsDeskDatabase}
 
 -- each content whose rows the tables of the first version had has the rows of these
 abbrev pub HasMigratedRows : Connected → Trees → Type 0
-HasMigratedRows old trees =
-    old.now.schema ≡ first_schema → (content : State) → HasFirstRows content old.now.trees → HasRows content trees
+HasMigratedRows old trees = (content : State) → HasFirstRows content old.now.trees → HasRows content trees
+
+-- a desk's database with such rows
+pub record IsMigratedDesk (old : Connected) (trees : Trees) : Type 0 where
+  pub tables : IsDeskDatabase trees
+  pub rows : HasMigratedRows old trees
 
 -- a transaction has made the tables those of this version, and all is committed
 pub record IsRaised (old new : Connected) : Type 0 where
   pub is_open : IsTrue new.is_open
   pub committed : new.committed ≡ new.now
   pub schema : old.now.schema ≡ first_schema → new.now.schema ≡ desk_schema
-  pub rows : HasMigratedRows old new.now.trees
+  pub desk : old.now.schema ≡ first_schema → IsMigratedDesk old new.now.trees
 
 -- the database had the tables of the first version, and they are those of this version
 pub record IsMigrated (old new : Connected) : Type 0 where

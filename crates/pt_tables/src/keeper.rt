@@ -1,6 +1,7 @@
 ghost use Rattle.std.specs.Prelude.{◌≡◌, ◌⊎◌, ◌↔◌, ◌<◌, IsTrue, IfOk, IfErr, IsErrAnd, OnOk, OnErr, MatchResult, false};
 ghost use Rattle.pt_base.specs.Codes.{memory_refused};
 ghost use Rattle.pt_desk.specs.LeastState.{IsLeastState};
+ghost use Rattle.pt_desk.specs.Store.{IsSettled};
 ghost use Rattle.pt_desk.specs.declared.keeper.StoreFault.TheVariants.{Memory, Store as Failed};
 ghost use Rattle.pt_desk_rules.specs.Sound.{IsSound};
 ghost use Rattle.pt_desk_rules.specs.State.{State};
@@ -9,9 +10,10 @@ ghost use Rattle.sqlite.specs.State.{HasCleanDisk, Survives};
 ghost use Rattle.sqlite.specs.Tree.{Trees};
 ghost use Rattle.sqlite.specs.View.{IsClean};
 ghost use Rattle.pt_tables_opening.specs.Faults.{IsRefusal, fault, rows_refused, store_refused, tables_refused};
-ghost use Rattle.pt_tables_writing.specs.Least.{IsNew, IsAsBefore, IsInUse, IsUndone, HasNewRows, HasLeastRows};
+ghost use Rattle.pt_tables_writing.specs.Least.{IsNew, IsAsBefore, IsInUse, IsUndone, IsDeskDatabase};
+ghost use Rattle.pt_tables_writing.specs.Least.{IsNewDesk, IsLeastDesk};
 ghost use Rattle.pt_tables_opening.specs.Opening.{IsReopened};
-ghost use Rattle.pt_tables_opening.specs.Refused.{AreUnsound, HasOtherTables};
+ghost use Rattle.pt_tables_opening.specs.Refused.{AreUnsound, HasOtherTables, SparesOtherVersion};
 ghost use Rattle.pt_tables_rows.specs.Schema.{no_schema};
 ghost use Rattle.pt_tables_rows.specs.Tables.{HasRows, IsKept};
 
@@ -83,10 +85,12 @@ fn create_new<S: Alter>(
     ensures made { HasCleanDisk (state S.Store conn.new)
         → OnOk result ((content : State) → IsNew policy.now digest.now content
         → IsKept content (state S.Store conn.new)) }
+    ensures tables { HasCleanDisk (state S.Store conn.new)
+        → OnOk result (IsDeskDatabase (state S.Store conn.new).committed.trees) }
     ensures open { HasCleanDisk (state S.Store conn.new) → OnOk result (IsTrue (state S.Store conn.new).is_open) }
     ensures undone { HasCleanDisk (state S.Store conn.new)
         → OnErr result (IsUndone (state S.Store conn.old) (state S.Store conn.new)) }
-    ensures survives { Survives (state S.Store conn.old) (state S.Store conn.new) (HasNewRows policy.now digest.now) }
+    ensures survives { Survives (state S.Store conn.old) (state S.Store conn.new) (IsNewDesk policy.now digest.now) }
 {
     let mut tx = conn.transaction();
     create_tables(&mut tx)?;
@@ -121,16 +125,17 @@ impl<S: Alter> SqlKeeper<S> {
     ) -> Result<SqlKeeper<S>, (Connection<S>, OpenFault)>
         ensures least { IfOk result (λ keeper. IsLeastState admin_key.now keeper.mirror.content) }
         ensures sound { IfOk result (λ keeper. IsSound keeper.mirror.content) }
+        ensures settled { IfOk result (λ keeper. IsSettled (⟦<SqlKeeper<S> as Keeper>⟧.store keeper)) }
         ensures faults { IfErr result (λ refused.
             (refused.1 ≡ fault memory_refused) ⊎ (refused.1 ≡ fault store_refused)) }
         ensures in_use { IsInUse (state S.Store conn) → result ≡ Err (conn, fault store_refused) }
         ensures unchanged { IfErr result (λ refused. HasCleanDisk (state S.Store refused.0)
             → IsAsBefore (state S.Store conn) (state S.Store refused.0)) }
         ensures crash { MatchResult result
-            (λ keeper. Survives (state S.Store conn) (state S.Store keeper.conn) (HasLeastRows admin_key.now))
-            (λ refused. Survives (state S.Store conn) (state S.Store refused.0) (HasLeastRows admin_key.now)) }
+            (λ keeper. Survives (state S.Store conn) (state S.Store keeper.conn) (IsLeastDesk admin_key.now))
+            (λ refused. Survives (state S.Store conn) (state S.Store refused.0) (IsLeastDesk admin_key.now)) }
         ensures durable { IfOk result (λ keeper. HasCleanDisk (state S.Store keeper.conn)
-            → (trees : Trees) → (state S.Store keeper.conn).may_leave trees → HasLeastRows admin_key.now trees) }
+            → (trees : Trees) → (state S.Store keeper.conn).may_leave trees → IsLeastDesk admin_key.now trees) }
     {
         if !conn.is_autocommit() || !is_blank(conn.schema()) {
             return Err((conn, OpenFault::STORE));
@@ -202,6 +207,11 @@ fn reopened<S: Alter + Drop>(
     ensures settled { IfOk result (λ new. new.in_transaction ≡ false) }
     ensures kept { IfErr result (λ refused. IsClean (S.Store.view refused.0) → IsTrue (S.Store.view refused.0).is_open
         → (S.Store.view refused.0).trees ≡ (state S.Store conn).committed.trees) }
+    ensures crash { MatchResult result
+        (λ new. HasCleanDisk (state S.Store new) → (trees : Trees)
+        → (state S.Store new).may_leave trees → (state S.Store conn).may_leave trees)
+        (λ refused. IsClean (S.Store.view refused.0) → (trees : Trees)
+        → S.Store.recovers refused.0 trees → (state S.Store conn).may_leave trees) }
     ensures faults { IfErr result (λ refused.
         (refused.1 ≡ fault memory_refused) ⊎ (refused.1 ≡ fault store_refused)) }
 {
@@ -226,14 +236,22 @@ impl<S: Alter + Drop> SqlKeeper<S> {
         ensures rows { IfOk result (λ keeper. HasCleanDisk (state S.Store keeper.conn)
             → HasRows keeper.mirror.content (state S.Store conn).committed.trees) }
         ensures serves { IfOk result (λ keeper. keeper.failures ≡ 0) }
+        ensures settled { IfOk result (λ keeper. IsSettled (⟦<SqlKeeper<S> as Keeper>⟧.store keeper)) }
         ensures kept { IfErr result (λ refused. IsClean (S.Store.view refused.0)
             → IsTrue (S.Store.view refused.0).is_open
             → (S.Store.view refused.0).trees ≡ (state S.Store conn).committed.trees) }
+        ensures crash { MatchResult result
+            (λ keeper. HasCleanDisk (state S.Store keeper.conn) → (trees : Trees)
+            → (state S.Store keeper.conn).may_leave trees → (state S.Store conn).may_leave trees)
+            (λ refused. IsClean (S.Store.view refused.0) → (trees : Trees)
+            → S.Store.recovers refused.0 trees → (state S.Store conn).may_leave trees) }
         ensures faults { IfErr result (λ refused. IsRefusal refused.1) }
         ensures other_tables { IfErr result (λ refused. IsClean (S.Store.view refused.0)
             → refused.1.code ≡ tables_refused → HasOtherTables (state S.Store conn).committed.trees) }
         ensures unsound { IfErr result (λ refused. IsClean (S.Store.view refused.0)
             → refused.1.code ≡ rows_refused → AreUnsound (state S.Store conn).committed.trees) }
+        ensures version { IfErr result (λ refused. IsClean (S.Store.view refused.0)
+            → SparesOtherVersion (state S.Store conn).committed.trees refused.1) }
         ensures in_use { IsTrue (state S.Store conn).in_transaction
             → IsErrAnd result (λ refused. refused.1 ≡ fault store_refused) }
     {

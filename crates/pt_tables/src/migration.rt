@@ -2,9 +2,10 @@ ghost use Rattle.std.specs.Prelude.{◌≡◌, ◌⊎◌, IsTrue, IfOk, IfErr, O
 ghost use Rattle.sqlite.specs.Held.{state};
 ghost use Rattle.sqlite.specs.State.{HasCleanDisk, Survives};
 ghost use Rattle.pt_base.specs.Codes.{memory_refused};
-ghost use Rattle.pt_tables.specs.Migration.{HasMigratedRows, IsMigrated, IsRaised};
+ghost use Rattle.pt_tables.specs.Migration.{IsMigrated, IsMigratedDesk, IsRaised};
 ghost use Rattle.pt_tables_opening.specs.Faults.{fault, store_refused, tables_refused};
 ghost use Rattle.pt_tables_opening.specs.Opening.{IsFirstVersion};
+ghost use Rattle.pt_tables_rows.specs.Schema.{first_schema};
 ghost use Rattle.pt_tables_writing.specs.Least.{IsAsBefore, IsUndone};
 
 use pt_tables_opening::{OpenFault, fault_of, is_first_version};
@@ -22,7 +23,8 @@ fn raise<S: Alter>(conn: &mut Connection<S>) -> Result<(), Error>
     ensures undone { HasCleanDisk (state S.Store conn.new)
         → OnErr result (IsUndone (state S.Store conn.old) (state S.Store conn.new)) }
     ensures survives { Survives (state S.Store conn.old) (state S.Store conn.new)
-        (HasMigratedRows (state S.Store conn.old)) }
+        (λ trees. (state S.Store conn.old).now.schema ≡ first_schema
+        → IsMigratedDesk (state S.Store conn.old) trees) }
 {
     let mut tx = conn.transaction();
     add_chairs_tables(&mut tx)?;
@@ -33,8 +35,8 @@ fn raise<S: Alter>(conn: &mut Connection<S>) -> Result<(), Error>
 /// Makes a database with the tables of the first version one of this version, whose rows are those of the same content.
 ///
 /// Code 30 where its tables are not those of the first version, by their schema or by the version that the agency's row
-/// says; 32 where a transaction is open, or the store refused or failed; 0 where memory was refused. After a refusal the
-/// connection shows what it showed before.
+/// says; 32 where a transaction is open, or the store refused or failed; 0 where memory was refused. After a refusal
+/// the connection shows what it showed before.
 pub fn migrate<S: Alter>(alloc: Global, conn: &mut Connection<S>) -> Result<(), OpenFault>
     ensures settled { conn.old.in_transaction ≡ false → conn.new.in_transaction ≡ false }
     ensures migrated { HasCleanDisk (state S.Store conn.new)
@@ -47,7 +49,7 @@ pub fn migrate<S: Alter>(alloc: Global, conn: &mut Connection<S>) -> Result<(), 
     ensures unchanged { HasCleanDisk (state S.Store conn.new)
         → OnErr result (IsAsBefore (state S.Store conn.old) (state S.Store conn.new)) }
     ensures crash { Survives (state S.Store conn.old) (state S.Store conn.new)
-        (HasMigratedRows (state S.Store conn.old)) }
+        (λ trees. IsFirstVersion (state S.Store conn.old).now × IsMigratedDesk (state S.Store conn.old) trees) }
 {
     if !conn.is_autocommit() {
         return Err(OpenFault::STORE);

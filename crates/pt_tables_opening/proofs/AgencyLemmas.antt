@@ -1,16 +1,23 @@
 -- What the one row of the desk's table tells of the agency.
-use Rattle.std.proofs.Common.{◌≡◌, ℕ, List, [], ◌∷◌, Result, Ok, Err, IfOk, IfErr, ◌⊎◌, inl, inr, sym, subst}
+use Rattle.std.proofs.Common.{◌≡◌, ℕ, List, [], ◌∷◌, Result, Ok, Err, IfOk, IfErr, ◌⊎◌, inl, inr, sym, ap, subst, arith}
+use Rattle.std.specs.Option.{unwrap_or}
 use Rattle.std.proofs.lemmas.List.Sorted.{IsPermutation-sym, IsPermutation-trans}
-use Rattle.sqlite.specs.Order.{Row}
+use Rattle.sqlite.specs.Order.{Row, column}
 use Rattle.sqlite.specs.Tree.{Trees}
 use Rattle.sqlite.proofs.Callers.{one_permutation}
 use Rattle.pt_base.specs.declared.policy.Policy.{Policy}
+use Rattle.pt_desk_rules.specs.declared.change.Change.{Change}
 use Rattle.pt_tables_reading.specs.Reading.{agency_row, FitsAgency}
-use Rattle.pt_tables_opening.specs.Refused.{AreUnsound}
+use Rattle.pt_base.specs.Codes.{memory_refused}
+use Rattle.pt_tables_opening.specs.Faults.{fault, store_refused, tables_refused, unsound}
+use Rattle.pt_tables_opening.specs.Refused.{AreUnsound, SparesOtherVersion}
+use Rattle.pt_tables_opening.specs.Sections.{IsOfficeOf}
+use Rattle.pt_tables_opening.specs.declared.open_fault.OpenFault.{OpenFault}
+use Rattle.pt_tables_opening.specs.declared.parts.Office.{Office}
 use Rattle.pt_tables_rows.specs.Rows.{desk_row}
 use Rattle.pt_tables_rows.specs.Schema.{desk_table}
 use Rattle.pt_tables_rows.specs.Tables.{AreRows}
-use Rattle.pt_tables_opening.specs.Told.{IsAgencyOf, HasOtherVersion, IsOtherVersion, TellsNoAgency}
+use Rattle.pt_tables_opening.specs.Told.{IsAgencyOf, HasOtherVersion, HasToldRows, IsOtherVersion, TellsNoAgency}
 
 module _ (trees : Trees) (rows : List Row) (are : AreRows desk_table trees rows) where
   -- one row is all rows
@@ -35,4 +42,50 @@ agency_refused trees rows Clean Has are memory store tables unsound (Ok agency) 
 agency_refused trees rows Clean Has are memory store tables unsound (Err f) h = elim h [
   | inl told ↦ inr (inr (inl (told.0, λ clean has. other_version trees rows (are clean has) told.1)))
   | inr told ↦ inr (inr (inr (told.0, λ clean has. no_agency trees rows (are clean has) told.1)))
+]
+
+-- ---- the version is judged before the rows
+
+abbrev code_of : OpenFault → ℕ
+code_of it = it.code
+
+first_or : Row → List Row → Row
+first_or r [] = r
+first_or r (row ∷ rows) = row
+
+-- a row of this version is that of no other
+this_version : (trees : Trees) (policy : Policy) (last_trip : ℕ) → AreRows desk_table trees (desk_row policy last_trip ∷ []) → HasOtherVersion trees → ⊥
+unfolding first_or
+this_version trees policy last_trip are other =
+    let row = desk_row policy last_trip in
+    other.2 (ap (λ rows. column (first_or row rows) 1) (only_row trees (row ∷ []) are other.0 other.1))
+
+-- where the version is this one, any refusal may come
+pub spares_none : (trees : Trees) (policy : Policy) (last_trip : ℕ) → AreRows desk_table trees (desk_row policy last_trip ∷ []) → (it : OpenFault) → SparesOtherVersion trees it
+spares_none trees policy last_trip are it = λ other code. this_version trees policy last_trip are other
+
+pub spares_after_agency : {X : Type 0} (trees : Trees) (agency : Policy × ℕ) → IsAgencyOf trees agency → (r : Result X OpenFault) → IfErr r (SparesOtherVersion trees)
+spares_after_agency trees agency of (Ok x) = tt
+spares_after_agency trees agency of (Err it) = spares_none trees agency.0 agency.1 of.row_is it
+
+pub spares_after_office : {X : Type 0} (trees : Trees) (office : Office) → IsOfficeOf trees office → (r : Result X OpenFault) → IfErr r (SparesOtherVersion trees)
+spares_after_office trees office of (Ok x) = tt
+spares_after_office trees office of (Err it) = spares_none trees office.policy office.last_trip of.desk it
+
+pub spares_after_all : (trees : Trees) (change : Change) → HasToldRows change trees → (it : OpenFault) → SparesOtherVersion trees it
+spares_after_all trees change told it = spares_none trees told.policy (unwrap_or change.last_trip 0) told.desk it
+
+pub spares_by_store : (trees : Trees) (it : OpenFault) → (it ≡ fault memory_refused) ⊎ (it ≡ fault store_refused) → SparesOtherVersion trees it
+spares_by_store trees it (inl memory) = λ other code. let n : it.code ≡ 0 = ap code_of memory in let m : it.code ≡ 31 = code in absurd (omega arith)
+spares_by_store trees it (inr store) = λ other code. let n : it.code ≡ 32 = ap code_of store in let m : it.code ≡ 31 = code in absurd (omega arith)
+
+pub spares_by_tables : (trees : Trees) (it : OpenFault) → it ≡ fault tables_refused → SparesOtherVersion trees it
+spares_by_tables trees it is = λ other code. let n : it.code ≡ 30 = ap code_of is in let m : it.code ≡ 31 = code in absurd (omega arith)
+
+pub agency_spares : (trees : Trees) (rows : List Row) → AreRows desk_table trees rows → (r : Result (Policy × ℕ) OpenFault)
+    → IfErr r (λ refused. ((refused ≡ fault tables_refused) × IsOtherVersion rows) ⊎ ((refused ≡ unsound 1) × TellsNoAgency rows)) → IfErr r (SparesOtherVersion trees)
+agency_spares trees rows are (Ok agency) h = tt
+agency_spares trees rows are (Err it) h = elim h [
+  | inl told ↦ spares_by_tables trees it told.0
+  | inr told ↦ λ other code. told.1.this_version (other.0, only_row trees rows are other.0 other.1, other.2)
 ]

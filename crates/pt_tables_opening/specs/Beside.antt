@@ -43,7 +43,8 @@ TellsBeside key row_of beside_of Fits known rows (Some edit) =
     PutsInOrder key edit × (map row_of edit.puts ≡ map row_of known) × (flat_map beside_of edit.puts ≡ rows)
     × Each Fits edit.puts
 TellsBeside key row_of beside_of Fits known rows None =
-    (xs : List _) → Each Fits xs → IsInOrder key xs → map row_of xs ≡ map row_of known → flat_map beside_of xs ≡ rows → ⊥
+    (xs : List _) → Each Fits xs → IsInOrder key xs → map row_of xs ≡ map row_of known
+    → flat_map beside_of xs ≡ rows → ⊥
 
 -- the records to be put are those whose rows both tables have, in the order of their keys
 pub record IsMarkedTable {A : Type 0} (key : A → ℕ) (home second : Table) (row_of : A → Row) (beside_of : A → List Row)

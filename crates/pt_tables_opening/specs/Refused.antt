@@ -46,6 +46,10 @@ ListsOthers trees = (schema : Schema) × Lists (trees catalog_tree) schema × (s
 abbrev pub HasOtherTables : Trees → Type 0
 HasOtherTables trees = ListsOthers trees ⊎ HasOtherVersion trees
 
+-- rows of tables of another version are not found fault with
+abbrev pub SparesOtherVersion : Trees → OpenFault → Type 0
+SparesOtherVersion trees refused = HasOtherVersion trees → refused.code ≢ rows_refused
+
 -- what a refusal tells of the rows of the desk's tables
 pub record TellsWhy (trees : Trees) (refused : OpenFault) : Type 0 where
   pub version : refused.code ≡ tables_refused → HasOtherVersion trees

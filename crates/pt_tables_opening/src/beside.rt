@@ -8,7 +8,8 @@ ghost use Rattle.sqlite.specs.State.{HasCleanDisk};
 ghost use Rattle.sqlite.specs.Table.{Table as StoredTable};
 ghost use Rattle.pt_base.specs.Codes.{memory_refused};
 ghost use Rattle.pt_records.specs.Records.{Each, IsInOrder};
-ghost use Rattle.pt_tables_opening.specs.Beside.{AreBeside, IsAlone, IsMarkedTable, KeepsBeside, StandBeside, TellsBeside};
+ghost use Rattle.pt_tables_opening.specs.Beside.{AreBeside, IsAlone, IsMarkedTable, KeepsBeside, StandBeside};
+ghost use Rattle.pt_tables_opening.specs.Beside.{TellsBeside};
 ghost use Rattle.pt_tables_opening.specs.Faults.{IsRefusal, fault, store_refused, unsound};
 ghost use Rattle.pt_tables_opening.specs.Opening.{Rests};
 ghost use Rattle.pt_tables_opening.specs.Refused.{AreUnsound, TellsWhy};
@@ -207,7 +208,8 @@ fn merged_table<T: Beside>(
     requires beside { AreBeside T.key T.row_of T.beside_of }
     requires fits { Each T.Fits records.now }
     requires order { IsInOrder T.key records.now }
-    ensures told { IfOk result (λ edit. TellsBeside T.key T.row_of T.beside_of T.Fits records.now rows.now (Some edit)) }
+    ensures told { IfOk result (λ edit.
+        TellsBeside T.key T.row_of T.beside_of T.Fits records.now rows.now (Some edit)) }
     ensures faults { IfErr result (λ refused. (refused ≡ fault memory_refused)
         ⊎ ((refused ≡ unsound table) × TellsBeside T.key T.row_of T.beside_of T.Fits records.now rows.now None)) }
 {
@@ -218,8 +220,8 @@ fn merged_table<T: Beside>(
     }
 }
 
-/// The records with what the second table's rows tell of them: code 31 with the number of that table where no records in
-/// order have both tables' rows, 32 where the store refused or failed, and 0 where memory was refused.
+/// The records with what the second table's rows tell of them: code 31 with the number of that table where no records
+/// in order have both tables' rows, 32 where the store refused or failed, and 0 where memory was refused.
 fn beside_in<S: Alter, T: Beside>(
     alloc: Global,
     conn: &mut Connection<S>,
@@ -247,8 +249,8 @@ fn beside_in<S: Alter, T: Beside>(
     merged_table(alloc, records, &rows, table)
 }
 
-/// The records of two tables, to be put: code 31 with the number of the table whose rows no sound state has beside those
-/// of the first, 32 where the store refused or failed, and 0 where memory was refused.
+/// The records of two tables, to be put: code 31 with the number of the table whose rows no sound state has beside
+/// those of the first, 32 where the store refused or failed, and 0 where memory was refused.
 pub(crate) fn marked_table<S: Alter, T: Beside>(
     alloc: Global,
     conn: &mut Connection<S>,

@@ -5,7 +5,7 @@ ghost use Rattle.pt_tables_opening.specs.Faults.{IsRefusal};
 ghost use Rattle.pt_tables_opening.specs.Sections.{IsOffice, IsOfficeOf, IsArea, IsAreaOf, IsService, IsServiceOf};
 ghost use Rattle.pt_tables_opening.specs.Sections.{IsDriving, IsDrivingOf};
 ghost use Rattle.pt_tables_opening.specs.Opening.{Rests};
-ghost use Rattle.pt_tables_opening.specs.Refused.{TellsWhy};
+ghost use Rattle.pt_tables_opening.specs.Refused.{SparesOtherVersion, TellsWhy};
 ghost use Rattle.pt_tables_rows.specs.Schema.{desk_schema};
 
 use crate::OpenFault;
@@ -62,6 +62,8 @@ pub(crate) fn office_in<S: Alter>(
     ensures faults { IfErr result IsRefusal }
     ensures why { HasCleanDisk (state S.Store conn.new) → (state S.Store conn.old).now.schema ≡ desk_schema
         → IfErr result (TellsWhy (state S.Store conn.old).now.trees) }
+    ensures version { HasCleanDisk (state S.Store conn.new) → (state S.Store conn.old).now.schema ≡ desk_schema
+        → IfErr result (SparesOtherVersion (state S.Store conn.old).now.trees) }
     ensures rests { Rests (state S.Store conn.old) (state S.Store conn.new) result }
 {
     let (policy, last_trip) = agency_in(conn)?;

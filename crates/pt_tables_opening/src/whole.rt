@@ -1,6 +1,6 @@
 ghost use Rattle.std.specs.Prelude.{◌≡◌, IfOk, IfErr};
 ghost use Rattle.sqlite.specs.Held.{state};
-ghost use Rattle.sqlite.specs.State.{HasCleanDisk};
+ghost use Rattle.sqlite.specs.State.{HasCleanDisk, Survives};
 ghost use Rattle.sqlite.specs.Tree.{Trees};
 ghost use Rattle.pt_desk_rules.specs.Sound.{IsSound};
 ghost use Rattle.pt_soundness.specs.Tables.{number_of};
@@ -8,7 +8,7 @@ ghost use Rattle.pt_tables_opening.specs.Faults.{IsRefusal, unsound};
 ghost use Rattle.pt_tables_opening.specs.Sections.{IsArea, IsAreaOf, IsDriving, IsDrivingOf, IsOffice, IsOfficeOf};
 ghost use Rattle.pt_tables_opening.specs.Sections.{IsService, IsServiceOf, IsWholeChange};
 ghost use Rattle.pt_tables_opening.specs.Opening.{Rests, Stays};
-ghost use Rattle.pt_tables_opening.specs.Refused.{TellsOf, TellsWhy};
+ghost use Rattle.pt_tables_opening.specs.Refused.{SparesOtherVersion, TellsOf, TellsWhy};
 ghost use Rattle.pt_tables_rows.specs.Schema.{desk_schema};
 ghost use Rattle.pt_tables_rows.specs.Tables.{HasRows};
 ghost use Rattle.pt_tables_opening.specs.Told.{HasPut, HasToldRows};
@@ -56,6 +56,8 @@ fn records_in<S: Alter>(alloc: Global, conn: &mut Connection<S>) -> Result<Chang
     ensures faults { IfErr result IsRefusal }
     ensures why { HasCleanDisk (state S.Store conn.new) → (state S.Store conn.old).now.schema ≡ desk_schema
         → IfErr result (TellsWhy (state S.Store conn.old).now.trees) }
+    ensures version { HasCleanDisk (state S.Store conn.new) → (state S.Store conn.old).now.schema ≡ desk_schema
+        → IfErr result (SparesOtherVersion (state S.Store conn.old).now.trees) }
     ensures rests { Rests (state S.Store conn.old) (state S.Store conn.new) result }
 {
     let office = office_in(alloc, conn)?;
@@ -81,6 +83,7 @@ fn sound_keeper(alloc: Global, change: Change) -> Result<ListKeeper, OpenFault>
     ensures put { IfOk result (λ keeper. HasPut change keeper.content) }
     ensures faults { IfErr result IsRefusal }
     ensures why { (trees : Trees) → HasToldRows change trees → IfErr result (TellsWhy trees) }
+    ensures version { (trees : Trees) → HasToldRows change trees → IfErr result (SparesOtherVersion trees) }
 {
     let keeper = keeper_of(alloc, change)?;
     match first_unsound_table(alloc, &keeper) {
@@ -103,9 +106,12 @@ pub fn content_in<S: Alter>(
         → IfOk result (λ keeper. HasRows keeper.content (state S.Store conn.old).now.trees) }
     ensures faults { IfErr result IsRefusal }
     ensures why { HasCleanDisk (state S.Store conn.new) → IfErr result (TellsOf (state S.Store conn.old).now) }
+    ensures version { HasCleanDisk (state S.Store conn.new)
+        → IfErr result (SparesOtherVersion (state S.Store conn.old).now.trees) }
     ensures rests { Rests (state S.Store conn.old) (state S.Store conn.new) result }
     ensures stays { HasCleanDisk (state S.Store conn.new)
         → Stays (state S.Store conn.old) (state S.Store conn.new) }
+    ensures survives { Survives (state S.Store conn.old) (state S.Store conn.new) (λ _. ⊥) }
 {
     if !is_desk_schema(alloc, conn.schema())? {
         return Err(OpenFault::OTHER_TABLES);

@@ -1,6 +1,7 @@
 -- What the statements mean that put the first rows.
 use Rattle.std.proofs.Common.{◌≡◌, ℕ, List, [], ◌∷◌, map, IsTrue, Ok, refl, sym, ap, subst, ◌∙◌}
 use Rattle.sqlite.specs.declared.types.Value.TheVariants.{Null, Blob}
+use Rattle.sqlite.specs.Effect.{IsDatabase}
 use Rattle.sqlite.specs.Order.{Row}
 use Rattle.sqlite.specs.Table.{Table}
 use Rattle.sqlite.specs.Tree.{put_row, rowid}
@@ -9,6 +10,7 @@ use Rattle.sqlite.specs.Term.{lit, col}
 use Rattle.sqlite.specs.Cast.{cast_row}
 use Rattle.sqlite.specs.Edit.{with_rowid}
 use Rattle.sqlite.specs.Rowids.TheVariants.{Chosen}
+use Rattle.sqlite.specs.Source.TheVariants.{Values}
 use Rattle.sqlite.specs.Listing.{understood}
 use Rattle.sqlite.specs.State.{State, Executes}
 use Rattle.sqlite_keyed.proofs.ListLemmas.{IsPermutation-same}
@@ -21,6 +23,7 @@ use Rattle.pt_tables_rows.specs.Tables.{columns_of, Fills, HaveRowids}
 use Rattle.pt_tables_writing.specs.declared.first_rows.TheConstants.{INSERT_DESK, INSERT_CALLER}
 use Rattle.pt_tables_writing.proofs.CastLemmas.{cast_null, cast_int}
 use Rattle.pt_tables_writing.proofs.InsertLemmas.{IsInsert, inserts}
+use Rattle.pt_tables_writing.proofs.WriteLemmas.{inserted_sound}
 
 -- the row of the agency as it is stored, its number as its rowid
 abbrev stored_desk : Policy → ℕ → Row
@@ -99,3 +102,9 @@ pub fills_admin : (digest : List ℕ) (old new : State) (count : ℕ) → old.no
     → Fills callers_table (caller_row (first_admin digest)) old.now new.now
 fills_admin digest = fills INSERT_CALLER.now (caller_row (first_admin digest)) callers_table (stored_admin digest) (caller_row (first_admin digest)) (admin_insert digest) (admin_shown digest)
     (admin_whole digest)
+
+pub sound_admin : (digest : List ℕ) (old new : State) (count : ℕ) → old.now.schema ≡ desk_schema → Executes INSERT_CALLER.now (caller_row (first_admin digest)) old new (Ok count)
+    → IsDatabase new.now
+sound_admin digest old new count has h =
+    let it = admin_insert digest in
+    inserted_sound INSERT_CALLER.now (caller_row (first_admin digest)) callers_table it.at it.there it.plain old new count has h (Values it.terms it.width) it.is

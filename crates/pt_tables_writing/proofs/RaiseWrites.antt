@@ -6,7 +6,7 @@ use Rattle.std.proofs.lemmas.List.Sorted.{IsPermutation-sym}
 use Rattle.sqlite.specs.Command.TheVariants.{Update}
 use Rattle.sqlite.specs.Does.{Does}
 use Rattle.sqlite.specs.Edit.{edit_of, put_all, without_all}
-use Rattle.sqlite.specs.Effect.{Database}
+use Rattle.sqlite.specs.Effect.{Database, IsDatabase}
 use Rattle.sqlite.specs.Listing.{understood}
 use Rattle.sqlite.specs.Order.{Row, column, value_cmp}
 use Rattle.sqlite.specs.Rowids.TheVariants.{Given}
@@ -62,12 +62,16 @@ updated_is r policy last_trip is =
 
 -- the statement as it was made
 module _ (old new : State) (count : ℕ) (has : old.now.schema ≡ desk_schema) (h : Executes RAISE_VERSION.now given old new (Ok count)) where
+  ran : Writes old new None (Update 0 program) (statement_of RAISE_VERSION.now (understood desk_schema RAISE_VERSION.now)) given count
+  ran = runs_as RAISE_VERSION.now given old new desk_schema has (Update 0 program) text_is text_plain count h
+
   wrote : Wrote old new given desk_table (Update 0 program)
   wrote =
-      let w : Writes old new None (Update 0 program) (statement_of RAISE_VERSION.now (understood desk_schema RAISE_VERSION.now)) given count =
-      runs_as RAISE_VERSION.now given old new desk_schema has (Update 0 program) text_is text_plain count h in
-      placed old new given desk_table 0 (Update 0 program) w.tally refl
-      (subst (λ s. Does old.step_limit (mode_of old) given (record old.now { schema = s }) (statement_of RAISE_VERSION.now (understood desk_schema RAISE_VERSION.now)) None (Update 0 program) (Ok (w.tally, new.now))) has w.changed)
+      placed old new given desk_table 0 (Update 0 program) ran.tally refl
+      (subst (λ s. Does old.step_limit (mode_of old) given (record old.now { schema = s }) (statement_of RAISE_VERSION.now (understood desk_schema RAISE_VERSION.now)) None (Update 0 program) (Ok (ran.tally, new.now))) has ran.changed)
+
+  pub raised_sound : IsDatabase new.now
+  raised_sound = ran.sound
 
   pub schema_stays : new.now.schema ≡ desk_schema
   schema_stays = ap (λ (d : Database). d.schema) wrote.now

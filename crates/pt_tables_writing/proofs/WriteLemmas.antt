@@ -8,7 +8,7 @@ use Rattle.sqlite.specs.Command.TheVariants.{Insert}
 use Rattle.sqlite.specs.Table.{Table}
 use Rattle.sqlite.specs.Listing.{understood}
 use Rattle.sqlite.specs.Does.{Tally, Does, AtPlace, OnRows, WritesRows, Concludes}
-use Rattle.sqlite.specs.Effect.{Database}
+use Rattle.sqlite.specs.Effect.{Database, IsDatabase}
 use Rattle.sqlite.specs.Rows.{Task, Written, Then}
 use Rattle.sqlite.specs.State.{State, Writes, mode_of, Executes}
 use Rattle.sqlite.proofs.Callers.{IsPlain, command_of, statement_of, runs_as}
@@ -61,3 +61,9 @@ module _ (text : List ℕ) (params : Row) (table : Table) (at : ℕ) (there : sl
       let w : Writes old new None (Insert at from) (statement_of text (understood desk_schema text)) params count = runs_as text params old new desk_schema has (Insert at from) is plain count h in
       placed old new params table at (Insert at from) w.tally there
       (subst (λ s. Does old.step_limit (mode_of old) params (record old.now { schema = s }) (statement_of text (understood desk_schema text)) None (Insert at from) (Ok (w.tally, new.now))) has w.changed)
+
+  -- the database that is left is one
+  pub inserted_sound : (from : Source) → command_of (understood desk_schema text) ≡ Insert at from → IsDatabase new.now
+  inserted_sound from is =
+      let w : Writes old new None (Insert at from) (statement_of text (understood desk_schema text)) params count = runs_as text params old new desk_schema has (Insert at from) is plain count h in
+      w.sound

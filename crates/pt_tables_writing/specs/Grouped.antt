@@ -18,6 +18,7 @@ Adds table rows old new = (before : List Row) → Rewrites table before (rows ++
 -- of the stops of a vehicle on a day those before this place stay, and all of the other plans
 abbrev pub KeepsStops : Plan → ℕ → Database → Database → Type 0
 KeepsStops plan first old new =
-    (stops : List PlannedStop) (others : List Plan) → Each (λ x. plan_key x ≢ plan_key plan) others → Each IsStoredPlan others
+    (stops : List PlannedStop) (others : List Plan) → Each (λ x. plan_key x ≢ plan_key plan) others
+    → Each IsStoredPlan others
     → Rewrites stops_table (stop_rows (record plan { stops = stops }) ++ flat_map stop_rows others)
     (stop_rows (record plan { stops = take first stops }) ++ flat_map stop_rows others) old new

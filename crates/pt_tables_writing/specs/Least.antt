@@ -1,5 +1,6 @@
 -- What a new database has.
 use Rattle.std.specs.Prelude.{◌≡◌, ◌≢◌, ◌⊎◌, ℕ, List, [], ◌∷◌, IsTrue}
+use Rattle.sqlite.specs.Effect.{IsDatabase}
 use Rattle.sqlite.specs.State.{State as Connected}
 use Rattle.sqlite.specs.Tree.{Trees}
 use Rattle.pt_base.specs.declared.policy.Policy.{Policy}
@@ -8,7 +9,7 @@ use Rattle.pt_desk_rules.specs.State.{State}
 use Rattle.pt_requests.specs.declared.caller.Caller.{Caller}
 use Rattle.pt_requests.specs.declared.caller.Role.TheVariants.{Admin}
 use Rattle.pt_tables_rows.specs.Rows.{desk_row}
-use Rattle.pt_tables_rows.specs.Schema.{no_schema}
+use Rattle.pt_tables_rows.specs.Schema.{desk_schema, no_schema}
 use Rattle.pt_tables_rows.specs.Tables.{HasRows}
 
 -- caller 1, the admin whose key has this digest
@@ -29,13 +30,27 @@ pub record IsNew (policy : Policy) (digest : List ℕ) (content : State) : Type 
   pub trips : content.trips ≡ []
   pub planned : content.planned ≡ []
 
+-- the database lists the desk's tables, each by the text that defines it, and nothing else, and its rows obey them
+abbrev pub IsDeskDatabase : Trees → Type 0
+IsDeskDatabase trees = IsDatabase (record { schema = desk_schema; trees = trees })
+
 -- the rows of a content that is new
 abbrev pub HasNewRows : Policy → List ℕ → Trees → Type 0
 HasNewRows policy digest trees = (content : State) → IsNew policy digest content → HasRows content trees
 
+-- a desk's database with such rows
+pub record IsNewDesk (policy : Policy) (digest : List ℕ) (trees : Trees) : Type 0 where
+  pub tables : IsDeskDatabase trees
+  pub rows : HasNewRows policy digest trees
+
 -- the rows of the least state whose admin has this key
 abbrev pub HasLeastRows : List ℕ → Trees → Type 0
 HasLeastRows admin_key trees = (content : State) → IsLeastState admin_key content → HasRows content trees
+
+-- a desk's database with such rows
+pub record IsLeastDesk (admin_key : List ℕ) (trees : Trees) : Type 0 where
+  pub tables : IsDeskDatabase trees
+  pub rows : HasLeastRows admin_key trees
 
 -- the connection, if it is open, shows what the last commit left, which stays
 pub record IsUndone (old new : Connected) : Type 0 where

@@ -1,9 +1,10 @@
-ghost use Rattle.std.specs.Prelude.{◌≡◌, IsTrue};
+ghost use Rattle.std.specs.Prelude.{◌≡◌, IsTrue, OnOk};
+ghost use Rattle.sqlite.specs.Effect.{IsDatabase};
 ghost use Rattle.sqlite.specs.Held.{state};
 ghost use Rattle.sqlite.specs.State.{HasCleanDisk, Survives};
 ghost use Rattle.pt_tables_writing.specs.Least.{first_admin};
 ghost use Rattle.pt_tables_rows.specs.Rows.{desk_row, caller_row};
-ghost use Rattle.pt_tables_rows.specs.Schema.{desk_table, callers_table};
+ghost use Rattle.pt_tables_rows.specs.Schema.{desk_schema, desk_table, callers_table};
 ghost use Rattle.pt_tables_rows.specs.Tables.{ChangesIfOk, Fills};
 
 use pt_base::Policy;
@@ -66,6 +67,10 @@ pub fn insert_admin<S: Alter>(tx: &mut Transaction<'_, S>, digest: &Digest) -> R
         → IsTrue (state S.Store tx.old.conn.now).in_transaction
         → ChangesIfOk (state S.Store tx.old.conn.now) (state S.Store tx.new.conn.now)
         (Fills callers_table (caller_row (first_admin digest.now))) result }
+    ensures sound { HasCleanDisk (state S.Store tx.new.conn.now)
+        → IsTrue (state S.Store tx.old.conn.now).in_transaction
+        → OnOk result ((state S.Store tx.old.conn.now).now.schema ≡ desk_schema
+        → IsDatabase (state S.Store tx.new.conn.now).now) }
     ensures survives { Survives (state S.Store tx.old.conn.now) (state S.Store tx.new.conn.now) (λ _. ⊥) }
 {
     tx.execute(

@@ -31,8 +31,8 @@ fn replaced<'a>(
     Some((before, plan))
 }
 
-/// Makes the edit in the table of plans; `records` are those of the table. Where one plan comes in place of another, as in a
-/// booking, the rows of the stops that both begin with stay.
+/// Makes the edit in the table of plans; `records` are those of the table. Where one plan comes in place of another, as
+/// in a booking, the rows of the stops that both begin with stay.
 pub(crate) fn write_plans<S: Alter>(
     tx: &mut Transaction<'_, S>,
     edits: &Edits<PlannedRoute>,

@@ -1,4 +1,4 @@
-ghost use Rattle.std.specs.Prelude.{All, IsTrue};
+ghost use Rattle.std.specs.Prelude.{◌↔◌, All, IsTrue};
 ghost use Rattle.pt_records.specs.Records.{Each};
 ghost use Rattle.pt_rights.specs.Conditions.{IsCondition};
 ghost use Rattle.pt_spelling.specs.Ranges.{IsWeek};
@@ -16,7 +16,7 @@ pub(crate) trait Told {
 
     /// Whether its rows tell it whole. All but a plan with no stop do: the types of their fields see to it.
     fn is_told(&self) -> bool
-        ensures { IsTrue result → IsTold self.now };
+        ensures { IsTrue result ↔ IsTold self.now };
 }
 
 impl Told for Kept {
@@ -132,7 +132,7 @@ impl Told for PlannedRoute {
 
 /// Whether rows tell each of the records whole.
 fn all_told<T: Told>(records: &[T]) -> bool
-    ensures { IsTrue result → Each T.IsTold records.now }
+    ensures { IsTrue result ↔ Each T.IsTold records.now }
 {
     for record in records {
         if !record.is_told() {
@@ -144,7 +144,7 @@ fn all_told<T: Told>(records: &[T]) -> bool
 
 /// Whether rows tell all that the change puts. A change that the rules make is such.
 pub fn is_told(change: &Change) -> bool
-    ensures { IsTrue result → PutsWellFormed change.now }
+    ensures { IsTrue result ↔ PutsWellFormed change.now }
 {
     all_told(change.kept.puts())
         && all_told(change.routes.puts())

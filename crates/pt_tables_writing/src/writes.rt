@@ -76,7 +76,8 @@ fn write_vehicles<S: Alter>(
     mark_each(tx, change.vehicles.puts())
 }
 
-/// Takes away the wheelchair places of the vehicles that the change takes away, and then writes what it makes of vehicles.
+/// Takes away the wheelchair places of the vehicles that the change takes away, and then writes what it makes of
+/// vehicles.
 fn write_fleet<S: Alter>(
     tx: &mut Transaction<'_, S>,
     change: &Change,

@@ -1,8 +1,9 @@
 ghost use Rattle.std.specs.Prelude.{◌≡◌, ℕ, [], ◌∷◌, IsTrue, OnOk};
+ghost use Rattle.sqlite.specs.Effect.{IsDatabase};
 ghost use Rattle.sqlite.specs.Held.{state};
 ghost use Rattle.sqlite.specs.State.{HasCleanDisk, Survives};
 ghost use Rattle.pt_tables_rows.specs.Rows.{desk_row};
-ghost use Rattle.pt_tables_rows.specs.Schema.{desk_table};
+ghost use Rattle.pt_tables_rows.specs.Schema.{desk_schema, desk_table};
 ghost use Rattle.pt_tables_rows.specs.Tables.{ChangesIfOk};
 ghost use Rattle.pt_tables_writing.specs.Writes.{Rewrites, RaisesVersion};
 
@@ -62,6 +63,10 @@ pub fn raise_version<S: Alter>(tx: &mut Transaction<'_, S>) -> Result<(), Error>
         → IsTrue (state S.Store tx.old.conn.now).in_transaction
         → ChangesIfOk (state S.Store tx.old.conn.now) (state S.Store tx.new.conn.now)
         RaisesVersion result }
+    ensures sound { HasCleanDisk (state S.Store tx.new.conn.now)
+        → IsTrue (state S.Store tx.old.conn.now).in_transaction
+        → OnOk result ((state S.Store tx.old.conn.now).now.schema ≡ desk_schema
+        → IsDatabase (state S.Store tx.new.conn.now).now) }
     ensures open { HasCleanDisk (state S.Store tx.new.conn.now)
         → IsTrue (state S.Store tx.old.conn.now).in_transaction
         → OnOk result (IsTrue (state S.Store tx.old.conn.now).is_open) }

@@ -18,10 +18,12 @@ pub returns-in-Ok-clause-crash : goal.returns-in-Ok-clause-crash
 returns-in-Ok-clause-crash g c =
     let yes : IsTrue c.in_ok-is_first_version.field-0 = c.if-not-branch.false in
     survive_read (state g.S.Store c.args.conn.now) (state g.S.Store c.is_first_version.new.conn) (state g.S.Store c.raise.new.conn)
-    (λ early. (c.in_ok-is_first_version.ensures.same early yes).0.now_is) c.is_first_version.ensures.survives c.raise.ensures.survives
+    (λ early. (c.in_ok-is_first_version.ensures.same early yes).0.now_is) (λ early. (c.in_ok-is_first_version.ensures.value early).0 yes)
+    c.is_first_version.ensures.survives c.raise.ensures.survives
 
 pub returns-in-Err-clause-crash : goal.returns-in-Err-clause-crash
 returns-in-Err-clause-crash g c =
     let yes : IsTrue c.in_ok-is_first_version.field-0 = c.if-not-branch.false in
     survive_read (state g.S.Store c.args.conn.now) (state g.S.Store c.is_first_version.new.conn) (state g.S.Store c.raise.new.conn)
-    (λ early. (c.in_ok-is_first_version.ensures.same early yes).0.now_is) c.is_first_version.ensures.survives c.raise.ensures.survives
+    (λ early. (c.in_ok-is_first_version.ensures.same early yes).0.now_is) (λ early. (c.in_ok-is_first_version.ensures.value early).0 yes)
+    c.is_first_version.ensures.survives c.raise.ensures.survives

@@ -6,7 +6,7 @@ use Rattle.pt_tables_opening.specs.Faults.{fault, store_refused, tables_refused,
 use Rattle.pt_tables_opening.specs.Opening.{Rests}
 use Rattle.pt_tables_rows.specs.Schema.{desk_schema, desk_table}
 use Rattle.pt_tables_rows.specs.Tables.{AreRows}
-use Rattle.pt_tables_opening.proofs.AgencyLemmas.{agency_told, agency_refused}
+use Rattle.pt_tables_opening.proofs.AgencyLemmas.{agency_told, agency_refused, agency_spares}
 use Rattle.pt_tables_opening.proofs.RestLemmas.{rests_so}
 use Rattle.pt_tables_opening.proofs.agency.agency_in.Goals as goal
 
@@ -29,3 +29,9 @@ returns-clause-faults g c =
     ((state g.S.Store c.args.conn.now).now.schema ≡ desk_schema)
     (λ clean has. subst (AreRows desk_table trees) (sym c.deref.ensures.value) (c.in-Ok.ensures.rows clean has))
     (fault memory_refused) (fault store_refused) (fault tables_refused) (unsound 1) c.agency_from.result c.agency_from.ensures.faults
+
+pub returns-clause-version : goal.returns-clause-version
+returns-clause-version g c clean has =
+    let trees = (state g.S.Store c.args.conn.now).now.trees in
+    agency_spares trees c.deref.result.now (subst (AreRows desk_table trees) (sym c.deref.ensures.value) (c.in-Ok.ensures.rows clean has))
+    c.agency_from.result c.agency_from.ensures.faults

@@ -1,8 +1,9 @@
-use Rattle.std.proofs.Common.{◌≡◌}
+use Rattle.std.proofs.Common.{◌≡◌, arith}
 use Rattle.sqlite.specs.Held.{state}
 use Rattle.sqlite.specs.State.{HasCleanDisk}
-use Rattle.pt_tables_opening.specs.Refused.{TellsWhy}
+use Rattle.pt_tables_opening.specs.Refused.{SparesOtherVersion, TellsWhy}
 use Rattle.pt_tables_rows.specs.Schema.{desk_schema}
+use Rattle.pt_tables_opening.proofs.AgencyLemmas.{spares_after_agency}
 use Rattle.pt_tables_opening.proofs.SectionLemmas.{agency_tells, last, next, passed_on, refused, table_tells, tells_later}
 use Rattle.pt_tables_opening.proofs.sections.office_in.Goals as goal
 
@@ -46,3 +47,19 @@ returns-in_err-kept-clause-why g c clean has =
     passed_on (TellsWhy old.now.trees) _ (tells_later old s1 s3 c.agency_in.result _ c.in_ok-policy.was c.agency_in.ensures.rests c.table_of-2.result (next s1 s2 s3 c.table_of.result _ c.in_ok-callers.was c.table_of.ensures.rests c.table_of-2.result c.table_of-2.ensures.rests) _
     (tells_later s1 s2 s3 c.table_of.result _ c.in_ok-callers.was c.table_of.ensures.rests c.table_of-2.result c.table_of-2.ensures.rests _
     (table_tells (HasCleanDisk s3) (s2.now.schema ≡ desk_schema) s2.now.trees 3 _ c.in_err-kept.ensures.faults)) clean has) c.from_residual-in_err-kept.result c.from_residual-in_err-kept.ensures.1
+
+pub returns-in_err-policy-clause-version : goal.returns-in_err-policy-clause-version
+returns-in_err-policy-clause-version g c clean has =
+    passed_on (SparesOtherVersion (state g.S.Store c.args.conn.now).now.trees) _ (c.in_err-policy.ensures.version clean has) c.from_residual.result c.from_residual.ensures.1
+
+pub returns-in_err-callers-clause-version : goal.returns-in_err-callers-clause-version
+returns-in_err-callers-clause-version g c clean has =
+    let trees = (state g.S.Store c.args.conn.now).now.trees in
+    let early : HasCleanDisk (state g.S.Store c.agency_in.new.conn) = omega (arith, clean, c.table_of.ensures.rests.survives.clean) in
+    spares_after_agency trees _ (c.in_ok-policy.ensures.told early has) c.from_residual-in_err-callers.result
+
+pub returns-in_err-kept-clause-version : goal.returns-in_err-kept-clause-version
+returns-in_err-kept-clause-version g c clean has =
+    let trees = (state g.S.Store c.args.conn.now).now.trees in
+    let early : HasCleanDisk (state g.S.Store c.agency_in.new.conn) = omega (arith, clean, c.table_of-2.ensures.rests.survives.clean, c.table_of.ensures.rests.survives.clean) in
+    spares_after_agency trees _ (c.in_ok-policy.ensures.told early has) c.from_residual-in_err-kept.result

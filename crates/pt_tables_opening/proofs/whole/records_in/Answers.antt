@@ -3,7 +3,8 @@ use Rattle.sqlite.specs.Held.{state}
 use Rattle.sqlite.specs.State.{HasCleanDisk}
 use Rattle.sqlite.specs.Tree.{Trees}
 use Rattle.pt_tables_opening.specs.Sections.{IsAreaOf, IsDrivingOf, IsServiceOf}
-use Rattle.pt_tables_opening.specs.Refused.{TellsWhy}
+use Rattle.pt_tables_opening.specs.Refused.{SparesOtherVersion, TellsWhy}
+use Rattle.pt_tables_opening.proofs.AgencyLemmas.{spares_after_office}
 use Rattle.pt_tables_opening.proofs.SectionLemmas.{last, next, passed_on, refused, seen, tells_later}
 use Rattle.pt_tables_opening.proofs.whole.records_in.Goals as goal
 
@@ -100,3 +101,26 @@ returns-in_err-driving-clause-why g c clean has =
     (tells_later s1 s2 s4 c.area_in.result _ c.in_ok-area.was c.area_in.ensures.rests c.driving_in.result (next s2 s3 s4 c.service_in.result _ c.in_ok-service.was c.service_in.ensures.rests c.driving_in.result c.driving_in.ensures.rests) _
     (tells_later s2 s3 s4 c.service_in.result _ c.in_ok-service.was c.service_in.ensures.rests c.driving_in.result c.driving_in.ensures.rests _
     c.in_err-driving.ensures.why)) clean has) c.from_residual-in_err-driving.result c.from_residual-in_err-driving.ensures.1
+
+pub returns-in_err-office-clause-version : goal.returns-in_err-office-clause-version
+returns-in_err-office-clause-version g c clean has =
+    passed_on (SparesOtherVersion (state g.S.Store c.args.conn.now).now.trees) _ (c.in_err-office.ensures.version clean has) c.from_residual.result c.from_residual.ensures.1
+
+pub returns-in_err-area-clause-version : goal.returns-in_err-area-clause-version
+returns-in_err-area-clause-version g c clean has =
+    let trees = (state g.S.Store c.args.conn.now).now.trees in
+    let early : HasCleanDisk (state g.S.Store c.office_in.new.conn) = omega (arith, clean, c.area_in.ensures.rests.survives.clean) in
+    spares_after_office trees _ (c.in_ok-office.ensures.told early has) c.from_residual-in_err-area.result
+
+pub returns-in_err-service-clause-version : goal.returns-in_err-service-clause-version
+returns-in_err-service-clause-version g c clean has =
+    let trees = (state g.S.Store c.args.conn.now).now.trees in
+    let early : HasCleanDisk (state g.S.Store c.office_in.new.conn) = omega (arith, clean, c.service_in.ensures.rests.survives.clean, c.area_in.ensures.rests.survives.clean) in
+    spares_after_office trees _ (c.in_ok-office.ensures.told early has) c.from_residual-in_err-service.result
+
+pub returns-in_err-driving-clause-version : goal.returns-in_err-driving-clause-version
+returns-in_err-driving-clause-version g c clean has =
+    let trees = (state g.S.Store c.args.conn.now).now.trees in
+    let early : HasCleanDisk (state g.S.Store c.office_in.new.conn) =
+    omega (arith, clean, c.driving_in.ensures.rests.survives.clean, c.service_in.ensures.rests.survives.clean, c.area_in.ensures.rests.survives.clean) in
+    spares_after_office trees _ (c.in_ok-office.ensures.told early has) c.from_residual-in_err-driving.result

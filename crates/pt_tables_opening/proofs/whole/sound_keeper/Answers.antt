@@ -1,3 +1,4 @@
+use Rattle.pt_tables_opening.proofs.AgencyLemmas.{spares_after_all}
 use Rattle.pt_tables_opening.proofs.SectionLemmas.{put_well_formed, some_is_none, tells_rows, unsound_content, whole_of}
 use Rattle.pt_tables_opening.proofs.whole.sound_keeper.Goals as goal
 
@@ -13,3 +14,6 @@ returns-in-Ok-Some-clause-why c trees told =
     tells_rows trees _ c.at_fault.result c.at_fault.ensures.value
     (unsound_content c.args.change c.in_ok-keeper.keeper.content c.requires.whole c.in_ok-keeper.ensures.content
     (λ sound. some_is_none _ _ c.in-Ok-Some.field-0-is (c.in-Ok-Some.ensures.exact.1 sound)) trees told)
+
+pub returns-in-Ok-Some-clause-version : goal.returns-in-Ok-Some-clause-version
+returns-in-Ok-Some-clause-version c trees told = spares_after_all trees c.args.change told c.at_fault.result

@@ -4,7 +4,7 @@ use Rattle.sqlite.specs.State.{Executes}
 use Rattle.pt_tables_writing.specs.Least.{first_admin}
 use Rattle.pt_tables_rows.specs.Rows.{caller_row}
 use Rattle.pt_tables_writing.specs.declared.first_rows.TheConstants.{INSERT_CALLER}
-use Rattle.pt_tables_writing.proofs.FirstRowLemmas.{fills_admin}
+use Rattle.pt_tables_writing.proofs.FirstRowLemmas.{fills_admin, sound_admin}
 use Rattle.pt_tables_rows.proofs.StateLemmas.{keeps_shown}
 use Rattle.pt_tables_writing.proofs.first_rows.insert_admin.Goals as goal
 
@@ -15,3 +15,11 @@ returns-clause-filled g c clean inside =
     let ran = c.in_ok-execute.ensures.runs clean inside in
     let run : Executes INSERT_CALLER.now (caller_row (first_admin c.args.digest.now)) old new (Ok c.in_ok-execute.field-0) = search rules in
     (keeps_shown old new ran.1, ran.1.mode, λ has. fills_admin c.args.digest.now old new c.in_ok-execute.field-0 has run)
+
+pub returns-clause-sound : goal.returns-clause-sound
+returns-clause-sound g c clean inside has =
+    let old = state g.S.Store c.args.tx.now.conn.now in
+    let new = state g.S.Store c.execute.new.self.conn.now in
+    let ran = c.in_ok-execute.ensures.runs clean inside in
+    let run : Executes INSERT_CALLER.now (caller_row (first_admin c.args.digest.now)) old new (Ok c.in_ok-execute.field-0) = search rules in
+    sound_admin c.args.digest.now old new c.in_ok-execute.field-0 has run

@@ -2,8 +2,10 @@ use Rattle.std.proofs.Common.{subst, arith}
 use Rattle.sqlite.specs.Held.{state}
 use Rattle.sqlite.specs.State.{HasCleanDisk}
 use Rattle.pt_tables_opening.specs.Opening.{Rests}
+use Rattle.pt_tables_opening.specs.Refused.{SparesOtherVersion}
 use Rattle.pt_tables_rows.specs.Tables.{HasRows}
-use Rattle.pt_tables.proofs.AdoptLemmas.{adopted, handed_back, others_committed, unsound_committed}
+use Rattle.pt_tables.proofs.AdoptLemmas.{adopted, handed_back, left_before, others_committed, unsound_committed}
+use Rattle.pt_tables.proofs.KeeperLemmas.{settles}
 use Rattle.pt_tables.proofs.keeper.SqlKeeper.adopt.Goals as goal
 
 pub invariant_of-result : goal.invariant_of-result
@@ -42,3 +44,33 @@ returns-in-Err-clause-other_tables g c clean =
     let early : HasCleanDisk new = omega (arith, clean, c.into_store-in-Err.ensures.quiet.clean) in
     let earlier : HasCleanDisk mid = omega (arith, early, c.content_in.ensures.rests.survives.clean) in
     others_committed (state g.S.Store c.args.conn) mid c.in-Err.refused (c.in_ok-conn.ensures.opened earlier) (c.in-Err.ensures.why early)
+
+pub returns-in-Ok-clause-settled : goal.returns-in-Ok-clause-settled
+returns-in-Ok-clause-settled g c =
+    let mid = state g.S.Store c.in_ok-conn.conn in
+    let new = state g.S.Store c.content_in.new.conn in
+    settles new c.in-Ok.mirror.content 0 (λ db here left. g.met.S.Store.settled c.content_in.new.conn.store db here left)
+    (adopted c.in-Ok.mirror.content (state g.S.Store c.args.conn) mid new c.in-Ok.mirror (subst (λ r. Rests mid new r) c.in-Ok.is c.content_in.ensures.rests)
+    c.in_ok-conn.ensures.settled c.in-Ok.ensures.schema c.in_ok-conn.ensures.opened c.in-Ok.ensures.well_formed c.in-Ok.ensures.rows)
+
+pub returns-in-Ok-clause-crash : goal.returns-in-Ok-clause-crash
+returns-in-Ok-clause-crash g c clean db left =
+    let mid = state g.S.Store c.in_ok-conn.conn in
+    let early : HasCleanDisk mid = omega (arith, clean, c.content_in.ensures.survives.clean) in
+    c.in_ok-conn.ensures.crash early db (left_before mid (state g.S.Store c.content_in.new.conn) c.content_in.ensures.survives clean db left)
+
+pub returns-in-Err-clause-crash : goal.returns-in-Err-clause-crash
+returns-in-Err-clause-crash g c clean db left =
+    let mid = state g.S.Store c.in_ok-conn.conn in
+    let new = state g.S.Store c.content_in.new.conn in
+    let early : HasCleanDisk new = omega (arith, clean, c.into_store-in-Err.ensures.quiet.clean) in
+    let earlier : HasCleanDisk mid = omega (arith, early, c.content_in.ensures.survives.clean) in
+    c.in_ok-conn.ensures.crash earlier db (left_before mid new c.content_in.ensures.survives early db (c.into_store-in-Err.ensures.quiet.outcomes db left))
+
+pub returns-in-Err-clause-version : goal.returns-in-Err-clause-version
+returns-in-Err-clause-version g c clean =
+    let mid = state g.S.Store c.in_ok-conn.conn in
+    let new = state g.S.Store c.content_in.new.conn in
+    let early : HasCleanDisk new = omega (arith, clean, c.into_store-in-Err.ensures.quiet.clean) in
+    let earlier : HasCleanDisk mid = omega (arith, early, c.content_in.ensures.survives.clean) in
+    subst (λ trees. SparesOtherVersion trees c.in-Err.refused) (c.in_ok-conn.ensures.opened earlier).rows (c.in-Err.ensures.version early)

@@ -1,3 +1,4 @@
+use Rattle.std.proofs.Common.{◌≡◌, arith}
 use Rattle.pt_desk_rules.specs.Arrival.{arrival_of}
 use Rattle.pt_desk_rules.specs.State.{kept_of}
 use Rattle.pt_tables.proofs.KeeperLemmas.{reads_by}
@@ -6,4 +7,5 @@ use Rattle.pt_tables.proofs.keeper.SqlKeeperKeeper.arrival.Goals as goal
 pub returns : goal.returns
 returns g c = record {
   reads = reads_by g.S.Store c.self.inside.conn c.self.inside.failures c.self.inside.mirror c.arrival.new.self c.args.self.now (λ s. arrival_of c.args.number c.args.request.now (kept_of c.args.caller s)) c.arrival.result c.self.view_is c.in_ok-serve.ensures.served c.arrival.ensures.reads;
+  refuses = λ some. absurd (let none : c.args.self.now.failures ≡ 0 = c.in_ok-serve.ensures.served in omega arith);
 }

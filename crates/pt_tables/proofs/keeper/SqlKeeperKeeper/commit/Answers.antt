@@ -1,4 +1,4 @@
-use Rattle.std.proofs.Common.{◌≡◌, Ok, Err, Some, sym, ap, subst, ◌∙◌, rules}
+use Rattle.std.proofs.Common.{◌≡◌, Ok, Err, Some, sym, ap, subst, ◌∙◌, rules, arith}
 use Rattle.sqlite.specs.Held.{state}
 use Rattle.pt_desk.specs.Store.{Goes}
 use Rattle.pt_desk.specs.declared.keeper.StoreFault.TheVariants.{Memory}
@@ -19,6 +19,7 @@ returns-in_err-reserve g c =
       commits = commits_by g.S.Store c.self.inside.conn f c.self.inside.mirror c.args.self.now c.args.change content (kept_store now content f)
           c.from_residual-in_err-reserve.result c.self.view_is c.in_err-reserve.ensures.content
           (wants_memory now content f (Some (applied c.args.change content)) c.from_residual-in_err-reserve.result none want);
+      refuses = λ some. absurd (let none : c.args.self.now.failures ≡ 0 = c.in_ok-serve.ensures.served in omega arith);
     }
 
 pub invariant_of-self-in-Ok : goal.invariant_of-self-in-Ok
@@ -30,7 +31,7 @@ invariant_of-self-in-Ok g c =
     let none : f ≡ 0 = ap (λ (m : Mirrored _). m.failures) c.self.view_is ∙ c.in_ok-serve.ensures.served in
     let was = subst (λ a. IsInStep a f old) (sym c.in_ok-reserve.ensures.content) c.self.invariant in
     let after = applied c.args.change content in
-    let told = applied-well_formed c.args.change content was.told (c.is_told.ensures c.if-not-is_told.false) in
+    let told = applied-well_formed c.args.change content was.told (c.is_told.ensures.0 c.if-not-is_told.false) in
     subst (λ a. IsInStep a f new) (sym c.make.ensures.content)
     (step_made old new content after f none was c.write_change.ensures.survives told
     (λ db here left. g.met.S.Store.settled c.write_change.new.conn.store db here left) c.write_change.ensures.settled c.in-Ok.ensures.made)
@@ -44,7 +45,7 @@ invariant_of-self-in-Err-1 g c =
     let none : f ≡ 0 = ap (λ (m : Mirrored _). m.failures) c.self.view_is ∙ c.in_ok-serve.ensures.served in
     let was = subst (λ a. IsInStep a f old) (sym c.in_ok-reserve.ensures.content) c.self.invariant in
     let after = applied c.args.change content in
-    let told = applied-well_formed c.args.change content was.told (c.is_told.ensures c.if-not-is_told.false) in
+    let told = applied-well_formed c.args.change content was.told (c.is_told.ensures.0 c.if-not-is_told.false) in
     step_undone old new content after f none was c.write_change.ensures.survives told
     (λ db here left. g.met.S.Store.settled c.write_change.new.conn.store db here left) c.blame.new.failures
     (at_most_one c.blame.new.failures c.blame.result c.blame.ensures.failed c.blame.ensures.memory) c.write_change.ensures.settled
@@ -59,13 +60,14 @@ returns-in-Ok g c =
     let none : f ≡ 0 = ap (λ (m : Mirrored _). m.failures) c.self.view_is ∙ c.in_ok-serve.ensures.served in
     let was = subst (λ a. IsInStep a f old) (sym c.in_ok-reserve.ensures.content) c.self.invariant in
     let after = applied c.args.change content in
-    let told = applied-well_formed c.args.change content was.told (c.is_told.ensures c.if-not-is_told.false) in
+    let told = applied-well_formed c.args.change content was.told (c.is_told.ensures.0 c.if-not-is_told.false) in
     let made = commits_made old new content after f none was c.write_change.ensures.survives told
     (λ db here left. g.met.S.Store.settled c.write_change.new.conn.store db here left) c.write_change.ensures.settled c.in-Ok.ensures.made in
     record {
       commits = commits_by g.S.Store c.self.inside.conn f c.self.inside.mirror c.args.self.now c.args.change content (kept_store new c.make.new.self.content f)
           (Ok tt) c.self.view_is c.in_ok-reserve.ensures.content
           (subst (λ a. Goes {X = Unit {0}} (kept_store old content f) (kept_store new a f) tt (Some after) (Ok tt)) (sym c.make.ensures.content) made);
+      refuses = λ some. absurd (let none : c.args.self.now.failures ≡ 0 = c.in_ok-serve.ensures.served in omega arith);
     }
 
 pub returns-in-Err : goal.returns-in-Err
@@ -77,11 +79,12 @@ returns-in-Err g c =
     let none : f ≡ 0 = ap (λ (m : Mirrored _). m.failures) c.self.view_is ∙ c.in_ok-serve.ensures.served in
     let was = subst (λ a. IsInStep a f old) (sym c.in_ok-reserve.ensures.content) c.self.invariant in
     let after = applied c.args.change content in
-    let told = applied-well_formed c.args.change content was.told (c.is_told.ensures c.if-not-is_told.false) in
+    let told = applied-well_formed c.args.change content was.told (c.is_told.ensures.0 c.if-not-is_told.false) in
     record {
       commits = commits_by g.S.Store c.self.inside.conn f c.self.inside.mirror c.args.self.now c.args.change content (kept_store new content c.blame.new.failures)
           (Err c.blame.result) c.self.view_is c.in_ok-reserve.ensures.content
           (commits_not old new content after f none was c.write_change.ensures.survives told
           (λ db here left. g.met.S.Store.settled c.write_change.new.conn.store db here left) c.blame.new.failures c.blame.result
           c.blame.ensures.failed c.blame.ensures.memory c.write_change.ensures.settled c.in-Err.ensures.undone);
+      refuses = λ some. absurd (let none : c.args.self.now.failures ≡ 0 = c.in_ok-serve.ensures.served in omega arith);
     }

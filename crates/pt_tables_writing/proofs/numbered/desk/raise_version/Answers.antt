@@ -1,5 +1,5 @@
 use Rattle.sqlite.specs.Held.{state}
-use Rattle.pt_tables_writing.proofs.RaiseWrites.{raises, schema_stays}
+use Rattle.pt_tables_writing.proofs.RaiseWrites.{raised_sound, raises, schema_stays}
 use Rattle.pt_tables_rows.proofs.StateLemmas.{keeps_shown}
 use Rattle.pt_tables_writing.proofs.numbered.desk.raise_version.Goals as goal
 
@@ -19,3 +19,11 @@ returns-clause-raised g c clean inside =
 
 pub returns-clause-open : goal.returns-clause-open
 returns-clause-open g c clean inside = let ran = c.in_ok-execute.ensures.runs clean inside in ran.1.was_open
+
+pub returns-clause-sound : goal.returns-clause-sound
+returns-clause-sound g c clean inside has =
+    let old = state g.S.Store c.args.tx.now.conn.now in
+    let new = state g.S.Store c.execute.new.self.conn.now in
+    let ran = c.in_ok-execute.ensures.runs clean inside in
+    let run = rw (c.params-to_sql.ensures, c.params-to_sql-2.ensures) at ran.0 in
+    raised_sound old new c.in_ok-execute.field-0 has run
