@@ -9,31 +9,31 @@ use Rattle.pt_http.specs.declared.received.Received.{Received}
 use Rattle.pt_http.specs.declared.received.Received.TheVariants as received
 
 -- what was received is exchanged for the desk's response
-pub exchanged : (shut : ℕ) (now : ℕ × ℕ) (input : List ℕ) (came : Received) (old new : Desk) (reply : Response)
-    (rest : List ℕ) → BeginsWith input came rest → Responds shut now came old new reply
-    → Exchanges shut now input old new reply rest
-exchanged shut now input (received.Message message) old new (response.Answered told) rest begins responds
+pub exchanged : (now : ℕ × ℕ) (input : List ℕ) (came : Received) (old new : Desk) (reply : Response)
+    (rest : List ℕ) → BeginsWith input came rest → Responds now came old new reply
+    → Exchanges now input old new reply rest
+exchanged now input (received.Message message) old new (response.Answered told) rest begins responds
     = (message, begins, responds)
-exchanged shut now input (received.Message message) old new (response.Refused named) rest begins responds
+exchanged now input (received.Message message) old new (response.Refused named) rest begins responds
     = absurd responds
-exchanged shut now input (received.Refused why) old new (response.Answered told) rest begins responds = absurd responds
-exchanged shut now input (received.Refused why) old new (response.Refused named) rest begins (is, same) =
+exchanged now input (received.Refused why) old new (response.Answered told) rest begins responds = absurd responds
+exchanged now input (received.Refused why) old new (response.Refused named) rest begins (is, same) =
     (subst (λ fault. BeginsWithFault input fault rest) (sym is) begins, same)
 
 -- the response ends the messages exactly where what was received does
-pub same_end : (shut : ℕ) (now : ℕ × ℕ) (came : Received) (old new : Desk) (reply : Response)
-    → Responds shut now came old new reply
+pub same_end : (now : ℕ × ℕ) (came : Received) (old new : Desk) (reply : Response)
+    → Responds now came old new reply
     → is_end came ≡ is_last reply
-same_end shut now (received.Message message) old new (response.Answered told) responds = refl
-same_end shut now (received.Message message) old new (response.Refused named) responds = absurd responds
-same_end shut now (received.Refused why) old new (response.Answered told) responds = absurd responds
-same_end shut now (received.Refused why) old new (response.Refused named) (is, same) =
+same_end now (received.Message message) old new (response.Answered told) responds = refl
+same_end now (received.Message message) old new (response.Refused named) responds = absurd responds
+same_end now (received.Refused why) old new (response.Answered told) responds = absurd responds
+same_end now (received.Refused why) old new (response.Refused named) (is, same) =
     ap (λ fault. is_last (response.Refused fault)) (sym is)
 
 -- whatever came in, it was served
-pub served : (shut : ℕ) (now : ℕ × ℕ) (came : Received) (old new : Desk) (reply : Response)
-    → Responds shut now came old new reply → Serves shut now old new reply
-served shut now (received.Message message) old new (response.Answered told) responds = (message, responds)
-served shut now (received.Message message) old new (response.Refused named) responds = absurd responds
-served shut now (received.Refused why) old new (response.Answered told) responds = absurd responds
-served shut now (received.Refused why) old new (response.Refused named) (is, same) = same
+pub served : (now : ℕ × ℕ) (came : Received) (old new : Desk) (reply : Response)
+    → Responds now came old new reply → Serves now old new reply
+served now (received.Message message) old new (response.Answered told) responds = (message, responds)
+served now (received.Message message) old new (response.Refused named) responds = absurd responds
+served now (received.Refused why) old new (response.Answered told) responds = absurd responds
+served now (received.Refused why) old new (response.Refused named) (is, same) = same

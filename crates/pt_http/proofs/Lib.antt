@@ -2,3 +2,5 @@ pub mod ReceivedLemmas
 pub mod ExchangeLemmas
 pub mod ToldLemmas
 pub mod UniqueLemmas
+pub mod HeadDecisions
+pub mod MessageDecisions

@@ -4,7 +4,7 @@ use Rattle.std.proofs.Common.{arith, Option, Some, None, append_assoc, length-ap
 use Rattle.std.proofs.Common.{length-take-le}
 use Rattle.std.proofs.lemmas.List.{take-append-drop, take-append-le, drop-append-le, drop-drop}
 use Rattle.std.specs.Io.KnownBytes.{IsAtEnd}
-use Rattle.std.specs.Prelude.{IfSome}
+use Rattle.std.specs.Prelude.{IfSome, IfErr, Result, Ok, Err}
 use Rattle.std.proofs.lemmas.Bool.{false≢true}
 use Rattle.httparse.specs.Grammar.{RequestHead, print_request}
 use Rattle.pt_http_inbox.specs.Head.{BeginsWithHead, IsHead, IsHeadWithin}
@@ -38,6 +38,11 @@ pub reads_input : {R : Type 0} (remaining : R → Option (List ℕ)) (old new : 
 reads_input remaining old new input reads has =
     let on = reads_known remaining old new has.left reads has.known in
     record { left = on.0; known = on.1; whole = has.whole ∙ on.2 }
+
+-- what holds of each error holds of that of a result
+pub on_err : {T E : Type 0} {P : E → Type 0} (result : Result T E) → ((error : E) → P error) → IfErr result P
+on_err (Ok value) holds = tt
+on_err (Err error) holds = holds error
 
 some_one : {A : Type 0} (a b : A) → ◌≡◌ {A = Option A} (Some a) (Some b) → a ≡ b
 some_one a b same = cc

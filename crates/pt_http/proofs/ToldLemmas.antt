@@ -25,18 +25,18 @@ of_read (Booked told) reads = absurd (cc)
 of_read _ reads = refl
 
 -- a message may be answered by want of memory where it is answered by what a read is told
-wants_memory : (key : Option (List ℕ)) (shut : ℕ) (now : ℕ × ℕ) (message : Message) (old new : Desk) (told : Answer)
+wants_memory : (key : Option (List ℕ)) (now : ℕ × ℕ) (message : Message) (old new : Desk) (told : Answer)
     → is_of_read told ≡ true
-    → AnswersWith key shut now message old new (Ok told) → AnswersWith key shut now message old new (Err Memory)
-wants_memory None shut now message old new told reads (is, same) = let denied : told ≡ Denied Key
+    → AnswersWith key now message old new (Ok told) → AnswersWith key now message old new (Err Memory)
+wants_memory None now message old new told reads (is, same) = let denied : told ≡ Denied Key
     = cc in absurd (cc (rw denied at reads))
-wants_memory (Some key) shut now message old new told reads ((answer, left, tells, inr fault), fails) = absurd fault.0
-wants_memory (Some key) shut now message old new told reads ((answer, left, tells, inl is), fails) =
+wants_memory (Some key) now message old new told reads ((answer, left, tells, inr fault), fails) = absurd fault.0
+wants_memory (Some key) now message old new told reads ((answer, left, tells, inl is), fails) =
     let none : left ≡ None
     = commits_nothing (sender key old.content) now message.number message.request old.content answer left is
     (of_read answer (ap is_of_read (sym tells.0) ∙ reads)) in
     let stays : new.content ≡ old.content = tells.1 ∙ ap (λ left. state_after left old.content) none in (
-      (answer, None, (λ serves. stays), inr (tt, refl)),
+      (answer, None, stays, inr (tt, refl)),
       record {
         grows = fails.grows;
         told = λ is. absurd (cc);
@@ -44,23 +44,23 @@ wants_memory (Some key) shut now message old new told reads ((answer, left, tell
       },
     )
 
-told_or_wanting : (shut : ℕ) (now : ℕ × ℕ) (came : Received) (old new : Desk) (reply : Response) → is_told reply ≡ true
-    → Responds shut now came old new reply
-    → Responds shut now came old new (response.Answered (Err Memory))
-told_or_wanting shut now (received.Message message) old new (response.Answered (Ok told)) reads responds =
-    wants_memory (option_map (λ key. key.items) message.key) shut now message old new told reads responds
-told_or_wanting shut now (received.Message message) old new (response.Answered (Err failed)) reads responds
+told_or_wanting : (now : ℕ × ℕ) (came : Received) (old new : Desk) (reply : Response) → is_told reply ≡ true
+    → Responds now came old new reply
+    → Responds now came old new (response.Answered (Err Memory))
+told_or_wanting now (received.Message message) old new (response.Answered (Ok told)) reads responds =
+    wants_memory (option_map (λ key. key.items) message.key) now message old new told reads responds
+told_or_wanting now (received.Message message) old new (response.Answered (Err failed)) reads responds
     = absurd (cc)
-told_or_wanting shut now (received.Message message) old new (response.Refused named) reads responds = absurd responds
-told_or_wanting shut now (received.Refused why) old new (response.Answered told) reads responds = absurd responds
-told_or_wanting shut now (received.Refused why) old new (response.Refused named) reads responds = absurd (cc)
+told_or_wanting now (received.Message message) old new (response.Refused named) reads responds = absurd responds
+told_or_wanting now (received.Refused why) old new (response.Answered told) reads responds = absurd responds
+told_or_wanting now (received.Refused why) old new (response.Refused named) reads responds = absurd (cc)
 
 -- what is sent is a response to what was received
-pub sent_responds : (shut : ℕ) (now : ℕ × ℕ) (came : Received) (old new : Desk) (reply sent : Response)
-    → Responds shut now came old new reply → IsSent reply sent
-    → Responds shut now came old new sent
-sent_responds shut now came old new reply sent responds (inl same)
-    = subst (λ (r : Response). Responds shut now came old new r) (sym same) responds
-sent_responds shut now came old new reply sent responds (inr (reads, wanting)) =
-    subst (λ (r : Response). Responds shut now came old new r) (sym wanting)
-    (told_or_wanting shut now came old new reply reads responds)
+pub sent_responds : (now : ℕ × ℕ) (came : Received) (old new : Desk) (reply sent : Response)
+    → Responds now came old new reply → IsSent reply sent
+    → Responds now came old new sent
+sent_responds now came old new reply sent responds (inl same)
+    = subst (λ (r : Response). Responds now came old new r) (sym same) responds
+sent_responds now came old new reply sent responds (inr (reads, wanting)) =
+    subst (λ (r : Response). Responds now came old new r) (sym wanting)
+    (told_or_wanting now came old new reply reads responds)

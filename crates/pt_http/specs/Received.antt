@@ -29,8 +29,8 @@ BeginsWith bytes (received.Message message) rest = BeginsWithMessage bytes messa
 BeginsWith bytes (received.Refused why) rest = BeginsWithFault bytes why rest
 
 -- the desk's response to what was received: an answer, or the fault, which changes nothing
-abbrev pub Responds : ℕ → (ℕ × ℕ) → Received → Desk → Desk → Response → Type 0
-Responds shut now (received.Message message) old new (response.Answered told) =
-    AnswersMessage shut now message old new told
-Responds shut now (received.Refused why) old new (response.Refused named) = (named ≡ why) × (new ≡ old)
-Responds shut now _ old new _ = ⊥
+abbrev pub Responds : (ℕ × ℕ) → Received → Desk → Desk → Response → Type 0
+Responds now (received.Message message) old new (response.Answered told) =
+    AnswersMessage now message old new told
+Responds now (received.Refused why) old new (response.Refused named) = (named ≡ why) × (new ≡ old)
+Responds now _ old new _ = ⊥

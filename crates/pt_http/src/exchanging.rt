@@ -5,6 +5,7 @@ ghost use Rattle.pt_http.specs.Exchange.{Desk, desk_of, IsExchangedOver, IsWritt
 ghost use Rattle.pt_desk.specs.Store.{Store, IsSettled};
 ghost use Rattle.pt_http.specs.Input.{HasInput};
 ghost use Rattle.pt_http.specs.Received.{Responds};
+ghost use Rattle.pt_http_inbox.specs.Inbox.{ReadsOn};
 ghost use Rattle.std.specs.Io.KnownBytes.{Appends};
 ghost use Rattle.pt_http_reply.specs.Reply.{bytes_of};
 ghost use Rattle.pt_http_reply.specs.Response.{IsReplyText};
@@ -30,7 +31,7 @@ fn respond<K: Keeper>(
     received: &Received,
 ) -> Response
     ensures responds { (K.store keeper.new).doubt ≡ 0
-        → Responds (K.store keeper.new).shut now received.now (desk_of (K.store keeper.old))
+        → Responds now received.now (desk_of (K.store keeper.old))
         (desk_of (K.store keeper.new)) result }
     ensures clean { (K.store keeper.old).doubt ≤ (K.store keeper.new).doubt }
     ensures serves { (K.store keeper.old).shut ≤ (K.store keeper.new).shut }
@@ -87,6 +88,10 @@ pub fn exchange<K: Keeper, R: Read + Drop, W: Write>(
     ensures unseen { (K.store keeper.new).doubt ≡ 0 → result ≡ Err (fault write_failed)
         → (reply : Response) × ServesOver (K.store keeper.old) (K.store keeper.new) now reply }
     ensures unanswered { IfErr result (λ error. IsUnanswered error → (keeper.new ≡ keeper.old) × (out.new ≡ out.old)) }
+    // What was not answered can be asked again: what the inbox held is still there, and then what has come since.
+    ensures still_there { IfErr result (λ error. IsUnanswered error → (input : List ℕ)
+        → HasInput R.remaining inbox.old input → HasInput R.remaining inbox.new input) }
+    ensures still_held { IfErr result (λ error. IsUnanswered error → ReadsOn R.remaining inbox.old inbox.new) }
     ensures fault { IfErr result (λ error. IsUnanswered error ⊎ (error ≡ fault write_failed)) }
     ensures clean { (K.store keeper.old).doubt ≤ (K.store keeper.new).doubt }
     ensures serves { (K.store keeper.old).shut ≤ (K.store keeper.new).shut }
@@ -102,7 +107,7 @@ pub fn exchange<K: Keeper, R: Read + Drop, W: Write>(
 /// Reads one request, answers it by the rules as of this moment, and writes the reply.
 ///
 /// Later bytes stay in the inbox. The error is want of memory, a read that failed or was one too many (then nothing is
-/// changed), or a write that failed (then the request is answered all the same).
+/// changed, and the same bytes can be asked again), or a write that failed (then the request is answered all the same).
 pub fn answer_bytes<K: Keeper, R: Read + Drop, W: Write>(
     alloc: Global,
     keeper: &mut K,
@@ -125,6 +130,10 @@ pub fn answer_bytes<K: Keeper, R: Read + Drop, W: Write>(
     ensures unseen { (K.store keeper.new).doubt ≡ 0 → result ≡ Err (fault write_failed)
         → (reply : Response) × ServesOver (K.store keeper.old) (K.store keeper.new) now reply }
     ensures unanswered { IfErr result (λ error. IsUnanswered error → (keeper.new ≡ keeper.old) × (out.new ≡ out.old)) }
+    // What was not answered can be asked again: what the inbox held is still there, and then what has come since.
+    ensures still_there { IfErr result (λ error. IsUnanswered error → (input : List ℕ)
+        → HasInput R.remaining inbox.old input → HasInput R.remaining inbox.new input) }
+    ensures still_held { IfErr result (λ error. IsUnanswered error → ReadsOn R.remaining inbox.old inbox.new) }
     ensures fault { IfErr result (λ error. IsUnanswered error ⊎ (error ≡ fault write_failed)) }
     ensures clean { (K.store keeper.old).doubt ≤ (K.store keeper.new).doubt }
     ensures serves { (K.store keeper.old).shut ≤ (K.store keeper.new).shut }

@@ -1,4 +1,4 @@
-ghost use Rattle.std.specs.Prelude.{◌≡◌, ℕ, false, List};
+ghost use Rattle.std.specs.Prelude.{◌≡◌, ◌⊎◌, ℕ, false, List};
 ghost use Rattle.pt_http.specs.Exchange.{is_last};
 ghost use Rattle.pt_http.specs.Message.{BeginsWithMessage, BeginsWithFault};
 ghost use Rattle.pt_http_request.specs.declared.fault.RequestFault.{RequestFault};
@@ -6,12 +6,14 @@ ghost use Rattle.pt_http_reply.specs.declared.response.Response.TheVariants as r
 ghost use Rattle.pt_http_request.specs.Messages.{IsSameMessage};
 ghost use Rattle.pt_http_request.specs.declared.message.Message.{Message};
 
-/// A law: bytes begin with one message at most, bytes that begin with a message are refused for no fault, and others
-/// have one first fault at most. After a head or a length that is not taken no rest is said.
+/// A law: bytes begin with one message or have one first fault, and not both. After a head or a length that is not
+/// taken no rest is said.
 pub fn bytes_spell_one_message()
     ensures one { (bytes rest more : List ℕ) (message other : Message) → BeginsWithMessage bytes message rest
         → BeginsWithMessage bytes other more
         → IsSameMessage message other × (rest ≡ more) }
+    ensures some { (bytes : List ℕ) → ((message : Message) × (rest : List ℕ) × BeginsWithMessage bytes message rest)
+        ⊎ ((why : RequestFault) × (rest : List ℕ) × BeginsWithFault bytes why rest) }
     ensures no_fault { (bytes rest more : List ℕ) (message : Message) (why : RequestFault)
         → BeginsWithMessage bytes message rest
         → ¬ (BeginsWithFault bytes why more) }

@@ -1,4 +1,4 @@
-ghost use Rattle.std.specs.Prelude.{◌≡◌, ℕ, false, List, IfOk, IfErr};
+ghost use Rattle.std.specs.Prelude.{◌≡◌, ℕ, false, List, IfOk, IfErr, OnErr};
 ghost use Rattle.pt_http.specs.Exchange.{IsUnanswered};
 ghost use Rattle.pt_http.specs.Input.{HasInput};
 ghost use Rattle.httparse.specs.Grammar.{RequestHead};
@@ -6,7 +6,7 @@ ghost use Rattle.pt_base.specs.Fault.{fault};
 ghost use Rattle.pt_base.specs.Codes.{memory_refused};
 ghost use Rattle.pt_http.specs.Parts.{AreParts};
 ghost use Rattle.pt_http.specs.Received.{IsSpelledBy, BeginsWith, is_end};
-ghost use Rattle.pt_http_inbox.specs.Inbox.{reads_of};
+ghost use Rattle.pt_http_inbox.specs.Inbox.{reads_of, ReadsOn};
 ghost use Rattle.pt_http_request.specs.Targets.{desk_routes};
 
 use matchit::Router;
@@ -61,6 +61,9 @@ pub(crate) fn receive<R: Read + Drop>(
         → IfOk result (λ received. (rest : List ℕ)
         × HasInput R.remaining inbox.new rest × BeginsWith input received rest) }
     ensures fresh { IfOk result (λ received. is_end received ≡ false → reads_of inbox.new ≡ 0) }
+    ensures still_there { IfErr result (λ error. (input : List ℕ) → HasInput R.remaining inbox.old input
+        → HasInput R.remaining inbox.new input) }
+    ensures still_held { OnErr result (ReadsOn R.remaining inbox.old inbox.new) }
     ensures fault { IfErr result IsUnanswered }
 {
     let Some(head) = inbox.read_head()? else {

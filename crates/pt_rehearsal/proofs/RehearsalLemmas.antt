@@ -1,6 +1,6 @@
 -- Rehearsals, message by message.
-use Rattle.std.proofs.Common.{◌≡◌, ◌≢◌, ◌⊎◌, arith, ℕ, false, List, [], ◌∷◌, ◌++◌, refl, sym, ap, ◌∙◌, subst}
-use Rattle.std.proofs.Common.{append_assoc, append-nil, inl, inr}
+use Rattle.std.proofs.Common.{◌≡◌, ◌≢◌, ◌⊎◌, ◌<◌, ◌≤◌, arith, ℕ, false, List, [], ◌∷◌, ◌++◌, refl, sym, ap, ◌∙◌}
+use Rattle.std.proofs.Common.{append_assoc, append-nil, inl, inr, length, length-append}
 use Rattle.std.specs.Prelude.{Option}
 use Rattle.std.specs.Io.KnownBytes.{Appends}
 use Rattle.std.proofs.KnownBytes.{Appends-nil, Appends-trans}
@@ -13,12 +13,13 @@ use Rattle.pt_base.specs.declared.fault.Fault.{Fault}
 use Rattle.pt_base.specs.Codes.{memory_refused, read_failed, write_failed, moment_line_refused}
 use Rattle.pt_http.specs.Exchange.{Desk, Exchanges, IsUnanswered, is_last}
 use Rattle.pt_http.specs.Input.{HasInput}
-use Rattle.pt_rehearsal.specs.Rehearsal.{Exchanged, IsStep, Rehearses, HasBadLine}
+use Rattle.pt_rehearsal.specs.Rehearsal.{most_messages, Exchanged, IsStep, Rehearses, HasBadLine}
 
--- Where a rehearsal of this input stands: what comes after it completes it.
+-- Where a rehearsal of this input stands after so many messages at most: what comes after it completes it.
 pub record StandsAt {R : Type 0} (remaining : R → Option (List ℕ)) (input : List ℕ) (old : Desk)
-    (before : Option (List ℕ)) (inbox : Inbox R) (now : Desk) (after : Option (List ℕ)) : Type 0 where
+    (before : Option (List ℕ)) (inbox : Inbox R) (now : Desk) (after : Option (List ℕ)) (count : ℕ) : Type 0 where
   pub messages : List Exchanged
+  pub few : length messages ≤ count
   pub written : List ℕ
   pub left : List ℕ
   pub has : HasInput remaining inbox left
@@ -28,9 +29,10 @@ pub record StandsAt {R : Type 0} (remaining : R → Option (List ℕ)) (input : 
 
 -- it begins
 pub begun : {R : Type 0} (remaining : R → Option (List ℕ)) (input : List ℕ) (old : Desk) (before : Option (List ℕ))
-    (inbox : Inbox R) → HasInput remaining inbox input → StandsAt remaining input old before inbox old before
+    (inbox : Inbox R) → HasInput remaining inbox input → StandsAt remaining input old before inbox old before 0
 begun remaining input old before inbox has = record {
   messages = [];
+  few = omega arith;
   written = [];
   left = input;
   has = has;
@@ -39,8 +41,9 @@ begun remaining input old before inbox has = record {
 }
 
 -- it may stop here
-pub stops : {R : Type 0} (remaining : R → Option (List ℕ)) (input : List ℕ) (old now : Desk)
-    (before after : Option (List ℕ)) (inbox : Inbox R) → (stands : StandsAt remaining input old before inbox now after)
+pub stops : {R : Type 0} {count : ℕ} (remaining : R → Option (List ℕ)) (input : List ℕ) (old now : Desk)
+    (before after : Option (List ℕ)) (inbox : Inbox R)
+    → (stands : StandsAt remaining input old before inbox now after count)
     → Rehearses stands.messages input old stands.written stands.left now
 stops remaining input old now before after inbox stands =
     rw (append-nil stands.messages, append-nil stands.written) at (stands.goes [] [] stands.left now (refl, refl, refl))
@@ -49,21 +52,21 @@ stops remaining input old now before after inbox stands =
 abbrev pub one_more : ℕ → ℕ → Response → List ℕ → Exchanged
 one_more day minute reply text = record { day = day; minute = minute; reply = reply; text = text }
 
-pub step_of : (shut day minute : ℕ) (left between rest text : List ℕ) (now new : Desk) (reply : Response) → shut ≡ 0
-    → BeginsWithMoment left day minute between → Exchanges shut (day, minute) between now new reply rest
+pub step_of : (day minute : ℕ) (left between rest text : List ℕ) (now new : Desk) (reply : Response)
+    → BeginsWithMoment left day minute between → Exchanges (day, minute) between now new reply rest
     → IsReplyText reply text
     → IsStep (one_more day minute reply text) left now rest new
-step_of shut day minute left between rest text now new reply whole moment exchanged replied = record {
+step_of day minute left between rest text now new reply moment exchanged replied = record {
   after = between;
   moment = moment;
-  exchanged = subst (λ n. Exchanges n (day, minute) between now new reply rest) whole exchanged;
+  exchanged = exchanged;
   replied = replied;
 }
 
 -- it may stop after one message more
-pub ends : {R : Type 0} (remaining : R → Option (List ℕ)) (input rest : List ℕ) (old now new : Desk)
+pub ends : {R : Type 0} {count : ℕ} (remaining : R → Option (List ℕ)) (input rest : List ℕ) (old now new : Desk)
     (before after : Option (List ℕ)) (inbox : Inbox R) (one : Exchanged)
-    → (stands : StandsAt remaining input old before inbox now after)
+    → (stands : StandsAt remaining input old before inbox now after count)
     → IsStep one stands.left now rest new → Rehearses (stands.messages ++ one ∷ []) input old
     (stands.written ++ one.text) rest new
 ends remaining input rest old now new before after inbox one stands step =
@@ -78,14 +81,20 @@ ends remaining input rest old now new before after inbox one stands step =
           (append-nil one.text),
     )
 
+-- and has one message more then
+pub one_longer : {count most : ℕ} (messages : List Exchanged) (one : Exchanged) → length messages ≤ count → count < most
+    → length (messages ++ one ∷ []) ≤ most
+one_longer messages one few below = omega (arith, few, below, length-append messages (one ∷ []))
+
 -- the rehearsal goes on after a message that does not end it
-pub went_on : {R : Type 0} (remaining : R → Option (List ℕ)) (input rest : List ℕ) (old now new : Desk)
+pub went_on : {R : Type 0} {count most : ℕ} (remaining : R → Option (List ℕ)) (input rest : List ℕ) (old now new : Desk)
     (before after later : Option (List ℕ)) (inbox next : Inbox R) (one : Exchanged)
-    → (stands : StandsAt remaining input old before inbox now after) → IsStep one stands.left now rest new
-    → is_last one.reply ≡ false → HasInput remaining next rest → Appends after later one.text
-    → StandsAt remaining input old before next new later
-went_on remaining input rest old now new before after later inbox next one stands step goes_on has appended = record {
+    → (stands : StandsAt remaining input old before inbox now after count) → IsStep one stands.left now rest new
+    → is_last one.reply ≡ false → HasInput remaining next rest → Appends after later one.text → count < most
+    → StandsAt remaining input old before next new later most
+went_on remaining input rest old now new before after later inbox next one stands step goes_on has adds few = record {
   messages = stands.messages ++ one ∷ [];
+  few = one_longer stands.messages one stands.few few;
   written = stands.written ++ one.text;
   left = rest;
   has = has;
@@ -94,7 +103,7 @@ went_on remaining input rest old now new before after later inbox next one stand
       = stands.goes (one ∷ further) (one.text ++ more) end final
       (rest, new, more, step, (λ last. absurd (cc (last, goes_on))), goes, refl) in
       rw (sym (append_assoc stands.messages (one ∷ []) further), sym (append_assoc stands.written one.text more)) at on;
-  appended = Appends-trans before after later stands.written one.text stands.appended appended;
+  appended = Appends-trans before after later stands.written one.text stands.appended adds;
 }
 
 -- what ends a rehearsal before its end is one of several things
@@ -115,38 +124,40 @@ write_no_line error is line = let same : 47 ≡ 48 = code_of error 47 48 is line
 abbrev pub Stopped : List ℕ → Desk → Desk → Option (List ℕ) → Option (List ℕ) → Fault → Type 0
 Stopped input old new before after error =
     (messages : List Exchanged) × (written : List ℕ) × (rest : List ℕ) × Rehearses messages input old written rest new
-    × (error ≢ fault write_failed → Appends before after written) ×
-    (error ≡ fault moment_line_refused → HasBadLine rest)
+    × (error ≢ fault write_failed → Appends before after written)
+    × (error ≡ fault moment_line_refused → HasBadLine rest)
+    × (length messages ≤ most_messages)
 
 -- it ended where it stood
-pub stopped_here : {R : Type 0} (remaining : R → Option (List ℕ)) (input : List ℕ) (old now : Desk)
+pub stopped_here : {R : Type 0} {count : ℕ} (remaining : R → Option (List ℕ)) (input : List ℕ) (old now : Desk)
     (before after : Option (List ℕ)) (inbox : Inbox R) (error : Fault)
-    → (stands : StandsAt remaining input old before inbox now after)
+    → (stands : StandsAt remaining input old before inbox now after count) → count ≤ most_messages
     → (error ≡ fault moment_line_refused → HasBadLine stands.left) → Stopped input old now before after error
-stopped_here remaining input old now before after inbox error stands line = (
+stopped_here remaining input old now before after inbox error stands few line = (
   stands.messages,
   stands.written,
   stands.left,
   stops remaining input old now before after inbox stands,
   (λ other. stands.appended),
   line,
+  omega (arith, stands.few, few),
 )
 
 -- a message was asked for, and not answered
-pub stopped_unanswered : {R : Type 0} (remaining : R → Option (List ℕ)) (input : List ℕ) (old now new : Desk)
-    (before after later : Option (List ℕ)) (inbox : Inbox R) (error : Fault)
-    → StandsAt remaining input old before inbox now after
+pub stopped_unanswered : {R : Type 0} {count : ℕ} (remaining : R → Option (List ℕ)) (input : List ℕ)
+    (old now new : Desk) (before after later : Option (List ℕ)) (inbox : Inbox R) (error : Fault)
+    → StandsAt remaining input old before inbox now after count → count ≤ most_messages
     → IsUnanswered error → new ≡ now → later ≡ after → Stopped input old new before later error
-stopped_unanswered remaining input old now new before after later inbox error stands unanswered same kept =
-    rw (same, kept) (stopped_here remaining input old now before after inbox error stands
+stopped_unanswered remaining input old now new before after later inbox error stands few unanswered same kept =
+    rw (same, kept) (stopped_here remaining input old now before after inbox error stands few
     (λ line. absurd (unanswered_no_line error unanswered line)))
 
 -- a message was answered, and its reply was not written
-pub stopped_unheard : {R : Type 0} (remaining : R → Option (List ℕ)) (input rest : List ℕ) (old now new : Desk)
-    (before after later : Option (List ℕ)) (inbox : Inbox R) (one : Exchanged) (error : Fault)
-    → (stands : StandsAt remaining input old before inbox now after) → error ≡ fault write_failed
-    → IsStep one stands.left now rest new → Stopped input old new before later error
-stopped_unheard remaining input rest old now new before after later inbox one error stands is step = (
+pub stopped_unheard : {R : Type 0} {count : ℕ} (remaining : R → Option (List ℕ)) (input rest : List ℕ)
+    (old now new : Desk) (before after later : Option (List ℕ)) (inbox : Inbox R) (one : Exchanged) (error : Fault)
+    → (stands : StandsAt remaining input old before inbox now after count) → count < most_messages
+    → error ≡ fault write_failed → IsStep one stands.left now rest new → Stopped input old new before later error
+stopped_unheard remaining input rest old now new before after later inbox one error stands few is step = (
   stands.messages ++ one ∷ [],
   stands.written ++ one.text,
   rest,
@@ -154,6 +165,7 @@ stopped_unheard remaining input rest old now new before after later inbox one er
       inbox one stands step,
   (λ other. absurd (other is)),
   (λ line. absurd (write_no_line error is line)),
+  one_longer stands.messages one stands.few few,
 )
 
 pub either : {P Q R : Type 0} → P ⊎ Q → (P → R) → (Q → R) → R

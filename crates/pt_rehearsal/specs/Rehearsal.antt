@@ -8,6 +8,10 @@ use Rattle.pt_http_reply.specs.Response.{IsReplyText}
 use Rattle.pt_http_reply.specs.declared.response.Response.{Response}
 use Rattle.pt_http.specs.Exchange.{Desk, Exchanges, IsUnanswered, is_last}
 
+-- messages of a rehearsal
+abbrev pub most_messages : ℕ
+most_messages = 100_000
+
 -- a message of a rehearsal: the moment at which it came, the reply, and the reply's bytes
 pub record Exchanged : Type 0 where
   pub day : ℕ
@@ -19,7 +23,7 @@ pub record Exchanged : Type 0 where
 pub record IsStep (one : Exchanged) (bytes : List ℕ) (old : Desk) (rest : List ℕ) (new : Desk) : Type 0 where
   pub after : List ℕ
   pub moment : BeginsWithMoment bytes one.day one.minute after
-  pub exchanged : Exchanges 0 (one.day, one.minute) after old new one.reply rest
+  pub exchanged : Exchanges (one.day, one.minute) after old new one.reply rest
   pub replied : IsReplyText one.reply one.text
 
 -- the desk goes through these messages at the front of the bytes, writes these bytes in reply, and comes to this rest

@@ -1,4 +1,4 @@
-ghost use Rattle.std.specs.Prelude.{◌≡◌, ◌≢◌, ◌⊎◌, ℕ, ◌≤◌, List, Err, IfOk, IfErr, OnOk};
+ghost use Rattle.std.specs.Prelude.{◌≡◌, ◌≢◌, ◌⊎◌, ℕ, ◌≤◌, List, length, Err, IfOk, IfErr, OnOk};
 ghost use Rattle.std.specs.Io.KnownBytes.{Appends};
 ghost use Rattle.pt_base.specs.Fault.{fault};
 ghost use Rattle.pt_base.specs.Codes.{read_failed, write_failed, moment_line_refused};
@@ -8,7 +8,8 @@ ghost use Rattle.pt_desk.specs.Store.{Store, IsSettled};
 ghost use Rattle.pt_http.specs.Input.{HasInput};
 ghost use Rattle.pt_rehearsal.specs.Moments.{IsNext};
 ghost use Rattle.pt_http_request.specs.Targets.{desk_routes};
-ghost use Rattle.pt_rehearsal.specs.Rehearsal.{Exchanged, Rehearses, IsFinished, HasBadLine, IsRehearsalFault};
+ghost use Rattle.pt_rehearsal.specs.Rehearsal.{most_messages, Exchanged, Rehearses, IsFinished, HasBadLine};
+ghost use Rattle.pt_rehearsal.specs.Rehearsal.{IsRehearsalFault};
 
 use crate::moment::{LONGEST_MOMENT_LINE, moment_at};
 use matchit::Router;
@@ -65,18 +66,20 @@ fn go_through<K: Keeper, R: Read + Drop, W: Write>(
     out: &mut W,
 ) -> Result<(), Fault>
     requires { router.now ≡ desk_routes }
-    ensures finished { (K.store keeper.new).doubt ≡ 0 → (K.store keeper.new).shut ≡ 0
+    ensures finished { (K.store keeper.new).doubt ≡ 0
         → (input : List ℕ) → HasInput R.remaining inbox.old input
         → OnOk result ((messages : List Exchanged) × (written : List ℕ) × (rest : List ℕ)
         × Rehearses messages input (desk_of (K.store keeper.old)) written rest (desk_of (K.store keeper.new))
-        × Appends (W.contents out.old) (W.contents out.new) written × IsFinished messages rest) }
+        × Appends (W.contents out.old) (W.contents out.new) written × IsFinished messages rest
+        × (length messages ≤ most_messages)) }
     // Else it stands after the last message that was answered, whose reply may not be wholly written.
-    ensures stopped { (K.store keeper.new).doubt ≡ 0 → (K.store keeper.new).shut ≡ 0
+    ensures stopped { (K.store keeper.new).doubt ≡ 0
         → (input : List ℕ) → HasInput R.remaining inbox.old input
         → IfErr result (λ error. (messages : List Exchanged) × (written : List ℕ) × (rest : List ℕ)
         × Rehearses messages input (desk_of (K.store keeper.old)) written rest (desk_of (K.store keeper.new))
         × (error ≢ fault write_failed → Appends (W.contents out.old) (W.contents out.new) written)
-        × (error ≡ fault moment_line_refused → HasBadLine rest)) }
+        × (error ≡ fault moment_line_refused → HasBadLine rest)
+        × (length messages ≤ most_messages)) }
     ensures fault { IfErr result IsRehearsalFault }
     ensures clean { (K.store keeper.old).doubt ≤ (K.store keeper.new).doubt }
     ensures serves { (K.store keeper.old).shut ≤ (K.store keeper.new).shut }
@@ -107,18 +110,20 @@ pub fn rehearse<K: Keeper, R: Read + Drop, W: Write>(
     inbox: &mut Inbox<R>,
     out: &mut W,
 ) -> Result<(), Fault>
-    ensures finished { (K.store keeper.new).doubt ≡ 0 → (K.store keeper.new).shut ≡ 0
+    ensures finished { (K.store keeper.new).doubt ≡ 0
         → (input : List ℕ) → HasInput R.remaining inbox.old input
         → OnOk result ((messages : List Exchanged) × (written : List ℕ) × (rest : List ℕ)
         × Rehearses messages input (desk_of (K.store keeper.old)) written rest (desk_of (K.store keeper.new))
-        × Appends (W.contents out.old) (W.contents out.new) written × IsFinished messages rest) }
+        × Appends (W.contents out.old) (W.contents out.new) written × IsFinished messages rest
+        × (length messages ≤ most_messages)) }
     // Else it stands after the last message that was answered, whose reply may not be wholly written.
-    ensures stopped { (K.store keeper.new).doubt ≡ 0 → (K.store keeper.new).shut ≡ 0
+    ensures stopped { (K.store keeper.new).doubt ≡ 0
         → (input : List ℕ) → HasInput R.remaining inbox.old input
         → IfErr result (λ error. (messages : List Exchanged) × (written : List ℕ) × (rest : List ℕ)
         × Rehearses messages input (desk_of (K.store keeper.old)) written rest (desk_of (K.store keeper.new))
         × (error ≢ fault write_failed → Appends (W.contents out.old) (W.contents out.new) written)
-        × (error ≡ fault moment_line_refused → HasBadLine rest)) }
+        × (error ≡ fault moment_line_refused → HasBadLine rest)
+        × (length messages ≤ most_messages)) }
     ensures fault { IfErr result IsRehearsalFault }
     ensures clean { (K.store keeper.old).doubt ≤ (K.store keeper.new).doubt }
     ensures serves { (K.store keeper.old).shut ≤ (K.store keeper.new).shut }

@@ -7,4 +7,4 @@ use Rattle.pt_http_reply.specs.declared.response.Response.{Response}
 -- what begins these bytes is answered so at this moment, by a desk over a store, as it stood and as it stands
 abbrev pub IsAnsweredFrom : Store → Store → (ℕ × ℕ) → List ℕ → Response → Type 0
 IsAnsweredFrom old new now input reply =
-    (rest : List ℕ) × Exchanges new.shut now input (desk_of old) (desk_of new) reply rest
+    (rest : List ℕ) × Exchanges now input (desk_of old) (desk_of new) reply rest

@@ -1,5 +1,6 @@
 -- What a desk has served on connections one after another.
-use Rattle.std.specs.Prelude.{◌≡◌, ◌⊎◌, ℕ, List, [], ◌∷◌, Option, Some, None, ℤ, pos}
+use Rattle.std.specs.Prelude.{◌≡◌, ◌⊎◌, ℕ, Bool, true, false, List, [], ◌∷◌, ℤ, pos}
+use Rattle.std.specs.List.{count_by}
 use Rattle.pt_base.specs.Codes.{memory_refused, date_out_of_range}
 use Rattle.pt_base.specs.Fault.{fault}
 use Rattle.pt_base.specs.declared.fault.Fault.{Fault}
@@ -21,15 +22,32 @@ IsMomentIn zone day minute = (instant : ℤ) × IsLocalTime zone instant (pos da
 -- at a moment in the zone the desk serves this
 pub record IsServed (zone : List ℕ) (one : Served) (old new : Desk) : Type 0 where
   pub moment : IsMomentIn zone one.day one.minute
-  pub answered : Serves 0 (one.day, one.minute) old new one.reply
+  pub answered : Serves (one.day, one.minute) old new one.reply
 
--- on one connection the desk serves this, or nothing, which changes nothing
-abbrev pub ServesOn : List ℕ → Option Served → Desk → Desk → Type 0
-ServesOn zone (Some one) old new = IsServed zone one old new
-ServesOn zone None old new = new ≡ old
+-- what comes of a connection: its request is answered and the whole reply written, or answered though the reply is not
+-- wholly written, or no request of it is answered
+pub data Turn : Type 0 where
+  heard : Served → Turn
+  unheard : Served → Turn
+  unanswered : Turn
+
+-- a connection failed whose reply was not wholly written
+abbrev pub has_failed : Turn → Bool
+has_failed (heard one) = false
+has_failed (unheard one) = true
+has_failed unanswered = true
+
+abbrev pub failures_in : List Turn → ℕ
+failures_in turns = count_by has_failed turns
+
+-- on one connection the desk serves this; where no request is answered, nothing is changed
+abbrev pub ServesOn : List ℕ → Turn → Desk → Desk → Type 0
+ServesOn zone (heard one) old new = IsServed zone one old new
+ServesOn zone (unheard one) old new = IsServed zone one old new
+ServesOn zone unanswered old new = new ≡ old
 
 -- on connections one after another the desk serves these
-abbrev pub ServesInTurn : List ℕ → List (Option Served) → Desk → Desk → Type 0
+abbrev pub ServesInTurn : List ℕ → List Turn → Desk → Desk → Type 0
 ServesInTurn zone [] old new = new ≡ old
 ServesInTurn zone (turn ∷ later) old new =
     (mid : Desk) × ServesOn zone turn old mid × ServesInTurn zone later mid new

@@ -1,4 +1,4 @@
-ghost use Rattle.std.specs.Prelude.{◌≡◌, ◌-◌, ◌<◌, ◌≤◌, ◌↔◌, IfOk, IfSome, IsNone, min};
+ghost use Rattle.std.specs.Prelude.{◌≡◌, ◌+◌, ◌-◌, ◌<◌, ◌≤◌, ◌↔◌, IfOk, IfSome, IsNone, min};
 ghost use Rattle.std.specs.Duration.{as_nanos};
 ghost use Rattle.std.specs.Time.{instant_nanos};
 
@@ -17,7 +17,7 @@ pub const LONGEST_READING: u64 = 15;
 pub const LONGEST_SERVING: u64 = 30;
 
 /// A stream that waits for its peer no longer than it is told.
-pub(crate) trait Waits {
+pub trait Waits {
     /// From here on reads wait this long at most, which is not zero.
     fn wait_to_read(&self, longest: Duration) -> io::Result<()>;
 
@@ -71,12 +71,34 @@ pub(crate) fn wait_until<C: Clock>(clock: &C, ends: Instant) -> io::Result<Durat
     }
 }
 
-/// The moment that comes so many seconds from now.
-pub(crate) fn moment_in<C: Clock>(clock: &C, seconds: u64) -> io::Result<Instant> {
-    let now = Instant::now(clock)?;
-    match now.checked_add(Duration::from_secs(seconds)) {
-        Some(moment) => Ok(moment),
-        None => Err(ErrorKind::InvalidData.into()),
+/// The moments of a connection from which no read begins any more, and no write.
+#[derive(Clone, Copy)]
+pub(crate) struct Ends {
+    pub reading: Instant,
+    pub serving: Instant,
+}
+
+impl Ends {
+    /// Those of a connection that begins at this moment. There are none past the last moment of a clock.
+    fn of(began: Instant) -> Option<Ends>
+        // Fifteen seconds for reads, and thirty for writes.
+        ensures reading { IfSome result (λ ends. instant_nanos ends.reading
+            ≡ instant_nanos began + 15_000_000_000) }
+        ensures serving { IfSome result (λ ends. instant_nanos ends.serving
+            ≡ instant_nanos began + 30_000_000_000) }
+    {
+        Some(Ends {
+            reading: began.checked_add(Duration::from_secs(LONGEST_READING))?,
+            serving: began.checked_add(Duration::from_secs(LONGEST_SERVING))?,
+        })
+    }
+
+    /// Those of a connection that begins now. The error is a clock that could not be read.
+    pub fn from_now<C: Clock>(clock: &C) -> io::Result<Ends> {
+        match Ends::of(Instant::now(clock)?) {
+            Some(ends) => Ok(ends),
+            None => Err(ErrorKind::InvalidData.into()),
+        }
     }
 }
 

@@ -6,7 +6,7 @@ ghost use Rattle.pt_http.specs.Exchange.{IsUnanswered, IsWritten, ServesOver, de
 ghost use Rattle.pt_http_reply.specs.declared.response.Response.{Response};
 ghost use Rattle.pt_serve.specs.Connection.{IsAnsweredFrom};
 
-use crate::bounded::{Bounded, LONGEST_READING, LONGEST_SERVING, moment_in};
+use crate::bounded::{Bounded, Ends, Waits};
 use pt_base::fault::READ_FAILED;
 use pt_base::{Day, Fault, Minute};
 use pt_desk::Keeper;
@@ -52,10 +52,60 @@ pub fn answer_connection<K: Keeper, R: Read + Drop, W: Write>(
     answer_bytes(alloc, keeper, now, &mut inbox, out)
 }
 
-/// Answers one request on a connection, by the rules as of this moment, and leaves the connection.
+/// Answers the one request that a reader gives from its beginning, as `answer_connection` does, in time. It hands back
+/// the writer.
 ///
 /// A read or a write waits `LONGEST_WAIT` seconds at most. Once `LONGEST_READING` seconds have passed no read begins,
-/// and once `LONGEST_SERVING` have passed no write does, however little the client sends or takes at a time.
+/// and once `LONGEST_SERVING` have passed no write does, however little the client sends or takes at a time. One that
+/// comes too late has failed, and so has a read where the clock cannot be read.
+pub fn answer_in_time<C: Clock, K: Keeper, R: Read + Waits + Drop, W: Write + Waits>(
+    clock: &C,
+    alloc: Global,
+    keeper: &mut K,
+    now: (Day, Minute),
+    reader: R,
+    out: W,
+) -> (W, Result<(), Fault>)
+    ensures answered { (K.store keeper.new).doubt ≡ 0 → (input : List ℕ) → R.remaining reader ≡ Some input
+        → OnOk result.1 ((reply : Response)
+        × IsAnsweredFrom (K.store keeper.old) (K.store keeper.new) now input reply
+        × IsWritten reply (W.contents out) (W.contents result.0)) }
+    // The reply was not wholly written, but the request is answered.
+    ensures unheard { (K.store keeper.new).doubt ≡ 0 → (input : List ℕ) → R.remaining reader ≡ Some input
+        → result.1 ≡ Err (fault write_failed) → (reply : Response)
+        × IsAnsweredFrom (K.store keeper.old) (K.store keeper.new) now input reply }
+    // Whatever the reader gives, and also where its bytes are not known.
+    ensures served { (K.store keeper.new).doubt ≡ 0
+        → OnOk result.1 ((reply : Response) × ServesOver (K.store keeper.old) (K.store keeper.new) now reply
+        × IsWritten reply (W.contents out) (W.contents result.0)) }
+    ensures unseen { (K.store keeper.new).doubt ≡ 0 → result.1 ≡ Err (fault write_failed)
+        → (reply : Response) × ServesOver (K.store keeper.old) (K.store keeper.new) now reply }
+    ensures unanswered { IfErr result.1 (λ error. IsUnanswered error
+        → (keeper.new ≡ keeper.old) × (result.0 ≡ out)) }
+    ensures fault { IfErr result.1 (λ error. IsUnanswered error ⊎ (error ≡ fault write_failed)) }
+    ensures clean { (K.store keeper.old).doubt ≤ (K.store keeper.new).doubt }
+    ensures serves { (K.store keeper.old).shut ≤ (K.store keeper.new).shut }
+    ensures settled { IsSettled (K.store keeper.old) → IsSettled (K.store keeper.new) }
+{
+    let Ok(ends) = Ends::from_now(clock) else {
+        return (out, Err(Fault::of(READ_FAILED)));
+    };
+    let reader = Bounded {
+        stream: reader,
+        clock,
+        ends: ends.reading,
+    };
+    let mut writer = Bounded {
+        stream: out,
+        clock,
+        ends: ends.serving,
+    };
+    let answered = answer_connection(alloc, keeper, now, reader, &mut writer);
+    (writer.stream, answered)
+}
+
+/// Answers one request on a connection, by the rules as of this moment and in time, as `answer_in_time` does, and
+/// leaves the connection.
 ///
 /// The error is want of memory, a read that failed, or came too late, or was one too many, or a clock that could not be
 /// read (then nothing is changed); or a write that failed or came too late (then the request is answered all the same).
@@ -80,21 +130,5 @@ pub fn serve_one<C: Clock, K: Keeper>(
     ensures serves { (K.store keeper.old).shut ≤ (K.store keeper.new).shut }
     ensures settled { IsSettled (K.store keeper.old) → IsSettled (K.store keeper.new) }
 {
-    let Ok(ends) = moment_in(clock, LONGEST_READING) else {
-        return Err(Fault::of(READ_FAILED));
-    };
-    let reader = Bounded {
-        stream,
-        clock,
-        ends,
-    };
-    let Ok(ends) = moment_in(clock, LONGEST_SERVING) else {
-        return Err(Fault::of(READ_FAILED));
-    };
-    let mut writer = Bounded {
-        stream,
-        clock,
-        ends,
-    };
-    answer_connection(alloc, keeper, now, reader, &mut writer)
+    answer_in_time(clock, alloc, keeper, now, stream, stream).1
 }

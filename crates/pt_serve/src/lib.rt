@@ -1,8 +1,8 @@
 //! The desk over sockets: one request on each connection, one connection after another, none of which holds the desk.
 #![tactic(auto)]
 
-pub use bounded::{LONGEST_READING, LONGEST_SERVING, LONGEST_WAIT};
-pub use connection::{answer_connection, serve_one};
+pub use bounded::{LONGEST_READING, LONGEST_SERVING, LONGEST_WAIT, Waits};
+pub use connection::{answer_connection, answer_in_time, serve_one};
 pub use listening::{PORT_REFUSED, Port};
 pub use serving::{moment_at, serve};
 
@@ -10,3 +10,5 @@ mod bounded;
 mod connection;
 mod listening;
 mod serving;
+#[cfg(test)]
+mod tests;

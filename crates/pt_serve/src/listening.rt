@@ -1,4 +1,4 @@
-ghost use Rattle.std.specs.Prelude.{◌≡◌, ◌+◌, ◌↔◌, IfErr, IfOk, IsNone, IsSome};
+ghost use Rattle.std.specs.Prelude.{◌≡◌, ◌+◌, ◌<◌, ◌^◌, ◌↔◌, IfErr, IfOk, IsNone, IsSome};
 ghost use Rattle.pt_base.specs.Fault.{fault};
 ghost use Rattle.pt_serve.specs.Port.{left_of, port_refused};
 
@@ -41,6 +41,7 @@ impl Port {
         ensures none { IsNone result ↔ (left_of self.old ≡ 0) }
         ensures same { IsNone result → self.new ≡ self.old }
         ensures one { IsSome result → left_of self.new + 1 ≡ left_of self.old }
+        ensures fits { left_of self.old < 2 ^ 32 }
     {
         if self.left == 0 {
             return None;

@@ -1,5 +1,5 @@
 ghost use Rattle.std.specs.Prelude.{◌≡◌, ◌⊎◌, ◌+◌, ◌<◌, ◌≤◌, ◌↔◌, List, Option, Some, None, Ok, Err};
-ghost use Rattle.std.specs.Prelude.{IfErr, IfOk, IfSome, OnErr, OnOk, length};
+ghost use Rattle.std.specs.Prelude.{IfErr, IfOk, IfSome, OnErr, OnOk, is_some, length};
 ghost use Rattle.pt_base.specs.Codes.{read_failed, write_failed};
 ghost use Rattle.pt_base.specs.Fault.{fault};
 ghost use Rattle.pt_clock.specs.Codes.{no_such_zone};
@@ -7,7 +7,8 @@ ghost use Rattle.pt_clock.specs.LocalTime.{IsZoneRule};
 ghost use Rattle.pt_desk.specs.Store.{IsSettled, Store};
 ghost use Rattle.pt_http.specs.Exchange.{desk_of};
 ghost use Rattle.pt_serve.specs.Port.{left_of};
-ghost use Rattle.pt_serve.specs.Serving.{EndsServing, IsMomentIn, IsServed, Served, ServesInTurn, ServesOn};
+ghost use Rattle.pt_serve.specs.Serving.{EndsServing, IsMomentIn, IsServed, Served, ServesInTurn, ServesOn, Turn};
+ghost use Rattle.pt_serve.specs.Serving.{failures_in, has_failed};
 
 use crate::connection::serve_one;
 use crate::listening::Port;
@@ -54,13 +55,13 @@ fn serve_next<C: Clock, K: Keeper>(
     zone: &str,
     connection: io::Result<TcpStream>,
 ) -> Result<Option<Fault>, Fault>
-    ensures turn { (K.store keeper.new).doubt ≡ 0 → (K.store keeper.new).shut ≡ 0
-        → (turn : Option Served)
-        × ServesOn zone.now turn (desk_of (K.store keeper.old)) (desk_of (K.store keeper.new)) }
-    ensures served { (K.store keeper.new).doubt ≡ 0 → (K.store keeper.new).shut ≡ 0 → result ≡ Ok None
+    ensures turn { (K.store keeper.new).doubt ≡ 0
+        → IfOk result (λ failed. (turn : Turn) × (has_failed turn ≡ is_some failed)
+        × ServesOn zone.now turn (desk_of (K.store keeper.old)) (desk_of (K.store keeper.new))) }
+    ensures served { (K.store keeper.new).doubt ≡ 0 → result ≡ Ok None
         → (one : Served) × IsServed zone.now one (desk_of (K.store keeper.old)) (desk_of (K.store keeper.new)) }
     // The reply was not wholly written, but the request is answered.
-    ensures unseen { (K.store keeper.new).doubt ≡ 0 → (K.store keeper.new).shut ≡ 0
+    ensures unseen { (K.store keeper.new).doubt ≡ 0
         → result ≡ Ok (Some (fault write_failed))
         → (one : Served) × IsServed zone.now one (desk_of (K.store keeper.old)) (desk_of (K.store keeper.new)) }
     ensures unread { result ≡ Ok (Some (fault read_failed)) → keeper.new ≡ keeper.old }
@@ -86,7 +87,8 @@ fn serve_next<C: Clock, K: Keeper>(
 }
 
 /// Answers all connections that the port is still open to, one after the other, one request each, by the rules as of
-/// the moment after each was accepted, on the clocks of a zone. Standard error has one line for each that failed.
+/// the moment after each was accepted, on the clocks of a zone. Standard error has one line for each that failed, and
+/// the result says how many did.
 ///
 /// The error is want of memory, or a zone or a clock that gives no moment: the connection at which it came is let go of
 /// unanswered, and later ones wait. A connection that fails counts, and the next is answered.
@@ -96,10 +98,17 @@ pub fn serve<R: Clock + Eprint, K: Keeper>(
     keeper: &mut K,
     zone: &str,
     port: &mut Port,
-) -> Result<(), Fault>
-    ensures served { (K.store keeper.new).doubt ≡ 0 → (K.store keeper.new).shut ≡ 0
-        → (turns : List (Option Served)) × (length turns + left_of port.new ≡ left_of port.old)
-        × ServesInTurn zone.now turns (desk_of (K.store keeper.old)) (desk_of (K.store keeper.new)) }
+) -> Result<u32, Fault>
+    // Each connection whose reply was not wholly written is counted; each of the others was answered.
+    ensures served { (K.store keeper.new).doubt ≡ 0
+        → IfOk result (λ failed. (turns : List Turn) × (length turns ≡ left_of port.old)
+        × (failures_in turns ≡ failed)
+        × ServesInTurn zone.now turns (desk_of (K.store keeper.old)) (desk_of (K.store keeper.new))) }
+    // The connection at which the error came has changed nothing.
+    ensures broken_off { (K.store keeper.new).doubt ≡ 0
+        → OnErr result ((turns : List Turn) × (length turns + 1 + left_of port.new ≡ left_of port.old)
+        × ServesInTurn zone.now turns (desk_of (K.store keeper.old)) (desk_of (K.store keeper.new))) }
+    ensures few { IfOk result (λ failed. failed ≤ left_of port.old) }
     ensures all { OnOk result (left_of port.new ≡ 0) }
     ensures ended { OnErr result (left_of port.new < left_of port.old) }
     ensures fault { IfErr result EndsServing }
@@ -108,10 +117,12 @@ pub fn serve<R: Clock + Eprint, K: Keeper>(
     ensures serves { (K.store keeper.old).shut ≤ (K.store keeper.new).shut }
     ensures settled { IsSettled (K.store keeper.old) → IsSettled (K.store keeper.new) }
 {
+    let mut failed = 0;
     while let Some(connection) = port.accept() {
         if let Some(Fault { code, row }) = serve_next(rt, alloc, keeper, zone, connection)? {
+            failed += 1;
             let _shown = eprintln!(rt; "connection: fault {code} row {row}");
         }
     }
-    Ok(())
+    Ok(failed)
 }

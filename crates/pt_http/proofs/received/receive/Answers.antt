@@ -3,10 +3,11 @@ use Rattle.std.proofs.Common.{slice_range}
 use Rattle.httparse.specs.Spans.{header_bytes}
 use Rattle.pt_http_inbox.specs.Head.{HasNoHead}
 use Rattle.pt_http_inbox.specs.Inbox.{held}
+use Rattle.pt_http_inbox.proofs.ReadsLemmas.{reads_then}
 use Rattle.pt_http.proofs.ReceivedLemmas.{reads_input, none_left, head_found, head_is, parts_in, parts_later, head_more}
 use Rattle.pt_http_request.specs.Headers.{IsBodyLength}
 use Rattle.pt_http.specs.Parts.{lines_of, AreParts}
-use Rattle.pt_http.proofs.ReceivedLemmas.{no_length, short_body, whole_parts, body_between, received_whole}
+use Rattle.pt_http.proofs.ReceivedLemmas.{no_length, on_err, short_body, whole_parts, body_between, received_whole}
 use Rattle.pt_http.proofs.received.receive.Goals as goal
 
 pub returns-in_default-clause-received : goal.returns-in_default-clause-received
@@ -95,6 +96,32 @@ returns-clause-received g c = λ input has.
       received_whole input body rest is.head c.in_ok-received.received parts
           (c.in_ok-received.ensures.spelled is.head again),
     )
+
+pub returns-in_err-head-clause-still_there : goal.returns-in_err-head-clause-still_there
+returns-in_err-head-clause-still_there g c = on_err c.from_residual.result (λ error input has.
+    reads_input g.R.Read.remaining c.args.inbox.now c.read_head.new.self input c.read_head.ensures.reads has)
+
+pub returns-in_err-read_up_to-clause-still_there : goal.returns-in_err-read_up_to-clause-still_there
+returns-in_err-read_up_to-clause-still_there g c = on_err c.from_residual-in_err-read_up_to.result (λ error input has.
+    let reads = reads_then g.R.Read.remaining c.args.inbox.now c.read_head.new.self c.read_up_to.new.self
+    c.read_head.ensures.reads c.read_up_to.ensures.reads in
+    reads_input g.R.Read.remaining c.args.inbox.now c.read_up_to.new.self input reads has)
+
+pub returns-in_err-read_up_to-clause-still_held : goal.returns-in_err-read_up_to-clause-still_held
+returns-in_err-read_up_to-clause-still_held g c = on_err c.from_residual-in_err-read_up_to.result (λ error.
+    reads_then g.R.Read.remaining c.args.inbox.now c.read_head.new.self c.read_up_to.new.self
+    c.read_head.ensures.reads c.read_up_to.ensures.reads)
+
+pub returns-in_err-received-clause-still_there : goal.returns-in_err-received-clause-still_there
+returns-in_err-received-clause-still_there g c = on_err c.from_residual-in_err-received.result (λ error input has.
+    let reads = reads_then g.R.Read.remaining c.args.inbox.now c.read_head.new.self c.read_up_to.new.self
+    c.read_head.ensures.reads c.read_up_to.ensures.reads in
+    reads_input g.R.Read.remaining c.args.inbox.now c.read_up_to.new.self input reads has)
+
+pub returns-in_err-received-clause-still_held : goal.returns-in_err-received-clause-still_held
+returns-in_err-received-clause-still_held g c = on_err c.from_residual-in_err-received.result (λ error.
+    reads_then g.R.Read.remaining c.args.inbox.now c.read_head.new.self c.read_up_to.new.self
+    c.read_head.ensures.reads c.read_up_to.ensures.reads)
 
 pub received_from-requires-clause-parts : goal.received_from-requires-clause-parts
 received_from-requires-clause-parts g c =

@@ -4,8 +4,8 @@ use Rattle.std.proofs.lemmas.Result.{err_from_is_err_and}
 use Rattle.pt_http.specs.Exchange.{desk_of}
 use Rattle.pt_rehearsal.proofs.NextLemmas.{next_some, next_none, nothing_left}
 use Rattle.pt_http.proofs.ReceivedLemmas.{reads_input, none_left}
-use Rattle.pt_rehearsal.proofs.RehearsalLemmas.{begun, stops, ends, step_of, one_more, went_on, stopped_here}
-use Rattle.pt_rehearsal.proofs.RehearsalLemmas.{stopped_unanswered, stopped_unheard, either, read_no_line}
+use Rattle.pt_rehearsal.proofs.RehearsalLemmas.{begun, stops, ends, step_of, one_longer, one_more, went_on}
+use Rattle.pt_rehearsal.proofs.RehearsalLemmas.{stopped_here, stopped_unanswered, stopped_unheard, either, read_no_line}
 use Rattle.pt_rehearsal.proofs.RehearsalLemmas.{read_code_no_line}
 use Rattle.pt_rehearsal.proofs.rehearsal.go_through.Goals as goal
 
@@ -14,30 +14,36 @@ loop-init g c = record {
   clean = omega arith;
   serves = omega arith;
   settled = λ was. was;
-  stands = λ clean whole input has. begun g.R.Read.remaining input _ _ c.args.inbox.now has;
+  stands = λ clean input has. begun g.R.Read.remaining input _ _ c.args.inbox.now has;
 }
 
 pub returns-in_err-now-clause-stopped : goal.returns-in_err-now-clause-stopped
-returns-in_err-now-clause-stopped g c = λ clean whole input has.
-    let st = c.loop.invariant.stands clean whole input has in
+returns-in_err-now-clause-stopped g c = λ clean input has.
+    let st = c.loop.invariant.stands clean input has in
     let p = err_from_is_err_and c.from_residual.result c.from_residual.ensures.1 in
-    rw (p.1, p.2) (stopped_here _ input _ _ _ _ _ c.in_err-now.field-0.0 st
+    rw (p.1, p.2) (stopped_here _ input _ _ _ _ _ c.in_err-now.field-0.0 st (omega (arith, c.loop-test.true))
     (λ line. c.next_moment.ensures.line st.left st.has (c.in_err-now.was ∙ ap Err line)))
 
 pub returns-in_default-clause-finished : goal.returns-in_default-clause-finished
-returns-in_default-clause-finished g c = λ clean whole input has.
-    let st = c.loop.invariant.stands clean whole input has in
+returns-in_default-clause-finished g c = λ clean input has.
+    let st = c.loop.invariant.stands clean input has in
     let empty = next_none g.R.Read.remaining c.next_moment.new.inbox st.left c.in_ok-now.field-0 c.in_default.is
-    (c.in_ok-now.ensures.next st.left st.has) in
-    (st.messages, st.written, st.left, stops _ input _ _ _ _ _ st, st.appended, inl empty)
+    (c.in_ok-now.ensures.next st.left st.has) in (
+      st.messages,
+      st.written,
+      st.left,
+      stops _ input _ _ _ _ _ st,
+      st.appended,
+      inl empty,
+      omega (arith, st.few, c.loop-test.true),
+    )
 
 pub returns-in_err-response-clause-stopped : goal.returns-in_err-response-clause-stopped
-returns-in_err-response-clause-stopped g c = λ clean whole input has.
+returns-in_err-response-clause-stopped g c = λ clean input has.
     let store = g.K.Keeper.store in
     let contents = g.W.Write.contents in
     let was : (store c.loop.keeper).doubt ≡ 0 = omega (arith, clean, c.exchange.ensures.clean) in
-    let served : (store c.loop.keeper).shut ≡ 0 = omega (arith, whole, c.exchange.ensures.serves) in
-    let st = c.loop.invariant.stands was served input has in
+    let st = c.loop.invariant.stands was input has in
     let next = next_some g.R.Read.remaining c.next_moment.new.inbox st.left c.in_ok-now.field-0 c.in-Some.now
     c.in-Some.is (c.in_ok-now.ensures.next st.left st.has) in
     let error = c.in_err-response.field-0.0 in
@@ -45,29 +51,28 @@ returns-in_err-response-clause-stopped g c = λ clean whole input has.
     rw (p.1, p.2) (either c.in_err-response.ensures.fault
     (λ unanswered.
     let kept = c.in_err-response.ensures.unanswered unanswered in
-    stopped_unanswered _ input _ _ _ _ _ _ _ error st unanswered
+    stopped_unanswered _ input _ _ _ _ _ _ _ error st (omega (arith, c.loop-test.true)) unanswered
     (ap (λ keeper. desk_of (store keeper)) kept.0) (ap contents kept.1))
     (λ write.
     let unheard = c.exchange.ensures.unheard clean next.0 next.1 (c.in_err-response.was ∙ ap Err write) in
     let text = unheard.2 in
     let one = one_more c.in-Some.now.0 c.in-Some.now.1 unheard.0 text.0 in
-    let step = step_of _ c.in-Some.now.0 c.in-Some.now.1 st.left next.0 unheard.1.0 text.0 _ _ unheard.0 whole next.2
+    let step = step_of c.in-Some.now.0 c.in-Some.now.1 st.left next.0 unheard.1.0 text.0 _ _ unheard.0 next.2
     unheard.1.2 text.1 in
-    stopped_unheard _ input unheard.1.0 _ _ _ _ _ _ _ one error st write step))
+    stopped_unheard _ input unheard.1.0 _ _ _ _ _ _ _ one error st c.loop-test.true write step))
 
 pub returns-then-is_last-clause-finished : goal.returns-then-is_last-clause-finished
-returns-then-is_last-clause-finished g c = λ clean whole input has.
+returns-then-is_last-clause-finished g c = λ clean input has.
     let store = g.K.Keeper.store in
     let was : (store c.loop.keeper).doubt ≡ 0 = omega (arith, clean, c.exchange.ensures.clean) in
-    let served : (store c.loop.keeper).shut ≡ 0 = omega (arith, whole, c.exchange.ensures.serves) in
-    let st = c.loop.invariant.stands was served input has in
+    let st = c.loop.invariant.stands was input has in
     let next = next_some g.R.Read.remaining c.next_moment.new.inbox st.left c.in_ok-now.field-0 c.in-Some.now
     c.in-Some.is (c.in_ok-now.ensures.next st.left st.has) in
     let answered = c.in_ok-response.ensures.answered clean next.0 next.1 in
     let written = c.in_ok-response.ensures.written in
     let reply = c.in_ok-response.response in
     let one = one_more c.in-Some.now.0 c.in-Some.now.1 reply written.0 in
-    let step = step_of _ c.in-Some.now.0 c.in-Some.now.1 st.left next.0 answered.0 written.0 _ _ reply whole next.2
+    let step = step_of c.in-Some.now.0 c.in-Some.now.1 st.left next.0 answered.0 written.0 _ _ reply next.2
     answered.2 written.1 in (
       st.messages ++ one ∷ [],
       st.written ++ written.0,
@@ -75,6 +80,7 @@ returns-then-is_last-clause-finished g c = λ clean whole input has.
       ends _ input answered.0 _ _ _ _ _ _ one st step,
       Appends-trans _ _ _ st.written written.0 st.appended written.2,
       inr (st.messages, one, refl, sym c.is_last.ensures ∙ c.if-is_last.true),
+      one_longer st.messages one st.few c.loop-test.true,
     )
 
 pub loop-preserved : goal.loop-preserved
@@ -84,44 +90,50 @@ loop-preserved g c =
       clean = omega (arith, c.loop.invariant.clean, c.exchange.ensures.clean);
       serves = omega (arith, c.loop.invariant.serves, c.exchange.ensures.serves);
       settled = λ was. c.exchange.ensures.settled (c.loop.invariant.settled was);
-      stands = λ clean whole input has.
+      stands = λ clean input has.
           let was : (store c.loop.keeper).doubt ≡ 0 = omega (arith, clean, c.exchange.ensures.clean) in
-          let served : (store c.loop.keeper).shut ≡ 0 = omega (arith, whole, c.exchange.ensures.serves) in
-          let st = c.loop.invariant.stands was served input has in
+          let st = c.loop.invariant.stands was input has in
           let next = next_some g.R.Read.remaining c.next_moment.new.inbox st.left c.in_ok-now.field-0 c.in-Some.now
           c.in-Some.is (c.in_ok-now.ensures.next st.left st.has) in
           let answered = c.in_ok-response.ensures.answered clean next.0 next.1 in
           let written = c.in_ok-response.ensures.written in
           let reply = c.in_ok-response.response in
           let one = one_more c.in-Some.now.0 c.in-Some.now.1 reply written.0 in
-          let step = step_of _ c.in-Some.now.0 c.in-Some.now.1 st.left next.0 answered.0 written.0 _ _ reply whole
+          let step = step_of c.in-Some.now.0 c.in-Some.now.1 st.left next.0 answered.0 written.0 _ _ reply
           next.2 answered.2 written.1 in
           went_on _ input answered.0 _ _ _ _ _ _ _ _ one st step (sym c.is_last.ensures ∙ c.if-is_last.false)
-          answered.1 written.2;
+          answered.1 written.2 (omega arith);
     }
 
 pub returns-in_err-read_up_to-clause-stopped : goal.returns-in_err-read_up_to-clause-stopped
-returns-in_err-read_up_to-clause-stopped g c = λ clean whole input has.
-    let st = c.loop.invariant.stands clean whole input has in
+returns-in_err-read_up_to-clause-stopped g c = λ clean input has.
+    let st = c.loop.invariant.stands clean input has in
     let p = err_from_is_err_and c.from_residual-in_err-read_up_to.result c.from_residual-in_err-read_up_to.ensures.1 in
-    rw (p.1, p.2) (stopped_here _ input _ _ _ _ _ c.in_err-read_up_to.field-0.0 st
+    rw (p.1, p.2) (stopped_here _ input _ _ _ _ _ c.in_err-read_up_to.field-0.0 st c.loop.auto.counter-end
     (λ line. absurd (read_no_line _ c.in_err-read_up_to.ensures.fault line)))
 
 pub returns-then-branch-clause-stopped : goal.returns-then-branch-clause-stopped
-returns-then-branch-clause-stopped g c = λ clean whole input has.
-    let st = c.loop.invariant.stands clean whole input has in
-    stopped_here _ input _ _ _ _ _ c.of.result st (λ line. absurd
-    (read_code_no_line c.of.result c.of.ensures.code line))
+returns-then-branch-clause-stopped g c = λ clean input has.
+    let st = c.loop.invariant.stands clean input has in
+    stopped_here _ input _ _ _ _ _ c.of.result st c.loop.auto.counter-end
+    (λ line. absurd (read_code_no_line c.of.result c.of.ensures.code line))
 
 pub returns-clause-finished : goal.returns-clause-finished
-returns-clause-finished g c = λ clean whole input has.
-    let st = c.loop.invariant.stands clean whole input has in
+returns-clause-finished g c = λ clean input has.
+    let st = c.loop.invariant.stands clean input has in
     let now = reads_input g.R.Read.remaining c.loop.inbox c.read_up_to.new.self st.left c.read_up_to.ensures.reads
     st.has in
     let ended : c.read_up_to.result ≡ Ok false = c.in_ok-read_up_to.was ∙ ap Ok c.if-branch.false in
     let none = none_left _ now.left (c.read_up_to.ensures.end ended) now.known in
-    let empty = nothing_left st.left _ now.left now.whole (c.read_up_to.ensures.short ended) none in
-    (st.messages, st.written, st.left, stops _ input _ _ _ _ _ st, st.appended, inl empty)
+    let empty = nothing_left st.left _ now.left now.whole (c.read_up_to.ensures.short ended) none in (
+      st.messages,
+      st.written,
+      st.left,
+      stops _ input _ _ _ _ _ st,
+      st.appended,
+      inl empty,
+      omega (arith, st.few, c.loop.auto.counter-end),
+    )
 
 pub returns-in_err-response-clause-settled : goal.returns-in_err-response-clause-settled
 returns-in_err-response-clause-settled g c = λ was. c.exchange.ensures.settled (c.loop.invariant.settled was)

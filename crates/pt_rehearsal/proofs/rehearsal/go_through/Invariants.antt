@@ -13,8 +13,8 @@ invariant-loop g l =
       clean : (store l.fn.keeper).doubt ≤ (store l.keeper).doubt;
       serves : (store l.fn.keeper).shut ≤ (store l.keeper).shut;
       settled : IsSettled (store l.fn.keeper) → IsSettled (store l.keeper);
-      stands : (store l.keeper).doubt ≡ 0 → (store l.keeper).shut ≡ 0 → (input : List ℕ)
+      stands : (store l.keeper).doubt ≡ 0 → (input : List ℕ)
           → HasInput g.R.Read.remaining l.fn.inbox input
           → StandsAt g.R.Read.remaining input (desk_of (store l.fn.keeper)) (g.W.Write.contents l.fn.out)
-          l.inbox (desk_of (store l.keeper)) (g.W.Write.contents l.out);
+          l.inbox (desk_of (store l.keeper)) (g.W.Write.contents l.out) l.counter;
     }

@@ -1,5 +1,5 @@
-use Rattle.std.proofs.Common.{◌≡◌, ◌≤◌}
-use Rattle.pt_desk.specs.Store.{IsSettled, Store}
+use Rattle.std.proofs.Common.{◌≡◌, ◌+◌, ◌≤◌}
+use Rattle.pt_desk.specs.Store.{IsSettled}
 use Rattle.pt_http.specs.Exchange.{desk_of}
 use Rattle.pt_serve.proofs.ServingLemmas.{HasServed}
 use Rattle.pt_serve.specs.Port.{left_of}
@@ -13,9 +13,9 @@ invariant-loop-connection g l =
       clean : (store l.fn.keeper).doubt ≤ (store l.keeper).doubt;
       serves : (store l.fn.keeper).shut ≤ (store l.keeper).shut;
       settled : IsSettled (store l.fn.keeper) → IsSettled (store l.keeper);
-      fewer : left_of l.port ≤ left_of l.fn.port;
-      served : (store l.keeper).doubt ≡ 0 → (store l.keeper).shut ≡ 0
-          → HasServed l.zone (left_of l.fn.port) (left_of l.port) (desk_of (store l.fn.keeper))
+      few : l.failed + left_of l.port ≤ left_of l.fn.port;
+      served : (store l.keeper).doubt ≡ 0
+          → HasServed l.zone (left_of l.fn.port) (left_of l.port) l.failed (desk_of (store l.fn.keeper))
           (desk_of (store l.keeper));
     }
 

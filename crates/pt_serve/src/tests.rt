@@ -1,0 +1,259 @@
+use crate::{Waits, answer_in_time, serve_one};
+use pt_base::fault::{READ_FAILED, WRITE_FAILED};
+use pt_base::{CallerId, Day, Fault, Minute};
+use pt_desk::{Keeper, ListKeeper};
+use std::alloc::Global;
+use std::cell::{Cell, RefCell};
+use std::io;
+use std::io::{Read, Write};
+use std::net::{Ipv4Addr, TcpListener, TcpStream};
+use std::process::Abort;
+use std::test::Fail;
+use std::time::{Clock, Duration};
+
+/// The admin `abc` puts the clerk `hello`.
+const PUT_CLERK: &str =
+    "POST /callers HTTP/1.1\r\nDesk-Key: abc\r\nDesk-Number: 1\r\nContent-Length: 111\r\n\r\n\
+    {\"id\":2,\"role\":\"clerk\",\"subject\":0,\
+    \"digest\":\"2cf24dba5fb0a30e26e83b2ac5b9e29e1b161e5c1fa7425e73043362938b9824\"}";
+
+/// The reply to a write that is done.
+const DONE: &str =
+    "HTTP/1.1 200 OK\r\nContent-Type: application/json\r\nContent-Length: 13\r\nConnection: close\r\n\r\n\
+    {\"done\":true}";
+
+fn eight_in_the_morning(rt: &impl Abort) -> (Day, Minute) {
+    let day = Day::parse("2025-02-17").expect(rt, "a day");
+    (day, Minute::of(480).unwrap())
+}
+
+/// Whether the clerk has been put.
+fn has_clerk(rt: &impl Abort, keeper: &mut ListKeeper) -> bool {
+    let clerk = keeper.caller(CallerId::of(2).unwrap());
+    clerk.expect(rt, "callers").is_some()
+}
+
+/// What a stream is asked to do. Waits are in seconds.
+#[derive(Clone, Copy, Debug, PartialEq, Eq)]
+enum Call {
+    WaitToRead(u64),
+    Read,
+    WaitToWrite(u64),
+    Write,
+}
+
+/// What streams were asked to do, and the seconds that it took.
+#[derive(Drop)]
+struct Course {
+    calls: RefCell<Vec<Call>>,
+    seconds: Cell<u64>,
+}
+
+impl Course {
+    fn note(&self, call: Call) -> io::Result<()> {
+        if let Ok(mut calls) = self.calls.try_borrow_mut() {
+            calls.push(call)?;
+        }
+        Ok(())
+    }
+
+    fn pass(&self, seconds: u64) {
+        self.seconds.set(self.seconds.get().saturating_add(seconds));
+    }
+}
+
+impl Clock for Course {
+    fn monotonic(&self) -> io::Result<Duration> {
+        Ok(Duration::from_secs(self.seconds.get()))
+    }
+
+    fn since_1970(&self) -> io::Result<Duration> {
+        self.monotonic()
+    }
+}
+
+/// A stream each of whose reads and writes has so many bytes at most, and takes so many seconds.
+#[derive(Drop)]
+struct Slow<'c, S> {
+    stream: S,
+    bytes: usize,
+    seconds: u64,
+    course: &'c Course,
+}
+
+impl<S> Waits for Slow<'_, S> {
+    fn wait_to_read(&self, longest: Duration) -> io::Result<()> {
+        self.course.note(Call::WaitToRead(longest.as_secs()))
+    }
+
+    fn wait_to_write(&self, longest: Duration) -> io::Result<()> {
+        self.course.note(Call::WaitToWrite(longest.as_secs()))
+    }
+}
+
+impl<S: Read> Read for Slow<'_, S> {
+    fn read(&mut self, buf: &mut [u8]) -> io::Result<usize> {
+        self.course.note(Call::Read)?;
+        self.course.pass(self.seconds);
+        let count = buf.len().min(self.bytes);
+        self.stream.read(&mut buf[..count])
+    }
+}
+
+impl<S: Write> Write for Slow<'_, S> {
+    fn write(&mut self, buf: &[u8]) -> io::Result<usize> {
+        self.course.note(Call::Write)?;
+        self.course.pass(self.seconds);
+        let count = buf.len().min(self.bytes);
+        self.stream.write(&buf[..count])
+    }
+
+    fn flush(&mut self) -> io::Result<()> {
+        self.stream.flush()
+    }
+}
+
+/// A client that sends and takes so many bytes at a time, in so many seconds, and what comes of its request.
+struct Case {
+    sends: usize,
+    takes: usize,
+    seconds: u64,
+    calls: &'static [Call],
+    told: Result<(), Fault>,
+    is_put: bool,
+    written: usize,
+}
+
+const CASES: [Case; 3] = [
+    // In time. The last read begins after twelve seconds, and the last write after 24.
+    Case {
+        sends: 50,
+        takes: 40,
+        seconds: 4,
+        calls: &[
+            Call::WaitToRead(10),
+            Call::Read,
+            Call::WaitToRead(10),
+            Call::Read,
+            Call::WaitToRead(7),
+            Call::Read,
+            Call::WaitToRead(3),
+            Call::Read,
+            Call::WaitToWrite(10),
+            Call::Write,
+            Call::WaitToWrite(10),
+            Call::Write,
+            Call::WaitToWrite(6),
+            Call::Write,
+        ],
+        told: Ok(()),
+        is_put: true,
+        written: 103,
+    },
+    // Fifteen seconds are over before the last byte has come.
+    Case {
+        sends: 45,
+        takes: 40,
+        seconds: 5,
+        calls: &[
+            Call::WaitToRead(10),
+            Call::Read,
+            Call::WaitToRead(10),
+            Call::Read,
+            Call::WaitToRead(5),
+            Call::Read,
+        ],
+        told: Err(Fault {
+            code: READ_FAILED,
+            row: 0,
+        }),
+        is_put: false,
+        written: 0,
+    },
+    // Thirty seconds are over before the last byte has gone.
+    Case {
+        sends: 200,
+        takes: 30,
+        seconds: 10,
+        calls: &[
+            Call::WaitToRead(10),
+            Call::Read,
+            Call::WaitToWrite(10),
+            Call::Write,
+            Call::WaitToWrite(10),
+            Call::Write,
+        ],
+        told: Err(Fault {
+            code: WRITE_FAILED,
+            row: 0,
+        }),
+        is_put: true,
+        written: 60,
+    },
+];
+
+/// What comes of a request, and what its client has taken.
+fn answered<'c>(
+    rt: &impl Abort,
+    alloc: Global,
+    keeper: &mut ListKeeper,
+    request: &'c [u8],
+    case: &Case,
+    course: &'c Course,
+) -> (Vec<u8>, Result<(), Fault>) {
+    let reader = Slow {
+        stream: request,
+        bytes: case.sends,
+        seconds: case.seconds,
+        course,
+    };
+    let writer = Slow {
+        stream: Vec::new(alloc),
+        bytes: case.takes,
+        seconds: case.seconds,
+        course,
+    };
+    let now = eight_in_the_morning(rt);
+    let (writer, told) = answer_in_time(course, alloc, keeper, now, reader, writer);
+    (writer.stream, told)
+}
+
+fn compare_case(rt: &impl Abort, alloc: Global, case: &Case) {
+    let course = Course {
+        calls: RefCell::new(Vec::new(alloc)),
+        seconds: Cell::new(1_000),
+    };
+    let mut keeper = ListKeeper::new(alloc, b"abc").expect(rt, "memory");
+    let request = PUT_CLERK.as_bytes();
+    let (out, told) = answered(rt, alloc, &mut keeper, request, case, &course);
+    assert_eq!(rt; told, case.told);
+    assert_eq!(rt; has_clerk(rt, &mut keeper), case.is_put);
+    let reply = DONE.as_bytes();
+    assert_eq!(rt; out.as_slice(), &reply[..case.written.min(reply.len())]);
+    let calls = course.calls.into_inner();
+    assert_eq!(rt; calls.as_slice(), case.calls);
+}
+
+#[test]
+fn each_read_and_each_write_is_told_how_long_it_may_wait(rt: HostRuntime) {
+    for case in &CASES {
+        compare_case(&rt, rt.alloc(), case);
+    }
+}
+
+#[test]
+fn a_client_gets_the_whole_reply(rt: HostRuntime) -> Result<(), Fail> {
+    let listener = TcpListener::bind(&rt, (Ipv4Addr::LOCALHOST, 0))?;
+    let mut client = TcpStream::connect(&rt, listener.local_addr()?)?;
+    client.write_all(PUT_CLERK.as_bytes())?;
+    let (stream, _peer) = listener.accept()?;
+    let mut keeper = ListKeeper::new(rt.alloc(), b"abc").expect(&rt, "memory");
+    let now = eight_in_the_morning(&rt);
+    let told = serve_one(&rt, rt.alloc(), &mut keeper, now, &stream);
+    drop(stream);
+    let mut reply = Vec::new(rt.alloc());
+    client.read_to_end(&mut reply)?;
+    assert_eq!(rt; (told, reply.as_slice()), (Ok(()), DONE.as_bytes()));
+    assert!(rt; has_clerk(&rt, &mut keeper));
+    Ok(())
+}
