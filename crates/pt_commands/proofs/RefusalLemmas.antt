@@ -1,5 +1,5 @@
 -- What an audit of a refusal shows, and how commands that ask for it end.
-use Rattle.std.proofs.Common.{◌≡◌, ℕ, true, false, List, Option, Some, None, Result, Ok, Any, refl, subst}
+use Rattle.std.proofs.Common.{◌≡◌, ℕ, true, false, List, Option, Some, None, Result, Ok, Any, subst}
 use Rattle.std.proofs.KnownBytes.{Appends-kept}
 use Rattle.std.proofs.lemmas.List.Elements.{All-map}
 use Rattle.std.specs.Io.KnownBytes.{Keeps}
@@ -10,15 +10,13 @@ use Rattle.pt_base.specs.declared.rule.Rule.TheVariants.{NoVehicle}
 use Rattle.pt_base.specs.declared.trip.Wish.{Wish}
 use Rattle.pt_booking.proofs.DutyLemmas.{Any-map, no_any}
 use Rattle.pt_booking.specs.Planning.{OnDuty, SomeVehicleCan, on_duty}
-use Rattle.pt_desk.specs.Refusals.{IsFacts, IsInquiryBy}
-use Rattle.pt_desk_rules.proofs.AgainLemmas.{denials_are_the_same_again}
-use Rattle.pt_desk_rules.proofs.ExplainLemmas.{refusals_are_shown}
+use Rattle.pt_desk.proofs.RefusalLemmas.{refusals_are_told}
+use Rattle.pt_desk.specs.Refusals.{IsFacts}
 use Rattle.pt_desk_rules.specs.Booking.{AreTimes}
-use Rattle.pt_desk_rules.specs.Facts.{wish_facts}
 use Rattle.pt_desk_rules.specs.Refusal.{Refusal}
 use Rattle.pt_desk_rules.specs.Sound.{IsSound}
 use Rattle.pt_desk_rules.specs.State.{State}
-use Rattle.pt_desk_rules.specs.Step.{sender, IsOutcome, IsOutcomeBy}
+use Rattle.pt_desk_rules.specs.Step.{IsOutcome}
 use Rattle.pt_desk_rules.specs.declared.explaining.Inquiry.{Inquiry}
 use Rattle.pt_desk_rules.specs.declared.explaining.Inquiry.TheVariants as inquiry
 use Rattle.pt_feasible.specs.Route.{stops_of}
@@ -28,7 +26,6 @@ use Rattle.pt_insertion.specs.declared.asked.Asked.{Asked}
 use Rattle.pt_insertion.specs.declared.chosen.Chosen.{Chosen}
 use Rattle.pt_insertion.specs.declared.duty.Duty.{Duty}
 use Rattle.pt_insertion_log.specs.Written.{WritesRightLog}
-use Rattle.pt_requests.specs.declared.caller.Caller.{Caller}
 use Rattle.pt_requests.specs.declared.request.Answer.{Answer}
 use Rattle.pt_requests.specs.declared.request.Answer.TheVariants as answer
 use Rattle.pt_requests.specs.declared.request.Request.TheVariants.{Explain}
@@ -92,20 +89,11 @@ log_stays minutes duties asked of_refusal old new seen is writes keeps =
     }
 
 -- where no vehicle can, the wish is denied so, and by no other rule
-shown_by : (by : Option Caller) (now : ℕ × ℕ) (number rider : ℕ) (wish : Wish) (s : State) (found : Refusal)
-    (minutes : ℕ → ℕ → Option ℕ) → IsInquiryBy by now rider wish s (inquiry.Facts found) None
-    → AreTimes found.rows minutes → ¬ SomeVehicleCan minutes found.vehicles found.asked
-    → IsOutcomeBy by now number (Explain rider wish) s (answer.Denied NoVehicle) None
-shown_by None now number rider wish s found minutes is times never = absurd (let no = is.0 in cc)
-shown_by (Some me) now number rider wish s found minutes is times never =
-    (refusals_are_shown wish me now (wish_facts rider wish None s) found minutes is.0 times never, refl)
-
 told_none : (key : List ℕ) (now : ℕ × ℕ) (rider : ℕ) (wish : Wish) (s : State) (found : Refusal) → NoneCan found
     → IsFacts key now rider wish s (inquiry.Facts found) None → IsSound s → (number : ℕ) (told : Answer)
     (left : Option State) → IsOutcome key now number (Explain rider wish) s told left → told ≡ answer.Denied NoVehicle
 told_none key now rider wish s found (minutes, times, never) facts sound number told left outcome =
-    (denials_are_the_same_again key now number (Explain rider wish) s NoVehicle told None left sound
-    (shown_by (sender key s) now number rider wish s found minutes facts times never) outcome).0
+    refusals_are_told key now number rider wish s found None left minutes told sound facts times never outcome
 
 pub explained_none : (key : List ℕ) (now : ℕ × ℕ) (rider : ℕ) (wish : Wish) (s : State) (given : Inquiry)
     (found : Refusal) (old new : Option (List ℕ)) (result : Result Outcome Fault) → given ≡ inquiry.Facts found

@@ -1,9 +1,9 @@
-ghost use Rattle.std.specs.Prelude.{◌≡◌, ◌≢◌, ℕ, List, IfErr, OnOk, Some};
+ghost use Rattle.std.specs.Prelude.{◌≡◌, ◌≢◌, ◌≤◌, ℕ, List, length, IfErr, OnOk, Some};
 ghost use Rattle.std.specs.Io.KnownBytes.{Appends};
 ghost use Rattle.pt_commands.specs.Rehearsal.{RehearsesFromLeast};
 ghost use Rattle.pt_base.specs.Fault.{fault};
 ghost use Rattle.pt_base.specs.Codes.{memory_refused, moment_line_refused, write_failed};
-ghost use Rattle.pt_rehearsal.specs.Rehearsal.{Exchanged, HasBadLine, IsFinished, IsRehearsalFault};
+ghost use Rattle.pt_rehearsal.specs.Rehearsal.{most_messages, Exchanged, HasBadLine, IsFinished, IsRehearsalFault};
 
 use pt_base::Fault;
 use pt_desk::ListKeeper;
@@ -24,14 +24,16 @@ pub fn rehearse_with_key<R: Read + Drop, W: Write>(
     ensures finished { (bytes : List ℕ) → R.remaining input ≡ Some bytes
         → OnOk result ((messages : List Exchanged) × (written : List ℕ) × (rest : List ℕ)
         × RehearsesFromLeast key.now messages bytes written rest
-        × Appends (W.contents out.old) (W.contents out.new) written × IsFinished messages rest) }
+        × Appends (W.contents out.old) (W.contents out.new) written × IsFinished messages rest
+        × (length messages ≤ most_messages)) }
     // Else the desk stood after the last message that was answered, whose reply may not be wholly written.
     ensures stopped { (bytes : List ℕ) → R.remaining input ≡ Some bytes
         → IfErr result (λ error. error ≢ fault memory_refused
         → (messages : List Exchanged) × (written : List ℕ) × (rest : List ℕ)
         × RehearsesFromLeast key.now messages bytes written rest
         × (error ≢ fault write_failed → Appends (W.contents out.old) (W.contents out.new) written)
-        × (error ≡ fault moment_line_refused → HasBadLine rest)) }
+        × (error ≡ fault moment_line_refused → HasBadLine rest)
+        × (length messages ≤ most_messages)) }
     ensures fault { IfErr result IsRehearsalFault }
 {
     let mut keeper = ListKeeper::new(alloc, key)?;

@@ -11,8 +11,8 @@ returns-clause-finished g c = λ bytes known.
       whole = sym (ap (λ (held : List ℕ). held ++ bytes) c.in_ok-inbox.ensures.empty);
     } in
     IfOk-weaker c.rehearse.result _ _
-    (λ done found. (found.0, found.1, found.2, (_, _, c.in_ok-keeper.ensures.least, refl, found.3), found.4, found.5))
-    (c.rehearse.ensures.finished refl refl bytes input)
+    (λ done found. (found.0, found.1, found.2, (_, _, c.in_ok-keeper.ensures.least, refl, found.3), found.4, found.5, found.6))
+    (c.rehearse.ensures.finished refl bytes input)
 
 pub returns-clause-stopped : goal.returns-clause-stopped
 returns-clause-stopped g c = λ bytes known.
@@ -29,5 +29,6 @@ returns-clause-stopped g c = λ bytes known.
       (_, _, c.in_ok-keeper.ensures.least, refl, found.3),
       found.4,
       found.5,
+      found.6,
     ))
-    (c.rehearse.ensures.stopped refl refl bytes input)
+    (c.rehearse.ensures.stopped refl bytes input)
