@@ -1,4 +1,4 @@
-"""A desk that serves on a free port, a day of a small agency, and rows of its database: for tests/agency, tests/crashes, bench/serve."""
+"""A desk that serves on a free port, a day of a small agency, and rows of its database: for tests/ and bench/."""
 import collections
 import contextlib
 import datetime
@@ -113,6 +113,13 @@ class Desk:
         except OSError:
             return None
 
+    def sent_and_ended(self, message):
+        """The reply to these bytes and no more."""
+        with self.connected() as connection:
+            connection.sendall(message)
+            connection.shutdown(socket.SHUT_WR)
+            return reply_in(received_from(connection))
+
     def ask(self, method, path, key, number=None, body=None):
         return self.sent(message_of(method, path, key, number, body))
 
@@ -197,8 +204,19 @@ def with_database(file, task):
         return told
 
 
+def copy_database(file, path):
+    """A copy of the file, with what stands in its log."""
+    with_database(file, lambda it: with_database(path, it.backup))
+
+
 def rows(file, query, *values):
     return with_database(file, lambda database: database.execute(query, values).fetchall())
+
+
+def content_of(file):
+    """The rows of each table."""
+    tables = [name for name, in rows(file, "SELECT name FROM sqlite_master WHERE type = 'table'")]
+    return {table: sorted(rows(file, f"SELECT * FROM {table}")) for table in tables}
 
 
 def faults_of_database(file):
