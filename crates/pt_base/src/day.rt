@@ -5,7 +5,7 @@ ghost use Rattle.jiff_core.specs.Date.{epoch_day};
 ghost use Rattle.pt_base.specs.DateText.{IsDateText, IsInMonth};
 ghost use Rattle.pt_base.specs.Day.{IsDay, IsOutside, weekday_of, IsBookable};
 ghost use Rattle.pt_base.specs.Fault.{fault};
-ghost use Rattle.pt_base.specs.Codes.{memory_refused, no_such_date, date_out_of_range};
+ghost use Rattle.pt_base.specs.Codes.{no_such_date, date_out_of_range};
 ghost use Rattle.pt_base.specs.Weekday.{number_of};
 ghost use Rattle.pt_base.specs.Ranges.{last_day};
 ghost use Rattle.pt_base.specs.SpelledDay.{SpellsDay, day_from};
@@ -13,6 +13,7 @@ ghost use Rattle.pt_base.specs.SpelledDay.{SpellsDay, day_from};
 use crate::fault::{DATE_OUT_OF_RANGE, NO_SUCH_DATE};
 use crate::{Fault, Weekday, date_text};
 use jiff_core::civil::Date;
+use std::alloc::AllocError;
 use std::marker::Model;
 
 /// The day number of 2000-01-01, where 1970-01-01 is 0.
@@ -90,14 +91,13 @@ impl Day {
     }
 
     /// Appends the ten bytes of `YYYY-MM-DD`.
-    pub fn write(self, out: &mut Vec<u8>) -> Result<(), Fault>
+    pub fn write(self, out: &mut Vec<u8>) -> Result<(), AllocError>
         ensures text { OnOk result ((text : List ℕ) × IsDateText (pos self) text
             × (out.new.items ≡ out.old.items ++ text)) }
         // No other text names the day.
         ensures only { OnOk result ((text : List ℕ) → IsDateText (pos self) text
             → out.new.items ≡ out.old.items ++ text) }
         ensures err { OnErr result (out.new.items ≡ out.old.items) }
-        ensures memory { IfErr result (λ error. error ≡ fault memory_refused) }
     {
         out.extend_from_slice(&date_text::spelled(self.date()))?;
         Ok(())

@@ -9,6 +9,7 @@ pub use id::{
 };
 pub use load::Load;
 pub use minute::{LAST_MINUTE, Minute};
+pub use moment::Moment;
 pub use numbers::number_from;
 pub use place::{Place, Point};
 pub use policy::Policy;
@@ -26,6 +27,7 @@ pub mod fault;
 mod id;
 mod load;
 mod minute;
+mod moment;
 mod numbers;
 mod place;
 mod policy;

@@ -24,7 +24,7 @@ pub enum Rule {
     Full,
     /// Case files are for residents.
     Residents,
-    /// An application and its decision come in turn, the presumption after 21 days among their rules.
+    /// An application and its decision come in turn, the presumption among their rules.
     Application,
     /// A grant has a last day, which has not passed.
     LastDay,

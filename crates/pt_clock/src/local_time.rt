@@ -10,7 +10,7 @@ use jiff::Timestamp;
 use jiff::civil::{Date, DateTime};
 use jiff::tz::TimeZone;
 use pt_base::fault::{DATE_OUT_OF_RANGE, NO_SUCH_ZONE};
-use pt_base::{Day, Fault, Minute};
+use pt_base::{Day, Fault, Minute, Moment};
 
 /// The day of a date; `None` outside 2000 to 2099.
 fn day_of(date: Date) -> Option<Day>
@@ -32,11 +32,11 @@ fn minute_of(clock: DateTime) -> Minute
 /// The day and the minute that clocks of a zone show at an instant. The zone is given by its POSIX rule, such as
 /// `EST5EDT,M3.2.0,M11.1.0`. A text that is no such rule is the fault `NO_SUCH_ZONE`; with a rule, a day outside 2000
 /// to 2099 is `DATE_OUT_OF_RANGE`.
-pub fn now_in(zone: &str, instant: Timestamp) -> Result<(Day, Minute), Fault>
-    ensures local { IfOk result (λ now. IsLocalTime zone.now instant.nanosecond (pos now.0) now.1) }
+pub fn now_in(zone: &str, instant: Timestamp) -> Result<Moment, Fault>
+    ensures local { IfOk result (λ now. IsLocalTime zone.now instant.nanosecond (pos now.day) now.minute) }
     // The clocks show nothing else.
     ensures only { (day minute : ℕ) → IsDay day → IsLocalTime zone.now instant.nanosecond (pos day) minute
-        → result ≡ Ok (day, minute) }
+        → result ≡ Ok (record { day = day; minute = minute }) }
     ensures no_such_zone { (result ≡ Err (fault no_such_zone)) ↔ ¬ (IsZoneRule zone.now) }
     ensures out_of_range { (result ≡ Err (fault date_out_of_range))
         ↔ ((day : ℤ) × (minute : ℕ) × IsLocalTime zone.now instant.nanosecond day minute × IsOutside day) }
@@ -49,18 +49,21 @@ pub fn now_in(zone: &str, instant: Timestamp) -> Result<(Day, Minute), Fault>
     let Some(day) = day_of(clock.date()) else {
         return Err(Fault::of(DATE_OUT_OF_RANGE));
     };
-    Ok((day, minute_of(clock)))
+    Ok(Moment {
+        day,
+        minute: minute_of(clock),
+    })
 }
 
 /// The day and the minute on the clocks of a zone, where a clock that could not be read gives no instant.
 ///
 /// The zone is looked at first: a text that is no rule of a zone is the fault `NO_SUCH_ZONE`, whatever the clock says.
 /// With a rule, a clock that could not be read is `DATE_OUT_OF_RANGE`, as one that is out of range.
-pub fn moment_of(zone: &str, clock: Option<Timestamp>) -> Result<(Day, Minute), Fault>
+pub fn moment_of(zone: &str, clock: Option<Timestamp>) -> Result<Moment, Fault>
     ensures local { IfSome clock (λ instant. IfOk result (λ now.
-        IsLocalTime zone.now instant.nanosecond (pos now.0) now.1)) }
+        IsLocalTime zone.now instant.nanosecond (pos now.day) now.minute)) }
     ensures only { IfSome clock (λ instant. (day minute : ℕ) → IsDay day
-        → IsLocalTime zone.now instant.nanosecond (pos day) minute → result ≡ Ok (day, minute)) }
+        → IsLocalTime zone.now instant.nanosecond (pos day) minute → result ≡ Ok (record { day = day; minute = minute })) }
     ensures no_such_zone { (result ≡ Err (fault no_such_zone)) ↔ ¬ (IsZoneRule zone.now) }
     ensures out_of_range { IfSome clock (λ instant. (result ≡ Err (fault date_out_of_range))
         ↔ ((day : ℤ) × (minute : ℕ) × IsLocalTime zone.now instant.nanosecond day minute × IsOutside day)) }

@@ -1,0 +1,8 @@
+use crate::{Day, Minute};
+
+/// A minute of a day, on the clocks of the agency's zone.
+#[derive(Clone, Copy, Debug, PartialEq, Eq)]
+pub struct Moment {
+    pub day: Day,
+    pub minute: Minute,
+}
