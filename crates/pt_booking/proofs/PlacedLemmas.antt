@@ -2,7 +2,6 @@
 use Rattle.std.proofs.Common.{◌≡◌, ℕ, ◌+◌, ◌<◌, ◌≤◌, List, [], ◌∷◌, length, Any, All, AllPairs, Contains, Option, Some, None, IsSome, IfNone, Result, Ok, Err, IsErr, inl, inr, refl, sym, ap, subst, ◌∙◌, ◌↔◌, arith}
 use Rattle.std.proofs.lemmas.Bool.{false≢true}
 use Rattle.std.proofs.lemmas.List.Elements.{All-map}
-use Rattle.pt_base.specs.declared.fault.Fault.{Fault}
 use Rattle.pt_base.specs.declared.rule.Rule.{Rule}
 use Rattle.pt_base.specs.declared.rule.Rule.TheVariants.{NoVehicle}
 use Rattle.pt_base.specs.declared.trip.Trip.{Trip}
@@ -146,15 +145,15 @@ module _ (minutes : ℕ → ℕ → Option ℕ) (duties : List Duty) (request : 
       (subst (λ (r : Option Rule). IsFirstFailing (riders_rules request) r) none first) last
 
 -- the denial by the first failing rule is the only one
-pub denied-only : (rules : List (Rule × Type 0)) (found rule : Rule) → IsFirstFailing rules (Some found) →
-    (result : Result Decision Fault) → result ≡ Ok (Denied found) → (result ≡ Ok (Denied rule)) ↔ IsFirstFailing rules (Some rule)
+pub denied-only : {E : Type 0} (rules : List (Rule × Type 0)) (found rule : Rule) → IsFirstFailing rules (Some found) →
+    (result : Result Decision E) → result ≡ Ok (Denied found) → (result ≡ Ok (Denied rule)) ↔ IsFirstFailing rules (Some rule)
 denied-only rules found rule first result is = (
   λ same. let it : found ≡ rule = cc in subst (λ (r : Rule). IsFirstFailing rules (Some r)) it first,
   λ other. let it : Some found ≡ Some rule = first-unique rules _ _ first other in cc,
 )
 
 -- where all rules hold nothing is denied
-pub not-denied : (rules : List (Rule × Type 0)) (result : Result Decision Fault) (rule : Rule) → IsFirstFailing rules None →
+pub not-denied : {E : Type 0} (rules : List (Rule × Type 0)) (result : Result Decision E) (rule : Rule) → IsFirstFailing rules None →
     (result ≡ Ok (Denied rule) → ⊥) → (result ≡ Ok (Denied rule)) ↔ IsFirstFailing rules (Some rule)
 not-denied rules result rule none never = (
   λ same. absurd (never same),
@@ -162,14 +161,14 @@ not-denied rules result rule none never = (
 )
 
 -- want of memory denies nothing
-pub refused-not-denied : (rules : List (Rule × Type 0)) (result : Result Decision Fault) (rule : Rule) → IsFirstFailing rules None →
+pub refused-not-denied : {E : Type 0} (rules : List (Rule × Type 0)) (result : Result Decision E) (rule : Rule) → IsFirstFailing rules None →
     IsErr result → (result ≡ Ok (Denied rule)) ↔ IsFirstFailing rules (Some rule)
-refused-not-denied rules result rule none refused =
+refused-not-denied {E} rules result rule none refused =
     not-denied rules result rule none
-    (λ same. let ok : IsErr {E = Fault} (Ok (Denied rule)) = subst (λ (r : Result Decision Fault). IsErr r) same refused in absurd (false≢true ok))
+    (λ same. let ok : IsErr {E = E} (Ok (Denied rule)) = subst (λ (r : Result Decision E). IsErr r) same refused in absurd (false≢true ok))
 
 -- a fact that holds anyway holds exactly where the trip is booked or memory was refused
-pub allowed-if-refused : (P : Type 0) (result : Result Decision Fault) → IsErr result → P → IsAllowed result ↔ P
+pub allowed-if-refused : {E : Type 0} (P : Type 0) (result : Result Decision E) → IsErr result → P → IsAllowed result ↔ P
 allowed-if-refused P (Ok decision) refused holds = absurd (false≢true refused)
 allowed-if-refused P (Err fault) refused holds = (λ _. holds, λ _. tt)
 

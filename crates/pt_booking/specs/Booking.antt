@@ -1,6 +1,5 @@
 -- A trip that is booked, and its vehicle's new route.
 use Rattle.std.specs.Prelude.{◌≡◌, ℕ, ◌+◌, ◌↔◌, Bool, IsTrue, List, Option, Result, Ok, Err, slice_index}
-use Rattle.pt_base.specs.declared.fault.Fault.{Fault}
 use Rattle.pt_base.specs.declared.trip.Trip.{Trip}
 use Rattle.pt_base.specs.declared.trip_status.TripStatus.TheVariants as status
 use Rattle.pt_corridor.specs.Corridor.{HasOneRoute}
@@ -62,13 +61,13 @@ pub record IsNewRoute (minutes : ℕ → ℕ → Option ℕ) (duty : OnDuty) (tr
   pub schedule : IsLeastSchedule minutes duty.vehicle stops chosen.schedule.items
 
 -- the trip is booked, or only memory for its new route was refused
-abbrev pub IsAllowed : Result Decision Fault → Type 0
+abbrev pub IsAllowed : {E : Type 0} → Result Decision E → Type 0
 IsAllowed (Ok (Booked booking)) = Unit {0}
 IsAllowed (Ok (Denied rule)) = ⊥
-IsAllowed (Err fault) = Unit {0}
+IsAllowed (Err error) = Unit {0}
 
 -- a fact of what is booked
-abbrev pub IfBooked : Result Decision Fault → (Booking → Type 0) → Type 0
+abbrev pub IfBooked : {E : Type 0} → Result Decision E → (Booking → Type 0) → Type 0
 IfBooked (Ok (Booked booking)) P = P booking
 IfBooked (Ok (Denied rule)) P = Unit {0}
-IfBooked (Err fault) P = Unit {0}
+IfBooked (Err error) P = Unit {0}

@@ -1,8 +1,6 @@
 ghost use Rattle.std.specs.Prelude.{◌≡◌, ◌≢◌, ◌+◌, ◌<◌, ◌≤◌, ◌↔◌, All, AllPairs, Any, Contains, IfSome, IfNone};
-ghost use Rattle.std.specs.Prelude.{IfOk, IfErr, None, Some, length, slice_index};
+ghost use Rattle.std.specs.Prelude.{IfOk, None, Some, length, slice_index};
 ghost use Rattle.std.specs.List.Sorted.{IsStrictlyIncreasing};
-ghost use Rattle.pt_base.specs.Codes.{memory_refused};
-ghost use Rattle.pt_base.specs.Fault.{fault};
 ghost use Rattle.pt_base.specs.Ranges.{last_minute};
 ghost use Rattle.pt_base.specs.declared.rule.Rule.{Rule};
 ghost use Rattle.pt_feasible.specs.Route.{stops_of};
@@ -16,13 +14,13 @@ ghost use Rattle.pt_booking.specs.Rules.{IsFirstFailing};
 
 use crate::planning::ride_limit;
 use crate::{TripRequest, asked_for, asked_of, promised_window, riders_denial, wished_window};
-use pt_base::{Fault, Minute, Rule, Trip, TripStatus, VehicleId, Window};
+use pt_base::{Minute, Rule, Trip, TripStatus, VehicleId, Window};
 use pt_corridor::one_route;
 use pt_feasible::Route;
 use pt_insertion::{Chosen, Duty, RouteEdits, best};
 use pt_party::fare;
 use pt_travel::Times;
-use std::alloc::Global;
+use std::alloc::{AllocError, Global};
 
 /// A trip that is booked.
 #[derive(Debug, Drop)]
@@ -46,13 +44,13 @@ pub enum Decision {
 /// Books the trip at the best place in the routes of the vehicles on duty on its day, or denies it by the first rule
 /// that fails.
 ///
-/// The fault is want of memory, which only the new route of a trip that can be booked takes.
+/// Only the new route of a trip that can be booked takes memory.
 pub fn book<T: Times>(
     alloc: Global,
     request: &TripRequest<'_>,
     duties: &[Duty<'_>],
     times: &T,
-) -> Result<Decision, Fault>
+) -> Result<Decision, AllocError>
     requires uses { IsStrictlyIncreasing request.now.uses.now }
     requires rising { AllPairs (λ first second. first.vehicle.now.id < second.vehicle.now.id) duties.now }
     requires new_trip { All (λ duty. IsWithout request.now.trip (stops_of duty.route.now)) duties.now }
@@ -62,7 +60,6 @@ pub fn book<T: Times>(
         (booking_rules (T.minutes times.now) (on_duty duties.now) (request_of request.now)) (Some rule) }
     ensures allowed { spec.IsAllowed result ↔ IsFirstFailing
         (booking_rules (T.minutes times.now) (on_duty duties.now) (request_of request.now)) None }
-    ensures memory { IfErr result (λ error. error ≡ fault memory_refused) }
 
     ensures place { spec.IfBooked result (λ booking. IsBestPlace (T.minutes times.now) (on_duty duties.now)
         (asked_for (T.minutes times.now) (request_of request.now)) booking.chosen) }
@@ -94,7 +91,7 @@ fn placed_at<T: Times>(
     duties: &[Duty<'_>],
     times: &T,
     chosen: &Chosen,
-) -> Result<(Trip, Route), Fault>
+) -> Result<(Trip, Route), AllocError>
     requires rising { AllPairs (λ first second. first.vehicle.now.id < second.vehicle.now.id) duties.now }
     requires new_trip { All (λ duty. IsWithout request.now.trip (stops_of duty.route.now)) duties.now }
     requires party { MayTravel request.now.rider.now (party_of request.now.wish) }
@@ -104,7 +101,6 @@ fn placed_at<T: Times>(
         spec.IsTripOf (T.minutes times.now) (request_of request.now) chosen.now placed.0) }
     ensures route { IfOk result (λ placed. Any (λ duty. spec.IsNewRoute
         (T.minutes times.now) duty placed.0 chosen.now (stops_of placed.1)) (on_duty duties.now)) }
-    ensures memory { IfErr result (λ error. error ≡ fault memory_refused) }
 {
     let duty = duty_of(duties, chosen.vehicle).unwrap();
     let promised = promised_at(request, chosen);

@@ -5,7 +5,7 @@
 pub use booking::{Booking, Decision, book};
 pub use planning::{asked_for, asked_of};
 pub use request::{TripRequest, party_of};
-pub use riders::riders_denial;
+pub use riders::{first_failing, riders_denial};
 pub use window::{promised_window, wished_window};
 
 mod booking;

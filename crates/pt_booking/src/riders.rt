@@ -33,9 +33,9 @@ pub fn riders_denial(request: &TripRequest<'_>) -> Option<Rule>
     ])
 }
 
-/// The first rule that fails.
-fn first_failing(rules: &[(Rule, bool)]) -> Option<Rule>
-    ensures { result ≡ tested.first_failing rules.now }
+/// The first of the rules that fails, in their order; each stands with whether it holds.
+pub fn first_failing(rules: &[(Rule, bool)]) -> Option<Rule>
+    ensures value { result ≡ tested.first_failing rules.now }
 {
     for (rule, holds) in rules {
         if !*holds {

@@ -14,7 +14,7 @@ use pt_travel::Times;
 
 /// What the service time of a visit has to keep.
 #[derive(Clone, Copy, Debug, Default, PartialEq, Eq)]
-pub struct Limits {
+pub(crate) struct Limits {
     /// The last minute of the day at which it may begin.
     pub latest: u16,
     /// The minutes of its service and of the drive to the next visit.
@@ -24,7 +24,7 @@ pub struct Limits {
 
 /// At most so many minutes pass since service began at this visit.
 #[derive(Clone, Copy, Debug, Default, PartialEq, Eq)]
-pub struct Since {
+pub(crate) struct Since {
     pub visit: usize,
     pub most: u32,
 }
@@ -32,7 +32,7 @@ pub struct Since {
 /// The minutes of a visit's service and of the drive to the next one, and nothing after the last.
 ///
 /// `None` where there is no way.
-pub fn step_from<S: Stops, T: Times>(
+pub(crate) fn step_from<S: Stops, T: Times>(
     stops: &S,
     times: &T,
     vehicle: &Vehicle,
@@ -56,7 +56,7 @@ pub fn step_from<S: Stops, T: Times>(
 }
 
 /// A drop comes in time after its pickup, the last visit after the first, and any other after itself.
-pub fn since_at<S: Stops>(stops: &S, vehicle: &Vehicle, k: usize) -> Since
+pub(crate) fn since_at<S: Stops>(stops: &S, vehicle: &Vehicle, k: usize) -> Since
     requires { k < length (S.stops stops.now) + 2 }
     ensures before { result.visit ≤ k }
     ensures kept { (b : List ℕ) → (slice_index b k ≤ slice_index b result.visit + result.most)

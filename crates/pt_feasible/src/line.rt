@@ -13,7 +13,7 @@ use pt_travel::Times;
 
 /// The visits of a route one after the other.
 #[derive(Drop)]
-pub struct Line {
+pub(crate) struct Line {
     /// Minutes of the day that no fitting service times come before.
     pub earliest: Schedule,
     pub limits: ArrayVec<Limits, 102>,
@@ -22,7 +22,7 @@ pub struct Line {
 const _: () = prove!(MAX_STOPS + 2 == 102);
 
 /// The line of a route from a floor of all fitting service times; `None` where a walk along it finds that none fit.
-pub fn line_of<S: Stops, T: Times>(
+pub(crate) fn line_of<S: Stops, T: Times>(
     stops: &S,
     times: &T,
     vehicle: &Vehicle,

@@ -11,7 +11,7 @@ use std::sync::ledger::Ledger;
 
 /// What raising bounds did to them.
 #[derive(Clone, Copy, Debug, PartialEq, Eq)]
-pub enum Pass {
+pub(crate) enum Pass {
     /// No bound was raised.
     Stayed,
     /// A bound was raised.
@@ -21,7 +21,7 @@ pub enum Pass {
 }
 
 /// The least times from the line's bounds on that keep all its limits; `None` where there are none.
-pub fn least_times<L: Ledger>(line: Line, passes: &mut Passes<L>) -> Option<Schedule>
+pub(crate) fn least_times<L: Ledger>(line: Line, passes: &mut Passes<L>) -> Option<Schedule>
     requires same_length { length line.earliest.items ≡ length line.limits.items }
     requires look_back { LookBack line.limits.items }
     requires in_windows { AreInWindows line.limits.items line.earliest.items }

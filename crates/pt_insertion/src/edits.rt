@@ -1,5 +1,4 @@
-ghost use Rattle.std.specs.Prelude.{◌≡◌, ◌+◌, ◌≤◌, ◌↔◌, length, IsTrue, IfOk, IfErr};
-ghost use Rattle.pt_base.specs.Codes.{memory_refused};
+ghost use Rattle.std.specs.Prelude.{◌≡◌, ◌+◌, ◌≤◌, ◌↔◌, length, IsTrue, IfOk};
 ghost use Rattle.pt_feasible.specs.Pairing.{most_stops};
 ghost use Rattle.pt_feasible.specs.Route.{stops_of};
 ghost use Rattle.pt_insertion.specs.Insertion.{with_trip, IsWithout};
@@ -7,9 +6,9 @@ ghost use Rattle.pt_insertion.specs.Removal.{without_trip, KeepsFittingTimes, Ke
 
 use crate::insertion::stop_at;
 use crate::{Asked, Chosen};
-use pt_base::{Fault, TripId};
+use pt_base::TripId;
 use pt_feasible::{Route, Stops};
-use std::alloc::Global;
+use std::alloc::{AllocError, Global};
 
 /// Routes with a trip put in or taken out.
 pub trait RouteEdits: Stops {
@@ -17,22 +16,20 @@ pub trait RouteEdits: Stops {
     fn is_without(&self, trip: TripId) -> bool
         ensures value { IsTrue result ↔ IsWithout trip (Self.stops self.now) };
 
-    /// The route with the trip put in at the chosen place; the fault is want of memory.
-    fn inserted(&self, alloc: Global, asked: &Asked, chosen: &Chosen) -> Result<Route, Fault>
+    /// The route with the trip put in at the chosen place.
+    fn inserted(&self, alloc: Global, asked: &Asked, chosen: &Chosen) -> Result<Route, AllocError>
         requires drop_later { chosen.now.i ≤ chosen.now.j }
         requires among { chosen.now.j ≤ length (Self.stops self.now) }
         requires room { length (Self.stops self.now) + 2 ≤ most_stops }
         requires new_trip { IsWithout asked.now.trip (Self.stops self.now) }
         ensures value { IfOk result (λ route.
-            stops_of route ≡ with_trip asked.now chosen.now.i chosen.now.j (Self.stops self.now)) }
-        ensures memory { IfErr result (λ fault. fault ≡ record { code = memory_refused; row = 0 }) };
+            stops_of route ≡ with_trip asked.now chosen.now.i chosen.now.j (Self.stops self.now)) };
 
-    /// The route without the trip's stops; the fault is want of memory.
-    fn removed(&self, alloc: Global, trip: TripId) -> Result<Route, Fault>
+    /// The route without the trip's stops.
+    fn removed(&self, alloc: Global, trip: TripId) -> Result<Route, AllocError>
         ensures value { IfOk result (λ route. stops_of route ≡ without_trip trip (Self.stops self.now)) }
         ensures times { IfOk result (λ route. KeepsFittingTimes trip (Self.stops self.now) (stops_of route)) }
-        ensures loads { IfOk result (λ route. KeepsFittingLoads (Self.stops self.now) (stops_of route)) }
-        ensures memory { IfErr result (λ fault. fault ≡ record { code = memory_refused; row = 0 }) };
+        ensures loads { IfOk result (λ route. KeepsFittingLoads (Self.stops self.now) (stops_of route)) };
 }
 
 impl RouteEdits for Route {
@@ -45,7 +42,7 @@ impl RouteEdits for Route {
         true
     }
 
-    fn inserted(&self, alloc: Global, asked: &Asked, chosen: &Chosen) -> Result<Route, Fault> {
+    fn inserted(&self, alloc: Global, asked: &Asked, chosen: &Chosen) -> Result<Route, AllocError> {
         let len = self.len() + 2;
         let mut stops = Vec::with_capacity(alloc, len)?;
         for k in 0..len {
@@ -56,7 +53,7 @@ impl RouteEdits for Route {
         Ok(Route::of(stops).unwrap())
     }
 
-    fn removed(&self, alloc: Global, trip: TripId) -> Result<Route, Fault> {
+    fn removed(&self, alloc: Global, trip: TripId) -> Result<Route, AllocError> {
         let mut stops = Vec::with_capacity(alloc, self.len())?;
         for k in 0..self.len() {
             let stop = self.stop(k);

@@ -5,7 +5,7 @@ use crate::Asked;
 use pt_feasible::{Stop, Stops};
 
 /// The stop with this number, counted from 0, of the route with the trip put in.
-pub fn stop_at<S: Stops>(stops: &S, asked: &Asked, i: usize, j: usize, k: usize) -> Stop
+pub(crate) fn stop_at<S: Stops>(stops: &S, asked: &Asked, i: usize, j: usize, k: usize) -> Stop
     requires drop_later { i ≤ j }
     requires among { j ≤ length (S.stops stops.now) }
     requires stop { k < length (S.stops stops.now) + 2 }

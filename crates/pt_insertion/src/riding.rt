@@ -14,7 +14,7 @@ use pt_travel::Times;
 
 /// A ride from its pickup on, at one of the places where the vehicle stops.
 #[derive(Clone, Copy, Debug, PartialEq, Eq)]
-pub struct Riding {
+pub(crate) struct Riding {
     /// The origin, or the place of a stop after it.
     pub place: PlaceId,
     /// The minutes of driving and service from the end of the pickup to the end of the service there.
@@ -24,7 +24,7 @@ pub struct Riding {
 }
 
 /// The ride as it begins after the first `i` stops; `None` where the vehicle has no room for the party.
-pub fn boarded(duty: &Duty<'_>, asked: &Asked, i: usize, others: Load) -> Option<Riding>
+pub(crate) fn boarded(duty: &Duty<'_>, asked: &Asked, i: usize, others: Load) -> Option<Riding>
     requires among { i ≤ length (stops_of duty.now.route.now) }
     requires new_trip { IsWithout asked.now.trip (stops_of duty.now.route.now) }
     requires others { others ≡ load_aboard (take i (stops_of duty.now.route.now)) }
@@ -46,7 +46,7 @@ pub fn boarded(duty: &Duty<'_>, asked: &Asked, i: usize, others: Load) -> Option
 /// The ride one stop on; `None` where the vehicle is too full or the ride too long from there on.
 ///
 /// No later drop is possible then. Driving and service alone count: a wait makes a ride no shorter.
-pub fn ride_on<T: Times>(
+pub(crate) fn ride_on<T: Times>(
     duty: &Duty<'_>,
     asked: &Asked,
     times: &T,

@@ -18,7 +18,7 @@ use pt_travel::Times;
 use std::io::Write;
 
 /// Writes the lines of a case that is not possible.
-pub fn explain_case<T: Times, W: Write>(
+pub(crate) fn explain_case<T: Times, W: Write>(
     insertion: &Insertion<'_>,
     times: &T,
     out: &mut W,

@@ -12,7 +12,7 @@ use pt_audit::{Bounds, Insertion, Raise};
 use pt_travel::Times;
 
 /// The raise of visit `k` to the vehicle's arrival there, where that is after its bound and after its window begins.
-pub fn drive_raise<T: Times>(
+pub(crate) fn drive_raise<T: Times>(
     insertion: &Insertion<'_>,
     times: &T,
     bounds: &Bounds,
@@ -40,7 +40,7 @@ pub fn drive_raise<T: Times>(
 }
 
 /// The raise of visit `k` towards its drop, where it is a pickup that is left too early.
-pub fn ride_raise(insertion: &Insertion<'_>, bounds: &Bounds, k: usize) -> Option<Raise>
+pub(crate) fn ride_raise(insertion: &Insertion<'_>, bounds: &Bounds, k: usize) -> Option<Raise>
     requires { k < length (inserted_stops insertion.now) + 2 }
     ensures raise { (minutes : ℕ → ℕ → Option ℕ) → IfSome result (Raises minutes insertion.now.vehicle.now
         (inserted_stops insertion.now) (slice_index bounds.now)) }

@@ -6,7 +6,7 @@ use pt_audit::Insertion;
 use pt_feasible::StopKind;
 
 /// Where the trip that stop `i` picks up is dropped, looked for from there on; `None` where it is no pickup.
-pub fn drop_of(insertion: &Insertion<'_>, i: usize) -> Option<usize>
+pub(crate) fn drop_of(insertion: &Insertion<'_>, i: usize) -> Option<usize>
     ensures drop { (j : ℕ) → (result ≡ Some j) ↔ IsRide (inserted_stops insertion.now) i j }
     ensures among { IfSome result (λ j. j < length (inserted_stops insertion.now)) }
 {
@@ -26,7 +26,7 @@ pub fn drop_of(insertion: &Insertion<'_>, i: usize) -> Option<usize>
 }
 
 /// Where the trip that stop `j` drops is picked up, looked for from there back; `None` where it is no drop.
-pub fn pickup_of(insertion: &Insertion<'_>, j: usize) -> Option<usize>
+pub(crate) fn pickup_of(insertion: &Insertion<'_>, j: usize) -> Option<usize>
     ensures pickup { (i : ℕ) → (result ≡ Some i) ↔ IsRide (inserted_stops insertion.now) i j }
     ensures before { IfSome result (λ i. i < j) }
 {

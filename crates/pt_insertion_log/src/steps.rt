@@ -11,7 +11,7 @@ use pt_travel::Times;
 
 /// What follows in a case.
 #[derive(Clone, Copy, Debug, PartialEq, Eq)]
-pub enum Step {
+pub(crate) enum Step {
     /// A bound that a constraint raises.
     Raise(Raise),
     /// A constraint that is broken.
@@ -21,7 +21,7 @@ pub enum Step {
 /// The first step that the bounds ask for; `None` where they keep all constraints.
 ///
 /// Visit `first` is looked at, and then those from `rest` on: the others are known to keep theirs.
-pub fn next_step<T: Times>(
+pub(crate) fn next_step<T: Times>(
     insertion: &Insertion<'_>,
     times: &T,
     bounds: &Bounds,

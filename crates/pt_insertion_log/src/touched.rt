@@ -8,7 +8,7 @@ use pt_audit::{Insertion, Raise};
 
 /// The first visit whose constraints a raise can break, and the only one before its own: the pickup of its drop, or
 /// leaving the depot where coming back is raised; else its own.
-pub fn first_touched(insertion: &Insertion<'_>, raise: Raise) -> usize
+pub(crate) fn first_touched(insertion: &Insertion<'_>, raise: Raise) -> usize
     ensures no_later { result ≤ visit_of raise }
     ensures kept { (minutes : ℕ → ℕ → Option ℕ) (bound : ℕ → ℕ) (k : ℕ) → k < visit_of raise → k ≢ result →
         IsKeptAt minutes insertion.now.vehicle.now (inserted_stops insertion.now) bound k →
@@ -25,7 +25,7 @@ pub fn first_touched(insertion: &Insertion<'_>, raise: Raise) -> usize
 }
 
 /// The visit whose bound a raise raises.
-pub fn raised_visit(raise: Raise) -> usize
+pub(crate) fn raised_visit(raise: Raise) -> usize
     ensures { result ≡ visit_of raise }
 {
     match raise {

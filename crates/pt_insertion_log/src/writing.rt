@@ -10,7 +10,7 @@ use pt_base::fault::WRITE_FAILED;
 use std::io::Write;
 
 /// Writes a line; the fault is a write that failed.
-pub fn write_line<W: Write>(line: Line, out: &mut W) -> Result<(), Fault>
+pub(crate) fn write_line<W: Write>(line: Line, out: &mut W) -> Result<(), Fault>
     ensures line { OnOk result (Appends (W.contents out.old) (W.contents out.new) (line_text line)) }
     ensures in_form { IsInForm line }
     ensures fault { IfErr result (λ error. error ≡ fault write_failed) }
@@ -19,7 +19,7 @@ pub fn write_line<W: Write>(line: Line, out: &mut W) -> Result<(), Fault>
 }
 
 /// Writes bytes; the fault is a write that failed.
-pub fn write_bytes<W: Write>(bytes: &[u8], out: &mut W) -> Result<(), Fault>
+pub(crate) fn write_bytes<W: Write>(bytes: &[u8], out: &mut W) -> Result<(), Fault>
     ensures bytes { OnOk result (Appends (W.contents out.old) (W.contents out.new) bytes.now) }
     ensures fault { IfErr result (λ error. error ≡ fault write_failed) }
 {

@@ -55,7 +55,7 @@ fn is_pending(entries: &[Entered]) -> bool
 }
 
 /// Whether an appeal is pending that was not heard.
-pub fn awaits_hearing(entries: &[Entered]) -> bool
+pub(crate) fn awaits_hearing(entries: &[Entered]) -> bool
     ensures { result ≡ awaits_hearing entries.now }
 {
     let mut awaited = false;
@@ -83,7 +83,7 @@ fn is_appealed(entries: &[Entered], against: usize) -> bool
 }
 
 /// Whether what stands at the position may be appealed against on the day `today`.
-pub fn may_appeal(entries: &[Entered], today: Day, against: u8) -> bool
+pub(crate) fn may_appeal(entries: &[Entered], today: Day, against: u8) -> bool
     ensures { result ≡ may_appeal entries.now today against }
 {
     let against = usize::from(against);
@@ -94,7 +94,7 @@ pub fn may_appeal(entries: &[Entered], today: Day, against: u8) -> bool
 }
 
 /// Whether the author may enter the decision of an appeal.
-pub fn may_decide(entries: &[Entered], decision: &Entry, author: CallerId) -> bool
+pub(crate) fn may_decide(entries: &[Entered], decision: &Entry, author: CallerId) -> bool
     ensures { result ≡ may_decide entries.now decision.now author }
 {
     let mut pending = false;
@@ -112,7 +112,7 @@ pub fn may_decide(entries: &[Entered], decision: &Entry, author: CallerId) -> bo
 }
 
 /// The least day on which a pending appeal against a refusal was heard.
-pub fn heard_since(entries: &[Entered]) -> Option<Day>
+pub(crate) fn heard_since(entries: &[Entered]) -> Option<Day>
     ensures { (today : ℕ) → is_overdue entries.now today ≡ has_come days_to_decide result today }
 {
     let mut pending = false;
@@ -141,7 +141,7 @@ fn heard_after(heard: Option<Day>, pending: bool, entry: &Entry, day: Day) -> Op
 }
 
 /// The earlier of a day, if there is one, and another.
-pub fn earlier(before: Option<Day>, day: Day) -> Option<Day>
+pub(crate) fn earlier(before: Option<Day>, day: Day) -> Option<Day>
     ensures { result ≡ earlier before day }
 {
     match before {

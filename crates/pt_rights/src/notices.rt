@@ -48,7 +48,7 @@ fn count_missed(tallies: &[Tally], policy: &Policy, today: Day) -> usize
 }
 
 /// Whether the rider has missed trips in a pattern, as the policy has it.
-pub fn is_pattern(tallies: &[Tally], policy: &Policy, today: Day) -> bool
+pub(crate) fn is_pattern(tallies: &[Tally], policy: &Policy, today: Day) -> bool
     ensures { result ≡ is_pattern tallies.now policy.now today }
 {
     let recent = count_recent(tallies, policy, today) as u128;
@@ -57,7 +57,7 @@ pub fn is_pattern(tallies: &[Tally], policy: &Policy, today: Day) -> bool
 }
 
 /// Whether a notice waits for its hearing.
-pub fn awaits_notice_hearing(entries: &[Entered]) -> bool
+pub(crate) fn awaits_notice_hearing(entries: &[Entered]) -> bool
     ensures { result ≡ awaits_notice_hearing entries.now }
 {
     let mut awaited = false;
@@ -68,7 +68,7 @@ pub fn awaits_notice_hearing(entries: &[Entered]) -> bool
 }
 
 /// Whether the rider was heard on a notice that no suspension has followed.
-pub fn may_suspend(entries: &[Entered]) -> bool
+pub(crate) fn may_suspend(entries: &[Entered]) -> bool
     ensures { result ≡ may_suspend entries.now }
 {
     let mut noticed = false;
@@ -82,7 +82,7 @@ pub fn may_suspend(entries: &[Entered]) -> bool
 }
 
 /// Whether a suspension entered today may last from the one day to the other.
-pub fn is_term(today: Day, starts: Day, ends: Day) -> bool
+pub(crate) fn is_term(today: Day, starts: Day, ends: Day) -> bool
     ensures { result ≡ is_term today starts ends }
 {
     today < starts && starts <= ends && ends.number() <= starts.number() + MOST_FURTHER_DAYS

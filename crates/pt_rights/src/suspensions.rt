@@ -12,7 +12,7 @@ use pt_base::Day;
 const POSITIONS: usize = 256;
 
 /// Whether some suspension that has effect holds on the day.
-pub fn is_suspended(entries: &[Entered], day: Day) -> bool
+pub(crate) fn is_suspended(entries: &[Entered], day: Day) -> bool
     requires { length entries.now ≤ most_entries }
     ensures { result ≡ is_suspended entries.now day }
 {

@@ -1,7 +1,6 @@
 -- What is scheduled where the routes are those of a day.
 use Rattle.std.proofs.Common.{◌≡◌, ℕ, ◌<◌, List, Option, None, Result, Ok, map, Any, All, AllPairs, ap, subst, ◌∙◌}
 use Rattle.std.specs.Prelude.{◌↔◌}
-use Rattle.pt_base.specs.declared.fault.Fault.{Fault}
 use Rattle.pt_base.specs.declared.trip.Trip.{Trip}
 use Rattle.pt_feasible.specs.Route.{stops_of}
 use Rattle.pt_feasible.specs.declared.stop.Stop.{Stop}
@@ -38,7 +37,7 @@ plan_with minutes vehicles trip chosen stops plan same some is =
     (λ duty new. (stops, new, is ∙ ap (λ (v : ℕ). record { vehicle = v; day = trip.wish.day; stops = map planned_stop stops }) same)) vehicles some
 
 -- what is booked is scheduled
-pub booked : (minutes : ℕ → ℕ → Option ℕ) (vehicles : List OnDuty) (request : Request) (result : Result Decision Fault) (decided : Decision) (there : Booking) (plan : Plan)
+pub booked : {E : Type 0} (minutes : ℕ → ℕ → Option ℕ) (vehicles : List OnDuty) (request : Request) (result : Result Decision E) (decided : Decision) (there : Booking) (plan : Plan)
     → result ≡ Ok decided → decided ≡ decision.Booked there
     → (booking.IsAllowed result ↔ IsFirstFailing (booking_rules minutes vehicles request) None)
     → booking.IfBooked result (λ b. IsBestPlace minutes vehicles (asked_for minutes request) b.chosen)
@@ -46,12 +45,12 @@ pub booked : (minutes : ℕ → ℕ → Option ℕ) (vehicles : List OnDuty) (re
     → booking.IfBooked result (λ b. Any (λ duty. IsNewRoute minutes duty b.trip b.chosen (stops_of b.route)) vehicles)
     → plan ≡ record { vehicle = there.trip.vehicle; day = there.trip.wish.day; stops = map planned_stop (stops_of there.route) }
     → IsScheduled minutes vehicles request (Booked there.trip plan)
-booked minutes vehicles request result decided there plan is which allowed best trip route plan_is =
+booked {E} minutes vehicles request result decided there plan is which allowed best trip route plan_is =
     let whole : result ≡ Ok (decision.Booked there) = is ∙ ap (λ (d : Decision). Ok d) which in
-    let allowed' = subst (λ (r : Result Decision Fault). booking.IsAllowed r ↔ IsFirstFailing (booking_rules minutes vehicles request) None) whole allowed in
-    let best' = subst (λ (r : Result Decision Fault). booking.IfBooked r (λ b. IsBestPlace minutes vehicles (asked_for minutes request) b.chosen)) whole best in
-    let trip' = subst (λ (r : Result Decision Fault). booking.IfBooked r (λ b. IsTripOf minutes request b.chosen b.trip)) whole trip in
-    let route' = subst (λ (r : Result Decision Fault). booking.IfBooked r (λ b. Any (λ duty. IsNewRoute minutes duty b.trip b.chosen (stops_of b.route)) vehicles)) whole route in (
+    let allowed' = subst (λ (r : Result Decision E). booking.IsAllowed r ↔ IsFirstFailing (booking_rules minutes vehicles request) None) whole allowed in
+    let best' = subst (λ (r : Result Decision E). booking.IfBooked r (λ b. IsBestPlace minutes vehicles (asked_for minutes request) b.chosen)) whole best in
+    let trip' = subst (λ (r : Result Decision E). booking.IfBooked r (λ b. IsTripOf minutes request b.chosen b.trip)) whole trip in
+    let route' = subst (λ (r : Result Decision E). booking.IfBooked r (λ b. Any (λ duty. IsNewRoute minutes duty b.trip b.chosen (stops_of b.route)) vehicles)) whole route in (
       allowed'.0 tt,
       (
         there.chosen,

@@ -75,13 +75,12 @@ fn book_in<T: Times>(
     if !are_without_trip(duties, request.trip) {
         return Ok(Scheduled::Denied(Rule::NoVehicle));
     }
-    match book(alloc, request, duties, times) {
-        Ok(Decision::Booked(booking)) => Ok(Scheduled::Booked {
+    match book(alloc, request, duties, times)? {
+        Decision::Booked(booking) => Ok(Scheduled::Booked {
             plan: plan_of(alloc, &booking)?,
             trip: booking.trip,
         }),
-        Ok(Decision::Denied(rule)) => Ok(Scheduled::Denied(rule)),
-        Err(_) => Err(AllocError),
+        Decision::Denied(rule) => Ok(Scheduled::Denied(rule)),
     }
 }
 

@@ -6,7 +6,7 @@ use crate::Times;
 use crate::matrix::{self, Line};
 use crate::places::Places;
 use crate::raw::{MOST_MINUTES, Raw};
-use pt_base::{Fault, PlaceId};
+use pt_base::PlaceId;
 use std::alloc::{AllocError, Global};
 
 /// The driving times by the least chains of a table's rows.
@@ -19,15 +19,13 @@ pub struct Closed {
 }
 
 impl Closed {
-    ghost use Rattle.std.specs.Prelude.{IfOk, IfErr};
-    ghost use Rattle.pt_base.specs.Codes.{memory_refused};
+    ghost use Rattle.std.specs.Prelude.{IfOk};
     ghost use Rattle.pt_travel.specs.Chain.{IsTime};
     ghost use Rattle.pt_travel.specs.Times.{time_in};
 
     /// The closure of a table, whose memory is asked for at once.
-    pub fn of(alloc: Global, raw: &Raw) -> Result<Self, Fault>
+    pub fn of(alloc: Global, raw: &Raw) -> Result<Self, AllocError>
         ensures least { IfOk result (λ closed. (from to : ℕ) → IsTime raw.now from to (time_in closed from to)) }
-        ensures refused { IfErr result (λ fault. fault ≡ record { code = memory_refused; row = 0 }) }
     {
         let places = raw.places();
         let mut lines = matrix::direct(alloc, raw.rows(), &places)?;

@@ -7,7 +7,7 @@ use crate::raw::MOST_MINUTES;
 use pt_base::PlaceId;
 
 /// The place among these that a field of 1 to 10 digits names.
-pub fn place(field: &[u8], places: &Places) -> Option<PlaceId>
+pub(crate) fn place(field: &[u8], places: &Places) -> Option<PlaceId>
     ensures { MatchOption result (IsPlace (list_of places.now) field.now → ⊥)
         (λ place. IsPlace (list_of places.now) field.now × (place ≡ number_of field.now)) }
 {
@@ -15,7 +15,7 @@ pub fn place(field: &[u8], places: &Places) -> Option<PlaceId>
 }
 
 /// The minutes that a field of 1 to 4 digits gives, at most 1439.
-pub fn minutes(field: &[u8]) -> Option<u16>
+pub(crate) fn minutes(field: &[u8]) -> Option<u16>
     ensures { MatchOption result (IsMinutes field.now → ⊥)
         (λ minutes. IsMinutes field.now × (minutes ≡ number_of field.now)) }
 {

@@ -10,13 +10,13 @@ use crate::raw::{MOST_PLACES, Row};
 use std::alloc::{AllocError, Global};
 
 /// No way within a day.
-pub const NO_WAY: u16 = 1440;
+pub(crate) const NO_WAY: u16 = 1440;
 
 /// The minutes from one place to each place, by their positions; the rest of the line is not read.
-pub type Line = [u16; MOST_PLACES];
+pub(crate) type Line = [u16; MOST_PLACES];
 
 /// The lines of a table's places, with its rows standing in them.
-pub fn direct(alloc: Global, rows: &[Row], places: &Places) -> Result<Vec<Line>, AllocError>
+pub(crate) fn direct(alloc: Global, rows: &[Row], places: &Places) -> Result<Vec<Line>, AllocError>
     requires named { NamesOnly (list_of places.now) rows.now }
     ensures { IfOk result (λ lines. IsClosedOver rows.now (list_of places.now) 0 lines.items) }
 {
@@ -62,7 +62,7 @@ fn put(lines: &mut Vec<Line>, places: &Places, row: &Row)
 }
 
 /// Takes the way over the place at `k` wherever it is shorter.
-pub fn shorten(lines: &mut Vec<Line>, k: usize)
+pub(crate) fn shorten(lines: &mut Vec<Line>, k: usize)
     requires in_range { k < length lines.old.items }
     requires few { length lines.old.items ≤ 100 }
     requires capped { IsCapped lines.old.items }

@@ -9,7 +9,7 @@ const GUESSES: usize = 1024;
 
 /// Places, each once and at most 100.
 #[derive(Clone, Copy, Debug)]
-pub struct Places {
+pub(crate) struct Places {
     numbers: [u32; MOST_PLACES],
     len: usize,
     // By a hash of a place's number, where it was put, unless another place of that hash came later.

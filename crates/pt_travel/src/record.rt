@@ -15,7 +15,7 @@ use pt_base::Fault;
 use pt_base::fault::{TRAVEL_HEADER, TRAVEL_MINUTES, TRAVEL_PLACE, TRAVEL_RECORD};
 
 /// Takes the record of this number: the header row, or a row to stand among the others in order.
-pub fn take(
+pub(crate) fn take(
     rows: &mut Vec<Row>,
     places: &Places,
     given: &ByteRecord,

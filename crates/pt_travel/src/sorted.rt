@@ -9,7 +9,7 @@ use pt_base::fault::TRAVEL_PAIR;
 use std::alloc::AllocError;
 
 /// Puts a row among others in order, unless it is there; `number` is that of its record.
-pub fn put(rows: &mut Vec<Row>, row: Row, number: u32) -> Result<(), Fault>
+pub(crate) fn put(rows: &mut Vec<Row>, row: Row, number: u32) -> Result<(), Fault>
     requires { Rises rows.old.items }
     ensures rises { OnOk result (Rises rows.new.items) }
     ensures rows { OnOk result ((other : ℕ × ℕ × ℕ) → Contains rows.new.items other

@@ -58,4 +58,4 @@ returns c =
         ),
       ),
     ) in
-    rw c.first_failing.ensures (first_failing-tests tests (riders_rules (request_of c.args.request.now)) decide)
+    rw c.first_failing.ensures.value (first_failing-tests tests (riders_rules (request_of c.args.request.now)) decide)

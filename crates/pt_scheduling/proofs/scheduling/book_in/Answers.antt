@@ -8,10 +8,10 @@ pub returns-then-not-are_without_trip : goal.returns-then-not-are_without_trip
 returns-then-not-are_without_trip g c =
     inr (λ are. absurd (let holds = c.are_without_trip.ensures.1 (are_without c.args.request.now.trip c.args.duties.now are) in cc), refl)
 
-pub returns-in_ok-plan_of-in-Ok-Booked : goal.returns-in_ok-plan_of-in-Ok-Booked
-returns-in_ok-plan_of-in-Ok-Booked g c =
-    booked (g.T.Times.minutes c.args.times.now) (on_duty c.args.duties.now) (request_of c.args.request.now) c.book.result c.in-Ok-Booked.field-0 c.in-Ok-Booked.booking _
-    c.in-Ok-Booked.is c.in-Ok-Booked.field-0-is c.book.ensures.allowed c.book.ensures.place c.book.ensures.trip c.book.ensures.route c.in_ok-plan_of-in-Ok-Booked.ensures
+pub returns-in_ok-plan_of-in-Booked : goal.returns-in_ok-plan_of-in-Booked
+returns-in_ok-plan_of-in-Booked g c =
+    booked (g.T.Times.minutes c.args.times.now) (on_duty c.args.duties.now) (request_of c.args.request.now) c.book.result c.in_ok-booking.field-0 c.in-Booked.booking _
+    c.in_ok-booking.was c.in-Booked.is c.book.ensures.allowed c.book.ensures.place c.book.ensures.trip c.book.ensures.route c.in_ok-plan_of-in-Booked.ensures
 
-pub returns-in-Ok-Denied : goal.returns-in-Ok-Denied
-returns-in-Ok-Denied g c = inl ((c.book.ensures.denied c.in-Ok-Denied.rule).0 (c.in-Ok-Denied.is ∙ ap Ok c.in-Ok-Denied.field-0-is))
+pub returns-in-Denied : goal.returns-in-Denied
+returns-in-Denied g c = inl ((c.book.ensures.denied c.in-Denied.rule).0 (c.in_ok-booking.was ∙ ap Ok c.in-Denied.is))

@@ -42,12 +42,14 @@ unwrap-requires-2 c =
     c.loop-k.k (length (stops_of c.args.self.now) + 2) c.loop-k.invariant.copied (omega arith) count in
     c.of.ensures.is_route.1 (omega arith, subst IsPaired (sym same) paired)
 
-pub returns-clause-value : goal.returns-clause-value
-returns-clause-value c =
-    let count : length (with_trip c.args.asked.now c.args.chosen.now.i c.args.chosen.now.j (stops_of c.args.self.now))
-    ≡ length (stops_of c.args.self.now) + 2 =
-    length-with_trip c.args.asked.now c.args.chosen.now.i c.args.chosen.now.j (stops_of c.args.self.now)
-    c.requires.drop_later c.requires.among in
-    let made : stops_of c.unwrap-2.result ≡ c.loop-k.stops.items = search rules in
-    made ∙ copied_all c.loop-k.stops.items (with_trip c.args.asked.now c.args.chosen.now.i c.args.chosen.now.j (stops_of c.args.self.now))
-    c.loop-k.k (length (stops_of c.args.self.now) + 2) c.loop-k.invariant.copied (omega arith) count
+pub returns : goal.returns
+returns c = record {
+  value =
+      let count : length (with_trip c.args.asked.now c.args.chosen.now.i c.args.chosen.now.j (stops_of c.args.self.now))
+      ≡ length (stops_of c.args.self.now) + 2 =
+      length-with_trip c.args.asked.now c.args.chosen.now.i c.args.chosen.now.j (stops_of c.args.self.now)
+      c.requires.drop_later c.requires.among in
+      let made : stops_of c.unwrap-2.result ≡ c.loop-k.stops.items = search rules in
+      made ∙ copied_all c.loop-k.stops.items (with_trip c.args.asked.now c.args.chosen.now.i c.args.chosen.now.j (stops_of c.args.self.now))
+      c.loop-k.k (length (stops_of c.args.self.now) + 2) c.loop-k.invariant.copied (omega arith) count;
+}

@@ -23,6 +23,7 @@ invariant_of-result c =
       triangles = triangles-all c.args.raw.now (list_of c.places-places.result) c.loop-k.lines.items names (closed-over c) (omega arith);
     }
 
-pub returns-clause-least : goal.returns-clause-least
-returns-clause-least c =
-    times-all c.args.raw.now (list_of c.places-places.result) c.loop-k.lines.items c.places-places.ensures (closed-over ((goal.at.returns-clause-least c).After-loop-k)) (omega arith)
+pub returns : goal.returns
+returns c = record {
+  least = times-all c.args.raw.now (list_of c.places-places.result) c.loop-k.lines.items c.places-places.ensures (closed-over ((goal.at.returns c).After-loop-k)) (omega arith);
+}
