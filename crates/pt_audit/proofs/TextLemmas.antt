@@ -1,25 +1,21 @@
 -- Lines as texts: their words, and that no line's text stands within another's.
-use Rattle.std.proofs.Common.{◌≡◌, ℕ, ◌+◌, ◌≤◌, ◌<◌, false, List, [], ◌∷◌, ◌++◌, map, length, decimal, drop, get_or, Ok, Some, suc, take, refl, sym, ap, ◌∙◌, arith, inl, inr, append-nil, append_assoc, length-append, drop-drop}
-use Rattle.std.specs.Prelude.{◌==◌, Result, codes}
+use Rattle.std.proofs.Common.{◌≡◌, ℕ, ◌+◌, ◌≤◌, ◌<◌, false, List, [], ◌∷◌, ◌++◌, length, decimal, drop, get_or, Some, suc, take, refl, sym, ap, ap₂, subst, ◌∙◌, arith, inl, inr, append_assoc, length-append}
+use Rattle.std.specs.Prelude.{◌==◌, ◌&&◌, if◌then◌else◌, codes, None, Bool, true}
 use Rattle.std.specs.Char.{digit_value}
-use Rattle.std.specs.List.{All, AllByRecursion, slice_split, flat_map, position, position_from}
-use Rattle.std.specs.Str.{IsUtf8}
-use Rattle.std.proofs.lemmas.Str.{IsUtf8-from_ascii}
-use Rattle.std.proofs.lemmas.Str.Ascii.{IsAscii-from_all}
-use Rattle.std.proofs.lemmas.Bool.{cond-false}
+use Rattle.std.specs.List.{All, AllByRecursion, flat_map, position, position_from}
+use Rattle.std.proofs.lemmas.Bool.{cond-false, eqb-true}
+use Rattle.std.proofs.lemmas.Option.{same_Some}
 use Rattle.std.proofs.lemmas.Iterator.Adapters.{position_from-zero}
-use Rattle.std.specs.Str.Parse.{AllDigits, ParsesUnsigned}
+use Rattle.std.specs.Str.Parse.{AllDigits}
 use Rattle.std.proofs.lemmas.Bool.Decides.{nat_tests}
-use Rattle.std.proofs.lemmas.List.{get_or-map, take_at, drop_at, take-append-drop, flat_map_more}
-use Rattle.std.proofs.Math.ListN.{length-map}
-use Rattle.std.proofs.lemmas.Fmt.{parse-decimal, decimal_is_IsNumeral}
-use Rattle.std.proofs.lemmas.List.Elements.{All-from_recursion, All-nil, All-append, All-cons, All-head, All-tail, All-get_or}
-use Rattle.std.proofs.lemmas.List.Splits.{slice_split_none, slice_split_at}
+use Rattle.std.proofs.lemmas.List.{take_at, drop_at, flat_map_more}
+use Rattle.std.proofs.lemmas.Fmt.{decimal_is_IsNumeral}
+use Rattle.std.proofs.lemmas.List.Elements.{All-from_recursion, All-nil, All-append, All-cons, All-head, All-tail}
 use Rattle.pt_audit.specs.declared.line.Line.{Line}
 use Rattle.pt_audit.specs.declared.line.Line.TheVariants as line
 use Rattle.pt_audit.specs.declared.line.Raise.TheVariants as raise
 use Rattle.pt_audit.specs.declared.line.End.TheVariants as end
-use Rattle.pt_audit.specs.Text.{keyword_of, numbers_of, number_text, words_of, line_text, line_from, opening, closing, IsNoLog, FailsAt, IsNumber, IsInForm}
+use Rattle.pt_audit.specs.Text.{keyword_of, numbers_of, number_text, words_of, line_text, count_after, line_with_one, line_with_two, opening, closing, IsNoLog, FailsAt, IsNumber, IsInForm}
 
 -- the bytes that are letters or digits
 abbrev pub IsWord : List ℕ → Type 0
@@ -53,33 +49,6 @@ keyword-word (line.End (end.Overloaded k)) = letters (codes "L") ((omega arith, 
 keyword-word (line.End (end.NoWay k)) = letters (codes "M") ((omega arith, omega arith), tt)
 keyword-word (line.End end.TooLong) = letters (codes "S") ((omega arith, omega arith), tt)
 
--- a word has no space
-spaceless : (c : ℕ) → (48 ≤ c) × (c < 91) → (c == 32) ≡ false
-spaceless c letter = grind (arith, nat_tests)
-
-word-spaceless : (word : List ℕ) → IsWord word → All (λ b. (b == 32) ≡ false) word
-word-spaceless word letters k d inside = spaceless (get_or word k d) (letters k d inside)
-
--- cut at the spaces, a word and numbers after it are that word and the digits of each number
-pub split_words : (word numbers : List ℕ) → IsWord word → All IsNumber numbers → slice_split (λ b. b == 32) (word ++ flat_map number_text numbers) ≡ word ∷ map decimal numbers
-split_words word [] letters small = ap (slice_split (λ b. b == 32)) (append-nil word) ∙ slice_split_none (λ b. b == 32) word (word-spaceless word letters)
-split_words word (n ∷ numbers) letters small =
-    slice_split_at (λ b. b == 32) word 32 (decimal n ++ flat_map number_text numbers) (word-spaceless word letters) refl
-    ∙ ap (λ (parts : List (List ℕ)). word ∷ parts) (split_words (decimal n) numbers (decimal-word n (All-head IsNumber n numbers small)) (All-tail IsNumber n numbers small))
-
--- the words of a line after the first are its numbers
-pub numbers_split : (text : List ℕ) (line : Line) → IsInForm line → text ≡ words_of line → drop 1 (slice_split (λ b. b == 32) text) ≡ map decimal (numbers_of line)
-numbers_split text line in_form spelled = ap (λ t. drop 1 (slice_split (λ b. b == 32) t)) spelled ∙ ap (drop 1) (split_words (keyword_of line) (numbers_of line) (keyword-word line) in_form)
-
--- a word after the first is one of the numbers, and is read so
-pub number_read : {E : Type 0} (parts : List (List ℕ)) (word : List ℕ) (numbers : List ℕ) (index : ℕ) (r : Result ℕ E) → parts ≡ map decimal numbers → All IsNumber numbers
-    → (index < length parts) × (word ≡ get_or parts index word) → ParsesUnsigned 32 10 word r → (index < length numbers) × (r ≡ Ok (get_or numbers index 0))
-number_read parts word numbers index r same small next parsed =
-    let inside : index < length numbers = (let within = next.0 in omega (arith, ap length same, length-map numbers decimal)) in
-    let top = All-get_or IsNumber numbers index 0 inside small in
-    let digits : word ≡ decimal (get_or numbers index 0) = next.1 ∙ ap (λ ps. get_or ps index word) same ∙ get_or-map decimal numbers index 0 word inside in
-    (inside, parse-decimal 32 (get_or numbers index 0) word r (omega arith) (omega arith) digits parsed)
-
 -- a line has at most three numbers
 pub few_numbers : (line : Line) → length (numbers_of line) ≤ 3
 few_numbers line.NoDirect = omega arith
@@ -93,32 +62,226 @@ few_numbers (line.End (end.Overloaded k)) = omega arith
 few_numbers (line.End (end.NoWay k)) = omega arith
 few_numbers (line.End end.TooLong) = omega arith
 
--- the bytes of a line are ASCII
-words-ascii : (numbers : List ℕ) → All IsNumber numbers → All (λ b. b < 128) (flat_map number_text numbers)
-words-ascii [] small = All-nil (λ b. b < 128)
-words-ascii (n ∷ numbers) small =
-    let digits = decimal-word n (All-head IsNumber n numbers small) in
-    All-append (λ b. b < 128) (32 ∷ decimal n) (flat_map number_text numbers)
-    (All-cons (λ b. b < 128) 32 (decimal n) (omega arith) (λ k d inside. omega (arith, (digits k d inside).1)))
-    (words-ascii numbers (All-tail IsNumber n numbers small))
+-- how many numbers a line has is told by its first letter
+pub count_of : (line : Line) → count_after (get_or (words_of line) 0 0) ≡ length (numbers_of line)
+count_of line.NoDirect = refl
+count_of (line.Case v i j) = refl
+count_of (line.Raise (raise.Window k n)) = refl
+count_of (line.Raise (raise.Drive k n)) = refl
+count_of (line.Raise (raise.Ride k n)) = refl
+count_of (line.Raise (raise.Duration n)) = refl
+count_of (line.End (end.Late k)) = refl
+count_of (line.End (end.Overloaded k)) = refl
+count_of (line.End (end.NoWay k)) = refl
+count_of (line.End end.TooLong) = refl
 
-pub words-utf8 : (line : Line) → IsInForm line → IsUtf8 (words_of line)
-words-utf8 line in_form = IsUtf8-from_ascii (words_of line) (IsAscii-from_all (words_of line)
-    (All-append (λ b. b < 128) (keyword_of line) (flat_map number_text (numbers_of line))
-    (λ k d inside. omega (arith, (keyword-word line k d inside).1)) (words-ascii (numbers_of line) in_form)))
+pub first_letter : (line : Line) (more : List ℕ) → get_or (words_of line ++ more) 0 0 ≡ get_or (words_of line) 0 0
+first_letter line.NoDirect more = refl
+first_letter (line.Case v i j) more = refl
+first_letter (line.Raise (raise.Window k n)) more = refl
+first_letter (line.Raise (raise.Drive k n)) more = refl
+first_letter (line.Raise (raise.Ride k n)) more = refl
+first_letter (line.Raise (raise.Duration n)) more = refl
+first_letter (line.End (end.Late k)) more = refl
+first_letter (line.End (end.Overloaded k)) more = refl
+first_letter (line.End (end.NoWay k)) more = refl
+first_letter (line.End end.TooLong) more = refl
 
--- a first letter and the numbers give the line
-pub line_back : (line : Line) → line_from (get_or (words_of line) 0 0) (numbers_of line) ≡ Some line
-line_back line.NoDirect = refl
-line_back (line.Case v i j) = refl
-line_back (line.Raise (raise.Window k n)) = refl
-line_back (line.Raise (raise.Drive k n)) = refl
-line_back (line.Raise (raise.Ride k n)) = refl
-line_back (line.Raise (raise.Duration n)) = refl
-line_back (line.End (end.Late k)) = refl
-line_back (line.End (end.Overloaded k)) = refl
-line_back (line.End (end.NoWay k)) = refl
-line_back (line.End end.TooLong) = refl
+-- the line is read of a letter and a number
+pub record IsOfOne (line : Line) (letter k : ℕ) : Type 0 where
+  pub keyword : keyword_of line ≡ letter ∷ []
+  pub numbers : numbers_of line ≡ k ∷ []
+
+pub of_one : (letter k : ℕ) (made : Line) → line_with_one letter k ≡ Some made → IsOfOne made letter k
+of_one letter k made is = go (letter == 87) (letter == 76) (letter == 77) (eqb-true letter 87) (eqb-true letter 76) (eqb-true letter 77) is
+  where
+    from : (found : Line) → Some found ≡ Some made → IsOfOne found letter k → IsOfOne made letter k
+    from found same parts = subst (λ (l : Line). IsOfOne l letter k) (same_Some found made same) parts
+
+    go : (late overloaded no_way : Bool) → (late ≡ true → letter ≡ 87) → (overloaded ≡ true → letter ≡ 76) → (no_way ≡ true → letter ≡ 77)
+        → (if late then Some (line.End (end.Late k)) else if overloaded then Some (line.End (end.Overloaded k)) else if no_way then Some (line.End (end.NoWay k)) else None) ≡ Some made → IsOfOne made letter k
+    go true overloaded no_way a b c is = from (line.End (end.Late k)) is (record { keyword = ap (λ l. l ∷ []) (sym (a refl)); numbers = refl })
+    go false true no_way a b c is = from (line.End (end.Overloaded k)) is (record { keyword = ap (λ l. l ∷ []) (sym (b refl)); numbers = refl })
+    go false false true a b c is = from (line.End (end.NoWay k)) is (record { keyword = ap (λ l. l ∷ []) (sym (c refl)); numbers = refl })
+    go false false false a b c is = absurd (cc)
+
+pub one_back : (line : Line) → length (numbers_of line) ≡ 1 → (letter k : ℕ) × IsOfOne line letter k × (line_with_one letter k ≡ Some line)
+one_back line.NoDirect one = absurd (omega (arith, one))
+one_back (line.Case v i j) one = absurd (omega (arith, one))
+one_back (line.Raise (raise.Window k n)) one = absurd (omega (arith, one))
+one_back (line.Raise (raise.Drive k n)) one = absurd (omega (arith, one))
+one_back (line.Raise (raise.Ride k n)) one = absurd (omega (arith, one))
+one_back (line.Raise (raise.Duration n)) one = absurd (omega (arith, one))
+one_back (line.End (end.Late k)) one = (87, k, record { keyword = refl; numbers = refl }, refl)
+one_back (line.End (end.Overloaded k)) one = (76, k, record { keyword = refl; numbers = refl }, refl)
+one_back (line.End (end.NoWay k)) one = (77, k, record { keyword = refl; numbers = refl }, refl)
+one_back (line.End end.TooLong) one = absurd (omega (arith, one))
+
+-- the line is read of a letter and two numbers
+pub record IsOfTwo (line : Line) (letter k n : ℕ) : Type 0 where
+  pub keyword : keyword_of line ≡ letter ∷ []
+  pub numbers : numbers_of line ≡ k ∷ n ∷ []
+
+pub of_two : (letter k n : ℕ) (made : Line) → line_with_two letter k n ≡ Some made → IsOfTwo made letter k n
+of_two letter k n made is = go (letter == 70) (letter == 65) (letter == 80) (letter == 84) (k == 0) (eqb-true letter 70) (eqb-true letter 65) (eqb-true letter 80) (eqb-true letter 84) (eqb-true k 0) is
+  where
+    from : (found : Line) → Some found ≡ Some made → IsOfTwo found letter k n → IsOfTwo made letter k n
+    from found same parts = subst (λ (l : Line). IsOfTwo l letter k n) (same_Some found made same) parts
+
+    go : (window drive ride duration zero : Bool) → (window ≡ true → letter ≡ 70) → (drive ≡ true → letter ≡ 65) → (ride ≡ true → letter ≡ 80) → (duration ≡ true → letter ≡ 84) → (zero ≡ true → k ≡ 0)
+        → (if window then Some (line.Raise (raise.Window k n)) else if drive then Some (line.Raise (raise.Drive k n)) else if ride then Some (line.Raise (raise.Ride k n)) else if duration && zero then Some (line.Raise (raise.Duration n)) else None) ≡ Some made → IsOfTwo made letter k n
+    go true drive ride duration zero a b c d e is = from (line.Raise (raise.Window k n)) is (record { keyword = ap (λ l. l ∷ []) (sym (a refl)); numbers = refl })
+    go false true ride duration zero a b c d e is = from (line.Raise (raise.Drive k n)) is (record { keyword = ap (λ l. l ∷ []) (sym (b refl)); numbers = refl })
+    go false false true duration zero a b c d e is = from (line.Raise (raise.Ride k n)) is (record { keyword = ap (λ l. l ∷ []) (sym (c refl)); numbers = refl })
+    go false false false true true a b c d e is = from (line.Raise (raise.Duration n)) is (record { keyword = ap (λ l. l ∷ []) (sym (d refl)); numbers = ap (λ x. x ∷ n ∷ []) (sym (e refl)) })
+    go false false false true false a b c d e is = absurd (cc)
+    go false false false false zero a b c d e is = absurd (cc)
+
+pub two_back : (line : Line) → length (numbers_of line) ≡ 2 → (letter k n : ℕ) × IsOfTwo line letter k n × (line_with_two letter k n ≡ Some line)
+two_back line.NoDirect two = absurd (omega (arith, two))
+two_back (line.Case v i j) two = absurd (omega (arith, two))
+two_back (line.Raise (raise.Window k n)) two = (70, k, n, record { keyword = refl; numbers = refl }, refl)
+two_back (line.Raise (raise.Drive k n)) two = (65, k, n, record { keyword = refl; numbers = refl }, refl)
+two_back (line.Raise (raise.Ride k n)) two = (80, k, n, record { keyword = refl; numbers = refl }, refl)
+two_back (line.Raise (raise.Duration n)) two = (84, 0, n, record { keyword = refl; numbers = refl }, refl)
+two_back (line.End (end.Late k)) two = absurd (omega (arith, two))
+two_back (line.End (end.Overloaded k)) two = absurd (omega (arith, two))
+two_back (line.End (end.NoWay k)) two = absurd (omega (arith, two))
+two_back (line.End end.TooLong) two = absurd (omega (arith, two))
+
+-- only a case has three numbers
+pub three_back : (it : Line) → length (numbers_of it) ≡ 3 → (v i j : ℕ) × (it ≡ line.Case v i j)
+three_back line.NoDirect three = absurd (omega (arith, three))
+three_back (line.Case v i j) three = (v, i, j, refl)
+three_back (line.Raise (raise.Window k n)) three = absurd (omega (arith, three))
+three_back (line.Raise (raise.Drive k n)) three = absurd (omega (arith, three))
+three_back (line.Raise (raise.Ride k n)) three = absurd (omega (arith, three))
+three_back (line.Raise (raise.Duration n)) three = absurd (omega (arith, three))
+three_back (line.End (end.Late k)) three = absurd (omega (arith, three))
+three_back (line.End (end.Overloaded k)) three = absurd (omega (arith, three))
+three_back (line.End (end.NoWay k)) three = absurd (omega (arith, three))
+three_back (line.End end.TooLong) three = absurd (omega (arith, three))
+
+-- one number more before the others
+spelled_more : (n : ℕ) (numbers : List ℕ) (more : List ℕ) → flat_map number_text (n ∷ numbers) ++ more ≡ number_text n ++ (flat_map number_text numbers ++ more)
+spelled_more n numbers more = append_assoc (number_text n) (flat_map number_text numbers) more
+
+-- a number after a number begins with a space
+pub space_ends : (n : ℕ) (more : List ℕ) → get_or (number_text n ++ more) 0 0 < 48
+space_ends n more = omega arith
+
+one_spelled : (line : Line) (letter k : ℕ) → IsOfOne line letter k → (more : List ℕ) → words_of line ++ more ≡ letter ∷ (number_text k ++ more)
+one_spelled line letter k parts more =
+    ap₂ (λ (w : List ℕ) (ns : List ℕ). (w ++ flat_map number_text ns) ++ more) parts.keyword parts.numbers
+    ∙ ap (λ (t : List ℕ). letter ∷ t) (spelled_more k [] more)
+
+-- a letter and a number that make a line are its text
+pub one_line : (line : Line) (letter k : ℕ) (text rest after : List ℕ) → text ≡ letter ∷ rest → IsNumber k → rest ≡ number_text k ++ after → line_with_one letter k ≡ Some line → IsInForm line × (text ≡ words_of line ++ after)
+one_line line letter k text rest after front small spelled is =
+    let parts = of_one letter k line is in (
+      subst (All IsNumber) (sym parts.numbers) (All-cons IsNumber k [] small (All-nil IsNumber)),
+      front ∙ ap (λ (t : List ℕ). letter ∷ t) spelled ∙ sym (one_spelled line letter k parts after),
+    )
+
+-- what stands after the letter of a line with one number
+pub record IsOne (line : Line) (letter : ℕ) (rest more : List ℕ) : Type 0 where
+  pub k : ℕ
+  pub small : IsNumber k
+  pub stands : rest ≡ number_text k ++ more
+  pub makes : line_with_one letter k ≡ Some line
+
+pub one_parts : (line : Line) (letter : ℕ) (text rest more : List ℕ) → IsInForm line → length (numbers_of line) ≡ 1 → text ≡ words_of line ++ more → text ≡ letter ∷ rest → IsOne line letter rest more
+one_parts line letter text rest more in_form one is front =
+    let (first, k, parts, makes) = one_back line one in
+    let same : letter ∷ rest ≡ first ∷ (number_text k ++ more) = sym front ∙ is ∙ one_spelled line first k parts more in
+    record {
+      k = k;
+      small = All-head IsNumber k [] (subst (All IsNumber) parts.numbers in_form);
+      stands = ap (drop 1) same;
+      makes = ap (λ (l : ℕ). line_with_one l k) (ap (λ (t : List ℕ). get_or t 0 0) same) ∙ makes;
+    }
+
+two_spelled : (line : Line) (letter k n : ℕ) → IsOfTwo line letter k n → (more : List ℕ) → words_of line ++ more ≡ letter ∷ (number_text k ++ (number_text n ++ more))
+two_spelled line letter k n parts more =
+    ap₂ (λ (w : List ℕ) (ns : List ℕ). (w ++ flat_map number_text ns) ++ more) parts.keyword parts.numbers
+    ∙ ap (λ (t : List ℕ). letter ∷ t) (spelled_more k (n ∷ []) more ∙ ap (λ (t : List ℕ). number_text k ++ t) (spelled_more n [] more))
+
+-- a letter and two numbers that make a line are its text
+pub two_line : (line : Line) (letter k n : ℕ) (text rest between after : List ℕ) → text ≡ letter ∷ rest → IsNumber k × (rest ≡ number_text k ++ between) → IsNumber n × (between ≡ number_text n ++ after)
+    → line_with_two letter k n ≡ Some line → IsInForm line × (text ≡ words_of line ++ after)
+two_line line letter k n text rest between after front first second is =
+    let parts = of_two letter k n line is in (
+      subst (All IsNumber) (sym parts.numbers) (All-cons IsNumber k (n ∷ []) first.0 (All-cons IsNumber n [] second.0 (All-nil IsNumber))),
+      front ∙ ap (λ (t : List ℕ). letter ∷ t) (first.1 ∙ ap (λ (t : List ℕ). number_text k ++ t) second.1) ∙ sym (two_spelled line letter k n parts after),
+    )
+
+-- what stands after the letter of a line with two numbers
+pub record IsTwo (line : Line) (letter : ℕ) (rest more : List ℕ) : Type 0 where
+  pub k : ℕ
+  pub n : ℕ
+  pub small : IsNumber k
+  pub also_small : IsNumber n
+  pub stands : rest ≡ number_text k ++ (number_text n ++ more)
+  pub makes : line_with_two letter k n ≡ Some line
+
+pub two_parts : (line : Line) (letter : ℕ) (text rest more : List ℕ) → IsInForm line → length (numbers_of line) ≡ 2 → text ≡ words_of line ++ more → text ≡ letter ∷ rest → IsTwo line letter rest more
+two_parts line letter text rest more in_form two is front =
+    let (first, k, n, parts, makes) = two_back line two in
+    let same : letter ∷ rest ≡ first ∷ (number_text k ++ (number_text n ++ more)) = sym front ∙ is ∙ two_spelled line first k n parts more in
+    let form : All IsNumber (k ∷ n ∷ []) = subst (All IsNumber) parts.numbers in_form in
+    record {
+      k = k;
+      n = n;
+      small = All-head IsNumber k (n ∷ []) form;
+      also_small = All-head IsNumber n [] (All-tail IsNumber k (n ∷ []) form);
+      stands = ap (drop 1) same;
+      makes = ap (λ (l : ℕ). line_with_two l k n) (ap (λ (t : List ℕ). get_or t 0 0) same) ∙ makes;
+    }
+
+three_spelled : (v i j : ℕ) (more : List ℕ) → words_of (line.Case v i j) ++ more ≡ codes "CASE" ++ (number_text v ++ (number_text i ++ (number_text j ++ more)))
+three_spelled v i j more =
+    append_assoc (codes "CASE") (flat_map number_text (v ∷ i ∷ j ∷ [])) more
+    ∙ ap (λ (t : List ℕ). codes "CASE" ++ t) (spelled_more v (i ∷ j ∷ []) more
+    ∙ ap (λ (t : List ℕ). number_text v ++ t) (spelled_more i (j ∷ []) more ∙ ap (λ (t : List ℕ). number_text i ++ t) (spelled_more j [] more)))
+
+-- a case's word and numbers are its text
+pub three_line : (v i j : ℕ) (text one two three after : List ℕ) → text ≡ codes "CASE" ++ one → IsNumber v × (one ≡ number_text v ++ two) → IsNumber i × (two ≡ number_text i ++ three) → IsNumber j × (three ≡ number_text j ++ after)
+    → IsInForm (line.Case v i j) × (text ≡ words_of (line.Case v i j) ++ after)
+three_line v i j text one two three after front first second third = (
+  All-cons IsNumber v (i ∷ j ∷ []) first.0 (All-cons IsNumber i (j ∷ []) second.0 (All-cons IsNumber j [] third.0 (All-nil IsNumber))),
+  front ∙ ap (λ (t : List ℕ). codes "CASE" ++ t) (first.1 ∙ ap (λ (t : List ℕ). number_text v ++ t) (second.1 ∙ ap (λ (t : List ℕ). number_text i ++ t) third.1)) ∙ sym (three_spelled v i j after),
+)
+
+-- what stands in the text of a case
+pub record IsThree (made : Line) (text more : List ℕ) : Type 0 where
+  pub v : ℕ
+  pub i : ℕ
+  pub j : ℕ
+  pub is : made ≡ line.Case v i j
+  pub first : IsNumber v
+  pub second : IsNumber i
+  pub third : IsNumber j
+  pub stands : text ≡ codes "CASE" ++ (number_text v ++ (number_text i ++ (number_text j ++ more)))
+
+pub three_parts : (line : Line) (text more : List ℕ) → IsInForm line → length (numbers_of line) ≡ 3 → text ≡ words_of line ++ more → IsThree line text more
+three_parts line text more in_form three is =
+    let (v, i, j, same) = three_back line three in
+    let form : All IsNumber (v ∷ i ∷ j ∷ []) = subst IsInForm same in_form in
+    record {
+      v = v;
+      i = i;
+      j = j;
+      is = same;
+      first = All-head IsNumber v (i ∷ j ∷ []) form;
+      second = All-head IsNumber i (j ∷ []) (All-tail IsNumber v (i ∷ j ∷ []) form);
+      third = All-head IsNumber j [] (All-tail IsNumber i (j ∷ []) (All-tail IsNumber v (i ∷ j ∷ []) form));
+      stands = is ∙ ap (λ (l : Line). words_of l ++ more) same ∙ three_spelled v i j more;
+    }
+
+-- the first letter tells how many numbers a line at the front of a text has
+pub count_told : (line : Line) (text more : List ℕ) (letter : ℕ) → text ≡ words_of line ++ more → get_or text 0 0 ≡ letter → count_after letter ≡ length (numbers_of line)
+count_told line text more letter is first =
+    ap count_after (sym first ∙ ap (λ (t : List ℕ). get_or t 0 0) is ∙ first_letter line more) ∙ count_of line
 
 -- a line has a first letter
 pub some_word : (line : Line) → 0 < length (words_of line)
@@ -232,13 +395,12 @@ fails_no_log text row fails lines log = elim fails [
 ]
 
 -- one more line at the front
-pub one_line_more : (text : List ℕ) (lines : List Line) (line : Line) (at len : ℕ) → text ≡ opening ++ flat_map line_text lines ++ drop at text → take len (drop at text) ≡ line_text line
-    → text ≡ opening ++ flat_map line_text (lines ++ line ∷ []) ++ drop (at + len) text
-one_line_more text lines line at len begins is =
-    let split : drop at text ≡ line_text line ++ drop (at + len) text = sym (take-append-drop len (drop at text)) ∙ ap (λ t. t ++ drop len (drop at text)) is ∙ ap (λ t. line_text line ++ t) (drop-drop len at text) in
-    begins ∙ ap (λ t. (opening ++ flat_map line_text lines) ++ t) split
-    ∙ sym (append_assoc (opening ++ flat_map line_text lines) (line_text line) (drop (at + len) text))
-    ∙ ap (λ t. t ++ drop (at + len) text) (flat_map_more line_text opening lines line)
+pub one_line_more : (text : List ℕ) (lines : List Line) (line : Line) (rest after : List ℕ) → text ≡ opening ++ flat_map line_text lines ++ rest → rest ≡ line_text line ++ after
+    → text ≡ opening ++ flat_map line_text (lines ++ line ∷ []) ++ after
+one_line_more text lines line rest after begins is =
+    begins ∙ ap (λ t. (opening ++ flat_map line_text lines) ++ t) is
+    ∙ sym (append_assoc (opening ++ flat_map line_text lines) (line_text line) after)
+    ∙ ap (λ t. t ++ after) (flat_map_more line_text opening lines line)
 
 -- a line has bytes
 pub some_bytes : (line : Line) → 0 < length (line_text line)

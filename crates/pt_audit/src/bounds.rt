@@ -18,7 +18,7 @@ pub const MAX_VISITS: usize = 104;
 const _: () = prove!(MAX_STOPS + 4 == MAX_VISITS);
 
 /// Whether a raise is right by the bounds that stand before it.
-pub fn is_right_raise<T: Times>(
+pub(crate) fn is_right_raise<T: Times>(
     insertion: &Insertion<'_>,
     times: &T,
     bounds: &Bounds,

@@ -9,7 +9,7 @@ use crate::insertion::Insertion;
 use pt_travel::Times;
 
 /// Where the lines of the case end that begin at `start`; `None` where they are not right.
-pub fn case_end<T: Times>(
+pub(crate) fn case_end<T: Times>(
     lines: &[Line],
     start: usize,
     insertion: &Insertion<'_>,

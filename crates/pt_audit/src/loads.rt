@@ -9,7 +9,7 @@ use pt_base::{Load, TripId};
 use pt_feasible::{Stop, StopKind};
 
 /// Whether more are aboard after the first `k` stops than the vehicle carries.
-pub fn is_overloaded(insertion: &Insertion<'_>, k: usize) -> bool
+pub(crate) fn is_overloaded(insertion: &Insertion<'_>, k: usize) -> bool
     requires { k ≤ length (inserted_stops insertion.now) }
     ensures { IsTrue result
         ↔ ¬ FitsWithin (load_aboard (take k (inserted_stops insertion.now))) insertion.now.vehicle.now }

@@ -1,15 +1,12 @@
-ghost use Rattle.std.specs.Prelude.{◌≡◌, ◌≢◌, ◌⊎◌, ◌↔◌, IsTrue, ℕ, ◌==◌, ◌≤◌, ◌++◌, List, Some, take, drop};
-ghost use Rattle.std.specs.Prelude.{length, position, IsNone, IsSomeAnd, IfSome, IfOk, IfErr};
+ghost use Rattle.std.specs.Prelude.{◌≡◌, ◌≢◌, ◌⊎◌, ◌↔◌, IsTrue, ℕ, ◌+◌, ◌*◌, ◌^◌, ◌<◌, ◌≤◌, ◌∷◌, ◌++◌};
+ghost use Rattle.std.specs.Prelude.{List, length, drop, slice_index, codes, decimal, IsNone, IsSomeAnd, IfSome, IfNone, IfOk, IfErr};
 ghost use Rattle.pt_base.specs.Fault.{fault, fault_at};
 ghost use Rattle.pt_base.specs.Codes.{memory_refused, log_line_refused};
 ghost use Rattle.pt_audit.specs.declared.line.Line.{Line};
-ghost use Rattle.pt_audit.specs.Text.{opening, closing, IsLogText, IsNoLog, FailsAt, IsInForm, numbers_of};
-ghost use Rattle.pt_audit.specs.Text.{words_of, line_text, line_from, line_with_one, line_with_two};
-ghost use Rattle.pt_audit.specs.Text.{line_without};
+ghost use Rattle.pt_audit.specs.Text.{opening, closing, IsLogText, IsNoLog, FailsAt, IsNumber, IsInForm, numbers_of};
+ghost use Rattle.pt_audit.specs.Text.{number_text, words_of, line_text, count_after, line_with_one, line_with_two};
 
-use crate::text::line_text;
 use crate::{End, Line, Log, Raise};
-use arrayvec::ArrayVec;
 use pt_base::Fault;
 use pt_base::fault::LOG_LINE;
 use std::alloc::{AllocError, Global};
@@ -30,9 +27,9 @@ pub fn read_log(alloc: Global, text: &[u8]) -> Result<Log, Fault>
     }
     let mut lines = Vec::new(alloc);
     let mut row: u32 = 2;
-    let mut at = OPENING.len();
-    while !is_closing(&text[at..]) {
-        let Some((line, len)) = first_line(&text[at..]) else {
+    let mut rest = &text[OPENING.len()..];
+    while !is_closing(rest) {
+        let Some((line, after)) = first_line(rest) else {
             return Err(Fault {
                 code: LOG_LINE,
                 row,
@@ -40,7 +37,7 @@ pub fn read_log(alloc: Global, text: &[u8]) -> Result<Log, Fault>
         };
         lines.push(line).map_err(AllocError::from)?;
         row = row.saturating_add(1);
-        at += len;
+        rest = after;
     }
     Ok(Log { lines })
 }
@@ -62,86 +59,70 @@ fn is_closing(text: &[u8]) -> bool
     text == b"DONE\n".as_slice()
 }
 
-/// The first line of the text, and how many bytes it has; `None` where it is not in form.
-fn first_line(text: &[u8]) -> Option<(Line, usize)>
-    ensures line { IfSome result (λ found.
-        IsInForm found.0 × (found.1 ≤ length text.now) × (take found.1 text.now ≡ line_text found.0)) }
+/// The first line of the text, and what follows it; `None` where it is not in form.
+fn first_line(text: &[u8]) -> Option<(Line, &[u8])>
+    ensures line { IfSome result (λ found. IsInForm found.0 × (text.now ≡ line_text found.0 ++ found.1.now)) }
     ensures none { IsNone result → (line : Line) (more : List ℕ) → IsInForm line → text.now ≢ line_text line ++ more }
 {
-    let end = newline(text)?;
-    let line = candidate(&text[..end])?;
-    if !is_text_of(line, &text[..end + 1]) {
+    let (line, rest) = words(text)?;
+    let (end, after) = rest.split_first()?;
+    if *end != b'\n' {
         return None;
     }
-    Some((line, end + 1))
+    Some((line, after))
 }
 
-/// Whether the text is that of the line.
-fn is_text_of(line: Line, text: &[u8]) -> bool
-    ensures value { IsTrue result ↔ (text.now ≡ line_text line) }
-    ensures in_form { IsInForm line }
+/// The first line of the text without its end, and what follows.
+fn words(text: &[u8]) -> Option<(Line, &[u8])>
+    ensures line { IfSome result (λ found. IsInForm found.0 × (text.now ≡ words_of found.0 ++ found.1.now)) }
+    ensures all { (line : Line) (more : List ℕ) → IsInForm line → text.now ≡ words_of line ++ 10 ∷ more
+        → IsSomeAnd result (λ found. (found.0 ≡ line) × (found.1.now ≡ 10 ∷ more)) }
 {
-    line_text(line).as_slice() == text
-}
-
-/// Where the first line ends.
-fn newline(text: &[u8]) -> Option<usize>
-    ensures { result ≡ position (λ byte. byte == 10) text.now }
-{
-    text.iter().position(|byte| *byte == b'\n')
-}
-
-/// The one line that the bytes may be, without their newline.
-fn candidate(bytes: &[u8]) -> Option<Line>
-    ensures { (line : Line) → IsInForm line → bytes.now ≡ words_of line → result ≡ Some line }
-{
-    let letter = *bytes.first()?;
-    let Ok(text) = str::from_utf8(bytes) else {
-        return None;
-    };
-    let numbers = numbers_in(text)?;
-    line_from(letter, numbers.as_slice())
-}
-
-/// The numbers that the words after the first may be.
-fn numbers_in(text: &str) -> Option<ArrayVec<u32, 3>>
-    ensures { (line : Line) → IsInForm line → text.now ≡ words_of line
-        → IsSomeAnd result (λ numbers. numbers.items ≡ numbers_of line) }
-{
-    let mut numbers = ArrayVec::<u32, 3>::new();
-    for word in text.split(' ').skip(1) {
-        let Ok(number) = word.parse::<u32>() else {
-            return None;
-        };
-        if numbers.is_full() {
-            return None;
-        }
-        numbers.push(number);
-    }
-    Some(numbers)
-}
-
-/// The line that a first letter and numbers may be of.
-fn line_from(letter: u8, numbers: &[u32]) -> Option<Line>
-    ensures { result ≡ line_from letter numbers.now }
-{
-    match numbers {
-        [] => line_without(letter),
-        [k] => line_with_one(letter, *k),
-        [k, n] => line_with_two(letter, *k, *n),
-        [vehicle, i, j] if letter == b'C' => Some(Line::Case(*vehicle, *i, *j)),
-        _ => None,
+    let letter = *text.first()?;
+    match count_after(letter) {
+        0 => without_numbers(text),
+        1 => with_one(text),
+        2 => with_two(text),
+        _ => case(text),
     }
 }
 
-fn line_without(letter: u8) -> Option<Line>
-    ensures { result ≡ line_without letter }
+/// How many numbers a line of this first letter has.
+fn count_after(letter: u8) -> u8
+    ensures { result ≡ count_after letter }
 {
     match letter {
-        b'N' => Some(Line::NoDirect),
-        b'S' => Some(Line::End(End::TooLong)),
+        b'N' | b'S' => 0,
+        b'W' | b'L' | b'M' => 1,
+        b'C' => 3,
+        _ => 2,
+    }
+}
+
+/// A line without numbers.
+fn without_numbers(text: &[u8]) -> Option<(Line, &[u8])>
+    ensures line { IfSome result (λ found. IsInForm found.0 × (text.now ≡ words_of found.0 ++ found.1.now)) }
+    ensures all { (line : Line) (more : List ℕ) → length (numbers_of line) ≡ 0 → text.now ≡ words_of line ++ more
+        → IsSomeAnd result (λ found. (found.0 ≡ line) × (found.1.now ≡ more)) }
+{
+    match text {
+        [b'N', b'O', b'D', b'I', b'R', b'E', b'C', b'T', rest @ ..] => Some((Line::NoDirect, rest)),
+        [b'S', rest @ ..] => Some((Line::End(End::TooLong), rest)),
         _ => None,
     }
+}
+
+/// A line with one number.
+fn with_one(text: &[u8]) -> Option<(Line, &[u8])>
+    ensures line { IfSome result (λ found. IsInForm found.0 × (text.now ≡ words_of found.0 ++ found.1.now)) }
+    ensures all { (line : Line) (more : List ℕ) → IsInForm line → length (numbers_of line) ≡ 1
+        → slice_index more 0 < 48 → text.now ≡ words_of line ++ more
+        → IsSomeAnd result (λ found. (found.0 ≡ line) × (found.1.now ≡ more)) }
+{
+    let (letter, rest) = text.split_first()?;
+    let (k, rest) = number(rest)?;
+    let line = line_with_one(*letter, k)?;
+    Some((line, rest))
 }
 
 fn line_with_one(letter: u8, k: u32) -> Option<Line>
@@ -155,6 +136,20 @@ fn line_with_one(letter: u8, k: u32) -> Option<Line>
     }
 }
 
+/// A line with two numbers.
+fn with_two(text: &[u8]) -> Option<(Line, &[u8])>
+    ensures line { IfSome result (λ found. IsInForm found.0 × (text.now ≡ words_of found.0 ++ found.1.now)) }
+    ensures all { (line : Line) (more : List ℕ) → IsInForm line → length (numbers_of line) ≡ 2
+        → slice_index more 0 < 48 → text.now ≡ words_of line ++ more
+        → IsSomeAnd result (λ found. (found.0 ≡ line) × (found.1.now ≡ more)) }
+{
+    let (letter, rest) = text.split_first()?;
+    let (k, rest) = number(rest)?;
+    let (n, rest) = number(rest)?;
+    let line = line_with_two(*letter, k, n)?;
+    Some((line, rest))
+}
+
 fn line_with_two(letter: u8, k: u32, n: u32) -> Option<Line>
     ensures { result ≡ line_with_two letter k n }
 {
@@ -162,7 +157,88 @@ fn line_with_two(letter: u8, k: u32, n: u32) -> Option<Line>
         b'F' => Some(Line::Raise(Raise::Window(k, n))),
         b'A' => Some(Line::Raise(Raise::Drive(k, n))),
         b'P' => Some(Line::Raise(Raise::Ride(k, n))),
-        b'T' => Some(Line::Raise(Raise::Duration(n))),
+        b'T' if k == 0 => Some(Line::Raise(Raise::Duration(n))),
         _ => None,
     }
+}
+
+/// A line that opens a case, with three numbers.
+fn case(text: &[u8]) -> Option<(Line, &[u8])>
+    ensures line { IfSome result (λ found. IsInForm found.0 × (text.now ≡ words_of found.0 ++ found.1.now)) }
+    ensures all { (line : Line) (more : List ℕ) → IsInForm line → length (numbers_of line) ≡ 3
+        → slice_index more 0 < 48 → text.now ≡ words_of line ++ more
+        → IsSomeAnd result (λ found. (found.0 ≡ line) × (found.1.now ≡ more)) }
+{
+    let (vehicle, rest) = number(after_case(text)?)?;
+    let (i, rest) = number(rest)?;
+    let (j, rest) = number(rest)?;
+    Some((Line::Case(vehicle, i, j), rest))
+}
+
+/// What follows the word of a case.
+fn after_case(text: &[u8]) -> Option<&[u8]>
+    ensures some { IfSome result (λ rest. text.now ≡ codes "CASE" ++ rest.now) }
+    ensures none { IfNone result ((rest : List ℕ) → text.now ≢ codes "CASE" ++ rest) }
+{
+    match text {
+        [b'C', b'A', b'S', b'E', rest @ ..] => Some(rest),
+        _ => None,
+    }
+}
+
+/// A space and a number, and what follows its digits; `None` where there is none in form.
+fn number(text: &[u8]) -> Option<(u32, &[u8])>
+    ensures number { IfSome result (λ found. IsNumber found.0 × (text.now ≡ number_text found.0 ++ found.1.now)) }
+    ensures all { (n : ℕ) (more : List ℕ) → IsNumber n → slice_index more 0 < 48 → text.now ≡ number_text n ++ more
+        → IsSomeAnd result (λ found. (found.0 ≡ n) × (found.1.now ≡ more)) }
+{
+    let (space, digits) = text.split_first()?;
+    if *space != b' ' {
+        return None;
+    }
+    let (first, rest) = first_digit(digits)?;
+    if first == 0 {
+        return Some((0, rest));
+    }
+    continued(u32::from(first), rest)
+}
+
+/// The number of which `value` has the first digits and the text the others, and what follows them.
+fn continued(value: u32, text: &[u8]) -> Option<(u32, &[u8])>
+    requires { 0 < value }
+    ensures number { IfSome result (λ found. IsNumber found.0
+        × (decimal value ++ text.now ≡ decimal found.0 ++ found.1.now)) }
+    ensures all { (n : ℕ) (more : List ℕ) → IsNumber n → slice_index more 0 < 48
+        → decimal value ++ text.now ≡ decimal n ++ more
+        → IsSomeAnd result (λ found. (found.0 ≡ n) × (found.1.now ≡ more)) }
+{
+    let mut number = value;
+    let mut rest = text;
+    while let Some((digit, after)) = first_digit(rest) {
+        number = with_digit(number, digit)?;
+        rest = after;
+    }
+    Some((number, rest))
+}
+
+/// The number with one digit more, if it may stand in a log.
+fn with_digit(number: u32, digit: u8) -> Option<u32>
+    ensures some { IfSome result (λ longer. IsNumber longer × (longer ≡ number * 10 + digit)) }
+    ensures none { IfNone result (2 ^ 32 ≤ number * 10 + digit) }
+{
+    let tens = number.checked_mul(10)?;
+    tens.checked_add(u32::from(digit))
+}
+
+/// The value of the digit at the front of the text, and what follows it.
+fn first_digit(text: &[u8]) -> Option<(u8, &[u8])>
+    ensures digit { IfSome result (λ found. (found.0 < 10) × (text.now ≡ (48 + found.0) ∷ found.1.now)) }
+    ensures none { IfNone result ((digit : ℕ) (more : List ℕ) → digit < 10 → text.now ≢ (48 + digit) ∷ more) }
+{
+    let (byte, rest) = text.split_first()?;
+    let digit = byte.checked_sub(b'0')?;
+    if digit > 9 {
+        return None;
+    }
+    Some((digit, rest))
 }

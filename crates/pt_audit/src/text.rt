@@ -47,7 +47,7 @@ fn keyword_of(line: Line) -> &'static [u8]
 }
 
 /// The numbers of the line.
-pub fn numbers_of(line: Line) -> ArrayVec<u32, 3>
+pub(crate) fn numbers_of(line: Line) -> ArrayVec<u32, 3>
     ensures value { result.items ≡ numbers_of line }
     ensures in_form { IsInForm line }
 {

@@ -1,25 +1,24 @@
-use Rattle.std.proofs.Common.{◌≡◌, ◌∙◌, ◌+◌, ℕ, Some, None, take, length, ap, false}
-use Rattle.pt_audit.specs.Text.{words_of, line_text}
-use Rattle.pt_audit.proofs.TextLemmas.{front_line}
+use Rattle.std.proofs.Common.{ℕ, List, ◌∙◌, ◌∷◌, ◌++◌, [], ap, sym, get_or, length, arith, append_assoc}
+use Rattle.pt_audit.specs.Text.{words_of}
 use Rattle.pt_audit.proofs.reading.first_line.Goals as goal
+
+pub returns-in_err-line-clause-none : goal.returns-in_err-line-clause-none
+returns-in_err-line-clause-none c = λ _ line more in_form is. c.in_err-line.ensures.all line more in_form (is ∙ append_assoc (words_of line) (10 ∷ []) more)
 
 pub returns-in_err-end-clause-none : goal.returns-in_err-end-clause-none
 returns-in_err-end-clause-none c = λ _ line more in_form is.
-    let front = front_line c.args.text.now line more in_form is in
-    (let found = front.newline in let told = c.newline.ensures in let nothing : c.newline.result ≡ None = c.in_err-end.was in absurd (cc))
+    let read = c.in_ok-line.ensures.all line more in_form (is ∙ append_assoc (words_of line) (10 ∷ []) more) in
+    omega (arith, c.in_err-end.ensures.cases, ap length read.1)
 
-pub returns-in_err-line-clause-none : goal.returns-in_err-line-clause-none
-returns-in_err-line-clause-none c = λ _ line more in_form is.
-    let front = front_line c.args.text.now line more in_form is in
-    let end : c.in_ok-end.end ≡ length (words_of line) = (let found = front.newline in let told = c.newline.ensures in let here : c.newline.result ≡ Some c.in_ok-end.end = c.in_ok-end.was in cc) in
-    let read = c.candidate.ensures line in_form (ap (λ (n : ℕ). take n c.args.text.now) end ∙ front.words) in
-    (let nothing : c.candidate.result ≡ None = c.in_err-line.was in absurd (cc))
+pub returns-then-end-ne10-clause-none : goal.returns-then-end-ne10-clause-none
+returns-then-end-ne10-clause-none c = λ _ line more in_form is.
+    let read = c.in_ok-line.ensures.all line more in_form (is ∙ append_assoc (words_of line) (10 ∷ []) more) in
+    omega (arith, c.if-end-ne10.true, ap (λ t. get_or t 0 0) (sym c.in_ok-end.ensures.cases.0 ∙ read.1))
 
-pub returns-then-not-is_text_of-clause-none : goal.returns-then-not-is_text_of-clause-none
-returns-then-not-is_text_of-clause-none c = λ _ line more in_form is.
-    let front = front_line c.args.text.now line more in_form is in
-    let end : c.in_ok-end.end ≡ length (words_of line) = (let found = front.newline in let told = c.newline.ensures in let here : c.newline.result ≡ Some c.in_ok-end.end = c.in_ok-end.was in cc) in
-    let read = c.candidate.ensures line in_form (ap (λ (n : ℕ). take n c.args.text.now) end ∙ front.words) in
-    let same : line ≡ c.in_ok-line.line = (let is_there : c.candidate.result ≡ Some c.in_ok-line.line = c.in_ok-line.was in cc) in
-    let whole : take (c.in_ok-end.end + 1) c.args.text.now ≡ line_text c.in_ok-line.line = ap (λ (n : ℕ). take (n + 1) c.args.text.now) end ∙ front.whole ∙ ap line_text same in
-    (let told = c.is_text_of.ensures.value.1 whole in let not : c.is_text_of.result ≡ false = c.if-not-is_text_of.true in absurd (cc))
+pub returns-clause-line : goal.returns-clause-line
+returns-clause-line c = (
+  c.in_ok-line.ensures.line.0,
+  c.in_ok-line.ensures.line.1
+      ∙ ap (λ (t : List ℕ). words_of c.in_ok-line.line ++ t) (c.in_ok-end.ensures.cases.0 ∙ ap (λ (x : ℕ). x ∷ c.in_ok-end.after.now) c.if-end-ne10.false)
+      ∙ sym (append_assoc (words_of c.in_ok-line.line) (10 ∷ []) c.in_ok-end.after.now),
+)
