@@ -51,7 +51,7 @@ pub(crate) fn push_days(days: Weekdays, out: &mut Vec<u8>) -> Result<(), AllocEr
 }
 
 /// A bit for each weekday of the set, the lowest for Monday.
-fn days_byte(days: Weekdays) -> u8
+pub fn days_byte(days: Weekdays) -> u8
     ensures value { result ≡ days_byte days }
     ensures week { IsWeek days }
 {

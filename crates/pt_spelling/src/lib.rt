@@ -1,9 +1,12 @@
 //! The bytes in which the desk keeps a caller's last accepted request, and what the caller was told.
 #![tactic(auto)]
 
+pub use fields::days_byte;
 pub use law::spelling_tells_its_request;
 pub use replies::{KeptReply, LONGEST_REPLY_SPELLING, read_reply, spell_reply};
 pub use requests::spell;
+pub use riders::entry_number;
+pub use settings::{role_number, subject_of};
 pub use spelling::Spelling;
 
 mod fields;

@@ -9,6 +9,7 @@ ghost use Rattle.pt_spelling.specs.declared.replies.TheConstants.{LONGEST_REPLY_
 
 use arrayvec::ArrayVec;
 use pt_base::{Minute, TripId, VehicleId};
+use pt_party::HIGHEST_FARE;
 use pt_requests::{Answer, Confirmation};
 
 /// How many bytes the spelling of a reply has at most.
@@ -16,9 +17,6 @@ pub const LONGEST_REPLY_SPELLING: usize = 25;
 
 /// How many bytes the numbers that tell of a booked trip have together.
 const CONFIRMATION_BYTES: usize = 24;
-
-/// The highest fare of one person, in cents.
-const HIGHEST_FARE: u32 = 100_000;
 
 /// The most that a rider and companions pay together, in cents.
 const HIGHEST_DUE: u32 = 200_000;

@@ -45,9 +45,9 @@ pub(crate) fn push_entry(entry: &Entry, out: &mut Vec<u8>) -> Result<(), AllocEr
     push_particulars(entry, out)
 }
 
-/// How the kind of an entry is told apart.
-fn entry_number(entry: &Entry) -> u8
-    ensures { result ≡ entry_number entry.now }
+/// How the kind of an entry is told apart, from 0.
+pub fn entry_number(entry: &Entry) -> u8
+    ensures value { result ≡ entry_number entry.now }
 {
     match entry {
         Entry::Complete => 0,

@@ -14,9 +14,9 @@ use pt_requests::{Caller, Role};
 use pt_travel::{Raw, Row};
 use std::alloc::AllocError;
 
-/// How a caller's role is told apart.
-fn role_number(role: &Role) -> u8
-    ensures { result ≡ role_number role.now }
+/// How a caller's role is told apart, from 0.
+pub fn role_number(role: &Role) -> u8
+    ensures value { result ≡ role_number role.now }
 {
     match role {
         Role::Rider(_) => 0,
@@ -30,7 +30,7 @@ fn role_number(role: &Role) -> u8
 }
 
 /// The number of the rider or vehicle that the role is about, and 0 for a role about none.
-fn subject_of(role: &Role) -> u32
+pub fn subject_of(role: &Role) -> u32
     ensures value { result ≡ subject_of role.now }
     ensures ranges { IsRole role.now }
 {

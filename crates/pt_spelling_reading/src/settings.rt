@@ -11,13 +11,11 @@ use crate::fields::{
     take_number_in, take_point, take_truth,
 };
 use pt_base::{Place, Policy, Residence, Rider, RiderId, Vehicle, VehicleId};
+use pt_party::HIGHEST_FARE;
 use pt_requests::{Caller, Digest, Role};
 
 /// How many bytes a digest has.
 const DIGEST_BYTES: usize = 32;
-
-/// The most that a fare or a transfer costs, in cents.
-const HIGHEST_FARE: u32 = 100_000;
 
 /// The most wheelchair places of a vehicle.
 const MOST_CHAIRS: u32 = 10;
