@@ -3,7 +3,7 @@ ghost use Rattle.std.specs.Prelude.{length, drop, IfOk, IfErr, OnErr, IfSome};
 ghost use Rattle.std.specs.Io.KnownBytes.{IsAtEnd, ReadConsumes};
 ghost use Rattle.std.specs.IoError.{error_kind};
 ghost use Rattle.pt_base.specs.Fault.{fault};
-ghost use Rattle.pt_base.specs.Codes.{memory_refused, read_failed};
+ghost use Rattle.pt_base.specs.Codes.{read_failed};
 ghost use Rattle.pt_http_inbox.specs.Head.{IsHead, HasNoHead};
 ghost use Rattle.pt_http_inbox.specs.Reads.{most_reads};
 
@@ -41,12 +41,11 @@ pub struct Inbox<R> {
 impl<R: Read + Drop> Inbox<R> {
     ghost use Rattle.pt_http_inbox.specs.Inbox.{held, reader_of, reads_of, ReadsOn};
 
-    /// An inbox that holds nothing yet. The error is want of memory.
-    pub fn new(alloc: Global, reader: R) -> Result<Self, Fault>
+    /// An inbox that holds nothing yet.
+    pub fn new(alloc: Global, reader: R) -> Result<Self, AllocError>
         ensures empty { IfOk result (λ inbox. held inbox ≡ []) }
         ensures reader { IfOk result (λ inbox. reader_of inbox ≡ reader) }
         ensures fresh { IfOk result (λ inbox. reads_of inbox ≡ 0) }
-        ensures memory { IfErr result (λ error. error ≡ fault memory_refused) }
     {
         let bytes = Box::new(alloc, ArrayVec::new()).map_err(AllocError::from)?;
         Ok(Inbox {

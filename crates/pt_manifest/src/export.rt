@@ -1,20 +1,17 @@
-ghost use Rattle.std.specs.Prelude.{◌≡◌, [], ◌∷◌, ◌++◌, decimal, IfOk, IfErr, OnOk};
+ghost use Rattle.std.specs.Prelude.{◌≡◌, [], ◌∷◌, ◌++◌, decimal, IfOk, OnOk};
 ghost use Rattle.std.specs.List.{flat_map};
 ghost use Rattle.csv.specs.Records.{fields_of, partial_of};
 ghost use Rattle.csv.specs.Writing.{default_writer, row_text};
-ghost use Rattle.pt_base.specs.Codes.{memory_refused};
-ghost use Rattle.pt_base.specs.Fault.{fault};
 ghost use Rattle.pt_manifest.specs.Export as spec;
 ghost use Rattle.pt_manifest.specs.Days.{day_text};
 
 use crate::writing::write_day;
 use csv::{ByteRecord, Writer};
 use itoa::Buffer;
-use pt_base::fault::MEMORY;
-use pt_base::{Day, Fault, Trip, TripStatus};
+use pt_base::{Day, Trip, TripStatus};
 use pt_booking::party_of;
 use pt_party::due;
-use std::alloc::Global;
+use std::alloc::{AllocError, Global};
 
 /// The names of the fields.
 const FIELDS: [&[u8]; 11] = [
@@ -32,39 +29,38 @@ const FIELDS: [&[u8]; 11] = [
 ];
 
 /// The trips as CSV under a header, in the order given: by rising number. Cancelled trips are told like others.
-///
-/// The error is want of memory, here and below.
-pub fn trips_csv(alloc: Global, trips: &[Trip]) -> Result<Vec<u8>, Fault>
+pub fn trips_csv(alloc: Global, trips: &[Trip]) -> Result<Vec<u8>, AllocError>
     ensures value { IfOk result (λ bytes. bytes.items ≡ spec.trips_text trips.now) }
-    ensures memory { IfErr result (λ error. error ≡ fault memory_refused) }
 {
     let mut writer = Writer::from_writer(Vec::new(alloc));
     write_header(alloc, &mut writer)?;
     write_trips(alloc, trips, &mut writer)?;
     match writer.into_inner() {
         Ok(text) => Ok(text),
-        Err(_) => Err(Fault::of(MEMORY)),
+        Err(_) => Err(AllocError),
     }
 }
 
 /// Adds the names of the fields.
-fn write_header(alloc: Global, writer: &mut Writer<Vec<u8>>) -> Result<(), Fault>
+fn write_header(alloc: Global, writer: &mut Writer<Vec<u8>>) -> Result<(), AllocError>
     requires { spec.IsBetweenRows writer.old }
     ensures text { OnOk result (spec.written writer.new ≡ spec.written writer.old ++ spec.header) }
     ensures between { OnOk result (spec.IsBetweenRows writer.new) }
-    ensures memory { IfErr result (λ error. error ≡ fault memory_refused) }
 {
     let row = ByteRecord::from_fields(alloc, &FIELDS)?;
     write_row(&row, writer)
 }
 
 /// Adds the trips.
-fn write_trips(alloc: Global, trips: &[Trip], writer: &mut Writer<Vec<u8>>) -> Result<(), Fault>
+fn write_trips(
+    alloc: Global,
+    trips: &[Trip],
+    writer: &mut Writer<Vec<u8>>,
+) -> Result<(), AllocError>
     requires { spec.IsBetweenRows writer.old }
     ensures text { OnOk result (spec.written writer.new
         ≡ spec.written writer.old ++ flat_map spec.trip_line trips.now) }
     ensures between { OnOk result (spec.IsBetweenRows writer.new) }
-    ensures memory { IfErr result (λ error. error ≡ fault memory_refused) }
 {
     for trip in trips {
         write_trip(alloc, trip, writer)?;
@@ -73,11 +69,10 @@ fn write_trips(alloc: Global, trips: &[Trip], writer: &mut Writer<Vec<u8>>) -> R
 }
 
 /// Adds a trip.
-fn write_trip(alloc: Global, trip: &Trip, writer: &mut Writer<Vec<u8>>) -> Result<(), Fault>
+fn write_trip(alloc: Global, trip: &Trip, writer: &mut Writer<Vec<u8>>) -> Result<(), AllocError>
     requires { spec.IsBetweenRows writer.old }
     ensures text { OnOk result (spec.written writer.new ≡ spec.written writer.old ++ spec.trip_line trip.now) }
     ensures between { OnOk result (spec.IsBetweenRows writer.new) }
-    ensures memory { IfErr result (λ error. error ≡ fault memory_refused) }
 {
     let mut day = Vec::new(alloc);
     write_day(b"", trip.wish.day, &mut day)?;
@@ -87,11 +82,10 @@ fn write_trip(alloc: Global, trip: &Trip, writer: &mut Writer<Vec<u8>>) -> Resul
 }
 
 /// Adds the fields of a trip, of which the day comes as text.
-fn push_trip(trip: &Trip, day: &[u8], row: &mut ByteRecord) -> Result<(), Fault>
+fn push_trip(trip: &Trip, day: &[u8], row: &mut ByteRecord) -> Result<(), AllocError>
     requires whole { partial_of row.old ≡ [] }
     requires day { day.now ≡ day_text trip.now.wish.day }
     ensures fields { OnOk result (fields_of row.new ≡ fields_of row.old ++ spec.trip_fields trip.now) }
-    ensures memory { IfErr result (λ error. error ≡ fault memory_refused) }
 {
     push_number(trip.id.number(), row)?;
     push_number(trip.rider.number(), row)?;
@@ -107,37 +101,34 @@ fn push_trip(trip: &Trip, day: &[u8], row: &mut ByteRecord) -> Result<(), Fault>
 }
 
 /// Adds a number as a field.
-fn push_number(number: u32, row: &mut ByteRecord) -> Result<(), Fault>
+fn push_number(number: u32, row: &mut ByteRecord) -> Result<(), AllocError>
     requires { partial_of row.old ≡ [] }
     ensures fields { OnOk result (fields_of row.new ≡ fields_of row.old ++ decimal number ∷ []) }
     ensures whole { OnOk result (partial_of row.new ≡ []) }
-    ensures memory { IfErr result (λ error. error ≡ fault memory_refused) }
 {
     push_text(Buffer::new().format(number).as_bytes(), row)
 }
 
 /// Adds a text as a field.
-fn push_text(text: &[u8], row: &mut ByteRecord) -> Result<(), Fault>
+fn push_text(text: &[u8], row: &mut ByteRecord) -> Result<(), AllocError>
     requires { partial_of row.old ≡ [] }
     ensures fields { OnOk result (fields_of row.new ≡ fields_of row.old ++ text.now ∷ []) }
     ensures whole { OnOk result (partial_of row.new ≡ []) }
-    ensures memory { IfErr result (λ error. error ≡ fault memory_refused) }
 {
     row.push_field(text)?;
     Ok(())
 }
 
 /// Adds a record.
-fn write_row(row: &ByteRecord, writer: &mut Writer<Vec<u8>>) -> Result<(), Fault>
+fn write_row(row: &ByteRecord, writer: &mut Writer<Vec<u8>>) -> Result<(), AllocError>
     requires { spec.IsBetweenRows writer.old }
     ensures text { OnOk result (spec.written writer.new
         ≡ spec.written writer.old ++ row_text default_writer (fields_of row.now)) }
     ensures between { OnOk result (spec.IsBetweenRows writer.new) }
-    ensures memory { IfErr result (λ error. error ≡ fault memory_refused) }
 {
     match writer.write_byte_record(row) {
         Ok(()) => Ok(()),
-        Err(_) => Err(Fault::of(MEMORY)),
+        Err(_) => Err(AllocError),
     }
 }
 

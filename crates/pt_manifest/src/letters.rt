@@ -1,14 +1,11 @@
-ghost use Rattle.std.specs.Prelude.{◌≡◌, ◌++◌, IfOk, IfErr, OnOk};
-ghost use Rattle.pt_base.specs.Codes.{memory_refused};
-ghost use Rattle.pt_base.specs.Fault.{fault};
+ghost use Rattle.std.specs.Prelude.{◌≡◌, ◌++◌, IfOk, OnOk};
 ghost use Rattle.pt_manifest.specs.Letters as spec;
 
 use crate::writing::{write_day, write_number};
-use pt_base::Fault;
 use pt_conditions::condition_text;
 use pt_requests::{Determination, Letter};
 use pt_rights::{Conditions, Grant, Reasons};
-use std::alloc::Global;
+use std::alloc::{AllocError, Global};
 
 /// The words for a decision.
 fn words_of(decision: &Determination) -> &'static [u8]
@@ -25,10 +22,9 @@ fn words_of(decision: &Determination) -> &'static [u8]
     }
 }
 
-/// The letter that tells a rider a decision (49 CFR 37.125(d), (e), (g), (h)). The error is want of memory.
-pub fn decision_letter(alloc: Global, letter: &Letter) -> Result<Vec<u8>, Fault>
+/// The letter that tells a rider a decision (49 CFR 37.125(d), (e), (g), (h)).
+pub fn decision_letter(alloc: Global, letter: &Letter) -> Result<Vec<u8>, AllocError>
     ensures value { IfOk result (λ bytes. bytes.items ≡ spec.letter_text letter.now) }
-    ensures memory { IfErr result (λ error. error ≡ fault memory_refused) }
 {
     let mut out = Vec::new(alloc);
     write_number(b"RIDER ", letter.rider.id.number(), &mut out)?;
@@ -40,14 +36,13 @@ pub fn decision_letter(alloc: Global, letter: &Letter) -> Result<Vec<u8>, Fault>
     Ok(out)
 }
 
-/// Adds the lines that tell more of the decision. The error is want of memory, here and below.
+/// Adds the lines that tell more of the decision.
 fn write_particulars(
     decision: &Determination,
     attendant: bool,
     out: &mut Vec<u8>,
-) -> Result<(), Fault>
+) -> Result<(), AllocError>
     ensures text { OnOk result (out.new.items ≡ out.old.items ++ spec.particulars decision.now attendant) }
-    ensures memory { IfErr result (λ error. error ≡ fault memory_refused) }
 {
     match decision {
         Determination::Granted(grant) | Determination::AppealGranted(grant) => {
@@ -71,9 +66,8 @@ fn write_particulars(
 }
 
 /// Adds what a grant allows, and whether an attendant may come along.
-fn write_grant(grant: &Grant, attendant: bool, out: &mut Vec<u8>) -> Result<(), Fault>
+fn write_grant(grant: &Grant, attendant: bool, out: &mut Vec<u8>) -> Result<(), AllocError>
     ensures text { OnOk result (out.new.items ≡ out.old.items ++ spec.grant_lines grant.now attendant) }
-    ensures memory { IfErr result (λ error. error ≡ fault memory_refused) }
 {
     write_day(b"UNTIL ", grant.until, out)?;
     out.extend_from_slice(b"\nCONDITIONS ")?;
@@ -85,9 +79,8 @@ fn write_grant(grant: &Grant, attendant: bool, out: &mut Vec<u8>) -> Result<(), 
 }
 
 /// Adds the conditions, with a semicolon and a space between each two.
-fn write_conditions(conditions: &Conditions, out: &mut Vec<u8>) -> Result<(), Fault>
+fn write_conditions(conditions: &Conditions, out: &mut Vec<u8>) -> Result<(), AllocError>
     ensures text { OnOk result (out.new.items ≡ out.old.items ++ spec.conditions_text conditions.now) }
-    ensures memory { IfErr result (λ error. error ≡ fault memory_refused) }
 {
     let Some((first, others)) = conditions.as_slice().split_first() else {
         return Ok(());
@@ -108,9 +101,8 @@ fn yes_or_no(value: bool) -> &'static [u8]
 }
 
 /// Adds the line of the reasons.
-fn write_reasons(reasons: &Reasons, out: &mut Vec<u8>) -> Result<(), Fault>
+fn write_reasons(reasons: &Reasons, out: &mut Vec<u8>) -> Result<(), AllocError>
     ensures text { OnOk result (out.new.items ≡ out.old.items ++ spec.reasons_line reasons.now) }
-    ensures memory { IfErr result (λ error. error ≡ fault memory_refused) }
 {
     out.extend_from_slice(b"REASONS ")?;
     out.extend_from_slice(reasons.as_bytes())?;

@@ -1,30 +1,26 @@
-ghost use Rattle.std.specs.Prelude.{◌≡◌, ◌++◌, Some, IfOk, IfErr, OnOk};
+ghost use Rattle.std.specs.Prelude.{◌≡◌, ◌++◌, Some, IfOk, OnOk};
 ghost use Rattle.std.specs.List.{flat_map};
-ghost use Rattle.pt_base.specs.Codes.{memory_refused};
-ghost use Rattle.pt_base.specs.Fault.{fault};
 ghost use Rattle.pt_manifest.specs.Manifests.{day_sheet_text, manifest_text, tour_text};
 ghost use Rattle.pt_manifest.specs.Manifests.{stop_line, depot_line, stop_word, load_text, window_text};
 
 use crate::writing::{write_day, write_minute, write_number};
 use itoa::Buffer;
-use pt_base::{Day, Fault, Load, Minute, PlaceId, Window};
+use pt_base::{Day, Load, Minute, PlaceId, Window};
 use pt_requests::{DaySheet, Tour, TourStop, VehicleSheet};
-use std::alloc::Global;
+use std::alloc::{AllocError, Global};
 
-/// What the vehicle's driver carries on the day. The error is want of memory.
-pub fn manifest(alloc: Global, day: Day, sheet: &VehicleSheet) -> Result<Vec<u8>, Fault>
+/// What the vehicle's driver carries on the day.
+pub fn manifest(alloc: Global, day: Day, sheet: &VehicleSheet) -> Result<Vec<u8>, AllocError>
     ensures value { IfOk result (λ bytes. bytes.items ≡ manifest_text day sheet.now) }
-    ensures memory { IfErr result (λ error. error ≡ fault memory_refused) }
 {
     let mut out = Vec::new(alloc);
     write_manifest(day, sheet, &mut out)?;
     Ok(out)
 }
 
-/// The manifests of all vehicles on duty on a day, and the number of its trips. The error is want of memory.
-pub fn day_sheet(alloc: Global, sheet: &DaySheet) -> Result<Vec<u8>, Fault>
+/// The manifests of all vehicles on duty on a day, and the number of its trips.
+pub fn day_sheet(alloc: Global, sheet: &DaySheet) -> Result<Vec<u8>, AllocError>
     ensures value { IfOk result (λ bytes. bytes.items ≡ day_sheet_text sheet.now) }
-    ensures memory { IfErr result (λ error. error ≡ fault memory_refused) }
 {
     let mut out = Vec::new(alloc);
     write_manifests(sheet.day, &sheet.vehicles, &mut out)?;
@@ -34,10 +30,9 @@ pub fn day_sheet(alloc: Global, sheet: &DaySheet) -> Result<Vec<u8>, Fault>
     Ok(out)
 }
 
-/// Adds the manifests of the vehicles, one after the other. The error is want of memory, here and below.
-fn write_manifests(day: Day, vehicles: &[VehicleSheet], out: &mut Vec<u8>) -> Result<(), Fault>
+/// Adds the manifests of the vehicles, one after the other.
+fn write_manifests(day: Day, vehicles: &[VehicleSheet], out: &mut Vec<u8>) -> Result<(), AllocError>
     ensures text { OnOk result (out.new.items ≡ out.old.items ++ flat_map (manifest_text day) vehicles.now) }
-    ensures memory { IfErr result (λ error. error ≡ fault memory_refused) }
 {
     for vehicle in vehicles {
         write_manifest(day, vehicle, out)?;
@@ -46,9 +41,8 @@ fn write_manifests(day: Day, vehicles: &[VehicleSheet], out: &mut Vec<u8>) -> Re
 }
 
 /// Adds the manifest of a vehicle.
-fn write_manifest(day: Day, sheet: &VehicleSheet, out: &mut Vec<u8>) -> Result<(), Fault>
+fn write_manifest(day: Day, sheet: &VehicleSheet, out: &mut Vec<u8>) -> Result<(), AllocError>
     ensures text { OnOk result (out.new.items ≡ out.old.items ++ manifest_text day sheet.now) }
-    ensures memory { IfErr result (λ error. error ≡ fault memory_refused) }
 {
     write_number(b"VEHICLE ", sheet.vehicle.number(), out)?;
     write_day(b" DAY ", day, out)?;
@@ -63,9 +57,8 @@ fn write_manifest(day: Day, sheet: &VehicleSheet, out: &mut Vec<u8>) -> Result<(
 }
 
 /// Adds the lines of a tour.
-fn write_tour(tour: &Tour, out: &mut Vec<u8>) -> Result<(), Fault>
+fn write_tour(tour: &Tour, out: &mut Vec<u8>) -> Result<(), AllocError>
     ensures text { OnOk result (out.new.items ≡ out.old.items ++ tour_text (Some tour.now)) }
-    ensures memory { IfErr result (λ error. error ≡ fault memory_refused) }
 {
     write_depot(tour.leaves, tour.depot, out)?;
     write_stops(&tour.stops, tour.chairs, out)?;
@@ -73,9 +66,8 @@ fn write_tour(tour: &Tour, out: &mut Vec<u8>) -> Result<(), Fault>
 }
 
 /// Adds the line of a depot.
-fn write_depot(minute: Minute, depot: PlaceId, out: &mut Vec<u8>) -> Result<(), Fault>
+fn write_depot(minute: Minute, depot: PlaceId, out: &mut Vec<u8>) -> Result<(), AllocError>
     ensures text { OnOk result (out.new.items ≡ out.old.items ++ depot_line minute depot) }
-    ensures memory { IfErr result (λ error. error ≡ fault memory_refused) }
 {
     write_minute(minute, out)?;
     write_number(b" DEPOT ", depot.number(), out)?;
@@ -84,9 +76,8 @@ fn write_depot(minute: Minute, depot: PlaceId, out: &mut Vec<u8>) -> Result<(), 
 }
 
 /// Adds the lines of the stops of a vehicle with so many wheelchair places.
-fn write_stops(stops: &[TourStop], chairs: u16, out: &mut Vec<u8>) -> Result<(), Fault>
+fn write_stops(stops: &[TourStop], chairs: u16, out: &mut Vec<u8>) -> Result<(), AllocError>
     ensures text { OnOk result (out.new.items ≡ out.old.items ++ flat_map (stop_line chairs) stops.now) }
-    ensures memory { IfErr result (λ error. error ≡ fault memory_refused) }
 {
     for stop in stops {
         write_stop(stop, chairs, out)?;
@@ -95,9 +86,8 @@ fn write_stops(stops: &[TourStop], chairs: u16, out: &mut Vec<u8>) -> Result<(),
 }
 
 /// Adds the line of a stop.
-fn write_stop(stop: &TourStop, chairs: u16, out: &mut Vec<u8>) -> Result<(), Fault>
+fn write_stop(stop: &TourStop, chairs: u16, out: &mut Vec<u8>) -> Result<(), AllocError>
     ensures text { OnOk result (out.new.items ≡ out.old.items ++ stop_line chairs stop.now) }
-    ensures memory { IfErr result (λ error. error ≡ fault memory_refused) }
 {
     write_minute(stop.minute, out)?;
     out.extend_from_slice(stop_word(stop.window))?;
@@ -111,9 +101,8 @@ fn write_stop(stop: &TourStop, chairs: u16, out: &mut Vec<u8>) -> Result<(), Fau
 }
 
 /// Adds how many sit on seats, and in a vehicle with wheelchair places how many take these.
-fn write_load(load: Load, chairs: u16, out: &mut Vec<u8>) -> Result<(), Fault>
+fn write_load(load: Load, chairs: u16, out: &mut Vec<u8>) -> Result<(), AllocError>
     ensures text { OnOk result (out.new.items ≡ out.old.items ++ load_text chairs load) }
-    ensures memory { IfErr result (λ error. error ≡ fault memory_refused) }
 {
     write_number(b" load ", u32::from(load.seats), out)?;
     if chairs > 0 {
@@ -133,9 +122,8 @@ fn stop_word(window: Option<Window>) -> &'static [u8]
 }
 
 /// Adds the promised window of a pickup, and nothing at a drop.
-fn write_window(window: Option<Window>, out: &mut Vec<u8>) -> Result<(), Fault>
+fn write_window(window: Option<Window>, out: &mut Vec<u8>) -> Result<(), AllocError>
     ensures text { OnOk result (out.new.items ≡ out.old.items ++ window_text window) }
-    ensures memory { IfErr result (λ error. error ≡ fault memory_refused) }
 {
     if let Some(window) = window {
         out.extend_from_slice(b" window ")?;

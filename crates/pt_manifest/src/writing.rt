@@ -1,16 +1,14 @@
-ghost use Rattle.std.specs.Prelude.{◌≡◌, ◌+◌, ◌<◌, ◌++◌, decimal, OnOk, IfErr};
-ghost use Rattle.pt_base.specs.Codes.{memory_refused};
-ghost use Rattle.pt_base.specs.Fault.{fault};
+ghost use Rattle.std.specs.Prelude.{◌≡◌, ◌+◌, ◌<◌, ◌++◌, decimal, OnOk};
 ghost use Rattle.pt_manifest.specs.Days.{day_text};
 ghost use Rattle.pt_manifest.specs.Manifests.{minute_text};
 
 use itoa::Buffer;
-use pt_base::{Day, Fault, Minute};
+use pt_base::{Day, Minute};
+use std::alloc::AllocError;
 
-/// Adds a minute of the day as `HH:MM`. The error is want of memory, here and below.
-pub(crate) fn write_minute(minute: Minute, out: &mut Vec<u8>) -> Result<(), Fault>
+/// Adds a minute of the day as `HH:MM`.
+pub(crate) fn write_minute(minute: Minute, out: &mut Vec<u8>) -> Result<(), AllocError>
     ensures text { OnOk result (out.new.items ≡ out.old.items ++ minute_text minute) }
-    ensures memory { IfErr result (λ error. error ≡ fault memory_refused) }
 {
     let (hour, rest) = (minute.number() / 60, minute.number() % 60);
     let text = [
@@ -33,18 +31,16 @@ fn digit(number: u32) -> u8
 }
 
 /// Adds a label and a day as `YYYY-MM-DD`.
-pub(crate) fn write_day(label: &[u8], day: Day, out: &mut Vec<u8>) -> Result<(), Fault>
+pub(crate) fn write_day(label: &[u8], day: Day, out: &mut Vec<u8>) -> Result<(), AllocError>
     ensures text { OnOk result (out.new.items ≡ out.old.items ++ label.now ++ day_text day) }
-    ensures memory { IfErr result (λ error. error ≡ fault memory_refused) }
 {
     out.extend_from_slice(label)?;
     day.write(out)
 }
 
 /// Adds a label and a number in decimal digits.
-pub(crate) fn write_number(label: &[u8], number: u32, out: &mut Vec<u8>) -> Result<(), Fault>
+pub(crate) fn write_number(label: &[u8], number: u32, out: &mut Vec<u8>) -> Result<(), AllocError>
     ensures text { OnOk result (out.new.items ≡ out.old.items ++ label.now ++ decimal number) }
-    ensures memory { IfErr result (λ error. error ≡ fault memory_refused) }
 {
     out.extend_from_slice(label)?;
     out.extend_from_slice(Buffer::new().format(number).as_bytes())?;

@@ -8,9 +8,10 @@ OnOk-both : {A E P Q S : Type 0} (r : Result A E) → OnOk r P → OnOk r Q → 
 OnOk-both (Ok x) one other both = both one other
 OnOk-both (Err e) one other both = tt
 
-pub returns-clause-text : goal.returns-clause-text
-returns-clause-text c =
-    let label = c.in_ok-extend_from_slice.ensures.items in
-    let day = day_text c.args.day in
-    OnOk-both c.write.result c.write.ensures.text c.write.ensures.only
-    (λ text only. only day (day_text-named c.args.day text.0 text.1) ∙ ap (λ out. out ++ day) label)
+pub returns : goal.returns
+returns c = record {
+  text = let label = c.in_ok-extend_from_slice.ensures.items in
+      let day = day_text c.args.day in
+      OnOk-both c.write.result c.write.ensures.text c.write.ensures.only
+      (λ text only. only day (day_text-named c.args.day text.0 text.1) ∙ ap (λ out. out ++ day) label);
+}
