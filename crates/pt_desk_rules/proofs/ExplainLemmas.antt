@@ -11,6 +11,7 @@ use Rattle.pt_base.specs.declared.rule.Rule.{Rule}
 use Rattle.pt_base.specs.declared.rule.Rule.TheVariants as rule
 use Rattle.pt_base.specs.declared.trip.Wish.{Wish}
 use Rattle.pt_base.specs.declared.vehicle.Vehicle.{Vehicle}
+use Rattle.pt_base.specs.declared.moment.Moment.{Moment}
 use Rattle.pt_booking.proofs.RuleLemmas.{first-behind, first-in-front}
 use Rattle.pt_booking.specs.Planning.{OnDuty, SomeVehicleCan, asked_for, on_duty}
 use Rattle.pt_booking.specs.Request.{Request}
@@ -76,22 +77,22 @@ limits_first true true false first is = λ same. absurd (let both = is in let on
 limits_first true true true first is = absurd (cc)
 
 -- a wish that a rule denies before the trip's own
-pub limited : (wish : Wish) (me : Caller) (now : ℕ × ℕ) (facts : WriteFacts) (first : Rule)
+pub limited : (wish : Wish) (me : Caller) (now : Moment) (facts : WriteFacts) (first : Rule)
     → first_failing (explain_rules wish me facts) ≡ Some first → IsInquiry wish me now facts (inquiry.Denied first)
 limited wish me now facts first is = (
-  subst (λ o. IsExplainedAfter o wish now.0 facts (answer.Denied first)) (sym is) refl,
+  subst (λ o. IsExplainedAfter o wish now.day facts (answer.Denied first)) (sym is) refl,
   λ routes. limits_first (is_dispatcher me.role) (is_some facts.rider && has_ends wish facts.places)
       (nat_lt facts.booking.last_trip last_trip_number) first is,
 )
 
-pub explained : (wish : Wish) (me : Caller) (now : ℕ × ℕ) (facts : WriteFacts) (told : Answer) (found : Option Rule)
-    → first_failing (explain_rules wish me facts) ≡ found → IsExplainedAfter found wish now.0 facts told
+pub explained : (wish : Wish) (me : Caller) (now : Moment) (facts : WriteFacts) (told : Answer) (found : Option Rule)
+    → first_failing (explain_rules wish me facts) ≡ found → IsExplainedAfter found wish now.day facts told
     → IsExplained wish me now facts told
 explained wish me now facts told found is after =
-    subst (λ o. IsExplainedAfter o wish now.0 facts told) (sym is) after
+    subst (λ o. IsExplainedAfter o wish now.day facts told) (sym is) after
 
-pub inquired : (wish : Wish) (me : Caller) (now : ℕ × ℕ) (facts : WriteFacts) (found : Inquiry)
-    → first_failing (explain_rules wish me facts) ≡ None → IsInquiryAfter wish now.0 facts found
+pub inquired : (wish : Wish) (me : Caller) (now : Moment) (facts : WriteFacts) (found : Inquiry)
+    → first_failing (explain_rules wish me facts) ≡ None → IsInquiryAfter wish now.day facts found
     → IsInquiry wish me now facts found
 inquired wish me now facts (inquiry.Facts found) none is = (none, is)
 inquired wish me now facts (inquiry.Denied first) none is =
@@ -251,8 +252,8 @@ pub none_found : (facts : WriteFacts) (trip : ℕ) (wish : Wish) (found : Option
 none_found facts trip wish found is are = subst (λ o. AreRoutesOf facts trip wish o) is are
 
 -- what comes of it all
-pub inquired_by : {E : Type 0} (wish : Wish) (me : Caller) (now : ℕ × ℕ) (facts : WriteFacts) (r : Result Inquiry E)
-    → first_failing (explain_rules wish me facts) ≡ None → IfOk r (λ found. IsInquiryAfter wish now.0 facts found)
+pub inquired_by : {E : Type 0} (wish : Wish) (me : Caller) (now : Moment) (facts : WriteFacts) (r : Result Inquiry E)
+    → first_failing (explain_rules wish me facts) ≡ None → IfOk r (λ found. IsInquiryAfter wish now.day facts found)
     → IfOk r (λ found. IsInquiry wish me now facts found)
 inquired_by wish me now facts (Ok found) none is = inquired wish me now facts found none is
 inquired_by wish me now facts (Err e) none is = tt

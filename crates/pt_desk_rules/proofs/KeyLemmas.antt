@@ -6,6 +6,7 @@ use Rattle.std.specs.Option.{option_map}
 use Rattle.std.proofs.lemmas.Bool.Decides.{eqb_tells}
 use Rattle.std.proofs.lemmas.Option.{same_Some}
 use Rattle.std.proofs.lemmas.Slice.Eq.{bytes_eq-Decides}
+use Rattle.pt_base.specs.declared.moment.Moment.{Moment}
 use Rattle.sha2.specs.Sha256.{sha256}
 use Rattle.pt_records.specs.Records.{put, Each, IsInOrder}
 use Rattle.pt_records.proofs.OrderLemmas.{compared, record_at-put_same, Each-weaker}
@@ -204,7 +205,7 @@ put_stays digest me new callers order one one_after found = elim (which (has_dig
 ]
 
 -- the key's caller after a write that is accepted
-pub key_stays : (key : List ℕ) (me : Caller) (now : ℕ × ℕ) (number : ℕ) (asked : Write) (s new : State)
+pub key_stays : (key : List ℕ) (me : Caller) (now : Moment) (number : ℕ) (asked : Write) (s new : State)
     (told : Answer) → IsSound s → IsSound new → sender key s ≡ Some me
     → IsOutcomeBy (Some me) now number (request.Write asked) s told (Some new)
     → (holder_of key new ≡ holder_of key s) ⊎ GivesAnotherKey key (request.Write asked) s new

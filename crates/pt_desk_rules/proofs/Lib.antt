@@ -11,9 +11,10 @@ pub mod DutyLemmas
 pub mod PrivacyLemmas
 pub mod OutcomeLemmas
 pub mod NumberLemmas
-pub mod AgainLemmas
 mod ShownLemmas
 mod KeyLemmas
-pub mod SameLemmas
+mod ReadLemmas
+mod OneLemmas
+pub mod AgainLemmas
 pub mod ExplainLemmas
 mod RightLemmas

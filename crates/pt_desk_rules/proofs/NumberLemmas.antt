@@ -11,6 +11,7 @@ use Rattle.std.proofs.lemmas.Slice.Eq.{bytes_eq-Decides}
 use Rattle.pt_base.specs.declared.rule.Rule.{Rule}
 use Rattle.pt_base.specs.declared.trip.Trip.{Trip}
 use Rattle.pt_base.specs.declared.trip.Wish.{Wish}
+use Rattle.pt_base.specs.declared.moment.Moment.{Moment}
 use Rattle.pt_records.specs.Records.{edited, put, record_at, Edit}
 use Rattle.pt_records.proofs.OrderLemmas.{record_at-put_same, record_at-put_other}
 use Rattle.pt_records.proofs.TableLemmas.{below_is}
@@ -106,13 +107,13 @@ decided_keeps (write.Outcome trip outcome) kept today facts decided is =
     end_keeps facts.booking.trip outcome kept decided is
 decided_keeps asked kept today facts decided is = subst (Keeps (callers_by asked) kept) (sym is) (refl, refl)
 
-decision_keeps : (first : Option Rule) (asked : Write) (me : Caller) (now : ℕ × ℕ) (sent : Sent) (facts : WriteFacts)
+decision_keeps : (first : Option Rule) (asked : Write) (me : Caller) (now : Moment) (sent : Sent) (facts : WriteFacts)
     (decided : Decision) → IsDecisionAfter first asked me now sent facts decided
     → Keeps (callers_by asked) (kept_in me.id sent decided) decided
 decision_keeps (Some first) asked me now sent facts decided is =
     subst (λ d. Keeps (callers_by asked) (kept_in me.id sent d) d) (sym is) tt
 decision_keeps None asked me now sent facts decided is =
-    decided_keeps asked (kept_in me.id sent decided) now.0 facts decided is
+    decided_keeps asked (kept_in me.id sent decided) now.day facts decided is
 
 -- what an accepted write is told can be kept
 told_again : (told : Answer) → is_of_write told ≡ true → told ≡ answer_of (unwrap_or (reply_of told) reply.Done)
@@ -167,7 +168,7 @@ decided_is_kept asked me number s new told (decision.Accepted says change) above
       others_stay = λ id other. kept_other kept id s new is other;
     }
 
-write_is_kept : (arrival : Arrival) (asked : Write) (me : Caller) (now : ℕ × ℕ) (number : ℕ) (s new : State)
+write_is_kept : (arrival : Arrival) (asked : Write) (me : Caller) (now : Moment) (number : ℕ) (s new : State)
     (told : Answer) → arrival_in s asked me number ≡ arrival
     → IsOutcomeAs arrival asked me now number s told (Some new) → IsKept me number asked told s new
 write_is_kept (Repeated reply) asked me now number s new told comes (tells, leaves) = absurd (cc)
@@ -190,7 +191,7 @@ callers_after asked kept s new (decision.Accepted told change) keeps leaves =
     ap (λ (t : State). t.callers) (same_Some new (applied change s) leaves)
     ∙ ap (λ e. edited caller_key e s.callers) keeps.1
 
-pub write_leaves_callers : (arrival : Arrival) (asked : Write) (me : Caller) (now : ℕ × ℕ) (number : ℕ)
+pub write_leaves_callers : (arrival : Arrival) (asked : Write) (me : Caller) (now : Moment) (number : ℕ)
     (s new : State) (told : Answer) → IsOutcomeAs arrival asked me now number s told (Some new)
     → new.callers ≡ edited caller_key (callers_by asked) s.callers
 write_leaves_callers (Repeated reply) asked me now number s new told (tells, leaves) = absurd (cc)
@@ -253,7 +254,7 @@ own_write me number asked told s new is =
     (is.kept.2 ∙ ap (λ r. Some (kept_by me.id (sent_with number asked) r)) (sym same), is.above)
 
 -- a call by this caller
-own_moves : (me : Caller) (now : ℕ × ℕ) (number : ℕ) (asked : Request) (s : State) (told : Answer)
+own_moves : (me : Caller) (now : Moment) (number : ℕ) (asked : Request) (s : State) (told : Answer)
     (left : Option State) → IsOutcomeBy (Some me) now number asked s told left
     → Moves me.id s (state_after left s) (kept_where me.id number asked told left)
 own_moves me now number (request.Read asked) s told left outcome =
@@ -266,7 +267,7 @@ own_moves me now number (request.Write asked) s told (Some new) outcome =
     (write_is_kept (arrival_in s asked me number) asked me now number s new told refl outcome)
 
 -- and one by another
-other_moves : (id : ℕ) (me : Caller) (now : ℕ × ℕ) (number : ℕ) (asked : Request) (s : State) (told : Answer)
+other_moves : (id : ℕ) (me : Caller) (now : Moment) (number : ℕ) (asked : Request) (s : State) (told : Answer)
     (left : Option State) → id ≢ me.id → IsOutcomeBy (Some me) now number asked s told left
     → Moves id s (state_after left s) None
 other_moves id me now number (request.Read asked) s told left other outcome =
@@ -339,7 +340,7 @@ accepted_numbers_rise id s after (call ∷ later) (outcome, rest) =
     (accepted_numbers_rise id (state_after call.left s) after later rest)
 
 -- what commits a state is a write
-commits_by_write : (found : Option Caller) (now : ℕ × ℕ) (number : ℕ) (asked : Request) (s : State) (told : Answer)
+commits_by_write : (found : Option Caller) (now : Moment) (number : ℕ) (asked : Request) (s : State) (told : Answer)
     (left : Option State) (new : State) → left ≡ Some new → IsOutcomeBy found now number asked s told left
     → IsWrite asked
 commits_by_write None now number asked s told left new is outcome = absurd (let none = sym is ∙ outcome.1 in cc)

@@ -3,6 +3,7 @@ use Rattle.std.proofs.Common.{◌≡◌, ◌∙◌, ℕ, ◌+◌, Bool, true, fa
 use Rattle.pt_base.specs.declared.rule.Rule.{Rule}
 use Rattle.pt_base.specs.declared.trip.Trip.{Trip}
 use Rattle.pt_base.specs.declared.trip.Wish.{Wish}
+use Rattle.pt_base.specs.declared.moment.Moment.{Moment}
 use Rattle.pt_rights.specs.Rules.{first_failing}
 use Rattle.pt_scheduling.specs.Plan.{Plan}
 use Rattle.pt_scheduling.specs.declared.scheduling.Scheduled.TheVariants as scheduled
@@ -66,16 +67,16 @@ decided_is (write.Cancel trip) kept today facts decided is = cancel_is facts.boo
 decided_is (write.Outcome trip outcome) kept today facts decided is = end_is facts.booking.trip outcome kept decided is
 decided_is _ kept today facts decided is = subst IsOfWrite (sym is) refl
 
-pub decision_is : (first : Option Rule) (asked : Write) (me : Caller) (now : ℕ × ℕ) (sent : Sent) (facts : WriteFacts) (decided : Decision)
+pub decision_is : (first : Option Rule) (asked : Write) (me : Caller) (now : Moment) (sent : Sent) (facts : WriteFacts) (decided : Decision)
     → IsDecisionAfter first asked me now sent facts decided → IsOfWrite decided
 decision_is (Some first) asked me now sent facts decided is = subst IsOfWrite (sym is) tt
-decision_is None asked me now sent facts decided is = decided_is asked (kept_in me.id sent decided) now.0 facts decided is
+decision_is None asked me now sent facts decided is = decided_is asked (kept_in me.id sent decided) now.day facts decided is
 
 denial_changes_nothing : (decided : Decision) (s : State) → IsOfWrite decided → is_of_write (told_of decided) ≡ false → left_of decided s ≡ None
 denial_changes_nothing (decision.Denied first) s is other = refl
 denial_changes_nothing (decision.Accepted told change) s is other = absurd (cc)
 
-write_commits_nothing : (arrival : Arrival) (asked : Write) (me : Caller) (now : ℕ × ℕ) (number : ℕ) (s : State) (told : Answer) (left : Option State)
+write_commits_nothing : (arrival : Arrival) (asked : Write) (me : Caller) (now : Moment) (number : ℕ) (s : State) (told : Answer) (left : Option State)
     → IsOutcomeAs arrival asked me now number s told left → is_of_write told ≡ false → left ≡ None
 write_commits_nothing (Repeated reply) asked me now number s told left (tells, leaves) other = leaves
 write_commits_nothing Stale asked me now number s told left (tells, leaves) other = leaves
@@ -85,7 +86,7 @@ write_commits_nothing New asked me now number s told left (decided, is, made, te
     ∙ denial_changes_nothing decided s (decision_is (first_failing (rules_of asked me now facts)) asked me now (sent_with number asked) facts decided is) (ap is_of_write (sym tells) ∙ other)
 
 -- what is not told as an accepted write is, as a denial, commits nothing
-pub commits_nothing : (caller : Option Caller) (now : ℕ × ℕ) (number : ℕ) (asked : Request) (s : State) (told : Answer) (left : Option State)
+pub commits_nothing : (caller : Option Caller) (now : Moment) (number : ℕ) (asked : Request) (s : State) (told : Answer) (left : Option State)
     → IsOutcomeBy caller now number asked s told left → is_of_write told ≡ false → left ≡ None
 commits_nothing None now number asked s told left (tells, leaves) other = leaves
 commits_nothing (Some me) now number (request.Read read) s told left (tells, leaves) other = leaves
@@ -94,7 +95,7 @@ commits_nothing (Some me) now number (request.Write asked) s told left outcome o
     write_commits_nothing (arrival_in s asked me number) asked me now number s told left outcome other
 
 -- nor does a read
-pub read_commits_nothing : (caller : Option Caller) (now : ℕ × ℕ) (number : ℕ) (asked : Read) (s : State) (told : Answer) (left : Option State)
+pub read_commits_nothing : (caller : Option Caller) (now : Moment) (number : ℕ) (asked : Read) (s : State) (told : Answer) (left : Option State)
     → IsOutcomeBy caller now number (request.Read asked) s told left → left ≡ None
 read_commits_nothing None now number asked s told left (tells, leaves) = leaves
 read_commits_nothing (Some me) now number asked s told left (tells, leaves) = leaves

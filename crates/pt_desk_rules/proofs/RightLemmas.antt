@@ -1,8 +1,9 @@
 -- What is denied in a sound state fails the rule that is told, first of all rules.
-use Rattle.std.proofs.Common.{◌≡◌, ◌∙◌, ◌+◌, inl, inr, ℕ, List, Option, Some, None, refl, sym, ap, subst}
+use Rattle.std.proofs.Common.{◌≡◌, ◌∙◌, ◌+◌, inl, inr, ℕ, Option, Some, None, refl, sym, ap, subst}
 use Rattle.pt_base.specs.declared.rule.Rule.{Rule}
 use Rattle.pt_base.specs.declared.trip.Trip.{Trip}
 use Rattle.pt_base.specs.declared.trip.Wish.{Wish}
+use Rattle.pt_base.specs.declared.moment.Moment.{Moment}
 use Rattle.pt_booking.specs.Planning.{booking_rules}
 use Rattle.pt_booking.specs.Rules.{IsFirstFailing}
 use Rattle.pt_rights.specs.Rules.{first_failing}
@@ -25,7 +26,6 @@ use Rattle.pt_desk_rules.specs.declared.facts.WriteFacts.{WriteFacts}
 use Rattle.pt_desk_rules.specs.declared.kept.Arrival.TheVariants.{New}
 use Rattle.pt_desk_rules.specs.declared.kept.Kept.{Kept}
 use Rattle.pt_desk_rules.specs.declared.kept.Sent.{Sent}
-use Rattle.pt_desk_rules.proofs.AgainLemmas.{cancel_is_accepted, denied_first, end_is_accepted, told_denied}
 use Rattle.pt_desk_rules.proofs.DutyLemmas.{has_routes}
 use Rattle.pt_desk_rules.proofs.OutcomeLemmas.{decision_is}
 use Rattle.pt_desk_rules.proofs.SoundLemmas.{change_trip}
@@ -34,6 +34,25 @@ use Rattle.pt_requests.specs.declared.request.Answer.TheVariants as answer
 use Rattle.pt_requests.specs.declared.request.Request.TheVariants as request
 use Rattle.pt_requests.specs.declared.request.Write.{Write}
 use Rattle.pt_requests.specs.declared.request.Write.TheVariants as write
+use Rattle.pt_desk_rules.specs.Deciding.{IsCancelDecided, IsEndDecided}
+use Rattle.pt_desk_rules.specs.Step.{told_of}
+use Rattle.pt_desk_rules.proofs.OutcomeLemmas.{is_of_write, IsOfWrite}
+use Rattle.pt_desk_rules.proofs.OneLemmas.{denied_first}
+
+cancel_is_accepted : (found : Option Trip) (kept : Kept) (facts : WriteFacts) (rule : Rule) (d : Decision)
+    → d ≡ decision.Denied rule → IsCancelDecided found kept facts d → ⊥
+cancel_is_accepted None kept facts rule d denied is = is
+cancel_is_accepted (Some trip) kept facts rule d denied is = absurd (cc)
+
+end_is_accepted : (found : Option Trip) (outcome : Outcome) (kept : Kept) (rule : Rule) (d : Decision)
+    → d ≡ decision.Denied rule → IsEndDecided found outcome kept d → ⊥
+end_is_accepted None outcome kept rule d denied is = is
+end_is_accepted (Some trip) outcome kept rule d denied is = absurd (cc)
+
+-- an acceptance is not told as a denial
+told_denied : (rule : Rule) (d : Decision) → IsOfWrite d → answer.Denied rule ≡ told_of d → d ≡ decision.Denied rule
+told_denied rule (decision.Denied first) of is = cc
+told_denied rule (decision.Accepted told change) of is = absurd (let same = ap is_of_write is ∙ of in cc)
 
 first_of_booking : (change : Trip → Plan → Change) (number : ℕ) (left_out : Option ℕ) (today : ℕ) (wish : Wish)
     (facts : WriteFacts) (rule : Rule) (decided : Decision) → AreRoutes number (routes_for number wish facts)
@@ -84,16 +103,16 @@ first_of_trip (write.Outcome trip outcome) kept today s rule decided routes deni
     end_is_accepted facts.booking.trip outcome kept rule decided denied is
 first_of_trip _ kept today s rule decided routes denied is = absurd (cc)
 
-first_of_all : (first : Option Rule) (asked : Write) (me : Caller) (now : ℕ × ℕ) (sent : Sent) (s : State) (rule : Rule)
+first_of_all : (first : Option Rule) (asked : Write) (me : Caller) (now : Moment) (sent : Sent) (s : State) (rule : Rule)
     (decided : Decision) → HasRoutes s → first_failing (rules_of asked me now (facts_of asked s)) ≡ first
     → decided ≡ decision.Denied rule → IsDecisionAfter first asked me now sent (facts_of asked s) decided
     → IsFirstOfAll asked me now s rule
 first_of_all (Some first) asked me now sent s rule decided routes fails denied is =
     let same : first ≡ rule = cc in inl (fails ∙ ap (λ r. Some r) same)
 first_of_all None asked me now sent s rule decided routes fails denied is =
-    inr (fails, first_of_trip asked (kept_in me.id sent decided) now.0 s rule decided routes denied is)
+    inr (fails, first_of_trip asked (kept_in me.id sent decided) now.day s rule decided routes denied is)
 
-write_denied : (asked : Write) (me : Caller) (now : ℕ × ℕ) (number : ℕ) (s : State) (rule : Rule) (left : Option State)
+write_denied : (asked : Write) (me : Caller) (now : Moment) (number : ℕ) (s : State) (rule : Rule) (left : Option State)
     → HasRoutes s → IsOutcomeAs New asked me now number s (answer.Denied rule) left → IsFirstOfAll asked me now s rule
 write_denied asked me now number s rule left routes (decided, is, made, tells, leaves) =
     let facts = facts_of asked s in

@@ -54,6 +54,7 @@ use Rattle.pt_desk_rules.proofs.PlannedLemmas.{left_standing, plans_after, plans
 use Rattle.pt_scheduling.specs.declared.scheduling.Scheduled.TheVariants as scheduled
 use Rattle.pt_base.specs.declared.trip.Trip.{Trip}
 use Rattle.pt_base.specs.declared.trip.Wish.{Wish}
+use Rattle.pt_base.specs.declared.moment.Moment.{Moment}
 use Rattle.pt_records.specs.declared.span.Span.{Span}
 use Rattle.pt_desk_rules.specs.Step.{state_after, arrival_in, sent_with, left_of, sender, IsOutcome, IsOutcomeBy, IsOutcomeAs}
 use Rattle.pt_desk_rules.specs.Sound.{IsSound, IsNumberedTo, IsSoundFile, IsIn, HasDigest, HasOneHolder, HasSubject, IsOfCaller, IsKeptWrite, HasFiledRider, HasAuthor, HasFirstDay, HasDepot, HasDay, HasPlaces, HasStandingTrips, IsOfPlaces, IsOfRider, IsOnDay, IsPlanned, StandsIn, AreNumberedFrom}
@@ -255,14 +256,14 @@ all_hold : (ordered : List (Rule × Bool)) → first_failing ordered ≡ None �
 all_hold [] none = tt
 all_hold (first ∷ rest) none = let here = holds_first first.0 first.1 rest none in (here.0, all_hold rest here.1)
 
-enter_sound : (rider : ℕ) (entry : Entry) (me : Caller) (now : ℕ × ℕ) (s : State) → IsSound s
+enter_sound : (rider : ℕ) (entry : Entry) (me : Caller) (now : Moment) (s : State) → IsSound s
     → IsIn caller_key s.callers me.id → AllHold (rules_of (write.Enter rider entry) me now
-    (facts_of (write.Enter rider entry) s)) → IsEntry entry → IsDay now.0
-    → IsSound (record s { entries = put entry_key (record { rider = rider; position = length (file_of rider s); entered = record { entry = entry; day = now.0; author = me.id } }) s.entries })
+    (facts_of (write.Enter rider entry) s)) → IsEntry entry → IsDay now.day
+    → IsSound (record s { entries = put entry_key (record { rider = rider; position = length (file_of rider s); entered = record { entry = entry; day = now.day; author = me.id } }) s.entries })
 enter_sound rider entry me now s sound there hold is_entry on =
     let room = below_is (length (file_of rider s)) 200 hold.1.1.0 in
     let whole = whole_file rider s room in
-    put_entry_sound (record { rider = rider; position = length (file_of rider s); entered = record { entry = entry; day = now.0; author = me.id } }) s sound
+    put_entry_sound (record { rider = rider; position = length (file_of rider s); entered = record { entry = entry; day = now.day; author = me.id } }) s sound
     hold.1.0 there whole (omega arith) (record { on_day = on; ranges = is_entry })
 
 driver_stays : (new : Vehicle) (riders : List Rider) (vehicles : List Vehicle) (role : Role) → HasFirstDay new → Each HasFirstDay vehicles → IsTrue (has_subject role riders vehicles)
@@ -626,47 +627,47 @@ cancel_trip None s = refl
 cancel_trip (Some trip) s = refl
 
 -- what an accepted write makes of a sound state
-decided_sound : (asked : Write) (me : Caller) (now : ℕ × ℕ) (sent : Sent) (s : State) (decided : Decision) → IsSound s → IsKeptIn s.callers (kept_in me.id sent decided) → AllHold (rules_of asked me now (facts_of asked s))
-    → IsDecidedBy asked (kept_in me.id sent decided) now.0 (facts_of asked s) decided → IsMadeIf decided asked now.0 → IsSound (state_after (left_of decided s) s)
+decided_sound : (asked : Write) (me : Caller) (now : Moment) (sent : Sent) (s : State) (decided : Decision) → IsSound s → IsKeptIn s.callers (kept_in me.id sent decided) → AllHold (rules_of asked me now (facts_of asked s))
+    → IsDecidedBy asked (kept_in me.id sent decided) now.day (facts_of asked s) decided → IsMadeIf decided asked now.day → IsSound (state_after (left_of decided s) s)
 decided_sound (write.PutCaller new) me now sent s decided sound there hold is made =
-    accepted_sound now.0 (write.PutCaller new) s decided _ _ is made (λ made. numbered_sound _ _ (put_caller_sound new s sound made hold.1.0 hold.1.1.0 hold.1.1.1.0) (stays_there caller_key me.id new s.callers there.0, there.1))
+    accepted_sound now.day (write.PutCaller new) s decided _ _ is made (λ made. numbered_sound _ _ (put_caller_sound new s sound made hold.1.0 hold.1.1.0 hold.1.1.1.0) (stays_there caller_key me.id new s.callers there.0, there.1))
 decided_sound (write.PutPolicy new) me now sent s decided sound there hold is made =
-    accepted_sound now.0 (write.PutPolicy new) s decided _ _ is made (λ made. numbered_sound _ _ (put_policy_sound new s sound) there)
+    accepted_sound now.day (write.PutPolicy new) s decided _ _ is made (λ made. numbered_sound _ _ (put_policy_sound new s sound) there)
 decided_sound (write.PutPlace new) me now sent s decided sound there hold is made =
-    accepted_sound now.0 (write.PutPlace new) s decided _ _ is made (λ made. numbered_sound _ _ (put_place_sound new s sound hold.1.1.0) there)
+    accepted_sound now.day (write.PutPlace new) s decided _ _ is made (λ made. numbered_sound _ _ (put_place_sound new s sound hold.1.1.0) there)
 decided_sound (write.PutRoute new) me now sent s decided sound there hold is made =
-    accepted_sound now.0 (write.PutRoute new) s decided _ _ is made (λ made. numbered_sound _ _ (put_route_sound new s sound made hold.1.0) there)
+    accepted_sound now.day (write.PutRoute new) s decided _ _ is made (λ made. numbered_sound _ _ (put_route_sound new s sound made hold.1.0) there)
 decided_sound (write.PutRider new) me now sent s decided sound there hold is made =
-    accepted_sound now.0 (write.PutRider new) s decided _ _ is made (λ made. numbered_sound _ _ (put_rider_sound new s sound hold.1.0 hold.1.1.0) there)
+    accepted_sound now.day (write.PutRider new) s decided _ _ is made (λ made. numbered_sound _ _ (put_rider_sound new s sound hold.1.0 hold.1.1.0) there)
 decided_sound (write.Enter rider entry) me now sent s decided sound there hold is made =
-    accepted_on now.0 (write.Enter rider entry) s decided _ _ is made
+    accepted_on now.day (write.Enter rider entry) s decided _ _ is made
     (λ made on. numbered_sound _ _ (enter_sound rider entry me now s sound there.0 hold made on) there)
 decided_sound (write.PutVehicle new) me now sent s decided sound there hold is made =
-    accepted_sound now.0 (write.PutVehicle new) s decided _ _ is made
+    accepted_sound now.day (write.PutVehicle new) s decided _ _ is made
     (λ made. numbered_sound _ _ (put_vehicle_sound new s sound made.0 made.1 hold.1.0
     (not_true (is_booked_from (Some new.id) new.from_day s.trips) hold.1.1.0) hold.1.1.1.0) there)
 decided_sound (write.Travel day rows) me now sent s decided sound there hold is made =
-    accepted_sound now.0 (write.Travel day rows) s decided _ _ is made
+    accepted_sound now.day (write.Travel day rows) s decided _ _ is made
     (λ made. numbered_sound _ _ (put_travel_sound (record { from_day = day; rows = rows }) s sound made.0
     (made.1, hold.1.0) (not_true (is_booked_from None day s.trips) hold.1.1.0) hold.1.1.1.0) there)
 decided_sound (write.Book rider wish) me now sent s decided sound there hold is made =
-    booking_sound (kept_in me.id sent decided) now.0 rider wish s decided sound there made is
+    booking_sound (kept_in me.id sent decided) now.day rider wish s decided sound there made is
 decided_sound (write.Change trip wish) me now sent s decided sound there hold is made =
-    change_trip_sound (kept_in me.id sent decided) now.0 (trip_of trip s) trip wish s decided sound there made refl
-    (subst (λ f. IsChangeDecided f wish (kept_in me.id sent decided) now.0 (facts_of (write.Change trip wish) s) decided) (change_trip (trip_of trip s) wish s) is)
+    change_trip_sound (kept_in me.id sent decided) now.day (trip_of trip s) trip wish s decided sound there made refl
+    (subst (λ f. IsChangeDecided f wish (kept_in me.id sent decided) now.day (facts_of (write.Change trip wish) s) decided) (change_trip (trip_of trip s) wish s) is)
 decided_sound (write.Cancel trip) me now sent s decided sound there hold is made =
     cancel_sound (kept_in me.id sent decided) (trip_of trip s) trip s decided sound there refl
     (subst (λ f. IsCancelDecided f (kept_in me.id sent decided) (facts_of (write.Cancel trip) s) decided) (cancel_trip (trip_of trip s) s) is)
 decided_sound (write.Outcome trip outcome) me now sent s decided sound there hold is made =
     outcome_sound (kept_in me.id sent decided) outcome (trip_of trip s) trip s decided sound there refl hold.1.1.0 is
 
-after_sound : (asked : Write) (me : Caller) (now : ℕ × ℕ) (sent : Sent) (s : State) (first : Option Rule) (decided : Decision) → IsSound s → IsKeptIn s.callers (kept_in me.id sent decided)
-    → first_failing (rules_of asked me now (facts_of asked s)) ≡ first → IsDecisionAfter first asked me now sent (facts_of asked s) decided → IsMadeIf decided asked now.0 → IsSound (state_after (left_of decided s) s)
+after_sound : (asked : Write) (me : Caller) (now : Moment) (sent : Sent) (s : State) (first : Option Rule) (decided : Decision) → IsSound s → IsKeptIn s.callers (kept_in me.id sent decided)
+    → first_failing (rules_of asked me now (facts_of asked s)) ≡ first → IsDecisionAfter first asked me now sent (facts_of asked s) decided → IsMadeIf decided asked now.day → IsSound (state_after (left_of decided s) s)
 after_sound asked me now sent s (Some rule) decided sound there first is made = subst (λ d. IsSound (state_after (left_of d s) s)) (sym is) sound
 after_sound asked me now sent s None decided sound there first is made =
     decided_sound asked me now sent s decided sound there (all_hold (rules_of asked me now (facts_of asked s)) first) is made
 
-write_sound : (asked : Write) (me : Caller) (now : ℕ × ℕ) (number : ℕ) (s : State) (arrival : Arrival) (told : Answer) (left : Option State) → IsSound s → IsIn caller_key s.callers me.id
+write_sound : (asked : Write) (me : Caller) (now : Moment) (number : ℕ) (s : State) (arrival : Arrival) (told : Answer) (left : Option State) → IsSound s → IsIn caller_key s.callers me.id
     → arrival_in s asked me number ≡ arrival → IsOutcomeAs arrival asked me now number s told left → IsSound (state_after left s)
 write_sound asked me now number s New told left sound there comes (decided, is, (made, ranges), tells, leaves) =
     let above = new_is_above number (spelling asked) (kept_of me.id s) comes in
@@ -675,7 +676,7 @@ write_sound asked me now number s New told left sound there comes (decided, is, 
 write_sound asked me now number s (Repeated reply) told left sound there comes (tells, leaves) = subst (λ l. IsSound (state_after l s)) (sym leaves) sound
 write_sound asked me now number s Stale told left sound there comes (tells, leaves) = subst (λ l. IsSound (state_after l s)) (sym leaves) sound
 
-by_sound : (digest : List ℕ) (found : Option Caller) (now : ℕ × ℕ) (number : ℕ) (asked : Request) (s : State) (told : Answer) (left : Option State) → caller_with digest s ≡ found → IsSound s
+by_sound : (digest : List ℕ) (found : Option Caller) (now : Moment) (number : ℕ) (asked : Request) (s : State) (told : Answer) (left : Option State) → caller_with digest s ≡ found → IsSound s
     → IsOutcomeBy found now number asked s told left → IsSound (state_after left s)
 by_sound digest None now number asked s told left is sound (tells, leaves) = subst (λ l. IsSound (state_after l s)) (sym leaves) sound
 by_sound digest (Some me) now number (request.Read read) s told left is sound (tells, leaves) = subst (λ l. IsSound (state_after l s)) (sym leaves) sound
@@ -684,5 +685,5 @@ by_sound digest (Some me) now number (request.Write asked) s told left is sound 
     write_sound asked me now number s (arrival_in s asked me number) told left sound (found_by_key caller_key (λ caller. bytes_eq caller.digest digest) me s.callers is) refl outcome
 
 -- a request leaves a sound state where it finds one
-pub request_sound : (key : List ℕ) (now : ℕ × ℕ) (number : ℕ) (asked : Request) (s : State) (told : Answer) (left : Option State) → IsSound s → IsOutcome key now number asked s told left → IsSound (state_after left s)
+pub request_sound : (key : List ℕ) (now : Moment) (number : ℕ) (asked : Request) (s : State) (told : Answer) (left : Option State) → IsSound s → IsOutcome key now number asked s told left → IsSound (state_after left s)
 request_sound key now number asked s told left sound outcome = by_sound (sha256 key) (sender key s) now number asked s told left refl sound outcome

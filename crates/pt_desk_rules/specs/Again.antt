@@ -4,6 +4,7 @@ use Rattle.std.specs.List.{AllZip}
 use Rattle.std.specs.Option.{option_map}
 use Rattle.sha2.specs.Sha256.{sha256}
 use Rattle.pt_base.specs.declared.rule.Rule.TheVariants as rule
+use Rattle.pt_base.specs.declared.moment.Moment.{Moment}
 use Rattle.pt_requests.specs.declared.sheets.DaySheet.{DaySheet}
 use Rattle.pt_requests.specs.declared.sheets.Tour.{Tour}
 use Rattle.pt_requests.specs.declared.sheets.VehicleSheet.{VehicleSheet}
@@ -52,7 +53,7 @@ IsSameAnswer a b = a ≡ b
 -- A read that comes again at the same moment with nothing between is told the same, whatever its number, and commits
 -- nothing.
 abbrev pub ReadsAreTheSameAgain : Type 0
-ReadsAreTheSameAgain = (key : List ℕ) (now : ℕ × ℕ) (number other : ℕ) (asked : Read) (s : State) (told again : Answer)
+ReadsAreTheSameAgain = (key : List ℕ) (now : Moment) (number other : ℕ) (asked : Read) (s : State) (told again : Answer)
     (left after : Option State) → IsOutcome key now number (request.Read asked) s told left →
     IsOutcome key now other (request.Read asked) (state_after left s) again after →
     IsSameAnswer told again × (after ≡ None)
@@ -80,7 +81,7 @@ IsToldAgain key asked s new told again =
 -- told the same and changes nothing, were it accepted, denied or a read. But where it gave its caller another key, it
 -- has to be sent again with that one.
 abbrev pub RequestsAreTheSameAgain : Type 0
-RequestsAreTheSameAgain = (key : List ℕ) (now : ℕ × ℕ) (number : ℕ) (asked : Request) (s : State)
+RequestsAreTheSameAgain = (key : List ℕ) (now : Moment) (number : ℕ) (asked : Request) (s : State)
     (told again : Answer) (left after : Option State) → IsSound s → IsOutcome key now number asked s told left →
     IsOutcome key now number asked (state_after left s) again after →
     IsToldAgain key asked s (state_after left s) told again × (after ≡ None)

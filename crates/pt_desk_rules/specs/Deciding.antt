@@ -8,6 +8,7 @@ use Rattle.pt_base.specs.declared.rider.Rider.{Rider}
 use Rattle.pt_base.specs.declared.rule.Rule.{Rule}
 use Rattle.pt_base.specs.declared.trip.Trip.{Trip}
 use Rattle.pt_base.specs.declared.trip.Wish.{Wish}
+use Rattle.pt_base.specs.declared.moment.Moment.{Moment}
 use Rattle.pt_corridor.specs.Route.{IsFixedRoute}
 use Rattle.pt_requests.specs.declared.sheets.DaySheet.{DaySheet}
 use Rattle.pt_requests.specs.declared.sheets.VehicleSheet.{VehicleSheet}
@@ -157,13 +158,13 @@ IsReady (write.Outcome trip outcome) facts = IsTrue (is_some facts.booking.trip)
 IsReady _ facts = Unit {0}
 
 -- the decision where the first failing of a write's own rules, if any, is this one
-abbrev pub IsDecisionAfter : Option Rule → Write → Caller → (ℕ × ℕ) → Sent → WriteFacts → Decision → Type 0
+abbrev pub IsDecisionAfter : Option Rule → Write → Caller → Moment → Sent → WriteFacts → Decision → Type 0
 IsDecisionAfter (Some first) asked me now sent facts decided = decided ≡ Denied first
 IsDecisionAfter None asked me now sent facts decided =
-    IsDecidedBy asked (kept_in me.id sent decided) now.0 facts decided
+    IsDecidedBy asked (kept_in me.id sent decided) now.day facts decided
 
 -- the decision on a write by this caller with a new number, at this moment
-abbrev pub IsDecision : Write → Caller → (ℕ × ℕ) → Sent → WriteFacts → Decision → Type 0
+abbrev pub IsDecision : Write → Caller → Moment → Sent → WriteFacts → Decision → Type 0
 IsDecision asked me now sent facts decided =
     IsDecisionAfter (first_failing (rules_of asked me now facts)) asked me now sent facts decided
 
@@ -221,5 +222,5 @@ IsToldAfter (Some first) asked today facts told = told ≡ answer.Denied first
 IsToldAfter None asked today facts told = IsToldRead asked today facts told
 
 -- what a read by this caller is told at this moment
-abbrev pub IsTold : Read → Caller → (ℕ × ℕ) → ReadFacts → Answer → Type 0
-IsTold asked me now facts told = IsToldAfter (first_failing (read_rules asked me facts)) asked now.0 facts told
+abbrev pub IsTold : Read → Caller → Moment → ReadFacts → Answer → Type 0
+IsTold asked me now facts told = IsToldAfter (first_failing (read_rules asked me facts)) asked now.day facts told

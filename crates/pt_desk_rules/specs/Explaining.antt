@@ -4,6 +4,7 @@ use Rattle.std.specs.declared.alloc.Global.{Global}
 use Rattle.pt_base.specs.declared.rule.Rule.{Rule}
 use Rattle.pt_base.specs.declared.rule.Rule.TheVariants as rule
 use Rattle.pt_base.specs.declared.trip.Wish.{Wish}
+use Rattle.pt_base.specs.declared.moment.Moment.{Moment}
 use Rattle.pt_booking.specs.Planning.{SomeVehicleCan, asked_for}
 use Rattle.pt_booking.specs.Request.{Request}
 use Rattle.pt_booking.specs.Rules.{IsFirstFailing, riders_rules}
@@ -39,9 +40,9 @@ IsExplainedAfter None wish today facts told =
     (found : Scheduled) × IsAnswered (next_trip facts) None today wish facts found × IsToldPossible found told
 
 -- what this caller is told of a wish at this moment
-abbrev pub IsExplained : Wish → Caller → (ℕ × ℕ) → WriteFacts → Answer → Type 0
+abbrev pub IsExplained : Wish → Caller → Moment → WriteFacts → Answer → Type 0
 IsExplained wish me now facts told =
-    IsExplainedAfter (first_failing (explain_rules wish me facts)) wish now.0 facts told
+    IsExplainedAfter (first_failing (explain_rules wish me facts)) wish now.day facts told
 
 -- What a refusal stands on: none of the rules before vehicles fails, and these are the vehicles on duty on the wish's
 -- day with their stops, the trip that is asked of them under the next number, and the rows of driving times that hold.
@@ -71,14 +72,14 @@ IsInquiryAfter wish today facts (inquiry.Denied first) =
     IsExplainedAfter None wish today facts (answer.Denied first) × IsBeforeVehicles wish facts first
 
 -- What comes of asking for the facts of a refusal: the facts, or the first rule by which the wish is denied.
-abbrev pub IsInquiry : Wish → Caller → (ℕ × ℕ) → WriteFacts → Inquiry → Type 0
+abbrev pub IsInquiry : Wish → Caller → Moment → WriteFacts → Inquiry → Type 0
 IsInquiry wish me now facts (inquiry.Facts found) =
-    (first_failing (explain_rules wish me facts) ≡ None) × AreFactsOf wish now.0 facts found
+    (first_failing (explain_rules wish me facts) ≡ None) × AreFactsOf wish now.day facts found
 IsInquiry wish me now facts (inquiry.Denied first) =
     IsExplained wish me now facts (answer.Denied first) × IsBeforeVehicles wish facts first
 
 -- Where no vehicle of the facts has a place for the asked trip, the wish is denied `no vehicle`.
 abbrev pub RefusalsAreShown : Type 0
-RefusalsAreShown = (wish : Wish) (me : Caller) (now : ℕ × ℕ) (facts : WriteFacts) (found : Refusal)
+RefusalsAreShown = (wish : Wish) (me : Caller) (now : Moment) (facts : WriteFacts) (found : Refusal)
     (minutes : ℕ → ℕ → Option ℕ) → IsInquiry wish me now facts (inquiry.Facts found) → AreTimes found.rows minutes →
     ¬ SomeVehicleCan minutes found.vehicles found.asked → IsExplained wish me now facts (answer.Denied rule.NoVehicle)

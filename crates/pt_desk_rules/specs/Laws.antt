@@ -2,6 +2,7 @@
 use Rattle.std.specs.Prelude.{◌≡◌, ◌⊎◌, ℕ, ◌+◌, List, Option, Some, None}
 use Rattle.pt_base.specs.declared.rule.Rule.{Rule}
 use Rattle.pt_base.specs.declared.trip.Wish.{Wish}
+use Rattle.pt_base.specs.declared.moment.Moment.{Moment}
 use Rattle.pt_booking.specs.Planning.{booking_rules}
 use Rattle.pt_booking.specs.Request.{Request as TripRequest}
 use Rattle.pt_booking.specs.Rules.{IsFirstFailing}
@@ -25,7 +26,7 @@ use Rattle.pt_requests.specs.declared.request.Write.TheVariants as write
 -- a request leaves a sound state where it finds one
 abbrev pub OutcomesOfSoundStatesAreSound : Type 0
 OutcomesOfSoundStatesAreSound =
-    (key : List ℕ) (now : ℕ × ℕ) (number : ℕ) (asked : Request) (s : State) (told : Answer) (left : Option State) →
+    (key : List ℕ) (now : Moment) (number : ℕ) (asked : Request) (s : State) (told : Answer) (left : Option State) →
     IsSound s → IsOutcome key now number asked s told left → IsSound (state_after left s)
 
 -- of the rules of a booking, for a wish under this number and by the driving times of its day, this one fails first
@@ -45,15 +46,15 @@ IsFirstOfTrip (write.Change trip wish) today facts rule = IsFirstOfBooking facts
 IsFirstOfTrip _ today facts rule = ⊥
 
 -- of all rules of a write this is the first to fail: of its own, and where they all hold, of those of its trip
-abbrev pub IsFirstOfAll : Write → Caller → (ℕ × ℕ) → State → Rule → Type 0
+abbrev pub IsFirstOfAll : Write → Caller → Moment → State → Rule → Type 0
 IsFirstOfAll asked me now s rule =
     (first_failing (rules_of asked me now (facts_of asked s)) ≡ Some rule)
     ⊎ ((first_failing (rules_of asked me now (facts_of asked s)) ≡ None)
-    × IsFirstOfTrip asked now.0 (facts_of asked s) rule)
+    × IsFirstOfTrip asked now.day (facts_of asked s) rule)
 
 -- a new write that is denied is told the first of all its rules to fail
 abbrev pub DenialsAreRight : Type 0
 DenialsAreRight =
-    (key : List ℕ) (now : ℕ × ℕ) (number : ℕ) (asked : Write) (me : Caller) (s : State) (rule : Rule)
+    (key : List ℕ) (now : Moment) (number : ℕ) (asked : Write) (me : Caller) (s : State) (rule : Rule)
     (left : Option State) → IsSound s → sender key s ≡ Some me → arrival_in s asked me number ≡ New →
     IsOutcome key now number (request.Write asked) s (answer.Denied rule) left → IsFirstOfAll asked me now s rule

@@ -22,3 +22,4 @@ pub mod Privacy
 pub mod Numbers
 pub mod Again
 pub mod Laws
+pub mod One

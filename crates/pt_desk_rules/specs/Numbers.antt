@@ -5,6 +5,7 @@ use Rattle.std.specs.Option.{unwrap_or}
 use Rattle.std.specs.List.{cons_option, last_or}
 use Rattle.std.specs.List.Sorted.{IsStrictlyIncreasing}
 use Rattle.pt_base.specs.declared.rule.Rule.{Rule}
+use Rattle.pt_base.specs.declared.moment.Moment.{Moment}
 use Rattle.pt_records.specs.Records.{Each}
 use Rattle.pt_spelling.specs.Replies.{answer_of, reply_of}
 use Rattle.pt_spelling.specs.Requests.{spelling}
@@ -41,14 +42,14 @@ pub record IsKept (me : Caller) (number : ℕ) (asked : Write) (told : Answer) (
 
 -- each write that commits a state is kept so
 abbrev pub AcceptedWritesAreKept : Type 0
-AcceptedWritesAreKept = (key : List ℕ) (now : ℕ × ℕ) (number : ℕ) (asked : Write) (me : Caller) (s new : State)
+AcceptedWritesAreKept = (key : List ℕ) (now : Moment) (number : ℕ) (asked : Write) (me : Caller) (s new : State)
     (told : Answer) → sender key s ≡ Some me → IsOutcome key now number (request.Write asked) s told (Some new) →
     IsKept me number asked told s new
 
 -- the last accepted write of the caller who has the key, sent again at any moment, is told what it was told, and
 -- commits nothing
 abbrev pub RepeatsAreToldTheSame : Type 0
-RepeatsAreToldTheSame = (key : List ℕ) (now : ℕ × ℕ) (asked : Write) (me : Caller) (kept : Kept) (s : State)
+RepeatsAreToldTheSame = (key : List ℕ) (now : Moment) (asked : Write) (me : Caller) (kept : Kept) (s : State)
     (told : Answer) (left : Option State) → sender key s ≡ Some me → kept_of me.id s ≡ Some kept →
     kept.request ≡ spelling asked → IsOutcome key now kept.number (request.Write asked) s told left →
     (told ≡ answer_of kept.reply) × (left ≡ None)
@@ -56,7 +57,7 @@ RepeatsAreToldTheSame = (key : List ℕ) (now : ℕ × ℕ) (asked : Write) (me 
 -- a request that came, with what it was told and the state that it committed, if any
 pub record Call : Type 0 where
   pub key : List ℕ
-  pub now : ℕ × ℕ
+  pub now : Moment
   pub number : ℕ
   pub asked : Request
   pub told : Answer
@@ -121,7 +122,7 @@ AcceptedWritesMakeTheState = (s after : State) (calls : List Call) → AreCalls 
     AreMadeBy s after calls (committed calls)
 
 -- A write was accepted, and then other calls came, none of them a write of the same caller that was accepted.
-pub record IsLastOf (key : List ℕ) (now : ℕ × ℕ) (number : ℕ) (asked : Write) (me : Caller) (told : Answer)
+pub record IsLastOf (key : List ℕ) (now : Moment) (number : ℕ) (asked : Write) (me : Caller) (told : Answer)
     (calls : List Call) (s after : State) : Type 0 where
   pub committed : State
   pub by : sender key s ≡ Some me
@@ -133,7 +134,7 @@ pub record IsLastOf (key : List ℕ) (now : ℕ × ℕ) (number : ℕ) (asked : 
 -- caller made no other that was, then under a key that is still the caller's it is told the same, at any later moment
 -- and whatever others have changed since, and it changes nothing.
 abbrev pub WritesMayBeSentAgain : Type 0
-WritesMayBeSentAgain = (key with : List ℕ) (now later : ℕ × ℕ) (number : ℕ) (asked : Write) (me holder : Caller)
+WritesMayBeSentAgain = (key with : List ℕ) (now later : Moment) (number : ℕ) (asked : Write) (me holder : Caller)
     (told again : Answer) (calls : List Call) (s after : State) (left : Option State) →
     IsLastOf key now number asked me told calls s after → sender with after ≡ Some holder → holder.id ≡ me.id →
     IsOutcome with later number (request.Write asked) after again left → (again ≡ told) × (left ≡ None)
@@ -141,7 +142,7 @@ WritesMayBeSentAgain = (key with : List ℕ) (now later : ℕ × ℕ) (number : 
 -- A request that is denied in a sound state, and comes again at the same moment with nothing between, is denied by the
 -- same rule, and changes nothing.
 abbrev pub DenialsAreTheSameAgain : Type 0
-DenialsAreTheSameAgain = (key : List ℕ) (now : ℕ × ℕ) (number : ℕ) (asked : Request) (s : State) (rule : Rule)
+DenialsAreTheSameAgain = (key : List ℕ) (now : Moment) (number : ℕ) (asked : Request) (s : State) (rule : Rule)
     (told : Answer) (left after : Option State) → IsSound s →
     IsOutcome key now number asked s (answer.Denied rule) left →
     IsOutcome key now number asked (state_after left s) told after → (told ≡ answer.Denied rule) × (after ≡ None)

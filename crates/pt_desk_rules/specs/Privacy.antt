@@ -1,5 +1,6 @@
 -- What decides what is told of a rider's trips, and that nothing else does.
 use Rattle.std.specs.Prelude.{◌≡◌, ℕ, List, Option}
+use Rattle.pt_base.specs.declared.moment.Moment.{Moment}
 use Rattle.pt_desk_rules.specs.Planned.{trips_of}
 use Rattle.pt_desk_rules.specs.State.{State, rider_of}
 use Rattle.pt_desk_rules.specs.Step.{sender, IsOutcome}
@@ -15,7 +16,7 @@ pub record AgreeOnTrips (key : List ℕ) (rider : ℕ) (s other : State) : Type 
 
 -- whoever asks for a rider's trips is told the same in any two states that agree on them
 abbrev pub TripsArePrivate : Type 0
-TripsArePrivate = (key : List ℕ) (now : ℕ × ℕ) (number rider : ℕ) (s other : State) (told also : Answer)
+TripsArePrivate = (key : List ℕ) (now : Moment) (number rider : ℕ) (s other : State) (told also : Answer)
     (left and_left : Option State) → AgreeOnTrips key rider s other →
     IsOutcome key now number (request.Read (read.Trips rider)) s told left →
     IsOutcome key now number (request.Read (read.Trips rider)) other also and_left → told ≡ also

@@ -10,6 +10,7 @@ use Rattle.pt_base.specs.declared.rule.Rule.{Rule}
 use Rattle.pt_base.specs.declared.rule.Rule.TheVariants as rule
 use Rattle.pt_base.specs.declared.trip.Wish.{Wish}
 use Rattle.pt_base.specs.declared.vehicle.Vehicle.{Vehicle}
+use Rattle.pt_base.specs.declared.moment.Moment.{Moment}
 use Rattle.pt_records.specs.Records.{record_at}
 use Rattle.pt_rights.specs.Admission.{admission_rules, is_resident}
 use Rattle.pt_rights.specs.declared.entry.Entry.{Entry}
@@ -76,7 +77,7 @@ abbrev pub explain_rules : Wish → Caller → WriteFacts → List (Rule × Bool
 explain_rules wish me facts = (rule.Caller, is_dispatcher me.role) ∷ wish_rules wish facts
 
 -- the rules of a write by this caller at this moment, each with whether it holds
-abbrev pub rules_of : Write → Caller → (ℕ × ℕ) → WriteFacts → List (Rule × Bool)
+abbrev pub rules_of : Write → Caller → Moment → WriteFacts → List (Rule × Bool)
 rules_of (write.PutCaller new) me now facts =
     (rule.Caller, is_admin me.role)
     ∷ (rule.Unknown, facts.has_subject)
@@ -102,7 +103,7 @@ rules_of (write.Enter rider entry) me now facts =
     (rule.Caller, may_enter entry rider facts.rider me.role)
     ∷ (rule.Unknown, is_some facts.rider)
     ∷ (rule.Full, nat_lt (length facts.file) most_entries)
-    ∷ entry_rules facts.rider entry now.0 me.id facts
+    ∷ entry_rules facts.rider entry now.day me.id facts
 rules_of (write.PutVehicle new) me now facts =
     (rule.Caller, is_dispatcher me.role)
     ∷ (rule.Unknown, facts.has_place)
@@ -121,7 +122,7 @@ rules_of (write.Book rider wish) me now facts =
 rules_of (write.Change trip wish) me now facts =
     (rule.Caller, may_alter facts.booking.trip facts.rider me.role)
     ∷ (rule.Unknown, is_some facts.booking.trip && is_some facts.rider && has_ends wish facts.places)
-    ∷ (rule.Over, is_changeable now.0 facts.booking.trip)
+    ∷ (rule.Over, is_changeable now.day facts.booking.trip)
     ∷ []
 rules_of (write.Cancel trip) me now facts =
     (rule.Caller, may_alter facts.booking.trip facts.rider me.role)
@@ -132,7 +133,7 @@ rules_of (write.Outcome trip outcome) me now facts =
     (rule.Caller, may_end facts.booking.trip me.role)
     ∷ (rule.Unknown, is_some facts.booking.trip)
     ∷ (rule.Over, awaits_outcome facts.booking.trip)
-    ∷ (rule.Early, has_come now.0 facts.booking.trip)
+    ∷ (rule.Early, has_come now.day facts.booking.trip)
     ∷ []
 
 -- the rules of a read by this caller

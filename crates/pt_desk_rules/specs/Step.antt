@@ -3,6 +3,7 @@ use Rattle.std.specs.Prelude.{◌≡◌, ℕ, List, Option, Some, None}
 use Rattle.sha2.specs.Sha256.{sha256}
 use Rattle.pt_base.specs.declared.rule.Rule.TheVariants as rule
 use Rattle.pt_base.specs.declared.trip.Wish.{Wish}
+use Rattle.pt_base.specs.declared.moment.Moment.{Moment}
 use Rattle.pt_spelling.specs.Ranges.{IsRequest}
 use Rattle.pt_spelling.specs.Replies.{answer_of}
 use Rattle.pt_spelling.specs.Requests.{spelling}
@@ -44,19 +45,19 @@ abbrev pub sent_with : ℕ → Write → Sent
 sent_with number asked = record { number = number; request = spelling asked }
 
 -- what a read is told, and that it commits nothing
-abbrev pub IsReadOutcome : Read → Caller → (ℕ × ℕ) → State → Answer → Option State → Type 0
+abbrev pub IsReadOutcome : Read → Caller → Moment → State → Answer → Option State → Type 0
 IsReadOutcome asked me now s told left = IsTold asked me now (read_facts_of asked s) told × (left ≡ None)
 
 -- what is told of a rider's wish, and that it commits nothing
-abbrev pub IsExplainOutcome : ℕ → Wish → Caller → (ℕ × ℕ) → State → Answer → Option State → Type 0
+abbrev pub IsExplainOutcome : ℕ → Wish → Caller → Moment → State → Answer → Option State → Type 0
 IsExplainOutcome rider wish me now s told left =
     IsExplained wish me now (wish_facts rider wish None s) told × (left ≡ None)
 
 -- what a write that may be asked is told by the rules, and what it commits
-abbrev pub IsDecidedOutcome : Write → Caller → (ℕ × ℕ) → ℕ → State → Answer → Option State → Type 0
+abbrev pub IsDecidedOutcome : Write → Caller → Moment → ℕ → State → Answer → Option State → Type 0
 IsDecidedOutcome asked me now number s told left =
     (decided : Decision) × IsDecision asked me now (sent_with number asked) (facts_of asked s) decided
-    × (IsMadeIf decided asked now.0 × IsRequest asked)
+    × (IsMadeIf decided asked now.day × IsRequest asked)
     × (told ≡ told_of decided) × (left ≡ left_of decided s)
 
 -- how a write with this number comes in beside the caller's last accepted one
@@ -65,17 +66,17 @@ arrival_in s asked me number = arrival_of number (spelling asked) (kept_of me.id
 
 -- A new write is decided by the rules. The last accepted one is told again what it was told, whatever has changed
 -- since, and does nothing. Any other is denied.
-abbrev pub IsOutcomeAs : Arrival → Write → Caller → (ℕ × ℕ) → ℕ → State → Answer → Option State → Type 0
+abbrev pub IsOutcomeAs : Arrival → Write → Caller → Moment → ℕ → State → Answer → Option State → Type 0
 IsOutcomeAs New asked me now number s told left = IsDecidedOutcome asked me now number s told left
 IsOutcomeAs (Repeated reply) asked me now number s told left = (told ≡ answer_of reply) × (left ≡ None)
 IsOutcomeAs Stale asked me now number s told left = (told ≡ answer.Denied rule.Number) × (left ≡ None)
 
-abbrev pub IsWriteOutcome : Write → Caller → (ℕ × ℕ) → ℕ → State → Answer → Option State → Type 0
+abbrev pub IsWriteOutcome : Write → Caller → Moment → ℕ → State → Answer → Option State → Type 0
 IsWriteOutcome asked me now number s told left =
     IsOutcomeAs (arrival_in s asked me number) asked me now number s told left
 
 -- the same of a request by whoever has the key
-abbrev pub IsOutcomeBy : Option Caller → (ℕ × ℕ) → ℕ → Request → State → Answer → Option State → Type 0
+abbrev pub IsOutcomeBy : Option Caller → Moment → ℕ → Request → State → Answer → Option State → Type 0
 IsOutcomeBy None now number asked s told left = (told ≡ answer.Denied rule.Key) × (left ≡ None)
 IsOutcomeBy (Some me) now number (request.Read read) s told left = IsReadOutcome read me now s told left
 IsOutcomeBy (Some me) now number (request.Write write) s told left = IsWriteOutcome write me now number s told left
@@ -87,5 +88,5 @@ abbrev pub sender : List ℕ → State → Option Caller
 sender key s = caller_with (sha256 key) s
 
 -- what a request is told that comes with this key and number at this moment, and the state that it commits, if any
-abbrev pub IsOutcome : List ℕ → (ℕ × ℕ) → ℕ → Request → State → Answer → Option State → Type 0
+abbrev pub IsOutcome : List ℕ → Moment → ℕ → Request → State → Answer → Option State → Type 0
 IsOutcome key now number asked s told left = IsOutcomeBy (sender key s) now number asked s told left

@@ -6,6 +6,7 @@ use Rattle.pt_base.specs.declared.trip.Trip.{Trip}
 use Rattle.pt_base.specs.declared.trip.Wish.{Wish}
 use Rattle.pt_base.specs.declared.trip_status.TripStatus.{TripStatus}
 use Rattle.pt_base.specs.declared.trip_status.TripStatus.TheVariants.{Booked, Cancelled}
+use Rattle.pt_base.specs.declared.moment.Moment.{Moment}
 use Rattle.pt_booking.specs.Request.{party_of}
 use Rattle.pt_party.specs.Fare.{due_of}
 use Rattle.pt_records.specs.Keys.{pair_key}
@@ -30,11 +31,11 @@ is_changeable today None = false
 is_changeable today (Some trip) = is_booked trip.status && nat_lt today trip.wish.day
 
 -- and cancelled until its promised window begins
-abbrev pub is_cancellable : (ℕ × ℕ) → Option Trip → Bool
+abbrev pub is_cancellable : Moment → Option Trip → Bool
 is_cancellable now None = false
 is_cancellable now (Some trip) =
     is_booked trip.status
-    && (nat_lt now.0 trip.wish.day || (now.0 == trip.wish.day && nat_lt now.1 trip.window_from))
+    && (nat_lt now.day trip.wish.day || (now.day == trip.wish.day && nat_lt now.minute trip.window_from))
 
 -- what is told of a trip that is booked
 pub record IsConfirmation (trip : Trip) (told : Confirmation) : Type 0 where

@@ -19,7 +19,7 @@ use crate::{
     Answer, Caller, Change, FiledEntry, Kept, KeptReply, Sent, TravelTable, Write, WriteFacts,
     denial,
 };
-use pt_base::{CallerId, Day, Minute, Place, Policy, Rider, RiderId, Rule, Vehicle};
+use pt_base::{CallerId, Day, Moment, Place, Policy, Rider, RiderId, Rule, Vehicle};
 use pt_corridor::FixedRoute;
 use pt_records::{Key, Span};
 use pt_rights::{Condition, Entered, Entry, Grant};
@@ -302,14 +302,14 @@ pub fn decide(
     alloc: Global,
     facts: &WriteFacts,
     me: &Caller,
-    now: (Day, Minute),
+    now: Moment,
     sent: Sent,
     write: &Write,
 ) -> Result<Decision, AllocError>
     ensures decided { IfOk result (λ decided. IsDecision write.now me.now now sent facts.now decided) }
-    ensures made { IfOk result (λ decided. IsMadeIf decided write.now now.0) }
+    ensures made { IfOk result (λ decided. IsMadeIf decided write.now now.day) }
 {
-    let (today, _) = now;
+    let today = now.day;
     is_day(today);
     if let Some(rule) = denial(facts, me, now, write) {
         return Ok(Decision::Denied(rule));

@@ -16,22 +16,11 @@ use crate::{
     Caller, LAST_TRIP_NUMBER, MOST_CALLERS, MOST_PLACES, MOST_RIDERS, MOST_ROUTES, MOST_TABLES,
     MOST_VEHICLES, MOST_VERSIONS, Write, WriteFacts,
 };
-use pt_base::{CallerId, Day, Minute, Place, PlaceId, Residence, Rider, RiderId, Rule, Vehicle};
+use pt_base::{CallerId, Moment, Place, PlaceId, Residence, Rider, RiderId, Rule, Vehicle};
+use pt_booking::first_failing;
 use pt_records::{Key, Rows};
 use pt_rights::Entry;
 use pt_travel::Row;
-
-/// The first rule that fails.
-pub(crate) fn first_failing(rules: &[(Rule, bool)]) -> Option<Rule>
-    ensures value { result ≡ first_failing rules.now }
-{
-    for (rule, holds) in rules {
-        if !*holds {
-            return Some(*rule);
-        }
-    }
-    None
-}
 
 /// Whether each place of the rows is there.
 fn are_there(rows: &[Row], places: &Rows<Place>) -> bool
@@ -84,7 +73,7 @@ fn is_nobody_of_another_kind(kind: Residence, found: Option<Rider>) -> bool
 fn entry_denial(
     facts: &WriteFacts,
     me: &Caller,
-    now: (Day, Minute),
+    now: Moment,
     rider: RiderId,
     entry: &Entry,
 ) -> Option<Rule>
@@ -102,7 +91,7 @@ fn entry_denial(
     facts.file.admits(
         there,
         entry,
-        now.0,
+        now.day,
         me.id,
         facts.tallies.as_slice(),
         &facts.policy,
@@ -111,7 +100,7 @@ fn entry_denial(
 
 /// The first rule by which a write with a new number is denied to the caller at the moment `now`; `None` where it is
 /// accepted.
-pub fn denial(facts: &WriteFacts, me: &Caller, now: (Day, Minute), write: &Write) -> Option<Rule>
+pub fn denial(facts: &WriteFacts, me: &Caller, now: Moment, write: &Write) -> Option<Rule>
     ensures value { result ≡ first_failing (rules_of write.now me.now now facts.now) }
 {
     let is_admin = is_admin(me.role);
@@ -181,7 +170,7 @@ pub fn denial(facts: &WriteFacts, me: &Caller, now: (Day, Minute), write: &Write
                     && facts.rider.is_some()
                     && has_ends(wish, &facts.places),
             ),
-            (Rule::Over, is_changeable(now.0, &facts.booking.trip)),
+            (Rule::Over, is_changeable(now.day, &facts.booking.trip)),
         ]),
         Write::Cancel(_) => first_failing(&[
             (
@@ -198,7 +187,7 @@ pub fn denial(facts: &WriteFacts, me: &Caller, now: (Day, Minute), write: &Write
             (Rule::Caller, may_end(me.role, &facts.booking.trip)),
             (Rule::Unknown, facts.booking.trip.is_some()),
             (Rule::Over, awaits_outcome(&facts.booking.trip)),
-            (Rule::Early, has_come(now.0, &facts.booking.trip)),
+            (Rule::Early, has_come(now.day, &facts.booking.trip)),
         ]),
     }
 }

@@ -11,12 +11,11 @@ ghost use Rattle.pt_desk_rules.specs.Rules.{explain_rules};
 ghost use Rattle.pt_desk_rules.specs.Trips.{has_ends};
 
 use crate::booking::{Asking, answer_wish};
-use crate::denying::first_failing;
 use crate::permission::is_dispatcher;
 use crate::trips::has_ends;
 use crate::{Answer, Caller, LAST_TRIP_NUMBER, TravelTable, WriteFacts, on_duty};
-use pt_base::{Day, Minute, Rule, TripId, Wish};
-use pt_booking::{asked_for, riders_denial};
+use pt_base::{Day, Moment, Rule, TripId, Wish};
+use pt_booking::{asked_for, first_failing, riders_denial};
 use pt_insertion::{Asked, Duty};
 use pt_scheduling::{DayPlans, DayRoute, Scheduled, are_without_trip, duties_of, routes_without};
 use pt_travel::Closed;
@@ -123,7 +122,7 @@ pub fn explain(
     alloc: Global,
     facts: &WriteFacts,
     me: &Caller,
-    now: (Day, Minute),
+    now: Moment,
     wish: &Wish,
 ) -> Result<Answer, AllocError>
     ensures value { IfOk result (λ told. IsExplained wish.now me.now now facts.now told) }
@@ -131,7 +130,7 @@ pub fn explain(
     if let Some(rule) = explain_denial(facts, me, wish) {
         return Ok(Answer::Denied(rule));
     }
-    let found = answer_wish(alloc, facts, next_trip(facts), &None, now.0, wish)?;
+    let found = answer_wish(alloc, facts, next_trip(facts), &None, now.day, wish)?;
     Ok(told_of(&found))
 }
 
@@ -207,7 +206,7 @@ pub fn refusal_facts(
     alloc: Global,
     facts: &WriteFacts,
     me: &Caller,
-    now: (Day, Minute),
+    now: Moment,
     wish: &Wish,
 ) -> Result<Inquiry, AllocError>
     ensures value { IfOk result (λ found. IsInquiry wish.now me.now now facts.now found) }
@@ -215,5 +214,5 @@ pub fn refusal_facts(
     if let Some(rule) = explain_denial(facts, me, wish) {
         return Ok(Inquiry::Denied(rule));
     }
-    inquire(alloc, facts, now.0, wish)
+    inquire(alloc, facts, now.day, wish)
 }

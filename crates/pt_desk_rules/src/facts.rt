@@ -79,7 +79,7 @@ impl BookingFacts {
     }
 }
 
-/// What is planned for a day.
+/// What the desk has for a day: the driving times, the trips, and the stops that are planned.
 #[derive(Debug, Drop)]
 pub struct DayFacts {
     /// The travel table that holds on the day.

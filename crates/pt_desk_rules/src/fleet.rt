@@ -8,7 +8,7 @@ use pt_base::{Day, Vehicle, VehicleId};
 use std::alloc::{AllocError, Global};
 
 /// Whether some version of this vehicle is among these.
-pub(crate) fn has_version(vehicles: &[Vehicle], id: VehicleId) -> bool
+pub fn has_version(vehicles: &[Vehicle], id: VehicleId) -> bool
     ensures value { result ≡ has_version id vehicles.now }
 {
     for version in vehicles {

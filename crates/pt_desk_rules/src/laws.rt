@@ -5,6 +5,7 @@ ghost use Rattle.pt_desk_rules.specs.Laws.{DenialsAreRight, OutcomesOfSoundState
 ghost use Rattle.pt_desk_rules.specs.Numbers.{AcceptedNumbersRise, AcceptedWritesAreKept, LastAcceptedIsKept};
 ghost use Rattle.pt_desk_rules.specs.Numbers.{AcceptedWritesMakeTheState};
 ghost use Rattle.pt_desk_rules.specs.Numbers.{DenialsAreTheSameAgain, RepeatsAreToldTheSame, WritesMayBeSentAgain};
+ghost use Rattle.pt_desk_rules.specs.One.{OutcomesAreOne, RequestsOutliveCrashes};
 ghost use Rattle.pt_desk_rules.specs.Privacy.{TripsArePrivate};
 ghost use Rattle.pt_desk_rules.specs.Sound.{IsSound};
 ghost use Rattle.pt_desk_rules.specs.State.{State};
@@ -88,6 +89,19 @@ pub fn reads_are_the_same_again()
 /// unless it put its own caller under another key: then the key that it came with is nobody's any more.
 pub fn requests_are_the_same_again()
     ensures { RequestsAreTheSameAgain }
+{}
+
+/// A law: two outcomes of one call in one sound state are one. The rules settle each answer, the place and the window of
+/// a trip too.
+pub fn outcomes_are_one()
+    ensures { OutcomesAreOne }
+{}
+
+/// A law: a request that is made again after a crash, at the same moment, is told what it was told and leaves what it
+/// left, whether the crash found it made or not. But one that put its own caller under another key, and is found made,
+/// has to come with that one.
+pub fn requests_outlive_crashes()
+    ensures { RequestsOutliveCrashes }
 {}
 
 /// A law: a wish for which no vehicle of a refusal's facts has a place is denied for want of a vehicle.

@@ -1,4 +1,5 @@
 ghost use Rattle.std.specs.Prelude.{◌≡◌, ℕ, IfOk};
+ghost use Rattle.pt_base.specs.declared.moment.Moment.{Moment};
 ghost use Rattle.pt_desk_rules.specs.Deciding.{IsTold};
 ghost use Rattle.pt_desk_rules.specs.Letters.{letter_at, letter_of};
 ghost use Rattle.pt_requests.specs.declared.request.Read.TheVariants.{Letter as ReadLetter};
@@ -48,7 +49,7 @@ pub(crate) fn tell_letter(
     rider: RiderId,
     position: u8,
 ) -> Result<Answer, AllocError>
-    ensures { IfOk result (λ told. (now : ℕ × ℕ) → IsTold (ReadLetter rider position) me.now now facts.now told) }
+    ensures { IfOk result (λ told. (now : Moment) → IsTold (ReadLetter rider position) me.now now facts.now told) }
 {
     if !may_see_standing(me.role, rider, &facts.rider) {
         return Ok(Answer::Denied(Rule::Caller));

@@ -6,14 +6,15 @@ pub use deciding::{Decision, decide};
 pub use denying::denial;
 pub use explaining::{Inquiry, RefusalFacts, explain, refusal_facts};
 pub use facts::{BookingFacts, DayFacts, ReadFacts, WriteFacts};
-pub use fleet::on_duty;
+pub use fleet::{has_version, on_duty};
 pub use kept::{Arrival, Kept, Sent};
 pub use laws::{
     accepted_numbers_rise, accepted_writes_are_kept, accepted_writes_make_the_state,
     denials_are_right, denials_are_the_same_again, last_accepted_is_kept,
-    manifests_show_standing_trips, outcomes_of_sound_states_are_sound, reads_are_the_same_again,
-    refusals_are_shown, repeats_are_told_the_same, requests_are_the_same_again,
-    sound_states_have_routes, sound_states_have_tours, trips_are_private, writes_may_be_sent_again,
+    manifests_show_standing_trips, outcomes_are_one, outcomes_of_sound_states_are_sound,
+    reads_are_the_same_again, refusals_are_shown, repeats_are_told_the_same,
+    requests_are_the_same_again, requests_outlive_crashes, sound_states_have_routes,
+    sound_states_have_tours, trips_are_private, writes_may_be_sent_again,
 };
 pub use limits::{
     LAST_TRIP_NUMBER, MOST_CALLERS, MOST_PLACES, MOST_RIDERS, MOST_ROUTES, MOST_TABLES,

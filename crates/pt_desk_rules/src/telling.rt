@@ -1,4 +1,5 @@
 ghost use Rattle.std.specs.Prelude.{◌↔◌, ℕ, IsTrue, List, None, IfOk};
+ghost use Rattle.pt_base.specs.declared.moment.Moment.{Moment};
 ghost use Rattle.pt_scheduling.specs.Uses.{AreUses};
 ghost use Rattle.pt_visitors.specs.Periods.{MayUse};
 ghost use Rattle.pt_requests.specs.declared.request.Read.TheVariants.{Export, Standing, Trips};
@@ -8,7 +9,7 @@ use crate::letters::tell_letter;
 use crate::permission::{is_dispatcher, may_book, may_see_standing};
 use crate::tours::{tell_day_sheet, tell_manifest};
 use crate::{Answer, Caller, Read, ReadFacts};
-use pt_base::{Day, Minute, Residence, RiderId, Rule, Trip};
+use pt_base::{Day, Moment, Residence, RiderId, Rule, Trip};
 use pt_scheduling::days_of_use;
 use pt_visitors::visitor_may;
 use std::alloc::{AllocError, Global};
@@ -48,7 +49,7 @@ fn tell_standing(
     alloc: Global,
     facts: &ReadFacts,
     me: &Caller,
-    now: (Day, Minute),
+    now: Moment,
     rider: RiderId,
     day: Day,
 ) -> Result<Answer, AllocError>
@@ -58,14 +59,14 @@ fn tell_standing(
         return Ok(Answer::Denied(Rule::Caller));
     }
     match &facts.rider {
-        Some(there) => told_of_kind(alloc, there.kind, facts, now.0, day),
+        Some(there) => told_of_kind(alloc, there.kind, facts, now.day, day),
         None => Ok(Answer::Denied(Rule::Unknown)),
     }
 }
 
 /// What is told of the rider's trips.
 fn tell_trips(facts: ReadFacts, me: &Caller, rider: RiderId) -> Answer
-    ensures { (now : ℕ × ℕ) → IsTold (Trips rider) me.now now facts result }
+    ensures { (now : Moment) → IsTold (Trips rider) me.now now facts result }
 {
     if !may_book(me.role, rider, &facts.rider) {
         return Answer::Denied(Rule::Caller);
@@ -78,7 +79,7 @@ fn tell_trips(facts: ReadFacts, me: &Caller, rider: RiderId) -> Answer
 
 /// What is told of the trips of a day.
 fn tell_export(facts: ReadFacts, me: &Caller) -> Answer
-    ensures { (now : ℕ × ℕ) (day : ℕ) → IsTold (Export day) me.now now facts result }
+    ensures { (now : Moment) (day : ℕ) → IsTold (Export day) me.now now facts result }
 {
     if !is_dispatcher(me.role) {
         return Answer::Denied(Rule::Caller);
@@ -91,7 +92,7 @@ pub fn tell(
     alloc: Global,
     facts: ReadFacts,
     me: &Caller,
-    now: (Day, Minute),
+    now: Moment,
     read: &Read,
 ) -> Result<Answer, AllocError>
     ensures value { IfOk result (λ told. IsTold read.now me.now now facts told) }

@@ -1,5 +1,6 @@
 ghost use Rattle.std.specs.Prelude.{◌≡◌, ℕ, ◌+◌, ◌<◌, ◌≤◌, length, IfOk, Some};
 ghost use Rattle.std.specs.List.{AllZip};
+ghost use Rattle.pt_base.specs.declared.moment.Moment.{Moment};
 ghost use Rattle.pt_feasible.specs.Loads.{LoadsFit};
 ghost use Rattle.pt_feasible.specs.Route.{stops_of};
 ghost use Rattle.pt_feasible.specs.ServiceTimes.{KeepsTimeWindows};
@@ -247,7 +248,7 @@ pub(crate) fn tell_manifest(
     vehicle: VehicleId,
     day: Day,
 ) -> Result<Answer, AllocError>
-    ensures { IfOk result (λ told. (now : ℕ × ℕ) → IsTold (read.Manifest vehicle day) me.now now facts.now told) }
+    ensures { IfOk result (λ told. (now : Moment) → IsTold (read.Manifest vehicle day) me.now now facts.now told) }
 {
     if !may_run(me.role, vehicle) {
         return Ok(Answer::Denied(Rule::Caller));
@@ -266,7 +267,7 @@ pub(crate) fn tell_day_sheet(
     me: &Caller,
     day: Day,
 ) -> Result<Answer, AllocError>
-    ensures { IfOk result (λ told. (now : ℕ × ℕ) → IsTold (read.DaySheet day) me.now now facts.now told) }
+    ensures { IfOk result (λ told. (now : Moment) → IsTold (read.DaySheet day) me.now now facts.now told) }
 {
     if !is_dispatcher(me.role) {
         return Ok(Answer::Denied(Rule::Caller));

@@ -44,10 +44,7 @@ impl TravelTable {
         ensures value { IfOk result (λ table. table ≡ record { from_day = from_day; rows = rows }) }
         ensures table { IfOk result (λ table. IsTable table.rows) }
     {
-        let times = match Closed::of(alloc, &rows) {
-            Ok(times) => times,
-            Err(_) => return Err(AllocError),
-        };
+        let times = Closed::of(alloc, &rows)?;
         let _ = rows.rows();
         Ok(TravelTable {
             from_day,

@@ -4,7 +4,7 @@ ghost use Rattle.pt_desk_rules.specs.Trips.{gives_up, moves_to, IsConfirmation};
 
 use crate::Confirmation;
 use crate::denying::is_there;
-use pt_base::{Day, Minute, Place, Trip, TripStatus, Wish};
+use pt_base::{Day, Moment, Place, Trip, TripStatus, Wish};
 use pt_booking::party_of;
 use pt_party::due;
 use pt_records::{Edits, Key, Rows, Span};
@@ -29,7 +29,7 @@ pub(crate) fn is_changeable(today: Day, trip: &Option<Trip>) -> bool
 }
 
 /// Whether the trip may be cancelled at the moment `now`.
-pub(crate) fn is_cancellable(now: (Day, Minute), trip: &Option<Trip>) -> bool
+pub(crate) fn is_cancellable(now: Moment, trip: &Option<Trip>) -> bool
     ensures { result ≡ is_cancellable now trip.now }
 {
     match trip {
@@ -39,11 +39,11 @@ pub(crate) fn is_cancellable(now: (Day, Minute), trip: &Option<Trip>) -> bool
 }
 
 /// Whether the trip's promised window has not begun.
-fn is_to_come(now: (Day, Minute), trip: &Trip) -> bool
-    ensures { result ≡ (nat_lt now.0 trip.now.wish.day
-        || (now.0 == trip.now.wish.day && nat_lt now.1 trip.now.window_from)) }
+fn is_to_come(now: Moment, trip: &Trip) -> bool
+    ensures { result ≡ (nat_lt now.day trip.now.wish.day
+        || (now.day == trip.now.wish.day && nat_lt now.minute trip.now.window_from)) }
 {
-    let (day, minute) = now;
+    let Moment { day, minute } = now;
     day < trip.wish.day || (day == trip.wish.day && minute < trip.window_from)
 }
 

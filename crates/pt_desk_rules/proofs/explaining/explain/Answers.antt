@@ -9,6 +9,6 @@ returns c =
     record {
       value = explained wish c.args.me.now c.args.now facts c.told_of.result None
           (sym c.explain_denial.ensures.value ∙ c.in_default.is)
-          (told_of c.next_trip.result wish c.args.now.0 facts c.in_ok-found.found c.told_of.result c.next_trip.ensures
+          (told_of c.next_trip.result wish c.args.now.day facts c.in_ok-found.found c.told_of.result c.next_trip.ensures
           c.in_ok-found.ensures c.told_of.ensures);
     }

@@ -1,18 +1,16 @@
--- A request that comes again with nothing between is told the same.
+-- A read in one state is told one thing.
 use Rattle.std.proofs.Common.{◌≡◌, ◌↔◌, ◌∙◌, ℕ, zero, suc, ◌+◌, Bool, true, false, IsTrue, List, [], ◌∷◌, length}
 use Rattle.std.proofs.Common.{inl, inr, take, Option, Some, None, arith, refl, sym, ap, subst}
 use Rattle.std.specs.List.{AllZip}
-use Rattle.std.specs.Option.{option_map}
 use Rattle.std.specs.Prelude.{slice_get, slice_index}
 use Rattle.std.proofs.lemmas.Option.{same_Some}
 use Rattle.pt_base.specs.declared.rider.Residence.{Residence}
 use Rattle.pt_base.specs.declared.rider.Residence.TheVariants.{Resident, Visitor}
 use Rattle.pt_base.specs.declared.rider.Rider.{Rider}
 use Rattle.pt_base.specs.declared.rule.Rule.{Rule}
-use Rattle.pt_base.specs.declared.rule.Rule.TheVariants as rule
 use Rattle.pt_base.specs.declared.trip.Trip.{Trip}
-use Rattle.pt_base.specs.declared.trip.Wish.{Wish}
 use Rattle.pt_base.specs.declared.vehicle.Vehicle.{Vehicle}
+use Rattle.pt_base.specs.declared.moment.Moment.{Moment}
 use Rattle.pt_feasible.specs.Loads.{load_aboard}
 use Rattle.pt_feasible.specs.ServiceTimes.{IsLeastSchedule}
 use Rattle.pt_feasible.specs.declared.stop.Stop.{Stop}
@@ -24,45 +22,102 @@ use Rattle.pt_requests.specs.declared.sheets.VehicleSheet.{VehicleSheet}
 use Rattle.pt_records.specs.Records.{record_at}
 use Rattle.pt_rights.specs.Rules.{first_failing}
 use Rattle.pt_rights.specs.declared.entry.Entered.{Entered}
-use Rattle.pt_scheduling.specs.declared.scheduling.Scheduled.TheVariants as scheduled
 use Rattle.pt_travel.specs.Chain.{Row}
 use Rattle.pt_visitors.specs.Periods.{MayUse}
 use Rattle.pt_desk_rules.specs.Again.{IsSameAnswer, IsSameDaySheet, IsSameSheet, IsSameTour}
-use Rattle.pt_desk_rules.specs.Again.{IsToldAgain}
-use Rattle.pt_desk_rules.specs.Again.{IsSameTourOrNone, ReadsAreTheSameAgain, RequestsAreTheSameAgain}
-use Rattle.pt_desk_rules.specs.Booking.{rows_of, HasRoutes}
+use Rattle.pt_desk_rules.specs.Again.{IsSameTourOrNone}
+use Rattle.pt_desk_rules.specs.Booking.{rows_of}
 use Rattle.pt_desk_rules.specs.Deciding.{IsToldAfter, IsToldOfKind, IsToldRead, IsToldStanding}
-use Rattle.pt_desk_rules.specs.Explaining.{next_trip, IsExplainedAfter, IsToldPossible}
-use Rattle.pt_desk_rules.specs.Facts.{read_facts_of, wish_facts}
+use Rattle.pt_desk_rules.specs.Facts.{read_facts_of}
 use Rattle.pt_desk_rules.specs.Fleet.{duty_of, on_duty}
 use Rattle.pt_desk_rules.specs.Letters.{letter_at, IsToldLetter}
-use Rattle.pt_desk_rules.specs.Rules.{explain_rules, read_rules}
-use Rattle.pt_desk_rules.specs.Sound.{IsSound}
+use Rattle.pt_desk_rules.specs.Rules.{read_rules}
 use Rattle.pt_desk_rules.specs.State.{trip_key, State}
-use Rattle.pt_desk_rules.specs.Step.{arrival_in, left_of, sender, state_after, told_of}
-use Rattle.pt_desk_rules.specs.Step.{IsOutcome, IsOutcomeAs, IsOutcomeBy}
+use Rattle.pt_desk_rules.specs.Step.{IsOutcomeBy}
 use Rattle.pt_desk_rules.specs.Tours.{tour_stop, IsDaySheet, IsManifestOf, IsSheetOf, IsShownAt, IsTour}
 use Rattle.pt_desk_rules.specs.Tours.{AreShown, IsTourOrNone}
-use Rattle.pt_desk_rules.proofs.AgainLemmas.{answered_one, denials_are_the_same_again, uses_one}
-use Rattle.pt_desk_rules.proofs.DutyLemmas.{has_routes}
-use Rattle.pt_desk_rules.proofs.KeyLemmas.{key_stays}
-use Rattle.pt_desk_rules.proofs.NumberLemmas.{writes_may_be_sent_again}
-use Rattle.pt_desk_rules.proofs.SoundLemmas.{request_sound}
 use Rattle.pt_desk_rules.proofs.TourLemmas.{minutes_one}
-use Rattle.pt_desk_rules.specs.declared.deciding.Decision.{Decision}
-use Rattle.pt_desk_rules.specs.declared.deciding.Decision.TheVariants as decision
 use Rattle.pt_desk_rules.specs.declared.facts.DayFacts.{DayFacts}
 use Rattle.pt_desk_rules.specs.declared.facts.ReadFacts.{ReadFacts}
-use Rattle.pt_desk_rules.specs.declared.kept.Arrival.{Arrival}
-use Rattle.pt_desk_rules.specs.declared.kept.Arrival.TheVariants.{New, Repeated, Stale}
 use Rattle.pt_requests.specs.declared.caller.Caller.{Caller}
 use Rattle.pt_requests.specs.declared.request.Answer.{Answer}
 use Rattle.pt_requests.specs.declared.request.Answer.TheVariants as answer
 use Rattle.pt_requests.specs.declared.request.Read.{Read}
 use Rattle.pt_requests.specs.declared.request.Read.TheVariants as read
-use Rattle.pt_requests.specs.declared.request.Request.{Request}
 use Rattle.pt_requests.specs.declared.request.Request.TheVariants as request
-use Rattle.pt_requests.specs.declared.request.Write.{Write}
+use Rattle.std.proofs.Common.{◌⊎◌, ◌<◌, ◌||◌}
+use Rattle.std.specs.Prelude.{◌==◌}
+use Rattle.std.specs.List.{list_any}
+use Rattle.std.specs.List.Sorted.{IsStrictlyIncreasing}
+use Rattle.std.proofs.lemmas.Bool.Decides.{eqb_tells, nat_tests}
+use Rattle.pt_scheduling.specs.Uses.{AreUses}
+
+-- rising numbers with the same members are the same
+abbrev has : ℕ → List ℕ → Bool
+has d xs = list_any (λ u. u == d) xs
+
+has_first : (x : ℕ) (xs : List ℕ) → has x (x ∷ xs) ≡ true
+has_first x xs = let itself : (x == x) ≡ true = grind (arith, nat_tests) in ap (λ b. b || has x xs) itself
+
+has_either : (d x : ℕ) (xs : List ℕ) → has d (x ∷ xs) ≡ true → (x ≡ d) ⊎ (has d xs ≡ true)
+has_either d x xs is = elim (eqb_tells x d) [
+  | inl (tells, same) ↦ inl same
+  | inr (tells, other) ↦ inr (sym (ap (λ b. b || has d xs) tells) ∙ is)
+]
+
+tail_rises : (x : ℕ) (xs : List ℕ) → IsStrictlyIncreasing (x ∷ xs) → IsStrictlyIncreasing xs
+tail_rises x xs rises k within =
+    let next : suc k + 1 ≡ suc (k + 1) = omega arith in
+    subst (λ i. slice_index xs k < slice_index (x ∷ xs) i) next (rises (suc k) (omega arith))
+
+above_first : (x d : ℕ) (xs : List ℕ) → IsStrictlyIncreasing (x ∷ xs) → has d xs ≡ true → x < d
+above_first x d [] rises is = absurd (cc)
+above_first x d (y ∷ ys) rises is =
+    let below : x < y = rises zero (omega arith) in
+    elim (has_either d y ys is) [
+      | inl same ↦ omega arith
+      | inr later ↦ (let above = above_first y d ys (tail_rises x (y ∷ ys) rises) later in omega arith)
+    ]
+
+not_above : (x : ℕ) (xs : List ℕ) (b : Bool) → has x xs ≡ b → IsStrictlyIncreasing (x ∷ xs) → b ≡ false
+not_above x xs true is rises = absurd (let above = above_first x x xs rises is in omega arith)
+not_above x xs false is rises = refl
+
+first_same : (x y : ℕ) (xs ys : List ℕ) → IsStrictlyIncreasing (x ∷ xs) → IsStrictlyIncreasing (y ∷ ys)
+    → has x (y ∷ ys) ≡ true → has y (x ∷ xs) ≡ true → x ≡ y
+first_same x y xs ys rises also one two = elim (has_either x y ys one) [
+  | inl same ↦ sym same
+  | inr later ↦ elim (has_either y x xs two) [
+    | inl same ↦ same
+    | inr after ↦ (let a = above_first x y xs rises after in let b = above_first y x ys also later in omega arith)
+  ]
+]
+
+tails_same : (x d : ℕ) (xs ys : List ℕ) → IsStrictlyIncreasing (x ∷ xs) → IsStrictlyIncreasing (x ∷ ys)
+    → has d (x ∷ xs) ≡ has d (x ∷ ys) → has d xs ≡ has d ys
+tails_same x d xs ys rises also same = elim (eqb_tells x d) [
+  | inl (tells, is) ↦
+      subst (λ n. has n xs ≡ has n ys) is
+      (not_above x xs (has x xs) refl rises ∙ sym (not_above x ys (has x ys) refl also))
+  | inr (tells, other) ↦ sym (ap (λ b. b || has d xs) tells) ∙ same ∙ ap (λ b. b || has d ys) tells
+]
+
+rising_one : (xs ys : List ℕ) → IsStrictlyIncreasing xs → IsStrictlyIncreasing ys
+    → ((d : ℕ) → has d xs ≡ has d ys) → xs ≡ ys
+rising_one [] [] rises also same = refl
+rising_one [] (y ∷ ys) rises also same = absurd (let first = same y ∙ has_first y ys in cc)
+rising_one (x ∷ xs) [] rises also same = absurd (let first = sym (same x) ∙ has_first x xs in cc)
+rising_one (x ∷ xs) (y ∷ ys) rises also same =
+    let first = first_same x y xs ys rises also (sym (same x) ∙ has_first x xs) (same y ∙ has_first y ys) in
+    let rest = subst (λ n. IsStrictlyIncreasing (n ∷ ys)) (sym first) also in
+    let members = λ (d : ℕ). tails_same x d xs ys rises rest (same d ∙ ap (λ n. has d (n ∷ ys)) (sym first)) in
+    let tails = rising_one xs ys (tail_rises x xs rises) (tail_rises y ys also) members in
+    ap (λ n. n ∷ xs) first ∙ ap (λ l. y ∷ l) tails
+
+pub uses_one : (left_out : Option ℕ) (trips : List Trip) (a b : List ℕ) → AreUses left_out trips a
+    → AreUses left_out trips b → a ≡ b
+uses_one left_out trips a b one two =
+    rising_one a b one.rising two.rising (λ d. one.members d ∙ sym (two.members d))
 
 -- lists that agree at each place are the same
 same_list : {A : Type 0} (xs ys : List A) → length xs ≡ length ys
@@ -75,7 +130,7 @@ same_list (x ∷ xs) (y ∷ ys) as_long each =
     ap (λ a. a ∷ xs) (each zero x y refl refl) ∙ ap (λ l. y ∷ l) rest
 
 -- two least schedules of one route begin each service at the same minute
-least_one : (minutes : ℕ → ℕ → Option ℕ) (vehicle : Vehicle) (stops : List Stop) (a b : List ℕ)
+pub least_one : (minutes : ℕ → ℕ → Option ℕ) (vehicle : Vehicle) (stops : List Stop) (a b : List ℕ)
     → IsLeastSchedule minutes vehicle stops a → IsLeastSchedule minutes vehicle stops b
     → (k : ℕ) → slice_index a k ≡ slice_index b k
 least_one minutes vehicle stops a b one two k =
@@ -150,7 +205,7 @@ like_itself (answer.DaySheet sheet) =
     record { day = refl; vehicles = like_sheets sheet.vehicles.items; trips = refl }
 like_itself _ = refl
 
-like : (told again : Answer) → told ≡ again → IsSameAnswer told again
+pub like : (told again : Answer) → told ≡ again → IsSameAnswer told again
 like told again same = subst (IsSameAnswer told) same (like_itself told)
 
 manifest_one : (id day : ℕ) (facts : DayFacts) (found : Option Vehicle) (x y : VehicleSheet)
@@ -177,7 +232,7 @@ day_sheet_one day vehicles facts x y one two = record {
 }
 
 -- one answer to each kind of read
-bool_one : (a b : Bool) → (IsTrue a → IsTrue b) → (IsTrue b → IsTrue a) → a ≡ b
+pub bool_one : (a b : Bool) → (IsTrue a → IsTrue b) → (IsTrue b → IsTrue a) → a ≡ b
 bool_one true true to from = refl
 bool_one true false to from = sym (to refl)
 bool_one false true to from = from refl
@@ -223,142 +278,10 @@ after_one : (first : Option Rule) (asked : Read) (today : ℕ) (facts : ReadFact
 after_one (Some first) asked today facts told again one two = like told again (one ∙ sym two)
 after_one None asked today facts told again one two = told_one asked today facts told again one two
 
-read_one : (found : Option Caller) (now : ℕ × ℕ) (number other : ℕ) (asked : Read) (s : State) (told again : Answer)
+pub read_one : (found : Option Caller) (now : Moment) (number other : ℕ) (asked : Read) (s : State) (told again : Answer)
     (left after : Option State) → IsOutcomeBy found now number (request.Read asked) s told left
     → IsOutcomeBy found now other (request.Read asked) s again after → IsSameAnswer told again × (after ≡ None)
 read_one None now number other asked s told again left after one two = (like told again (one.0 ∙ sym two.0), two.1)
 read_one (Some me) now number other asked s told again left after one two =
     let facts = read_facts_of asked s in
-    (after_one (first_failing (read_rules asked me facts)) asked now.0 facts told again one.0 two.0, two.1)
-
--- a read commits nothing
-read_leaves : (found : Option Caller) (now : ℕ × ℕ) (number : ℕ) (asked : Read) (s : State) (told : Answer)
-    (left : Option State) → IsOutcomeBy found now number (request.Read asked) s told left → left ≡ None
-read_leaves None now number asked s told left one = one.1
-read_leaves (Some me) now number asked s told left one = one.1
-
-pub reads_are_the_same_again : ReadsAreTheSameAgain
-reads_are_the_same_again key now number other asked s told again left after one two =
-    let nothing = read_leaves (sender key s) now number asked s told left one in
-    let stays : state_after left s ≡ s = ap (λ l. state_after l s) nothing in
-    read_one (sender key s) now number other asked s told again left after one
-    (subst (λ t. IsOutcome key now other (request.Read asked) t again after) stays two)
-
--- a denial commits nothing, and an acceptance commits
-denied_if : (decided : Decision) (s : State) → None ≡ left_of decided s
-    → (first : Rule) × (told_of decided ≡ answer.Denied first)
-denied_if (decision.Denied first) s leaves = (first, refl)
-denied_if (decision.Accepted told change) s leaves = absurd (cc)
-
--- a write that committed nothing comes again
-write_again : (arrival : Arrival) (key : List ℕ) (now : ℕ × ℕ) (number : ℕ) (asked : Write) (me : Caller) (s : State)
-    (told again : Answer) (after : Option State) → IsSound s → sender key s ≡ Some me
-    → arrival_in s asked me number ≡ arrival → IsOutcomeAs arrival asked me now number s told None
-    → IsOutcomeAs arrival asked me now number s again after → IsSameAnswer told again × (after ≡ None)
-write_again (Repeated reply) key now number asked me s told again after sound by comes one two =
-    (like told again (one.0 ∙ sym two.0), two.1)
-write_again Stale key now number asked me s told again after sound by comes one two =
-    (like told again (one.0 ∙ sym two.0), two.1)
-write_again New key now number asked me s told again after sound by comes (decided, is, made, tells, leaves) two =
-    let (first, denied) = denied_if decided s leaves in
-    let told_so = tells ∙ denied in
-    let whole = λ (t : Answer) (l : Option State) (as_new : IsOutcomeAs New asked me now number s t l).
-    subst (λ c. IsOutcomeBy c now number (request.Write asked) s t l) (sym by)
-    (subst (λ a. IsOutcomeAs a asked me now number s t l) (sym comes) as_new) in
-    let first_time = subst (λ t. IsOutcome key now number (request.Write asked) s t None) told_so
-    (whole told None (decided, is, made, tells, leaves)) in
-    let same = denials_are_the_same_again key now number (request.Write asked) s first again None after sound first_time
-    (whole again after two) in
-    (like told again (told_so ∙ sym same.0), same.1)
-
--- an explanation comes again
-explained_again : (first : Option Rule) (rider : ℕ) (wish : Wish) (today : ℕ) (s : State) (told again : Answer)
-    → HasRoutes s → IsExplainedAfter first wish today (wish_facts rider wish None s) told
-    → IsExplainedAfter first wish today (wish_facts rider wish None s) again → told ≡ again
-explained_again (Some first) rider wish today s told again routes one two = one ∙ sym two
-explained_again None rider wish today s told again routes (scheduled.Denied first, answered, says)
-    (other, answers, tells) =
-    let facts = wish_facts rider wish None s in
-    let one = answered_one (next_trip facts) None today wish facts first other (routes (s.last_trip + 1) wish.day)
-    answered answers in
-    let tells_so : again ≡ answer.Denied first = subst (λ o. IsToldPossible o again) one tells in
-    says ∙ sym tells_so
-explained_again None rider wish today s told again routes (found, answered, says)
-    (scheduled.Denied first, answers, tells) =
-    let facts = wish_facts rider wish None s in
-    let one = answered_one (next_trip facts) None today wish facts first found (routes (s.last_trip + 1) wish.day)
-    answers answered in
-    let says_so : told ≡ answer.Denied first = subst (λ o. IsToldPossible o told) one says in
-    says_so ∙ sym tells
-explained_again None rider wish today s told again routes (scheduled.Booked trip plan, answered, says)
-    (scheduled.Booked other planned, answers, tells) = says ∙ sym tells
-
--- a request that committed nothing comes again
-untouched_again : (found : Option Caller) (key : List ℕ) (now : ℕ × ℕ) (number : ℕ) (asked : Request) (s : State)
-    (told again : Answer) (after : Option State) → IsSound s → sender key s ≡ found
-    → IsOutcomeBy found now number asked s told None → IsOutcomeBy found now number asked s again after
-    → IsSameAnswer told again × (after ≡ None)
-untouched_again None key now number asked s told again after sound by one two =
-    (like told again (one.0 ∙ sym two.0), two.1)
-untouched_again (Some me) key now number (request.Read asked) s told again after sound by one two =
-    read_one (Some me) now number number asked s told again None after one two
-untouched_again (Some me) key now number (request.Explain rider wish) s told again after sound by one two =
-    let first = first_failing (explain_rules wish me (wish_facts rider wish None s)) in
-    (like told again (explained_again first rider wish now.0 s told again (has_routes s sound) one.0 two.0), two.1)
-untouched_again (Some me) key now number (request.Write asked) s told again after sound by one two =
-    write_again (arrival_in s asked me number) key now number asked me s told again after sound by refl one two
-
--- one that was accepted comes again, under a key that is still its caller's
-accepted_again : (me : Caller) (holds : Option Caller) (key : List ℕ) (now : ℕ × ℕ) (number : ℕ) (asked : Write)
-    (s new : State) (told again : Answer) (after : Option State) → sender key s ≡ Some me → sender key new ≡ holds
-    → option_map (λ caller. caller.id) holds ≡ Some me.id
-    → IsOutcomeBy (Some me) now number (request.Write asked) s told (Some new)
-    → IsOutcome key now number (request.Write asked) new again after → (again ≡ told) × (after ≡ None)
-accepted_again me None key now number asked s new told again after by has same one two = absurd (cc)
-accepted_again me (Some holder) key now number asked s new told again after by has same one two =
-    writes_may_be_sent_again key key now now number asked me holder told again [] s new after
-    (record {
-      committed = new;
-      by = by;
-      accepted = subst (λ c. IsOutcomeBy c now number (request.Write asked) s told (Some new)) (sym by) one;
-      calls_since = refl;
-      none_since = refl;
-    }) has (same_Some holder.id me.id same) two
-
--- or under one that is nobody's any more
-nobody_told : (holds : Option Caller) (now : ℕ × ℕ) (number : ℕ) (asked : Request) (s : State) (again : Answer)
-    (after : Option State) → option_map (λ caller. caller.id) holds ≡ None
-    → IsOutcomeBy holds now number asked s again after → (again ≡ answer.Denied rule.Key) × (after ≡ None)
-nobody_told None now number asked s again after lost two = two
-nobody_told (Some holder) now number asked s again after lost two = absurd (cc)
-
--- a request that committed a state comes again
-committed_again : (found : Option Caller) (key : List ℕ) (now : ℕ × ℕ) (number : ℕ) (asked : Request)
-    (s new : State) (told again : Answer) (after : Option State) → IsSound s → IsSound new → sender key s ≡ found
-    → IsOutcomeBy found now number asked s told (Some new) → IsOutcome key now number asked new again after
-    → IsToldAgain key asked s new told again × (after ≡ None)
-committed_again None key now number asked s new told again after sound sound_after by one two =
-    absurd (let none = one.1 in cc)
-committed_again (Some me) key now number (request.Read asked) s new told again after sound sound_after by one two =
-    absurd (let none = one.1 in cc)
-committed_again (Some me) key now number (request.Explain rider wish) s new told again after sound sound_after by one
-    two = absurd (let none = one.1 in cc)
-committed_again (Some me) key now number (request.Write asked) s new told again after sound sound_after by one two =
-    elim (key_stays key me now number asked s new told sound sound_after by one) [
-      | inl stays ↦
-          let held = stays ∙ ap (option_map (λ (c : Caller). c.id)) by in
-          let same = accepted_again me (sender key new) key now number asked s new told again after by refl held one
-          two in
-          (inl (like told again (sym same.0)), same.1)
-      | inr given ↦
-          let denied = nobody_told (sender key new) now number (request.Write asked) new again after given.lost two in
-          (inr (given, denied.0), denied.1)
-    ]
-
-pub requests_are_the_same_again : RequestsAreTheSameAgain
-requests_are_the_same_again key now number asked s told again None after sound one two =
-    let same = untouched_again (sender key s) key now number asked s told again after sound refl one two in
-    (inl same.0, same.1)
-requests_are_the_same_again key now number asked s told again (Some new) after sound one two =
-    committed_again (sender key s) key now number asked s new told again after sound
-    (request_sound key now number asked s told (Some new) sound one) refl one two
+    (after_one (first_failing (read_rules asked me facts)) asked now.day facts told again one.0 two.0, two.1)
