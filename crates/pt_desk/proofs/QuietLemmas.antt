@@ -1,6 +1,7 @@
 -- Requests that change nothing.
 use Rattle.std.proofs.Common.{◌≡◌, ℕ, false, List, Option, Some, None, Result, Ok, IfOk, ap, sym}
 use Rattle.pt_base.specs.declared.trip.Wish.{Wish}
+use Rattle.pt_base.specs.declared.moment.Moment.{Moment}
 use Rattle.pt_desk_rules.specs.State.{State}
 use Rattle.pt_desk_rules.specs.Step.{sender, IsOutcome, IsOutcomeBy}
 use Rattle.pt_requests.specs.declared.caller.Caller.{Caller}
@@ -22,20 +23,20 @@ is_denied (Ok (Denied rule)) told denial agrees = ap is_of_write (sym agrees)
 is_denied _ told denial agrees = absurd denial
 
 -- a denial
-pub denied : (a b : Store) (key : List ℕ) (now : ℕ × ℕ) (number : ℕ) (asked : Request) (reply : Reply) → Answers a b (IsOutcome key now number asked) reply → IsDenial reply → ChangesNothing a b reply
+pub denied : (a b : Store) (key : List ℕ) (now : Moment) (number : ℕ) (asked : Request) (reply : Reply) → Answers a b (IsOutcome key now number asked) reply → IsDenial reply → ChangesNothing a b reply
 denied a b key now number asked reply answers denial =
     changes_nothing a b (IsOutcome key now number asked) reply answers
     (λ told left agrees is. commits_nothing (sender key a.content) now number asked a.content told left is (is_denied reply told denial agrees))
 
 -- an explanation
-explain_commits_nothing : (caller : Option Caller) (now : ℕ × ℕ) (number rider : ℕ) (wish : Wish) (s : State)
+explain_commits_nothing : (caller : Option Caller) (now : Moment) (number rider : ℕ) (wish : Wish) (s : State)
     (told : Answer) (left : Option State) → IsOutcomeBy caller now number (request.Explain rider wish) s told left
     → left ≡ None
 explain_commits_nothing None now number rider wish s told left (tells, leaves) = leaves
 explain_commits_nothing (Some me) now number rider wish s told left (tells, leaves) = leaves
 
 -- a read
-pub read : (a b : Store) (key : List ℕ) (now : ℕ × ℕ) (number : ℕ) (asked : Request) (reply : Reply) → Answers a b (IsOutcome key now number asked) reply → IsRead asked → ChangesNothing a b reply
+pub read : (a b : Store) (key : List ℕ) (now : Moment) (number : ℕ) (asked : Request) (reply : Reply) → Answers a b (IsOutcome key now number asked) reply → IsRead asked → ChangesNothing a b reply
 read a b key now number (request.Read asked) reply answers is_read =
     changes_nothing a b (IsOutcome key now number (request.Read asked)) reply answers
     (λ told left agrees is. read_commits_nothing (sender key a.content) now number asked a.content told left is)

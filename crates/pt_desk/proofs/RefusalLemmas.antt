@@ -2,6 +2,7 @@
 use Rattle.std.proofs.Common.{◌≡◌, inl, inr, ℕ, List, Option, Some, None, Result, Ok, Err, IfOk, refl, sym, subst}
 use Rattle.pt_base.specs.declared.rule.Rule.TheVariants as rule
 use Rattle.pt_base.specs.declared.trip.Wish.{Wish}
+use Rattle.pt_base.specs.declared.moment.Moment.{Moment}
 use Rattle.pt_booking.specs.Planning.{SomeVehicleCan}
 use Rattle.pt_desk.specs.Refusals.{IsFacts, IsInquiryBy, RefusalsAreTold}
 use Rattle.pt_desk.specs.Store.{Answers, Store}
@@ -21,13 +22,13 @@ use Rattle.pt_requests.specs.declared.request.Answer.TheVariants as answer
 use Rattle.pt_requests.specs.declared.request.Request.TheVariants as request
 
 -- asking commits nothing
-pub inquiry_commits_nothing : (by : Option Caller) (now : ℕ × ℕ) (rider : ℕ) (wish : Wish) (s : State)
+pub inquiry_commits_nothing : (by : Option Caller) (now : Moment) (rider : ℕ) (wish : Wish) (s : State)
     (found : Inquiry) (left : Option State) → IsInquiryBy by now rider wish s found left → left ≡ None
 inquiry_commits_nothing None now rider wish s found left is = is.1
 inquiry_commits_nothing (Some me) now rider wish s found left is = is.1
 
 -- what is found is by the content
-pub found_by : (a b : Store) (key : List ℕ) (now : ℕ × ℕ) (rider : ℕ) (wish : Wish) (r : Result Inquiry StoreFault)
+pub found_by : (a b : Store) (key : List ℕ) (now : Moment) (rider : ℕ) (wish : Wish) (r : Result Inquiry StoreFault)
     → Answers a b (IsFacts key now rider wish) r → b.doubt ≡ 0
     → IfOk r (λ found. IsFacts key now rider wish a.content found None)
 found_by a b key now rider wish (Err e) answers clean = tt
@@ -41,7 +42,7 @@ found_by a b key now rider wish (Ok found) (told, left, goes, by) clean = elim (
 ]
 
 -- it is denied so
-shown_by : (by : Option Caller) (now : ℕ × ℕ) (number rider : ℕ) (wish : Wish) (s : State) (found : Refusal)
+shown_by : (by : Option Caller) (now : Moment) (number rider : ℕ) (wish : Wish) (s : State) (found : Refusal)
     (left : Option State) (minutes : ℕ → ℕ → Option ℕ) → IsInquiryBy by now rider wish s (inquiry.Facts found) left
     → AreTimes found.rows minutes → ¬ SomeVehicleCan minutes found.vehicles found.asked
     → IsOutcomeBy by now number (request.Explain rider wish) s (answer.Denied rule.NoVehicle) None

@@ -13,7 +13,7 @@ use Rattle.pt_desk_rules.specs.Again.{IsToldAgain}
 use Rattle.pt_desk_rules.specs.Numbers.{committed, AreMadeBy}
 use Rattle.pt_desk_rules.specs.Step.{state_after}
 use Rattle.pt_desk_rules.proofs.NumberLemmas.{accepted_writes_make_the_state}
-use Rattle.pt_desk_rules.proofs.SameLemmas.{requests_are_the_same_again}
+use Rattle.pt_desk_rules.proofs.AgainLemmas.{requests_are_the_same_again}
 use Rattle.std.proofs.lemmas.Option.{same_Some}
 
 abbrev Reply : Type 0

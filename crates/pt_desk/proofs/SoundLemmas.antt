@@ -1,5 +1,6 @@
 -- An answer leaves a sound state so.
 use Rattle.std.proofs.Common.{◌≡◌, ◌<◌, ◌⊎◌, ℕ, List, Option, None, Result, Ok, Err, arith, refl, sym, subst, inl, inr}
+use Rattle.pt_base.specs.declared.moment.Moment.{Moment}
 use Rattle.pt_desk_rules.specs.State.{State}
 use Rattle.pt_desk_rules.specs.Step.{state_after, IsOutcome}
 use Rattle.pt_desk_rules.specs.Sound.{IsSound}
@@ -20,13 +21,13 @@ answered before after told left (Ok x) tells fine sound (inr fault) = absurd fau
 answered before after told left (Err Memory) tells fine sound by = subst IsSound (sym tells) sound
 answered before after told left (Err failed) tells fine sound by = absurd (fine refl)
 
-allowed_sound : (key : List ℕ) (now : ℕ × ℕ) (number : ℕ) (asked : Request) (s : State) (told : Answer) (left : Option State) (reply : Reply) → IsSound s
+allowed_sound : (key : List ℕ) (now : Moment) (number : ℕ) (asked : Request) (s : State) (told : Answer) (left : Option State) (reply : Reply) → IsSound s
     → IsOutcome key now number asked s told left ⊎ (IsFault reply × (left ≡ None)) → IsSound (state_after left s) ⊎ IsFault reply
 allowed_sound key now number asked s told left reply sound (inl is) = inl (request_sound key now number asked s told left sound is)
 allowed_sound key now number asked s told left reply sound (inr fault) = inr fault.0
 
 -- while the store has not failed
-pub answered_sound : (before after : Store) (key : List ℕ) (now : ℕ × ℕ) (number : ℕ) (asked : Request) (reply : Reply)
+pub answered_sound : (before after : Store) (key : List ℕ) (now : Moment) (number : ℕ) (asked : Request) (reply : Reply)
     → Answers before after (IsOutcome key now number asked) reply
     → after.doubt ≡ 0 → after.failures ≡ 0 → IsSound before.content → IsSound after.content
 answered_sound before after key now number asked reply (told, left, goes, by) clean none sound =

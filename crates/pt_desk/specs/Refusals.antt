@@ -2,6 +2,7 @@
 use Rattle.std.specs.Prelude.{◌≡◌, ℕ, List, Option, Some, None}
 use Rattle.pt_base.specs.declared.rule.Rule.TheVariants as rule
 use Rattle.pt_base.specs.declared.trip.Wish.{Wish}
+use Rattle.pt_base.specs.declared.moment.Moment.{Moment}
 use Rattle.pt_booking.specs.Planning.{SomeVehicleCan}
 use Rattle.pt_desk_rules.specs.Booking.{AreTimes}
 use Rattle.pt_desk_rules.specs.Explaining.{IsInquiry}
@@ -18,19 +19,19 @@ use Rattle.pt_requests.specs.declared.request.Answer.TheVariants as answer
 use Rattle.pt_requests.specs.declared.request.Request.TheVariants as request
 
 -- the same of a question by whoever has the key: it commits nothing
-abbrev pub IsInquiryBy : Option Caller → (ℕ × ℕ) → ℕ → Wish → State → Inquiry → Option State → Type 0
+abbrev pub IsInquiryBy : Option Caller → Moment → ℕ → Wish → State → Inquiry → Option State → Type 0
 IsInquiryBy None now rider wish s found left = (found ≡ inquiry.Denied rule.Key) × (left ≡ None)
 IsInquiryBy (Some me) now rider wish s found left =
     IsInquiry wish me now (wish_facts rider wish None s) found × (left ≡ None)
 
 -- what comes of asking with this key for the facts of a refusal of a rider's wish at this moment
-abbrev pub IsFacts : List ℕ → (ℕ × ℕ) → ℕ → Wish → State → Inquiry → Option State → Type 0
+abbrev pub IsFacts : List ℕ → Moment → ℕ → Wish → State → Inquiry → Option State → Type 0
 IsFacts key now rider wish s found left = IsInquiryBy (sender key s) now rider wish s found left
 
 -- Where no vehicle of the facts has a place for the asked trip, whoever asks with that key in that sound state whether
 -- the wish could be booked is told that there is no vehicle, and nothing else.
 abbrev pub RefusalsAreTold : Type 0
-RefusalsAreTold = (key : List ℕ) (now : ℕ × ℕ) (number rider : ℕ) (wish : Wish) (s : State) (found : Refusal)
+RefusalsAreTold = (key : List ℕ) (now : Moment) (number rider : ℕ) (wish : Wish) (s : State) (found : Refusal)
     (left after : Option State) (minutes : ℕ → ℕ → Option ℕ) (told : Answer) → IsSound s →
     IsFacts key now rider wish s (inquiry.Facts found) left → AreTimes found.rows minutes →
     ¬ SomeVehicleCan minutes found.vehicles found.asked →

@@ -10,7 +10,7 @@ ghost use Rattle.pt_desk.specs.Run.{IsDenial, IsRead};
 
 use crate::gathering::{gather, gather_read, gather_wish};
 use crate::{Keeper, Reply, StoreFault};
-use pt_base::{Day, Minute, RiderId, Rule, Wish};
+use pt_base::{Moment, RiderId, Rule, Wish};
 use pt_desk_rules::{
     Answer, Arrival, Caller, Decision, Digest, Read, Request, Sent, Write, decide, explain, tell,
 };
@@ -22,7 +22,7 @@ fn answer_read<K: Keeper>(
     alloc: Global,
     keeper: &mut K,
     me: &Caller,
-    now: (Day, Minute),
+    now: Moment,
     read: &Read,
 ) -> Reply
     ensures goes { Answers (K.store keeper.old) (K.store keeper.new) (IsReadOutcome read.now me.now now) result }
@@ -36,7 +36,7 @@ fn answer_explain<K: Keeper>(
     alloc: Global,
     keeper: &mut K,
     me: &Caller,
-    now: (Day, Minute),
+    now: Moment,
     rider: RiderId,
     wish: &Wish,
 ) -> Reply
@@ -66,7 +66,7 @@ fn answer_new<K: Keeper>(
     alloc: Global,
     keeper: &mut K,
     me: &Caller,
-    now: (Day, Minute),
+    now: Moment,
     sent: Sent,
     write: &Write,
 ) -> Reply
@@ -85,7 +85,7 @@ fn answer_write<K: Keeper>(
     alloc: Global,
     keeper: &mut K,
     me: &Caller,
-    now: (Day, Minute),
+    now: Moment,
     number: u32,
     write: &Write,
 ) -> Reply
@@ -104,7 +104,7 @@ fn answer_write<K: Keeper>(
 fn answer_by_rules<K: Keeper>(
     alloc: Global,
     keeper: &mut K,
-    now: (Day, Minute),
+    now: Moment,
     key: &[u8],
     number: u32,
     request: &Request,
@@ -131,7 +131,7 @@ fn answer_by_rules<K: Keeper>(
 pub fn answer<K: Keeper>(
     alloc: Global,
     keeper: &mut K,
-    now: (Day, Minute),
+    now: Moment,
     key: &[u8],
     number: u32,
     request: &Request,

@@ -1,9 +1,6 @@
 ghost use Rattle.std.specs.Prelude.{◌≡◌, ◌∷◌, ◌++◌, ◌<◌, [], length, find, bytes_eq};
-ghost use Rattle.std.specs.Prelude.{IfOk, IfErr, OnOk};
-ghost use Rattle.pt_base.specs.Fault.{fault};
-ghost use Rattle.pt_base.specs.Codes.{memory_refused};
+ghost use Rattle.std.specs.Prelude.{IfOk, OnOk};
 ghost use Rattle.pt_desk_rules.specs.Limits.{most_entries};
-ghost use Rattle.pt_desk_rules.specs.Fleet.{has_version};
 ghost use Rattle.pt_desk_rules.specs.Planned.{is_booked_from, is_standing_from, planned_on, trips_of, trips_on};
 ghost use Rattle.pt_records.specs.Records.{IsInOrder};
 ghost use Rattle.pt_scheduling.specs.Plan.{plan_key};
@@ -11,13 +8,13 @@ ghost use Rattle.pt_desk_rules.specs.State.{span_of, entries_of, file_with, tabl
 
 use crate::{Keeper, StoreFault};
 use pt_base::{
-    CallerId, Day, Fault, Place, PlaceId, Policy, Rider, RiderId, RouteId, Trip, TripId, Vehicle,
+    CallerId, Day, Place, PlaceId, Policy, Rider, RiderId, RouteId, Trip, TripId, Vehicle,
     VehicleId,
 };
 use pt_corridor::FixedRoute;
 use pt_desk_rules::{
     Arrival, Caller, Change, Digest, FiledEntry, Kept, PlannedRoute, Role, Spelling, TravelTable,
-    table_on,
+    has_version, table_on,
 };
 use pt_records::{Edits, Key, Rows, Span, Table};
 use pt_rights::{CaseFile, Entered};
@@ -101,11 +98,10 @@ impl ListKeeper {
     ghost use Rattle.pt_desk_rules.specs.State.{applied};
 
     /// The least state, whose one caller is the admin with this key.
-    pub fn new(alloc: Global, admin_key: &[u8]) -> Result<Self, Fault>
+    pub fn new(alloc: Global, admin_key: &[u8]) -> Result<Self, AllocError>
         ensures least { IfOk result (λ keeper. IsLeastState admin_key.now keeper.content) }
         ensures sound { IfOk result (λ keeper. IsSound keeper.content) }
         ensures settled { IfOk result (λ keeper. IsSettled (⟦<ListKeeper as Keeper>⟧.store keeper)) }
-        ensures memory { IfErr result (λ error. error ≡ fault memory_refused) }
     {
         let admin = Caller {
             id: CallerId::of(1).unwrap(),
@@ -267,18 +263,6 @@ fn find_caller(callers: &[Caller], digest: &Digest) -> Option<Caller>
         }
     }
     None
-}
-
-/// Whether some version of the vehicle is among these.
-fn has_version(vehicles: &[Vehicle], id: VehicleId) -> bool
-    ensures value { result ≡ has_version id vehicles.now }
-{
-    for version in vehicles {
-        if version.id == id {
-            return true;
-        }
-    }
-    false
 }
 
 /// How many travel tables hold from a day before this one.

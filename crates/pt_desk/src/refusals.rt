@@ -4,7 +4,7 @@ ghost use Rattle.pt_desk.specs.Store.{Store, Answers, ChangesNothing, Fails};
 
 use crate::gathering::gather_wish;
 use crate::{Keeper, StoreFault};
-use pt_base::{Day, Minute, RiderId, Rule, Wish};
+use pt_base::{Moment, RiderId, Rule, Wish};
 use pt_desk_rules::{Caller, Digest, Inquiry, refusal_facts};
 use std::alloc::Global;
 
@@ -13,7 +13,7 @@ fn inquire<K: Keeper>(
     alloc: Global,
     keeper: &mut K,
     me: &Caller,
-    now: (Day, Minute),
+    now: Moment,
     rider: RiderId,
     wish: &Wish,
 ) -> Result<Inquiry, StoreFault>
@@ -27,7 +27,7 @@ fn inquire<K: Keeper>(
 fn inquire_by_key<K: Keeper>(
     alloc: Global,
     keeper: &mut K,
-    now: (Day, Minute),
+    now: Moment,
     key: &[u8],
     rider: RiderId,
     wish: &Wish,
@@ -48,7 +48,7 @@ fn inquire_by_key<K: Keeper>(
 pub fn facts<K: Keeper>(
     alloc: Global,
     keeper: &mut K,
-    now: (Day, Minute),
+    now: Moment,
     key: &[u8],
     rider: RiderId,
     wish: &Wish,

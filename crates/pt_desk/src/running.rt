@@ -1,18 +1,16 @@
-ghost use Rattle.std.specs.Prelude.{◌≡◌, ◌<◌, ◌≤◌, IfOk, IfErr, OnErr};
-ghost use Rattle.pt_base.specs.Fault.{fault};
-ghost use Rattle.pt_base.specs.Codes.{memory_refused};
+ghost use Rattle.std.specs.Prelude.{◌≡◌, ◌<◌, ◌≤◌, IfOk, OnErr};
 ghost use Rattle.pt_desk.specs.Store.{Store, Answers, ChangesNothing, Fails, IsSettled, IsSoundKept};
 ghost use Rattle.pt_desk.specs.Run.{AreOnlyTold, GoesOn, IsOnlyTold, IsOutcomeOf, TellOfFailure};
 
 use crate::{Keeper, Reply, answer};
-use pt_base::{Day, Fault, Minute};
+use pt_base::Moment;
 use pt_desk_rules::Request;
-use std::alloc::Global;
+use std::alloc::{AllocError, Global};
 
 /// A request as it comes in: at its moment, with the caller's key and the caller's number for it.
 #[derive(Debug, Drop)]
 pub struct Call {
-    pub now: (Day, Minute),
+    pub now: Moment,
     pub key: Vec<u8>,
     /// Counts a caller's writes upwards; a read's number is not looked at.
     pub number: u32,
@@ -40,9 +38,13 @@ fn answer_call<K: Keeper>(alloc: Global, keeper: &mut K, call: &Call) -> Reply
 
 /// Answers calls in turn, each over what the one before it left.
 ///
-/// The list of replies is made first. The error is want of memory for it, and then no call was answered. Where the
+/// The list of replies is made first: where there is no memory for it, no call was answered. Where the
 /// store is shut as the run ends, it has failed, or a reply is want of memory and the store serves no more.
-pub fn run<K: Keeper>(alloc: Global, keeper: &mut K, calls: &[Call]) -> Result<Vec<Reply>, Fault>
+pub fn run<K: Keeper>(
+    alloc: Global,
+    keeper: &mut K,
+    calls: &[Call],
+) -> Result<Vec<Reply>, AllocError>
     ensures runs { (K.store keeper.new).doubt ≡ 0
         → IfOk result (λ replies. GoesOn (K.store keeper.old).failures (K.store keeper.old).content calls.now
         replies.items (K.store keeper.new).content) }
@@ -58,7 +60,6 @@ pub fn run<K: Keeper>(alloc: Global, keeper: &mut K, calls: &[Call]) -> Result<V
     ensures settled { IsSettled (K.store keeper.old) → IsSettled (K.store keeper.new) }
     ensures sound { IsSoundKept (K.store keeper.old) (K.store keeper.new) }
     ensures err { OnErr result (keeper.new ≡ keeper.old) }
-    ensures memory { IfErr result (λ error. error ≡ fault memory_refused) }
 {
     let mut replies = Vec::with_capacity(alloc, calls.len())?;
     for call in calls {
