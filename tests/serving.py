@@ -227,6 +227,23 @@ def faults_of_database(file):
     yield f"foreign_key_check of {file} finds {lost}" if lost else None
 
 
+# The indexes beside the keys, with how SQLite lists them.
+INDEXES = {
+    "trips_rider": "CREATE INDEX trips_rider ON trips (rider)",
+    "trips_day": "CREATE INDEX trips_day ON trips (day)",
+}
+
+
+def faults_of_indexes(file):
+    """SQLite lists the indexes, and finds the trips of a rider and of a day by them."""
+    listed = dict(rows(file, "SELECT name, sql FROM sqlite_master WHERE type = 'index' AND sql IS NOT NULL"))
+    yield difference(f"the indexes of {file}", INDEXES, listed)
+    for column in "rider", "day":
+        plan = rows(file, f"EXPLAIN QUERY PLAN SELECT * FROM trips WHERE {column} = ?", 1)
+        is_used = len(plan) == 1 and f" USING INDEX trips_{column} ({column}=?)" in plan[0][3]
+        yield None if is_used else f"the trips of a {column} in {file} are found by {plan}"
+
+
 def difference(label, wanted, got):
     """None where both are the same, else what is told of them."""
     return None if wanted == got else f"{label}: wanted {wanted!r}, got {got!r}"

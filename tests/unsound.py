@@ -99,6 +99,13 @@ ROWS = [
     ("a table less", "DROP TABLE trip_chairs", OTHER_TABLES, None),
     ("a table more", "CREATE TABLE more(id)", OTHER_TABLES, None),
     ("an index more", "CREATE INDEX more ON trips(rider)", OTHER_TABLES, None),
+    ("an index less", "DROP INDEX trips_day", OTHER_TABLES, None),
+    ("no indexes of trips", "DROP INDEX trips_rider; DROP INDEX trips_day", OTHER_TABLES, None),
+    ("an index of another column", "DROP INDEX trips_day; CREATE INDEX trips_day ON trips (wish)", OTHER_TABLES, None),
+    ("an index of two columns", "DROP INDEX trips_day; CREATE INDEX trips_day ON trips (day, vehicle)", OTHER_TABLES, None),
+    ("an index that is unique", "DROP INDEX trips_day; UPDATE trips SET day = id; CREATE UNIQUE INDEX trips_day ON trips (day)",
+     OTHER_TABLES, None),
+    ("an index by another name", "DROP INDEX trips_day; CREATE INDEX by_day ON trips (day)", OTHER_TABLES, None),
     # (what refers to a record that is not there, which the store itself refuses)
     ("a depot that is not there", "UPDATE vehicles SET depot = 44", STORE, None),
     ("a trip of no rider", "UPDATE trips SET rider = 44 WHERE id = 1", STORE, None),

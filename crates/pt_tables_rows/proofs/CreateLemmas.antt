@@ -1,20 +1,21 @@
 -- What the statements that make the tables do, one after the other.
-use Rattle.std.proofs.Common.{◌≡◌, ◌<◌, ◌+◌, ℕ, zero, suc, List, [], ◌∷◌, ◌++◌, false, None, Ok, refl, sym, ap, subst, ◌∙◌, arith, slice_index_or, fold, map, take}
+use Rattle.std.proofs.Common.{◌≡◌, ◌<◌, ◌+◌, ◌-◌, ℕ, zero, suc, List, [], ◌∷◌, ◌++◌, false, None, Some, Ok, refl, sym, ap, subst, ◌∙◌, arith, slice_get, slice_index_or, fold, map, take}
 use Rattle.std.specs.List.{AllByRecursion}
-use Rattle.sqlite.specs.Command.TheVariants.{CreateTable}
+use Rattle.sqlite.specs.Command.TheVariants.{CreateTable, CreateIndex}
 use Rattle.sqlite.specs.Table.{Table}
 use Rattle.sqlite.specs.Schema.{Schema}
 use Rattle.sqlite.specs.Tree.{Trees}
-use Rattle.sqlite.specs.Change.{created, next_tree, KeepsRows}
-use Rattle.sqlite.specs.Compile.{table_defined_by}
-use Rattle.sqlite.specs.Does.{Tally, lacks_sequence}
+use Rattle.sqlite.specs.Change.{created, indexed, next_tree, KeepsRows}
+use Rattle.sqlite.specs.Compile.{table_defined_by, index_defined_by}
+use Rattle.sqlite.specs.Does.{Tally, lacks_sequence, AtPlace, Defines, MakesIndex}
 use Rattle.sqlite.specs.Effect.{Database}
 use Rattle.sqlite.specs.Listing.{understood}
-use Rattle.sqlite.specs.State.{State, Writes, Executes}
+use Rattle.sqlite.specs.State.{State, Writes, Executes, mode_of}
 use Rattle.sqlite.proofs.Callers.{IsPlain, command_of, statement_of, runs_as}
+use Rattle.sqlite_schema.specs.declared.schema.Index.{Index}
 use Rattle.sqlite_tied.specs.Compute.{everything}
-use Rattle.pt_tables_rows.specs.Schema.{desk_schema, first_schema, no_schema, first_tables, chairs_tables, desk_table, rider_chairs_table}
-use Rattle.pt_tables_rows.specs.declared.schema.TheConstants.{FIRST_TABLES, CHAIRS_TABLES}
+use Rattle.pt_tables_rows.specs.Schema.{desk_schema, first_schema, no_schema, first_tables, chairs_tables, desk_table, trips_table, rider_chairs_table, trip_indexes, trips_rider, trips_day}
+use Rattle.pt_tables_rows.specs.declared.schema.TheConstants.{FIRST_TABLES, ADDITIONS}
 use Rattle.pt_tables_rows.specs.Tables.{AddsChairs, IsBlank, IsFirstBlank}
 use Rattle.pt_tables_rows.proofs.PartLemmas.{went, same_value}
 
@@ -159,15 +160,18 @@ pub ends : (db : Database) → IsMade 11 db → IsFirstBlank db
 unfolding first_schema
 ends db made = record { schema = made.schema ∙ whole; rows = made.rows }
 
--- ---- the tables that are added to those of the first version
+-- ---- the tables and the indexes that are added to those of the first version
 
 -- the statements that make them
-abbrev pub statements_of_chairs : List (List ℕ)
-statements_of_chairs = map (λ statement. statement.now) CHAIRS_TABLES
+abbrev pub statements_of_others : List (List ℕ)
+statements_of_others = map (λ statement. statement.now) ADDITIONS
+
+abbrev statement_at : ℕ → List ℕ
+statement_at n = slice_index_or statements_of_others n []
 
 -- the schema after so many of the statements
-abbrev pub chairs_after : ℕ → Schema
-chairs_after n = fold created first_schema (take n chairs_tables)
+abbrev pub added_after : ℕ → Schema
+added_after n = fold (λ schema index. indexed schema trips_table index) (fold created first_schema (take n chairs_tables)) (take (n - 3) trip_indexes)
 
 -- the table that the statement at this place makes
 abbrev chairs_table : ℕ → Table
@@ -175,10 +179,10 @@ chairs_table n = slice_index_or chairs_tables n rider_chairs_table
 
 -- the text at this place makes the table at this place, after those that are there
 record ChairsStep (n : ℕ) : Type 0 where
-  step : Step (chairs_after n) (slice_index_or statements_of_chairs n []) (chairs_table n)
-  next : created (chairs_after n) (as_read (chairs_table n)) ≡ chairs_after (n + 1)
-  there : (chairs_after n).tables ≡ first_tables ++ take n chairs_tables
-  tree : next_tree (chairs_after n) ≡ (chairs_table n).tree
+  step : Step (added_after n) (statement_at n) (chairs_table n)
+  next : created (added_after n) (as_read (chairs_table n)) ≡ added_after (n + 1)
+  there : (added_after n).tables ≡ first_tables ++ take n chairs_tables
+  tree : next_tree (added_after n) ≡ (chairs_table n).tree
   more : take n chairs_tables ++ chairs_table n ∷ [] ≡ take (n + 1) chairs_tables
 
 chairs_0 : ChairsStep 0
@@ -211,15 +215,54 @@ chairs_2 = record {
   more = refl;
 }
 
-chairs_step : (n : ℕ) → n < 3 → ChairsStep n
-chairs_step zero low = chairs_0
-chairs_step (suc zero) low = chairs_1
-chairs_step (suc (suc zero)) low = chairs_2
-chairs_step (suc (suc (suc n))) low = absurd (omega arith)
+-- an index as its text alone defines it
+abbrev as_defined : Index → Index
+as_defined index = record index { tree = 0 }
 
-whole_chairs : chairs_after 3 ≡ desk_schema
+-- the place of trips among the tables
+abbrev trips_place : ℕ
+trips_place = 8
+
+-- the text at this place makes this index of trips, after all tables
+record IndexStep (n : ℕ) (index : Index) : Type 0 where
+  is : command_of (understood (added_after n) (statement_at n)) ≡ CreateIndex trips_place
+  whole : statement_of (statement_at n) (understood (added_after n) (statement_at n)) ≡ statement_at n
+  plain : IsPlain (understood (added_after n) (statement_at n))
+  on : slice_get (added_after n).tables trips_place ≡ Some trips_table
+  defined : index_defined_by trips_table (statement_at n) ≡ Ok (as_defined index)
+  next : indexed (added_after n) trips_table (as_defined index) ≡ added_after (n + 1)
+  there : (added_after n).tables ≡ first_tables ++ take n chairs_tables
+  all : take n chairs_tables ≡ take (n + 1) chairs_tables
+
+index_3 : IndexStep 3 trips_rider
+unfolding understood first_schema everything
+index_3 = record { is = refl; whole = refl; plain = (refl, refl); on = refl; defined = refl; next = refl; there = refl; all = refl }
+
+index_4 : IndexStep 4 trips_day
+unfolding understood first_schema everything
+index_4 = record { is = refl; whole = refl; plain = (refl, refl); on = refl; defined = refl; next = refl; there = refl; all = refl }
+
+whole_added : added_after 5 ≡ desk_schema
 unfolding first_schema desk_schema everything
-whole_chairs = refl
+whole_added = refl
+
+module _ (n : ℕ) (index : Index) (step : IndexStep n index) where
+  -- what a CREATE INDEX of trips makes: the index, and each table keeps its rows
+  indexes : (old new : State) (count : ℕ) → old.now.schema ≡ added_after n → Executes (statement_at n) [] old new (Ok count)
+      → (new.now.schema ≡ added_after (n + 1)) × KeepsRows (first_tables ++ take n chairs_tables) old.now.trees new.now.trees
+  indexes old new count has h =
+      let text = statement_at n in
+      let w = subst (λ t. Writes old new None (CreateIndex trips_place) t [] count) step.whole (runs_as text [] old new (added_after n) has (CreateIndex trips_place) step.is step.plain count h) in
+      let found : slice_get old.now.schema.tables trips_place ≡ Some trips_table = ap (λ s. slice_get s.tables trips_place) has ∙ step.on in
+      let first = went (subst (λ o. AtPlace (λ t. Defines (mode_of old) (MakesIndex text old.now t)) o (Ok (w.tally, new.now))) found w.changed) in
+      let made = first.1 in
+      let same : made.index ≡ as_defined index = same_value (sym made.defined ∙ step.defined) in
+      let after : first.0.schema ≡ added_after (n + 1) = made.is ∙ ap (λ s. indexed s trips_table made.index) has ∙ ap (indexed (added_after n) trips_table) same ∙ step.next in
+      let now : new.now ≡ first.0 = ap (λ (p : Tally × Database). p.1) (same_value first.2) in
+      let keeps : KeepsRows (first_tables ++ take n chairs_tables) old.now.trees first.0.trees = subst (λ ts. KeepsRows ts old.now.trees first.0.trees) (ap (λ (s : Schema). s.tables) has ∙ step.there) made.rows in (
+        ap (λ (d : Database). d.schema) now ∙ after,
+        subst (λ (d : Database). KeepsRows (first_tables ++ take n chairs_tables) old.now.trees d.trees) (sym now) keeps,
+      )
 
 abbrev Same : Trees → Trees → Table → Type 0
 Same old new t = new t.tree ≡ old t.tree
@@ -227,9 +270,9 @@ Same old new t = new t.tree ≡ old t.tree
 abbrev Empty : Trees → Table → Type 0
 Empty trees t = trees t.tree ≡ []
 
--- so many of the tables stand beside the first ones, with no row
+-- after so many of the statements such tables stand beside the first ones, with no row
 pub record IsAdded (n : ℕ) (old db : Database) : Type 0 where
-  pub schema : db.schema ≡ chairs_after n
+  pub schema : db.schema ≡ added_after n
   pub kept : AllByRecursion (λ t. db.trees t.tree ≡ old.trees t.tree) first_tables
   pub empty : AllByRecursion (λ t. db.trees t.tree ≡ []) (take n chairs_tables)
 
@@ -249,26 +292,44 @@ all_same : (ts : List Table) (old : Trees) → AllByRecursion (Same old old) ts
 all_same [] old = tt
 all_same (t ∷ ts) old = (refl, all_same ts old)
 
-pub adds_next : (n : ℕ) → n < 3 → (base : Database) (old new : State) (count : ℕ) → IsAdded n base old.now → Executes (slice_index_or statements_of_chairs n []) [] old new (Ok count) → IsAdded (n + 1) base new.now
-adds_next n low base old new count added h =
-    let s = chairs_step n low in
-    let it = creates (chairs_after n) (slice_index_or statements_of_chairs n []) (chairs_table n) s.step old new count added.schema h in
-    let keeps : AllByRecursion (Same old.now.trees new.now.trees) (first_tables ++ take n chairs_tables) = subst (AllByRecursion (Same old.now.trees new.now.trees)) s.there it.1 in
-    let none : new.now.trees (chairs_table n).tree ≡ [] = subst (λ tree. new.now.trees tree ≡ []) s.tree it.2 in
-    record {
-      schema = it.0 ∙ s.next;
-      kept = still_same first_tables base.trees old.now.trees new.now.trees (front (Same old.now.trees new.now.trees) first_tables (take n chairs_tables) keeps) added.kept;
-      empty = subst (AllByRecursion (Empty new.now.trees)) s.more
-          (all_last (Empty new.now.trees) (take n chairs_tables) (chairs_table n)
-          (still_empty (take n chairs_tables) old.now.trees new.now.trees (back (Same old.now.trees new.now.trees) first_tables (take n chairs_tables) keeps) added.empty) none);
-    }
+module _ (base : Database) (old new : State) (count : ℕ) where
+  adds_table : (n : ℕ) → ChairsStep n → IsAdded n base old.now → Executes (statement_at n) [] old new (Ok count) → IsAdded (n + 1) base new.now
+  adds_table n s added h =
+      let it = creates (added_after n) (statement_at n) (chairs_table n) s.step old new count added.schema h in
+      let keeps : AllByRecursion (Same old.now.trees new.now.trees) (first_tables ++ take n chairs_tables) = subst (AllByRecursion (Same old.now.trees new.now.trees)) s.there it.1 in
+      let none : new.now.trees (chairs_table n).tree ≡ [] = subst (λ tree. new.now.trees tree ≡ []) s.tree it.2 in
+      record {
+        schema = it.0 ∙ s.next;
+        kept = still_same first_tables base.trees old.now.trees new.now.trees (front (Same old.now.trees new.now.trees) first_tables (take n chairs_tables) keeps) added.kept;
+        empty = subst (AllByRecursion (Empty new.now.trees)) s.more
+            (all_last (Empty new.now.trees) (take n chairs_tables) (chairs_table n)
+            (still_empty (take n chairs_tables) old.now.trees new.now.trees (back (Same old.now.trees new.now.trees) first_tables (take n chairs_tables) keeps) added.empty) none);
+      }
+
+  adds_index : (n : ℕ) (index : Index) → IndexStep n index → IsAdded n base old.now → Executes (statement_at n) [] old new (Ok count) → IsAdded (n + 1) base new.now
+  adds_index n index s added h =
+      let it = indexes n index s old new count added.schema h in
+      record {
+        schema = it.0;
+        kept = still_same first_tables base.trees old.now.trees new.now.trees (front (Same old.now.trees new.now.trees) first_tables (take n chairs_tables) it.1) added.kept;
+        empty = subst (AllByRecursion (Empty new.now.trees)) s.all
+            (still_empty (take n chairs_tables) old.now.trees new.now.trees (back (Same old.now.trees new.now.trees) first_tables (take n chairs_tables) it.1) added.empty);
+      }
+
+  pub adds_next : (n : ℕ) → n < 5 → IsAdded n base old.now → Executes (statement_at n) [] old new (Ok count) → IsAdded (n + 1) base new.now
+  adds_next zero low = adds_table 0 chairs_0
+  adds_next (suc zero) low = adds_table 1 chairs_1
+  adds_next (suc (suc zero)) low = adds_table 2 chairs_2
+  adds_next (suc (suc (suc zero))) low = adds_index 3 trips_rider index_3
+  adds_next (suc (suc (suc (suc zero)))) low = adds_index 4 trips_day index_4
+  adds_next (suc (suc (suc (suc (suc n))))) low = absurd (omega arith)
 
 pub adding_begins : (db : Database) → db.schema ≡ first_schema → IsAdded 0 db db
 adding_begins db is = record { schema = is; kept = all_same first_tables db.trees; empty = tt }
 
-pub adding_ends : (old db : Database) → IsAdded 3 old db → AddsChairs old db
+pub adding_ends : (old db : Database) → IsAdded 5 old db → AddsChairs old db
 adding_ends old db added = record {
-  schema = added.schema ∙ whole_chairs;
+  schema = added.schema ∙ whole_added;
   kept = added.kept;
   rider_chairs = added.empty.0;
   vehicle_chairs = added.empty.1.0;

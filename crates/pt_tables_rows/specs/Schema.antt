@@ -1,4 +1,4 @@
--- The fourteen tables, and the eleven that the first version had.
+-- The fourteen tables and the indexes of the second version, and the eleven tables that the first version had.
 use Rattle.std.specs.Prelude.{ℕ, List, [], ◌∷◌, ◌++◌, ◌+◌, true, false, None, Some, codes}
 use Rattle.sqlite.specs.Collation.TheVariants.{Binary}
 use Rattle.sqlite.specs.declared.types.Value.TheVariants.{Null}
@@ -195,9 +195,23 @@ first_indexes =
 abbrev pub chairs_index : Index
 chairs_index = key_index (codes "sqlite_autoindex_vehicle_chairs_1") vehicle_chairs_table (1 ∷ 2 ∷ [])
 
--- the database has these tables, and no others
+-- an index of trips by one of their columns, counted from 1
+abbrev pub trips_by : ℕ → List ℕ → ℕ → Index
+trips_by tree name column =
+    record (key_index name trips_table (column ∷ [])) { tree = tree; is_unique = false }
+
+abbrev pub trips_rider : Index
+trips_rider = trips_by 20 (codes "trips_rider") 2
+
+abbrev pub trips_day : Index
+trips_day = trips_by 21 (codes "trips_day") 3
+
+abbrev pub trip_indexes : List Index
+trip_indexes = trips_rider ∷ trips_day ∷ []
+
+-- the database has these tables and indexes, and no others
 unfoldable pub desk_schema : Schema
-desk_schema = record { tables = tables; indexes = first_indexes ++ chairs_index ∷ []; views = [] }
+desk_schema = record { tables = tables; indexes = first_indexes ++ chairs_index ∷ trip_indexes; views = [] }
 
 -- the database has those of the first version, and no others
 unfoldable pub first_schema : Schema

@@ -54,13 +54,15 @@ const FIRST_TABLES: [&str; 11] = [
      minutes INTEGER NOT NULL, PRIMARY KEY (from_day, a, b)) STRICT",
 ];
 
-/// The statements that make the others, after those.
-const CHAIRS_TABLES: [&str; 3] = [
+/// The statements that make the others, after those, and then the indexes by which trips of a rider or a day are found.
+const ADDITIONS: [&str; 5] = [
     "CREATE TABLE rider_chairs (rider INTEGER PRIMARY KEY REFERENCES riders (id)) STRICT",
     "CREATE TABLE vehicle_chairs (id INTEGER NOT NULL, from_day INTEGER NOT NULL, \
      chairs INTEGER NOT NULL, PRIMARY KEY (id, from_day), \
      FOREIGN KEY (id, from_day) REFERENCES vehicles (id, from_day)) STRICT",
     "CREATE TABLE trip_chairs (trip INTEGER PRIMARY KEY REFERENCES trips (id)) STRICT",
+    "CREATE INDEX trips_rider ON trips (rider)",
+    "CREATE INDEX trips_day ON trips (day)",
 ];
 
 /// Makes the tables of the first version by their statements, in a database that has none.
@@ -78,9 +80,9 @@ fn create_first<S: Alter>(tx: &mut Transaction<'_, S>, statements: &[&str]) -> R
     Ok(())
 }
 
-/// Makes the other tables by their statements, in a database that has those of the first version.
+/// Makes the other tables and the indexes by their statements, in a database that has those of the first version.
 fn add_others<S: Alter>(tx: &mut Transaction<'_, S>, statements: &[&str]) -> Result<(), Error>
-    requires all { map (λ statement. statement.now) statements.now ≡ map (λ statement. statement.now) CHAIRS_TABLES }
+    requires all { map (λ statement. statement.now) statements.now ≡ map (λ statement. statement.now) ADDITIONS }
     ensures same_reference { tx.new.conn.ghost_name ≡ tx.old.conn.ghost_name }
     ensures added { HasCleanDisk (state S.Store tx.new.conn.now)
         → IsTrue (state S.Store tx.old.conn.now).in_transaction
@@ -104,7 +106,7 @@ pub fn create_first_tables<S: Alter>(tx: &mut Transaction<'_, S>) -> Result<(), 
     create_first(tx, &FIRST_TABLES)
 }
 
-/// Makes the tables of wheelchairs and their places beside those of the first version.
+/// Makes the tables of wheelchairs and their places beside those of the first version, and the indexes of trips.
 pub fn add_chairs_tables<S: Alter>(tx: &mut Transaction<'_, S>) -> Result<(), Error>
     ensures same_reference { tx.new.conn.ghost_name ≡ tx.old.conn.ghost_name }
     ensures added { HasCleanDisk (state S.Store tx.new.conn.now)
@@ -112,7 +114,7 @@ pub fn add_chairs_tables<S: Alter>(tx: &mut Transaction<'_, S>) -> Result<(), Er
         → AddsIfOk (state S.Store tx.old.conn.now) (state S.Store tx.new.conn.now) result }
     ensures survives { Survives (state S.Store tx.old.conn.now) (state S.Store tx.new.conn.now) (λ _. ⊥) }
 {
-    add_others(tx, &CHAIRS_TABLES)
+    add_others(tx, &ADDITIONS)
 }
 
 /// Makes the tables, in a database that has none.
