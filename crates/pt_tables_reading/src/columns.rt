@@ -17,7 +17,7 @@ use sqlite::Row;
 use sqlite::types::ValueRef;
 
 /// The integer in a column.
-pub fn integer_at(row: &Row, at: usize) -> Option<i64>
+pub(crate) fn integer_at(row: &Row, at: usize) -> Option<i64>
     ensures { Reads Int (FitsSigned w64) (column row.now at) result }
 {
     match row.get_ref(at) {
@@ -27,7 +27,7 @@ pub fn integer_at(row: &Row, at: usize) -> Option<i64>
 }
 
 /// The number of 32 bits in a column.
-pub fn number_at(row: &Row, at: usize) -> Option<u32>
+pub(crate) fn number_at(row: &Row, at: usize) -> Option<u32>
     ensures { Reads number_value IsWord (column row.now at) result }
 {
     let number = integer_at(row, at)?;
@@ -35,7 +35,7 @@ pub fn number_at(row: &Row, at: usize) -> Option<u32>
 }
 
 /// The number of either sign and 32 bits in a column.
-pub fn signed_at(row: &Row, at: usize) -> Option<i32>
+pub(crate) fn signed_at(row: &Row, at: usize) -> Option<i32>
     ensures { Reads Int (FitsSigned w32) (column row.now at) result }
 {
     let number = integer_at(row, at)?;
@@ -43,7 +43,7 @@ pub fn signed_at(row: &Row, at: usize) -> Option<i32>
 }
 
 /// The number in a column, where it is one from `least` to `most`.
-pub fn number_in(row: &Row, at: usize, least: u32, most: u32) -> Option<u32>
+pub(crate) fn number_in(row: &Row, at: usize, least: u32, most: u32) -> Option<u32>
     ensures { Reads number_value (IsInRange least most) (column row.now at) result }
 {
     let number = number_at(row, at)?;
@@ -54,7 +54,7 @@ pub fn number_in(row: &Row, at: usize, least: u32, most: u32) -> Option<u32>
 }
 
 /// The number of a record in a column.
-pub fn id_at<Kind>(row: &Row, at: usize) -> Option<Id<Kind>>
+pub(crate) fn id_at<Kind>(row: &Row, at: usize) -> Option<Id<Kind>>
     ensures { Reads number_value IsId (column row.now at) result }
 {
     let number = number_at(row, at)?;
@@ -62,7 +62,7 @@ pub fn id_at<Kind>(row: &Row, at: usize) -> Option<Id<Kind>>
 }
 
 /// The day in a column.
-pub fn day_at(row: &Row, at: usize) -> Option<Day>
+pub(crate) fn day_at(row: &Row, at: usize) -> Option<Day>
     ensures { Reads number_value IsDay (column row.now at) result }
 {
     let number = number_at(row, at)?;
@@ -70,7 +70,7 @@ pub fn day_at(row: &Row, at: usize) -> Option<Day>
 }
 
 /// The minute in a column.
-pub fn minute_at(row: &Row, at: usize) -> Option<Minute>
+pub(crate) fn minute_at(row: &Row, at: usize) -> Option<Minute>
     ensures { Reads number_value IsMinute (column row.now at) result }
 {
     let number = number_at(row, at)?;
@@ -78,7 +78,7 @@ pub fn minute_at(row: &Row, at: usize) -> Option<Minute>
 }
 
 /// The minute in a column, or that it has none, told by -1.
-pub fn optional_minute_at(row: &Row, at: usize) -> Option<Option<Minute>>
+pub(crate) fn optional_minute_at(row: &Row, at: usize) -> Option<Option<Minute>>
     ensures { Reads optional_value (λ known. IfSome known IsMinute) (column row.now at) result }
 {
     let number = integer_at(row, at)?;
@@ -90,7 +90,7 @@ pub fn optional_minute_at(row: &Row, at: usize) -> Option<Option<Minute>>
 }
 
 /// The truth value in a column.
-pub fn truth_at(row: &Row, at: usize) -> Option<bool>
+pub(crate) fn truth_at(row: &Row, at: usize) -> Option<bool>
     ensures { Reads truth_value (λ _. Unit {0}) (column row.now at) result }
 {
     match number_at(row, at)? {
@@ -101,7 +101,7 @@ pub fn truth_at(row: &Row, at: usize) -> Option<bool>
 }
 
 /// The residence in a column.
-pub fn kind_at(row: &Row, at: usize) -> Option<Residence>
+pub(crate) fn kind_at(row: &Row, at: usize) -> Option<Residence>
     ensures { Reads (λ kind. number_value (kind_number kind)) (λ _. Unit {0}) (column row.now at) result }
 {
     match number_at(row, at)? {
@@ -112,7 +112,7 @@ pub fn kind_at(row: &Row, at: usize) -> Option<Residence>
 }
 
 /// How far a trip has come, in a column.
-pub fn status_at(row: &Row, at: usize) -> Option<TripStatus>
+pub(crate) fn status_at(row: &Row, at: usize) -> Option<TripStatus>
     ensures { Reads (λ status. number_value (status_number status)) (λ _. Unit {0}) (column row.now at) result }
 {
     match number_at(row, at)? {
@@ -126,7 +126,7 @@ pub fn status_at(row: &Row, at: usize) -> Option<TripStatus>
 }
 
 /// The bytes in a column.
-pub fn bytes_at(row: &Row, at: usize) -> Option<&[u8]>
+pub(crate) fn bytes_at(row: &Row, at: usize) -> Option<&[u8]>
     ensures { Reads Blob (λ _. Unit {0}) (column row.now at) (option_copied result) }
 {
     match row.get_ref(at) {
@@ -136,7 +136,7 @@ pub fn bytes_at(row: &Row, at: usize) -> Option<&[u8]>
 }
 
 /// The text in a column, as its bytes.
-pub fn text_at(row: &Row, at: usize) -> Option<&[u8]>
+pub(crate) fn text_at(row: &Row, at: usize) -> Option<&[u8]>
     ensures { Reads Text (λ _. Unit {0}) (column row.now at) (option_copied result) }
 {
     match row.get_ref(at) {

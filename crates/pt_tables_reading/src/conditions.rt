@@ -9,7 +9,7 @@ use pt_conditions::condition_from;
 use pt_rights::{Condition, Conditions, MOST_CONDITIONS};
 
 /// The conditions that have these bytes as their text.
-pub fn conditions_in(bytes: &[u8]) -> Option<Conditions>
+pub(crate) fn conditions_in(bytes: &[u8]) -> Option<Conditions>
     ensures { Reads joined FitsConditions bytes.now result }
 {
     match std::str::from_utf8(bytes) {

@@ -24,7 +24,7 @@ use std::alloc::{AllocError, Global};
 const COLUMNS: usize = 9;
 
 /// The number of 32 bits in a column, or that it has none, told by -1.
-pub fn optional_at(row: &Row, at: usize) -> Option<Option<u32>>
+pub(crate) fn optional_at(row: &Row, at: usize) -> Option<Option<u32>>
     ensures { Reads optional_value (λ known. IfSome known IsWord) (column row.now at) result }
 {
     let number = integer_at(row, at)?;

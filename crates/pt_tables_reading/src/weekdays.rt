@@ -17,7 +17,7 @@ use sqlite::Row;
 const WHOLE_WEEK: u32 = 127;
 
 /// The set of weekdays in a column.
-pub fn days_at(row: &Row, at: usize) -> Option<Weekdays>
+pub(crate) fn days_at(row: &Row, at: usize) -> Option<Weekdays>
     ensures { Reads (λ days. number_value (days_byte days)) IsWeek (column row.now at) result }
 {
     weekdays_from(number_at(row, at)?)

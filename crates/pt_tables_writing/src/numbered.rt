@@ -1,7 +1,6 @@
 //! The tables whose keys are the numbers of their rows.
 
 pub(crate) use callers::{put_caller, take_caller};
-pub(crate) use columns::days_number;
 pub use desk::raise_version;
 pub(crate) use desk::write_desk;
 pub(crate) use kept::{put_kept, take_kept};

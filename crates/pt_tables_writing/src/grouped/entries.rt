@@ -10,9 +10,10 @@ ghost use Rattle.pt_tables_rows.specs.WellFormed.{IsFiled};
 ghost use Rattle.pt_tables_writing.specs.Writes.{Puts, Takes};
 
 use crate::grouped::entry_texts::{
-    AsText, Optional, entry_conditions, entry_number, entry_words, first_number, second_number,
+    AsText, Optional, entry_conditions, entry_words, first_number, second_number,
 };
 use pt_desk_rules::FiledEntry;
+use pt_spelling::entry_number;
 use sqlite::{Alter, Error, Transaction, params};
 
 const DELETE_ENTRY: &str = "DELETE FROM entries WHERE rider = ?1 AND place = ?2";
@@ -67,7 +68,7 @@ fn insert_entry<S: Alter>(tx: &mut Transaction<'_, S>, filed: &FiledEntry) -> Re
         params![
             filed.rider.number(),
             filed.position,
-            entry_number(entry),
+            u32::from(entry_number(entry)),
             filed.entered.day.number(),
             filed.entered.author.number(),
             Optional(first_number(entry)),

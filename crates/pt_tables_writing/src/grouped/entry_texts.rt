@@ -2,7 +2,6 @@
 
 ghost use Rattle.std.specs.Prelude.{◌≡◌, ◌++◌, ◌+◌, ◌≤◌, length};
 ghost use Rattle.sqlite.specs.declared.types.Value.TheVariants.{Text};
-ghost use Rattle.pt_spelling.specs.Requests.{entry_number};
 ghost use Rattle.pt_tables_rows.specs.Rows.{optional_value, first_number, second_number, entry_words};
 ghost use Rattle.pt_tables_rows.specs.Rows.{conditions_text, entry_conditions};
 ghost use Rattle.pt_tables_writing.specs.declared.grouped.entry_texts.TheConstants.{LONGEST_CONDITIONS};
@@ -39,25 +38,6 @@ impl<'a> ToSql<'a> for AsText<'a> {
 
     fn to_sql(self) -> ValueRef<'a> {
         ValueRef::Text(self.0)
-    }
-}
-
-/// How the kind of an entry is told apart.
-pub(crate) fn entry_number(entry: &Entry) -> u32
-    ensures { result ≡ entry_number entry.now }
-{
-    match entry {
-        Entry::Complete => 0,
-        Entry::Grant(_) => 1,
-        Entry::Refuse(_) => 2,
-        Entry::Appeal { .. } => 3,
-        Entry::Heard => 4,
-        Entry::AppealGranted(_) => 5,
-        Entry::AppealDenied(_) => 6,
-        Entry::Overturn => 7,
-        Entry::Notice(_) => 8,
-        Entry::NoticeHeard => 9,
-        Entry::Suspend { .. } => 10,
     }
 }
 

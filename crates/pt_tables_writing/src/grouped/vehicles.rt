@@ -9,8 +9,8 @@ ghost use Rattle.pt_tables_rows.specs.WellFormed.{IsVersion};
 ghost use Rattle.pt_tables_writing.specs.Grouped.{Adds};
 ghost use Rattle.pt_tables_writing.specs.Writes.{Puts, Takes};
 
-use crate::numbered::days_number;
 use pt_base::Vehicle;
+use pt_spelling::days_byte;
 use sqlite::{Alter, Error, Transaction, params};
 
 const DELETE_VEHICLE: &str = "DELETE FROM vehicles WHERE id = ?1 AND from_day = ?2";
@@ -67,7 +67,7 @@ fn insert_vehicle<S: Alter>(tx: &mut Transaction<'_, S>, version: &Vehicle) -> R
         params![
             version.id.number(),
             version.from_day.number(),
-            days_number(version.days),
+            u32::from(days_byte(version.days)),
             version.depot.number(),
             u32::from(version.capacity),
             version.opens.number(),

@@ -7,8 +7,8 @@ ghost use Rattle.pt_tables_rows.specs.Schema.{callers_table};
 ghost use Rattle.pt_tables_rows.specs.Tables.{ChangesIfOk};
 ghost use Rattle.pt_tables_writing.specs.Writes.{Puts, Takes};
 
-use super::columns::{role_number, subject_of};
 use pt_requests::Caller;
+use pt_spelling::{role_number, subject_of};
 use sqlite::{Alter, Error, Transaction, params};
 
 const PUT_CALLER: &str = "INSERT INTO callers (id, role, subject, digest) \
@@ -33,8 +33,8 @@ pub(crate) fn put_caller<S: Alter>(
         PUT_CALLER,
         params![
             caller.id.number(),
-            role_number(caller.role),
-            subject_of(caller.role),
+            u32::from(role_number(&caller.role)),
+            subject_of(&caller.role),
             caller.digest.bytes()
         ],
     )?;

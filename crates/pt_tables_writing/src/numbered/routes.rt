@@ -7,8 +7,9 @@ ghost use Rattle.pt_tables_rows.specs.Schema.{fixed_table};
 ghost use Rattle.pt_tables_rows.specs.Tables.{ChangesIfOk};
 ghost use Rattle.pt_tables_writing.specs.Writes.{Puts, Takes};
 
-use super::columns::{days_number, points_bytes};
+use super::columns::points_bytes;
 use pt_corridor::FixedRoute;
+use pt_spelling::days_byte;
 use sqlite::{Alter, Error, Transaction, params};
 
 const PUT_ROUTE: &str =
@@ -39,7 +40,7 @@ pub(crate) fn put_route<S: Alter>(
             route.width(),
             points.as_slice(),
             u32::from(route.accessible()),
-            days_number(route.days()),
+            u32::from(days_byte(route.days())),
             route.first().number(),
             route.last().number()
         ],
