@@ -6,11 +6,10 @@ use crate::standing::{standing_body, visitor_body};
 use crate::trips::{confirmation_body, trips_body};
 use crate::{ReplyBuffer, Response};
 use itoa::Buffer;
-use pt_base::Fault;
 use pt_desk::{Answer, StoreFault};
 use pt_http_request::RequestFault;
 use pt_manifest::{day_sheet, decision_letter, manifest, trips_csv};
-use std::alloc::Global;
+use std::alloc::{AllocError, Global};
 
 /// The body of a reply.
 #[derive(Debug, Drop)]
@@ -22,7 +21,7 @@ pub(crate) enum Body {
 }
 
 /// The body of the reply. The error is want of memory for what a read is told.
-pub(crate) fn body_of(alloc: Global, response: &Response) -> Result<Body, Fault>
+pub(crate) fn body_of(alloc: Global, response: &Response) -> Result<Body, AllocError>
     ensures text { IfOk result (λ body. IsBody response.now (bytes_in body)) }
     ensures short { IfOk result IsShort }
     ensures fixed { is_told response.now ≡ false → IfOk result IsFixed }

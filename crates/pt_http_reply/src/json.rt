@@ -3,8 +3,8 @@ ghost use Rattle.pt_http_reply.specs.Json.{truth_text, value_text, member_text, 
 
 use crate::ReplyBuffer;
 use itoa::Buffer;
-use pt_base::Fault;
 use pt_http_request::FieldName;
+use std::alloc::AllocError;
 
 /// The value of a member of an object.
 #[derive(Clone, Copy, Debug)]
@@ -75,10 +75,9 @@ pub(crate) fn truth_text(value: bool) -> &'static [u8]
     if value { b"true" } else { b"false" }
 }
 
-/// Adds bytes at the end. The error is want of memory.
-pub(crate) fn push(text: &[u8], out: &mut Vec<u8>) -> Result<(), Fault>
+/// Adds bytes at the end.
+pub(crate) fn push(text: &[u8], out: &mut Vec<u8>) -> Result<(), AllocError>
     ensures { OnOk result (out.new.items ≡ out.old.items ++ text.now) }
 {
-    out.extend_from_slice(text)?;
-    Ok(())
+    out.extend_from_slice(text)
 }

@@ -4,17 +4,16 @@ ghost use Rattle.pt_http_reply.specs.Body.{condition_json, conditions_text, name
 ghost use Rattle.pt_http_reply.specs.Body.{visitor_body, IsStandingBody};
 
 use crate::json::{push, truth_text};
-use pt_base::Fault;
 use pt_conditions::condition_text;
 use pt_rights::{Condition, Conditions, Grant, Standing};
-use std::alloc::Global;
+use std::alloc::{AllocError, Global};
 
-/// The body that tells a resident's standing. The error is want of memory, here and below.
+/// The body that tells a resident's standing.
 pub(crate) fn standing_body(
     alloc: Global,
     standing: &Standing,
     suspended: bool,
-) -> Result<Vec<u8>, Fault>
+) -> Result<Vec<u8>, AllocError>
     ensures { IfOk result (λ body. IsStandingBody standing.now suspended body.items) }
 {
     match standing {
@@ -26,7 +25,7 @@ pub(crate) fn standing_body(
 }
 
 /// The body that tells whether a visitor may use the day.
-pub(crate) fn visitor_body(alloc: Global, may_use: bool) -> Result<Vec<u8>, Fault>
+pub(crate) fn visitor_body(alloc: Global, may_use: bool) -> Result<Vec<u8>, AllocError>
     ensures { IfOk result (λ body. body.items ≡ visitor_body may_use) }
 {
     let name = if may_use { "visitor" } else { "visitor-used" };
@@ -34,7 +33,7 @@ pub(crate) fn visitor_body(alloc: Global, may_use: bool) -> Result<Vec<u8>, Faul
 }
 
 /// The body that tells a standing by its name alone.
-fn named_body(alloc: Global, name: &str, suspended: bool) -> Result<Vec<u8>, Fault>
+fn named_body(alloc: Global, name: &str, suspended: bool) -> Result<Vec<u8>, AllocError>
     ensures { IfOk result (λ body. body.items ≡ named_standing_body name.now suspended) }
 {
     let mut body = Vec::new(alloc);
@@ -47,7 +46,7 @@ fn named_body(alloc: Global, name: &str, suspended: bool) -> Result<Vec<u8>, Fau
 }
 
 /// The body that tells of a grant.
-fn granted_body(alloc: Global, grant: &Grant, suspended: bool) -> Result<Vec<u8>, Fault>
+fn granted_body(alloc: Global, grant: &Grant, suspended: bool) -> Result<Vec<u8>, AllocError>
     ensures { IfOk result (λ body. (until : List ℕ) × IsDateText (pos grant.now.until) until
         × (body.items ≡ granted_body grant.now suspended until)) }
 {
@@ -63,7 +62,7 @@ fn granted_body(alloc: Global, grant: &Grant, suspended: bool) -> Result<Vec<u8>
 }
 
 /// The conditions as JSON texts, with a comma between each two.
-fn write_conditions(conditions: &Conditions, out: &mut Vec<u8>) -> Result<(), Fault>
+fn write_conditions(conditions: &Conditions, out: &mut Vec<u8>) -> Result<(), AllocError>
     ensures { OnOk result (out.new.items ≡ out.old.items ++ conditions_text conditions.now) }
 {
     for (index, condition) in conditions.as_slice().iter().enumerate() {
@@ -76,7 +75,7 @@ fn write_conditions(conditions: &Conditions, out: &mut Vec<u8>) -> Result<(), Fa
 }
 
 /// One condition as a JSON text.
-fn write_condition(condition: Condition, out: &mut Vec<u8>) -> Result<(), Fault>
+fn write_condition(condition: Condition, out: &mut Vec<u8>) -> Result<(), AllocError>
     ensures { OnOk result (out.new.items ≡ out.old.items ++ condition_json condition) }
 {
     push(b"\"", out)?;

@@ -5,13 +5,13 @@ ghost use Rattle.pt_http_reply.specs.Trips.{IsTripList, IsTripsBody};
 
 use crate::ReplyBuffer;
 use crate::json::{MemberValue, object, push};
-use pt_base::{Fault, Minute, Trip, TripStatus};
+use pt_base::{Minute, Trip, TripStatus};
 use pt_booking::party_of;
 use pt_desk::Confirmation;
 use pt_http_request::FieldName;
 use pt_party::due;
 use pt_records::Rows;
-use std::alloc::Global;
+use std::alloc::{AllocError, Global};
 
 /// The body that tells of a trip that is booked.
 pub(crate) fn confirmation_body(told: &Confirmation) -> ReplyBuffer
@@ -37,8 +37,8 @@ pub(crate) fn confirmation_body(told: &Confirmation) -> ReplyBuffer
     ])
 }
 
-/// The body that tells a rider's trips. The error is want of memory, here and below.
-pub(crate) fn trips_body(alloc: Global, trips: &Rows<Trip>) -> Result<Vec<u8>, Fault>
+/// The body that tells a rider's trips.
+pub(crate) fn trips_body(alloc: Global, trips: &Rows<Trip>) -> Result<Vec<u8>, AllocError>
     ensures { IfOk result (λ body. IsTripsBody trips.now body.items) }
 {
     let mut body = Vec::new(alloc);
@@ -49,7 +49,7 @@ pub(crate) fn trips_body(alloc: Global, trips: &Rows<Trip>) -> Result<Vec<u8>, F
 }
 
 /// The trips as JSON objects, with a comma between each two.
-fn write_trips(alloc: Global, trips: &[Trip], out: &mut Vec<u8>) -> Result<(), Fault>
+fn write_trips(alloc: Global, trips: &[Trip], out: &mut Vec<u8>) -> Result<(), AllocError>
     ensures { OnOk result ((text : List ℕ) × IsTripList trips.now text
         × (out.new.items ≡ out.old.items ++ text)) }
 {
