@@ -1,5 +1,6 @@
 -- Exchanges, from what was received and what the desk responds.
 use Rattle.std.proofs.Common.{◌≡◌, ℕ, List, refl, sym, ap, subst}
+use Rattle.pt_base.specs.declared.moment.Moment.{Moment}
 use Rattle.pt_http_reply.specs.declared.response.Response.{Response}
 use Rattle.pt_http_reply.specs.declared.response.Response.TheVariants as response
 use Rattle.pt_http.specs.Exchange.{Desk, Exchanges, Serves, is_last}
@@ -9,7 +10,7 @@ use Rattle.pt_http.specs.declared.received.Received.{Received}
 use Rattle.pt_http.specs.declared.received.Received.TheVariants as received
 
 -- what was received is exchanged for the desk's response
-pub exchanged : (now : ℕ × ℕ) (input : List ℕ) (came : Received) (old new : Desk) (reply : Response)
+pub exchanged : (now : Moment) (input : List ℕ) (came : Received) (old new : Desk) (reply : Response)
     (rest : List ℕ) → BeginsWith input came rest → Responds now came old new reply
     → Exchanges now input old new reply rest
 exchanged now input (received.Message message) old new (response.Answered told) rest begins responds
@@ -21,7 +22,7 @@ exchanged now input (received.Refused why) old new (response.Refused named) rest
     (subst (λ fault. BeginsWithFault input fault rest) (sym is) begins, same)
 
 -- the response ends the messages exactly where what was received does
-pub same_end : (now : ℕ × ℕ) (came : Received) (old new : Desk) (reply : Response)
+pub same_end : (now : Moment) (came : Received) (old new : Desk) (reply : Response)
     → Responds now came old new reply
     → is_end came ≡ is_last reply
 same_end now (received.Message message) old new (response.Answered told) responds = refl
@@ -31,7 +32,7 @@ same_end now (received.Refused why) old new (response.Refused named) (is, same) 
     ap (λ fault. is_last (response.Refused fault)) (sym is)
 
 -- whatever came in, it was served
-pub served : (now : ℕ × ℕ) (came : Received) (old new : Desk) (reply : Response)
+pub served : (now : Moment) (came : Received) (old new : Desk) (reply : Response)
     → Responds now came old new reply → Serves now old new reply
 served now (received.Message message) old new (response.Answered told) responds = (message, responds)
 served now (received.Message message) old new (response.Refused named) responds = absurd responds

@@ -3,6 +3,7 @@ use Rattle.std.proofs.Common.{◌≡◌, ℕ, true, false, List, Option, Some, N
 use Rattle.std.proofs.Common.{inr}
 use Rattle.std.specs.Prelude.{option_map}
 use Rattle.pt_base.specs.declared.rule.Rule.TheVariants.{Key}
+use Rattle.pt_base.specs.declared.moment.Moment.{Moment}
 use Rattle.pt_desk.specs.declared.keeper.StoreFault.TheVariants.{Memory}
 use Rattle.pt_desk_rules.specs.Step.{sender, state_after}
 use Rattle.pt_requests.specs.declared.request.Answer.{Answer}
@@ -25,7 +26,7 @@ of_read (Booked told) reads = absurd (cc)
 of_read _ reads = refl
 
 -- a message may be answered by want of memory where it is answered by what a read is told
-wants_memory : (key : Option (List ℕ)) (now : ℕ × ℕ) (message : Message) (old new : Desk) (told : Answer)
+wants_memory : (key : Option (List ℕ)) (now : Moment) (message : Message) (old new : Desk) (told : Answer)
     → is_of_read told ≡ true
     → AnswersWith key now message old new (Ok told) → AnswersWith key now message old new (Err Memory)
 wants_memory None now message old new told reads (is, same) = let denied : told ≡ Denied Key
@@ -44,7 +45,7 @@ wants_memory (Some key) now message old new told reads ((answer, left, tells, in
       },
     )
 
-told_or_wanting : (now : ℕ × ℕ) (came : Received) (old new : Desk) (reply : Response) → is_told reply ≡ true
+told_or_wanting : (now : Moment) (came : Received) (old new : Desk) (reply : Response) → is_told reply ≡ true
     → Responds now came old new reply
     → Responds now came old new (response.Answered (Err Memory))
 told_or_wanting now (received.Message message) old new (response.Answered (Ok told)) reads responds =
@@ -56,7 +57,7 @@ told_or_wanting now (received.Refused why) old new (response.Answered told) read
 told_or_wanting now (received.Refused why) old new (response.Refused named) reads responds = absurd (cc)
 
 -- what is sent is a response to what was received
-pub sent_responds : (now : ℕ × ℕ) (came : Received) (old new : Desk) (reply sent : Response)
+pub sent_responds : (now : Moment) (came : Received) (old new : Desk) (reply sent : Response)
     → Responds now came old new reply → IsSent reply sent
     → Responds now came old new sent
 sent_responds now came old new reply sent responds (inl same)

@@ -4,6 +4,7 @@ use Rattle.pt_base.specs.Fault.{fault}
 use Rattle.pt_base.specs.declared.fault.Fault.{Fault}
 use Rattle.pt_base.specs.Codes.{memory_refused, read_failed}
 use Rattle.pt_base.specs.declared.rule.Rule.TheVariants.{Key}
+use Rattle.pt_base.specs.declared.moment.Moment.{Moment}
 use Rattle.pt_desk.specs.Store.{Store, TellsBy, Fails}
 use Rattle.pt_desk_rules.specs.State.{State}
 use Rattle.pt_desk_rules.specs.Step.{IsOutcome}
@@ -31,31 +32,31 @@ desk_of store = record { content = store.content; failures = store.failures }
 
 -- a message with this key is answered by the rules; one with no key is denied, whoever the callers are, and changes
 -- nothing
-abbrev pub AnswersWith : Option (List ℕ) → (ℕ × ℕ) → Message → Desk → Desk → Result Answer StoreFault → Type 0
+abbrev pub AnswersWith : Option (List ℕ) → Moment → Message → Desk → Desk → Result Answer StoreFault → Type 0
 AnswersWith (Some key) now message old new told =
     TellsBy old.content new.content (IsOutcome key now message.number message.request) told
     × Fails old.failures new.failures told
 AnswersWith None now message old new told = (told ≡ Ok (Denied Key)) × (new ≡ old)
 
 -- the message is answered so at this moment
-abbrev pub AnswersMessage : (ℕ × ℕ) → Message → Desk → Desk → Result Answer StoreFault → Type 0
+abbrev pub AnswersMessage : Moment → Message → Desk → Desk → Result Answer StoreFault → Type 0
 AnswersMessage now message old new told =
     AnswersWith (option_map (λ key. key.items) message.key) now message old new told
 
 -- the reply to what begins the bytes, and what it leaves: a message is answered, and a fault changes nothing
-abbrev pub Exchanges : (ℕ × ℕ) → List ℕ → Desk → Desk → Response → List ℕ → Type 0
+abbrev pub Exchanges : Moment → List ℕ → Desk → Desk → Response → List ℕ → Type 0
 Exchanges now bytes old new (response.Answered told) rest =
     (message : Message) × BeginsWithMessage bytes message rest × AnswersMessage now message old new told
 Exchanges now bytes old new (response.Refused why) rest = BeginsWithFault bytes why rest × (new ≡ old)
 
 -- whatever came in, the reply is the desk's to some message at this moment, or to bytes that begin with none, which
 -- change nothing
-abbrev pub Serves : (ℕ × ℕ) → Desk → Desk → Response → Type 0
+abbrev pub Serves : Moment → Desk → Desk → Response → Type 0
 Serves now old new (response.Answered told) = (message : Message) × AnswersMessage now message old new told
 Serves now old new (response.Refused why) = new ≡ old
 
 -- the same of a desk over a store, as it stood and as it stands
-abbrev pub ServesOver : Store → Store → (ℕ × ℕ) → Response → Type 0
+abbrev pub ServesOver : Store → Store → Moment → Response → Type 0
 ServesOver old new now reply = Serves now (desk_of old) (desk_of new) reply
 
 -- memory was refused, or a read failed or was one too many: nothing was answered
@@ -69,14 +70,14 @@ is_last (response.Refused Length) = true
 is_last _ = false
 
 -- what begins the input is answered so, and the inbox has what comes after it, for which it counts reads anew
-abbrev pub IsExchanged : {R : Type 0} → (R → Option (List ℕ)) → (ℕ × ℕ) → List ℕ → Desk → Desk → Inbox R → Response
+abbrev pub IsExchanged : {R : Type 0} → (R → Option (List ℕ)) → Moment → List ℕ → Desk → Desk → Inbox R → Response
     → Type 0
 IsExchanged remaining now input old new inbox reply =
     (rest : List ℕ) × HasInput remaining inbox rest × Exchanges now input old new reply rest
     × (is_last reply ≡ false → reads_of inbox ≡ 0)
 
 -- the same of a desk over a store, as it stood and as it stands
-abbrev pub IsExchangedOver : {R : Type 0} → (R → Option (List ℕ)) → Store → Store → (ℕ × ℕ) → List ℕ → Inbox R
+abbrev pub IsExchangedOver : {R : Type 0} → (R → Option (List ℕ)) → Store → Store → Moment → List ℕ → Inbox R
     → Response
     → Type 0
 IsExchangedOver remaining old new now input inbox reply =

@@ -1,5 +1,6 @@
 -- What was received from some bytes.
 use Rattle.std.specs.Prelude.{◌≡◌, ℕ, Bool, false, List}
+use Rattle.pt_base.specs.declared.moment.Moment.{Moment}
 use Rattle.pt_http_reply.specs.declared.response.Response.{Response}
 use Rattle.pt_http_reply.specs.declared.response.Response.TheVariants as response
 use Rattle.pt_http.specs.Exchange.{Desk, AnswersMessage, is_last}
@@ -29,7 +30,7 @@ BeginsWith bytes (received.Message message) rest = BeginsWithMessage bytes messa
 BeginsWith bytes (received.Refused why) rest = BeginsWithFault bytes why rest
 
 -- the desk's response to what was received: an answer, or the fault, which changes nothing
-abbrev pub Responds : (ℕ × ℕ) → Received → Desk → Desk → Response → Type 0
+abbrev pub Responds : Moment → Received → Desk → Desk → Response → Type 0
 Responds now (received.Message message) old new (response.Answered told) =
     AnswersMessage now message old new told
 Responds now (received.Refused why) old new (response.Refused named) = (named ≡ why) × (new ≡ old)

@@ -15,7 +15,7 @@ ghost use Rattle.pt_http_request.specs.Targets.{desk_routes};
 use crate::received::{Received, receive};
 use matchit::Router;
 use pt_base::fault::{MEMORY, WRITE_FAILED};
-use pt_base::{Day, Fault, Minute, Rule};
+use pt_base::{Fault, Moment, Rule};
 use pt_desk::{Answer, Keeper, answer};
 use pt_http_inbox::Inbox;
 use pt_http_reply::{ReplyBytes, Response, reply_to};
@@ -24,12 +24,7 @@ use std::alloc::Global;
 use std::io::{Read, Write};
 
 /// The desk's response to what was received.
-fn respond<K: Keeper>(
-    alloc: Global,
-    keeper: &mut K,
-    now: (Day, Minute),
-    received: &Received,
-) -> Response
+fn respond<K: Keeper>(alloc: Global, keeper: &mut K, now: Moment, received: &Received) -> Response
     ensures responds { (K.store keeper.new).doubt ≡ 0
         → Responds now received.now (desk_of (K.store keeper.old))
         (desk_of (K.store keeper.new)) result }
@@ -69,7 +64,7 @@ pub fn exchange<K: Keeper, R: Read + Drop, W: Write>(
     alloc: Global,
     router: &Router<Path>,
     keeper: &mut K,
-    now: (Day, Minute),
+    now: Moment,
     inbox: &mut Inbox<R>,
     out: &mut W,
 ) -> Result<Response, Fault>
@@ -111,7 +106,7 @@ pub fn exchange<K: Keeper, R: Read + Drop, W: Write>(
 pub fn answer_bytes<K: Keeper, R: Read + Drop, W: Write>(
     alloc: Global,
     keeper: &mut K,
-    now: (Day, Minute),
+    now: Moment,
     inbox: &mut Inbox<R>,
     out: &mut W,
 ) -> Result<(), Fault>

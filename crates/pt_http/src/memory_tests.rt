@@ -2,12 +2,12 @@ use crate::answer_bytes;
 use crate::tests::{COMPLETE, PUT_CLERK, PUT_RIDER, STANDING, eight_in_the_morning};
 use arrayvec::ArrayVec;
 use pt_base::fault::MEMORY;
-use pt_base::{CallerId, Day, Fault, Minute, TripId};
+use pt_base::{CallerId, Fault, Moment, TripId};
 use pt_desk::{Keeper, ListKeeper, Write};
 use pt_desk_rules::Arrival;
 use pt_http_inbox::Inbox;
 use pt_spelling::spell;
-use std::alloc::Global;
+use std::alloc::{AllocError, Global};
 use std::process::Abort;
 
 /// What an exchange of the test below could change.
@@ -47,11 +47,11 @@ fn seen(rt: &impl Abort, alloc: Global, keeper: &mut ListKeeper) -> Snapshot {
     }
 }
 
-fn inbox_with<'b>(alloc: Global, request: &'b str) -> Result<Inbox<&'b [u8]>, Fault> {
+fn inbox_with<'b>(alloc: Global, request: &'b str) -> Result<Inbox<&'b [u8]>, AllocError> {
     Inbox::new(alloc, request.as_bytes()).or_else(|_| Inbox::new(alloc, request.as_bytes()))
 }
 
-fn least_desk(alloc: Global) -> Result<ListKeeper, Fault> {
+fn least_desk(alloc: Global) -> Result<ListKeeper, AllocError> {
     ListKeeper::new(alloc, b"abc").or_else(|_| ListKeeper::new(alloc, b"abc"))
 }
 
@@ -69,7 +69,7 @@ enum FirstTry {
 fn told(
     alloc: Global,
     keeper: &mut ListKeeper,
-    now: (Day, Minute),
+    now: Moment,
     inbox: &mut Inbox<&[u8]>,
     out: &mut ArrayVec<u8, 512>,
 ) -> Result<(), Fault> {

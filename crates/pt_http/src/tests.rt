@@ -1,4 +1,4 @@
-use pt_base::{Day, Minute};
+use pt_base::{Day, Minute, Moment};
 use std::io;
 use std::io::{ErrorKind, Read};
 use std::process::Abort;
@@ -46,7 +46,10 @@ pub(crate) const DONE: &str =
     "HTTP/1.1 200 OK\r\nContent-Type: application/json\r\nContent-Length: 13\r\nConnection: close\r\n\r\n\
     {\"done\":true}";
 
-pub(crate) fn eight_in_the_morning(rt: &impl Abort) -> (Day, Minute) {
+pub(crate) fn eight_in_the_morning(rt: &impl Abort) -> Moment {
     let day = Day::parse("2025-02-17").expect(rt, "a day");
-    (day, Minute::of(480).unwrap())
+    Moment {
+        day,
+        minute: Minute::of(480).unwrap(),
+    }
 }
