@@ -1,6 +1,7 @@
 -- The moment at the front of an input.
 use Rattle.std.proofs.Common.{◌≡◌, ◌≢◌, ℕ, ◌<◌, ◌≤◌, ◌+◌, List, [], ◌∷◌, ◌++◌, length, sym, ap, ◌∙◌, refl, arith}
 use Rattle.std.proofs.Common.{length-append, Bool, true, false, Option, Some, None, Result, Ok, inl, inr, ◌⊎◌}
+use Rattle.pt_base.specs.declared.moment.Moment.{Moment}
 use Rattle.pt_http_inbox.specs.declared.inbox.Inbox.{Inbox}
 use Rattle.pt_rehearsal.specs.Moment.{BeginsWithMoment}
 use Rattle.pt_http.specs.Input.{HasInput}
@@ -14,12 +15,12 @@ one_of_two false result is enough ended = inr (ended is)
 
 -- the input has a moment, or none
 pub next_some : {R : Type 0} (remaining : R → Option (List ℕ)) (inbox : Inbox R) (input : List ℕ)
-    (found : Option (ℕ × ℕ)) (now : ℕ × ℕ) → found ≡ Some now → IsNext remaining inbox input found
-    → (rest : List ℕ) × HasInput remaining inbox rest × BeginsWithMoment input now.0 now.1 rest
+    (found : Option Moment) (now : Moment) → found ≡ Some now → IsNext remaining inbox input found
+    → (rest : List ℕ) × HasInput remaining inbox rest × BeginsWithMoment input now.day now.minute rest
 next_some remaining inbox input found now is next = rw is at next
 
 pub next_none : {R : Type 0} (remaining : R → Option (List ℕ)) (inbox : Inbox R) (input : List ℕ)
-    (found : Option (ℕ × ℕ)) → found ≡ None → IsNext remaining inbox input found → input ≡ []
+    (found : Option Moment) → found ≡ None → IsNext remaining inbox input found → input ≡ []
 next_none remaining inbox input found is next = rw is at next
 
 none_in : (bytes : List ℕ) → length bytes < 1 → bytes ≡ []

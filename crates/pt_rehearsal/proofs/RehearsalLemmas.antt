@@ -11,6 +11,7 @@ use Rattle.pt_http_reply.specs.declared.response.Response.{Response}
 use Rattle.pt_base.specs.Fault.{fault}
 use Rattle.pt_base.specs.declared.fault.Fault.{Fault}
 use Rattle.pt_base.specs.Codes.{memory_refused, read_failed, write_failed, moment_line_refused}
+use Rattle.pt_base.specs.declared.moment.Moment.{Moment}
 use Rattle.pt_http.specs.Exchange.{Desk, Exchanges, IsUnanswered, is_last}
 use Rattle.pt_http.specs.Input.{HasInput}
 use Rattle.pt_rehearsal.specs.Rehearsal.{most_messages, Exchanged, IsStep, Rehearses, HasBadLine}
@@ -49,14 +50,14 @@ stops remaining input old now before after inbox stands =
     rw (append-nil stands.messages, append-nil stands.written) at (stands.goes [] [] stands.left now (refl, refl, refl))
 
 -- one message more
-abbrev pub one_more : ℕ → ℕ → Response → List ℕ → Exchanged
-one_more day minute reply text = record { day = day; minute = minute; reply = reply; text = text }
+abbrev pub one_more : Moment → Response → List ℕ → Exchanged
+one_more now reply text = record { now = now; reply = reply; text = text }
 
-pub step_of : (day minute : ℕ) (left between rest text : List ℕ) (now new : Desk) (reply : Response)
-    → BeginsWithMoment left day minute between → Exchanges (day, minute) between now new reply rest
+pub step_of : (at : Moment) (left between rest text : List ℕ) (now new : Desk) (reply : Response)
+    → BeginsWithMoment left at.day at.minute between → Exchanges at between now new reply rest
     → IsReplyText reply text
-    → IsStep (one_more day minute reply text) left now rest new
-step_of day minute left between rest text now new reply moment exchanged replied = record {
+    → IsStep (one_more at reply text) left now rest new
+step_of at left between rest text now new reply moment exchanged replied = record {
   after = between;
   moment = moment;
   exchanged = exchanged;

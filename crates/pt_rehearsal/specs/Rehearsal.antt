@@ -1,6 +1,7 @@
 -- Rehearsals: messages one after another, each led by a line that gives its moment.
 use Rattle.std.specs.Prelude.{◌≡◌, ◌≢◌, ◌⊎◌, ℕ, true, List, [], ◌∷◌, ◌++◌}
 use Rattle.pt_base.specs.Fault.{fault}
+use Rattle.pt_base.specs.declared.moment.Moment.{Moment}
 use Rattle.pt_base.specs.declared.fault.Fault.{Fault}
 use Rattle.pt_base.specs.Codes.{write_failed, moment_line_refused}
 use Rattle.pt_rehearsal.specs.Moment.{BeginsWithMoment}
@@ -14,16 +15,15 @@ most_messages = 100_000
 
 -- a message of a rehearsal: the moment at which it came, the reply, and the reply's bytes
 pub record Exchanged : Type 0 where
-  pub day : ℕ
-  pub minute : ℕ
+  pub now : Moment
   pub reply : Response
   pub text : List ℕ
 
 -- the bytes begin with this message's moment and then with what it answers, and leave this rest and this state
 pub record IsStep (one : Exchanged) (bytes : List ℕ) (old : Desk) (rest : List ℕ) (new : Desk) : Type 0 where
   pub after : List ℕ
-  pub moment : BeginsWithMoment bytes one.day one.minute after
-  pub exchanged : Exchanges (one.day, one.minute) after old new one.reply rest
+  pub moment : BeginsWithMoment bytes one.now.day one.now.minute after
+  pub exchanged : Exchanges one.now after old new one.reply rest
   pub replied : IsReplyText one.reply one.text
 
 -- the desk goes through these messages at the front of the bytes, writes these bytes in reply, and comes to this rest

@@ -2,7 +2,7 @@ ghost use Rattle.std.specs.Prelude.{◌≡◌, ℕ, ◌+◌, ◌≤◌, ◌==◌
 ghost use Rattle.std.specs.Str.Lines.{strip_carriage_return};
 ghost use Rattle.pt_rehearsal.specs.Moment.{IsMoment, AreParts, BeginsWithLine, BeginsWithMoment};
 
-use pt_base::{Day, Minute, day_from, number_from};
+use pt_base::{Minute, Moment, day_from, number_from};
 use std::str;
 
 /// The most bytes that a line with a moment has, its newline among them.
@@ -11,8 +11,7 @@ pub(crate) const LONGEST_MOMENT_LINE: usize = 19;
 /// The moment that a line gives.
 #[derive(Clone, Copy, Debug, PartialEq, Eq)]
 pub(crate) struct MomentLine {
-    pub day: Day,
-    pub minute: Minute,
+    pub moment: Moment,
     /// The number of bytes of the line, its newline among them.
     pub end: usize,
 }
@@ -52,27 +51,30 @@ fn parts_of(text: &str) -> Option<(&str, &str)>
 }
 
 /// The moment that a line spells.
-fn moment_from(line: &[u8]) -> Option<(Day, Minute)>
-    ensures moment { IfSome result (λ moment. IsMoment line.now moment.0 moment.1) }
+fn moment_from(line: &[u8]) -> Option<Moment>
+    ensures moment { IfSome result (λ moment. IsMoment line.now moment.day moment.minute) }
     ensures none { IsNone result → (day minute : ℕ) → ¬ (IsMoment line.now day minute) }
 {
     let text = str::from_utf8(line).ok()?;
     let (date, digits) = parts_of(text)?;
     let day = day_from(date)?;
     let minute = number_from(digits.as_bytes(), 4, 1439)?;
-    Some((day, Minute::of(minute as u32)?))
+    Some(Moment {
+        day,
+        minute: Minute::of(minute as u32)?,
+    })
 }
 
 /// The moment that the line at the front of the bytes gives; `None` where no such line is there.
 pub(crate) fn moment_at(bytes: &[u8]) -> Option<MomentLine>
-    ensures moment { IfSome result (λ found. BeginsWithMoment bytes.now found.day found.minute (drop found.end
-        bytes.now)) }
+    ensures moment { IfSome result (λ found. BeginsWithMoment bytes.now found.moment.day
+        found.moment.minute (drop found.end bytes.now)) }
     ensures within { IfSome result (λ found. found.end ≤ length bytes.now) }
     ensures short { IfSome result (λ found. found.end ≤ LONGEST_MOMENT_LINE) }
     ensures none { IsNone result → (day minute : ℕ) (rest : List ℕ) → ¬ (BeginsWithMoment bytes.now day minute rest) }
 {
     let line = line_of(bytes)?;
-    let (day, minute) = moment_from(without_return(line))?;
+    let moment = moment_from(without_return(line))?;
     let end = line.len() + 1;
-    Some(MomentLine { day, minute, end })
+    Some(MomentLine { moment, end })
 }

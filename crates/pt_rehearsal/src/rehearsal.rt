@@ -14,7 +14,7 @@ ghost use Rattle.pt_rehearsal.specs.Rehearsal.{IsRehearsalFault};
 use crate::moment::{LONGEST_MOMENT_LINE, moment_at};
 use matchit::Router;
 use pt_base::fault::{MEMORY, MOMENT_LINE, READ_FAILED};
-use pt_base::{Day, Fault, Minute};
+use pt_base::{Fault, Moment};
 use pt_desk::Keeper;
 use pt_http::exchange;
 use pt_http_inbox::Inbox;
@@ -27,7 +27,7 @@ use std::io::{Read, Write};
 pub const MOST_MESSAGES: u32 = 100_000;
 
 /// The moment that leads the next message; `None` at the end of the input.
-fn next_moment<R: Read + Drop>(inbox: &mut Inbox<R>) -> Result<Option<(Day, Minute)>, Fault>
+fn next_moment<R: Read + Drop>(inbox: &mut Inbox<R>) -> Result<Option<Moment>, Fault>
     ensures next { (input : List ℕ) → HasInput R.remaining inbox.old input
         → IfOk result (IsNext R.remaining inbox.new input) }
     ensures line { (input : List ℕ) → HasInput R.remaining inbox.old input
@@ -44,7 +44,7 @@ fn next_moment<R: Read + Drop>(inbox: &mut Inbox<R>) -> Result<Option<(Day, Minu
         return Err(Fault::of(MOMENT_LINE));
     };
     inbox.consume(line.end);
-    Ok(Some((line.day, line.minute)))
+    Ok(Some(line.moment))
 }
 
 /// Whether a rehearsal ends with this reply.

@@ -56,8 +56,8 @@ returns-in_err-response-clause-stopped g c = λ clean input has.
     (λ write.
     let unheard = c.exchange.ensures.unheard clean next.0 next.1 (c.in_err-response.was ∙ ap Err write) in
     let text = unheard.2 in
-    let one = one_more c.in-Some.now.0 c.in-Some.now.1 unheard.0 text.0 in
-    let step = step_of c.in-Some.now.0 c.in-Some.now.1 st.left next.0 unheard.1.0 text.0 _ _ unheard.0 next.2
+    let one = one_more c.in-Some.now unheard.0 text.0 in
+    let step = step_of c.in-Some.now st.left next.0 unheard.1.0 text.0 _ _ unheard.0 next.2
     unheard.1.2 text.1 in
     stopped_unheard _ input unheard.1.0 _ _ _ _ _ _ _ one error st c.loop-test.true write step))
 
@@ -71,8 +71,8 @@ returns-then-is_last-clause-finished g c = λ clean input has.
     let answered = c.in_ok-response.ensures.answered clean next.0 next.1 in
     let written = c.in_ok-response.ensures.written in
     let reply = c.in_ok-response.response in
-    let one = one_more c.in-Some.now.0 c.in-Some.now.1 reply written.0 in
-    let step = step_of c.in-Some.now.0 c.in-Some.now.1 st.left next.0 answered.0 written.0 _ _ reply next.2
+    let one = one_more c.in-Some.now reply written.0 in
+    let step = step_of c.in-Some.now st.left next.0 answered.0 written.0 _ _ reply next.2
     answered.2 written.1 in (
       st.messages ++ one ∷ [],
       st.written ++ written.0,
@@ -98,8 +98,8 @@ loop-preserved g c =
           let answered = c.in_ok-response.ensures.answered clean next.0 next.1 in
           let written = c.in_ok-response.ensures.written in
           let reply = c.in_ok-response.response in
-          let one = one_more c.in-Some.now.0 c.in-Some.now.1 reply written.0 in
-          let step = step_of c.in-Some.now.0 c.in-Some.now.1 st.left next.0 answered.0 written.0 _ _ reply
+          let one = one_more c.in-Some.now reply written.0 in
+          let step = step_of c.in-Some.now st.left next.0 answered.0 written.0 _ _ reply
           next.2 answered.2 written.1 in
           went_on _ input answered.0 _ _ _ _ _ _ _ _ one st step (sym c.is_last.ensures ∙ c.if-is_last.false)
           answered.1 written.2 (omega arith);

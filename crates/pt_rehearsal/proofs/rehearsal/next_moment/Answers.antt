@@ -28,8 +28,8 @@ returns-in_default-clause-line g c = λ input has is.
 pub returns-clause-next : goal.returns-clause-next
 returns-clause-next g c = λ input has.
     let bytes = held c.read_up_to-2.new.self in
-    let day = c.in-Some.line.day in
-    let minute = c.in-Some.line.minute in
+    let day = c.in-Some.line.moment.day in
+    let minute = c.in-Some.line.moment.minute in
     let end = c.in-Some.line.end in
     let first = reads_input g.R.Read.remaining c.args.inbox.now c.read_up_to.new.self input c.read_up_to.ensures.reads
     has in
