@@ -4,6 +4,7 @@ use Rattle.std.proofs.lemmas.List.Sums.{sum_by_push}
 use Rattle.pt_base.specs.Codes.{write_failed}
 use Rattle.pt_base.specs.Fault.{fault}
 use Rattle.pt_base.specs.declared.fault.Fault.{Fault}
+use Rattle.pt_base.specs.declared.moment.Moment.{Moment}
 use Rattle.pt_desk.specs.Store.{Store}
 use Rattle.pt_http.specs.Exchange.{Desk, IsUnanswered, Serves, desk_of}
 use Rattle.pt_http_reply.specs.declared.response.Response.{Response}
@@ -61,20 +62,20 @@ abbrev pub ServesOne : List ℕ → Desk → Desk → Type 0
 ServesOne zone old new = (one : Served) × IsServed zone one old new
 
 -- a reply at a moment of the zone is one that was served
-pub served_at : (zone : List ℕ) (day minute : ℕ) (old new : Desk) → IsMomentIn zone day minute
-    → (reply : Response) × Serves (day, minute) old new reply → ServesOne zone old new
-served_at zone day minute old new moment answered = (
-  record { day = day; minute = minute; reply = answered.0 },
+pub served_at : (zone : List ℕ) (now : Moment) (old new : Desk) → IsMomentIn zone now
+    → (reply : Response) × Serves now old new reply → ServesOne zone old new
+served_at zone now old new moment answered = (
+  record { now = now; reply = answered.0 },
   record { moment = moment; answered = answered.1 },
 )
 
 -- of a connection that failed the request is answered, or nothing is changed
-pub failed_turn : (zone : List ℕ) (day minute : ℕ) (old new : Desk) (error : Fault)
-    → IsMomentIn zone day minute → (IsUnanswered error → new ≡ old)
-    → (error ≡ fault write_failed → (reply : Response) × Serves (day, minute) old new reply)
+pub failed_turn : (zone : List ℕ) (now : Moment) (old new : Desk) (error : Fault)
+    → IsMomentIn zone now → (IsUnanswered error → new ≡ old)
+    → (error ≡ fault write_failed → (reply : Response) × Serves now old new reply)
     → IsUnanswered error ⊎ (error ≡ fault write_failed) → ServesATurn zone (Some error) old new
-failed_turn zone day minute old new error moment kept answered (inl nothing) =
+failed_turn zone now old new error moment kept answered (inl nothing) =
     (unanswered, refl, kept nothing)
-failed_turn zone day minute old new error moment kept answered (inr failed) =
-    let served = served_at zone day minute old new moment (answered failed) in
+failed_turn zone now old new error moment kept answered (inr failed) =
+    let served = served_at zone now old new moment (answered failed) in
     (unheard served.0, refl, served.1)

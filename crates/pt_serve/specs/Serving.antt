@@ -4,6 +4,7 @@ use Rattle.std.specs.List.{count_by}
 use Rattle.pt_base.specs.Codes.{memory_refused, date_out_of_range}
 use Rattle.pt_base.specs.Fault.{fault}
 use Rattle.pt_base.specs.declared.fault.Fault.{Fault}
+use Rattle.pt_base.specs.declared.moment.Moment.{Moment}
 use Rattle.pt_clock.specs.Codes.{no_such_zone}
 use Rattle.pt_clock.specs.LocalTime.{IsLocalTime}
 use Rattle.pt_http.specs.Exchange.{Desk, Serves}
@@ -11,18 +12,17 @@ use Rattle.pt_http_reply.specs.declared.response.Response.{Response}
 
 -- a request that was served: the moment at which it was, and the reply
 pub record Served : Type 0 where
-  pub day : ℕ
-  pub minute : ℕ
+  pub now : Moment
   pub reply : Response
 
 -- clocks of the zone show this moment at some instant
-abbrev pub IsMomentIn : List ℕ → ℕ → ℕ → Type 0
-IsMomentIn zone day minute = (instant : ℤ) × IsLocalTime zone instant (pos day) minute
+abbrev pub IsMomentIn : List ℕ → Moment → Type 0
+IsMomentIn zone now = (instant : ℤ) × IsLocalTime zone instant (pos now.day) now.minute
 
 -- at a moment in the zone the desk serves this
 pub record IsServed (zone : List ℕ) (one : Served) (old new : Desk) : Type 0 where
-  pub moment : IsMomentIn zone one.day one.minute
-  pub answered : Serves (one.day, one.minute) old new one.reply
+  pub moment : IsMomentIn zone one.now
+  pub answered : Serves one.now old new one.reply
 
 -- what comes of a connection: its request is answered and the whole reply written, or answered though the reply is not
 -- wholly written, or no request of it is answered

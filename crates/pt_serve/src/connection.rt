@@ -8,7 +8,7 @@ ghost use Rattle.pt_serve.specs.Connection.{IsAnsweredFrom};
 
 use crate::bounded::{Bounded, Ends, Waits};
 use pt_base::fault::READ_FAILED;
-use pt_base::{Day, Fault, Minute};
+use pt_base::{Fault, Moment};
 use pt_desk::Keeper;
 use pt_http::answer_bytes;
 use pt_http_inbox::Inbox;
@@ -24,7 +24,7 @@ use std::time::Clock;
 pub fn answer_connection<K: Keeper, R: Read + Drop, W: Write>(
     alloc: Global,
     keeper: &mut K,
-    now: (Day, Minute),
+    now: Moment,
     reader: R,
     out: &mut W,
 ) -> Result<(), Fault>
@@ -62,7 +62,7 @@ pub fn answer_in_time<C: Clock, K: Keeper, R: Read + Waits + Drop, W: Write + Wa
     clock: &C,
     alloc: Global,
     keeper: &mut K,
-    now: (Day, Minute),
+    now: Moment,
     reader: R,
     out: W,
 ) -> (W, Result<(), Fault>)
@@ -113,7 +113,7 @@ pub fn serve_one<C: Clock, K: Keeper>(
     clock: &C,
     alloc: Global,
     keeper: &mut K,
-    now: (Day, Minute),
+    now: Moment,
     stream: &TcpStream,
 ) -> Result<(), Fault>
     ensures served { (K.store keeper.new).doubt ≡ 0

@@ -14,7 +14,7 @@ use crate::connection::serve_one;
 use crate::listening::Port;
 use jiff::Timestamp;
 use pt_base::fault::{DATE_OUT_OF_RANGE, MEMORY, READ_FAILED};
-use pt_base::{Day, Fault, Minute};
+use pt_base::{Fault, Moment};
 use pt_clock::{moment_of, now_in};
 use pt_desk::Keeper;
 use std::alloc::Global;
@@ -35,8 +35,8 @@ fn unread(zone: &str) -> Fault
 
 /// The day and the minute that clocks of a zone show now. The error is fault 3, a zone that is no POSIX rule, or fault
 /// 2, a clock that shows no day of 2000 to 2099.
-pub fn moment_at<C: Clock>(clock: &C, zone: &str) -> Result<(Day, Minute), Fault>
-    ensures moment { IfOk result (λ now. IsMomentIn zone.now now.0 now.1) }
+pub fn moment_at<C: Clock>(clock: &C, zone: &str) -> Result<Moment, Fault>
+    ensures moment { IfOk result (λ now. IsMomentIn zone.now now) }
     ensures zone { (result ≡ Err (fault no_such_zone)) ↔ ¬ (IsZoneRule zone.now) }
     ensures fault { IfErr result EndsServing }
 {

@@ -1,6 +1,6 @@
 use crate::{Waits, answer_in_time, serve_one};
 use pt_base::fault::{READ_FAILED, WRITE_FAILED};
-use pt_base::{CallerId, Day, Fault, Minute};
+use pt_base::{CallerId, Day, Fault, Minute, Moment};
 use pt_desk::{Keeper, ListKeeper};
 use std::alloc::Global;
 use std::cell::{Cell, RefCell};
@@ -22,9 +22,12 @@ const DONE: &str =
     "HTTP/1.1 200 OK\r\nContent-Type: application/json\r\nContent-Length: 13\r\nConnection: close\r\n\r\n\
     {\"done\":true}";
 
-fn eight_in_the_morning(rt: &impl Abort) -> (Day, Minute) {
+fn eight_in_the_morning(rt: &impl Abort) -> Moment {
     let day = Day::parse("2025-02-17").expect(rt, "a day");
-    (day, Minute::of(480).unwrap())
+    Moment {
+        day,
+        minute: Minute::of(480).unwrap(),
+    }
 }
 
 /// Whether the clerk has been put.
