@@ -8,6 +8,7 @@ use Rattle.pt_audit.specs.RightLog.{IsNowherePossible}
 use Rattle.pt_base.specs.declared.fault.Fault.{Fault}
 use Rattle.pt_base.specs.declared.rule.Rule.TheVariants.{NoVehicle}
 use Rattle.pt_base.specs.declared.trip.Wish.{Wish}
+use Rattle.pt_base.specs.declared.moment.Moment.{Moment}
 use Rattle.pt_booking.proofs.DutyLemmas.{Any-map, no_any}
 use Rattle.pt_booking.specs.Planning.{OnDuty, SomeVehicleCan, on_duty}
 use Rattle.pt_desk.proofs.RefusalLemmas.{refusals_are_told}
@@ -89,13 +90,13 @@ log_stays minutes duties asked of_refusal old new seen is writes keeps =
     }
 
 -- where no vehicle can, the wish is denied so, and by no other rule
-told_none : (key : List ℕ) (now : ℕ × ℕ) (rider : ℕ) (wish : Wish) (s : State) (found : Refusal) → NoneCan found
+told_none : (key : List ℕ) (now : Moment) (rider : ℕ) (wish : Wish) (s : State) (found : Refusal) → NoneCan found
     → IsFacts key now rider wish s (inquiry.Facts found) None → IsSound s → (number : ℕ) (told : Answer)
     (left : Option State) → IsOutcome key now number (Explain rider wish) s told left → told ≡ answer.Denied NoVehicle
 told_none key now rider wish s found (minutes, times, never) facts sound number told left outcome =
     refusals_are_told key now number rider wish s found None left minutes told sound facts times never outcome
 
-pub explained_none : (key : List ℕ) (now : ℕ × ℕ) (rider : ℕ) (wish : Wish) (s : State) (given : Inquiry)
+pub explained_none : (key : List ℕ) (now : Moment) (rider : ℕ) (wish : Wish) (s : State) (given : Inquiry)
     (found : Refusal) (old new : Option (List ℕ)) (result : Result Outcome Fault) → given ≡ inquiry.Facts found
     → IsExplainedFrom found old new result → result ≡ Ok Done → IsFacts key now rider wish s given None → IsSound s
     → (number : ℕ) (told : Answer) (left : Option State) → IsOutcome key now number (Explain rider wish) s told left
@@ -104,7 +105,7 @@ explained_none key now rider wish s given found old new result is ends done fact
     told_none key now rider wish s found (subst (λ r. IsExplainedFrom found old new r) done ends).0
     (subst (λ f. IsFacts key now rider wish s f None) is facts) sound number told left outcome
 
-pub audited_none : (key : List ℕ) (now : ℕ × ℕ) (rider : ℕ) (wish : Wish) (s : State) (lines : List Line)
+pub audited_none : (key : List ℕ) (now : Moment) (rider : ℕ) (wish : Wish) (s : State) (lines : List Line)
     (given : Inquiry) (found : Refusal) (old new : Option (List ℕ)) (result : Result Outcome Fault)
     → given ≡ inquiry.Facts found → IsAuditedFrom lines found old new result → result ≡ Ok Done
     → IsFacts key now rider wish s given None → IsSound s → (number : ℕ) (told : Answer) (left : Option State)

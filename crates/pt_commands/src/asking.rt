@@ -11,7 +11,7 @@ ghost use Rattle.pt_requests.specs.declared.request.Answer.{Answer};
 
 use crate::outcome::{Outcome, STORE_REFUSED};
 use pt_base::fault::{MEMORY, WRITE_FAILED};
-use pt_base::{Day, Fault, Minute};
+use pt_base::{Fault, Moment};
 use pt_desk::{Answer, Keeper, Reply, Request, StoreFault, answer};
 use pt_manifest::{manifest, trips_csv};
 use std::alloc::{AllocError, Global};
@@ -36,14 +36,13 @@ pub(crate) fn line_of(alloc: Global, word: &str) -> Result<Vec<u8>, AllocError>
     Ok(line)
 }
 
-/// What a command prints that is told this. The error is want of memory.
-fn text_of(alloc: Global, told: &Answer) -> Result<Vec<u8>, Fault>
+/// What a command prints that is told this.
+fn text_of(alloc: Global, told: &Answer) -> Result<Vec<u8>, AllocError>
     ensures text { IfOk result (λ text. text.items ≡ told_text told.now) }
-    ensures fault { IfErr result (λ error. error ≡ fault memory_refused) }
 {
     match told {
-        Answer::Done => Ok(line_of(alloc, "done")?),
-        Answer::Denied(rule) => Ok(line_of(alloc, rule.name())?),
+        Answer::Done => line_of(alloc, "done"),
+        Answer::Denied(rule) => line_of(alloc, rule.name()),
         Answer::Manifest { day, sheet } => manifest(alloc, *day, sheet),
         Answer::Export(trips) => trips_csv(alloc, trips.as_slice()),
         _ => Ok(Vec::new(alloc)),
@@ -107,7 +106,7 @@ fn print_reply<W: Write>(alloc: Global, reply: &Reply, out: &mut W) -> Result<Ou
 pub fn ask<K: Keeper, W: Write>(
     alloc: Global,
     keeper: &mut K,
-    now: (Day, Minute),
+    now: Moment,
     key: &[u8],
     number: u32,
     request: &Request,

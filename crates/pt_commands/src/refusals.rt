@@ -18,7 +18,7 @@ use crate::asking::{line_of, print};
 use crate::{Outcome, fault_of};
 use pt_audit::{Log, check};
 use pt_base::fault::WRITE_FAILED;
-use pt_base::{Day, Fault, Minute, RiderId, Rule, Wish};
+use pt_base::{Fault, Moment, RiderId, Rule, Wish};
 use pt_desk::{Inquiry, Keeper, RefusalFacts, facts};
 use pt_insertion::best;
 use pt_insertion_log::explain;
@@ -80,7 +80,7 @@ fn print_verdict<W: Write>(
 pub fn explain_refusal<K: Keeper, W: Write>(
     alloc: Global,
     keeper: &mut K,
-    now: (Day, Minute),
+    now: Moment,
     key: &[u8],
     rider: RiderId,
     wish: &Wish,
@@ -109,7 +109,7 @@ pub fn explain_refusal<K: Keeper, W: Write>(
 pub fn audit_refusal<K: Keeper, W: Write>(
     alloc: Global,
     keeper: &mut K,
-    now: (Day, Minute),
+    now: Moment,
     key: &[u8],
     rider: RiderId,
     wish: &Wish,
