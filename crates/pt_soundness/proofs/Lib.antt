@@ -1,7 +1,9 @@
+pub mod AlikeLemmas
 mod EachLemmas
 mod FoundLemmas
 mod FleetLemmas
 mod FileLemmas
 mod PairLemmas
+pub mod PairedLemmas
 mod FitLemmas
-mod TableLemmas
+pub mod TableLemmas

@@ -1,10 +1,9 @@
 -- A state is sound where each of its tables is.
-use Rattle.std.proofs.Common.{zero, suc, ◌≡◌, inl, inr, ℕ, ◌+◌, ◌<◌, ◌≤◌, Bool, true, false, IsTrue, List, [], ◌∷◌, Option, Some, None, refl, sym, ap, ◌∙◌, subst, arith}
+use Rattle.std.proofs.Common.{IsTrue, List, refl}
 use Rattle.pt_base.specs.declared.rider.Rider.{Rider}
 use Rattle.pt_base.specs.declared.vehicle.Vehicle.{Vehicle}
 use Rattle.pt_records.specs.Records.{Each}
 use Rattle.pt_records.proofs.OrderLemmas.{Each-both, Each-weaker}
-use Rattle.pt_records.proofs.TableLemmas.{same_or_other}
 use Rattle.pt_requests.specs.declared.caller.Role.{Role}
 use Rattle.pt_requests.specs.declared.caller.Role.TheVariants as role
 use Rattle.pt_desk_rules.specs.Facts.{has_subject}
@@ -12,7 +11,7 @@ use Rattle.pt_desk_rules.specs.Sound.{HasFirstDay, HasSubject, IsSound}
 use Rattle.pt_desk_rules.specs.State.{State}
 use Rattle.pt_scheduling.specs.Plan.{IsRoutePlan}
 use Rattle.pt_soundness.specs.Unsound.{has_driven, has_rider, HasDriven, HasRider}
-use Rattle.pt_soundness.specs.Tables.{number_of, AreSoundBefore, IsFirstUnsound, IsSoundIn}
+use Rattle.pt_soundness.specs.Tables.{IsSoundIn, IsSoundTo}
 use Rattle.pt_soundness.specs.declared.unsound_table.UnsoundTable.{UnsoundTable}
 use Rattle.pt_soundness.specs.declared.unsound_table.UnsoundTable.TheVariants as table
 
@@ -45,7 +44,7 @@ rider_of role.Dispatcher riders vehicles there = refl
 rider_of (role.Driver vehicle) riders vehicles there = refl
 rider_of role.Admin riders vehicles there = refl
 
-sound_in : (s : State) → IsSound s → (t : UnsoundTable) → IsSoundIn s t
+pub sound_in : (s : State) → IsSound s → (t : UnsoundTable) → IsSoundIn s t
 sound_in s sound table.Desk = tt
 sound_in s sound table.Callers = record { table = sound.callers; digests = sound.digests; one_holder_each = sound.one_holder_each }
 sound_in s sound table.Kept = record { in_order = sound.kept_in_order; of_callers = sound.kept_of_callers; writes = sound.kept_writes }
@@ -95,17 +94,62 @@ sound_in s sound table.RiderChairs = tt
 sound_in s sound table.VehicleChairs = tt
 sound_in s sound table.TripChairs = sound.planned_load
 
-sound_of : (s : State) → ((t : UnsoundTable) → IsSoundIn s t) → IsSound s
+-- and the first so many tables of a sound state are
+pub sound_to : (s : State) → IsSound s → IsSoundTo 14 s
+sound_to s sound = (
+  sound_in s sound table.Desk,
+  (
+    sound_in s sound table.Callers,
+    (
+      sound_in s sound table.Kept,
+      (
+        sound_in s sound table.Places,
+        (
+          sound_in s sound table.Fixed,
+          (
+            sound_in s sound table.Vehicles,
+            (
+              sound_in s sound table.Riders,
+              (
+                sound_in s sound table.Entries,
+                (
+                  sound_in s sound table.Trips,
+                  (
+                    sound_in s sound table.Stops,
+                    (
+                      sound_in s sound table.Travel,
+                      (
+                        sound_in s sound table.RiderChairs,
+                        (
+                          sound_in s sound table.VehicleChairs,
+                          (sound_in s sound table.TripChairs, tt),
+                        ),
+                      ),
+                    ),
+                  ),
+                ),
+              ),
+            ),
+          ),
+        ),
+      ),
+    ),
+  ),
+)
+
+pub sound_of : (s : State) → IsSoundTo 14 s → IsSound s
 sound_of s each =
-    let callers = each table.Callers in
-    let kept = each table.Kept in
-    let routes = each table.Fixed in
-    let vehicles = each table.Vehicles in
-    let riders = each table.Riders in
-    let entries = each table.Entries in
-    let trips = each table.Trips in
-    let plans = each table.Stops in
-    let travel = each table.Travel in
+    let callers : IsSoundIn s table.Callers = each.1.0 in
+    let kept : IsSoundIn s table.Kept = each.1.1.0 in
+    let places : IsSoundIn s table.Places = each.1.1.1.0 in
+    let routes : IsSoundIn s table.Fixed = each.1.1.1.1.0 in
+    let vehicles : IsSoundIn s table.Vehicles = each.1.1.1.1.1.0 in
+    let riders : IsSoundIn s table.Riders = each.1.1.1.1.1.1.0 in
+    let entries : IsSoundIn s table.Entries = each.1.1.1.1.1.1.1.0 in
+    let trips : IsSoundIn s table.Trips = each.1.1.1.1.1.1.1.1.0 in
+    let plans : IsSoundIn s table.Stops = each.1.1.1.1.1.1.1.1.1.0 in
+    let travel : IsSoundIn s table.Travel = each.1.1.1.1.1.1.1.1.1.1.0 in
+    let loads : IsSoundIn s table.TripChairs = each.1.1.1.1.1.1.1.1.1.1.1.1.1.0 in
     record {
       callers = callers.table;
       digests = callers.digests;
@@ -115,7 +159,7 @@ sound_of s each =
       kept_in_order = kept.in_order;
       kept_of_callers = kept.of_callers;
       kept_writes = kept.writes;
-      places = each table.Places;
+      places = places;
       routes = routes.table;
       routes_made = routes.made;
       riders = riders.table;
@@ -143,88 +187,44 @@ sound_of s each =
       planned_days = plans.days;
       planned_have_stops = plans.have_stops;
       planned_drive = travel.drive;
-      planned_load = each table.TripChairs;
+      planned_load = loads;
       standing_planned = plans.standing_planned;
     }
 
-below_fifteen : (t : UnsoundTable) → number_of t < 15
-below_fifteen table.Desk = omega arith
-below_fifteen table.Callers = omega arith
-below_fifteen table.Kept = omega arith
-below_fifteen table.Places = omega arith
-below_fifteen table.Fixed = omega arith
-below_fifteen table.Vehicles = omega arith
-below_fifteen table.Riders = omega arith
-below_fifteen table.Entries = omega arith
-below_fifteen table.Trips = omega arith
-below_fifteen table.Stops = omega arith
-below_fifteen table.Travel = omega arith
-below_fifteen table.RiderChairs = omega arith
-below_fifteen table.VehicleChairs = omega arith
-below_fifteen table.TripChairs = omega arith
+-- ---- what the tables before a table tell
 
-abbrev nth : ℕ → List UnsoundTable → UnsoundTable
-nth n [] = table.Desk
-nth zero (t ∷ ts) = t
-nth (suc n) (t ∷ ts) = nth n ts
+pub days_to : (s : State) → IsSoundTo 10 s → Each HasFirstDay s.vehicles
+days_to s each = let vehicles : IsSoundIn s table.Vehicles = each.1.1.1.1.1.0 in vehicles.first_days
 
-abbrev tables : List UnsoundTable
-tables = table.Desk ∷ table.Desk ∷ table.Callers ∷ table.Kept ∷ table.Places ∷ table.Fixed ∷ table.Vehicles ∷ table.Riders
-    ∷ table.Entries ∷ table.Trips ∷ table.Stops ∷ table.Travel ∷ table.RiderChairs ∷ table.VehicleChairs ∷ table.TripChairs ∷ []
+pub routes_to : (s : State) → IsSoundTo 10 s → Each IsRoutePlan s.planned
+routes_to s each = let plans : IsSoundIn s table.Stops = each.1.1.1.1.1.1.1.1.1.0 in plans.routes
 
-nth_itself : (t : UnsoundTable) → nth (number_of t) tables ≡ t
-nth_itself table.Desk = refl
-nth_itself table.Callers = refl
-nth_itself table.Kept = refl
-nth_itself table.Places = refl
-nth_itself table.Fixed = refl
-nth_itself table.Vehicles = refl
-nth_itself table.Riders = refl
-nth_itself table.Entries = refl
-nth_itself table.Trips = refl
-nth_itself table.Stops = refl
-nth_itself table.Travel = refl
-nth_itself table.RiderChairs = refl
-nth_itself table.VehicleChairs = refl
-nth_itself table.TripChairs = refl
-
-one_number : (t u : UnsoundTable) → number_of t ≡ number_of u → t ≡ u
-one_number t u same = sym (nth_itself t) ∙ ap (λ (n : ℕ). nth n tables) same ∙ nth_itself u
-
--- one table more is sound
-pub before_more : (s : State) (n : ℕ) (t : UnsoundTable) (b : Bool) → number_of t ≡ n → AreSoundBefore s n → (IsTrue b → IsSoundIn s t) → b ≡ true
-    → AreSoundBefore s (n + 1)
-before_more s n t b is before tells holds u below = elim (same_or_other (number_of u) n) [
-  | inl same ↦ subst (IsSoundIn s) (one_number t u (is ∙ sym same)) (tells holds)
-  | inr other ↦ before u (omega arith)
-]
-
-pub all_sound : (s : State) (n : ℕ) → 15 ≤ n → AreSoundBefore s n → IsSound s
-all_sound s n end before = sound_of s (λ t. before t (let small = below_fifteen t in omega arith))
-
-pub found_sound : (s : State) (n : ℕ) (found : Option UnsoundTable) → found ≡ None → 15 ≤ n → AreSoundBefore s n
-    → (found ≡ None → IsSound s) × (IsSound s → found ≡ None)
-found_sound s n found none end before = (λ is. all_sound s n end before, λ sound. none)
-
-pub not_sound : (s : State) (n : ℕ) (t : UnsoundTable) (b : Bool) → number_of t ≡ n → AreSoundBefore s n → (IsSoundIn s t → IsTrue b) → b ≡ false
-    → IsFirstUnsound s t
-not_sound s n t b is before tells fails = record {
-  unsound = λ sound. let holds = tells sound in absurd (cc);
-  first = subst (AreSoundBefore s) (sym is) before;
-}
-
-pub unsound_of : (s : State) (t : UnsoundTable) → IsFirstUnsound s t → IsSound s → ⊥
-unsound_of s t first sound = first.unsound (sound_in s sound t)
-
-pub found_unsound : (s : State) (t : UnsoundTable) → IsFirstUnsound s t → (Some t ≡ None → IsSound s) × (IsSound s → Some t ≡ None)
-found_unsound s t first = (λ is. absurd (cc), λ sound. absurd (unsound_of s t first sound))
-
-pub days_before : (s : State) (t u : UnsoundTable) → t ≡ u → AreSoundBefore s (number_of t) → 6 < number_of u → Each HasFirstDay s.vehicles
-days_before s t u is before above =
-    let vehicles = before table.Vehicles (subst (λ (v : UnsoundTable). 6 < number_of v) (sym is) above) in
-    vehicles.first_days
-
-pub routes_before : (s : State) (t u : UnsoundTable) → t ≡ u → AreSoundBefore s (number_of t) → 10 < number_of u → Each IsRoutePlan s.planned
-routes_before s t u is before above =
-    let plans = before table.Stops (subst (λ (v : UnsoundTable). 10 < number_of v) (sym is) above) in
-    plans.routes
+pub first_ten : (s : State) → IsSoundTo 13 s → IsSoundTo 10 s
+first_ten s each = (
+  each.0,
+  (
+    each.1.0,
+    (
+      each.1.1.0,
+      (
+        each.1.1.1.0,
+        (
+          each.1.1.1.1.0,
+          (
+            each.1.1.1.1.1.0,
+            (
+              each.1.1.1.1.1.1.0,
+              (
+                each.1.1.1.1.1.1.1.0,
+                (
+                  each.1.1.1.1.1.1.1.1.0,
+                  (each.1.1.1.1.1.1.1.1.1.0, tt),
+                ),
+              ),
+            ),
+          ),
+        ),
+      ),
+    ),
+  ),
+)

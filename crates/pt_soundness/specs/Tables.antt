@@ -1,6 +1,7 @@
 -- The tables of the database, and what a sound state keeps in each.
-use Rattle.std.specs.Prelude.{ℕ, ◌<◌}
+use Rattle.std.specs.Prelude.{ℕ, ◌-◌, List, [], ◌∷◌, take}
 use Rattle.pt_desk_rules.specs.State.{State}
+use Rattle.pt_records.specs.Records.{Each}
 use Rattle.pt_soundness.specs.Unsound.{AreSoundCallers, AreSoundKept, AreSoundPlaces, AreSoundRoutes, AreSoundVehicles}
 use Rattle.pt_soundness.specs.Unsound.{AreSoundRiders, AreSoundEntries, AreSoundTrips, AreSoundPlans, AreSoundTables}
 use Rattle.pt_soundness.specs.Unsound.{AreSoundLoads}
@@ -43,11 +44,17 @@ IsSoundIn s table.RiderChairs = Unit {0}
 IsSoundIn s table.VehicleChairs = Unit {0}
 IsSoundIn s table.TripChairs = AreSoundLoads s.vehicles s.trips s.planned
 
--- each table before this number is sound
-abbrev pub AreSoundBefore : State → ℕ → Type 0
-AreSoundBefore s number = (table : UnsoundTable) → number_of table < number → IsSoundIn s table
+-- all of them, in the order of their numbers
+abbrev pub all_tables : List UnsoundTable
+all_tables =
+    table.Desk ∷ table.Callers ∷ table.Kept ∷ table.Places ∷ table.Fixed ∷ table.Vehicles ∷ table.Riders
+    ∷ table.Entries ∷ table.Trips ∷ table.Stops ∷ table.Travel ∷ table.RiderChairs ∷ table.VehicleChairs
+    ∷ table.TripChairs ∷ []
 
--- the first table that is not sound
-pub record IsFirstUnsound (s : State) (table : UnsoundTable) : Type 0 where
-  pub unsound : ¬ IsSoundIn s table
-  pub first : AreSoundBefore s (number_of table)
+-- the first so many tables are sound
+abbrev pub IsSoundTo : ℕ → State → Type 0
+IsSoundTo number s = Each (IsSoundIn s) (take number all_tables)
+
+-- and so each table before this one
+abbrev pub IsSoundBefore : State → UnsoundTable → Type 0
+IsSoundBefore s table = IsSoundTo (number_of table - 1) s

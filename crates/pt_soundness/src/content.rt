@@ -1,6 +1,5 @@
-ghost use Rattle.std.specs.Prelude.{◌≡◌, ◌↔◌, None, IfOk, IfSome, IsTrue};
-ghost use Rattle.pt_desk_rules.specs.Sound.{IsSound};
-ghost use Rattle.pt_soundness.specs.Tables.{number_of, AreSoundBefore, IsFirstUnsound, IsSoundIn};
+ghost use Rattle.std.specs.Prelude.{◌↔◌, IfOk, IsTrue};
+ghost use Rattle.pt_soundness.specs.Tables.{IsSoundBefore, IsSoundIn};
 
 use crate::UnsoundTable;
 use crate::callers::are_sound_callers;
@@ -15,12 +14,13 @@ use crate::vehicles::are_sound_vehicles;
 use pt_desk::ListKeeper;
 use std::alloc::{AllocError, Global};
 
-/// The number of the last table.
-const LAST_TABLE: u32 = 14;
-
-/// Whether the table is that of a sound state, where all before it are.
-fn is_sound_in(alloc: Global, content: &ListKeeper, table: UnsoundTable) -> Result<bool, AllocError>
-    requires before { AreSoundBefore content.now.content (number_of table) }
+/// Whether the records of a table are those of a sound state, where all tables before it are sound.
+pub fn is_sound_in(
+    alloc: Global,
+    content: &ListKeeper,
+    table: UnsoundTable,
+) -> Result<bool, AllocError>
+    requires before { IsSoundBefore content.now.content table }
     ensures { IfOk result (λ sound. IsTrue sound ↔ IsSoundIn content.now.content table) }
 {
     let (callers, places) = (content.callers_table(), content.places_table());
@@ -52,21 +52,4 @@ fn is_sound_in(alloc: Global, content: &ListKeeper, table: UnsoundTable) -> Resu
         UnsoundTable::TripChairs => are_sound_loads(alloc, vehicles, trips, plans)?,
     };
     Ok(sound)
-}
-
-/// The first table, by its number, whose records no sound state has; none where the content is sound.
-pub fn first_unsound_table(
-    alloc: Global,
-    content: &ListKeeper,
-) -> Result<Option<UnsoundTable>, AllocError>
-    ensures exact { IfOk result (λ found. (found ≡ None) ↔ IsSound content.now.content) }
-    ensures first { IfOk result (λ found. IfSome found (IsFirstUnsound content.now.content)) }
-{
-    for number in 1..LAST_TABLE + 1 {
-        let table = UnsoundTable::with_number(number).unwrap();
-        if !is_sound_in(alloc, content, table)? {
-            return Ok(Some(table));
-        }
-    }
-    Ok(None)
 }

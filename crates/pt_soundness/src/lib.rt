@@ -1,7 +1,7 @@
-//! Whether a state that was read is one that the desk may be in, and if not, in which table.
+//! Whether content that was read is that of a state that the desk may be in, table by table.
 #![tactic(auto)]
 
-pub use content::first_unsound_table;
+pub use content::is_sound_in;
 pub use unsound_table::UnsoundTable;
 
 mod callers;
@@ -10,6 +10,7 @@ mod entries;
 mod files;
 mod fits;
 mod kept;
+pub mod laws;
 mod loads;
 mod pairs;
 mod places;

@@ -51,7 +51,7 @@ impl UnsoundTable {
     }
 
     /// The table with this number.
-    pub(crate) fn with_number(number: u32) -> Option<Self>
+    pub fn with_number(number: u32) -> Option<Self>
         ensures in_range { IsSome result ↔ ((1 ≤ number) × (number ≤ table_count)) }
         ensures value { IfSome result (λ table. number_of table ≡ number) }
     {

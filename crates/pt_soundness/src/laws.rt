@@ -1,0 +1,9 @@
+ghost use Rattle.std.specs.Prelude.{◌↔◌};
+ghost use Rattle.pt_desk_rules.specs.Sound.{IsSound};
+ghost use Rattle.pt_desk_rules.specs.State.{State};
+ghost use Rattle.pt_soundness.specs.Tables.{table_count, IsSoundTo};
+
+/// A law: a state is sound exactly where each of its tables is.
+pub fn soundness_is_that_of_each_table()
+    ensures { (s : State) → IsSoundTo table_count s ↔ IsSound s }
+{}
