@@ -1,23 +1,20 @@
 -- What the one row of the desk's table tells of the agency.
 use Rattle.std.proofs.Common.{◌≡◌, ℕ, List, [], ◌∷◌, Result, Ok, Err, IfOk, IfErr, ◌⊎◌, inl, inr, sym, ap, subst, arith}
-use Rattle.std.specs.Option.{unwrap_or}
 use Rattle.std.proofs.lemmas.List.Sorted.{IsPermutation-sym, IsPermutation-trans}
 use Rattle.sqlite.specs.Order.{Row, column}
 use Rattle.sqlite.specs.Tree.{Trees}
 use Rattle.sqlite.proofs.Callers.{one_permutation}
 use Rattle.pt_base.specs.declared.policy.Policy.{Policy}
-use Rattle.pt_desk_rules.specs.declared.change.Change.{Change}
 use Rattle.pt_tables_reading.specs.Reading.{agency_row, FitsAgency}
 use Rattle.pt_base.specs.Codes.{memory_refused}
 use Rattle.pt_tables_opening.specs.Faults.{fault, store_refused, tables_refused, unsound}
-use Rattle.pt_tables_opening.specs.Refused.{AreUnsound, SparesOtherVersion}
-use Rattle.pt_tables_opening.specs.Sections.{IsOfficeOf}
+use Rattle.pt_tables_opening.specs.Refused.{SparesOtherVersion}
+use Rattle.pt_tables_opening.specs.Standing.{NoneStandsTo}
 use Rattle.pt_tables_opening.specs.declared.open_fault.OpenFault.{OpenFault}
-use Rattle.pt_tables_opening.specs.declared.parts.Office.{Office}
 use Rattle.pt_tables_rows.specs.Rows.{desk_row}
 use Rattle.pt_tables_rows.specs.Schema.{desk_table}
 use Rattle.pt_tables_rows.specs.Tables.{AreRows}
-use Rattle.pt_tables_opening.specs.Told.{IsAgencyOf, HasOtherVersion, HasToldRows, IsOtherVersion, TellsNoAgency}
+use Rattle.pt_tables_opening.specs.Told.{IsAgencyOf, HasOtherVersion, IsOtherVersion, TellsNoAgency}
 
 module _ (trees : Trees) (rows : List Row) (are : AreRows desk_table trees rows) where
   -- one row is all rows
@@ -27,8 +24,8 @@ module _ (trees : Trees) (rows : List Row) (are : AreRows desk_table trees rows)
   other_version : IsOtherVersion rows → HasOtherVersion trees
   other_version h = (h.0, subst (AreRows desk_table trees) (sym h.1) are, h.2)
 
-  no_agency : TellsNoAgency rows → AreUnsound trees
-  no_agency h = λ s sound ranges are. h.none (s.policy, s.last_trip) ranges.last_trip (only_row (desk_row s.policy s.last_trip) are.records.desk)
+  no_agency : TellsNoAgency rows → NoneStandsTo 1 trees
+  no_agency h = λ s stands. h.none (s.policy, s.last_trip) stands.0.laid (only_row (desk_row s.policy s.last_trip) stands.0.rows)
 
   pub agency_told : {F : Type 0} (r : Result (Policy × ℕ) F) → IfOk r (λ agency. (agency_row agency ∷ [] ≡ rows) × FitsAgency agency) → IfOk r (IsAgencyOf trees)
   agency_told (Ok agency) h = record { row_is = subst (AreRows desk_table trees) (sym h.0) are; fits = h.1 }
@@ -37,7 +34,7 @@ module _ (trees : Trees) (rows : List Row) (are : AreRows desk_table trees rows)
 pub agency_refused : {F : Type 0} (trees : Trees) (rows : List Row) (Clean Has : Type 0) → (Clean → Has → AreRows desk_table trees rows)
     → (memory store tables unsound : F) (r : Result (Policy × ℕ) F)
     → IfErr r (λ refused. ((refused ≡ tables) × IsOtherVersion rows) ⊎ ((refused ≡ unsound) × TellsNoAgency rows))
-    → IfErr r (λ refused. (refused ≡ memory) ⊎ ((refused ≡ store) ⊎ (((refused ≡ tables) × (Clean → Has → HasOtherVersion trees)) ⊎ ((refused ≡ unsound) × (Clean → Has → AreUnsound trees)))))
+    → IfErr r (λ refused. (refused ≡ memory) ⊎ ((refused ≡ store) ⊎ (((refused ≡ tables) × (Clean → Has → HasOtherVersion trees)) ⊎ ((refused ≡ unsound) × (Clean → Has → NoneStandsTo 1 trees)))))
 agency_refused trees rows Clean Has are memory store tables unsound (Ok agency) h = tt
 agency_refused trees rows Clean Has are memory store tables unsound (Err f) h = elim h [
   | inl told ↦ inr (inr (inl (told.0, λ clean has. other_version trees rows (are clean has) told.1)))
@@ -63,17 +60,6 @@ this_version trees policy last_trip are other =
 -- where the version is this one, any refusal may come
 pub spares_none : (trees : Trees) (policy : Policy) (last_trip : ℕ) → AreRows desk_table trees (desk_row policy last_trip ∷ []) → (it : OpenFault) → SparesOtherVersion trees it
 spares_none trees policy last_trip are it = λ other code. this_version trees policy last_trip are other
-
-pub spares_after_agency : {X : Type 0} (trees : Trees) (agency : Policy × ℕ) → IsAgencyOf trees agency → (r : Result X OpenFault) → IfErr r (SparesOtherVersion trees)
-spares_after_agency trees agency of (Ok x) = tt
-spares_after_agency trees agency of (Err it) = spares_none trees agency.0 agency.1 of.row_is it
-
-pub spares_after_office : {X : Type 0} (trees : Trees) (office : Office) → IsOfficeOf trees office → (r : Result X OpenFault) → IfErr r (SparesOtherVersion trees)
-spares_after_office trees office of (Ok x) = tt
-spares_after_office trees office of (Err it) = spares_none trees office.policy office.last_trip of.desk it
-
-pub spares_after_all : (trees : Trees) (change : Change) → HasToldRows change trees → (it : OpenFault) → SparesOtherVersion trees it
-spares_after_all trees change told it = spares_none trees told.policy (unwrap_or change.last_trip 0) told.desk it
 
 pub spares_by_store : (trees : Trees) (it : OpenFault) → (it ≡ fault memory_refused) ⊎ (it ≡ fault store_refused) → SparesOtherVersion trees it
 spares_by_store trees it (inl memory) = λ other code. let n : it.code ≡ 0 = ap code_of memory in let m : it.code ≡ 31 = code in absurd (omega arith)

@@ -1,5 +1,5 @@
 -- Records of one row each, and of one or none in a second table, told by the rows of both.
-use Rattle.std.proofs.Common.{◌≡◌, ◌++◌, ◌<◌, ◌≤◌, zero, suc, ℕ, List, [], ◌∷◌, length, map, flat_map, take, drop, get_or, ◌⊎◌, inl, inr, None, Some, Result, Ok, Err, IfErr, ◌+◌, refl, sym, ap, ap₂, subst, ◌∙◌, arith}
+use Rattle.std.proofs.Common.{◌≡◌, ◌++◌, ◌<◌, ◌≤◌, zero, suc, ℕ, List, [], ◌∷◌, length, map, flat_map, take, drop, get_or, ◌⊎◌, inl, inr, None, Some, Result, Ok, Err, IfOk, IfErr, ◌+◌, refl, sym, ap, ap₂, subst, ◌∙◌, arith}
 use Rattle.std.proofs.lemmas.List.{map-append, take_more}
 use Rattle.std.specs.Prelude.{IsPermutation}
 use Rattle.std.specs.List.{AllByRecursion}
@@ -7,10 +7,8 @@ use Rattle.std.proofs.lemmas.List.Sorted.{IsPermutation-sym, IsPermutation-trans
 use Rattle.sqlite.specs.Order.{Row}
 use Rattle.sqlite.specs.Table.{Table}
 use Rattle.sqlite.specs.Tree.{Trees}
-use Rattle.pt_desk_rules.specs.State.{State}
 use Rattle.pt_records.specs.Records.{Each, Edit, IsInOrder}
-use Rattle.pt_tables_opening.specs.Beside.{AreBeside, IsMarkedTable, KeepsBeside, StandBeside, TellsBeside}
-use Rattle.pt_tables_opening.specs.Refused.{AreOfStates, AreUnsound}
+use Rattle.pt_tables_opening.specs.Beside.{AreBeside, KeepsBeside, NoneBeside, TellsBeside}
 use Rattle.pt_tables_rows.specs.Tables.{AreRows, columns_of}
 use Rattle.pt_tables_rows.proofs.SameRowsLists.{in_one_order, rows_above}
 
@@ -175,37 +173,38 @@ module _ {A : Type 0} (key : A → ℕ) (row_of : A → Row) (beside_of : A → 
         subst (λ rs. Each P (rs ++ flat_map beside_of xs)) (sym one.1) (here.0, beside_each P all xs each.1)
   ]
 
-  module _ (home second : Table) (records : State → List A) (of : AreOfStates key home row_of Fits records) (stand : StandBeside second beside_of records)
-      (trees : Trees) (known : List A) (order : IsInOrder key known) (rows : List Row) where
-    pub marked : (edit : Edit A) → AreRows home trees (map row_of known) → AreRows second trees rows
-        → TellsBeside key row_of beside_of Fits known rows (Some edit) → IsMarkedTable key home second row_of beside_of Fits trees edit
-    marked edit are beside told = record {
-      puts = told.0;
-      rows_are = subst (AreRows home trees) (sym told.1) are;
-      beside_are = subst (AreRows second trees) (sym told.2) beside;
-      each = told.3;
-    }
+  -- where rows in order tell none of these records, no records have the rows of both tables
+  unmarked : (home second : Table) (trees : Trees) (known : List A) → IsInOrder key known → (rows : List Row) → AreRows home trees (map row_of known) → AreRows second trees rows
+      → KeepsBeside key beside_of Fits rows → TellsBeside key row_of beside_of Fits known rows None → NoneBeside key home second row_of beside_of Fits trees
+  unmarked home second trees known order rows are beside keeps none xs each also have marked =
+      let there = map (columns_of second) (trees second.tree) in
+      let theirs = flat_map beside_of xs in
+      let alike : IsPermutation theirs rows = IsPermutation-trans theirs there rows (IsPermutation-sym there theirs marked) beside in
+      none xs each also (same_rows home trees xs known also order have are) (keeps xs each also alike)
 
-    pub unmarked : AreRows home trees (map row_of known) → AreRows second trees rows → KeepsBeside key beside_of Fits rows
-        → TellsBeside key row_of beside_of Fits known rows None → AreUnsound trees
-    unmarked are beside keeps none = λ s sound ranges has.
-        let told = of s trees sound ranges has in
-        let there = map (columns_of second) (trees second.tree) in
-        let theirs = flat_map beside_of (records s) in
-        let alike : IsPermutation theirs rows = IsPermutation-trans theirs there rows (IsPermutation-sym there theirs (stand s trees sound ranges has)) beside in
-        none (records s) told.each told.order (same_rows home trees (records s) known told.order order told.rows_are are) (keeps (records s) told.each told.order alike)
+-- what is told of records that are put
+module _ {A F : Type 0} (key : A → ℕ) (second : Table) (row_of : A → Row) (beside_of : A → List Row) (Fits : A → Type 0) (trees : Trees) (known : List A) (rows : List Row) where
+  pub same_told : (r : Result (Edit A) F) → IfOk r (λ edit. TellsBeside key row_of beside_of Fits known rows (Some edit)) → IfOk r (λ edit. map row_of edit.puts ≡ map row_of known)
+  same_told (Ok edit) told = told.1
+  same_told (Err f) told = tt
 
--- where no records have the rows of both tables, no sound state has them
-pub refuses_beside : {A F : Type 0} (key : A → ℕ) (home second : Table) (row_of : A → Row) (beside_of : A → List Row) (Fits : A → Type 0) (records : State → List A) → AreBeside key row_of beside_of
-    → AreOfStates key home row_of Fits records → StandBeside second beside_of records → (trees : Trees) (known : List A) → IsInOrder key known → (rows : List Row) (Clean Has : Type 0)
-    → (Clean → Has → AreRows second trees rows) → (Clean → Has → KeepsBeside key beside_of Fits rows) → (memory store unsound : F) (r : Result (Edit A) F)
+  pub beside_told : (r : Result (Edit A) F) → IfOk r (λ edit. TellsBeside key row_of beside_of Fits known rows (Some edit)) → AreRows second trees rows
+      → IfOk r (λ edit. AreRows second trees (flat_map beside_of edit.puts))
+  beside_told (Ok edit) told are = subst (AreRows second trees) (sym told.2) are
+  beside_told (Err f) told are = tt
+
+-- and in a refusal
+pub refuses_beside : {A F : Type 0} (key : A → ℕ) (home second : Table) (row_of : A → Row) (beside_of : A → List Row) (Fits : A → Type 0) → AreBeside key row_of beside_of
+    → (trees : Trees) (known : List A) → IsInOrder key known → (rows : List Row) (Clean Has : Type 0) → (Clean → Has → AreRows second trees rows)
+    → (Clean → Has → KeepsBeside key beside_of Fits rows) → (memory store unsound : F) (r : Result (Edit A) F)
     → IfErr r (λ refused. (refused ≡ memory) ⊎ ((refused ≡ unsound) × TellsBeside key row_of beside_of Fits known rows None))
-    → IfErr r (λ refused. (refused ≡ memory) ⊎ ((refused ≡ store) ⊎ ((refused ≡ unsound) × (Clean → Has → AreRows home trees (map row_of known) → AreUnsound trees))))
-refuses_beside key home second row_of beside_of Fits records laws of stand trees known order rows Clean Has are keeps memory store unsound (Ok edit) h = tt
-refuses_beside key home second row_of beside_of Fits records laws of stand trees known order rows Clean Has are keeps memory store unsound (Err f) h = elim h [
+    → IfErr r (λ refused. (refused ≡ memory) ⊎ ((refused ≡ store)
+    ⊎ ((refused ≡ unsound) × (Clean → Has → AreRows home trees (map row_of known) → NoneBeside key home second row_of beside_of Fits trees))))
+refuses_beside key home second row_of beside_of Fits laws trees known order rows Clean Has are keeps memory store unsound (Ok edit) h = tt
+refuses_beside key home second row_of beside_of Fits laws trees known order rows Clean Has are keeps memory store unsound (Err f) h = elim h [
   | inl same ↦ inl same
   | inr told ↦ inr (inr (
     told.0,
-    λ clean has have. unmarked key row_of beside_of Fits laws home second records of stand trees known order rows have (are clean has) (keeps clean has) told.1,
+    λ clean has have. unmarked key row_of beside_of Fits laws home second trees known order rows have (are clean has) (keeps clean has) told.1,
   ))
 ]

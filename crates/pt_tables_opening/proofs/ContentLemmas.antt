@@ -1,72 +1,99 @@
--- The content of a desk that has all records of a change, and no others.
-use Rattle.std.proofs.Common.{◌≡◌, ◌++◌, ℕ, List, [], ◌∷◌, Option, None, Some, IfSome, map, flat_map, refl, sym, ap, subst, subst₂, ◌∙◌}
-use Rattle.std.specs.Option.{unwrap_or}
-use Rattle.sqlite.specs.Tree.{Trees}
+-- A desk that has records of no table, and one that has those of a table more.
+use Rattle.std.proofs.Common.{◌≡◌, ◌++◌, ◌<◌, ℕ, List, [], ◌∷◌, Option, Some, append_assoc, refl, sym, ap, subst, ◌∙◌, arith}
 use Rattle.pt_base.specs.declared.policy.Policy.{Policy}
 use Rattle.pt_desk.specs.LeastState.{IsLeastState}
-use Rattle.pt_desk_rules.specs.State.{State, applied, caller_key, kept_key, place_key, route_key, rider_key, entry_key, vehicle_key, travel_key, trip_key}
+use Rattle.pt_desk_rules.specs.Deciding.{no_change}
+use Rattle.pt_desk_rules.specs.State.{State, applied, caller_key}
 use Rattle.pt_desk_rules.specs.declared.change.Change.{Change}
-use Rattle.pt_records.specs.Records.{Edit, edited, put_all, take_all}
+use Rattle.pt_records.specs.Records.{Each, Edit, IsInOrder, edited, put, put_all, take_all}
 use Rattle.pt_records.specs.declared.span.Span.{Span}
-use Rattle.pt_scheduling.specs.Plan.{plan_key}
-use Rattle.pt_tables_rows.specs.Rows.{desk_row, caller_row, kept_row, place_row, route_row, vehicle_row, rider_row, entry_row, trip_row, stop_rows, travel_rows, rider_chair_rows, vehicle_chair_rows, trip_chair_rows}
-use Rattle.pt_tables_rows.specs.Schema.{desk_table, callers_table, kept_table, places_table, fixed_table, vehicles_table, riders_table, entries_table, trips_table, stops_table, travel_table, rider_chairs_table, vehicle_chairs_table, trip_chairs_table}
-use Rattle.pt_tables_rows.specs.Tables.{AreRows, HasRows}
-use Rattle.pt_tables_opening.specs.Told.{HasPut, HasToldRows, IsWhole, PutsInOrder, numbers}
-use Rattle.pt_tables_opening.proofs.ToldLemmas.{put_none}
+use Rattle.pt_records.proofs.RecordLemmas.{put_over, put_past}
+use Rattle.pt_soundness.proofs.PairedLemmas.{Paired}
+use Rattle.pt_soundness.specs.Tables.{all_tables}
+use Rattle.pt_tables_opening.specs.Steps.{HasNoneIn}
+use Rattle.pt_tables_opening.specs.Told.{IsFitting, PutsInOrder, numbers}
+use Rattle.pt_tables_opening.proofs.ToldLemmas.{below, put_none}
 
--- a table that was empty has what is put
-alone : {A : Type 0} (key : A → ℕ) (edit : Edit A) (xs : List A) → PutsInOrder key edit → xs ≡ [] → edited key edit xs ≡ edit.puts
+-- ---- a table that was empty has what is put
+
+pub alone : {A : Type 0} (key : A → ℕ) (edit : Edit A) (xs : List A) → PutsInOrder key edit → xs ≡ [] → edited key edit xs ≡ edit.puts
 alone key edit xs puts none =
     ap (λ l. put_all key edit.puts (take_all key l xs)) puts.0 ∙ ap (put_all key edit.puts) none ∙ put_none key edit.puts puts.1
 
-told : {A : Type 0} (o : Option A) (x : A) → IfSome o (λ y. unwrap_or o x ≡ y)
-told None x = tt
-told (Some y) x = refl
+pub laid_put : {A : Type 0} (key : A → ℕ) (Fits : A → Type 0) (edit : Edit A) (xs : List A) → xs ≡ [] → IsFitting key Fits edit
+    → IsInOrder key (edited key edit xs) × Each Fits (edited key edit xs)
+laid_put key Fits edit xs none fits =
+    let same = sym (alone key edit xs fits.puts none) in (subst (IsInOrder key) same fits.puts.1, subst (Each Fits) same fits.each)
 
--- all callers are gone before those of the change are put
+pub rows_put : {A : Type 0} (key : A → ℕ) (P : List A → Type 0) (edit : Edit A) (xs : List A) → xs ≡ [] → PutsInOrder key edit → P edit.puts → P (edited key edit xs)
+rows_put key P edit xs none puts p = subst P (sym (alone key edit xs puts none)) p
+
+-- ---- and one whose records are put anew has the new ones
+
+put_mid : {A : Type 0} (key : A → ℕ) (done : List A) (new x : A) (xs : List A) → Each (λ d. key d < key new) done → key x ≡ key new → put key new (done ++ x ∷ xs) ≡ done ++ new ∷ xs
+put_mid key [] new x xs low same = put_over key new x xs same
+put_mid key (d ∷ done) new x xs low same = put_past key new d (done ++ x ∷ xs) low.0 ∙ ap (λ l. d ∷ l) (put_mid key done new x xs low.1 same)
+
+put_again : {A : Type 0} (key : A → ℕ) (news xs done : List A) → Paired (λ new x. key x ≡ key new) news xs → IsInOrder key (done ++ news) → put_all key news (done ++ xs) ≡ done ++ news
+put_again key [] [] done same order = refl
+put_again key [] (x ∷ xs) done same order = absurd same
+put_again key (new ∷ news) [] done same order = absurd same
+put_again key (new ∷ news) (x ∷ xs) done same order =
+    let joined = append_assoc done (new ∷ []) in
+    ap (put_all key news) (put_mid key done new x xs (below key done new news order) same.0 ∙ sym (joined xs))
+    ∙ put_again key news xs (done ++ new ∷ []) same.1 (subst (IsInOrder key) (sym (joined news)) order) ∙ joined news
+
+pub anew : {A : Type 0} (key : A → ℕ) (edit : Edit A) (xs : List A) → PutsInOrder key edit → Paired (λ new x. key x ≡ key new) edit.puts xs → edited key edit xs ≡ edit.puts
+anew key edit xs puts same = ap (λ l. put_all key edit.puts (take_all key l xs)) puts.0 ∙ put_again key edit.puts xs [] same puts.1
+
+-- ---- a desk with no records
+
+-- all callers are gone
+abbrev pub agency_change : Policy → Option ℕ → Change
+agency_change policy last = record no_change { policy = Some policy; last_trip = last }
+
 abbrev pub with_all_gone : Span → Change → Change
 with_all_gone span change = record change { callers = record { away = change.callers.away ++ span ∷ []; puts = change.callers.puts } }
 
-pub has_put : (change : Change) (key : List ℕ) (least : State) → IsWhole change → IsLeastState key least → HasPut change (applied (with_all_gone numbers change) least)
-has_put change key least whole is = record {
-  callers =
-      ap (λ l. put_all caller_key change.callers.puts (take_all caller_key (l ++ numbers ∷ []) least.callers)) whole.callers.0
-      ∙ ap (λ l. put_all caller_key change.callers.puts (take_all caller_key (numbers ∷ []) l)) is.callers ∙ put_none caller_key change.callers.puts whole.callers.1;
-  kept = alone kept_key change.kept least.kept whole.kept is.kept;
-  policy = told change.policy least.policy;
-  places = alone place_key change.places least.places whole.places is.places;
-  routes = alone route_key change.routes least.routes whole.routes is.routes;
-  riders = alone rider_key change.riders least.riders whole.riders is.riders;
-  entries = alone entry_key change.entries least.entries whole.entries is.entries;
-  vehicles = alone vehicle_key change.vehicles least.vehicles whole.vehicles is.vehicles;
-  travel = alone travel_key change.travel least.travel whole.travel is.travel;
-  trips = alone trip_key change.trips least.trips whole.trips is.trips;
-  planned = alone plan_key change.planned least.planned whole.planned is.planned;
-  last_trip = ap (unwrap_or change.last_trip) is.last_trip;
-}
-
--- ---- its rows
-
-policy_told : (o : Option Policy) (p q : Policy) → o ≡ Some p → IfSome o (λ told. q ≡ told) → q ≡ p
-policy_told o p q is h = rw is at h
-
-pub rows_put : (change : Change) (content : State) (trees : Trees) → HasPut change content → HasToldRows change trees → HasRows content trees
-rows_put change content trees put told = record {
-  records = record {
-    desk = subst₂ (λ p n. AreRows desk_table trees (desk_row p n ∷ [])) (sym (policy_told change.policy told.policy content.policy told.policy_is put.policy)) (sym put.last_trip) told.desk;
-    callers = subst (λ xs. AreRows callers_table trees (map caller_row xs)) (sym put.callers) told.callers;
-    kept = subst (λ xs. AreRows kept_table trees (map kept_row xs)) (sym put.kept) told.kept;
-    places = subst (λ xs. AreRows places_table trees (map place_row xs)) (sym put.places) told.places;
-    fixed = subst (λ xs. AreRows fixed_table trees (map route_row xs)) (sym put.routes) told.fixed;
-    vehicles = subst (λ xs. AreRows vehicles_table trees (map vehicle_row xs)) (sym put.vehicles) told.vehicles;
-    riders = subst (λ xs. AreRows riders_table trees (map rider_row xs)) (sym put.riders) told.riders;
-    entries = subst (λ xs. AreRows entries_table trees (map entry_row xs)) (sym put.entries) told.entries;
-    trips = subst (λ xs. AreRows trips_table trees (map trip_row xs)) (sym put.trips) told.trips;
-    stops = subst (λ xs. AreRows stops_table trees (flat_map stop_rows xs)) (sym put.planned) told.stops;
-    travel = subst (λ xs. AreRows travel_table trees (flat_map travel_rows xs)) (sym put.travel) told.travel;
-  };
-  rider_chairs = subst (λ xs. AreRows rider_chairs_table trees (flat_map rider_chair_rows xs)) (sym put.riders) told.rider_chairs;
-  vehicle_chairs = subst (λ xs. AreRows vehicle_chairs_table trees (flat_map vehicle_chair_rows xs)) (sym put.vehicles) told.vehicle_chairs;
-  trip_chairs = subst (λ xs. AreRows trip_chairs_table trees (flat_map trip_chair_rows xs)) (sym put.trips) told.trip_chairs;
-}
+pub none_left : (policy : Policy) (last : Option ℕ) (key : List ℕ) (least : State) → IsLeastState key least
+    → Each (HasNoneIn (applied (with_all_gone numbers (agency_change policy last)) least)) all_tables
+none_left policy last key least is = (
+  tt,
+  (
+    ap (take_all caller_key (numbers ∷ [])) is.callers,
+    (
+      is.kept,
+      (
+        is.places,
+        (
+          is.routes,
+          (
+            is.vehicles,
+            (
+              is.riders,
+              (
+                is.entries,
+                (
+                  is.trips,
+                  (
+                    is.planned,
+                    (
+                      is.travel,
+                      (
+                        tt,
+                        (
+                          tt,
+                          (tt, tt),
+                        ),
+                      ),
+                    ),
+                  ),
+                ),
+              ),
+            ),
+          ),
+        ),
+      ),
+    ),
+  ),
+)

@@ -10,7 +10,9 @@ pub mod PlanReading
 pub mod RestLemmas
 pub mod RowOrders
 pub mod RowTexts
+pub mod SameTables
 pub mod SchemaLemmas
-pub mod SectionLemmas
+pub mod StepLemmas
+pub mod TableReads
 pub mod ToldLemmas
 pub mod WholeQueries

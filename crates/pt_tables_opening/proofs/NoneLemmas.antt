@@ -14,7 +14,6 @@ use Rattle.pt_scheduling.specs.declared.planned.PlannedStop.{PlannedStop}
 use Rattle.pt_travel.specs.Chain as travel
 use Rattle.pt_travel.specs.Table.{ComesBefore, Rises}
 use Rattle.pt_tables_opening.specs.Gathered.{BeginsOnce, BeginsPlan, BeginsTravel, FitsDrive, FitsPlan, FitsTravel, IsUngathered}
-use Rattle.pt_tables_opening.specs.Refused.{AreUnsound}
 use Rattle.pt_tables_rows.specs.Rows.{stop_rows, stop_rows_from, travel_row, travel_rows}
 use Rattle.pt_tables_rows.specs.Schema.{stops_table, travel_table}
 use Rattle.pt_tables_rows.specs.Tables.{columns_of}
@@ -82,9 +81,8 @@ alike one other same = subst (IsPermutation one) same (IsPermutation-refl one)
 plan_by_rows : (x y : Plan) → FitsPlan x → FitsPlan y → stop_rows x ≡ stop_rows y → x ≡ y
 plan_by_rows x y one other same = plan-told x y one.some other.some (alike (stop_rows x) (stop_rows y) same)
 
-pub no_plans : (trees : Trees) → IsUngathered plan_key stops_table stop_rows FitsPlan trees → AreUnsound trees
-no_plans trees h = λ s sound ranges are.
-    none_have plan_key stops_table stop_rows FitsPlan BeginsPlan plan-once plan_by_rows 4_294_967_296 plan_spans trees h s.planned ranges.planned sound.planned_in_order are.records.stops
+pub no_plans : (trees : Trees) → IsUngathered plan_key stops_table stop_rows FitsPlan trees → AreRowsOfNone plan_key stops_table (flat_map stop_rows) FitsPlan trees
+no_plans trees h = none_have plan_key stops_table stop_rows FitsPlan BeginsPlan plan-once plan_by_rows 4_294_967_296 plan_spans trees h
 
 -- ---- travel tables
 
@@ -139,10 +137,8 @@ travel_spans dated fits =
 travel_by_rows : (x y : DatedTable) → FitsTravel x → FitsTravel y → travel_rows x ≡ travel_rows y → x ≡ y
 travel_by_rows x y one other same = table-told x y one.table.in_order other.table.in_order (alike (travel_rows x) (travel_rows y) same)
 
-pub no_travel : (trees : Trees) → IsUngathered travel_key travel_table travel_rows FitsTravel trees → AreUnsound trees
-no_travel trees h = λ s sound ranges are.
-    none_have travel_key travel_table travel_rows FitsTravel BeginsTravel travel-once travel_by_rows 18_446_744_073_709_551_616 travel_spans trees h s.travel ranges.travel
-    sound.travel.in_order are.records.travel
+pub no_travel : (trees : Trees) → IsUngathered travel_key travel_table travel_rows FitsTravel trees → AreRowsOfNone travel_key travel_table (flat_map travel_rows) FitsTravel trees
+no_travel trees h = none_have travel_key travel_table travel_rows FitsTravel BeginsTravel travel-once travel_by_rows 18_446_744_073_709_551_616 travel_spans trees h
 
 -- ---- refusals
 

@@ -5,11 +5,9 @@ use Rattle.std.proofs.lemmas.List.Sorted.{IsPermutation-sym, IsPermutation-trans
 use Rattle.sqlite.specs.Order.{Row}
 use Rattle.sqlite.specs.Table.{Table}
 use Rattle.sqlite.specs.Tree.{Trees}
-use Rattle.pt_desk_rules.specs.State.{State}
 use Rattle.pt_records.specs.Records.{Each, Edit, IsInOrder, put, put_all}
 use Rattle.pt_records.proofs.OrderLemmas.{Each-weaker}
 use Rattle.pt_records.proofs.RecordLemmas.{put_past}
-use Rattle.pt_tables_opening.specs.Refused.{AreOfStates, AreUnsound}
 use Rattle.pt_tables_rows.specs.Tables.{AreRows, columns_of}
 use Rattle.pt_tables_opening.specs.Told.{AreRowsOfNone, IsAfter, IsTableOf, IsToldBy, KeepsOrder, TellsNothing}
 
@@ -84,7 +82,7 @@ mid : {A : Type 0} (P : A → Type 0) (done : List A) (x : A) (xs : List A) → 
 mid P [] x xs each = each.0
 mid P (d ∷ done) x xs each = mid P done x xs each.1
 
-below : {A : Type 0} (key : A → ℕ) (done : List A) (x : A) (xs : List A) → IsInOrder key (done ++ x ∷ xs) → Each (λ y. key y < key x) done
+pub below : {A : Type 0} (key : A → ℕ) (done : List A) (x : A) (xs : List A) → IsInOrder key (done ++ x ∷ xs) → Each (λ y. key y < key x) done
 below key [] x xs order = tt
 below key (d ∷ done) x xs order = (mid (λ y. key d < key y) done x xs order.0, below key done x xs order.1)
 
@@ -105,13 +103,6 @@ module _ {A F : Type 0} (key : A → ℕ) (home : Table) (row_of : A → Row) (F
   are_of_table (Ok edit) h = record { puts = h.puts; rows_are = subst (AreRows home trees) (sym h.rows_are) are; each = h.each }
   are_of_table (Err f) h = tt
 
--- records that no rows of a table tell are those of no sound state
-pub unsound_of : {A : Type 0} (key : A → ℕ) (home : Table) (row_of : A → Row) (Fits : A → Type 0) (records : State → List A) → AreOfStates key home row_of Fits records
-    → (trees : Trees) → AreRowsOfNone key home (map row_of) Fits trees → AreUnsound trees
-unsound_of key home row_of Fits records of trees none = λ s sound ranges are.
-    let told = of s trees sound ranges are in
-    none (records s) told.each told.order told.rows_are
-
 -- where rows in order tell nothing, no records have the rows of the table
 none_told : {A : Type 0} (key : A → ℕ) (home : Table) (row_of : A → Row) (Fits : A → Type 0) (trees : Trees) (rows : List Row) → AreRows home trees rows → KeepsOrder key row_of Fits rows
     → TellsNothing key row_of Fits rows → AreRowsOfNone key home (map row_of) Fits trees
@@ -124,18 +115,13 @@ none_told key home row_of Fits trees rows are keeps nothing xs each order have =
       | inr other ↦ other.2 (keeps.rising xs other.0.puts (same ∙ sym other.1.1) order)
     ]
 
--- and so such rows are those of no sound state
-pub refuses_table : {A F : Type 0} (key : A → ℕ) (home : Table) (row_of : A → Row) (Fits : A → Type 0) (records : State → List A) → AreOfStates key home row_of Fits records
-    → (trees : Trees) (rows : List Row) (Clean Has : Type 0) → (Clean → Has → AreRows home trees rows) → (Clean → Has → KeepsOrder key row_of Fits rows)
-    → (memory store unsound : F) (r : Result (Edit A) F)
+-- and so such rows are those of no records
+pub refuses_table : {A F : Type 0} (key : A → ℕ) (home : Table) (row_of : A → Row) (Fits : A → Type 0) (trees : Trees) (rows : List Row) (Clean Has : Type 0)
+    → (Clean → Has → AreRows home trees rows) → (Clean → Has → KeepsOrder key row_of Fits rows) → (memory store unsound : F) (r : Result (Edit A) F)
     → IfErr r (λ refused. (refused ≡ memory) ⊎ ((refused ≡ unsound) × TellsNothing key row_of Fits rows))
-    → IfErr r (λ refused. (refused ≡ memory) ⊎ ((refused ≡ store) ⊎ ((refused ≡ unsound) × (Clean → Has → AreUnsound trees))))
-refuses_table key home row_of Fits records of trees rows Clean Has are keeps memory store unsound (Ok edit) h = tt
-refuses_table key home row_of Fits records of trees rows Clean Has are keeps memory store unsound (Err f) h = elim h [
+    → IfErr r (λ refused. (refused ≡ memory) ⊎ ((refused ≡ store) ⊎ ((refused ≡ unsound) × (Clean → Has → AreRowsOfNone key home (map row_of) Fits trees))))
+refuses_table key home row_of Fits trees rows Clean Has are keeps memory store unsound (Ok edit) h = tt
+refuses_table key home row_of Fits trees rows Clean Has are keeps memory store unsound (Err f) h = elim h [
   | inl same ↦ inl same
-  | inr told ↦ inr (inr (
-    told.0,
-    λ clean has.
-        unsound_of key home row_of Fits records of trees (none_told key home row_of Fits trees rows (are clean has) (keeps clean has) told.1),
-  ))
+  | inr told ↦ inr (inr (told.0, λ clean has. none_told key home row_of Fits trees rows (are clean has) (keeps clean has) told.1))
 ]

@@ -4,12 +4,9 @@ use Rattle.std.specs.List.{AllByRecursion}
 use Rattle.sqlite.specs.Order.{Row}
 use Rattle.sqlite.specs.Table.{Table}
 use Rattle.sqlite.specs.Tree.{Trees}
-use Rattle.pt_desk_rules.specs.Sound.{IsSound}
-use Rattle.pt_desk_rules.specs.State.{State}
 use Rattle.pt_records.specs.Records.{Each, Edit, IsInOrder}
-use Rattle.pt_tables_opening.specs.Refused.{KeepsRanges}
 use Rattle.pt_tables_opening.specs.Told.{PutsInOrder}
-use Rattle.pt_tables_rows.specs.Tables.{AreRows, HasRows}
+use Rattle.pt_tables_rows.specs.Tables.{AreRows}
 
 -- this record, with no row beside its own
 pub record IsAlone {A : Type 0} (row_of : A → Row) (beside_of : A → List Row) (Fits : A → Type 0) (known alone : A) :
@@ -24,11 +21,6 @@ pub record AreBeside {A : Type 0} (key : A → ℕ) (row_of : A → Row) (beside
   pub one : (x : A) → (beside_of x ≡ []) ⊎ (row : Row) × (beside_of x ≡ row ∷ [])
   pub keyed : (x : A) → AllByRecursion (λ row. key_in row ≡ key x) (beside_of x)
   pub row_keyed : (x : A) → key_in (row_of x) ≡ key x
-
--- the records of a state have their rows in the second table
-abbrev pub StandBeside : {A : Type 0} → Table → (A → List Row) → (State → List A) → Type 0
-StandBeside second beside_of records = (s : State) (trees : Trees) → IsSound s → KeepsRanges s → HasRows s trees
-    → AreRows second trees (flat_map beside_of (records s))
 
 -- records in the order of their keys that have these rows in some order have them in this one
 abbrev pub KeepsBeside : {A : Type 0} → (A → ℕ) → (A → List Row) → (A → Type 0) → List Row → Type 0
@@ -46,10 +38,9 @@ TellsBeside key row_of beside_of Fits known rows None =
     (xs : List _) → Each Fits xs → IsInOrder key xs → map row_of xs ≡ map row_of known
     → flat_map beside_of xs ≡ rows → ⊥
 
--- the records to be put are those whose rows both tables have, in the order of their keys
-pub record IsMarkedTable {A : Type 0} (key : A → ℕ) (home second : Table) (row_of : A → Row) (beside_of : A → List Row)
-    (Fits : A → Type 0) (trees : Trees) (edit : Edit A) : Type 0 where
-  pub puts : PutsInOrder key edit
-  pub rows_are : AreRows home trees (map row_of edit.puts)
-  pub beside_are : AreRows second trees (flat_map beside_of edit.puts)
-  pub each : Each Fits edit.puts
+-- no records in the order of their keys have the rows of both tables
+abbrev pub NoneBeside : {A : Type 0} → (A → ℕ) → Table → Table → (A → Row) → (A → List Row) → (A → Type 0) → Trees
+    → Type 0
+NoneBeside {A} key home second row_of beside_of Fits trees =
+    (xs : List A) → Each Fits xs → IsInOrder key xs → AreRows home trees (map row_of xs)
+    → AreRows second trees (flat_map beside_of xs) → ⊥

@@ -4,5 +4,6 @@ pub mod Gathered
 pub mod Opening
 pub mod Plain
 pub mod Refused
-pub mod Sections
+pub mod Standing
+pub mod Steps
 pub mod Told

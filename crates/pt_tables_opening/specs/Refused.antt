@@ -1,22 +1,21 @@
 -- Why a database is refused that an opening has read.
-use Rattle.std.specs.Prelude.{◌≡◌, ◌≢◌, ◌⊎◌, List, map, ℕ}
+use Rattle.std.specs.Prelude.{◌≡◌, ◌≢◌, ◌⊎◌}
 use Rattle.sqlite.specs.Effect.{Database}
-use Rattle.sqlite.specs.Order.{Row}
-use Rattle.sqlite.specs.Table.{Table}
 use Rattle.sqlite.specs.Tree.{Trees}
 use Rattle.sqlite_catalog.specs.Listing.{Lists}
 use Rattle.sqlite_schema.specs.declared.schema.Schema.{Schema}
 use Rattle.sqlite_trees.specs.Objects.{catalog_tree}
 use Rattle.pt_desk_rules.specs.Sound.{IsSound}
 use Rattle.pt_desk_rules.specs.State.{State}
-use Rattle.pt_records.specs.Records.{Each, IsInOrder}
+use Rattle.pt_records.specs.Records.{Each}
 use Rattle.pt_spelling.specs.Ranges.{IsWord}
 use Rattle.pt_tables_opening.specs.Faults.{rows_refused, tables_refused}
 use Rattle.pt_tables_reading.specs.Fitting.{FitsFiled, FitsRoute, FitsVehicle}
 use Rattle.pt_tables_opening.specs.Gathered.{FitsPlan, FitsTravel}
 use Rattle.pt_tables_reading.specs.Reading.{FitsCaller, FitsKept, FitsPlace, FitsRider, FitsTrip}
 use Rattle.pt_tables_rows.specs.Schema.{desk_schema}
-use Rattle.pt_tables_rows.specs.Tables.{AreRows, HasRows}
+use Rattle.pt_tables_rows.specs.Tables.{HasRows}
+use Rattle.pt_tables_opening.specs.Standing.{IsFirstAtFault}
 use Rattle.pt_tables_opening.specs.Told.{HasOtherVersion}
 use Rattle.pt_tables_opening.specs.declared.open_fault.OpenFault.{OpenFault}
 
@@ -54,20 +53,10 @@ SparesOtherVersion trees refused = HasOtherVersion trees → refused.code ≢ ro
 pub record TellsWhy (trees : Trees) (refused : OpenFault) : Type 0 where
   pub version : refused.code ≡ tables_refused → HasOtherVersion trees
   pub rows : refused.code ≡ rows_refused → AreUnsound trees
+  pub first : refused.code ≡ rows_refused → IsFirstAtFault trees refused.table
 
 -- and of a database whose tables may be others
 pub record TellsOf (db : Database) (refused : OpenFault) : Type 0 where
   pub tables : refused.code ≡ tables_refused → (db.schema ≢ desk_schema) ⊎ HasOtherVersion db.trees
   pub rows : refused.code ≡ rows_refused → AreUnsound db.trees
-
--- these records, in the order of their keys, have the rows of the table
-pub record AreRecordsOf {A : Type 0} (key : A → ℕ) (home : Table) (row_of : A → Row) (Fits : A → Type 0) (trees : Trees)
-    (xs : List A) : Type 0 where
-  pub order : IsInOrder key xs
-  pub each : Each Fits xs
-  pub rows_are : AreRows home trees (map row_of xs)
-
--- such are these records of a sound state, wherever it has the rows of the tables
-abbrev pub AreOfStates : {A : Type 0} → (A → ℕ) → Table → (A → Row) → (A → Type 0) → (State → List A) → Type 0
-AreOfStates key home row_of Fits records = (s : State) (trees : Trees) → IsSound s → KeepsRanges s → HasRows s trees
-    → AreRecordsOf key home row_of Fits trees (records s)
+  pub first : refused.code ≡ rows_refused → IsFirstAtFault db.trees refused.table

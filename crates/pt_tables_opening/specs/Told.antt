@@ -1,24 +1,14 @@
 -- What rows tell of records.
-use Rattle.std.specs.Prelude.{◌≡◌, ◌≢◌, ◌⊎◌, ℕ, ◌<◌, List, [], map, Option, None, Some, IfSome, flat_map, ◌∷◌}
-use Rattle.std.specs.Prelude.{IsPermutation}
-use Rattle.std.specs.Option.{unwrap_or}
+use Rattle.std.specs.Prelude.{◌≡◌, ◌≢◌, ◌⊎◌, ℕ, ◌<◌, List, [], ◌∷◌, map, Option, None, Some, IsPermutation}
 use Rattle.sqlite.specs.Order.{Row, column}
 use Rattle.sqlite.specs.Table.{Table}
 use Rattle.sqlite.specs.Tree.{Trees}
 use Rattle.pt_base.specs.declared.policy.Policy.{Policy}
-use Rattle.pt_desk_rules.specs.State.{State, caller_key, kept_key, place_key, route_key, rider_key, entry_key}
-use Rattle.pt_desk_rules.specs.State.{vehicle_key, travel_key, trip_key}
-use Rattle.pt_desk_rules.specs.declared.change.Change.{Change}
 use Rattle.pt_records.specs.Records.{Each, Edit, IsInOrder}
 use Rattle.pt_records.specs.declared.span.Span.{Span}
-use Rattle.pt_scheduling.specs.Plan.{plan_key}
 use Rattle.pt_tables_reading.specs.Reading.{agency_row, FitsAgency}
-use Rattle.pt_tables_rows.specs.Rows.{desk_row, caller_row, kept_row, place_row, route_row, vehicle_row, rider_row}
-use Rattle.pt_tables_rows.specs.Rows.{entry_row, trip_row, stop_rows, travel_rows, number_value, table_version}
-use Rattle.pt_tables_rows.specs.Rows.{rider_chair_rows, vehicle_chair_rows, trip_chair_rows}
-use Rattle.pt_tables_rows.specs.Schema.{desk_table, callers_table, kept_table, places_table, fixed_table}
-use Rattle.pt_tables_rows.specs.Schema.{vehicles_table, riders_table, entries_table, trips_table, stops_table}
-use Rattle.pt_tables_rows.specs.Schema.{travel_table, rider_chairs_table, vehicle_chairs_table, trip_chairs_table}
+use Rattle.pt_tables_rows.specs.Rows.{number_value, table_version}
+use Rattle.pt_tables_rows.specs.Schema.{desk_table}
 use Rattle.pt_tables_rows.specs.Tables.{AreRows}
 
 -- the records whose rows these are, in their order, or none where no records that fit have them
@@ -34,34 +24,6 @@ IsAfter (Some last) key = last < key
 -- nothing but records in the order of their keys
 abbrev pub PutsInOrder : {A : Type 0} → (A → ℕ) → Edit A → Type 0
 PutsInOrder key edit = (edit.away ≡ []) × IsInOrder key edit.puts
-
--- the change puts records alone, those of each table in the order of their keys
-pub record IsWhole (change : Change) : Type 0 where
-  pub callers : PutsInOrder caller_key change.callers
-  pub kept : PutsInOrder kept_key change.kept
-  pub places : PutsInOrder place_key change.places
-  pub routes : PutsInOrder route_key change.routes
-  pub riders : PutsInOrder rider_key change.riders
-  pub entries : PutsInOrder entry_key change.entries
-  pub vehicles : PutsInOrder vehicle_key change.vehicles
-  pub travel : PutsInOrder travel_key change.travel
-  pub trips : PutsInOrder trip_key change.trips
-  pub planned : PutsInOrder plan_key change.planned
-
--- the content has the records that the change puts, and no others
-pub record HasPut (change : Change) (content : State) : Type 0 where
-  pub callers : content.callers ≡ change.callers.puts
-  pub kept : content.kept ≡ change.kept.puts
-  pub policy : IfSome change.policy (λ policy. content.policy ≡ policy)
-  pub places : content.places ≡ change.places.puts
-  pub routes : content.routes ≡ change.routes.puts
-  pub riders : content.riders ≡ change.riders.puts
-  pub entries : content.entries ≡ change.entries.puts
-  pub vehicles : content.vehicles ≡ change.vehicles.puts
-  pub travel : content.travel ≡ change.travel.puts
-  pub trips : content.trips ≡ change.trips.puts
-  pub planned : content.planned ≡ change.planned.puts
-  pub last_trip : content.last_trip ≡ unwrap_or change.last_trip 0
 
 -- the keys of 32 bits
 abbrev pub numbers : Span
@@ -121,22 +83,3 @@ pub record IsAgencyOf (trees : Trees) (agency : Policy × ℕ) : Type 0 where
 abbrev pub HasOtherVersion : Trees → Type 0
 HasOtherVersion trees =
     (row : Row) × AreRows desk_table trees (row ∷ []) × (column row 1 ≢ number_value table_version)
-
--- the tables have the rows of what the change puts
-pub record HasToldRows (change : Change) (trees : Trees) : Type 0 where
-  pub policy : Policy
-  pub policy_is : change.policy ≡ Some policy
-  pub desk : AreRows desk_table trees (desk_row policy (unwrap_or change.last_trip 0) ∷ [])
-  pub callers : AreRows callers_table trees (map caller_row change.callers.puts)
-  pub kept : AreRows kept_table trees (map kept_row change.kept.puts)
-  pub places : AreRows places_table trees (map place_row change.places.puts)
-  pub fixed : AreRows fixed_table trees (map route_row change.routes.puts)
-  pub vehicles : AreRows vehicles_table trees (map vehicle_row change.vehicles.puts)
-  pub riders : AreRows riders_table trees (map rider_row change.riders.puts)
-  pub entries : AreRows entries_table trees (map entry_row change.entries.puts)
-  pub trips : AreRows trips_table trees (map trip_row change.trips.puts)
-  pub stops : AreRows stops_table trees (flat_map stop_rows change.planned.puts)
-  pub travel : AreRows travel_table trees (flat_map travel_rows change.travel.puts)
-  pub rider_chairs : AreRows rider_chairs_table trees (flat_map rider_chair_rows change.riders.puts)
-  pub vehicle_chairs : AreRows vehicle_chairs_table trees (flat_map vehicle_chair_rows change.vehicles.puts)
-  pub trip_chairs : AreRows trip_chairs_table trees (flat_map trip_chair_rows change.trips.puts)

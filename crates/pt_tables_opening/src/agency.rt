@@ -6,7 +6,8 @@ ghost use Rattle.pt_base.specs.declared.policy.Policy.{Policy};
 ghost use Rattle.pt_tables_opening.specs.Faults.{fault, store_refused, tables_refused, unsound};
 ghost use Rattle.pt_tables_opening.specs.Opening.{Rests};
 ghost use Rattle.pt_tables_reading.specs.Reading.{agency_row, FitsAgency};
-ghost use Rattle.pt_tables_opening.specs.Refused.{AreUnsound, SparesOtherVersion};
+ghost use Rattle.pt_tables_opening.specs.Refused.{SparesOtherVersion};
+ghost use Rattle.pt_tables_opening.specs.Standing.{NoneStandsTo};
 ghost use Rattle.pt_tables_rows.specs.Schema.{desk_schema};
 ghost use Rattle.pt_tables_opening.specs.Told.{IsAgencyOf, HasOtherVersion, IsOtherVersion, TellsNoAgency};
 
@@ -51,7 +52,7 @@ pub(crate) fn agency_in<S: Alter>(conn: &mut Connection<S>) -> Result<(Policy, u
         ⊎ (((refused ≡ fault tables_refused) × (HasCleanDisk (state S.Store conn.new)
         → (state S.Store conn.old).now.schema ≡ desk_schema → HasOtherVersion (state S.Store conn.old).now.trees))
         ⊎ ((refused ≡ unsound 1) × (HasCleanDisk (state S.Store conn.new)
-        → (state S.Store conn.old).now.schema ≡ desk_schema → AreUnsound (state S.Store conn.old).now.trees))))) }
+        → (state S.Store conn.old).now.schema ≡ desk_schema → NoneStandsTo 1 (state S.Store conn.old).now.trees))))) }
     ensures version { HasCleanDisk (state S.Store conn.new) → (state S.Store conn.old).now.schema ≡ desk_schema
         → IfErr result (SparesOtherVersion (state S.Store conn.old).now.trees) }
     ensures rests { Rests (state S.Store conn.old) (state S.Store conn.new) result }

@@ -1,18 +1,15 @@
 //! Records whose rows stand in two tables: each has one in its own, and one or none in the other.
 
-ghost use Rattle.std.specs.Prelude.{◌≡◌, ◌⊎◌, ◌≤◌, ◌∷◌, [], List, None, Some, length, take, IfOk, IfErr, map};
-ghost use Rattle.std.specs.Int.{IsInRange};
+ghost use Rattle.std.specs.Prelude.{◌≡◌, ◌⊎◌, ◌≤◌, ◌∷◌, [], List, None, Some, length, take, IfOk, IfErr, map, flat_map};
 ghost use Rattle.sqlite.specs.Order.{Row as StoredRow};
 ghost use Rattle.sqlite.specs.Held.{state};
 ghost use Rattle.sqlite.specs.State.{HasCleanDisk};
 ghost use Rattle.sqlite.specs.Table.{Table as StoredTable};
 ghost use Rattle.pt_base.specs.Codes.{memory_refused};
 ghost use Rattle.pt_records.specs.Records.{Each, IsInOrder};
-ghost use Rattle.pt_tables_opening.specs.Beside.{AreBeside, IsAlone, IsMarkedTable, KeepsBeside, StandBeside};
-ghost use Rattle.pt_tables_opening.specs.Beside.{TellsBeside};
-ghost use Rattle.pt_tables_opening.specs.Faults.{IsRefusal, fault, store_refused, unsound};
+ghost use Rattle.pt_tables_opening.specs.Beside.{AreBeside, IsAlone, KeepsBeside, NoneBeside, TellsBeside};
+ghost use Rattle.pt_tables_opening.specs.Faults.{fault, store_refused, unsound};
 ghost use Rattle.pt_tables_opening.specs.Opening.{Rests};
-ghost use Rattle.pt_tables_opening.specs.Refused.{AreUnsound, TellsWhy};
 ghost use Rattle.pt_tables_opening.specs.Told.{IsFitting};
 ghost use Rattle.pt_tables_reading.specs.Reading.{ReadsBeside};
 ghost use Rattle.pt_tables_rows.specs.Schema.{desk_schema};
@@ -20,7 +17,7 @@ ghost use Rattle.pt_tables_rows.specs.Tables.{AreRows};
 
 use crate::OpenFault;
 use crate::open_fault::fault_of;
-use crate::records::{OneRow, table_of};
+use crate::records::OneRow;
 use crate::table_rows::{rider_chair_rows, trip_chair_rows, vehicle_chair_rows};
 use pt_base::{Rider, Trip, Vehicle};
 use pt_records::Edits;
@@ -56,8 +53,6 @@ pub(crate) trait Beside: OneRow {
     fn marked(&self, row: &Row) -> Option<Self>
         requires fits { Self.Fits self.now }
         ensures { ReadsBeside Self.row_of beside_of Self.Fits self.now row.now result };
-
-    ghost stand_beside: { StandBeside second beside_of Self.records };
 }
 
 impl Beside for Rider {
@@ -82,8 +77,6 @@ impl Beside for Rider {
     fn marked(&self, row: &Row) -> Option<Self> {
         rider_beside(self, row)
     }
-
-    ghost stand_beside = { λ s trees sound ranges are. are.rider_chairs };
 }
 
 impl Beside for Vehicle {
@@ -115,8 +108,6 @@ impl Beside for Vehicle {
     fn marked(&self, row: &Row) -> Option<Self> {
         vehicle_beside(self, row)
     }
-
-    ghost stand_beside = { λ s trees sound ranges are. are.vehicle_chairs };
 }
 
 impl Beside for Trip {
@@ -150,8 +141,6 @@ impl Beside for Trip {
     fn marked(&self, row: &Row) -> Option<Self> {
         trip_beside(self, row)
     }
-
-    ghost stand_beside = { λ s trees sound ranges are. are.trip_chairs };
 }
 
 /// The record with what the first of the rows tells of it, and how many of them are its own, none or one.
@@ -222,7 +211,7 @@ fn merged_table<T: Beside>(
 
 /// The records with what the second table's rows tell of them: code 31 with the number of that table where no records
 /// in order have both tables' rows, 32 where the store refused or failed, and 0 where memory was refused.
-fn beside_in<S: Alter, T: Beside>(
+pub(crate) fn beside_in<S: Alter, T: Beside>(
     alloc: Global,
     conn: &mut Connection<S>,
     records: &[T],
@@ -231,15 +220,14 @@ fn beside_in<S: Alter, T: Beside>(
     requires fits { Each T.Fits records.now }
     requires order { IsInOrder T.key records.now }
     ensures fitting { IfOk result (IsFitting T.key T.Fits) }
+    ensures same { IfOk result (λ edit. map T.row_of edit.puts ≡ map T.row_of records.now) }
     ensures told { HasCleanDisk (state S.Store conn.new) → (state S.Store conn.old).now.schema ≡ desk_schema
-        → AreRows T.home (state S.Store conn.old).now.trees (map T.row_of records.now)
-        → IfOk result (IsMarkedTable T.key T.home T.second T.row_of T.beside_of T.Fits
-        (state S.Store conn.old).now.trees) }
+        → IfOk result (λ edit. AreRows T.second (state S.Store conn.old).now.trees (flat_map T.beside_of edit.puts)) }
     ensures faults { IfErr result (λ refused. (refused ≡ fault memory_refused) ⊎ ((refused ≡ fault store_refused)
         ⊎ ((refused ≡ unsound table) × (HasCleanDisk (state S.Store conn.new)
         → (state S.Store conn.old).now.schema ≡ desk_schema
         → AreRows T.home (state S.Store conn.old).now.trees (map T.row_of records.now)
-        → AreUnsound (state S.Store conn.old).now.trees)))) }
+        → NoneBeside T.key T.home T.second T.row_of T.beside_of T.Fits (state S.Store conn.old).now.trees)))) }
     ensures rests { Rests (state S.Store conn.old) (state S.Store conn.new) result }
 {
     let rows = match T::second_rows(conn) {
@@ -247,27 +235,4 @@ fn beside_in<S: Alter, T: Beside>(
         Err(error) => return Err(fault_of(&error)),
     };
     merged_table(alloc, records, &rows, table)
-}
-
-/// The records of two tables, to be put: code 31 with the number of the table whose rows no sound state has beside
-/// those of the first, 32 where the store refused or failed, and 0 where memory was refused.
-pub(crate) fn marked_table<S: Alter, T: Beside>(
-    alloc: Global,
-    conn: &mut Connection<S>,
-    table: u8,
-    second: u8,
-) -> Result<Edits<T>, OpenFault>
-    requires first { IsInRange 1 14 table }
-    requires other { IsInRange 1 14 second }
-    ensures fitting { IfOk result (IsFitting T.key T.Fits) }
-    ensures told { HasCleanDisk (state S.Store conn.new) → (state S.Store conn.old).now.schema ≡ desk_schema
-        → IfOk result (IsMarkedTable T.key T.home T.second T.row_of T.beside_of T.Fits
-        (state S.Store conn.old).now.trees) }
-    ensures faults { IfErr result IsRefusal }
-    ensures why { HasCleanDisk (state S.Store conn.new) → (state S.Store conn.old).now.schema ≡ desk_schema
-        → IfErr result (TellsWhy (state S.Store conn.old).now.trees) }
-    ensures rests { Rests (state S.Store conn.old) (state S.Store conn.new) result }
-{
-    let records = table_of(alloc, conn, table)?;
-    beside_in(alloc, conn, records.puts(), second)
 }

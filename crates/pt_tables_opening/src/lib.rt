@@ -7,16 +7,15 @@ pub use whole::content_in;
 
 mod agency;
 mod beside;
+mod changes;
 mod content;
 mod first_version;
 mod gathered;
 mod one_row;
 mod open_fault;
-mod parts;
 mod plans;
 mod records;
 mod schema_check;
-mod sections;
 mod table_rows;
 mod travel;
 mod version;

@@ -29,8 +29,6 @@ impl OneRow for Caller {
 
     ghost row_of = { caller_row };
 
-    ghost records = { λ s. s.callers };
-
     fn all_rows<S: Alter>(conn: &mut Connection<S>) -> Result<Vec<Row>, Error> {
         caller_rows(conn)
     }
@@ -38,12 +36,6 @@ impl OneRow for Caller {
     fn told(_alloc: Global, row: &Row) -> Result<Option<Self>, AllocError> {
         Ok(caller_of(row))
     }
-
-    ghost of_states = { λ s trees sound ranges are. record {
-      order = sound.callers.in_order;
-      each = ranges.callers;
-      rows_are = are.records.callers;
-    } };
 }
 
 /// What a row tells of a caller's last accepted write, its request copied.
@@ -71,8 +63,6 @@ impl OneRow for Kept {
 
     ghost row_of = { kept_row };
 
-    ghost records = { λ s. s.kept };
-
     fn all_rows<S: Alter>(conn: &mut Connection<S>) -> Result<Vec<Row>, Error> {
         kept_rows(conn)
     }
@@ -80,12 +70,6 @@ impl OneRow for Kept {
     fn told(alloc: Global, row: &Row) -> Result<Option<Self>, AllocError> {
         copied_kept(alloc, row)
     }
-
-    ghost of_states = { λ s trees sound ranges are. record {
-      order = sound.kept_in_order;
-      each = ranges.kept;
-      rows_are = are.records.kept;
-    } };
 }
 
 impl OneRow for Place {
@@ -99,8 +83,6 @@ impl OneRow for Place {
 
     ghost row_of = { place_row };
 
-    ghost records = { λ s. s.places };
-
     fn all_rows<S: Alter>(conn: &mut Connection<S>) -> Result<Vec<Row>, Error> {
         place_rows(conn)
     }
@@ -108,12 +90,6 @@ impl OneRow for Place {
     fn told(_alloc: Global, row: &Row) -> Result<Option<Self>, AllocError> {
         Ok(place_of(row))
     }
-
-    ghost of_states = { λ s trees sound ranges are. record {
-      order = sound.places.in_order;
-      each = ranges.places;
-      rows_are = are.records.places;
-    } };
 }
 
 impl OneRow for FixedRoute {
@@ -127,8 +103,6 @@ impl OneRow for FixedRoute {
 
     ghost row_of = { route_row };
 
-    ghost records = { λ s. s.routes };
-
     fn all_rows<S: Alter>(conn: &mut Connection<S>) -> Result<Vec<Row>, Error> {
         route_rows(conn)
     }
@@ -136,12 +110,6 @@ impl OneRow for FixedRoute {
     fn told(alloc: Global, row: &Row) -> Result<Option<Self>, AllocError> {
         route_of(alloc, row)
     }
-
-    ghost of_states = { λ s trees sound ranges are. record {
-      order = sound.routes.in_order;
-      each = ranges.routes;
-      rows_are = are.records.fixed;
-    } };
 }
 
 impl OneRow for Vehicle {
@@ -155,8 +123,6 @@ impl OneRow for Vehicle {
 
     ghost row_of = { vehicle_row };
 
-    ghost records = { λ s. s.vehicles };
-
     fn all_rows<S: Alter>(conn: &mut Connection<S>) -> Result<Vec<Row>, Error> {
         vehicle_rows(conn)
     }
@@ -164,12 +130,6 @@ impl OneRow for Vehicle {
     fn told(_alloc: Global, row: &Row) -> Result<Option<Self>, AllocError> {
         Ok(vehicle_of(row))
     }
-
-    ghost of_states = { λ s trees sound ranges are. record {
-      order = sound.vehicles_in_order;
-      each = ranges.vehicles;
-      rows_are = are.records.vehicles;
-    } };
 }
 
 impl OneRow for Rider {
@@ -183,8 +143,6 @@ impl OneRow for Rider {
 
     ghost row_of = { rider_row };
 
-    ghost records = { λ s. s.riders };
-
     fn all_rows<S: Alter>(conn: &mut Connection<S>) -> Result<Vec<Row>, Error> {
         rider_rows(conn)
     }
@@ -192,12 +150,6 @@ impl OneRow for Rider {
     fn told(_alloc: Global, row: &Row) -> Result<Option<Self>, AllocError> {
         Ok(rider_of(row))
     }
-
-    ghost of_states = { λ s trees sound ranges are. record {
-      order = sound.riders.in_order;
-      each = ranges.riders;
-      rows_are = are.records.riders;
-    } };
 }
 
 impl OneRow for FiledEntry {
@@ -211,8 +163,6 @@ impl OneRow for FiledEntry {
 
     ghost row_of = { entry_row };
 
-    ghost records = { λ s. s.entries };
-
     fn all_rows<S: Alter>(conn: &mut Connection<S>) -> Result<Vec<Row>, Error> {
         entry_rows(conn)
     }
@@ -220,12 +170,6 @@ impl OneRow for FiledEntry {
     fn told(alloc: Global, row: &Row) -> Result<Option<Self>, AllocError> {
         entry_of(alloc, row)
     }
-
-    ghost of_states = { λ s trees sound ranges are. record {
-      order = sound.entries_in_order;
-      each = ranges.entries;
-      rows_are = are.records.entries;
-    } };
 }
 
 impl OneRow for Trip {
@@ -239,8 +183,6 @@ impl OneRow for Trip {
 
     ghost row_of = { trip_row };
 
-    ghost records = { λ s. s.trips };
-
     fn all_rows<S: Alter>(conn: &mut Connection<S>) -> Result<Vec<Row>, Error> {
         trip_rows(conn)
     }
@@ -248,10 +190,4 @@ impl OneRow for Trip {
     fn told(_alloc: Global, row: &Row) -> Result<Option<Self>, AllocError> {
         Ok(trip_of(row))
     }
-
-    ghost of_states = { λ s trees sound ranges are. record {
-      order = sound.trips_in_order;
-      each = ranges.trips;
-      rows_are = are.records.trips;
-    } };
 }

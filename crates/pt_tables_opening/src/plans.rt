@@ -1,4 +1,4 @@
-ghost use Rattle.std.specs.Prelude.{◌≡◌, ◌⊎◌, pos, List, IfOk, IfErr, MatchOption};
+ghost use Rattle.std.specs.Prelude.{◌≡◌, ◌⊎◌, pos, List, flat_map, IfOk, IfErr, MatchOption};
 ghost use Rattle.sqlite.specs.Held.{state};
 ghost use Rattle.sqlite.specs.State.{HasCleanDisk};
 ghost use Rattle.pt_base.specs.Codes.{memory_refused};
@@ -10,10 +10,9 @@ ghost use Rattle.pt_tables_opening.specs.Gathered.{FitsPlan, FitStops, IsGathere
 ghost use Rattle.pt_tables_rows.specs.Rows.{stop_row};
 ghost use Rattle.pt_tables_opening.specs.Opening.{Rests};
 ghost use Rattle.pt_tables_reading.specs.Reading.{Reads};
-ghost use Rattle.pt_tables_opening.specs.Refused.{AreUnsound};
 ghost use Rattle.pt_tables_rows.specs.Rows.{stop_rows, stop_rows_from};
 ghost use Rattle.pt_tables_rows.specs.Schema.{desk_schema, stops_table};
-ghost use Rattle.pt_tables_opening.specs.Told.{IsFitting};
+ghost use Rattle.pt_tables_opening.specs.Told.{AreRowsOfNone, IsFitting};
 
 use crate::OpenFault;
 use crate::gathered::{Gathered, gathered_in, is_nought};
@@ -124,7 +123,7 @@ pub(crate) fn planned_in<S: Alter>(
     ensures faults { IfErr result (λ refused. (refused ≡ fault memory_refused) ⊎ ((refused ≡ fault store_refused)
         ⊎ ((refused ≡ unsound 10) × (HasCleanDisk (state S.Store conn.new)
         → (state S.Store conn.old).now.schema ≡ desk_schema
-        → AreUnsound (state S.Store conn.old).now.trees)))) }
+        → AreRowsOfNone plan_key stops_table (flat_map stop_rows) FitsPlan (state S.Store conn.old).now.trees)))) }
     ensures rests { Rests (state S.Store conn.old) (state S.Store conn.new) result }
 {
     gathered_in(alloc, conn, STOPS)

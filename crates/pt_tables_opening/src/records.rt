@@ -1,13 +1,11 @@
-ghost use Rattle.std.specs.Prelude.{◌≡◌, ◌⊎◌, ◌↔◌, List, IsTrue, IfOk, IfErr};
+ghost use Rattle.std.specs.Prelude.{◌≡◌, ◌⊎◌, ◌↔◌, map, IsTrue, IfOk, IfErr};
 ghost use Rattle.sqlite.specs.Order.{Row as StoredRow};
 ghost use Rattle.sqlite.specs.Held.{state};
 ghost use Rattle.sqlite.specs.State.{HasCleanDisk};
 ghost use Rattle.sqlite.specs.Table.{Table as StoredTable};
-ghost use Rattle.pt_desk_rules.specs.State.{State};
 ghost use Rattle.pt_records.specs.Records.{IsInOrder};
-ghost use Rattle.pt_tables_opening.specs.Refused.{AreOfStates, AreUnsound};
 ghost use Rattle.pt_tables_opening.specs.Told.{TellsAll, IsAfter, IsToldBy, IsFitting, IsTableOf, KeepsOrder};
-ghost use Rattle.pt_tables_opening.specs.Told.{TellsNothing};
+ghost use Rattle.pt_tables_opening.specs.Told.{AreRowsOfNone, TellsNothing};
 ghost use Rattle.pt_tables_opening.specs.Opening.{Rests};
 ghost use Rattle.pt_tables_reading.specs.Reading.{Reads};
 ghost use Rattle.pt_tables_rows.specs.Schema.{desk_schema};
@@ -32,9 +30,6 @@ pub(crate) trait OneRow: Keyed {
     /// Its row.
     ghost row_of: { Self → StoredRow };
 
-    /// Those of a state.
-    ghost records: { State → List Self };
-
     /// All rows of its table, in the order of its keys.
     fn all_rows<S: Alter>(conn: &mut Connection<S>) -> Result<Vec<Row>, Error>
         ensures rows { HasCleanDisk (state S.Store conn.new)
@@ -48,8 +43,6 @@ pub(crate) trait OneRow: Keyed {
     /// The record of a row, or none where no record has it.
     fn told(alloc: Global, row: &Row) -> Result<Option<Self>, AllocError>
         ensures told { IfOk result (Reads row_of Fits row.now) };
-
-    ghost of_states: { AreOfStates Self.key home row_of Fits records };
 }
 
 /// All records that the rows tell, in their order, to be put; none where a row is that of no record.
@@ -117,8 +110,8 @@ pub(crate) fn told_table<T: OneRow>(
     Ok(records)
 }
 
-/// The records of a table, to be put, read from all its rows: code 31 where no sound state has them, 32 where the store
-/// refused or failed, and 0 where memory was refused.
+/// The records of a table, to be put, read from all its rows: code 31 where no records in the order of their keys have
+/// them, 32 where the store refused or failed, and 0 where memory was refused.
 pub(crate) fn table_of<S: Alter, T: OneRow>(
     alloc: Global,
     conn: &mut Connection<S>,
@@ -130,7 +123,7 @@ pub(crate) fn table_of<S: Alter, T: OneRow>(
     ensures faults { IfErr result (λ refused. (refused ≡ fault memory_refused) ⊎ ((refused ≡ fault store_refused)
         ⊎ ((refused ≡ unsound table) × (HasCleanDisk (state S.Store conn.new)
         → (state S.Store conn.old).now.schema ≡ desk_schema
-        → AreUnsound (state S.Store conn.old).now.trees)))) }
+        → AreRowsOfNone T.key T.home (map T.row_of) T.Fits (state S.Store conn.old).now.trees)))) }
     ensures rests { Rests (state S.Store conn.old) (state S.Store conn.new) result }
 {
     let rows = match T::all_rows(conn) {

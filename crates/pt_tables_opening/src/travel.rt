@@ -1,4 +1,4 @@
-ghost use Rattle.std.specs.Prelude.{◌≡◌, ◌⊎◌, List, map, IfOk, IfErr, MatchOption};
+ghost use Rattle.std.specs.Prelude.{◌≡◌, ◌⊎◌, List, flat_map, map, IfOk, IfErr, MatchOption};
 ghost use Rattle.sqlite.specs.Held.{state};
 ghost use Rattle.sqlite.specs.State.{HasCleanDisk};
 ghost use Rattle.pt_base.specs.Codes.{memory_refused};
@@ -11,10 +11,9 @@ ghost use Rattle.pt_tables_reading.specs.Fitting.{FitsDriveAt};
 ghost use Rattle.pt_tables_opening.specs.Gathered.{FitsDrive, FitsTravel, IsGatheredTable};
 ghost use Rattle.pt_tables_opening.specs.Opening.{Rests};
 ghost use Rattle.pt_tables_reading.specs.Reading.{Reads};
-ghost use Rattle.pt_tables_opening.specs.Refused.{AreUnsound};
 ghost use Rattle.pt_tables_rows.specs.Rows.{travel_row, travel_rows};
 ghost use Rattle.pt_tables_rows.specs.Schema.{desk_schema, travel_table};
-ghost use Rattle.pt_tables_opening.specs.Told.{IsFitting};
+ghost use Rattle.pt_tables_opening.specs.Told.{AreRowsOfNone, IsFitting};
 
 use crate::OpenFault;
 use crate::gathered::{Gathered, gathered_in, is_nought};
@@ -131,7 +130,7 @@ pub(crate) fn travel_in<S: Alter>(
     ensures faults { IfErr result (λ refused. (refused ≡ fault memory_refused) ⊎ ((refused ≡ fault store_refused)
         ⊎ ((refused ≡ unsound 11) × (HasCleanDisk (state S.Store conn.new)
         → (state S.Store conn.old).now.schema ≡ desk_schema
-        → AreUnsound (state S.Store conn.old).now.trees)))) }
+        → AreRowsOfNone travel_key travel_table (flat_map travel_rows) FitsTravel (state S.Store conn.old).now.trees)))) }
     ensures rests { Rests (state S.Store conn.old) (state S.Store conn.new) result }
 {
     gathered_in(alloc, conn, TRAVEL)

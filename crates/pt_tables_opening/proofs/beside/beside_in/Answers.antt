@@ -6,16 +6,27 @@ use Rattle.pt_tables_opening.specs.Beside.{KeepsBeside}
 use Rattle.pt_tables_opening.specs.Faults.{fault, store_refused, unsound}
 use Rattle.pt_tables_rows.specs.Schema.{desk_schema}
 use Rattle.pt_tables_rows.specs.Tables.{AreRows}
-use Rattle.pt_tables_opening.proofs.BesideLemmas.{refuses_beside}
+use Rattle.pt_tables_opening.proofs.BesideLemmas.{beside_told, refuses_beside, same_told}
 use Rattle.pt_tables_opening.proofs.beside.beside_in.Goals as goal
 
 pub returns-clause-faults : goal.returns-clause-faults
 returns-clause-faults g c =
     let trees = (state g.S.Store c.args.conn.now).now.trees in
     let second = g.T.Beside.second in
-    refuses_beside g.T.Keyed.key g.T.OneRow.home second g.T.OneRow.row_of g.T.Beside.beside_of g.T.OneRow.Fits g.T.OneRow.records c.second_rows.ensures.beside g.met.T.OneRow.of_states
-    g.met.T.Beside.stand_beside trees c.args.records.now c.requires.order c.deref.result.now
+    refuses_beside g.T.Keyed.key g.T.OneRow.home second g.T.OneRow.row_of g.T.Beside.beside_of g.T.OneRow.Fits c.second_rows.ensures.beside
+    trees c.args.records.now c.requires.order c.deref.result.now
     (HasCleanDisk (state g.S.Store c.second_rows.new.conn)) ((state g.S.Store c.args.conn.now).now.schema ≡ desk_schema)
     (λ clean has. subst (AreRows second trees) (sym c.deref.ensures.value) (c.in-Ok.ensures.rows clean has))
     (λ clean has. subst (KeepsBeside g.T.Keyed.key g.T.Beside.beside_of g.T.OneRow.Fits) (sym c.deref.ensures.value) (c.in-Ok.ensures.order clean has))
     (fault memory_refused) (fault store_refused) (unsound c.args.table) c.merged_table.result c.merged_table.ensures.faults
+
+pub returns-clause-same : goal.returns-clause-same
+returns-clause-same g c =
+    same_told g.T.Keyed.key g.T.Beside.second g.T.OneRow.row_of g.T.Beside.beside_of g.T.OneRow.Fits (state g.S.Store c.args.conn.now).now.trees c.args.records.now c.deref.result.now
+    c.merged_table.result c.merged_table.ensures.told
+
+pub returns-clause-told : goal.returns-clause-told
+returns-clause-told g c clean has =
+    let trees = (state g.S.Store c.args.conn.now).now.trees in
+    beside_told g.T.Keyed.key g.T.Beside.second g.T.OneRow.row_of g.T.Beside.beside_of g.T.OneRow.Fits trees c.args.records.now c.deref.result.now
+    c.merged_table.result c.merged_table.ensures.told (subst (AreRows g.T.Beside.second trees) (sym c.deref.ensures.value) (c.in-Ok.ensures.rows clean has))

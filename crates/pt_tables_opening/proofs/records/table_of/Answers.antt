@@ -28,7 +28,7 @@ pub returns-clause-faults : goal.returns-clause-faults
 returns-clause-faults g c =
     let trees = (state g.S.Store c.args.conn.now).now.trees in
     let home = g.T.OneRow.home in
-    refuses_table g.T.Keyed.key home g.T.OneRow.row_of g.T.OneRow.Fits g.T.OneRow.records g.met.T.OneRow.of_states trees c.deref.result.now
+    refuses_table g.T.Keyed.key home g.T.OneRow.row_of g.T.OneRow.Fits trees c.deref.result.now
     (HasCleanDisk (state g.S.Store c.all_rows.new.conn)) ((state g.S.Store c.args.conn.now).now.schema ≡ desk_schema)
     (λ clean has. subst (AreRows home trees) (sym c.deref.ensures.value) (c.in-Ok.ensures.rows clean has))
     (λ clean has. subst (KeepsOrder g.T.Keyed.key g.T.OneRow.row_of g.T.OneRow.Fits) (sym c.deref.ensures.value) (c.in-Ok.ensures.order clean has))

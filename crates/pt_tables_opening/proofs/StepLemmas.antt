@@ -1,0 +1,470 @@
+-- Reads of the tables one after the other, each judged before the next.
+use Rattle.std.proofs.Common.{◌≡◌, ◌+◌, ◌-◌, ◌<◌, ◌≤◌, ◌↔◌, ◌++◌, ◌⊎◌, inl, inr, ℕ, zero, suc, Option, None, Some, IsSome, IfSome, List, [], ◌∷◌, take, Result, Ok, Err, IfOk, IfErr, IsErr, IsErrAnd, refl, sym, ap, subst, subst₂, ◌∙◌, arith}
+use Rattle.std.specs.Option.{unwrap_or}
+use Rattle.sqlite.specs.Effect.{Database}
+use Rattle.sqlite.specs.State.{State as Connected, HasCleanDisk, IsUnchanged}
+use Rattle.sqlite.specs.Tree.{Trees}
+use Rattle.pt_base.specs.Codes.{memory_refused}
+use Rattle.pt_base.specs.declared.policy.Policy.{Policy}
+use Rattle.pt_desk.specs.Listed.{Listed}
+use Rattle.pt_desk_rules.specs.Sound.{IsSound}
+use Rattle.pt_desk_rules.specs.State.{State, applied}
+use Rattle.pt_desk_rules.specs.declared.change.Change.{Change}
+use Rattle.pt_records.specs.Records.{Each}
+use Rattle.pt_records.proofs.OrderLemmas.{Each-weaker}
+use Rattle.pt_rights.specs.declared.entry.Entry.{Entry}
+use Rattle.pt_rights.specs.declared.entry.Entry.TheVariants as entry
+use Rattle.pt_soundness.specs.Tables.{all_tables, number_of, IsSoundBefore, IsSoundIn, IsSoundTo}
+use Rattle.pt_soundness.specs.declared.unsound_table.UnsoundTable.{UnsoundTable}
+use Rattle.pt_soundness.specs.declared.unsound_table.UnsoundTable.TheVariants as table
+use Rattle.pt_soundness.proofs.TableLemmas.{sound_in, sound_of}
+use Rattle.pt_tables_opening.specs.Faults.{IsRefusal, fault, store_refused, tables_refused, unsound}
+use Rattle.pt_tables_opening.specs.Opening.{Rests}
+use Rattle.pt_tables_opening.specs.Refused.{AreUnsound, KeepsRanges, SparesOtherVersion, TellsOf, TellsWhy}
+use Rattle.pt_tables_opening.specs.Standing.{HasRowsIn, IsFirstAtFault, IsLaidIn, NoneStandsTo, StandsIn, StandsTo}
+use Rattle.pt_spelling.specs.Ranges.{IsWord}
+use Rattle.pt_tables_opening.specs.Steps.{HasNoneIn, HasRowsTo, IsFaultOf, IsReadIn, IsReadTo, OpensTable, OpensTo, ReadsTable}
+use Rattle.pt_tables_opening.specs.Told.{HasOtherVersion, IsAgencyOf}
+use Rattle.pt_tables_opening.specs.declared.open_fault.OpenFault.{OpenFault}
+use Rattle.pt_tables_opening.proofs.AgencyLemmas.{spares_by_store, spares_none}
+use Rattle.pt_tables_opening.proofs.GatheredLemmas.{each_push}
+use Rattle.pt_tables_opening.proofs.RestLemmas.{rests_so, rests_then}
+use Rattle.pt_tables_opening.proofs.SameTables.{grants_in_range, sound_there}
+use Rattle.pt_tables_reading.specs.Fitting.{FitsEntry, FitsFiled, FitsRoute, FitsVehicle}
+use Rattle.pt_tables_reading.specs.Reading.{FitsKept}
+use Rattle.pt_tables_opening.specs.Gathered.{FitsPlan, FitsTravel}
+use Rattle.pt_tables_rows.specs.Rows.{desk_row}
+use Rattle.pt_tables_rows.specs.Schema.{desk_schema, desk_table}
+use Rattle.pt_tables_rows.specs.Tables.{AreRows, HasRows}
+use Rattle.pt_tables_rows.specs.WellFormed.{GrantsInRange, HasReply, HasRisingRows, IsFiled, IsLaid, IsStoredPlan, IsVersion, IsWellFormed}
+use Rattle.pt_tables_rows.proofs.WellFormedLemmas.{day-word}
+
+-- reads that answered, and then no more
+pub last : {X Y E F : Type 0} (old new : Connected) (r : Result X E) (x : X) → r ≡ Ok x → Rests old new r → (s : Result Y F) → Rests old new s
+last old new r x is h s = rests_so old new x (subst (Rests old new) is h) s
+
+-- a read that failed, told as it is told
+pub refused : {X Y E F : Type 0} (old new : Connected) (r : Result X E) (s : Result Y F) → IsErr s → Rests old new r → Rests old new s
+refused {X} {Y} {E} {F} old new r s bad h = record { settled = h.settled; same = λ clean has. none s bad; stays = h.stays; survives = h.survives }
+  where
+    none : (s : Result Y F) → IsErr s → IfOk s (λ _. IsUnchanged old new)
+    none (Ok y) bad = absurd (cc)
+    none (Err e) bad = tt
+
+-- the number of a trip, where there was none
+pub last_is : (o : Option ℕ) (n : ℕ) → (IsSome o ↔ (1 ≤ n)) → IfSome o (λ id. id ≡ n) → unwrap_or o 0 ≡ n
+last_is (Some id) n some is = is
+last_is None zero some is = refl
+last_is None (suc n) some is = absurd (let no : IsSome {T = ℕ} None = some.1 (omega arith) in cc)
+
+-- a refusal that is passed on
+pub passed_on : {X F : Type 0} (P : F → Type 0) (e : F) → P e → (r : Result X F) → IsErrAnd r (λ f. f ≡ e) → IfErr r P
+passed_on P e p (Ok x) h = tt
+passed_on P e p (Err f) h = subst P (sym h) p
+
+-- where there is a refusal there is nothing else
+no_answer : {X F : Type 0} (P : X → Type 0) (r : Result X F) → IsErr r → IfOk r P
+no_answer P (Ok x) bad = absurd (cc)
+no_answer P (Err f) bad = tt
+
+-- ---- the tables in their order
+
+-- a table stands after all before it
+pub after_all : (t : UnsoundTable) → take (number_of t) all_tables ≡ take (number_of t - 1) all_tables ++ t ∷ []
+after_all table.Desk = refl
+after_all table.Callers = refl
+after_all table.Kept = refl
+after_all table.Places = refl
+after_all table.Fixed = refl
+after_all table.Vehicles = refl
+after_all table.Riders = refl
+after_all table.Entries = refl
+after_all table.Trips = refl
+after_all table.Stops = refl
+after_all table.Travel = refl
+after_all table.RiderChairs = refl
+after_all table.VehicleChairs = refl
+after_all table.TripChairs = refl
+
+last_table : (t : UnsoundTable) → number_of t ≤ 14
+last_table table.Desk = omega arith
+last_table table.Callers = omega arith
+last_table table.Kept = omega arith
+last_table table.Places = omega arith
+last_table table.Fixed = omega arith
+last_table table.Vehicles = omega arith
+last_table table.Riders = omega arith
+last_table table.Entries = omega arith
+last_table table.Trips = omega arith
+last_table table.Stops = omega arith
+last_table table.Travel = omega arith
+last_table table.RiderChairs = omega arith
+last_table table.VehicleChairs = omega arith
+last_table table.TripChairs = omega arith
+
+each_first : {A : Type 0} (P : A → Type 0) (n : ℕ) (xs : List A) → Each P xs → Each P (take n xs)
+each_first P zero [] each = tt
+each_first P zero (x ∷ xs) each = tt
+each_first P (suc n) [] each = tt
+each_first P (suc n) (x ∷ xs) each = (each.0, each_first P n xs each.1)
+
+-- the agency's table is the first
+agency_first : (P : UnsoundTable → Type 0) (n : ℕ) → 0 < n → Each P (take n all_tables) → P table.Desk
+agency_first P zero some each = absurd (omega arith)
+agency_first P (suc n) some each = each.0
+
+-- what holds before a table and in it
+and_in : (P : UnsoundTable → Type 0) (t : UnsoundTable) → Each P (take (number_of t - 1) all_tables) → P t → Each P (take (number_of t) all_tables)
+and_in P t before here = subst (Each P) (sym (after_all t)) (each_push P (take (number_of t - 1) all_tables) t before here)
+
+all_stand : (s : State) (trees : Trees) (ts : List UnsoundTable) → Each (IsLaidIn s) ts → Each (IsSoundIn s) ts → Each (HasRowsIn s trees) ts → Each (StandsIn s trees) ts
+all_stand s trees [] laid sound rows = tt
+all_stand s trees (t ∷ ts) laid sound rows = (record { rows = rows.0; laid = laid.0; sound = sound.0 }, all_stand s trees ts laid.1 sound.1 rows.1)
+
+-- a sound state with these rows stands in all tables
+stands : (s : State) (trees : Trees) → IsSound s → KeepsRanges s → HasRows s trees → StandsTo 14 s trees
+stands s trees sound ranges has = (
+  record { rows = has.records.desk; laid = ranges.last_trip; sound = sound_in s sound table.Desk },
+  (
+    record { rows = has.records.callers; laid = (sound.callers.in_order, ranges.callers); sound = sound_in s sound table.Callers },
+    (
+      record { rows = has.records.kept; laid = (sound.kept_in_order, ranges.kept); sound = sound_in s sound table.Kept },
+      (
+        record { rows = has.records.places; laid = (sound.places.in_order, ranges.places); sound = sound_in s sound table.Places },
+        (
+          record { rows = has.records.fixed; laid = (sound.routes.in_order, ranges.routes); sound = sound_in s sound table.Fixed },
+          (
+            record { rows = has.records.vehicles; laid = (sound.vehicles_in_order, ranges.vehicles); sound = sound_in s sound table.Vehicles },
+            (
+              record { rows = has.records.riders; laid = (sound.riders.in_order, ranges.riders); sound = sound_in s sound table.Riders },
+              (
+                record { rows = has.records.entries; laid = (sound.entries_in_order, ranges.entries); sound = sound_in s sound table.Entries },
+                (
+                  record { rows = has.records.trips; laid = (sound.trips_in_order, ranges.trips); sound = sound_in s sound table.Trips },
+                  (
+                    record { rows = has.records.stops; laid = (sound.planned_in_order, ranges.planned); sound = sound_in s sound table.Stops },
+                    (
+                      record { rows = has.records.travel; laid = (sound.travel.in_order, ranges.travel); sound = sound_in s sound table.Travel },
+                      (
+                        record { rows = has.rider_chairs; laid = tt; sound = sound_in s sound table.RiderChairs },
+                        (
+                          record { rows = has.vehicle_chairs; laid = tt; sound = sound_in s sound table.VehicleChairs },
+                          (record { rows = has.trip_chairs; laid = tt; sound = sound_in s sound table.TripChairs }, tt),
+                        ),
+                      ),
+                    ),
+                  ),
+                ),
+              ),
+            ),
+          ),
+        ),
+      ),
+    ),
+  ),
+)
+
+-- rows that no content stands for are those of no sound state
+none_sound : (n : ℕ) (trees : Trees) → NoneStandsTo n trees → AreUnsound trees
+none_sound n trees none = λ s sound ranges has. none s (each_first (StandsIn s trees) n all_tables (stands s trees sound ranges has))
+
+-- ---- what a refusal tells
+
+abbrev code_of : OpenFault → ℕ
+code_of it = it.code
+
+-- a refusal for want of memory, or since the store failed
+pub tells_nothing : (trees : Trees) (it : OpenFault) → (it ≡ fault memory_refused) ⊎ (it ≡ fault store_refused) → TellsWhy trees it
+tells_nothing trees it (inl memory) =
+    let code : it.code ≡ 0 = ap code_of memory in
+    record {
+      version = λ same. let n : it.code ≡ 30 = same in absurd (omega arith);
+      rows = λ same. let n : it.code ≡ 31 = same in absurd (omega arith);
+      first = λ same. let n : it.code ≡ 31 = same in absurd (omega arith);
+    }
+tells_nothing trees it (inr store) =
+    let code : it.code ≡ 32 = ap code_of store in
+    record {
+      version = λ same. let n : it.code ≡ 30 = same in absurd (omega arith);
+      rows = λ same. let n : it.code ≡ 31 = same in absurd (omega arith);
+      first = λ same. let n : it.code ≡ 31 = same in absurd (omega arith);
+    }
+
+tells_rows : (trees : Trees) (number : ℕ) (it : OpenFault) → it ≡ unsound number → IsFirstAtFault trees number → TellsWhy trees it
+tells_rows trees number it is first =
+    let code : it.code ≡ 31 = ap code_of is in
+    record {
+      version = λ same. let n : it.code ≡ 30 = same in absurd (omega arith);
+      rows = λ same. none_sound number trees first.none;
+      first = λ same. subst (IsFirstAtFault trees) (sym (ap (λ (f : OpenFault). f.table) is)) first;
+    }
+
+tells_version : (trees : Trees) (it : OpenFault) → it ≡ fault tables_refused → HasOtherVersion trees → TellsWhy trees it
+tells_version trees it is version =
+    let code : it.code ≡ 30 = ap code_of is in
+    record {
+      version = λ same. version;
+      rows = λ same. let n : it.code ≡ 31 = same in absurd (omega arith);
+      first = λ same. let n : it.code ≡ 31 = same in absurd (omega arith);
+    }
+
+-- what is told of the rows is told of a database whose schema is the desk's
+pub tells_of : (db : Database) (it : OpenFault) → TellsWhy db.trees it → TellsOf db it
+tells_of db it why = record { tables = λ code. inr (why.version code); rows = why.rows; first = why.first }
+
+-- a database with another schema is refused as such
+pub tells_tables : (db : Database) (it : OpenFault) → it ≡ fault tables_refused → (db.schema ≡ desk_schema → ⊥) → TellsOf db it
+tells_tables db it is other =
+    let code : it.code ≡ 30 = ap code_of is in
+    record {
+      tables = λ same. inl other;
+      rows = λ same. let n : it.code ≡ 31 = same in absurd (omega arith);
+      first = λ same. let n : it.code ≡ 31 = same in absurd (omega arith);
+    }
+
+-- ---- one table is read
+
+pub puts_so : {X : Type 0} (t : UnsoundTable) (old new : Connected) (s : State) (r : Result X OpenFault) (x : X) → r ≡ Ok x → Rests old new r → (change made : Change) → change ≡ made
+    → IsReadIn t (applied made s)
+    → (HasCleanDisk new → old.now.schema ≡ desk_schema → HasRowsTo (number_of t - 1) s old.now.trees → HasRowsTo (number_of t) (applied made s) old.now.trees)
+    → ReadsTable t old new s (Ok change)
+puts_so t old new s r x is rests change made same read rows = record {
+  rests = last old new r x is rests (Ok change);
+  read = subst (λ (it : Change). IsReadIn t (applied it s)) (sym same) read;
+  rows = λ clean has before. subst (λ (it : Change). HasRowsTo (number_of t) (applied it s) old.now.trees) (sym same) (rows clean has before);
+  faults = tt;
+}
+
+pub fails_so : {X : Type 0} (t : UnsoundTable) (old new : Connected) (s : State) (r : Result X OpenFault) (e : OpenFault) (out : Result Change OpenFault) → IsErr out → IsErrAnd out (λ f. f ≡ e)
+    → Rests old new r → (P : Type 0) → (HasRowsTo (number_of t - 1) s old.now.trees → P → NoneStandsTo (number_of t) old.now.trees)
+    → IsFaultOf t (HasCleanDisk new → old.now.schema ≡ desk_schema → P) e → ReadsTable t old new s out
+fails_so t old new s r e out bad is rests P gives h = record {
+  rests = refused old new r out bad rests;
+  read = no_answer (λ change. IsReadIn t (applied change s)) out bad;
+  rows = λ clean has before. no_answer (λ change. HasRowsTo (number_of t) (applied change s) old.now.trees) out bad;
+  faults = passed_on _ e (told h) out is;
+}
+  where
+    told : IsFaultOf t (HasCleanDisk new → old.now.schema ≡ desk_schema → P) e
+        → IsFaultOf t (HasCleanDisk new → old.now.schema ≡ desk_schema → HasRowsTo (number_of t - 1) s old.now.trees → NoneStandsTo (number_of t) old.now.trees) e
+    told (inl memory) = inl memory
+    told (inr (inl store)) = inr (inl store)
+    told (inr (inr rows)) = inr (inr (rows.0, λ clean has before. gives before (rows.1 clean has)))
+
+-- ---- and judged
+
+pub judged_so : (t : UnsoundTable) (old new : Connected) (s : State) (read_as : Result Change OpenFault) (change : Change) → read_as ≡ Ok change → ReadsTable t old new s read_as
+    → (r : Result Listed OpenFault) → IfOk r (λ judged. judged.content ≡ applied change s) → IfOk r (λ judged. IsSoundIn (applied change s) t)
+    → IfErr r (λ it. (it ≡ fault memory_refused) ⊎ ((it ≡ unsound (number_of t)) × (IsSoundIn (applied change s) t → ⊥)))
+    → OpensTable t old new s r
+judged_so t old new s read_as change is h r content sound faults =
+    let it = subst (ReadsTable t old new s) is h in
+    go it r content sound faults (rests_so old new change it.rests r)
+  where
+    go : ReadsTable t old new s (Ok change) → (r : Result Listed OpenFault) → IfOk r (λ judged. judged.content ≡ applied change s) → IfOk r (λ judged. IsSoundIn (applied change s) t)
+        → IfErr r (λ it. (it ≡ fault memory_refused) ⊎ ((it ≡ unsound (number_of t)) × (IsSoundIn (applied change s) t → ⊥))) → Rests old new r → OpensTable t old new s r
+    go it (Ok keeper) content sound faults rests = record {
+      rests = rests;
+      read = subst (IsReadTo (number_of t)) (sym content)
+          (record { laid = it.read.laid; sound = and_in (IsSoundIn (applied change s)) t it.read.sound sound; later = it.read.later });
+      rows = λ clean has before. subst (λ (c : State). HasRowsTo (number_of t) c old.now.trees) (sym content) (it.rows clean has before);
+      faults = tt;
+    }
+    go it (Err f) content sound faults rests = record {
+      rests = rests;
+      read = tt;
+      rows = λ clean has before. tt;
+      faults = elim faults [
+        | inl memory ↦ inl memory
+        | inr told ↦ inr (inr (
+          told.0,
+          λ clean has before other others. told.1 (sound_there t other (applied change s) old.now.trees others it.read.laid (it.rows clean has before)),
+        ))
+      ];
+    }
+
+pub unread_so : (t : UnsoundTable) (old new : Connected) (s : State) (read_as : Result Change OpenFault) (e : OpenFault) → read_as ≡ Err e → ReadsTable t old new s read_as
+    → (out : Result Listed OpenFault) → IsErr out → IsErrAnd out (λ f. f ≡ e) → OpensTable t old new s out
+unread_so t old new s read_as e is h out bad same =
+    let it = subst (ReadsTable t old new s) is h in
+    record {
+      rests = refused {X = Change} old new (Err e) out bad it.rests;
+      read = no_answer (λ keeper. IsReadTo (number_of t) keeper.content) out bad;
+      rows = λ clean has before. no_answer (λ keeper. HasRowsTo (number_of t) keeper.content old.now.trees) out bad;
+      faults = passed_on _ e it.faults out same;
+    }
+
+-- ---- one after the other
+
+module _ (t : UnsoundTable) (old mid new : Connected) (keeper : Listed) (later : 1 < number_of t) (h : OpensTo (number_of t - 1) old mid (Ok keeper)) where
+  same_then : HasCleanDisk new → (r : Result Listed OpenFault) → OpensTable t mid new keeper.content r → old.now.schema ≡ desk_schema → mid.now ≡ old.now
+  same_then clean r k has = (h.rests.same (omega (arith, clean, k.rests.survives.clean)) has).0.now_is
+
+  before_then : HasCleanDisk new → (r : Result Listed OpenFault) → OpensTable t mid new keeper.content r → old.now.schema ≡ desk_schema → HasRowsTo (number_of t - 1) keeper.content old.now.trees
+  before_then clean r k has = h.rows (omega (arith, clean, k.rests.survives.clean)) has
+
+  -- no content stands where rows are at fault, and that of the tables before does
+  first_then : (r : Result Listed OpenFault) (k : OpensTable t mid new keeper.content r) (clean : HasCleanDisk new) (has : old.now.schema ≡ desk_schema)
+      → (HasCleanDisk new → mid.now.schema ≡ desk_schema → HasRowsTo (number_of t - 1) keeper.content mid.now.trees → NoneStandsTo (number_of t) mid.now.trees)
+      → IsFirstAtFault old.now.trees (number_of t)
+  first_then r k clean has none =
+      let same = same_then clean r k has in
+      let before = before_then clean r k has in
+      record {
+        none = subst (λ (db : Database). db.schema ≡ desk_schema → HasRowsTo (number_of t - 1) keeper.content db.trees → NoneStandsTo (number_of t) db.trees) same (none clean) has before;
+        before = λ _. (keeper.content, all_stand keeper.content old.now.trees (take (number_of t - 1) all_tables) h.read.laid h.read.sound before);
+      }
+
+  pub opens_then : (r : Result Listed OpenFault) → OpensTable t mid new keeper.content r → OpensTo (number_of t) old new r
+  opens_then r k = record {
+    rests = rests_then old mid keeper new h.rests r k.rests;
+    read = k.read;
+    rows = λ clean has.
+        subst (λ (db : Database). db.schema ≡ desk_schema → HasRowsTo (number_of t - 1) keeper.content db.trees → IfOk r (λ next. HasRowsTo (number_of t) next.content db.trees))
+        (same_then clean r k has) (k.rows clean) has (before_then clean r k has);
+    faults = refusals r k.faults;
+    why = λ clean has. whys r k clean has;
+    version = λ clean has. spared clean has r (agency_first (HasRowsIn keeper.content old.now.trees) (number_of t - 1) (omega arith) (before_then clean r k has));
+  }
+    where
+      refusals : (r : Result Listed OpenFault) → IfErr r (IsFaultOf t (HasCleanDisk new → mid.now.schema ≡ desk_schema
+          → HasRowsTo (number_of t - 1) keeper.content mid.now.trees → NoneStandsTo (number_of t) mid.now.trees)) → IfErr r IsRefusal
+      refusals (Ok next) faults = tt
+      refusals (Err f) (inl memory) = inl memory
+      refusals (Err f) (inr (inl store)) = inr (inl store)
+      refusals (Err f) (inr (inr rows)) = inr (inr (inr (number_of t, omega arith, last_table t, rows.0)))
+
+      whys : (r : Result Listed OpenFault) (k : OpensTable t mid new keeper.content r) → HasCleanDisk new → old.now.schema ≡ desk_schema → IfErr r (TellsWhy old.now.trees)
+      whys (Ok next) k clean has = tt
+      whys (Err f) k clean has = elim k.faults [
+        | inl memory ↦ tells_nothing old.now.trees f (inl memory)
+        | inr other ↦ elim other [
+          | inl store ↦ tells_nothing old.now.trees f (inr store)
+          | inr rows ↦ tells_rows old.now.trees (number_of t) f rows.0 (first_then (Err f) k clean has rows.1)
+        ]
+      ]
+
+      spared : HasCleanDisk new → old.now.schema ≡ desk_schema → (r : Result Listed OpenFault) → HasRowsIn keeper.content old.now.trees table.Desk → IfErr r (SparesOtherVersion old.now.trees)
+      spared clean has (Ok next) are = tt
+      spared clean has (Err f) are = spares_none old.now.trees keeper.content.policy keeper.content.last_trip are f
+
+-- a refusal ends the reading
+pub ends_so : (n m : ℕ) (old new : Connected) (e : OpenFault) (out : Result Listed OpenFault) → IsErr out → IsErrAnd out (λ f. f ≡ e) → OpensTo n old new (Err e) → OpensTo m old new out
+ends_so n m old new e out bad same h = record {
+  rests = refused {X = Listed} old new (Err e) out bad h.rests;
+  read = no_answer (λ keeper. IsReadTo m keeper.content) out bad;
+  rows = λ clean has. no_answer (λ keeper. HasRowsTo m keeper.content old.now.trees) out bad;
+  faults = passed_on _ e h.faults out same;
+  why = λ clean has. passed_on _ e (h.why clean has) out same;
+  version = λ clean has. passed_on _ e (h.version clean has) out same;
+}
+
+-- ---- the first table
+
+abbrev pub IsAgencyFault : Connected → Connected → OpenFault → Type 0
+IsAgencyFault old new it =
+    (it ≡ fault memory_refused) ⊎ ((it ≡ fault store_refused)
+    ⊎ (((it ≡ fault tables_refused) × (HasCleanDisk new → old.now.schema ≡ desk_schema → HasOtherVersion old.now.trees))
+    ⊎ ((it ≡ unsound 1) × (HasCleanDisk new → old.now.schema ≡ desk_schema → NoneStandsTo 1 old.now.trees))))
+
+agency_refusal : (old new : Connected) (it : OpenFault) → IsAgencyFault old new it → IsRefusal it
+agency_refusal old new it (inl memory) = inl memory
+agency_refusal old new it (inr (inl store)) = inr (inl store)
+agency_refusal old new it (inr (inr (inl version))) = inr (inr (inl version.0))
+agency_refusal old new it (inr (inr (inr rows))) = inr (inr (inr (1, omega arith, omega arith, rows.0)))
+
+agency_tells : (old new : Connected) (it : OpenFault) → IsAgencyFault old new it → HasCleanDisk new → old.now.schema ≡ desk_schema → TellsWhy old.now.trees it
+agency_tells old new it (inl memory) clean has = tells_nothing old.now.trees it (inl memory)
+agency_tells old new it (inr (inl store)) clean has = tells_nothing old.now.trees it (inr store)
+agency_tells old new it (inr (inr (inl version))) clean has = tells_version old.now.trees it version.0 (version.1 clean has)
+agency_tells old new it (inr (inr (inr rows))) clean has =
+    tells_rows old.now.trees 1 it rows.0 (record { none = rows.1 clean has; before = λ no. absurd (omega arith) })
+
+pub agency_fails : {X : Type 0} (old new : Connected) (r : Result X OpenFault) (e : OpenFault) → Rests old new r → IsAgencyFault old new e
+    → (HasCleanDisk new → old.now.schema ≡ desk_schema → SparesOtherVersion old.now.trees e) → (out : Result Listed OpenFault) → IsErr out → IsErrAnd out (λ f. f ≡ e)
+    → OpensTo 1 old new out
+agency_fails old new r e rests faults version out bad same = record {
+  rests = refused old new r out bad rests;
+  read = no_answer (λ keeper. IsReadTo 1 keeper.content) out bad;
+  rows = λ clean has. no_answer (λ keeper. HasRowsTo 1 keeper.content old.now.trees) out bad;
+  faults = passed_on _ e (agency_refusal old new e faults) out same;
+  why = λ clean has. passed_on _ e (agency_tells old new e faults clean has) out same;
+  version = λ clean has. passed_on _ e (version clean has) out same;
+}
+
+pub agency_opens : (old new : Connected) (r : Result (Policy × ℕ) OpenFault) (agency : Policy × ℕ) → r ≡ Ok agency → Rests old new r
+    → (HasCleanDisk new → old.now.schema ≡ desk_schema → IsAgencyOf old.now.trees agency) → (out : Result Listed OpenFault) → IfOk out (λ keeper. keeper.content.policy ≡ agency.0)
+    → IfOk out (λ keeper. keeper.content.last_trip ≡ agency.1) → IfOk out (λ keeper. IsWord keeper.content.last_trip) → IfOk out (λ keeper. Each (HasNoneIn keeper.content) all_tables)
+    → IfErr out (λ it. it ≡ fault memory_refused) → OpensTo 1 old new out
+agency_opens old new r agency is rests of (Ok keeper) policy trip word none memory = record {
+  rests = last old new r agency is rests (Ok keeper);
+  read = record { laid = (word, tt); sound = (tt, tt); later = none.1 };
+  rows = λ clean has. (subst₂ (λ (p : Policy) (n : ℕ). AreRows desk_table old.now.trees (desk_row p n ∷ [])) (sym policy) (sym trip) (of clean has).row_is, tt);
+  faults = tt;
+  why = λ clean has. tt;
+  version = λ clean has. tt;
+}
+agency_opens old new r agency is rests of (Err f) policy trip word none memory = record {
+  rests = last old new r agency is rests (Err f);
+  read = tt;
+  rows = λ clean has. tt;
+  faults = inl memory;
+  why = λ clean has. tells_nothing old.now.trees f (inl memory);
+  version = λ clean has. spares_by_store old.now.trees f (inl memory);
+}
+
+-- ---- all tables
+
+pub all_rows : (s : State) (trees : Trees) → HasRowsTo 14 s trees → HasRows s trees
+all_rows s trees each = record {
+  records = record {
+    desk = each.0;
+    callers = each.1.0;
+    kept = each.1.1.0;
+    places = each.1.1.1.0;
+    fixed = each.1.1.1.1.0;
+    vehicles = each.1.1.1.1.1.0;
+    riders = each.1.1.1.1.1.1.0;
+    entries = each.1.1.1.1.1.1.1.0;
+    trips = each.1.1.1.1.1.1.1.1.0;
+    stops = each.1.1.1.1.1.1.1.1.1.0;
+    travel = each.1.1.1.1.1.1.1.1.1.1.0;
+  };
+  rider_chairs = each.1.1.1.1.1.1.1.1.1.1.1.0;
+  vehicle_chairs = each.1.1.1.1.1.1.1.1.1.1.1.1.0;
+  trip_chairs = each.1.1.1.1.1.1.1.1.1.1.1.1.1.0;
+}
+
+pub all_sound : (s : State) → IsReadTo 14 s → IsSound s
+all_sound s read = sound_of s read.sound
+
+pub all_well_formed : (s : State) → IsReadTo 14 s → IsWellFormed s
+all_well_formed s read =
+    let callers : IsLaidIn s table.Callers = read.laid.1.0 in
+    let kept : IsLaidIn s table.Kept = read.laid.1.1.0 in
+    let places : IsLaidIn s table.Places = read.laid.1.1.1.0 in
+    let routes : IsLaidIn s table.Fixed = read.laid.1.1.1.1.0 in
+    let vehicles : IsLaidIn s table.Vehicles = read.laid.1.1.1.1.1.0 in
+    let riders : IsLaidIn s table.Riders = read.laid.1.1.1.1.1.1.0 in
+    let entries : IsLaidIn s table.Entries = read.laid.1.1.1.1.1.1.1.0 in
+    let trips : IsLaidIn s table.Trips = read.laid.1.1.1.1.1.1.1.1.0 in
+    let planned : IsLaidIn s table.Stops = read.laid.1.1.1.1.1.1.1.1.1.0 in
+    let travel : IsLaidIn s table.Travel = read.laid.1.1.1.1.1.1.1.1.1.1.0 in
+    record {
+      callers = callers.0;
+      kept = kept.0;
+      replies = Each-weaker FitsKept HasReply (λ it fits. fits.reply) s.kept kept.1;
+      places = places.0;
+      routes = routes.0;
+      lines = Each-weaker FitsRoute IsLaid (λ route fits. (fits.fixed.on_plane, fits.days)) s.routes routes.1;
+      riders = riders.0;
+      entries = entries.0;
+      filed = Each-weaker FitsFiled IsFiled (λ it fits. (fits.position, grants_in_range it.entered.entry fits.entry)) s.entries entries.1;
+      vehicles = vehicles.0;
+      versions = Each-weaker FitsVehicle IsVersion (λ version fits. (day-word version.from_day fits.from_day, fits.days)) s.vehicles vehicles.1;
+      travel = travel.0;
+      rows = Each-weaker FitsTravel HasRisingRows (λ it fits. fits.table.in_order) s.travel travel.1;
+      trips = trips.0;
+      planned = planned.0;
+      stops = Each-weaker FitsPlan IsStoredPlan (λ plan fits. (day-word plan.day fits.day, fits.some)) s.planned planned.1;
+    }

@@ -1,0 +1,23 @@
+use Rattle.std.proofs.Common.{ap}
+use Rattle.sqlite.specs.Held.{state}
+use Rattle.pt_desk_rules.specs.declared.change.Change.{Change}
+use Rattle.pt_soundness.specs.declared.unsound_table.UnsoundTable.TheVariants as table
+use Rattle.pt_tables_opening.specs.Told.{AreRowsOfNone}
+use Rattle.pt_tables_opening.proofs.StepLemmas.{fails_so, puts_so}
+use Rattle.pt_tables_opening.proofs.TableReads.{planned_none, planned_read, planned_shown, puts_planned}
+use Rattle.pt_tables_opening.proofs.changes.planned_change.Goals as goal
+
+pub returns : goal.returns
+returns g c s read =
+    let old = state g.S.Store c.args.conn.now in
+    let edit = c.in_ok-planned.planned in
+    let fits = c.in_ok-planned.ensures.fitting in
+    puts_so table.Stops old (state g.S.Store c.planned_in.new.conn) s c.planned_in.result edit c.in_ok-planned.was c.planned_in.ensures.rests _ (puts_planned edit)
+    (ap (λ (change : Change). record change { planned = edit }) c.no_change.ensures) (planned_read s edit read fits)
+    (λ clean has before. planned_shown s old.now.trees edit read fits (c.in_ok-planned.ensures.told clean has).rows_are before)
+
+pub returns-in_err-planned : goal.returns-in_err-planned
+returns-in_err-planned g c s read =
+    let old = state g.S.Store c.args.conn.now in
+    fails_so table.Stops old (state g.S.Store c.planned_in.new.conn) s c.planned_in.result _ c.from_residual.result c.from_residual.ensures.0 c.from_residual.ensures.1 c.planned_in.ensures.rests
+    _ (λ before none. planned_none old.now.trees none) c.in_err-planned.ensures.faults

@@ -1,0 +1,23 @@
+use Rattle.std.proofs.Common.{ap}
+use Rattle.sqlite.specs.Held.{state}
+use Rattle.pt_desk_rules.specs.declared.change.Change.{Change}
+use Rattle.pt_soundness.specs.declared.unsound_table.UnsoundTable.TheVariants as table
+use Rattle.pt_tables_opening.specs.Told.{AreRowsOfNone}
+use Rattle.pt_tables_opening.proofs.StepLemmas.{fails_so, puts_so}
+use Rattle.pt_tables_opening.proofs.TableReads.{riders_none, riders_read, riders_shown, puts_riders}
+use Rattle.pt_tables_opening.proofs.changes.riders_change.Goals as goal
+
+pub returns : goal.returns
+returns g c s read =
+    let old = state g.S.Store c.args.conn.now in
+    let edit = c.in_ok-riders.riders in
+    let fits = c.in_ok-riders.ensures.fitting in
+    puts_so table.Riders old (state g.S.Store c.table_of.new.conn) s c.table_of.result edit c.in_ok-riders.was c.table_of.ensures.rests _ (puts_riders edit)
+    (ap (λ (change : Change). record change { riders = edit }) c.no_change.ensures) (riders_read s edit read fits)
+    (λ clean has before. riders_shown s old.now.trees edit read fits (c.in_ok-riders.ensures.told clean has).rows_are before)
+
+pub returns-in_err-riders : goal.returns-in_err-riders
+returns-in_err-riders g c s read =
+    let old = state g.S.Store c.args.conn.now in
+    fails_so table.Riders old (state g.S.Store c.table_of.new.conn) s c.table_of.result _ c.from_residual.result c.from_residual.ensures.0 c.from_residual.ensures.1 c.table_of.ensures.rests
+    _ (λ before none. riders_none old.now.trees none) c.in_err-riders.ensures.faults

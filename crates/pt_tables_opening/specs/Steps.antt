@@ -1,0 +1,87 @@
+-- What an opening does, table after table: it reads the rows of one, and judges it before it reads the next.
+use Rattle.std.specs.Prelude.{◌≡◌, ◌⊎◌, ℕ, ◌-◌, [], take, drop, Result, IfOk, IfErr}
+use Rattle.sqlite.specs.State.{State as Connected, HasCleanDisk}
+use Rattle.sqlite.specs.Tree.{Trees}
+use Rattle.pt_base.specs.Codes.{memory_refused}
+use Rattle.pt_desk.specs.Listed.{Listed}
+use Rattle.pt_desk_rules.specs.State.{State, applied}
+use Rattle.pt_desk_rules.specs.declared.change.Change.{Change}
+use Rattle.pt_records.specs.Records.{Each}
+use Rattle.pt_soundness.specs.Tables.{all_tables, number_of, IsSoundBefore, IsSoundTo}
+use Rattle.pt_soundness.specs.declared.unsound_table.UnsoundTable.{UnsoundTable}
+use Rattle.pt_soundness.specs.declared.unsound_table.UnsoundTable.TheVariants as table
+use Rattle.pt_tables_opening.specs.Faults.{IsRefusal, fault, store_refused, unsound}
+use Rattle.pt_tables_opening.specs.Opening.{Rests}
+use Rattle.pt_tables_opening.specs.Refused.{SparesOtherVersion, TellsWhy}
+use Rattle.pt_tables_opening.specs.Standing.{HasRowsIn, IsLaidIn, NoneStandsTo}
+use Rattle.pt_tables_opening.specs.declared.open_fault.OpenFault.{OpenFault}
+use Rattle.pt_tables_rows.specs.Schema.{desk_schema}
+
+-- no record of this table was read yet
+abbrev pub HasNoneIn : State → UnsoundTable → Type 0
+HasNoneIn s table.Desk = Unit {0}
+HasNoneIn s table.Callers = s.callers ≡ []
+HasNoneIn s table.Kept = s.kept ≡ []
+HasNoneIn s table.Places = s.places ≡ []
+HasNoneIn s table.Fixed = s.routes ≡ []
+HasNoneIn s table.Vehicles = s.vehicles ≡ []
+HasNoneIn s table.Riders = s.riders ≡ []
+HasNoneIn s table.Entries = s.entries ≡ []
+HasNoneIn s table.Trips = s.trips ≡ []
+HasNoneIn s table.Stops = s.planned ≡ []
+HasNoneIn s table.Travel = s.travel ≡ []
+HasNoneIn s table.RiderChairs = Unit {0}
+HasNoneIn s table.VehicleChairs = Unit {0}
+HasNoneIn s table.TripChairs = Unit {0}
+
+-- the first so many tables were read and found sound, and no other
+pub record IsReadTo (number : ℕ) (s : State) : Type 0 where
+  pub laid : Each (IsLaidIn s) (take number all_tables)
+  pub sound : IsSoundTo number s
+  pub later : Each (HasNoneIn s) (drop number all_tables)
+
+-- this table too was read, and not yet judged
+pub record IsReadIn (table : UnsoundTable) (s : State) : Type 0 where
+  pub laid : Each (IsLaidIn s) (take (number_of table) all_tables)
+  pub sound : IsSoundBefore s table
+  pub later : Each (HasNoneIn s) (drop (number_of table) all_tables)
+
+-- the rows of the first so many tables are the content's
+abbrev pub HasRowsTo : ℕ → State → Trees → Type 0
+HasRowsTo number s trees = Each (HasRowsIn s trees) (take number all_tables)
+
+-- memory was refused, the store failed, or the rows are at fault for this reason
+abbrev pub IsFaultOf : UnsoundTable → Type 0 → OpenFault → Type 0
+IsFaultOf table Why refused =
+    (refused ≡ fault memory_refused)
+    ⊎ ((refused ≡ fault store_refused) ⊎ ((refused ≡ unsound (number_of table)) × Why))
+
+-- A table is read where this content has the rows of all before it: the change adds what the rows tell.
+pub record ReadsTable (table : UnsoundTable) (old new : Connected) (s : State) (result : Result Change OpenFault)
+    : Type 0 where
+  pub rests : Rests old new result
+  pub read : IfOk result (λ change. IsReadIn table (applied change s))
+  pub rows : HasCleanDisk new → old.now.schema ≡ desk_schema → HasRowsTo (number_of table - 1) s old.now.trees
+      → IfOk result (λ change. HasRowsTo (number_of table) (applied change s) old.now.trees)
+  pub faults : IfErr result (IsFaultOf table (HasCleanDisk new → old.now.schema ≡ desk_schema
+      → HasRowsTo (number_of table - 1) s old.now.trees → NoneStandsTo (number_of table) old.now.trees))
+
+-- and it is judged
+pub record OpensTable (table : UnsoundTable) (old new : Connected) (s : State) (result : Result Listed OpenFault)
+    : Type 0 where
+  pub rests : Rests old new result
+  pub read : IfOk result (λ keeper. IsReadTo (number_of table) keeper.content)
+  pub rows : HasCleanDisk new → old.now.schema ≡ desk_schema → HasRowsTo (number_of table - 1) s old.now.trees
+      → IfOk result (λ keeper. HasRowsTo (number_of table) keeper.content old.now.trees)
+  pub faults : IfErr result (IsFaultOf table (HasCleanDisk new → old.now.schema ≡ desk_schema
+      → HasRowsTo (number_of table - 1) s old.now.trees → NoneStandsTo (number_of table) old.now.trees))
+
+-- the first so many tables are read and judged, one after the other
+pub record OpensTo (number : ℕ) (old new : Connected) (result : Result Listed OpenFault) : Type 0 where
+  pub rests : Rests old new result
+  pub read : IfOk result (λ keeper. IsReadTo number keeper.content)
+  pub rows : HasCleanDisk new → old.now.schema ≡ desk_schema
+      → IfOk result (λ keeper. HasRowsTo number keeper.content old.now.trees)
+  pub faults : IfErr result IsRefusal
+  pub why : HasCleanDisk new → old.now.schema ≡ desk_schema → IfErr result (TellsWhy old.now.trees)
+  pub version : HasCleanDisk new → old.now.schema ≡ desk_schema → IfErr result (SparesOtherVersion old.now.trees)

@@ -1,0 +1,255 @@
+//! What the rows of each table make of a desk that has the tables before it.
+
+ghost use Rattle.sqlite.specs.Held.{state};
+ghost use Rattle.pt_desk_rules.specs.State.{State};
+ghost use Rattle.pt_soundness.specs.Tables.{number_of};
+ghost use Rattle.pt_tables_opening.specs.Steps.{IsReadTo, ReadsTable};
+ghost use Rattle.std.specs.Prelude.{◌-◌, ◌<◌};
+
+use crate::OpenFault;
+use crate::beside::beside_in;
+use crate::content::no_change;
+use crate::plans::planned_in;
+use crate::records::table_of;
+use crate::travel::travel_in;
+use pt_desk::ListKeeper;
+use pt_desk_rules::Change;
+use pt_soundness::UnsoundTable;
+use sqlite::{Alter, Connection};
+use std::alloc::Global;
+
+/// The number of the table of callers.
+const CALLERS: u8 = 2;
+
+/// The number of the table of what callers were last told.
+const KEPT: u8 = 3;
+
+/// The number of the table of places.
+const PLACES: u8 = 4;
+
+/// The number of the table of fixed routes.
+const FIXED: u8 = 5;
+
+/// The number of the table of vehicles.
+const VEHICLES: u8 = 6;
+
+/// The number of the table of riders.
+const RIDERS: u8 = 7;
+
+/// The number of the table of what was entered on riders.
+const ENTRIES: u8 = 8;
+
+/// The number of the table of trips.
+const TRIPS: u8 = 9;
+
+/// The number of the table of riders in wheelchairs.
+const RIDER_CHAIRS: u8 = 12;
+
+/// The number of the table of wheelchair places of vehicles.
+const VEHICLE_CHAIRS: u8 = 13;
+
+/// The number of the table of trips of riders in wheelchairs.
+const TRIP_CHAIRS: u8 = 14;
+
+/// The callers, to be put.
+fn callers_change<S: Alter>(alloc: Global, conn: &mut Connection<S>) -> Result<Change, OpenFault>
+    ensures { (s : State) → IsReadTo 1 s
+        → ReadsTable UnsoundTable.Callers (state S.Store conn.old) (state S.Store conn.new) s result }
+{
+    let callers = table_of(alloc, conn, CALLERS)?;
+    Ok(Change {
+        callers,
+        ..no_change(alloc)
+    })
+}
+
+/// What callers were last told, to be put.
+fn kept_change<S: Alter>(alloc: Global, conn: &mut Connection<S>) -> Result<Change, OpenFault>
+    ensures { (s : State) → IsReadTo 2 s
+        → ReadsTable UnsoundTable.Kept (state S.Store conn.old) (state S.Store conn.new) s result }
+{
+    let kept = table_of(alloc, conn, KEPT)?;
+    Ok(Change {
+        kept,
+        ..no_change(alloc)
+    })
+}
+
+/// The places, to be put.
+fn places_change<S: Alter>(alloc: Global, conn: &mut Connection<S>) -> Result<Change, OpenFault>
+    ensures { (s : State) → IsReadTo 3 s
+        → ReadsTable UnsoundTable.Places (state S.Store conn.old) (state S.Store conn.new) s result }
+{
+    let places = table_of(alloc, conn, PLACES)?;
+    Ok(Change {
+        places,
+        ..no_change(alloc)
+    })
+}
+
+/// The fixed routes, to be put.
+fn routes_change<S: Alter>(alloc: Global, conn: &mut Connection<S>) -> Result<Change, OpenFault>
+    ensures { (s : State) → IsReadTo 4 s
+        → ReadsTable UnsoundTable.Fixed (state S.Store conn.old) (state S.Store conn.new) s result }
+{
+    let routes = table_of(alloc, conn, FIXED)?;
+    Ok(Change {
+        routes,
+        ..no_change(alloc)
+    })
+}
+
+/// The vehicles, with no wheelchair places yet, to be put.
+fn vehicles_change<S: Alter>(alloc: Global, conn: &mut Connection<S>) -> Result<Change, OpenFault>
+    ensures { (s : State) → IsReadTo 5 s
+        → ReadsTable UnsoundTable.Vehicles (state S.Store conn.old) (state S.Store conn.new) s result }
+{
+    let vehicles = table_of(alloc, conn, VEHICLES)?;
+    Ok(Change {
+        vehicles,
+        ..no_change(alloc)
+    })
+}
+
+/// The riders, in no wheelchairs yet, to be put.
+fn riders_change<S: Alter>(alloc: Global, conn: &mut Connection<S>) -> Result<Change, OpenFault>
+    ensures { (s : State) → IsReadTo 6 s
+        → ReadsTable UnsoundTable.Riders (state S.Store conn.old) (state S.Store conn.new) s result }
+{
+    let riders = table_of(alloc, conn, RIDERS)?;
+    Ok(Change {
+        riders,
+        ..no_change(alloc)
+    })
+}
+
+/// What was entered on riders, to be put.
+fn entries_change<S: Alter>(alloc: Global, conn: &mut Connection<S>) -> Result<Change, OpenFault>
+    ensures { (s : State) → IsReadTo 7 s
+        → ReadsTable UnsoundTable.Entries (state S.Store conn.old) (state S.Store conn.new) s result }
+{
+    let entries = table_of(alloc, conn, ENTRIES)?;
+    Ok(Change {
+        entries,
+        ..no_change(alloc)
+    })
+}
+
+/// The trips, in no wheelchairs yet, to be put.
+fn trips_change<S: Alter>(alloc: Global, conn: &mut Connection<S>) -> Result<Change, OpenFault>
+    ensures { (s : State) → IsReadTo 8 s
+        → ReadsTable UnsoundTable.Trips (state S.Store conn.old) (state S.Store conn.new) s result }
+{
+    let trips = table_of(alloc, conn, TRIPS)?;
+    Ok(Change {
+        trips,
+        ..no_change(alloc)
+    })
+}
+
+/// The planned routes, to be put.
+fn planned_change<S: Alter>(alloc: Global, conn: &mut Connection<S>) -> Result<Change, OpenFault>
+    ensures { (s : State) → IsReadTo 9 s
+        → ReadsTable UnsoundTable.Stops (state S.Store conn.old) (state S.Store conn.new) s result }
+{
+    let planned = planned_in(alloc, conn)?;
+    Ok(Change {
+        planned,
+        ..no_change(alloc)
+    })
+}
+
+/// The travel tables, to be put.
+fn travel_change<S: Alter>(alloc: Global, conn: &mut Connection<S>) -> Result<Change, OpenFault>
+    ensures { (s : State) → IsReadTo 10 s
+        → ReadsTable UnsoundTable.Travel (state S.Store conn.old) (state S.Store conn.new) s result }
+{
+    let travel = travel_in(alloc, conn)?;
+    Ok(Change {
+        travel,
+        ..no_change(alloc)
+    })
+}
+
+/// The riders, some of them in wheelchairs, to be put.
+fn rider_chairs_change<S: Alter>(
+    alloc: Global,
+    conn: &mut Connection<S>,
+    keeper: &ListKeeper,
+) -> Result<Change, OpenFault>
+    requires before { IsReadTo 11 keeper.now.content }
+    ensures { ReadsTable UnsoundTable.RiderChairs (state S.Store conn.old) (state S.Store conn.new) keeper.now.content result }
+{
+    let riders = beside_in(alloc, conn, keeper.riders_table().as_slice(), RIDER_CHAIRS)?;
+    Ok(Change {
+        riders,
+        ..no_change(alloc)
+    })
+}
+
+/// The vehicles with their wheelchair places, to be put.
+fn vehicle_chairs_change<S: Alter>(
+    alloc: Global,
+    conn: &mut Connection<S>,
+    keeper: &ListKeeper,
+) -> Result<Change, OpenFault>
+    requires before { IsReadTo 12 keeper.now.content }
+    ensures { ReadsTable UnsoundTable.VehicleChairs (state S.Store conn.old) (state S.Store conn.new) keeper.now.content result }
+{
+    let vehicles = beside_in(
+        alloc,
+        conn,
+        keeper.vehicles_table().as_slice(),
+        VEHICLE_CHAIRS,
+    )?;
+    Ok(Change {
+        vehicles,
+        ..no_change(alloc)
+    })
+}
+
+/// The trips, some of them in wheelchairs, to be put.
+fn trip_chairs_change<S: Alter>(
+    alloc: Global,
+    conn: &mut Connection<S>,
+    keeper: &ListKeeper,
+) -> Result<Change, OpenFault>
+    requires before { IsReadTo 13 keeper.now.content }
+    ensures { ReadsTable UnsoundTable.TripChairs (state S.Store conn.old) (state S.Store conn.new) keeper.now.content result }
+{
+    let trips = beside_in(alloc, conn, keeper.trips_table().as_slice(), TRIP_CHAIRS)?;
+    Ok(Change {
+        trips,
+        ..no_change(alloc)
+    })
+}
+
+/// What the rows of a table tell, to be put into a desk that has the tables before it: code 31 where no records in the
+/// order of their keys have them, 32 where the store refused or failed, and 0 where memory was refused.
+pub(crate) fn change_in<S: Alter>(
+    alloc: Global,
+    conn: &mut Connection<S>,
+    keeper: &ListKeeper,
+    table: UnsoundTable,
+) -> Result<Change, OpenFault>
+    requires later { 1 < number_of table }
+    requires before { IsReadTo (number_of table - 1) keeper.now.content }
+    ensures { ReadsTable table (state S.Store conn.old) (state S.Store conn.new) keeper.now.content result }
+{
+    match table {
+        UnsoundTable::Desk => Ok(no_change(alloc)),
+        UnsoundTable::Callers => callers_change(alloc, conn),
+        UnsoundTable::Kept => kept_change(alloc, conn),
+        UnsoundTable::Places => places_change(alloc, conn),
+        UnsoundTable::Fixed => routes_change(alloc, conn),
+        UnsoundTable::Vehicles => vehicles_change(alloc, conn),
+        UnsoundTable::Riders => riders_change(alloc, conn),
+        UnsoundTable::Entries => entries_change(alloc, conn),
+        UnsoundTable::Trips => trips_change(alloc, conn),
+        UnsoundTable::Stops => planned_change(alloc, conn),
+        UnsoundTable::Travel => travel_change(alloc, conn),
+        UnsoundTable::RiderChairs => rider_chairs_change(alloc, conn, keeper),
+        UnsoundTable::VehicleChairs => vehicle_chairs_change(alloc, conn, keeper),
+        UnsoundTable::TripChairs => trip_chairs_change(alloc, conn, keeper),
+    }
+}
