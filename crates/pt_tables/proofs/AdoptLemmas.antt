@@ -11,6 +11,7 @@ use Rattle.pt_tables_opening.specs.Opening.{IsReopened, Rests, Stays}
 use Rattle.pt_tables_rows.specs.Schema.{desk_schema}
 use Rattle.pt_tables_rows.specs.Tables.{HasRows, Stands}
 use Rattle.pt_tables_opening.specs.Refused.{AreUnsound, HasOtherTables, ListsOthers, TellsOf}
+use Rattle.pt_tables_opening.specs.Standing.{IsFirstAtFault}
 use Rattle.pt_tables_opening.specs.Told.{HasOtherVersion}
 use Rattle.pt_tables_opening.specs.declared.open_fault.OpenFault.{OpenFault}
 use Rattle.pt_tables_rows.specs.WellFormed.{IsWellFormed}
@@ -56,6 +57,10 @@ stays_same s = record { was_open = λ here. here; now = λ _ _. refl; committed 
 
 pub unsound_committed : (old mid : Connected) (refused : OpenFault) → IsReopened old mid → TellsOf mid.now refused → refused.code ≡ rows_refused → AreUnsound old.committed.trees
 unsound_committed old mid refused anew why code = subst AreUnsound anew.rows (why.rows code)
+
+pub first_committed : (old mid : Connected) (refused : OpenFault) → IsReopened old mid → TellsOf mid.now refused → refused.code ≡ rows_refused
+    → IsFirstAtFault old.committed.trees refused.table
+first_committed old mid refused anew why code = subst (λ trees. IsFirstAtFault trees refused.table) anew.rows (why.first code)
 
 pub others_committed : (old mid : Connected) (refused : OpenFault) → IsReopened old mid → TellsOf mid.now refused → refused.code ≡ tables_refused → HasOtherTables old.committed.trees
 others_committed old mid refused anew why code = elim (why.tables code) [

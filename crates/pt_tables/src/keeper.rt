@@ -14,6 +14,7 @@ ghost use Rattle.pt_tables_writing.specs.Least.{IsNew, IsAsBefore, IsInUse, IsUn
 ghost use Rattle.pt_tables_writing.specs.Least.{IsNewDesk, IsLeastDesk};
 ghost use Rattle.pt_tables_opening.specs.Opening.{IsReopened};
 ghost use Rattle.pt_tables_opening.specs.Refused.{AreUnsound, HasOtherTables, SparesOtherVersion};
+ghost use Rattle.pt_tables_opening.specs.Standing.{IsFirstAtFault};
 ghost use Rattle.pt_tables_rows.specs.Schema.{no_schema};
 ghost use Rattle.pt_tables_rows.specs.Tables.{HasRows, IsKept};
 
@@ -229,8 +230,8 @@ impl<S: Alter + Drop> SqlKeeper<S> {
     /// Opens a database that has the desk's tables: their content is read into memory, and nothing is written.
     ///
     /// A refusal hands the store back: code 30 where the tables are not the desk's, or are of another version; 31 with
-    /// the number of a table whose rows are those of no sound state; 32 where a transaction is open or the store
-    /// failed; 0 where memory was refused.
+    /// the number of the first table at fault, where the rows are those of no sound state; 32 where a transaction is
+    /// open or the store failed; 0 where memory was refused.
     pub fn adopt(alloc: Global, conn: Connection<S>) -> Result<SqlKeeper<S>, (S, OpenFault)>
         ensures sound { IfOk result (λ keeper. IsSound keeper.mirror.content) }
         ensures rows { IfOk result (λ keeper. HasCleanDisk (state S.Store keeper.conn)
@@ -250,6 +251,9 @@ impl<S: Alter + Drop> SqlKeeper<S> {
             → refused.1.code ≡ tables_refused → HasOtherTables (state S.Store conn).committed.trees) }
         ensures unsound { IfErr result (λ refused. IsClean (S.Store.view refused.0)
             → refused.1.code ≡ rows_refused → AreUnsound (state S.Store conn).committed.trees) }
+        ensures first { IfErr result (λ refused. IsClean (S.Store.view refused.0)
+            → refused.1.code ≡ rows_refused
+            → IsFirstAtFault (state S.Store conn).committed.trees refused.1.table) }
         ensures version { IfErr result (λ refused. IsClean (S.Store.view refused.0)
             → SparesOtherVersion (state S.Store conn).committed.trees refused.1) }
         ensures in_use { IsTrue (state S.Store conn).in_transaction

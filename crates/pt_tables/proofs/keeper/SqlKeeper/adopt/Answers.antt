@@ -4,7 +4,7 @@ use Rattle.sqlite.specs.State.{HasCleanDisk}
 use Rattle.pt_tables_opening.specs.Opening.{Rests}
 use Rattle.pt_tables_opening.specs.Refused.{SparesOtherVersion}
 use Rattle.pt_tables_rows.specs.Tables.{HasRows}
-use Rattle.pt_tables.proofs.AdoptLemmas.{adopted, handed_back, left_before, others_committed, unsound_committed}
+use Rattle.pt_tables.proofs.AdoptLemmas.{adopted, first_committed, handed_back, left_before, others_committed, unsound_committed}
 use Rattle.pt_tables.proofs.KeeperLemmas.{settles}
 use Rattle.pt_tables.proofs.keeper.SqlKeeper.adopt.Goals as goal
 
@@ -36,6 +36,14 @@ returns-in-Err-clause-unsound g c clean =
     let early : HasCleanDisk new = omega (arith, clean, c.into_store-in-Err.ensures.quiet.clean) in
     let earlier : HasCleanDisk mid = omega (arith, early, c.content_in.ensures.rests.survives.clean) in
     unsound_committed (state g.S.Store c.args.conn) mid c.in-Err.refused (c.in_ok-conn.ensures.opened earlier) (c.in-Err.ensures.why early)
+
+pub returns-in-Err-clause-first : goal.returns-in-Err-clause-first
+returns-in-Err-clause-first g c clean =
+    let mid = state g.S.Store c.in_ok-conn.conn in
+    let new = state g.S.Store c.content_in.new.conn in
+    let early : HasCleanDisk new = omega (arith, clean, c.into_store-in-Err.ensures.quiet.clean) in
+    let earlier : HasCleanDisk mid = omega (arith, early, c.content_in.ensures.rests.survives.clean) in
+    first_committed (state g.S.Store c.args.conn) mid c.in-Err.refused (c.in_ok-conn.ensures.opened earlier) (c.in-Err.ensures.why early)
 
 pub returns-in-Err-clause-other_tables : goal.returns-in-Err-clause-other_tables
 returns-in-Err-clause-other_tables g c clean =
