@@ -7,8 +7,6 @@ TABLES = ["desk", "callers", "kept", "places", "fixed", "vehicles", "riders", "e
           "rider_chairs", "vehicle_chairs", "trip_chairs"]
 DONE, NO_STORE = 0, 3
 OTHER_TABLES, UNSOUND, STORE = 30, 31, 32
-# Whether what stands in PENDING_PAIRS is tried too, where the desk does not yet say so.
-TRIES_PENDING = False
 
 # Bytes that spell no reply.
 NO_REPLIES = [
@@ -122,30 +120,27 @@ PAIRS = [
     ("a digest of 31 bytes", "the reply 'ff'"),
     ("a digest of 31 bytes", "last_trip 0 with trips"),
     ("1,001 callers", "101 places"),
+    ("1,001 callers", "the reply 'ff'"),
     ("the reply 'ff'", "a place too far east"),
     ("101 places", "51 routes"),
+    ("101 places", "a corridor of 100 feet"),
     ("51 routes", "a driver of no vehicle"),
     ("31 seats", "11 chairs"),
     ("a driver of no vehicle", "a caller of no rider"),
+    ("a driver of no vehicle", "a rider of no kind"),
     ("a rider of no kind", "an entry of no kind"),
+    ("a rider of no kind", "11 chairs"),
     ("a caller of no rider", "last_trip 0 with trips"),
+    ("a caller of no rider", "a trip of no status"),
     ("an entry of no kind", "a trip of no status"),
+    ("a trip of no status", "a row of no chairs"),
+    ("last_trip 0 with trips", "a stop of no kind"),
     ("last_trip 0 with trips", "a trip's two stops exchanged"),
     ("a stop of no kind", "a drive of 1,440 minutes"),
+    ("a trip's two stops exchanged", "a drive of 1,440 minutes"),
     ("a trip's two stops exchanged", "a duration of 50"),
     ("a duration of 50", "two persons on one seat"),
     ("a row of no chairs", "two persons on one seat"),
-]
-# Of these the desk tells the higher one today: it reads all rows before it looks whether they are a sound state.
-PENDING_PAIRS = [
-    ("1,001 callers", "the reply 'ff'"),
-    ("101 places", "a corridor of 100 feet"),
-    ("a driver of no vehicle", "a rider of no kind"),
-    ("a rider of no kind", "11 chairs"),
-    ("a caller of no rider", "a trip of no status"),
-    ("a trip of no status", "a row of no chairs"),
-    ("last_trip 0 with trips", "a stop of no kind"),
-    ("a trip's two stops exchanged", "a drive of 1,440 minutes"),
 ]
 
 
@@ -182,9 +177,6 @@ def faults_of_fullest(program, file, path):
 
 
 def faults_of_unsound(program, file, folder):
-    tried = [*ROWS, *itertools.starmap(both, PAIRS)]
-    if TRIES_PENDING:
-        tried += itertools.starmap(both, PENDING_PAIRS)
-    for at, row in enumerate(tried):
+    for at, row in enumerate([*ROWS, *itertools.starmap(both, PAIRS)]):
         yield from faults_of_row(program, file, f"{folder}/unsound-{at}.db", row)
     yield from faults_of_fullest(program, file, f"{folder}/fullest.db")
