@@ -63,7 +63,8 @@ pub fn moment_of(zone: &str, clock: Option<Timestamp>) -> Result<Moment, Fault>
     ensures local { IfSome clock (λ instant. IfOk result (λ now.
         IsLocalTime zone.now instant.nanosecond (pos now.day) now.minute)) }
     ensures only { IfSome clock (λ instant. (day minute : ℕ) → IsDay day
-        → IsLocalTime zone.now instant.nanosecond (pos day) minute → result ≡ Ok (record { day = day; minute = minute })) }
+        → IsLocalTime zone.now instant.nanosecond (pos day) minute
+        → result ≡ Ok (record { day = day; minute = minute })) }
     ensures no_such_zone { (result ≡ Err (fault no_such_zone)) ↔ ¬ (IsZoneRule zone.now) }
     ensures out_of_range { IfSome clock (λ instant. (result ≡ Err (fault date_out_of_range))
         ↔ ((day : ℤ) × (minute : ℕ) × IsLocalTime zone.now instant.nanosecond day minute × IsOutside day)) }

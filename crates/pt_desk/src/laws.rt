@@ -21,8 +21,9 @@ pub fn answers_outlive_crashes<K: Keeper>(before: &K, after: &K)
     ensures { IsToldAfterACrash (K.store before.now) (K.store after.now) }
 {}
 
-/// A law: where no vehicle of a refusal's facts has a place for the asked trip, the wish is denied for want of a vehicle
-/// in that state, and by no other rule. So whoever checks a log of the refusal over the facts knows what the desk tells.
+/// A law: where no vehicle of a refusal's facts has a place for the asked trip, the wish is denied for want of a
+/// vehicle in that state, and by no other rule. So whoever checks a log of the refusal over the facts knows what the
+/// desk tells.
 pub fn refusals_are_told()
     ensures { RefusalsAreTold }
 {}

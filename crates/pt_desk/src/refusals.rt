@@ -17,7 +17,8 @@ fn inquire<K: Keeper>(
     rider: RiderId,
     wish: &Wish,
 ) -> Result<Inquiry, StoreFault>
-    ensures goes { Answers (K.store keeper.old) (K.store keeper.new) (IsInquiryBy (Some me.now) now rider wish.now) result }
+    ensures goes { Answers (K.store keeper.old) (K.store keeper.new)
+        (IsInquiryBy (Some me.now) now rider wish.now) result }
 {
     let facts = gather_wish(alloc, keeper, rider, wish, &None)?;
     Ok(refusal_facts(alloc, &facts, me, now, wish)?)

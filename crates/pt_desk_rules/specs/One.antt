@@ -15,9 +15,9 @@ OutcomesAreOne = (key : List ℕ) (now : Moment) (number : ℕ) (asked : Request
     (left also : Option State) → IsSound s → IsOutcome key now number asked s told left →
     IsOutcome key now number asked s other also → IsSameAnswer told other × (left ≡ also)
 
--- A crash finds a request's state before it or after it. In both the request, made again at the same moment with its key
--- and number, is told what it was told, and leaves what it left. But where it gave its caller another key and is found
--- made, it has to be sent again with that one.
+-- A crash finds a request's state before it or after it. In both the request, made again at the same moment with its
+-- key and number, is told what it was told, and leaves what it left. But where it gave its caller another key and is
+-- found made, it has to be sent again with that one.
 abbrev pub RequestsOutliveCrashes : Type 0
 RequestsOutliveCrashes = (key : List ℕ) (now : Moment) (number : ℕ) (asked : Request) (s found : State)
     (told again : Answer) (left after : Option State) → IsSound s → IsOutcome key now number asked s told left →

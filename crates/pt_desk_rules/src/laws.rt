@@ -91,8 +91,8 @@ pub fn requests_are_the_same_again()
     ensures { RequestsAreTheSameAgain }
 {}
 
-/// A law: two outcomes of one call in one sound state are one. The rules settle each answer, the place and the window of
-/// a trip too.
+/// A law: two outcomes of one call in one sound state are one. The rules settle each answer, the place and the window
+/// of a trip too.
 pub fn outcomes_are_one()
     ensures { OutcomesAreOne }
 {}

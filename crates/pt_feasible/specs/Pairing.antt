@@ -1,5 +1,5 @@
--- The stops of a route: at most so many, and pickups and drops in pairs (Cordeau and Laporte 2003): a vehicle that picks
--- a party up drops it later.
+-- The stops of a route: at most so many, and pickups and drops in pairs (Cordeau and Laporte 2003): a vehicle that
+-- picks a party up drops it later.
 use Rattle.std.specs.Prelude.{◌≡◌, ℕ, ◌<◌, Bool, ◌==◌, ◌&&◌, if◌then◌else◌, IsTrue, List, Some, slice_get}
 use Rattle.std.specs.List.{list_any}
 use Rattle.pt_feasible.specs.declared.stop.Stop.{Stop}

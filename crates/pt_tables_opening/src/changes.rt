@@ -178,7 +178,8 @@ fn rider_chairs_change<S: Alter>(
     keeper: &ListKeeper,
 ) -> Result<Change, OpenFault>
     requires before { IsReadTo 11 keeper.now.content }
-    ensures { ReadsTable UnsoundTable.RiderChairs (state S.Store conn.old) (state S.Store conn.new) keeper.now.content result }
+    ensures { ReadsTable UnsoundTable.RiderChairs (state S.Store conn.old) (state S.Store conn.new)
+        keeper.now.content result }
 {
     let riders = beside_in(alloc, conn, keeper.riders_table().as_slice(), RIDER_CHAIRS)?;
     Ok(Change {
@@ -194,7 +195,8 @@ fn vehicle_chairs_change<S: Alter>(
     keeper: &ListKeeper,
 ) -> Result<Change, OpenFault>
     requires before { IsReadTo 12 keeper.now.content }
-    ensures { ReadsTable UnsoundTable.VehicleChairs (state S.Store conn.old) (state S.Store conn.new) keeper.now.content result }
+    ensures { ReadsTable UnsoundTable.VehicleChairs (state S.Store conn.old) (state S.Store conn.new)
+        keeper.now.content result }
 {
     let vehicles = beside_in(
         alloc,
@@ -215,7 +217,8 @@ fn trip_chairs_change<S: Alter>(
     keeper: &ListKeeper,
 ) -> Result<Change, OpenFault>
     requires before { IsReadTo 13 keeper.now.content }
-    ensures { ReadsTable UnsoundTable.TripChairs (state S.Store conn.old) (state S.Store conn.new) keeper.now.content result }
+    ensures { ReadsTable UnsoundTable.TripChairs (state S.Store conn.old) (state S.Store conn.new)
+        keeper.now.content result }
 {
     let trips = beside_in(alloc, conn, keeper.trips_table().as_slice(), TRIP_CHAIRS)?;
     Ok(Change {

@@ -130,7 +130,8 @@ pub(crate) fn travel_in<S: Alter>(
     ensures faults { IfErr result (λ refused. (refused ≡ fault memory_refused) ⊎ ((refused ≡ fault store_refused)
         ⊎ ((refused ≡ unsound 11) × (HasCleanDisk (state S.Store conn.new)
         → (state S.Store conn.old).now.schema ≡ desk_schema
-        → AreRowsOfNone travel_key travel_table (flat_map travel_rows) FitsTravel (state S.Store conn.old).now.trees)))) }
+        → AreRowsOfNone travel_key travel_table (flat_map travel_rows) FitsTravel
+        (state S.Store conn.old).now.trees)))) }
     ensures rests { Rests (state S.Store conn.old) (state S.Store conn.new) result }
 {
     gathered_in(alloc, conn, TRAVEL)
