@@ -15,7 +15,8 @@ use Rattle.pt_audit.specs.declared.line.Line.{Line}
 use Rattle.pt_audit.specs.declared.line.Line.TheVariants as line
 use Rattle.pt_audit.specs.declared.line.Raise.TheVariants as raise
 use Rattle.pt_audit.specs.declared.line.End.TheVariants as end
-use Rattle.pt_audit.specs.Text.{keyword_of, numbers_of, number_text, words_of, line_text, count_after, line_with_one, line_with_two, opening, closing, IsNoLog, FailsAt, IsNumber, IsInForm}
+use Rattle.pt_audit.specs.Letters.{count_after, line_with_one, line_with_two}
+use Rattle.pt_audit.specs.Text.{keyword_of, numbers_of, number_text, words_of, line_text, opening, closing, IsNoLog, FailsAt, IsNumber, IsInForm}
 
 -- the bytes that are letters or digits
 abbrev pub IsWord : List ℕ → Type 0

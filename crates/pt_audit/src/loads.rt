@@ -1,57 +1,62 @@
-ghost use Rattle.std.specs.Prelude.{◌≡◌, ◌≤◌, ◌↔◌, length, take, IsTrue};
+ghost use Rattle.std.specs.Prelude.{◌≡◌, ◌+◌, ◌≤◌, ◌↔◌, length, take, IsTrue};
 ghost use Rattle.pt_base.specs.Load.{FitsWithin};
 ghost use Rattle.pt_feasible.specs.Loads.{load_aboard};
-ghost use Rattle.pt_audit.specs.Aboard.{is_drop_of, is_gone, is_aboard};
+ghost use Rattle.pt_feasible.specs.Pairing.{most_stops};
 ghost use Rattle.pt_audit.specs.Insertion.{inserted_stops};
 
 use crate::insertion::Insertion;
-use pt_base::{Load, TripId};
-use pt_feasible::{Stop, StopKind};
+use pt_base::Load;
+use pt_feasible::StopKind;
+
+/// The loads of many stops together, which may be more than any vehicle carries at once.
+#[derive(Clone, Copy, Debug, PartialEq, Eq)]
+struct Total {
+    pub seats: u32,
+    pub chairs: u32,
+}
+
+impl Total {
+    /// Nobody.
+    fn none() -> Self
+        ensures seats { result.seats ≡ 0 }
+        ensures chairs { result.chairs ≡ 0 }
+    {
+        Total {
+            seats: 0,
+            chairs: 0,
+        }
+    }
+
+    /// One party more.
+    fn with(self, load: Load) -> Self
+        requires seats { self.seats ≤ 4_000_000_000 }
+        requires chairs { self.chairs ≤ 4_000_000_000 }
+        ensures seats { result.seats ≡ self.seats + load.seats }
+        ensures chairs { result.chairs ≡ self.chairs + load.chairs }
+    {
+        Total {
+            seats: self.seats + u32::from(load.seats),
+            chairs: self.chairs + u32::from(load.chairs),
+        }
+    }
+}
 
 /// Whether more are aboard after the first `k` stops than the vehicle carries.
 pub(crate) fn is_overloaded(insertion: &Insertion<'_>, k: usize) -> bool
-    requires { k ≤ length (inserted_stops insertion.now) }
+    requires among { k ≤ length (inserted_stops insertion.now) }
+    requires short { length (inserted_stops insertion.now) ≤ most_stops + 2 }
     ensures { IsTrue result
         ↔ ¬ FitsWithin (load_aboard (take k (inserted_stops insertion.now))) insertion.now.vehicle.now }
 {
-    let mut aboard = Load::none();
+    let mut came = Total::none();
+    let mut left = Total::none();
     for place in 0..k {
         let stop = insertion.stop(place);
-        if is_aboard(insertion, &stop, k) {
-            match aboard.plus(stop.load) {
-                Some(load) => aboard = load,
-                None => return true,
-            }
+        match stop.kind {
+            StopKind::Pickup => came = came.with(stop.load),
+            StopKind::Drop => left = left.with(stop.load),
         }
     }
-    !aboard.fits(insertion.vehicle)
-}
-
-/// Whether the stop's party comes aboard there, and leaves at none of the first `k` stops.
-fn is_aboard(insertion: &Insertion<'_>, stop: &Stop, k: usize) -> bool
-    requires { k ≤ length (inserted_stops insertion.now) }
-    ensures { result ≡ is_aboard k (inserted_stops insertion.now) stop.now }
-{
-    stop.kind == StopKind::Pickup && !is_gone(insertion, stop, k)
-}
-
-/// Whether the stop's party leaves at one of the first `k` stops.
-fn is_gone(insertion: &Insertion<'_>, stop: &Stop, k: usize) -> bool
-    requires { k ≤ length (inserted_stops insertion.now) }
-    ensures { result ≡ is_gone k (inserted_stops insertion.now) stop.now }
-{
-    for place in 0..k {
-        let other = insertion.stop(place);
-        if is_drop_of(&other, stop.trip) {
-            return true;
-        }
-    }
-    false
-}
-
-/// Whether the trip's party leaves at the stop.
-fn is_drop_of(stop: &Stop, trip: TripId) -> bool
-    ensures { result ≡ is_drop_of trip stop.now }
-{
-    stop.kind == StopKind::Drop && stop.trip == trip
+    came.seats.saturating_sub(left.seats) > u32::from(insertion.vehicle.capacity)
+        || came.chairs.saturating_sub(left.chairs) > u32::from(insertion.vehicle.chairs)
 }

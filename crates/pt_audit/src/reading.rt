@@ -1,10 +1,12 @@
 ghost use Rattle.std.specs.Prelude.{◌≡◌, ◌≢◌, ◌⊎◌, ◌↔◌, IsTrue, ℕ, ◌+◌, ◌*◌, ◌^◌, ◌<◌, ◌≤◌, ◌∷◌, ◌++◌};
-ghost use Rattle.std.specs.Prelude.{List, length, drop, slice_index, codes, decimal, IsNone, IsSomeAnd, IfSome, IfNone, IfOk, IfErr};
+ghost use Rattle.std.specs.Prelude.{List, length, drop, slice_index, codes, decimal};
+ghost use Rattle.std.specs.Prelude.{IsNone, IsSomeAnd, IfSome, IfNone, IfOk, IfErr};
 ghost use Rattle.pt_base.specs.Fault.{fault, fault_at};
 ghost use Rattle.pt_base.specs.Codes.{memory_refused, log_line_refused};
 ghost use Rattle.pt_audit.specs.declared.line.Line.{Line};
 ghost use Rattle.pt_audit.specs.Text.{opening, closing, IsLogText, IsNoLog, FailsAt, IsNumber, IsInForm, numbers_of};
-ghost use Rattle.pt_audit.specs.Text.{number_text, words_of, line_text, count_after, line_with_one, line_with_two};
+ghost use Rattle.pt_audit.specs.Letters.{count_after, line_with_one, line_with_two};
+ghost use Rattle.pt_audit.specs.Text.{number_text, words_of, line_text};
 
 use crate::{End, Line, Log, Raise};
 use pt_base::Fault;

@@ -1,6 +1,7 @@
 use Rattle.std.proofs.Common.{◌≡◌, None, Some, ap, sym, ◌∙◌, arith, length, length-append}
 use Rattle.std.proofs.lemmas.Option.{same_Some}
-use Rattle.pt_audit.specs.Text.{words_of, line_with_one}
+use Rattle.pt_audit.specs.Letters.{line_with_one}
+use Rattle.pt_audit.specs.Text.{words_of}
 use Rattle.pt_audit.proofs.TextLemmas.{some_word, one_line, one_parts}
 use Rattle.pt_audit.proofs.reading.with_one.Goals as goal
 

@@ -1,6 +1,7 @@
 use Rattle.std.proofs.Common.{◌≡◌, ◌++◌, ℕ, None, Some, ap, sym, ◌∙◌, arith, length, length-append}
 use Rattle.std.proofs.lemmas.Option.{same_Some}
-use Rattle.pt_audit.specs.Text.{words_of, number_text, line_with_two}
+use Rattle.pt_audit.specs.Letters.{line_with_two}
+use Rattle.pt_audit.specs.Text.{words_of, number_text}
 use Rattle.pt_audit.proofs.TextLemmas.{some_word, two_line, two_parts, space_ends}
 use Rattle.pt_audit.proofs.reading.with_two.Goals as goal
 
