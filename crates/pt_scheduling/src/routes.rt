@@ -21,7 +21,7 @@ pub struct DayRoute {
 }
 
 /// A trip's stop of this kind.
-fn trip_stop(kind: StopKind, trip: &Trip) -> Stop
+pub fn trip_stop(kind: StopKind, trip: &Trip) -> Stop
     ensures { result ≡ trip_stop kind trip.now }
 {
     let asked = asked_of(trip);

@@ -6,29 +6,18 @@ ghost use Rattle.pt_desk_rules.specs.Sound.{DrivesIn, HasFirstDay, HasTimes};
 ghost use Rattle.pt_desk_rules.specs.Travel.{table_on};
 ghost use Rattle.pt_feasible.specs.Route.{stops_of};
 ghost use Rattle.pt_records.specs.Records.{Each};
-ghost use Rattle.pt_scheduling.specs.Plan.{stops_among, trip_stop, IsPlannedRoute, IsRoutePlan};
+ghost use Rattle.pt_scheduling.specs.Plan.{stops_among, IsPlannedRoute, IsRoutePlan};
 ghost use Rattle.pt_soundness.specs.Unsound.{AreSoundTables};
 
 use crate::travel::{are_of_places, hold_from_days};
 use crate::vehicles::versions_of;
 use pt_base::{Day, Place, Trip, Vehicle};
-use pt_booking::asked_of;
 use pt_desk_rules::{MOST_TABLES, PlannedRoute, PlannedStop, TravelTable, on_duty, table_on};
-use pt_feasible::{Route, Stop, StopKind, settle};
+use pt_feasible::{Route, Stop, settle};
 use pt_records::{Key, Table};
+use pt_scheduling::trip_stop;
 use pt_travel::Raw;
 use std::alloc::{AllocError, Global};
-
-/// A trip's stop of this kind.
-fn trip_stop(kind: StopKind, trip: &Trip) -> Stop
-    ensures { result ≡ trip_stop kind trip.now }
-{
-    let asked = asked_of(trip);
-    match kind {
-        StopKind::Pickup => asked.pickup_stop(),
-        StopKind::Drop => asked.drop_stop(),
-    }
-}
 
 /// The stops of those trips that are among these.
 fn stops_among(
