@@ -45,7 +45,7 @@ use Rattle.pt_scheduling.specs.declared.planned.PlannedStop.{PlannedStop}
 use Rattle.pt_scheduling.proofs.PlanLemmas.{found_key}
 use Rattle.pt_scheduling.proofs.RouteLemmas.{booked_has, booked_keeps, booked_plan, booked_route, booked_trips, has_trip, left_has, left_route, planned_route, Each-found}
 use Rattle.pt_desk_rules.specs.Fleet.{ClosesInDay}
-use Rattle.pt_desk_rules.specs.Filed.{IsEntry}
+use Rattle.pt_spelling.specs.Ranges.{IsEntry}
 use Rattle.pt_desk_rules.specs.Sound.{HasStops, HoldsFromDay, IsEntered}
 use Rattle.pt_desk_rules.proofs.FitLemmas.{booked_fits, each_drive, each_load, fit_after, fit_beside, has_stops}
 use Rattle.pt_desk_rules.proofs.FitLemmas.{left_fits, left_has_stops, travel_fits, vehicle_fits, FitsIn}

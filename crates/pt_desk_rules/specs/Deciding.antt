@@ -21,7 +21,7 @@ use Rattle.pt_scheduling.specs.Plan.{Plan}
 use Rattle.pt_scheduling.specs.Uses.{AreUses}
 use Rattle.pt_visitors.specs.Periods.{MayUse}
 use Rattle.pt_desk_rules.specs.Booking.{IsBooking}
-use Rattle.pt_desk_rules.specs.Filed.{IsEntry}
+use Rattle.pt_spelling.specs.Ranges.{IsEntry}
 use Rattle.pt_desk_rules.specs.Fleet.{duty_of, ClosesInDay}
 use Rattle.pt_rights.specs.declared.tally.Outcome.{Outcome}
 use Rattle.pt_desk_rules.specs.Letters.{letter_at, IsToldLetter}

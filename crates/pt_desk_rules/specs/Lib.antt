@@ -11,7 +11,6 @@ pub mod Sound
 pub mod Planned
 pub mod Travel
 pub mod Trips
-pub mod Filed
 pub mod Outcomes
 pub mod Letters
 pub mod Booking

@@ -23,7 +23,7 @@ use Rattle.pt_desk_rules.specs.Limits.{most_vehicles, most_versions, most_tables
 use Rattle.pt_desk_rules.specs.State.{State, caller_key, kept_key, place_key, route_key, rider_key, entry_key}
 use Rattle.pt_desk_rules.specs.State.{vehicle_key, travel_key, trip_key, entries_of}
 use Rattle.pt_desk_rules.specs.Facts.{has_subject}
-use Rattle.pt_desk_rules.specs.Filed.{IsEntry}
+use Rattle.pt_spelling.specs.Ranges.{IsEntry}
 use Rattle.pt_desk_rules.specs.Booking.{rows_of, AreTimes}
 use Rattle.pt_desk_rules.specs.Fleet.{on_duty, vehicle_count, versions_of, ClosesInDay}
 use Rattle.pt_desk_rules.specs.Rules.{are_there}

@@ -7,7 +7,7 @@ ghost use Rattle.pt_travel.specs.Table.{IsTable};
 ghost use Rattle.pt_desk_rules.specs.declared.deciding.Decision.TheVariants.{Accepted};
 ghost use Rattle.pt_requests.specs.declared.request.Answer.TheVariants.{Done};
 ghost use Rattle.pt_requests.specs.declared.request.Write.TheVariants.{Enter};
-ghost use Rattle.pt_desk_rules.specs.Filed.{IsEntry, IsGrant};
+ghost use Rattle.pt_spelling.specs.Ranges.{IsEntry, IsGrant};
 ghost use Rattle.pt_rights.specs.Conditions.{IsCondition};
 ghost use Rattle.std.specs.Prelude.{All};
 ghost use Rattle.pt_desk_rules.specs.Fleet.{ClosesInDay};
@@ -146,8 +146,8 @@ fn is_grant(grant: &Grant)
     are_conditions(grant.conditions.as_slice());
 }
 
-/// The fields of an entry are such, as their types have it.
-fn keeps_ranges(entry: &Entry)
+/// The fields of an entry keep to their ranges, as their types have it.
+pub fn keeps_ranges(entry: &Entry)
     ensures { IsEntry entry.now }
 {
     match entry {
@@ -163,11 +163,10 @@ fn keeps_ranges(entry: &Entry)
             let _days = (starts.number(), ends.number());
             let _bytes = reasons.as_bytes();
         }
-        Entry::Complete
-        | Entry::Appeal { against: _ }
-        | Entry::Heard
-        | Entry::Overturn
-        | Entry::NoticeHeard => {}
+        Entry::Appeal { against } => {
+            let _number = *against;
+        }
+        Entry::Complete | Entry::Heard | Entry::Overturn | Entry::NoticeHeard => {}
     }
 }
 

@@ -2,7 +2,7 @@
 #![tactic(auto)]
 
 pub use change::{Change, FiledEntry};
-pub use deciding::{Decision, decide};
+pub use deciding::{Decision, decide, keeps_ranges};
 pub use denying::denial;
 pub use explaining::{Inquiry, RefusalFacts, explain, refusal_facts};
 pub use facts::{BookingFacts, DayFacts, ReadFacts, WriteFacts};

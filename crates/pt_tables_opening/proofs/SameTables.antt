@@ -32,12 +32,12 @@ use Rattle.pt_spelling.proofs.FieldLemmas.{days-same}
 use Rattle.pt_tables_opening.specs.Gathered.{FitsPlan, FitsTravel}
 use Rattle.pt_tables_opening.specs.Standing.{HasRowsIn, IsLaidIn, StandsIn, StandsTo}
 use Rattle.pt_tables_opening.specs.Steps.{HasRowsTo}
-use Rattle.pt_tables_reading.specs.Fitting.{FitsEntry, FitsFiled, FitsRoute, FitsVehicle}
+use Rattle.pt_tables_reading.specs.Fitting.{FitsFiled, FitsRoute, FitsVehicle}
 use Rattle.pt_tables_reading.specs.Reading.{FitsCaller, FitsKept, FitsPlace, FitsRider, FitsTrip}
 use Rattle.pt_tables_rows.specs.Rows.{caller_row, kept_row, place_row, route_row, vehicle_row, rider_row, entry_row, trip_row, stop_rows, travel_rows, desk_row, vehicle_chair_rows, trip_chair_rows}
 use Rattle.pt_tables_rows.specs.Schema.{vehicles_table, riders_table, trips_table}
 use Rattle.pt_tables_rows.specs.Tables.{AreRows, columns_of}
-use Rattle.pt_tables_rows.specs.WellFormed.{GrantsInRange}
+use Rattle.pt_tables_rows.proofs.WellFormedLemmas.{grants_in_range}
 use Rattle.pt_tables_rows.proofs.SameRowsLists.{told_by_rows, told_by_row, told_by_any_row, told_beside, in_one_order, one_same}
 use Rattle.pt_tables_rows.proofs.SameRowsRecords.{number_in, known_in, known-value, so_keyed, last_trip-told, caller-told, kept-told, place-told, route-told, vehicle-told, entry-told, trip-told}
 use Rattle.pt_tables_rows.proofs.SameRowsGroups.{stops-keyed, stops-some, plan-told, drives-keyed, table-told}
@@ -48,19 +48,6 @@ shared shown one other ones others = IsPermutation-trans _ _ _ (IsPermutation-sy
 -- the number of a row with a key of two columns
 abbrev pair_in : Row → ℕ
 pair_in row = pair_key (number_in 0 row) (number_in 1 row)
-
-pub grants_in_range : (e : Entry) → FitsEntry e → GrantsInRange e
-grants_in_range entry.Complete fits = tt
-grants_in_range (entry.Grant grant) fits = fits.1.1
-grants_in_range (entry.Refuse reasons) fits = tt
-grants_in_range (entry.Appeal against) fits = tt
-grants_in_range entry.Heard fits = tt
-grants_in_range (entry.AppealGranted grant) fits = fits.1.1
-grants_in_range (entry.AppealDenied reasons) fits = tt
-grants_in_range entry.Overturn fits = tt
-grants_in_range (entry.Notice basis) fits = tt
-grants_in_range entry.NoticeHeard fits = tt
-grants_in_range (entry.Suspend starts ends reasons) fits = tt
 
 -- ---- records with the same row
 

@@ -29,8 +29,9 @@ use Rattle.pt_tables_opening.specs.declared.open_fault.OpenFault.{OpenFault}
 use Rattle.pt_tables_opening.proofs.AgencyLemmas.{spares_by_store, spares_none}
 use Rattle.pt_tables_opening.proofs.GatheredLemmas.{each_push}
 use Rattle.pt_tables_opening.proofs.RestLemmas.{rests_so, rests_then}
-use Rattle.pt_tables_opening.proofs.SameTables.{grants_in_range, sound_there}
-use Rattle.pt_tables_reading.specs.Fitting.{FitsEntry, FitsFiled, FitsRoute, FitsVehicle}
+use Rattle.pt_tables_rows.proofs.WellFormedLemmas.{grants_in_range}
+use Rattle.pt_tables_opening.proofs.SameTables.{sound_there}
+use Rattle.pt_tables_reading.specs.Fitting.{FitsFiled, FitsRoute, FitsVehicle}
 use Rattle.pt_tables_reading.specs.Reading.{FitsKept}
 use Rattle.pt_tables_opening.specs.Gathered.{FitsPlan, FitsTravel}
 use Rattle.pt_tables_rows.specs.Rows.{desk_row}

@@ -17,7 +17,7 @@ use Rattle.pt_rights.specs.declared.conditions.Condition.{Condition}
 use Rattle.pt_rights.specs.declared.entry.Entry.{Entry}
 use Rattle.pt_rights.specs.declared.entry.Entry.TheVariants as entry
 use Rattle.pt_rights.specs.declared.entry.Grant.{Grant}
-use Rattle.pt_spelling.specs.Ranges.{IsWord, IsWeek}
+use Rattle.pt_spelling.specs.Ranges.{IsEntry, IsWord, IsWeek}
 use Rattle.pt_spelling.specs.Replies.{IsId}
 use Rattle.pt_spelling.specs.Requests.{entry_number}
 use Rattle.pt_travel.specs.Chain as travel
@@ -63,20 +63,6 @@ parts_of text = slice_split (λ b. b == 59) text
 abbrev pub FitsConditions : List Condition → Type 0
 FitsConditions conditions = IsConditions conditions × All IsCondition conditions
 
-abbrev pub FitsGrant : Grant → Type 0
-FitsGrant grant = IsDay grant.until × FitsConditions grant.conditions
-
--- the days, the conditions and the reasons of an entry
-abbrev pub FitsEntry : Entry → Type 0
-FitsEntry (entry.Grant grant) = FitsGrant grant
-FitsEntry (entry.Refuse reasons) = IsReasons reasons
-FitsEntry (entry.Appeal against) = against < 2 ^ 8
-FitsEntry (entry.AppealGranted grant) = FitsGrant grant
-FitsEntry (entry.AppealDenied reasons) = IsReasons reasons
-FitsEntry (entry.Notice basis) = IsReasons basis
-FitsEntry (entry.Suspend starts ends reasons) = IsDay starts × IsDay ends × IsReasons reasons
-FitsEntry _ = Unit {0}
-
 -- what a row tells of an entry: its kind, its two numbers, its conditions and its words
 abbrev pub parts_of_entry : Entry → ℕ × Option ℕ × Option ℕ × List ℕ × List ℕ
 parts_of_entry e = (entry_number e, first_number e, second_number e, entry_conditions e, entry_words e)
@@ -84,7 +70,7 @@ parts_of_entry e = (entry_number e, first_number e, second_number e, entry_condi
 pub record FitsFiled (filed : FiledEntry) : Type 0 where
   pub rider : IsId filed.rider
   pub position : IsWord filed.position
-  pub entry : FitsEntry filed.entered.entry
+  pub entry : IsEntry filed.entered.entry
   pub day : IsDay filed.entered.day
   pub author : IsId filed.entered.author
 

@@ -9,7 +9,8 @@ ghost use Rattle.pt_spelling.specs.Requests.{entry_number};
 ghost use Rattle.pt_tables_rows.specs.Rows.{optional_value, number_value, entry_row, entry_conditions, entry_words};
 ghost use Rattle.pt_tables_rows.specs.Rows.{first_number, second_number};
 ghost use Rattle.pt_tables_reading.specs.Reading.{Reads};
-ghost use Rattle.pt_tables_reading.specs.Fitting.{joined, FitsConditions, parts_of_entry, FitsEntry};
+ghost use Rattle.pt_spelling.specs.Ranges.{IsEntry};
+ghost use Rattle.pt_tables_reading.specs.Fitting.{joined, FitsConditions, parts_of_entry};
 ghost use Rattle.pt_tables_reading.specs.Fitting.{FitsFiled};
 
 use crate::columns::{day_at, id_at, integer_at, number_at, text_at};
@@ -45,7 +46,7 @@ fn reasons_in(alloc: Global, bytes: &[u8]) -> Result<Option<Reasons>, AllocError
 
 /// The entry of this kind that has nothing beside its kind.
 fn bare_entry(kind: u32) -> Option<Entry>
-    ensures { Reads parts_of_entry FitsEntry (kind, None, None, [], []) result }
+    ensures { Reads parts_of_entry IsEntry (kind, None, None, [], []) result }
 {
     match kind {
         0 => Some(Entry::Complete),
@@ -58,7 +59,7 @@ fn bare_entry(kind: u32) -> Option<Entry>
 
 /// The entry of this kind that has these reasons, or this basis.
 fn worded_entry(kind: u32, words: Reasons) -> Option<Entry>
-    ensures { Reads parts_of_entry FitsEntry (kind, None, None, [], words) result }
+    ensures { Reads parts_of_entry IsEntry (kind, None, None, [], words) result }
 {
     let _bytes = words.as_bytes();
     match kind {
@@ -72,7 +73,7 @@ fn worded_entry(kind: u32, words: Reasons) -> Option<Entry>
 /// The entry of this kind that grants until this day under these conditions.
 fn granting_entry(kind: u32, until: u32, conditions: Conditions) -> Option<Entry>
     requires { FitsConditions conditions }
-    ensures { Reads parts_of_entry FitsEntry (kind, Some until, None, joined conditions, []) result }
+    ensures { Reads parts_of_entry IsEntry (kind, Some until, None, joined conditions, []) result }
 {
     let until = Day::of(until)?;
     match kind {
@@ -84,7 +85,7 @@ fn granting_entry(kind: u32, until: u32, conditions: Conditions) -> Option<Entry
 
 /// The entry of this kind that appeals against what stands at a position.
 fn appeal_entry(kind: u32, against: u32) -> Option<Entry>
-    ensures { Reads parts_of_entry FitsEntry (kind, Some against, None, [], []) result }
+    ensures { Reads parts_of_entry IsEntry (kind, Some against, None, [], []) result }
 {
     if kind != 3 {
         return None;
@@ -95,7 +96,7 @@ fn appeal_entry(kind: u32, against: u32) -> Option<Entry>
 
 /// The entry of this kind that suspends from one day to another for these reasons.
 fn suspension_entry(kind: u32, starts: u32, ends: u32, reasons: Reasons) -> Option<Entry>
-    ensures { Reads parts_of_entry FitsEntry (kind, Some starts, Some ends, [], reasons) result }
+    ensures { Reads parts_of_entry IsEntry (kind, Some starts, Some ends, [], reasons) result }
 {
     let _bytes = reasons.as_bytes();
     if kind != 10 {
@@ -112,7 +113,7 @@ fn suspension_entry(kind: u32, starts: u32, ends: u32, reasons: Reasons) -> Opti
 
 /// The entry that has these particulars and no words.
 fn plain_entry(kind: u32, first: Option<u32>, second: Option<u32>) -> Option<Entry>
-    ensures { Reads parts_of_entry FitsEntry (kind, first, second, [], []) result }
+    ensures { Reads parts_of_entry IsEntry (kind, first, second, [], []) result }
 {
     match (first, second) {
         (None, None) => bare_entry(kind),
@@ -123,7 +124,7 @@ fn plain_entry(kind: u32, first: Option<u32>, second: Option<u32>) -> Option<Ent
 
 /// The entry that has these particulars and words.
 fn spoken_entry(kind: u32, first: Option<u32>, second: Option<u32>, words: Reasons) -> Option<Entry>
-    ensures { Reads parts_of_entry FitsEntry (kind, first, second, [], words) result }
+    ensures { Reads parts_of_entry IsEntry (kind, first, second, [], words) result }
 {
     let _bytes = words.as_bytes();
     match (first, second) {
@@ -141,7 +142,7 @@ fn grant_entry(
     conditions: Conditions,
 ) -> Option<Entry>
     requires { FitsConditions conditions }
-    ensures { Reads parts_of_entry FitsEntry (kind, first, second, joined conditions, []) result }
+    ensures { Reads parts_of_entry IsEntry (kind, first, second, joined conditions, []) result }
 {
     let _some = conditions.as_slice();
     match (first, second) {
@@ -159,7 +160,7 @@ fn entry_from(
     conditions: &[u8],
     words: &[u8],
 ) -> Result<Option<Entry>, AllocError>
-    ensures { IfOk result (Reads parts_of_entry FitsEntry (kind, first, second, conditions.now, words.now)) }
+    ensures { IfOk result (Reads parts_of_entry IsEntry (kind, first, second, conditions.now, words.now)) }
 {
     match (conditions, words) {
         ([], []) => Ok(plain_entry(kind, first, second)),
@@ -210,7 +211,7 @@ fn filed_entry(row: &Row, entry: Entry) -> Option<FiledEntry>
     requires second { optional_value (second_number entry) ≡ column row.now 6 }
     requires conditions { Text (entry_conditions entry) ≡ column row.now 7 }
     requires words { Text (entry_words entry) ≡ column row.now 8 }
-    requires fits { FitsEntry entry }
+    requires fits { IsEntry entry }
     ensures { Reads entry_row FitsFiled row.now result }
 {
     Some(FiledEntry {

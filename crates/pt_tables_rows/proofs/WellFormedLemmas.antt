@@ -5,7 +5,7 @@ use Rattle.std.specs.Prelude.{◌&&◌, nat_le}
 use Rattle.std.proofs.lemmas.Bool.Decides.{nat_tests}
 use Rattle.pt_base.specs.Day.{IsDay}
 use Rattle.pt_corridor.specs.Route.{IsFixedRoute}
-use Rattle.pt_desk_rules.specs.Filed.{IsEntry}
+use Rattle.pt_spelling.specs.Ranges.{IsEntry}
 use Rattle.pt_desk_rules.specs.Sound.{IsSound, AreNumberedFrom, HasFirstDay, HasStops, IsEntered, IsOfPlaces, IsOnDay}
 use Rattle.pt_desk_rules.specs.State.{State, caller_key, kept_key, place_key, route_key, rider_key, entry_key}
 use Rattle.pt_desk_rules.specs.State.{vehicle_key, travel_key, trip_key, entries_of, span_of, applied}
@@ -27,18 +27,18 @@ day-word n day = let last = day.1 in omega arith
 
 -- ---- entries
 
-grants-fit : (entered : Entry) → IsEntry entered → GrantsInRange entered
-grants-fit entry.Complete ranges = tt
-grants-fit (entry.Grant grant) ranges = ranges.2
-grants-fit (entry.Refuse reasons) ranges = tt
-grants-fit (entry.Appeal against) ranges = tt
-grants-fit entry.Heard ranges = tt
-grants-fit (entry.AppealGranted grant) ranges = ranges.2
-grants-fit (entry.AppealDenied reasons) ranges = tt
-grants-fit entry.Overturn ranges = tt
-grants-fit (entry.Notice basis) ranges = tt
-grants-fit entry.NoticeHeard ranges = tt
-grants-fit (entry.Suspend starts ends reasons) ranges = tt
+pub grants_in_range : (entered : Entry) → IsEntry entered → GrantsInRange entered
+grants_in_range entry.Complete ranges = tt
+grants_in_range (entry.Grant grant) ranges = ranges.conditions
+grants_in_range (entry.Refuse reasons) ranges = tt
+grants_in_range (entry.Appeal against) ranges = tt
+grants_in_range entry.Heard ranges = tt
+grants_in_range (entry.AppealGranted grant) ranges = ranges.conditions
+grants_in_range (entry.AppealDenied reasons) ranges = tt
+grants_in_range entry.Overturn ranges = tt
+grants_in_range (entry.Notice basis) ranges = tt
+grants_in_range entry.NoticeHeard ranges = tt
+grants_in_range (entry.Suspend starts ends reasons) ranges = tt
 
 numbered-word : (n : ℕ) (entries : List FiledEntry) → AreNumberedFrom n entries → n + length entries ≤ 200
     → Each (λ filed. IsWord filed.position) entries
@@ -99,7 +99,7 @@ sound-well_formed s sound replies route_weeks vehicle_weeks = record {
   riders = sound.riders.in_order;
   entries = sound.entries_in_order;
   filed = Each-both (λ filed. IsWord filed.position) IsEntered IsFiled
-      (λ filed word made. (word, grants-fit filed.entered.entry made.ranges)) s.entries
+      (λ filed word made. (word, grants_in_range filed.entered.entry made.ranges)) s.entries
       (each-filed (λ filed. IsWord filed.position) s.entries
       (λ rider. numbered-word 0 (entries_of rider s.entries) (sound.files rider).numbered
       (let few = (sound.files rider).within in omega arith)))
