@@ -16,12 +16,10 @@ use crate::open_fault::fault_of;
 use crate::table_rows::desk_rows;
 use crate::version::has_version;
 use pt_base::Policy;
+use pt_soundness::UnsoundTable;
 use pt_tables_reading::agency_of;
 use pt_tables_rows::TABLE_VERSION;
 use sqlite::{Alter, Connection, Row};
-
-/// The number of the desk's table.
-const DESK_TABLE: u8 = 1;
 
 /// The policy of the one row, and the number that was last given to a trip: code 30 where the row is that of another
 /// version of the tables, and 31 where there is not one row alone or it tells no policy.
@@ -31,14 +29,14 @@ fn agency_from(rows: &[Row]) -> Result<(Policy, u32), OpenFault>
         ⊎ ((refused ≡ unsound 1) × TellsNoAgency rows.now)) }
 {
     let [row] = rows else {
-        return Err(OpenFault::unsound(DESK_TABLE));
+        return Err(OpenFault::unsound(UnsoundTable::Desk));
     };
     if !has_version(row, TABLE_VERSION) {
         return Err(OpenFault::OTHER_TABLES);
     }
     match agency_of(row) {
         Some(agency) => Ok(agency),
-        None => Err(OpenFault::unsound(DESK_TABLE)),
+        None => Err(OpenFault::unsound(UnsoundTable::Desk)),
     }
 }
 

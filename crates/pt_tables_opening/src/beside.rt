@@ -7,6 +7,7 @@ ghost use Rattle.sqlite.specs.State.{HasCleanDisk};
 ghost use Rattle.sqlite.specs.Table.{Table as StoredTable};
 ghost use Rattle.pt_base.specs.Codes.{memory_refused};
 ghost use Rattle.pt_records.specs.Records.{Each, IsInOrder};
+ghost use Rattle.pt_soundness.specs.Tables.{number_of};
 ghost use Rattle.pt_tables_opening.specs.Beside.{AreBeside, IsAlone, KeepsBeside, NoneBeside, TellsBeside};
 ghost use Rattle.pt_tables_opening.specs.Faults.{fault, store_refused, unsound};
 ghost use Rattle.pt_tables_opening.specs.Opening.{Rests};
@@ -21,6 +22,7 @@ use crate::records::OneRow;
 use crate::table_rows::{rider_chair_rows, trip_chair_rows, vehicle_chair_rows};
 use pt_base::{Rider, Trip, Vehicle};
 use pt_records::Edits;
+use pt_soundness::UnsoundTable;
 use pt_tables_reading::{rider_beside, trip_beside, vehicle_beside};
 use sqlite::{Alter, Connection, Error, Row};
 use std::alloc::{AllocError, Global};
@@ -192,7 +194,7 @@ fn merged_table<T: Beside>(
     alloc: Global,
     records: &[T],
     rows: &[Row],
-    table: u8,
+    table: UnsoundTable,
 ) -> Result<Edits<T>, OpenFault>
     requires beside { AreBeside T.key T.row_of T.beside_of }
     requires fits { Each T.Fits records.now }
@@ -200,7 +202,8 @@ fn merged_table<T: Beside>(
     ensures told { IfOk result (λ edit.
         TellsBeside T.key T.row_of T.beside_of T.Fits records.now rows.now (Some edit)) }
     ensures faults { IfErr result (λ refused. (refused ≡ fault memory_refused)
-        ⊎ ((refused ≡ unsound table) × TellsBeside T.key T.row_of T.beside_of T.Fits records.now rows.now None)) }
+        ⊎ ((refused ≡ unsound (number_of table))
+        × TellsBeside T.key T.row_of T.beside_of T.Fits records.now rows.now None)) }
 {
     match merged(alloc, records, rows) {
         Ok(Some(found)) => Ok(found),
@@ -215,7 +218,7 @@ pub(crate) fn beside_in<S: Alter, T: Beside>(
     alloc: Global,
     conn: &mut Connection<S>,
     records: &[T],
-    table: u8,
+    table: UnsoundTable,
 ) -> Result<Edits<T>, OpenFault>
     requires fits { Each T.Fits records.now }
     requires order { IsInOrder T.key records.now }
@@ -224,7 +227,7 @@ pub(crate) fn beside_in<S: Alter, T: Beside>(
     ensures told { HasCleanDisk (state S.Store conn.new) → (state S.Store conn.old).now.schema ≡ desk_schema
         → IfOk result (λ edit. AreRows T.second (state S.Store conn.old).now.trees (flat_map T.beside_of edit.puts)) }
     ensures faults { IfErr result (λ refused. (refused ≡ fault memory_refused) ⊎ ((refused ≡ fault store_refused)
-        ⊎ ((refused ≡ unsound table) × (HasCleanDisk (state S.Store conn.new)
+        ⊎ ((refused ≡ unsound (number_of table)) × (HasCleanDisk (state S.Store conn.new)
         → (state S.Store conn.old).now.schema ≡ desk_schema
         → AreRows T.home (state S.Store conn.old).now.trees (map T.row_of records.now)
         → NoneBeside T.key T.home T.second T.row_of T.beside_of T.Fits (state S.Store conn.old).now.trees)))) }

@@ -18,45 +18,12 @@ use pt_soundness::UnsoundTable;
 use sqlite::{Alter, Connection};
 use std::alloc::Global;
 
-/// The number of the table of callers.
-const CALLERS: u8 = 2;
-
-/// The number of the table of what callers were last told.
-const KEPT: u8 = 3;
-
-/// The number of the table of places.
-const PLACES: u8 = 4;
-
-/// The number of the table of fixed routes.
-const FIXED: u8 = 5;
-
-/// The number of the table of vehicles.
-const VEHICLES: u8 = 6;
-
-/// The number of the table of riders.
-const RIDERS: u8 = 7;
-
-/// The number of the table of what was entered on riders.
-const ENTRIES: u8 = 8;
-
-/// The number of the table of trips.
-const TRIPS: u8 = 9;
-
-/// The number of the table of riders in wheelchairs.
-const RIDER_CHAIRS: u8 = 12;
-
-/// The number of the table of wheelchair places of vehicles.
-const VEHICLE_CHAIRS: u8 = 13;
-
-/// The number of the table of trips of riders in wheelchairs.
-const TRIP_CHAIRS: u8 = 14;
-
 /// The callers, to be put.
 fn callers_change<S: Alter>(alloc: Global, conn: &mut Connection<S>) -> Result<Change, OpenFault>
     ensures { (s : State) → IsReadTo 1 s
         → ReadsTable UnsoundTable.Callers (state S.Store conn.old) (state S.Store conn.new) s result }
 {
-    let callers = table_of(alloc, conn, CALLERS)?;
+    let callers = table_of(alloc, conn, UnsoundTable::Callers)?;
     Ok(Change {
         callers,
         ..no_change(alloc)
@@ -68,7 +35,7 @@ fn kept_change<S: Alter>(alloc: Global, conn: &mut Connection<S>) -> Result<Chan
     ensures { (s : State) → IsReadTo 2 s
         → ReadsTable UnsoundTable.Kept (state S.Store conn.old) (state S.Store conn.new) s result }
 {
-    let kept = table_of(alloc, conn, KEPT)?;
+    let kept = table_of(alloc, conn, UnsoundTable::Kept)?;
     Ok(Change {
         kept,
         ..no_change(alloc)
@@ -80,7 +47,7 @@ fn places_change<S: Alter>(alloc: Global, conn: &mut Connection<S>) -> Result<Ch
     ensures { (s : State) → IsReadTo 3 s
         → ReadsTable UnsoundTable.Places (state S.Store conn.old) (state S.Store conn.new) s result }
 {
-    let places = table_of(alloc, conn, PLACES)?;
+    let places = table_of(alloc, conn, UnsoundTable::Places)?;
     Ok(Change {
         places,
         ..no_change(alloc)
@@ -92,7 +59,7 @@ fn routes_change<S: Alter>(alloc: Global, conn: &mut Connection<S>) -> Result<Ch
     ensures { (s : State) → IsReadTo 4 s
         → ReadsTable UnsoundTable.Fixed (state S.Store conn.old) (state S.Store conn.new) s result }
 {
-    let routes = table_of(alloc, conn, FIXED)?;
+    let routes = table_of(alloc, conn, UnsoundTable::Fixed)?;
     Ok(Change {
         routes,
         ..no_change(alloc)
@@ -104,7 +71,7 @@ fn vehicles_change<S: Alter>(alloc: Global, conn: &mut Connection<S>) -> Result<
     ensures { (s : State) → IsReadTo 5 s
         → ReadsTable UnsoundTable.Vehicles (state S.Store conn.old) (state S.Store conn.new) s result }
 {
-    let vehicles = table_of(alloc, conn, VEHICLES)?;
+    let vehicles = table_of(alloc, conn, UnsoundTable::Vehicles)?;
     Ok(Change {
         vehicles,
         ..no_change(alloc)
@@ -116,7 +83,7 @@ fn riders_change<S: Alter>(alloc: Global, conn: &mut Connection<S>) -> Result<Ch
     ensures { (s : State) → IsReadTo 6 s
         → ReadsTable UnsoundTable.Riders (state S.Store conn.old) (state S.Store conn.new) s result }
 {
-    let riders = table_of(alloc, conn, RIDERS)?;
+    let riders = table_of(alloc, conn, UnsoundTable::Riders)?;
     Ok(Change {
         riders,
         ..no_change(alloc)
@@ -128,7 +95,7 @@ fn entries_change<S: Alter>(alloc: Global, conn: &mut Connection<S>) -> Result<C
     ensures { (s : State) → IsReadTo 7 s
         → ReadsTable UnsoundTable.Entries (state S.Store conn.old) (state S.Store conn.new) s result }
 {
-    let entries = table_of(alloc, conn, ENTRIES)?;
+    let entries = table_of(alloc, conn, UnsoundTable::Entries)?;
     Ok(Change {
         entries,
         ..no_change(alloc)
@@ -140,7 +107,7 @@ fn trips_change<S: Alter>(alloc: Global, conn: &mut Connection<S>) -> Result<Cha
     ensures { (s : State) → IsReadTo 8 s
         → ReadsTable UnsoundTable.Trips (state S.Store conn.old) (state S.Store conn.new) s result }
 {
-    let trips = table_of(alloc, conn, TRIPS)?;
+    let trips = table_of(alloc, conn, UnsoundTable::Trips)?;
     Ok(Change {
         trips,
         ..no_change(alloc)
@@ -181,7 +148,12 @@ fn rider_chairs_change<S: Alter>(
     ensures { ReadsTable UnsoundTable.RiderChairs (state S.Store conn.old) (state S.Store conn.new)
         keeper.now.content result }
 {
-    let riders = beside_in(alloc, conn, keeper.riders_table().as_slice(), RIDER_CHAIRS)?;
+    let riders = beside_in(
+        alloc,
+        conn,
+        keeper.riders_table().as_slice(),
+        UnsoundTable::RiderChairs,
+    )?;
     Ok(Change {
         riders,
         ..no_change(alloc)
@@ -202,7 +174,7 @@ fn vehicle_chairs_change<S: Alter>(
         alloc,
         conn,
         keeper.vehicles_table().as_slice(),
-        VEHICLE_CHAIRS,
+        UnsoundTable::VehicleChairs,
     )?;
     Ok(Change {
         vehicles,
@@ -220,7 +192,12 @@ fn trip_chairs_change<S: Alter>(
     ensures { ReadsTable UnsoundTable.TripChairs (state S.Store conn.old) (state S.Store conn.new)
         keeper.now.content result }
 {
-    let trips = beside_in(alloc, conn, keeper.trips_table().as_slice(), TRIP_CHAIRS)?;
+    let trips = beside_in(
+        alloc,
+        conn,
+        keeper.trips_table().as_slice(),
+        UnsoundTable::TripChairs,
+    )?;
     Ok(Change {
         trips,
         ..no_change(alloc)

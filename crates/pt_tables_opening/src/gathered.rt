@@ -3,6 +3,7 @@ ghost use Rattle.sqlite.specs.Order.{Row as StoredRow, column};
 ghost use Rattle.sqlite.specs.Held.{state};
 ghost use Rattle.sqlite.specs.State.{HasCleanDisk};
 ghost use Rattle.sqlite.specs.Table.{Table as StoredTable};
+ghost use Rattle.pt_soundness.specs.Tables.{number_of};
 ghost use Rattle.pt_tables_opening.specs.Gathered.{AreInOrder, BeginsOnce, TellsGathered, IsGatheredFrom};
 ghost use Rattle.pt_tables_opening.specs.Gathered.{GathersNothing, IsGatheredTable, IsUngathered};
 ghost use Rattle.pt_tables_opening.specs.Opening.{Rests};
@@ -18,6 +19,7 @@ use crate::OpenFault;
 use crate::open_fault::fault_of;
 use crate::records::are_rising;
 use pt_records::{Edits, Keyed};
+use pt_soundness::UnsoundTable;
 use sqlite::types::ValueRef;
 use sqlite::{Alter, Connection, Error, Row};
 use std::alloc::{AllocError, Global};
@@ -107,11 +109,11 @@ pub(crate) fn gathered_of<T: Gathered>(
 fn gathered_table<T: Gathered>(
     alloc: Global,
     rows: &[Row],
-    table: u8,
+    table: UnsoundTable,
 ) -> Result<Edits<T>, OpenFault>
     ensures told { IfOk result (IsGatheredFrom T.key T.rows_of T.Fits rows.now) }
     ensures faults { IfErr result (λ refused. (refused ≡ fault memory_refused)
-        ⊎ ((refused ≡ unsound table) × GathersNothing T.key T.rows_of T.Fits rows.now)) }
+        ⊎ ((refused ≡ unsound (number_of table)) × GathersNothing T.key T.rows_of T.Fits rows.now)) }
 {
     let Ok(found) = gathered_of(alloc, rows) else {
         return Err(OpenFault::MEMORY);
@@ -130,13 +132,13 @@ fn gathered_table<T: Gathered>(
 pub(crate) fn gathered_in<S: Alter, T: Gathered>(
     alloc: Global,
     conn: &mut Connection<S>,
-    table: u8,
+    table: UnsoundTable,
 ) -> Result<Edits<T>, OpenFault>
     ensures fitting { IfOk result (IsFitting T.key T.Fits) }
     ensures told { HasCleanDisk (state S.Store conn.new) → (state S.Store conn.old).now.schema ≡ desk_schema
         → IfOk result (IsGatheredTable T.key T.home T.rows_of T.Fits (state S.Store conn.old).now.trees) }
     ensures faults { IfErr result (λ refused. (refused ≡ fault memory_refused) ⊎ ((refused ≡ fault store_refused)
-        ⊎ ((refused ≡ unsound table) × (HasCleanDisk (state S.Store conn.new)
+        ⊎ ((refused ≡ unsound (number_of table)) × (HasCleanDisk (state S.Store conn.new)
         → (state S.Store conn.old).now.schema ≡ desk_schema
         → IsUngathered T.key T.home T.rows_of T.Fits (state S.Store conn.old).now.trees)))) }
     ensures rests { Rests (state S.Store conn.old) (state S.Store conn.new) result }

@@ -1,8 +1,10 @@
 ghost use Rattle.std.specs.Prelude.{◌≡◌, ◌≢◌};
 ghost use Rattle.pt_base.specs.Codes.{memory_refused};
+ghost use Rattle.pt_soundness.specs.Tables.{number_of};
 ghost use Rattle.pt_tables_opening.specs.Faults.{IsRefusal, fault, store_refused, unsound};
 
 use pt_base::fault;
+use pt_soundness::UnsoundTable;
 use sqlite::{Error, ErrorCode};
 
 /// Why a database is not opened.
@@ -29,10 +31,13 @@ impl OpenFault {
     pub const OTHER_TABLES: OpenFault = OpenFault { code: 30, table: 0 };
 
     /// The rows of this table are those of no sound state.
-    pub(crate) fn unsound(table: u8) -> OpenFault
-        ensures value { result ≡ unsound table }
+    pub(crate) fn unsound(table: UnsoundTable) -> OpenFault
+        ensures value { result ≡ unsound (number_of table) }
     {
-        OpenFault { code: 31, table }
+        OpenFault {
+            code: 31,
+            table: table.number() as u8,
+        }
     }
 }
 

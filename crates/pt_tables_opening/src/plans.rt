@@ -21,15 +21,13 @@ use pt_base::{Day, VehicleId};
 use pt_desk_rules::PlannedRoute;
 use pt_records::Edits;
 use pt_scheduling::PlannedStop;
+use pt_soundness::UnsoundTable;
 use pt_tables_reading::stop_of;
 use sqlite::{Alter, Connection, Error, Row};
 use std::alloc::{AllocError, Global};
 
 /// The column of a stop's row that has its place among the stops.
 const PLACE_COLUMN: usize = 2;
-
-/// The number of the table of stops.
-const STOPS: u8 = 10;
 
 /// The stop of a row, where the row is that of this vehicle, day and place.
 fn stop_at(row: &Row, vehicle: VehicleId, day: Day, place: usize) -> Option<PlannedStop>
@@ -126,5 +124,5 @@ pub(crate) fn planned_in<S: Alter>(
         → AreRowsOfNone plan_key stops_table (flat_map stop_rows) FitsPlan (state S.Store conn.old).now.trees)))) }
     ensures rests { Rests (state S.Store conn.old) (state S.Store conn.new) result }
 {
-    gathered_in(alloc, conn, STOPS)
+    gathered_in(alloc, conn, UnsoundTable::Stops)
 }

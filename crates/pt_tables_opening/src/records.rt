@@ -4,6 +4,7 @@ ghost use Rattle.sqlite.specs.Held.{state};
 ghost use Rattle.sqlite.specs.State.{HasCleanDisk};
 ghost use Rattle.sqlite.specs.Table.{Table as StoredTable};
 ghost use Rattle.pt_records.specs.Records.{IsInOrder};
+ghost use Rattle.pt_soundness.specs.Tables.{number_of};
 ghost use Rattle.pt_tables_opening.specs.Told.{TellsAll, IsAfter, IsToldBy, IsFitting, IsTableOf, KeepsOrder};
 ghost use Rattle.pt_tables_opening.specs.Told.{AreRowsOfNone, TellsNothing};
 ghost use Rattle.pt_tables_opening.specs.Opening.{Rests};
@@ -16,6 +17,7 @@ ghost use Rattle.pt_tables_opening.specs.Faults.{fault, store_refused, unsound};
 use crate::OpenFault;
 use crate::open_fault::fault_of;
 use pt_records::{Edits, Key, Keyed};
+use pt_soundness::UnsoundTable;
 use sqlite::{Alter, Connection, Error, Row};
 use std::alloc::{AllocError, Global};
 
@@ -92,11 +94,11 @@ fn is_after(last: &Option<Key>, key: &Key) -> bool
 pub(crate) fn told_table<T: OneRow>(
     alloc: Global,
     rows: &[Row],
-    table: u8,
+    table: UnsoundTable,
 ) -> Result<Edits<T>, OpenFault>
     ensures told { IfOk result (IsToldBy T.key T.row_of T.Fits rows.now) }
     ensures faults { IfErr result (λ refused. (refused ≡ fault memory_refused)
-        ⊎ ((refused ≡ unsound table) × TellsNothing T.key T.row_of T.Fits rows.now)) }
+        ⊎ ((refused ≡ unsound (number_of table)) × TellsNothing T.key T.row_of T.Fits rows.now)) }
 {
     let Ok(found) = records_of(alloc, rows) else {
         return Err(OpenFault::MEMORY);
@@ -115,13 +117,13 @@ pub(crate) fn told_table<T: OneRow>(
 pub(crate) fn table_of<S: Alter, T: OneRow>(
     alloc: Global,
     conn: &mut Connection<S>,
-    table: u8,
+    table: UnsoundTable,
 ) -> Result<Edits<T>, OpenFault>
     ensures fitting { IfOk result (IsFitting T.key T.Fits) }
     ensures told { HasCleanDisk (state S.Store conn.new) → (state S.Store conn.old).now.schema ≡ desk_schema
         → IfOk result (IsTableOf T.key T.home T.row_of T.Fits (state S.Store conn.old).now.trees) }
     ensures faults { IfErr result (λ refused. (refused ≡ fault memory_refused) ⊎ ((refused ≡ fault store_refused)
-        ⊎ ((refused ≡ unsound table) × (HasCleanDisk (state S.Store conn.new)
+        ⊎ ((refused ≡ unsound (number_of table)) × (HasCleanDisk (state S.Store conn.new)
         → (state S.Store conn.old).now.schema ≡ desk_schema
         → AreRowsOfNone T.key T.home (map T.row_of) T.Fits (state S.Store conn.old).now.trees)))) }
     ensures rests { Rests (state S.Store conn.old) (state S.Store conn.new) result }

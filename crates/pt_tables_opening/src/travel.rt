@@ -21,6 +21,7 @@ use crate::table_rows::travel_rows;
 use pt_base::Day;
 use pt_desk_rules::TravelTable;
 use pt_records::Edits;
+use pt_soundness::UnsoundTable;
 use pt_tables_reading::drive_of;
 use pt_travel::{Raw, Row as Drive};
 use sqlite::{Alter, Connection, Error, Row};
@@ -28,9 +29,6 @@ use std::alloc::{AllocError, Global};
 
 /// The column that has the place from which a drive begins.
 const FROM_COLUMN: usize = 1;
-
-/// The number of the table of driving times.
-const TRAVEL: u8 = 11;
 
 /// The day of a row of noughts.
 fn first_day(row: &Row) -> Option<Day>
@@ -134,5 +132,5 @@ pub(crate) fn travel_in<S: Alter>(
         (state S.Store conn.old).now.trees)))) }
     ensures rests { Rests (state S.Store conn.old) (state S.Store conn.new) result }
 {
-    gathered_in(alloc, conn, TRAVEL)
+    gathered_in(alloc, conn, UnsoundTable::Travel)
 }

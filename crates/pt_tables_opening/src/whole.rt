@@ -35,7 +35,7 @@ fn at_fault(table: UnsoundTable) -> OpenFault
     ensures value { result ≡ unsound (number_of table) }
     ensures refusal { IsRefusal result }
 {
-    OpenFault::unsound(table.number() as u8)
+    OpenFault::unsound(table)
 }
 
 /// The desk with the change made, where it is sound in this table: code 31 where it is not, and 0 where memory was

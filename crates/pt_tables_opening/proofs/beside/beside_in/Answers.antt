@@ -6,6 +6,7 @@ use Rattle.pt_tables_opening.specs.Beside.{KeepsBeside}
 use Rattle.pt_tables_opening.specs.Faults.{fault, store_refused, unsound}
 use Rattle.pt_tables_rows.specs.Schema.{desk_schema}
 use Rattle.pt_tables_rows.specs.Tables.{AreRows}
+use Rattle.pt_soundness.specs.Tables.{number_of}
 use Rattle.pt_tables_opening.proofs.BesideLemmas.{beside_told, refuses_beside, same_told}
 use Rattle.pt_tables_opening.proofs.beside.beside_in.Goals as goal
 
@@ -18,7 +19,7 @@ returns-clause-faults g c =
     (HasCleanDisk (state g.S.Store c.second_rows.new.conn)) ((state g.S.Store c.args.conn.now).now.schema ≡ desk_schema)
     (λ clean has. subst (AreRows second trees) (sym c.deref.ensures.value) (c.in-Ok.ensures.rows clean has))
     (λ clean has. subst (KeepsBeside g.T.Keyed.key g.T.Beside.beside_of g.T.OneRow.Fits) (sym c.deref.ensures.value) (c.in-Ok.ensures.order clean has))
-    (fault memory_refused) (fault store_refused) (unsound c.args.table) c.merged_table.result c.merged_table.ensures.faults
+    (fault memory_refused) (fault store_refused) (unsound (number_of c.args.table)) c.merged_table.result c.merged_table.ensures.faults
 
 pub returns-clause-same : goal.returns-clause-same
 returns-clause-same g c =

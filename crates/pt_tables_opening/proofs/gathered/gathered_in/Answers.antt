@@ -7,6 +7,7 @@ use Rattle.pt_tables_opening.specs.Gathered.{AreInOrder}
 use Rattle.pt_tables_opening.specs.Opening.{Rests}
 use Rattle.pt_tables_rows.specs.Schema.{desk_schema}
 use Rattle.pt_tables_rows.specs.Tables.{AreRows}
+use Rattle.pt_soundness.specs.Tables.{number_of}
 use Rattle.pt_tables_opening.proofs.RestLemmas.{rests_so}
 use Rattle.pt_tables_opening.proofs.GatheredLemmas.{are_of_table, refuses_table}
 use Rattle.pt_tables_opening.proofs.gathered.gathered_in.Goals as goal
@@ -32,4 +33,4 @@ returns-clause-faults g c =
     (HasCleanDisk (state g.S.Store c.every_row.new.conn)) ((state g.S.Store c.args.conn.now).now.schema ≡ desk_schema)
     (λ clean has. subst (AreRows home trees) (sym c.deref.ensures.value) (c.in-Ok.ensures.rows clean has))
     (λ clean has. subst (AreInOrder 3) (sym c.deref.ensures.value) (c.in-Ok.ensures.order clean has))
-    (fault memory_refused) (fault store_refused) (unsound c.args.table) c.gathered_table.result c.gathered_table.ensures.faults
+    (fault memory_refused) (fault store_refused) (unsound (number_of c.args.table)) c.gathered_table.result c.gathered_table.ensures.faults

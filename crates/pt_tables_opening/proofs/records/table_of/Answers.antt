@@ -7,6 +7,7 @@ use Rattle.pt_tables_opening.specs.Opening.{Rests}
 use Rattle.pt_tables_rows.specs.Schema.{desk_schema}
 use Rattle.pt_tables_rows.specs.Tables.{AreRows}
 use Rattle.pt_tables_opening.specs.Told.{KeepsOrder}
+use Rattle.pt_soundness.specs.Tables.{number_of}
 use Rattle.pt_tables_opening.proofs.RestLemmas.{rests_so}
 use Rattle.pt_tables_opening.proofs.ToldLemmas.{are_of_table, refuses_table}
 use Rattle.pt_tables_opening.proofs.records.table_of.Goals as goal
@@ -32,4 +33,4 @@ returns-clause-faults g c =
     (HasCleanDisk (state g.S.Store c.all_rows.new.conn)) ((state g.S.Store c.args.conn.now).now.schema ≡ desk_schema)
     (λ clean has. subst (AreRows home trees) (sym c.deref.ensures.value) (c.in-Ok.ensures.rows clean has))
     (λ clean has. subst (KeepsOrder g.T.Keyed.key g.T.OneRow.row_of g.T.OneRow.Fits) (sym c.deref.ensures.value) (c.in-Ok.ensures.order clean has))
-    (fault memory_refused) (fault store_refused) (unsound c.args.table) c.told_table.result c.told_table.ensures.faults
+    (fault memory_refused) (fault store_refused) (unsound (number_of c.args.table)) c.told_table.result c.told_table.ensures.faults
