@@ -207,6 +207,16 @@ one_more_pickup minutes vehicle stops asked limit narrower i best other new same
     is_best
     (subst (λ (o : Option ℕ). IsBestBelow minutes vehicle stops asked (λ pickup drop. pickup ≡ i) o other) narrow is_other))
 
+-- a pickup that is nowhere possible
+pub no_more_pickup : (minutes : ℕ → ℕ → Option ℕ) (vehicle : Vehicle) (stops : List Stop) (asked : Asked) (limit : Option ℕ) (i : ℕ)
+    (best new : Option Chosen) → new ≡ best → ((drop : ℕ) → ¬ IsPossible minutes vehicle stops asked i drop) →
+    IsBestBelow minutes vehicle stops asked (λ pickup drop. pickup < i) limit best →
+    IsBestBelow minutes vehicle stops asked (λ pickup drop. pickup < i + 1) limit new
+no_more_pickup minutes vehicle stops asked limit i best new same never is_best =
+    one_more_pickup minutes vehicle stops asked limit (limit_after limit best) i best None new same refl is_best
+    (no_place minutes vehicle stops asked (λ pickup drop. pickup ≡ i) (limit_after limit best) None refl (λ pickup drop at possible.
+    never drop (subst (λ (k : ℕ). IsPossible minutes vehicle stops asked k drop) at possible)))
+
 -- all pickups
 pub all_pickups : (minutes : ℕ → ℕ → Option ℕ) (vehicle : Vehicle) (stops : List Stop) (asked : Asked) (limit : Option ℕ) (i : ℕ)
     (best : Option Chosen) → length stops < i →
