@@ -42,8 +42,8 @@ pub(crate) fn position_of<T: Keyed>(records: &[T], key: &Key) -> Result<usize, u
     Ok(at)
 }
 
-/// The record with this key.
-pub(crate) fn find_record<'a, T: Keyed>(records: &'a [T], key: &Key) -> Option<&'a T>
+/// The record with this key, by halving.
+pub fn find_record<'a, T: Keyed>(records: &'a [T], key: &Key) -> Option<&'a T>
     requires { IsInOrder T.key records.now }
     ensures value { option_copied result ≡ record_at T.key key.now records.now }
 {

@@ -1,5 +1,6 @@
 ghost use Rattle.std.specs.Prelude.{◌≡◌, ◌++◌, [], ◌∷◌, ℕ, map, All, IfOk, IfSome, IfNone, OnOk};
 ghost use Rattle.pt_feasible.specs.Route.{stops_of};
+ghost use Rattle.pt_records.specs.Records.{IsInOrder};
 ghost use Rattle.pt_booking.specs.Planning.{on_duty};
 ghost use Rattle.pt_scheduling.specs.Plan.{after_stop, stops_among, planned_stops, trip_stop};
 ghost use Rattle.pt_scheduling.specs.Routes.{IsRoute, day_route, routes_without, stops_on, stops_without};
@@ -10,7 +11,7 @@ use pt_base::{Day, Trip, TripId, Vehicle, VehicleId};
 use pt_booking::asked_of;
 use pt_feasible::{Route, Stop, StopKind};
 use pt_insertion::Duty;
-use pt_records::{Key, Rows};
+use pt_records::{Key, Rows, find_record};
 use std::alloc::{AllocError, Global};
 
 /// A vehicle on duty, and its route of the day.
@@ -21,7 +22,7 @@ pub struct DayRoute {
 }
 
 /// A trip's stop of this kind.
-pub fn trip_stop(kind: StopKind, trip: &Trip) -> Stop
+fn trip_stop(kind: StopKind, trip: &Trip) -> Stop
     ensures { result ≡ trip_stop kind trip.now }
 {
     let asked = asked_of(trip);
@@ -32,16 +33,17 @@ pub fn trip_stop(kind: StopKind, trip: &Trip) -> Stop
 }
 
 /// The stops of those trips that are among these.
-fn stops_among(
+pub fn stops_among(
     alloc: Global,
-    trips: &Rows<Trip>,
+    trips: &[Trip],
     planned: &[PlannedStop],
 ) -> Result<Vec<Stop>, AllocError>
+    requires order { IsInOrder (λ trip. trip.id) trips.now }
     ensures { IfOk result (λ stops. stops.items ≡ stops_among trips.now planned.now) }
 {
     let mut stops = Vec::new(alloc);
     for stop in planned {
-        if let Some(trip) = trips.find(&Key::of(stop.trip.number())) {
+        if let Some(trip) = find_record(trips, &Key::of(stop.trip.number())) {
             stops.push(trip_stop(stop.kind, trip))?;
         }
     }
@@ -71,7 +73,7 @@ pub fn route_on(
     ensures none { IfOk result (λ found. IfNone found (¬ IsRoute (stops_on day trips.now plans.now vehicle))) }
 {
     let planned = planned_stops(plans, vehicle, day);
-    Ok(Route::of(stops_among(alloc, trips, planned)?))
+    Ok(Route::of(stops_among(alloc, trips.as_slice(), planned)?))
 }
 
 /// The route of a vehicle on a day without this trip; `None` where its stops are no route.
@@ -88,7 +90,8 @@ fn route_without(
         (¬ IsRoute (stops_without trip day plans.now.trips.now plans.now.plans.now vehicle))) }
 {
     let planned = stops_without(alloc, planned_stops(plans.plans, vehicle, day), trip)?;
-    Ok(Route::of(stops_among(alloc, plans.trips, &planned)?))
+    let trips = plans.trips.as_slice();
+    Ok(Route::of(stops_among(alloc, trips, &planned)?))
 }
 
 /// The routes of a day's vehicles without this trip; `None` where the stops of one are no route.

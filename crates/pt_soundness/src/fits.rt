@@ -13,28 +13,11 @@ use crate::travel::{are_of_places, hold_from_days};
 use crate::vehicles::versions_of;
 use pt_base::{Day, Place, Trip, Vehicle};
 use pt_desk_rules::{MOST_TABLES, PlannedRoute, PlannedStop, TravelTable, on_duty, table_on};
-use pt_feasible::{Route, Stop, settle};
-use pt_records::{Key, Table};
-use pt_scheduling::trip_stop;
+use pt_feasible::{Route, settle};
+use pt_records::Table;
+use pt_scheduling::stops_among;
 use pt_travel::Raw;
 use std::alloc::{AllocError, Global};
-
-/// The stops of those trips that are among these.
-fn stops_among(
-    alloc: Global,
-    trips: &Table<Trip>,
-    planned: &[PlannedStop],
-) -> Result<Vec<Stop>, AllocError>
-    ensures { IfOk result (λ stops. stops.items ≡ stops_among trips.now.items planned.now) }
-{
-    let mut stops = Vec::new(alloc);
-    for stop in planned {
-        if let Some(trip) = trips.find(&Key::of(stop.trip.number())) {
-            stops.push(trip_stop(stop.kind, trip))?;
-        }
-    }
-    Ok(stops)
-}
 
 /// The route of these stops.
 pub(crate) fn route_of(
@@ -45,7 +28,7 @@ pub(crate) fn route_of(
     requires route { IsPlannedRoute planned.now }
     ensures { IfOk result (λ route. stops_of route ≡ stops_among trips.now.items planned.now) }
 {
-    let stops = stops_among(alloc, trips, planned)?;
+    let stops = stops_among(alloc, trips.as_slice(), planned)?;
     Ok(Route::of(stops).unwrap())
 }
 
