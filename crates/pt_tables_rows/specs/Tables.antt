@@ -6,7 +6,7 @@ use Rattle.sqlite.specs.declared.error.Error.{Error}
 use Rattle.sqlite.specs.Effect.{Database}
 use Rattle.sqlite.specs.Order.{Row}
 use Rattle.sqlite.specs.Rows.{shown}
-use Rattle.sqlite.specs.State.{State as Connected, KeepsCommit}
+use Rattle.sqlite.specs.State.{State as Connected, HasCleanDisk, KeepsCommit}
 use Rattle.sqlite.specs.Table.{Table}
 use Rattle.sqlite.specs.Tree.{Trees, IsTable, rowid}
 use Rattle.sqlite.specs.View.{is_int}
@@ -111,6 +111,10 @@ abbrev pub ChangesIfOk : {X : Type 0} → Connected → Connected → (Database 
 ChangesIfOk old new Changes (Ok x) =
     KeepsCommit old new × IsTrue new.in_transaction × (old.now.schema ≡ desk_schema → Changes old.now new.now)
 ChangesIfOk old new Changes (Err e) = KeepsCommit old new
+
+-- where the disk stayed clean, a statement inside a transaction does so
+abbrev pub Makes : {X : Type 0} → Connected → Connected → (Database → Database → Type 0) → Result X Error → Type 0
+Makes old new Changes result = HasCleanDisk new → IsTrue old.in_transaction → ChangesIfOk old new Changes result
 
 -- Statements of a transaction do so where the tables are those of the first version, and commit nothing.
 abbrev pub AddsIfOk : {X : Type 0} → Connected → Connected → Result X Error → Type 0

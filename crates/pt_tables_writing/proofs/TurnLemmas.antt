@@ -10,14 +10,10 @@ use Rattle.sqlite.specs.Tree.{Trees}
 use Rattle.sqlite_trees.proofs.ListLemmas.{all_both}
 use Rattle.sqlite.proofs.StateLemmas.{survives_then}
 use Rattle.pt_tables_rows.specs.Schema.{desk_schema, tables}
-use Rattle.pt_tables_rows.specs.Tables.{ChangesIfOk, Others}
+use Rattle.pt_tables_rows.specs.Tables.{ChangesIfOk, Others, Makes}
 use Rattle.pt_tables_writing.specs.Writes.{Rewrites}
 use Rattle.pt_tables_rows.proofs.PartLemmas.{on_ok}
 use Rattle.pt_tables_rows.proofs.StateLemmas.{keeps_then}
-
--- what a statement does, if its connection is clean in the end and was in a transaction
-abbrev pub Did : {X : Type 0} → Connected → Connected → (Database → Database → Type 0) → Result X Error → Type 0
-Did a b Changes r = HasCleanDisk b → IsTrue a.in_transaction → ChangesIfOk a b Changes r
 
 -- nothing is committed by the one, nor by the other
 pub survive_both : (a b c : Connected) → Survives a b (λ _. ⊥) → Survives b c (λ _. ⊥) → Survives a c (λ _. ⊥)
@@ -44,7 +40,7 @@ both_do a b c F G H x (Err e) join first next = keeps_then a b c first.0 next
 -- the one statement, and then the other
 pub did_then : {X Y : Type 0} (a b c : Connected) (F G H : Database → Database → Type 0) (x : X) (r : Result Y Error)
     → (a.now.schema ≡ desk_schema → F a.now b.now → (b.now.schema ≡ desk_schema → G b.now c.now) → H a.now c.now)
-    → Survives b c (λ _. ⊥) → Did a b F (Ok x) → Did b c G r → Did a c H r
+    → Survives b c (λ _. ⊥) → Makes a b F (Ok x) → Makes b c G r → Makes a c H r
 did_then a b c F G H x r join survives first next clean inside =
     let early : HasCleanDisk b = omega (arith, survives.clean) in
     let before = first early inside in
@@ -54,7 +50,7 @@ did_then a b c F G H x r join survives first next clean inside =
 abbrev pub Stayed : Connected → Connected → Type 0
 Stayed a b = HasCleanDisk b → IsTrue a.in_transaction → KeepsCommit a b × IsTrue b.in_transaction
 
-pub stayed : {X : Type 0} (a b : Connected) (F : Database → Database → Type 0) (x : X) → Did a b F (Ok x) → Stayed a b
+pub stayed : {X : Type 0} (a b : Connected) (F : Database → Database → Type 0) (x : X) → Makes a b F (Ok x) → Stayed a b
 stayed a b F x did clean inside = let it = did clean inside in (it.0, it.1)
 
 pub stayed_then : (a b c : Connected) → Survives b c (λ _. ⊥) → Stayed a b → Stayed b c → Stayed a c
@@ -66,7 +62,7 @@ stayed_then a b c survives first next clean inside =
 
 -- an error after what was done commits nothing either
 pub fails_then : (X : Type 0) (a b c : Connected) (G H : Database → Database → Type 0) (e : Error) → Survives b c (λ _. ⊥)
-    → Stayed a b → Did {X = X} b c G (Err e) → Did {X = X} a c H (Err e)
+    → Stayed a b → Makes {X = X} b c G (Err e) → Makes {X = X} a c H (Err e)
 fails_then X a b c G H e survives first next clean inside =
     let early : HasCleanDisk b = omega (arith, survives.clean) in
     let before = first early inside in
@@ -82,7 +78,7 @@ ends a b c G H (Err e) join kept next = keeps_then a b c kept next
 pub did_last : {X : Type 0} (a b c : Connected) (G H : Database → Database → Type 0) (r : Result X Error) → Survives b c (λ _. ⊥)
     → Stayed a b
     → (HasCleanDisk b → IsTrue a.in_transaction → a.now.schema ≡ desk_schema → (b.now.schema ≡ desk_schema → G b.now c.now) → H a.now c.now)
-    → Did b c G r → Did a c H r
+    → Makes b c G r → Makes a c H r
 did_last a b c G H r survives first join next clean inside =
     let early : HasCleanDisk b = omega (arith, survives.clean) in
     let before = first early inside in
@@ -92,7 +88,7 @@ did_last a b c G H r survives first join next clean inside =
 pub did_three : {X Y Z : Type 0} (a b c d : Connected) (F G K H : Database → Database → Type 0) (x : X) (y : Y) (r : Result Z Error)
     → ((a.now.schema ≡ desk_schema → F a.now b.now) → (b.now.schema ≡ desk_schema → G b.now c.now)
     → (c.now.schema ≡ desk_schema → K c.now d.now) → H a.now d.now)
-    → Survives b c (λ _. ⊥) → Survives c d (λ _. ⊥) → Did a b F (Ok x) → Did b c G (Ok y) → Did c d K r → Did a d H r
+    → Survives b c (λ _. ⊥) → Survives c d (λ _. ⊥) → Makes a b F (Ok x) → Makes b c G (Ok y) → Makes c d K r → Makes a d H r
 did_three a b c d F G K H x y r join early late one two three =
     did_last a c d K H r late (stayed_then a b c early (stayed a b F x one) (stayed b c G y two))
     (λ clean inside has next.
@@ -106,7 +102,7 @@ pub did_four : {X Y Z W : Type 0} (a b c d e : Connected) (F G K L H : Database 
     → ((a.now.schema ≡ desk_schema → F a.now b.now) → (b.now.schema ≡ desk_schema → G b.now c.now)
     → (c.now.schema ≡ desk_schema → K c.now d.now) → (d.now.schema ≡ desk_schema → L d.now e.now) → H a.now e.now)
     → Survives b c (λ _. ⊥) → Survives c d (λ _. ⊥) → Survives d e (λ _. ⊥)
-    → Did a b F (Ok x) → Did b c G (Ok y) → Did c d K (Ok z) → Did d e L r → Did a e H r
+    → Makes a b F (Ok x) → Makes b c G (Ok y) → Makes c d K (Ok z) → Makes d e L r → Makes a e H r
 did_four a b c d e F G K L H x y z r join early late last one two three four =
     did_last a d e L H r last
     (stayed_then a c d late (stayed_then a b c early (stayed a b F x one) (stayed b c G y two)) (stayed c d K z three))

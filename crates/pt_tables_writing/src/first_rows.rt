@@ -5,7 +5,7 @@ ghost use Rattle.sqlite.specs.State.{HasCleanDisk, Survives};
 ghost use Rattle.pt_tables_writing.specs.Least.{first_admin};
 ghost use Rattle.pt_tables_rows.specs.Rows.{desk_row, caller_row};
 ghost use Rattle.pt_tables_rows.specs.Schema.{desk_schema, desk_table, callers_table};
-ghost use Rattle.pt_tables_rows.specs.Tables.{ChangesIfOk, Fills};
+ghost use Rattle.pt_tables_rows.specs.Tables.{Fills, Makes};
 
 use pt_base::Policy;
 use pt_requests::Digest;
@@ -35,9 +35,7 @@ pub fn insert_desk<S: Alter>(
     last_trip: u32,
 ) -> Result<(), Error>
     ensures same_reference { tx.new.conn.ghost_name ≡ tx.old.conn.ghost_name }
-    ensures filled { HasCleanDisk (state S.Store tx.new.conn.now)
-        → IsTrue (state S.Store tx.old.conn.now).in_transaction
-        → ChangesIfOk (state S.Store tx.old.conn.now) (state S.Store tx.new.conn.now)
+    ensures filled { Makes (state S.Store tx.old.conn.now) (state S.Store tx.new.conn.now)
         (Fills desk_table (desk_row policy.now last_trip)) result }
     ensures survives { Survives (state S.Store tx.old.conn.now) (state S.Store tx.new.conn.now) (λ _. ⊥) }
 {
@@ -63,9 +61,7 @@ pub fn insert_desk<S: Alter>(
 /// Puts the admin whose key has this digest into the empty table of callers.
 pub fn insert_admin<S: Alter>(tx: &mut Transaction<'_, S>, digest: &Digest) -> Result<(), Error>
     ensures same_reference { tx.new.conn.ghost_name ≡ tx.old.conn.ghost_name }
-    ensures filled { HasCleanDisk (state S.Store tx.new.conn.now)
-        → IsTrue (state S.Store tx.old.conn.now).in_transaction
-        → ChangesIfOk (state S.Store tx.old.conn.now) (state S.Store tx.new.conn.now)
+    ensures filled { Makes (state S.Store tx.old.conn.now) (state S.Store tx.new.conn.now)
         (Fills callers_table (caller_row (first_admin digest.now))) result }
     ensures sound { HasCleanDisk (state S.Store tx.new.conn.now)
         → IsTrue (state S.Store tx.old.conn.now).in_transaction

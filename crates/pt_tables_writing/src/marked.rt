@@ -1,11 +1,11 @@
-ghost use Rattle.std.specs.Prelude.{◌≡◌, IsTrue, List};
+ghost use Rattle.std.specs.Prelude.{◌≡◌, List};
 ghost use Rattle.sqlite.specs.Held.{state};
 ghost use Rattle.sqlite.specs.Order.{Row};
-ghost use Rattle.sqlite.specs.State.{HasCleanDisk, Survives};
+ghost use Rattle.sqlite.specs.State.{Survives};
 ghost use Rattle.sqlite.specs.Table.{Table as StoredTable};
 ghost use Rattle.pt_records.specs.Records.{Each};
 ghost use Rattle.pt_tables_writing.specs.Stored.{EditsTable, PutsAll, TakesAll, TakesSpans};
-ghost use Rattle.pt_tables_rows.specs.Tables.{ChangesIfOk};
+ghost use Rattle.pt_tables_rows.specs.Tables.{Makes};
 ghost use Rattle.pt_tables_writing.specs.Writes.{Puts, Takes};
 
 use crate::chairs::{
@@ -30,18 +30,14 @@ pub(crate) trait Marked: Keyed {
     /// Puts its rows there in place of those of the record with its key.
     fn mark<S: Alter>(&self, tx: &mut Transaction<'_, S>) -> Result<(), Error>
         ensures same_reference { tx.new.conn.ghost_name ≡ tx.old.conn.ghost_name }
-        ensures written { HasCleanDisk (state S.Store tx.new.conn.now)
-            → IsTrue (state S.Store tx.old.conn.now).in_transaction
-            → ChangesIfOk (state S.Store tx.old.conn.now) (state S.Store tx.new.conn.now)
+        ensures written { Makes (state S.Store tx.old.conn.now) (state S.Store tx.new.conn.now)
             (Puts home Self.key Fits rows_of self.now) result }
         ensures survives { Survives (state S.Store tx.old.conn.now) (state S.Store tx.new.conn.now) (λ _. ⊥) };
 
     /// Takes away the rows there of the record with its key.
     fn unmark<S: Alter>(&self, tx: &mut Transaction<'_, S>) -> Result<(), Error>
         ensures same_reference { tx.new.conn.ghost_name ≡ tx.old.conn.ghost_name }
-        ensures written { HasCleanDisk (state S.Store tx.new.conn.now)
-            → IsTrue (state S.Store tx.old.conn.now).in_transaction
-            → ChangesIfOk (state S.Store tx.old.conn.now) (state S.Store tx.new.conn.now)
+        ensures written { Makes (state S.Store tx.old.conn.now) (state S.Store tx.new.conn.now)
             (Takes home Self.key Fits rows_of self.now) result }
         ensures survives { Survives (state S.Store tx.old.conn.now) (state S.Store tx.new.conn.now) (λ _. ⊥) };
 }
@@ -110,9 +106,7 @@ pub(crate) fn mark_each<S: Alter, T: Marked>(
     news: &[T],
 ) -> Result<(), Error>
     ensures same_reference { tx.new.conn.ghost_name ≡ tx.old.conn.ghost_name }
-    ensures written { HasCleanDisk (state S.Store tx.new.conn.now)
-        → IsTrue (state S.Store tx.old.conn.now).in_transaction
-        → ChangesIfOk (state S.Store tx.old.conn.now) (state S.Store tx.new.conn.now)
+    ensures written { Makes (state S.Store tx.old.conn.now) (state S.Store tx.new.conn.now)
         (PutsAll T.home T.key T.Fits T.rows_of news.now) result }
     ensures survives { Survives (state S.Store tx.old.conn.now) (state S.Store tx.new.conn.now) (λ _. ⊥) }
 {
@@ -125,9 +119,7 @@ pub(crate) fn mark_each<S: Alter, T: Marked>(
 /// Takes away those of each of the records.
 fn unmark_each<S: Alter, T: Marked>(tx: &mut Transaction<'_, S>, gone: &[T]) -> Result<(), Error>
     ensures same_reference { tx.new.conn.ghost_name ≡ tx.old.conn.ghost_name }
-    ensures written { HasCleanDisk (state S.Store tx.new.conn.now)
-        → IsTrue (state S.Store tx.old.conn.now).in_transaction
-        → ChangesIfOk (state S.Store tx.old.conn.now) (state S.Store tx.new.conn.now)
+    ensures written { Makes (state S.Store tx.old.conn.now) (state S.Store tx.new.conn.now)
         (TakesAll T.home T.key T.Fits T.rows_of gone.now) result }
     ensures survives { Survives (state S.Store tx.old.conn.now) (state S.Store tx.new.conn.now) (λ _. ⊥) }
 {
@@ -144,9 +136,7 @@ pub(crate) fn unmark_spans<S: Alter, T: Marked>(
     records: &Table<T>,
 ) -> Result<(), Error>
     ensures same_reference { tx.new.conn.ghost_name ≡ tx.old.conn.ghost_name }
-    ensures written { HasCleanDisk (state S.Store tx.new.conn.now)
-        → IsTrue (state S.Store tx.old.conn.now).in_transaction
-        → ChangesIfOk (state S.Store tx.old.conn.now) (state S.Store tx.new.conn.now)
+    ensures written { Makes (state S.Store tx.old.conn.now) (state S.Store tx.new.conn.now)
         (TakesSpans T.home T.key T.Fits T.rows_of spans.now records.now.items) result }
     ensures survives { Survives (state S.Store tx.old.conn.now) (state S.Store tx.new.conn.now) (λ _. ⊥) }
 {
@@ -163,9 +153,7 @@ pub(crate) fn write_marks<S: Alter, T: Marked>(
     records: &Table<T>,
 ) -> Result<(), Error>
     ensures same_reference { tx.new.conn.ghost_name ≡ tx.old.conn.ghost_name }
-    ensures written { HasCleanDisk (state S.Store tx.new.conn.now)
-        → IsTrue (state S.Store tx.old.conn.now).in_transaction
-        → ChangesIfOk (state S.Store tx.old.conn.now) (state S.Store tx.new.conn.now)
+    ensures written { Makes (state S.Store tx.old.conn.now) (state S.Store tx.new.conn.now)
         (EditsTable T.home T.key T.Fits T.rows_of edits.now records.now.items) result }
     ensures survives { Survives (state S.Store tx.old.conn.now) (state S.Store tx.new.conn.now) (λ _. ⊥) }
 {

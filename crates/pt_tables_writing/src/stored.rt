@@ -1,11 +1,11 @@
-ghost use Rattle.std.specs.Prelude.{◌≡◌, IsTrue, List};
+ghost use Rattle.std.specs.Prelude.{◌≡◌, List};
 ghost use Rattle.sqlite.specs.Held.{state};
 ghost use Rattle.sqlite.specs.Order.{Row};
-ghost use Rattle.sqlite.specs.State.{HasCleanDisk, Survives};
+ghost use Rattle.sqlite.specs.State.{Survives};
 ghost use Rattle.sqlite.specs.Table.{Table as StoredTable};
 ghost use Rattle.pt_records.specs.Records.{Each};
 ghost use Rattle.pt_tables_writing.specs.Stored.{EditsTable, PutsAll, TakesAll, TakesSpans};
-ghost use Rattle.pt_tables_rows.specs.Tables.{ChangesIfOk};
+ghost use Rattle.pt_tables_rows.specs.Tables.{Makes};
 ghost use Rattle.pt_tables_writing.specs.Writes.{Puts, Takes};
 
 use crate::grouped::{
@@ -35,18 +35,14 @@ pub(crate) trait Stored: Keyed {
     /// Puts its rows in place of those of the record with its key.
     fn put<S: Alter>(&self, tx: &mut Transaction<'_, S>) -> Result<(), Error>
         ensures same_reference { tx.new.conn.ghost_name ≡ tx.old.conn.ghost_name }
-        ensures written { HasCleanDisk (state S.Store tx.new.conn.now)
-            → IsTrue (state S.Store tx.old.conn.now).in_transaction
-            → ChangesIfOk (state S.Store tx.old.conn.now) (state S.Store tx.new.conn.now)
+        ensures written { Makes (state S.Store tx.old.conn.now) (state S.Store tx.new.conn.now)
             (Puts home Self.key Fits rows_of self.now) result }
         ensures survives { Survives (state S.Store tx.old.conn.now) (state S.Store tx.new.conn.now) (λ _. ⊥) };
 
     /// Takes away the rows of the record with its key.
     fn take<S: Alter>(&self, tx: &mut Transaction<'_, S>) -> Result<(), Error>
         ensures same_reference { tx.new.conn.ghost_name ≡ tx.old.conn.ghost_name }
-        ensures written { HasCleanDisk (state S.Store tx.new.conn.now)
-            → IsTrue (state S.Store tx.old.conn.now).in_transaction
-            → ChangesIfOk (state S.Store tx.old.conn.now) (state S.Store tx.new.conn.now)
+        ensures written { Makes (state S.Store tx.old.conn.now) (state S.Store tx.new.conn.now)
             (Takes home Self.key Fits rows_of self.now) result }
         ensures survives { Survives (state S.Store tx.old.conn.now) (state S.Store tx.new.conn.now) (λ _. ⊥) };
 }
@@ -255,9 +251,7 @@ impl Stored for PlannedRoute {
 /// Puts each of the records.
 fn put_each<S: Alter, T: Stored>(tx: &mut Transaction<'_, S>, news: &[T]) -> Result<(), Error>
     ensures same_reference { tx.new.conn.ghost_name ≡ tx.old.conn.ghost_name }
-    ensures written { HasCleanDisk (state S.Store tx.new.conn.now)
-        → IsTrue (state S.Store tx.old.conn.now).in_transaction
-        → ChangesIfOk (state S.Store tx.old.conn.now) (state S.Store tx.new.conn.now)
+    ensures written { Makes (state S.Store tx.old.conn.now) (state S.Store tx.new.conn.now)
         (PutsAll T.home T.key T.Fits T.rows_of news.now) result }
     ensures survives { Survives (state S.Store tx.old.conn.now) (state S.Store tx.new.conn.now) (λ _. ⊥) }
 {
@@ -270,9 +264,7 @@ fn put_each<S: Alter, T: Stored>(tx: &mut Transaction<'_, S>, news: &[T]) -> Res
 /// Takes away each of the records.
 fn take_each<S: Alter, T: Stored>(tx: &mut Transaction<'_, S>, gone: &[T]) -> Result<(), Error>
     ensures same_reference { tx.new.conn.ghost_name ≡ tx.old.conn.ghost_name }
-    ensures written { HasCleanDisk (state S.Store tx.new.conn.now)
-        → IsTrue (state S.Store tx.old.conn.now).in_transaction
-        → ChangesIfOk (state S.Store tx.old.conn.now) (state S.Store tx.new.conn.now)
+    ensures written { Makes (state S.Store tx.old.conn.now) (state S.Store tx.new.conn.now)
         (TakesAll T.home T.key T.Fits T.rows_of gone.now) result }
     ensures survives { Survives (state S.Store tx.old.conn.now) (state S.Store tx.new.conn.now) (λ _. ⊥) }
 {
@@ -289,9 +281,7 @@ fn take_spans<S: Alter, T: Stored>(
     records: &Table<T>,
 ) -> Result<(), Error>
     ensures same_reference { tx.new.conn.ghost_name ≡ tx.old.conn.ghost_name }
-    ensures written { HasCleanDisk (state S.Store tx.new.conn.now)
-        → IsTrue (state S.Store tx.old.conn.now).in_transaction
-        → ChangesIfOk (state S.Store tx.old.conn.now) (state S.Store tx.new.conn.now)
+    ensures written { Makes (state S.Store tx.old.conn.now) (state S.Store tx.new.conn.now)
         (TakesSpans T.home T.key T.Fits T.rows_of spans.now records.now.items) result }
     ensures survives { Survives (state S.Store tx.old.conn.now) (state S.Store tx.new.conn.now) (λ _. ⊥) }
 {
@@ -308,9 +298,7 @@ pub(crate) fn write_edits<S: Alter, T: Stored>(
     records: &Table<T>,
 ) -> Result<(), Error>
     ensures same_reference { tx.new.conn.ghost_name ≡ tx.old.conn.ghost_name }
-    ensures written { HasCleanDisk (state S.Store tx.new.conn.now)
-        → IsTrue (state S.Store tx.old.conn.now).in_transaction
-        → ChangesIfOk (state S.Store tx.old.conn.now) (state S.Store tx.new.conn.now)
+    ensures written { Makes (state S.Store tx.old.conn.now) (state S.Store tx.new.conn.now)
         (EditsTable T.home T.key T.Fits T.rows_of edits.now records.now.items) result }
     ensures survives { Survives (state S.Store tx.old.conn.now) (state S.Store tx.new.conn.now) (λ _. ⊥) }
 {

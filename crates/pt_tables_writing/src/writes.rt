@@ -9,7 +9,7 @@ ghost use Rattle.pt_tables_writing.specs.Groups.{WritesRiders, WritesVehicles, W
 ghost use Rattle.pt_tables_writing.specs.Least.{IsUndone};
 ghost use Rattle.pt_tables_rows.specs.Rows.{desk_row};
 ghost use Rattle.pt_tables_rows.specs.Schema.{desk_table};
-ghost use Rattle.pt_tables_rows.specs.Tables.{ChangesIfOk};
+ghost use Rattle.pt_tables_rows.specs.Tables.{Makes};
 ghost use Rattle.pt_tables_rows.specs.WellFormed.{IsWellFormed, PutsWellFormed};
 ghost use Rattle.pt_tables_writing.specs.Writes.{Rewrites};
 
@@ -29,9 +29,8 @@ fn write_riders<S: Alter>(
     mirror: &ListKeeper,
 ) -> Result<(), Error>
     ensures same_reference { tx.new.conn.ghost_name ≡ tx.old.conn.ghost_name }
-    ensures written { let content = mirror.now.content in HasCleanDisk (state S.Store tx.new.conn.now)
-        → IsTrue (state S.Store tx.old.conn.now).in_transaction
-        → ChangesIfOk (state S.Store tx.old.conn.now) (state S.Store tx.new.conn.now)
+    ensures written { let content = mirror.now.content in
+        Makes (state S.Store tx.old.conn.now) (state S.Store tx.new.conn.now)
         (WritesRiders change.now content) result }
     ensures survives { Survives (state S.Store tx.old.conn.now) (state S.Store tx.new.conn.now) (λ _. ⊥) }
 {
@@ -47,9 +46,8 @@ fn write_people<S: Alter>(
     mirror: &ListKeeper,
 ) -> Result<(), Error>
     ensures same_reference { tx.new.conn.ghost_name ≡ tx.old.conn.ghost_name }
-    ensures written { let content = mirror.now.content in HasCleanDisk (state S.Store tx.new.conn.now)
-        → IsTrue (state S.Store tx.old.conn.now).in_transaction
-        → ChangesIfOk (state S.Store tx.old.conn.now) (state S.Store tx.new.conn.now)
+    ensures written { let content = mirror.now.content in
+        Makes (state S.Store tx.old.conn.now) (state S.Store tx.new.conn.now)
         (Leads change.now content content (with_people change.now content)) result }
     ensures survives { Survives (state S.Store tx.old.conn.now) (state S.Store tx.new.conn.now) (λ _. ⊥) }
 {
@@ -66,9 +64,8 @@ fn write_vehicles<S: Alter>(
     mirror: &ListKeeper,
 ) -> Result<(), Error>
     ensures same_reference { tx.new.conn.ghost_name ≡ tx.old.conn.ghost_name }
-    ensures written { let content = mirror.now.content in HasCleanDisk (state S.Store tx.new.conn.now)
-        → IsTrue (state S.Store tx.old.conn.now).in_transaction
-        → ChangesIfOk (state S.Store tx.old.conn.now) (state S.Store tx.new.conn.now)
+    ensures written { let content = mirror.now.content in
+        Makes (state S.Store tx.old.conn.now) (state S.Store tx.new.conn.now)
         (WritesVehicles change.now content) result }
     ensures survives { Survives (state S.Store tx.old.conn.now) (state S.Store tx.new.conn.now) (λ _. ⊥) }
 {
@@ -84,9 +81,8 @@ fn write_fleet<S: Alter>(
     mirror: &ListKeeper,
 ) -> Result<(), Error>
     ensures same_reference { tx.new.conn.ghost_name ≡ tx.old.conn.ghost_name }
-    ensures written { let content = mirror.now.content in HasCleanDisk (state S.Store tx.new.conn.now)
-        → IsTrue (state S.Store tx.old.conn.now).in_transaction
-        → ChangesIfOk (state S.Store tx.old.conn.now) (state S.Store tx.new.conn.now)
+    ensures written { let content = mirror.now.content in
+        Makes (state S.Store tx.old.conn.now) (state S.Store tx.new.conn.now)
         (WritesFleet change.now content) result }
     ensures survives { Survives (state S.Store tx.old.conn.now) (state S.Store tx.new.conn.now) (λ _. ⊥) }
 {
@@ -102,8 +98,7 @@ fn write_area<S: Alter>(
 ) -> Result<(), Error>
     ensures same_reference { tx.new.conn.ghost_name ≡ tx.old.conn.ghost_name }
     ensures written { let content = mirror.now.content in let before = with_people change.now content in
-        HasCleanDisk (state S.Store tx.new.conn.now) → IsTrue (state S.Store tx.old.conn.now).in_transaction
-        → ChangesIfOk (state S.Store tx.old.conn.now) (state S.Store tx.new.conn.now)
+        Makes (state S.Store tx.old.conn.now) (state S.Store tx.new.conn.now)
         (Leads change.now content before (with_area change.now before)) result }
     ensures survives { Survives (state S.Store tx.old.conn.now) (state S.Store tx.new.conn.now) (λ _. ⊥) }
 {
@@ -140,9 +135,8 @@ fn write_settings<S: Alter>(
     mirror: &ListKeeper,
 ) -> Result<(), Error>
     ensures same_reference { tx.new.conn.ghost_name ≡ tx.old.conn.ghost_name }
-    ensures written { let content = mirror.now.content in HasCleanDisk (state S.Store tx.new.conn.now)
-        → IsTrue (state S.Store tx.old.conn.now).in_transaction
-        → ChangesIfOk (state S.Store tx.old.conn.now) (state S.Store tx.new.conn.now)
+    ensures written { let content = mirror.now.content in
+        Makes (state S.Store tx.old.conn.now) (state S.Store tx.new.conn.now)
         (λ old new. (p : _) (n : _) → Rewrites desk_table (desk_row p n ∷ [])
         (desk_row (unwrap_or change.now.policy content.policy) (unwrap_or change.now.last_trip content.last_trip) ∷ [])
         old new) result }
@@ -161,9 +155,8 @@ fn write_booked<S: Alter>(
     mirror: &ListKeeper,
 ) -> Result<(), Error>
     ensures same_reference { tx.new.conn.ghost_name ≡ tx.old.conn.ghost_name }
-    ensures written { let content = mirror.now.content in HasCleanDisk (state S.Store tx.new.conn.now)
-        → IsTrue (state S.Store tx.old.conn.now).in_transaction
-        → ChangesIfOk (state S.Store tx.old.conn.now) (state S.Store tx.new.conn.now)
+    ensures written { let content = mirror.now.content in
+        Makes (state S.Store tx.old.conn.now) (state S.Store tx.new.conn.now)
         (WritesTrips change.now content) result }
     ensures survives { Survives (state S.Store tx.old.conn.now) (state S.Store tx.new.conn.now) (λ _. ⊥) }
 {
@@ -181,8 +174,7 @@ fn write_trips<S: Alter>(
     ensures same_reference { tx.new.conn.ghost_name ≡ tx.old.conn.ghost_name }
     ensures written { let content = mirror.now.content in
         let before = with_area change.now (with_people change.now content) in
-        HasCleanDisk (state S.Store tx.new.conn.now) → IsTrue (state S.Store tx.old.conn.now).in_transaction
-        → ChangesIfOk (state S.Store tx.old.conn.now) (state S.Store tx.new.conn.now)
+        Makes (state S.Store tx.old.conn.now) (state S.Store tx.new.conn.now)
         (Leads change.now content before (with_trips change.now before)) result }
     ensures open { HasCleanDisk (state S.Store tx.new.conn.now) → IsTrue (state S.Store tx.old.conn.now).in_transaction
         → OnOk result (IsTrue (state S.Store tx.old.conn.now).is_open) }
@@ -200,9 +192,8 @@ fn write_tables<S: Alter>(
     mirror: &ListKeeper,
 ) -> Result<(), Error>
     ensures same_reference { tx.new.conn.ghost_name ≡ tx.old.conn.ghost_name }
-    ensures written { let content = mirror.now.content in HasCleanDisk (state S.Store tx.new.conn.now)
-        → IsTrue (state S.Store tx.old.conn.now).in_transaction
-        → ChangesIfOk (state S.Store tx.old.conn.now) (state S.Store tx.new.conn.now)
+    ensures written { let content = mirror.now.content in
+        Makes (state S.Store tx.old.conn.now) (state S.Store tx.new.conn.now)
         (Leads change.now content content (applied change.now content)) result }
     ensures open { HasCleanDisk (state S.Store tx.new.conn.now) → IsTrue (state S.Store tx.old.conn.now).in_transaction
         → OnOk result (IsTrue (state S.Store tx.old.conn.now).is_open) }

@@ -1,10 +1,10 @@
-ghost use Rattle.std.specs.Prelude.{◌≡◌, IsTrue, map, ◌∷◌, []};
+ghost use Rattle.std.specs.Prelude.{◌≡◌, map, ◌∷◌, []};
 ghost use Rattle.sqlite.specs.Held.{state};
-ghost use Rattle.sqlite.specs.State.{HasCleanDisk, Survives};
+ghost use Rattle.sqlite.specs.State.{Survives};
 ghost use Rattle.pt_desk_rules.specs.State.{travel_key};
 ghost use Rattle.pt_tables_rows.specs.Rows.{travel_row, travel_rows};
 ghost use Rattle.pt_tables_rows.specs.Schema.{travel_table};
-ghost use Rattle.pt_tables_rows.specs.Tables.{ChangesIfOk};
+ghost use Rattle.pt_tables_rows.specs.Tables.{Makes};
 ghost use Rattle.pt_tables_writing.specs.Grouped.{Adds};
 ghost use Rattle.pt_tables_writing.specs.Writes.{Puts, Takes};
 
@@ -23,9 +23,7 @@ pub(crate) fn put_travel<S: Alter>(
     table: &TravelTable,
 ) -> Result<(), Error>
     ensures same_reference { tx.new.conn.ghost_name ≡ tx.old.conn.ghost_name }
-    ensures written { HasCleanDisk (state S.Store tx.new.conn.now)
-        → IsTrue (state S.Store tx.old.conn.now).in_transaction
-        → ChangesIfOk (state S.Store tx.old.conn.now) (state S.Store tx.new.conn.now)
+    ensures written { Makes (state S.Store tx.old.conn.now) (state S.Store tx.new.conn.now)
         (Puts travel_table travel_key (λ _. Unit {0}) travel_rows table.now) result }
     ensures survives { Survives (state S.Store tx.old.conn.now) (state S.Store tx.new.conn.now) (λ _. ⊥) }
 {
@@ -39,9 +37,7 @@ pub(crate) fn take_travel<S: Alter>(
     table: &TravelTable,
 ) -> Result<(), Error>
     ensures same_reference { tx.new.conn.ghost_name ≡ tx.old.conn.ghost_name }
-    ensures written { HasCleanDisk (state S.Store tx.new.conn.now)
-        → IsTrue (state S.Store tx.old.conn.now).in_transaction
-        → ChangesIfOk (state S.Store tx.old.conn.now) (state S.Store tx.new.conn.now)
+    ensures written { Makes (state S.Store tx.old.conn.now) (state S.Store tx.new.conn.now)
         (Takes travel_table travel_key (λ _. Unit {0}) travel_rows table.now) result }
     ensures survives { Survives (state S.Store tx.old.conn.now) (state S.Store tx.new.conn.now) (λ _. ⊥) }
 {
@@ -52,9 +48,7 @@ pub(crate) fn take_travel<S: Alter>(
 /// Adds the rows of a travel table, first the one of noughts, which tells of a table that has none.
 fn insert_travel<S: Alter>(tx: &mut Transaction<'_, S>, table: &TravelTable) -> Result<(), Error>
     ensures same_reference { tx.new.conn.ghost_name ≡ tx.old.conn.ghost_name }
-    ensures written { HasCleanDisk (state S.Store tx.new.conn.now)
-        → IsTrue (state S.Store tx.old.conn.now).in_transaction
-        → ChangesIfOk (state S.Store tx.old.conn.now) (state S.Store tx.new.conn.now)
+    ensures written { Makes (state S.Store tx.old.conn.now) (state S.Store tx.new.conn.now)
         (Adds travel_table (travel_rows table.now)) result }
     ensures survives { Survives (state S.Store tx.old.conn.now) (state S.Store tx.new.conn.now) (λ _. ⊥) }
 {
@@ -69,9 +63,7 @@ fn insert_drives<S: Alter>(
     rows: &[Row],
 ) -> Result<(), Error>
     ensures same_reference { tx.new.conn.ghost_name ≡ tx.old.conn.ghost_name }
-    ensures written { HasCleanDisk (state S.Store tx.new.conn.now)
-        → IsTrue (state S.Store tx.old.conn.now).in_transaction
-        → ChangesIfOk (state S.Store tx.old.conn.now) (state S.Store tx.new.conn.now)
+    ensures written { Makes (state S.Store tx.old.conn.now) (state S.Store tx.new.conn.now)
         (Adds travel_table (map (travel_row from_day) rows.now)) result }
     ensures survives { Survives (state S.Store tx.old.conn.now) (state S.Store tx.new.conn.now) (λ _. ⊥) }
 {
@@ -96,9 +88,7 @@ fn insert_drive<S: Alter>(
     minutes: u32,
 ) -> Result<(), Error>
     ensures same_reference { tx.new.conn.ghost_name ≡ tx.old.conn.ghost_name }
-    ensures written { HasCleanDisk (state S.Store tx.new.conn.now)
-        → IsTrue (state S.Store tx.old.conn.now).in_transaction
-        → ChangesIfOk (state S.Store tx.old.conn.now) (state S.Store tx.new.conn.now)
+    ensures written { Makes (state S.Store tx.old.conn.now) (state S.Store tx.new.conn.now)
         (Adds travel_table (travel_row from_day (from, to, minutes) ∷ [])) result }
     ensures survives { Survives (state S.Store tx.old.conn.now) (state S.Store tx.new.conn.now) (λ _. ⊥) }
 {

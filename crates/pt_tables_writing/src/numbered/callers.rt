@@ -1,10 +1,10 @@
-ghost use Rattle.std.specs.Prelude.{◌≡◌, [], ◌∷◌, IsTrue};
+ghost use Rattle.std.specs.Prelude.{◌≡◌, [], ◌∷◌};
 ghost use Rattle.sqlite.specs.Held.{state};
-ghost use Rattle.sqlite.specs.State.{HasCleanDisk, Survives};
+ghost use Rattle.sqlite.specs.State.{Survives};
 ghost use Rattle.pt_desk_rules.specs.State.{caller_key};
 ghost use Rattle.pt_tables_rows.specs.Rows.{caller_row};
 ghost use Rattle.pt_tables_rows.specs.Schema.{callers_table};
-ghost use Rattle.pt_tables_rows.specs.Tables.{ChangesIfOk};
+ghost use Rattle.pt_tables_rows.specs.Tables.{Makes};
 ghost use Rattle.pt_tables_writing.specs.Writes.{Puts, Takes};
 
 use pt_requests::Caller;
@@ -23,9 +23,7 @@ pub(crate) fn put_caller<S: Alter>(
     caller: &Caller,
 ) -> Result<(), Error>
     ensures same_reference { tx.new.conn.ghost_name ≡ tx.old.conn.ghost_name }
-    ensures written { HasCleanDisk (state S.Store tx.new.conn.now)
-        → IsTrue (state S.Store tx.old.conn.now).in_transaction
-        → ChangesIfOk (state S.Store tx.old.conn.now) (state S.Store tx.new.conn.now)
+    ensures written { Makes (state S.Store tx.old.conn.now) (state S.Store tx.new.conn.now)
         (Puts callers_table caller_key (λ _. Unit {0}) (λ x. caller_row x ∷ []) caller.now) result }
     ensures survives { Survives (state S.Store tx.old.conn.now) (state S.Store tx.new.conn.now) (λ _. ⊥) }
 {
@@ -47,9 +45,7 @@ pub(crate) fn take_caller<S: Alter>(
     caller: &Caller,
 ) -> Result<(), Error>
     ensures same_reference { tx.new.conn.ghost_name ≡ tx.old.conn.ghost_name }
-    ensures written { HasCleanDisk (state S.Store tx.new.conn.now)
-        → IsTrue (state S.Store tx.old.conn.now).in_transaction
-        → ChangesIfOk (state S.Store tx.old.conn.now) (state S.Store tx.new.conn.now)
+    ensures written { Makes (state S.Store tx.old.conn.now) (state S.Store tx.new.conn.now)
         (Takes callers_table caller_key (λ _. Unit {0}) (λ x. caller_row x ∷ []) caller.now) result }
     ensures survives { Survives (state S.Store tx.old.conn.now) (state S.Store tx.new.conn.now) (λ _. ⊥) }
 {

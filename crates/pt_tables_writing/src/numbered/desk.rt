@@ -4,7 +4,7 @@ ghost use Rattle.sqlite.specs.Held.{state};
 ghost use Rattle.sqlite.specs.State.{HasCleanDisk, Survives};
 ghost use Rattle.pt_tables_rows.specs.Rows.{desk_row};
 ghost use Rattle.pt_tables_rows.specs.Schema.{desk_schema, desk_table};
-ghost use Rattle.pt_tables_rows.specs.Tables.{ChangesIfOk};
+ghost use Rattle.pt_tables_rows.specs.Tables.{Makes};
 ghost use Rattle.pt_tables_writing.specs.Writes.{Rewrites, RaisesVersion};
 
 use pt_base::Policy;
@@ -27,9 +27,7 @@ pub(crate) fn write_desk<S: Alter>(
     last_trip: u32,
 ) -> Result<(), Error>
     ensures same_reference { tx.new.conn.ghost_name ≡ tx.old.conn.ghost_name }
-    ensures written { HasCleanDisk (state S.Store tx.new.conn.now)
-        → IsTrue (state S.Store tx.old.conn.now).in_transaction
-        → ChangesIfOk (state S.Store tx.old.conn.now) (state S.Store tx.new.conn.now)
+    ensures written { Makes (state S.Store tx.old.conn.now) (state S.Store tx.new.conn.now)
         (λ old new. (p : _) (n : ℕ) → Rewrites desk_table (desk_row p n ∷ [])
         (desk_row policy.now last_trip ∷ []) old new) result }
     ensures open { HasCleanDisk (state S.Store tx.new.conn.now)
@@ -59,9 +57,7 @@ pub(crate) fn write_desk<S: Alter>(
 /// Makes the version of the agency's row that of these tables, where it is that of the first.
 pub fn raise_version<S: Alter>(tx: &mut Transaction<'_, S>) -> Result<(), Error>
     ensures same_reference { tx.new.conn.ghost_name ≡ tx.old.conn.ghost_name }
-    ensures raised { HasCleanDisk (state S.Store tx.new.conn.now)
-        → IsTrue (state S.Store tx.old.conn.now).in_transaction
-        → ChangesIfOk (state S.Store tx.old.conn.now) (state S.Store tx.new.conn.now)
+    ensures raised { Makes (state S.Store tx.old.conn.now) (state S.Store tx.new.conn.now)
         RaisesVersion result }
     ensures sound { HasCleanDisk (state S.Store tx.new.conn.now)
         → IsTrue (state S.Store tx.old.conn.now).in_transaction

@@ -1,10 +1,10 @@
-ghost use Rattle.std.specs.Prelude.{◌≡◌, [], ◌∷◌, IsTrue};
+ghost use Rattle.std.specs.Prelude.{◌≡◌, [], ◌∷◌};
 ghost use Rattle.sqlite.specs.Held.{state};
-ghost use Rattle.sqlite.specs.State.{HasCleanDisk, Survives};
+ghost use Rattle.sqlite.specs.State.{Survives};
 ghost use Rattle.pt_desk_rules.specs.State.{kept_key};
 ghost use Rattle.pt_tables_rows.specs.Rows.{kept_row};
 ghost use Rattle.pt_tables_rows.specs.Schema.{kept_table};
-ghost use Rattle.pt_tables_rows.specs.Tables.{ChangesIfOk};
+ghost use Rattle.pt_tables_rows.specs.Tables.{Makes};
 ghost use Rattle.pt_tables_writing.specs.Writes.{Puts, Takes};
 
 use pt_desk_rules::Kept;
@@ -20,9 +20,7 @@ const TAKE_KEPT: &str = "DELETE FROM kept WHERE caller = ?1";
 /// Puts what is kept of a caller's last write into its table, in place of what was kept of an earlier one.
 pub(crate) fn put_kept<S: Alter>(tx: &mut Transaction<'_, S>, kept: &Kept) -> Result<(), Error>
     ensures same_reference { tx.new.conn.ghost_name ≡ tx.old.conn.ghost_name }
-    ensures written { HasCleanDisk (state S.Store tx.new.conn.now)
-        → IsTrue (state S.Store tx.old.conn.now).in_transaction
-        → ChangesIfOk (state S.Store tx.old.conn.now) (state S.Store tx.new.conn.now)
+    ensures written { Makes (state S.Store tx.old.conn.now) (state S.Store tx.new.conn.now)
         (Puts kept_table kept_key (λ _. Unit {0}) (λ x. kept_row x ∷ []) kept.now) result }
     ensures survives { Survives (state S.Store tx.old.conn.now) (state S.Store tx.new.conn.now) (λ _. ⊥) }
 {
@@ -42,9 +40,7 @@ pub(crate) fn put_kept<S: Alter>(tx: &mut Transaction<'_, S>, kept: &Kept) -> Re
 /// Takes what is kept of this one's caller out of its table.
 pub(crate) fn take_kept<S: Alter>(tx: &mut Transaction<'_, S>, kept: &Kept) -> Result<(), Error>
     ensures same_reference { tx.new.conn.ghost_name ≡ tx.old.conn.ghost_name }
-    ensures written { HasCleanDisk (state S.Store tx.new.conn.now)
-        → IsTrue (state S.Store tx.old.conn.now).in_transaction
-        → ChangesIfOk (state S.Store tx.old.conn.now) (state S.Store tx.new.conn.now)
+    ensures written { Makes (state S.Store tx.old.conn.now) (state S.Store tx.new.conn.now)
         (Takes kept_table kept_key (λ _. Unit {0}) (λ x. kept_row x ∷ []) kept.now) result }
     ensures survives { Survives (state S.Store tx.old.conn.now) (state S.Store tx.new.conn.now) (λ _. ⊥) }
 {

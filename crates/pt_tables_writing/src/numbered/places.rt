@@ -1,10 +1,10 @@
-ghost use Rattle.std.specs.Prelude.{◌≡◌, [], ◌∷◌, IsTrue};
+ghost use Rattle.std.specs.Prelude.{◌≡◌, [], ◌∷◌};
 ghost use Rattle.sqlite.specs.Held.{state};
-ghost use Rattle.sqlite.specs.State.{HasCleanDisk, Survives};
+ghost use Rattle.sqlite.specs.State.{Survives};
 ghost use Rattle.pt_desk_rules.specs.State.{place_key};
 ghost use Rattle.pt_tables_rows.specs.Rows.{place_row};
 ghost use Rattle.pt_tables_rows.specs.Schema.{places_table};
-ghost use Rattle.pt_tables_rows.specs.Tables.{ChangesIfOk};
+ghost use Rattle.pt_tables_rows.specs.Tables.{Makes};
 ghost use Rattle.pt_tables_writing.specs.Writes.{Puts, Takes};
 
 use pt_base::Place;
@@ -18,9 +18,7 @@ const TAKE_PLACE: &str = "DELETE FROM places WHERE id = ?1";
 /// Puts a place into its table, in place of the one with its number.
 pub(crate) fn put_place<S: Alter>(tx: &mut Transaction<'_, S>, place: &Place) -> Result<(), Error>
     ensures same_reference { tx.new.conn.ghost_name ≡ tx.old.conn.ghost_name }
-    ensures written { HasCleanDisk (state S.Store tx.new.conn.now)
-        → IsTrue (state S.Store tx.old.conn.now).in_transaction
-        → ChangesIfOk (state S.Store tx.old.conn.now) (state S.Store tx.new.conn.now)
+    ensures written { Makes (state S.Store tx.old.conn.now) (state S.Store tx.new.conn.now)
         (Puts places_table place_key (λ _. Unit {0}) (λ x. place_row x ∷ []) place.now) result }
     ensures survives { Survives (state S.Store tx.old.conn.now) (state S.Store tx.new.conn.now) (λ _. ⊥) }
 {
@@ -39,9 +37,7 @@ pub(crate) fn put_place<S: Alter>(tx: &mut Transaction<'_, S>, place: &Place) ->
 /// Takes the place with the number of this one out of its table.
 pub(crate) fn take_place<S: Alter>(tx: &mut Transaction<'_, S>, place: &Place) -> Result<(), Error>
     ensures same_reference { tx.new.conn.ghost_name ≡ tx.old.conn.ghost_name }
-    ensures written { HasCleanDisk (state S.Store tx.new.conn.now)
-        → IsTrue (state S.Store tx.old.conn.now).in_transaction
-        → ChangesIfOk (state S.Store tx.old.conn.now) (state S.Store tx.new.conn.now)
+    ensures written { Makes (state S.Store tx.old.conn.now) (state S.Store tx.new.conn.now)
         (Takes places_table place_key (λ _. Unit {0}) (λ x. place_row x ∷ []) place.now) result }
     ensures survives { Survives (state S.Store tx.old.conn.now) (state S.Store tx.new.conn.now) (λ _. ⊥) }
 {

@@ -1,10 +1,10 @@
-ghost use Rattle.std.specs.Prelude.{◌≡◌, [], ◌∷◌, IsTrue};
+ghost use Rattle.std.specs.Prelude.{◌≡◌, [], ◌∷◌};
 ghost use Rattle.sqlite.specs.Held.{state};
-ghost use Rattle.sqlite.specs.State.{HasCleanDisk, Survives};
+ghost use Rattle.sqlite.specs.State.{Survives};
 ghost use Rattle.pt_desk_rules.specs.State.{rider_key};
 ghost use Rattle.pt_tables_rows.specs.Rows.{rider_row};
 ghost use Rattle.pt_tables_rows.specs.Schema.{riders_table};
-ghost use Rattle.pt_tables_rows.specs.Tables.{ChangesIfOk};
+ghost use Rattle.pt_tables_rows.specs.Tables.{Makes};
 ghost use Rattle.pt_tables_writing.specs.Writes.{Puts, Takes};
 
 use super::columns::kind_number;
@@ -19,9 +19,7 @@ const TAKE_RIDER: &str = "DELETE FROM riders WHERE id = ?1";
 /// Puts a rider into its table, in place of the one with its number.
 pub(crate) fn put_rider<S: Alter>(tx: &mut Transaction<'_, S>, rider: &Rider) -> Result<(), Error>
     ensures same_reference { tx.new.conn.ghost_name ≡ tx.old.conn.ghost_name }
-    ensures written { HasCleanDisk (state S.Store tx.new.conn.now)
-        → IsTrue (state S.Store tx.old.conn.now).in_transaction
-        → ChangesIfOk (state S.Store tx.old.conn.now) (state S.Store tx.new.conn.now)
+    ensures written { Makes (state S.Store tx.old.conn.now) (state S.Store tx.new.conn.now)
         (Puts riders_table rider_key (λ _. Unit {0}) (λ x. rider_row x ∷ []) rider.now) result }
     ensures survives { Survives (state S.Store tx.old.conn.now) (state S.Store tx.new.conn.now) (λ _. ⊥) }
 {
@@ -39,9 +37,7 @@ pub(crate) fn put_rider<S: Alter>(tx: &mut Transaction<'_, S>, rider: &Rider) ->
 /// Takes the rider with the number of this one out of its table.
 pub(crate) fn take_rider<S: Alter>(tx: &mut Transaction<'_, S>, rider: &Rider) -> Result<(), Error>
     ensures same_reference { tx.new.conn.ghost_name ≡ tx.old.conn.ghost_name }
-    ensures written { HasCleanDisk (state S.Store tx.new.conn.now)
-        → IsTrue (state S.Store tx.old.conn.now).in_transaction
-        → ChangesIfOk (state S.Store tx.old.conn.now) (state S.Store tx.new.conn.now)
+    ensures written { Makes (state S.Store tx.old.conn.now) (state S.Store tx.new.conn.now)
         (Takes riders_table rider_key (λ _. Unit {0}) (λ x. rider_row x ∷ []) rider.now) result }
     ensures survives { Survives (state S.Store tx.old.conn.now) (state S.Store tx.new.conn.now) (λ _. ⊥) }
 {

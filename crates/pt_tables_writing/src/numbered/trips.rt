@@ -1,10 +1,10 @@
-ghost use Rattle.std.specs.Prelude.{◌≡◌, [], ◌∷◌, IsTrue};
+ghost use Rattle.std.specs.Prelude.{◌≡◌, [], ◌∷◌};
 ghost use Rattle.sqlite.specs.Held.{state};
-ghost use Rattle.sqlite.specs.State.{HasCleanDisk, Survives};
+ghost use Rattle.sqlite.specs.State.{Survives};
 ghost use Rattle.pt_desk_rules.specs.State.{trip_key};
 ghost use Rattle.pt_tables_rows.specs.Rows.{trip_row};
 ghost use Rattle.pt_tables_rows.specs.Schema.{trips_table};
-ghost use Rattle.pt_tables_rows.specs.Tables.{ChangesIfOk};
+ghost use Rattle.pt_tables_rows.specs.Tables.{Makes};
 ghost use Rattle.pt_tables_writing.specs.Writes.{Puts, Takes};
 
 use super::columns::{optional_number, status_number};
@@ -23,9 +23,7 @@ const TAKE_TRIP: &str = "DELETE FROM trips WHERE id = ?1";
 /// Puts a trip into its table, in place of the one with its number.
 pub(crate) fn put_trip<S: Alter>(tx: &mut Transaction<'_, S>, trip: &Trip) -> Result<(), Error>
     ensures same_reference { tx.new.conn.ghost_name ≡ tx.old.conn.ghost_name }
-    ensures written { HasCleanDisk (state S.Store tx.new.conn.now)
-        → IsTrue (state S.Store tx.old.conn.now).in_transaction
-        → ChangesIfOk (state S.Store tx.old.conn.now) (state S.Store tx.new.conn.now)
+    ensures written { Makes (state S.Store tx.old.conn.now) (state S.Store tx.new.conn.now)
         (Puts trips_table trip_key (λ _. Unit {0}) (λ x. trip_row x ∷ []) trip.now) result }
     ensures survives { Survives (state S.Store tx.old.conn.now) (state S.Store tx.new.conn.now) (λ _. ⊥) }
 {
@@ -56,9 +54,7 @@ pub(crate) fn put_trip<S: Alter>(tx: &mut Transaction<'_, S>, trip: &Trip) -> Re
 /// Takes the trip with the number of this one out of its table.
 pub(crate) fn take_trip<S: Alter>(tx: &mut Transaction<'_, S>, trip: &Trip) -> Result<(), Error>
     ensures same_reference { tx.new.conn.ghost_name ≡ tx.old.conn.ghost_name }
-    ensures written { HasCleanDisk (state S.Store tx.new.conn.now)
-        → IsTrue (state S.Store tx.old.conn.now).in_transaction
-        → ChangesIfOk (state S.Store tx.old.conn.now) (state S.Store tx.new.conn.now)
+    ensures written { Makes (state S.Store tx.old.conn.now) (state S.Store tx.new.conn.now)
         (Takes trips_table trip_key (λ _. Unit {0}) (λ x. trip_row x ∷ []) trip.now) result }
     ensures survives { Survives (state S.Store tx.old.conn.now) (state S.Store tx.new.conn.now) (λ _. ⊥) }
 {

@@ -1,9 +1,10 @@
 use Rattle.std.proofs.Common.{◌≡◌, ◌+◌, ◌++◌, ◌∷◌, [], Ok, take, sym, ap, subst, ◌∙◌, arith}
 use Rattle.std.proofs.lemmas.List.{take_more}
 use Rattle.sqlite.specs.Held.{state}
+use Rattle.pt_tables_rows.specs.Tables.{Makes}
 use Rattle.pt_tables_writing.specs.Stored.{PutsAll}
 use Rattle.pt_tables_writing.specs.Writes.{Puts}
-use Rattle.pt_tables_writing.proofs.TurnLemmas.{Did, did_then, survive_both}
+use Rattle.pt_tables_writing.proofs.TurnLemmas.{did_then, survive_both}
 use Rattle.pt_tables_writing.proofs.StoredLemmas.{puts_next}
 use Rattle.pt_tables_writing.proofs.marked.mark_each.Goals as goal
 
@@ -21,7 +22,7 @@ loop-new-preserved g c =
     record {
       same = c.in_ok-mark.ensures.same_reference ∙ c.loop-new.invariant.same;
       survives = survive_both old mid new c.loop-new.invariant.survives c.in_ok-mark.ensures.survives;
-      written = subst (λ rs. Did {X = Unit {0}} old new (PutsAll t key g.T.Marked.Fits g.T.Marked.rows_of rs) (Ok tt)) (sym more)
+      written = subst (λ rs. Makes {X = Unit {0}} old new (PutsAll t key g.T.Marked.Fits g.T.Marked.rows_of rs) (Ok tt)) (sym more)
           (did_then {X = Unit {0}} {Y = Unit {0}} old mid new (PutsAll t key g.T.Marked.Fits g.T.Marked.rows_of done)
           (Puts t key g.T.Marked.Fits g.T.Marked.rows_of item)
           (PutsAll t key g.T.Marked.Fits g.T.Marked.rows_of (done ++ item ∷ [])) tt (Ok tt)

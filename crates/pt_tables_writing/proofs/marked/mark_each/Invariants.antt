@@ -1,8 +1,8 @@
 use Rattle.std.proofs.Common.{◌≡◌, Ok, take}
 use Rattle.sqlite.specs.Held.{state}
 use Rattle.sqlite.specs.State.{Survives}
+use Rattle.pt_tables_rows.specs.Tables.{Makes}
 use Rattle.pt_tables_writing.specs.Stored.{PutsAll}
-use Rattle.pt_tables_writing.proofs.TurnLemmas.{Did}
 use Rattle.pt_tables_writing.proofs.marked.mark_each.Given as goal
 
 abbrev pub invariant-loop-new : goal.invariant-loop-new
@@ -12,5 +12,5 @@ invariant-loop-new g l =
     record {
       same : l.tx.conn.ghost_name ≡ l.initial.tx.conn.ghost_name;
       survives : Survives old now (λ _. ⊥);
-      written : Did {X = Unit {0}} old now (PutsAll g.T.Marked.home g.T.Keyed.key g.T.Marked.Fits g.T.Marked.rows_of (take l.new-index l.news)) (Ok tt);
+      written : Makes {X = Unit {0}} old now (PutsAll g.T.Marked.home g.T.Keyed.key g.T.Marked.Fits g.T.Marked.rows_of (take l.new-index l.news)) (Ok tt);
     }

@@ -1,9 +1,10 @@
 use Rattle.std.proofs.Common.{◌≡◌, ◌+◌, ◌++◌, ◌∷◌, [], Ok, take, sym, ap, subst, ◌∙◌, arith}
 use Rattle.std.proofs.lemmas.List.{take_more}
 use Rattle.sqlite.specs.Held.{state}
+use Rattle.pt_tables_rows.specs.Tables.{Makes}
 use Rattle.pt_tables_writing.specs.Stored.{TakesAll}
 use Rattle.pt_tables_writing.specs.Writes.{Takes}
-use Rattle.pt_tables_writing.proofs.TurnLemmas.{Did, did_then, survive_both}
+use Rattle.pt_tables_writing.proofs.TurnLemmas.{did_then, survive_both}
 use Rattle.pt_tables_writing.proofs.StoredLemmas.{takes_next}
 use Rattle.pt_tables_writing.proofs.marked.unmark_each.Goals as goal
 
@@ -21,7 +22,7 @@ loop-old-preserved g c =
     record {
       same = c.in_ok-unmark.ensures.same_reference ∙ c.loop-old.invariant.same;
       survives = survive_both old mid new c.loop-old.invariant.survives c.in_ok-unmark.ensures.survives;
-      written = subst (λ rs. Did {X = Unit {0}} old new (TakesAll t key g.T.Marked.Fits g.T.Marked.rows_of rs) (Ok tt)) (sym more)
+      written = subst (λ rs. Makes {X = Unit {0}} old new (TakesAll t key g.T.Marked.Fits g.T.Marked.rows_of rs) (Ok tt)) (sym more)
           (did_then {X = Unit {0}} {Y = Unit {0}} old mid new (TakesAll t key g.T.Marked.Fits g.T.Marked.rows_of done)
           (Takes t key g.T.Marked.Fits g.T.Marked.rows_of item)
           (TakesAll t key g.T.Marked.Fits g.T.Marked.rows_of (done ++ item ∷ [])) tt (Ok tt)

@@ -1,8 +1,9 @@
 use Rattle.std.proofs.Common.{◌≡◌, ◌+◌, ◌++◌, ◌∷◌, [], Ok, take, sym, ap, subst, ◌∙◌, arith}
 use Rattle.std.proofs.lemmas.List.{take_more}
 use Rattle.sqlite.specs.Held.{state}
+use Rattle.pt_tables_rows.specs.Tables.{Makes}
 use Rattle.pt_tables_writing.specs.Stored.{TakesAll, TakesSpans}
-use Rattle.pt_tables_writing.proofs.TurnLemmas.{Did, did_then, survive_both}
+use Rattle.pt_tables_writing.proofs.TurnLemmas.{did_then, survive_both}
 use Rattle.pt_tables_writing.proofs.StoredLemmas.{spans_next}
 use Rattle.pt_tables_writing.proofs.stored.take_spans.Goals as goal
 
@@ -22,7 +23,7 @@ loop-span-preserved g c =
     record {
       same = c.in_ok-take_each.ensures.same_reference ∙ c.loop-span.invariant.same;
       survives = survive_both old mid new c.loop-span.invariant.survives c.in_ok-take_each.ensures.survives;
-      written = subst (λ ss. Did {X = Unit {0}} old new (TakesSpans t key g.T.Stored.Fits g.T.Stored.rows_of ss items) (Ok tt)) (sym more)
+      written = subst (λ ss. Makes {X = Unit {0}} old new (TakesSpans t key g.T.Stored.Fits g.T.Stored.rows_of ss items) (Ok tt)) (sym more)
           (did_then {X = Unit {0}} {Y = Unit {0}} old mid new (TakesSpans t key g.T.Stored.Fits g.T.Stored.rows_of done items)
           (TakesAll t key g.T.Stored.Fits g.T.Stored.rows_of found)
           (TakesSpans t key g.T.Stored.Fits g.T.Stored.rows_of (done ++ item ∷ []) items) tt (Ok tt)
