@@ -5,6 +5,7 @@ use Rattle.sqlite.specs.Effect.{Database}
 use Rattle.sqlite.specs.Order.{Row, column}
 use Rattle.sqlite.specs.Schema.{Schema}
 use Rattle.sqlite.specs.State.{State as Connected, HasCleanDisk, IsUnchanged, Survives}
+use Rattle.sqlite.specs.Tree.{Trees}
 use Rattle.sqlite_catalog.specs.Listing.{Lists}
 use Rattle.sqlite_trees.specs.Objects.{catalog_tree}
 use Rattle.pt_tables_rows.specs.Rows.{first_version, number_value}
@@ -28,6 +29,10 @@ pub record RestsOn {X E : Type 0} (schema : Schema) (old new : Connected) (resul
 -- reads of the desk's tables do so
 abbrev pub Rests : {X E : Type 0} → Connected → Connected → Result X E → Type 0
 Rests old new result = RestsOn desk_schema old new result
+
+-- reads of the desk's tables tell this of the rows that were there, where the disk stayed clean
+abbrev pub ReadsTables : Connected → Connected → (Trees → Type 0) → Type 0
+ReadsTables old new Told = HasCleanDisk new → old.now.schema ≡ desk_schema → Told old.now.trees
 
 -- a new connection to what the other had committed
 pub record IsReopened (old new : Connected) : Type 0 where

@@ -1,14 +1,12 @@
-ghost use Rattle.std.specs.Prelude.{◌≡◌, ◌⊎◌, ◌∷◌, [], ℕ, None, IfOk, IfErr};
+ghost use Rattle.std.specs.Prelude.{◌≡◌, ◌⊎◌, ◌∷◌, [], None, IfOk, IfErr};
 ghost use Rattle.sqlite.specs.Held.{state};
-ghost use Rattle.sqlite.specs.State.{HasCleanDisk};
 ghost use Rattle.pt_base.specs.Codes.{memory_refused};
 ghost use Rattle.pt_base.specs.declared.policy.Policy.{Policy};
 ghost use Rattle.pt_tables_opening.specs.Faults.{fault, store_refused, tables_refused, unsound};
-ghost use Rattle.pt_tables_opening.specs.Opening.{Rests};
+ghost use Rattle.pt_tables_opening.specs.Opening.{ReadsTables, Rests};
 ghost use Rattle.pt_tables_reading.specs.Reading.{agency_row, FitsAgency};
 ghost use Rattle.pt_tables_opening.specs.Refused.{SparesOtherVersion};
 ghost use Rattle.pt_tables_opening.specs.Standing.{NoneStandsTo};
-ghost use Rattle.pt_tables_rows.specs.Schema.{desk_schema};
 ghost use Rattle.pt_tables_opening.specs.Told.{IsAgencyOf, HasOtherVersion, IsOtherVersion, TellsNoAgency};
 
 use crate::OpenFault;
@@ -44,15 +42,15 @@ fn agency_from(rows: &[Row]) -> Result<(Policy, u32), OpenFault>
 /// where the row is that of another version of the tables, 31 where there is not one row alone or it tells no policy,
 /// 32 where the store refused or failed, and 0 where memory was refused.
 pub(crate) fn agency_in<S: Alter>(conn: &mut Connection<S>) -> Result<(Policy, u32), OpenFault>
-    ensures told { HasCleanDisk (state S.Store conn.new) → (state S.Store conn.old).now.schema ≡ desk_schema
-        → IfOk result (IsAgencyOf (state S.Store conn.old).now.trees) }
+    ensures told { ReadsTables (state S.Store conn.old) (state S.Store conn.new)
+        (λ trees. IfOk result (IsAgencyOf trees)) }
     ensures faults { IfErr result (λ refused. (refused ≡ fault memory_refused) ⊎ ((refused ≡ fault store_refused)
-        ⊎ (((refused ≡ fault tables_refused) × (HasCleanDisk (state S.Store conn.new)
-        → (state S.Store conn.old).now.schema ≡ desk_schema → HasOtherVersion (state S.Store conn.old).now.trees))
-        ⊎ ((refused ≡ unsound 1) × (HasCleanDisk (state S.Store conn.new)
-        → (state S.Store conn.old).now.schema ≡ desk_schema → NoneStandsTo 1 (state S.Store conn.old).now.trees))))) }
-    ensures version { HasCleanDisk (state S.Store conn.new) → (state S.Store conn.old).now.schema ≡ desk_schema
-        → IfErr result (SparesOtherVersion (state S.Store conn.old).now.trees) }
+        ⊎ (((refused ≡ fault tables_refused) × (ReadsTables (state S.Store conn.old) (state S.Store conn.new)
+        HasOtherVersion))
+        ⊎ ((refused ≡ unsound 1) × (ReadsTables (state S.Store conn.old) (state S.Store conn.new)
+        (NoneStandsTo 1)))))) }
+    ensures version { ReadsTables (state S.Store conn.old) (state S.Store conn.new)
+        (λ trees. IfErr result (SparesOtherVersion trees)) }
     ensures rests { Rests (state S.Store conn.old) (state S.Store conn.new) result }
 {
     let rows = match desk_rows(conn) {

@@ -3,17 +3,15 @@
 ghost use Rattle.std.specs.Prelude.{◌≡◌, ◌⊎◌, ◌≤◌, ◌∷◌, [], List, None, Some, length, take, IfOk, IfErr, map, flat_map};
 ghost use Rattle.sqlite.specs.Order.{Row as StoredRow};
 ghost use Rattle.sqlite.specs.Held.{state};
-ghost use Rattle.sqlite.specs.State.{HasCleanDisk};
 ghost use Rattle.sqlite.specs.Table.{Table as StoredTable};
 ghost use Rattle.pt_base.specs.Codes.{memory_refused};
 ghost use Rattle.pt_records.specs.Records.{Each, IsInOrder};
 ghost use Rattle.pt_soundness.specs.Tables.{number_of};
 ghost use Rattle.pt_tables_opening.specs.Beside.{AreBeside, IsAlone, KeepsBeside, NoneBeside, TellsBeside};
 ghost use Rattle.pt_tables_opening.specs.Faults.{fault, store_refused, unsound};
-ghost use Rattle.pt_tables_opening.specs.Opening.{Rests};
+ghost use Rattle.pt_tables_opening.specs.Opening.{ReadsTables, Rests};
 ghost use Rattle.pt_tables_opening.specs.Told.{IsFitting};
 ghost use Rattle.pt_tables_reading.specs.Reading.{ReadsBeside};
-ghost use Rattle.pt_tables_rows.specs.Schema.{desk_schema};
 ghost use Rattle.pt_tables_rows.specs.Tables.{AreRows};
 
 use crate::OpenFault;
@@ -37,12 +35,10 @@ pub(crate) trait Beside: OneRow {
 
     /// All rows of the second table, in the order of the keys.
     fn second_rows<S: Alter>(conn: &mut Connection<S>) -> Result<Vec<Row>, Error>
-        ensures rows { HasCleanDisk (state S.Store conn.new)
-            → (state S.Store conn.old).now.schema ≡ desk_schema
-            → IfOk result (λ rows. AreRows second (state S.Store conn.old).now.trees rows.items) }
-        ensures order { HasCleanDisk (state S.Store conn.new)
-            → (state S.Store conn.old).now.schema ≡ desk_schema
-            → IfOk result (λ rows. KeepsBeside Self.key beside_of Self.Fits rows.items) }
+        ensures rows { ReadsTables (state S.Store conn.old) (state S.Store conn.new)
+            (λ trees. IfOk result (λ rows. AreRows second trees rows.items)) }
+        ensures order { ReadsTables (state S.Store conn.old) (state S.Store conn.new)
+            (λ _. IfOk result (λ rows. KeepsBeside Self.key beside_of Self.Fits rows.items)) }
         ensures rests { Rests (state S.Store conn.old) (state S.Store conn.new) result }
         ensures beside { AreBeside Self.key Self.row_of beside_of };
 
@@ -224,13 +220,12 @@ pub(crate) fn beside_in<S: Alter, T: Beside>(
     requires order { IsInOrder T.key records.now }
     ensures fitting { IfOk result (IsFitting T.key T.Fits) }
     ensures same { IfOk result (λ edit. map T.row_of edit.puts ≡ map T.row_of records.now) }
-    ensures told { HasCleanDisk (state S.Store conn.new) → (state S.Store conn.old).now.schema ≡ desk_schema
-        → IfOk result (λ edit. AreRows T.second (state S.Store conn.old).now.trees (flat_map T.beside_of edit.puts)) }
+    ensures told { ReadsTables (state S.Store conn.old) (state S.Store conn.new)
+        (λ trees. IfOk result (λ edit. AreRows T.second trees (flat_map T.beside_of edit.puts))) }
     ensures faults { IfErr result (λ refused. (refused ≡ fault memory_refused) ⊎ ((refused ≡ fault store_refused)
-        ⊎ ((refused ≡ unsound (number_of table)) × (HasCleanDisk (state S.Store conn.new)
-        → (state S.Store conn.old).now.schema ≡ desk_schema
-        → AreRows T.home (state S.Store conn.old).now.trees (map T.row_of records.now)
-        → NoneBeside T.key T.home T.second T.row_of T.beside_of T.Fits (state S.Store conn.old).now.trees)))) }
+        ⊎ ((refused ≡ unsound (number_of table)) × (ReadsTables (state S.Store conn.old) (state S.Store conn.new)
+        (λ trees. AreRows T.home trees (map T.row_of records.now)
+        → NoneBeside T.key T.home T.second T.row_of T.beside_of T.Fits trees))))) }
     ensures rests { Rests (state S.Store conn.old) (state S.Store conn.new) result }
 {
     let rows = match T::second_rows(conn) {

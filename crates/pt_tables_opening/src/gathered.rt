@@ -1,15 +1,13 @@
 ghost use Rattle.std.specs.Prelude.{◌≡◌, ◌⊎◌, ◌↔◌, ◌<◌, ◌≤◌, ℕ, List, [], IsTrue, IfOk, IfErr, length, slice_index_or};
 ghost use Rattle.sqlite.specs.Order.{Row as StoredRow, column};
 ghost use Rattle.sqlite.specs.Held.{state};
-ghost use Rattle.sqlite.specs.State.{HasCleanDisk};
 ghost use Rattle.sqlite.specs.Table.{Table as StoredTable};
 ghost use Rattle.pt_soundness.specs.Tables.{number_of};
 ghost use Rattle.pt_tables_opening.specs.Gathered.{AreInOrder, BeginsOnce, TellsGathered, IsGatheredFrom};
 ghost use Rattle.pt_tables_opening.specs.Gathered.{GathersNothing, IsGatheredTable, IsUngathered};
-ghost use Rattle.pt_tables_opening.specs.Opening.{Rests};
+ghost use Rattle.pt_tables_opening.specs.Opening.{ReadsTables, Rests};
 ghost use Rattle.pt_tables_reading.specs.Reading.{Reads};
 ghost use Rattle.pt_tables_rows.specs.Rows.{number_value};
-ghost use Rattle.pt_tables_rows.specs.Schema.{desk_schema};
 ghost use Rattle.pt_tables_rows.specs.Tables.{AreRows};
 ghost use Rattle.pt_base.specs.Codes.{memory_refused};
 ghost use Rattle.pt_tables_opening.specs.Faults.{fault, store_refused, unsound};
@@ -40,12 +38,10 @@ pub(crate) trait Gathered: Keyed {
 
     /// All rows of its table, in the order of their first three columns.
     fn every_row<S: Alter>(conn: &mut Connection<S>) -> Result<Vec<Row>, Error>
-        ensures rows { HasCleanDisk (state S.Store conn.new)
-            → (state S.Store conn.old).now.schema ≡ desk_schema
-            → IfOk result (λ rows. AreRows home (state S.Store conn.old).now.trees rows.items) }
-        ensures order { HasCleanDisk (state S.Store conn.new)
-            → (state S.Store conn.old).now.schema ≡ desk_schema
-            → IfOk result (λ rows. AreInOrder 3 rows.items) }
+        ensures rows { ReadsTables (state S.Store conn.old) (state S.Store conn.new)
+            (λ trees. IfOk result (λ rows. AreRows home trees rows.items)) }
+        ensures order { ReadsTables (state S.Store conn.old) (state S.Store conn.new)
+            (λ _. IfOk result (λ rows. AreInOrder 3 rows.items)) }
         ensures rests { Rests (state S.Store conn.old) (state S.Store conn.new) result };
 
     /// Whether a row is the first one of a record.
@@ -135,12 +131,11 @@ pub(crate) fn gathered_in<S: Alter, T: Gathered>(
     table: UnsoundTable,
 ) -> Result<Edits<T>, OpenFault>
     ensures fitting { IfOk result (IsFitting T.key T.Fits) }
-    ensures told { HasCleanDisk (state S.Store conn.new) → (state S.Store conn.old).now.schema ≡ desk_schema
-        → IfOk result (IsGatheredTable T.key T.home T.rows_of T.Fits (state S.Store conn.old).now.trees) }
+    ensures told { ReadsTables (state S.Store conn.old) (state S.Store conn.new)
+        (λ trees. IfOk result (IsGatheredTable T.key T.home T.rows_of T.Fits trees)) }
     ensures faults { IfErr result (λ refused. (refused ≡ fault memory_refused) ⊎ ((refused ≡ fault store_refused)
-        ⊎ ((refused ≡ unsound (number_of table)) × (HasCleanDisk (state S.Store conn.new)
-        → (state S.Store conn.old).now.schema ≡ desk_schema
-        → IsUngathered T.key T.home T.rows_of T.Fits (state S.Store conn.old).now.trees)))) }
+        ⊎ ((refused ≡ unsound (number_of table)) × (ReadsTables (state S.Store conn.old) (state S.Store conn.new)
+        (IsUngathered T.key T.home T.rows_of T.Fits))))) }
     ensures rests { Rests (state S.Store conn.old) (state S.Store conn.new) result }
 {
     let rows = match T::every_row(conn) {

@@ -1,6 +1,5 @@
 ghost use Rattle.std.specs.Prelude.{◌≡◌, ◌⊎◌, pos, List, flat_map, IfOk, IfErr, MatchOption};
 ghost use Rattle.sqlite.specs.Held.{state};
-ghost use Rattle.sqlite.specs.State.{HasCleanDisk};
 ghost use Rattle.pt_base.specs.Codes.{memory_refused};
 ghost use Rattle.pt_scheduling.specs.Plan.{plan_key};
 ghost use Rattle.pt_scheduling.specs.declared.planned.PlannedStop.{PlannedStop};
@@ -8,10 +7,10 @@ ghost use Rattle.pt_tables_opening.specs.Faults.{fault, store_refused, unsound};
 ghost use Rattle.pt_tables_reading.specs.Fitting.{FitsStopAt};
 ghost use Rattle.pt_tables_opening.specs.Gathered.{FitsPlan, FitStops, IsGatheredTable};
 ghost use Rattle.pt_tables_rows.specs.Rows.{stop_row};
-ghost use Rattle.pt_tables_opening.specs.Opening.{Rests};
+ghost use Rattle.pt_tables_opening.specs.Opening.{ReadsTables, Rests};
 ghost use Rattle.pt_tables_reading.specs.Reading.{Reads};
 ghost use Rattle.pt_tables_rows.specs.Rows.{stop_rows, stop_rows_from};
-ghost use Rattle.pt_tables_rows.specs.Schema.{desk_schema, stops_table};
+ghost use Rattle.pt_tables_rows.specs.Schema.{stops_table};
 ghost use Rattle.pt_tables_opening.specs.Told.{AreRowsOfNone, IsFitting};
 
 use crate::OpenFault;
@@ -116,12 +115,11 @@ pub(crate) fn planned_in<S: Alter>(
     conn: &mut Connection<S>,
 ) -> Result<Edits<PlannedRoute>, OpenFault>
     ensures fitting { IfOk result (IsFitting plan_key FitsPlan) }
-    ensures told { HasCleanDisk (state S.Store conn.new) → (state S.Store conn.old).now.schema ≡ desk_schema
-        → IfOk result (IsGatheredTable plan_key stops_table stop_rows FitsPlan (state S.Store conn.old).now.trees) }
+    ensures told { ReadsTables (state S.Store conn.old) (state S.Store conn.new)
+        (λ trees. IfOk result (IsGatheredTable plan_key stops_table stop_rows FitsPlan trees)) }
     ensures faults { IfErr result (λ refused. (refused ≡ fault memory_refused) ⊎ ((refused ≡ fault store_refused)
-        ⊎ ((refused ≡ unsound 10) × (HasCleanDisk (state S.Store conn.new)
-        → (state S.Store conn.old).now.schema ≡ desk_schema
-        → AreRowsOfNone plan_key stops_table (flat_map stop_rows) FitsPlan (state S.Store conn.old).now.trees)))) }
+        ⊎ ((refused ≡ unsound 10) × (ReadsTables (state S.Store conn.old) (state S.Store conn.new)
+        (AreRowsOfNone plan_key stops_table (flat_map stop_rows) FitsPlan))))) }
     ensures rests { Rests (state S.Store conn.old) (state S.Store conn.new) result }
 {
     gathered_in(alloc, conn, UnsoundTable::Stops)

@@ -1,15 +1,13 @@
 ghost use Rattle.std.specs.Prelude.{◌≡◌, ◌⊎◌, ◌↔◌, map, IsTrue, IfOk, IfErr};
 ghost use Rattle.sqlite.specs.Order.{Row as StoredRow};
 ghost use Rattle.sqlite.specs.Held.{state};
-ghost use Rattle.sqlite.specs.State.{HasCleanDisk};
 ghost use Rattle.sqlite.specs.Table.{Table as StoredTable};
 ghost use Rattle.pt_records.specs.Records.{IsInOrder};
 ghost use Rattle.pt_soundness.specs.Tables.{number_of};
 ghost use Rattle.pt_tables_opening.specs.Told.{TellsAll, IsAfter, IsToldBy, IsFitting, IsTableOf, KeepsOrder};
 ghost use Rattle.pt_tables_opening.specs.Told.{AreRowsOfNone, TellsNothing};
-ghost use Rattle.pt_tables_opening.specs.Opening.{Rests};
+ghost use Rattle.pt_tables_opening.specs.Opening.{ReadsTables, Rests};
 ghost use Rattle.pt_tables_reading.specs.Reading.{Reads};
-ghost use Rattle.pt_tables_rows.specs.Schema.{desk_schema};
 ghost use Rattle.pt_tables_rows.specs.Tables.{AreRows};
 ghost use Rattle.pt_base.specs.Codes.{memory_refused};
 ghost use Rattle.pt_tables_opening.specs.Faults.{fault, store_refused, unsound};
@@ -34,12 +32,10 @@ pub(crate) trait OneRow: Keyed {
 
     /// All rows of its table, in the order of its keys.
     fn all_rows<S: Alter>(conn: &mut Connection<S>) -> Result<Vec<Row>, Error>
-        ensures rows { HasCleanDisk (state S.Store conn.new)
-            → (state S.Store conn.old).now.schema ≡ desk_schema
-            → IfOk result (λ rows. AreRows home (state S.Store conn.old).now.trees rows.items) }
-        ensures order { HasCleanDisk (state S.Store conn.new)
-            → (state S.Store conn.old).now.schema ≡ desk_schema
-            → IfOk result (λ rows. KeepsOrder Self.key row_of Fits rows.items) }
+        ensures rows { ReadsTables (state S.Store conn.old) (state S.Store conn.new)
+            (λ trees. IfOk result (λ rows. AreRows home trees rows.items)) }
+        ensures order { ReadsTables (state S.Store conn.old) (state S.Store conn.new)
+            (λ _. IfOk result (λ rows. KeepsOrder Self.key row_of Fits rows.items)) }
         ensures rests { Rests (state S.Store conn.old) (state S.Store conn.new) result };
 
     /// The record of a row, or none where no record has it.
@@ -120,12 +116,11 @@ pub(crate) fn table_of<S: Alter, T: OneRow>(
     table: UnsoundTable,
 ) -> Result<Edits<T>, OpenFault>
     ensures fitting { IfOk result (IsFitting T.key T.Fits) }
-    ensures told { HasCleanDisk (state S.Store conn.new) → (state S.Store conn.old).now.schema ≡ desk_schema
-        → IfOk result (IsTableOf T.key T.home T.row_of T.Fits (state S.Store conn.old).now.trees) }
+    ensures told { ReadsTables (state S.Store conn.old) (state S.Store conn.new)
+        (λ trees. IfOk result (IsTableOf T.key T.home T.row_of T.Fits trees)) }
     ensures faults { IfErr result (λ refused. (refused ≡ fault memory_refused) ⊎ ((refused ≡ fault store_refused)
-        ⊎ ((refused ≡ unsound (number_of table)) × (HasCleanDisk (state S.Store conn.new)
-        → (state S.Store conn.old).now.schema ≡ desk_schema
-        → AreRowsOfNone T.key T.home (map T.row_of) T.Fits (state S.Store conn.old).now.trees)))) }
+        ⊎ ((refused ≡ unsound (number_of table)) × (ReadsTables (state S.Store conn.old) (state S.Store conn.new)
+        (AreRowsOfNone T.key T.home (map T.row_of) T.Fits))))) }
     ensures rests { Rests (state S.Store conn.old) (state S.Store conn.new) result }
 {
     let rows = match T::all_rows(conn) {

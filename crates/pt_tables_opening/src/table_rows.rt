@@ -5,8 +5,8 @@ ghost use Rattle.sqlite.specs.Listing.{understood};
 ghost use Rattle.sqlite.specs.Schema.{Schema};
 ghost use Rattle.sqlite.specs.State.{HasCleanDisk, Shown};
 ghost use Rattle.pt_tables_opening.specs.Gathered.{AreInOrder};
-ghost use Rattle.pt_tables_opening.specs.Opening.{Rests, RestsOn};
-ghost use Rattle.pt_tables_rows.specs.Schema.{desk_schema, desk_table, callers_table, kept_table, places_table};
+ghost use Rattle.pt_tables_opening.specs.Opening.{ReadsTables, Rests, RestsOn};
+ghost use Rattle.pt_tables_rows.specs.Schema.{desk_table, callers_table, kept_table, places_table};
 ghost use Rattle.pt_tables_rows.specs.Schema.{fixed_table, vehicles_table, riders_table, entries_table, trips_table};
 ghost use Rattle.pt_tables_rows.specs.Schema.{stops_table, travel_table, rider_chairs_table, vehicle_chairs_table};
 ghost use Rattle.pt_tables_rows.specs.Schema.{first_schema, trip_chairs_table};
@@ -66,8 +66,8 @@ fn rows_of_table<S: Alter>(conn: &mut Connection<S>, text: &str) -> Result<Vec<R
 
 /// The row of the desk, in tables of either version.
 pub(crate) fn desk_rows<S: Alter>(conn: &mut Connection<S>) -> Result<Vec<Row>, Error>
-    ensures rows { HasCleanDisk (state S.Store conn.new) → (state S.Store conn.old).now.schema ≡ desk_schema
-        → IfOk result (λ rows. AreRows desk_table (state S.Store conn.old).now.trees rows.items) }
+    ensures rows { ReadsTables (state S.Store conn.old) (state S.Store conn.new)
+        (λ trees. IfOk result (λ rows. AreRows desk_table trees rows.items)) }
     ensures rests { Rests (state S.Store conn.old) (state S.Store conn.new) result }
     ensures first_rows { HasCleanDisk (state S.Store conn.new) → (state S.Store conn.old).now.schema ≡ first_schema
         → IfOk result (λ rows. AreRows desk_table (state S.Store conn.old).now.trees rows.items) }
@@ -78,10 +78,10 @@ pub(crate) fn desk_rows<S: Alter>(conn: &mut Connection<S>) -> Result<Vec<Row>, 
 
 /// The rows of the callers.
 pub(crate) fn caller_rows<S: Alter>(conn: &mut Connection<S>) -> Result<Vec<Row>, Error>
-    ensures rows { HasCleanDisk (state S.Store conn.new) → (state S.Store conn.old).now.schema ≡ desk_schema
-        → IfOk result (λ rows. AreRows callers_table (state S.Store conn.old).now.trees rows.items) }
-    ensures order { HasCleanDisk (state S.Store conn.new) → (state S.Store conn.old).now.schema ≡ desk_schema
-        → IfOk result (λ rows. AreInOrder 1 rows.items) }
+    ensures rows { ReadsTables (state S.Store conn.old) (state S.Store conn.new)
+        (λ trees. IfOk result (λ rows. AreRows callers_table trees rows.items)) }
+    ensures order { ReadsTables (state S.Store conn.old) (state S.Store conn.new)
+        (λ _. IfOk result (λ rows. AreInOrder 1 rows.items)) }
     ensures rests { Rests (state S.Store conn.old) (state S.Store conn.new) result }
 {
     rows_of_table(conn, CALLER_ROWS)
@@ -89,10 +89,10 @@ pub(crate) fn caller_rows<S: Alter>(conn: &mut Connection<S>) -> Result<Vec<Row>
 
 /// The rows of the kept writes.
 pub(crate) fn kept_rows<S: Alter>(conn: &mut Connection<S>) -> Result<Vec<Row>, Error>
-    ensures rows { HasCleanDisk (state S.Store conn.new) → (state S.Store conn.old).now.schema ≡ desk_schema
-        → IfOk result (λ rows. AreRows kept_table (state S.Store conn.old).now.trees rows.items) }
-    ensures order { HasCleanDisk (state S.Store conn.new) → (state S.Store conn.old).now.schema ≡ desk_schema
-        → IfOk result (λ rows. AreInOrder 1 rows.items) }
+    ensures rows { ReadsTables (state S.Store conn.old) (state S.Store conn.new)
+        (λ trees. IfOk result (λ rows. AreRows kept_table trees rows.items)) }
+    ensures order { ReadsTables (state S.Store conn.old) (state S.Store conn.new)
+        (λ _. IfOk result (λ rows. AreInOrder 1 rows.items)) }
     ensures rests { Rests (state S.Store conn.old) (state S.Store conn.new) result }
 {
     rows_of_table(conn, KEPT_ROWS)
@@ -100,10 +100,10 @@ pub(crate) fn kept_rows<S: Alter>(conn: &mut Connection<S>) -> Result<Vec<Row>, 
 
 /// The rows of the places.
 pub(crate) fn place_rows<S: Alter>(conn: &mut Connection<S>) -> Result<Vec<Row>, Error>
-    ensures rows { HasCleanDisk (state S.Store conn.new) → (state S.Store conn.old).now.schema ≡ desk_schema
-        → IfOk result (λ rows. AreRows places_table (state S.Store conn.old).now.trees rows.items) }
-    ensures order { HasCleanDisk (state S.Store conn.new) → (state S.Store conn.old).now.schema ≡ desk_schema
-        → IfOk result (λ rows. AreInOrder 1 rows.items) }
+    ensures rows { ReadsTables (state S.Store conn.old) (state S.Store conn.new)
+        (λ trees. IfOk result (λ rows. AreRows places_table trees rows.items)) }
+    ensures order { ReadsTables (state S.Store conn.old) (state S.Store conn.new)
+        (λ _. IfOk result (λ rows. AreInOrder 1 rows.items)) }
     ensures rests { Rests (state S.Store conn.old) (state S.Store conn.new) result }
 {
     rows_of_table(conn, PLACE_ROWS)
@@ -111,10 +111,10 @@ pub(crate) fn place_rows<S: Alter>(conn: &mut Connection<S>) -> Result<Vec<Row>,
 
 /// The rows of the fixed routes.
 pub(crate) fn route_rows<S: Alter>(conn: &mut Connection<S>) -> Result<Vec<Row>, Error>
-    ensures rows { HasCleanDisk (state S.Store conn.new) → (state S.Store conn.old).now.schema ≡ desk_schema
-        → IfOk result (λ rows. AreRows fixed_table (state S.Store conn.old).now.trees rows.items) }
-    ensures order { HasCleanDisk (state S.Store conn.new) → (state S.Store conn.old).now.schema ≡ desk_schema
-        → IfOk result (λ rows. AreInOrder 1 rows.items) }
+    ensures rows { ReadsTables (state S.Store conn.old) (state S.Store conn.new)
+        (λ trees. IfOk result (λ rows. AreRows fixed_table trees rows.items)) }
+    ensures order { ReadsTables (state S.Store conn.old) (state S.Store conn.new)
+        (λ _. IfOk result (λ rows. AreInOrder 1 rows.items)) }
     ensures rests { Rests (state S.Store conn.old) (state S.Store conn.new) result }
 {
     rows_of_table(conn, ROUTE_ROWS)
@@ -122,10 +122,10 @@ pub(crate) fn route_rows<S: Alter>(conn: &mut Connection<S>) -> Result<Vec<Row>,
 
 /// The rows of the versions of the vehicles.
 pub(crate) fn vehicle_rows<S: Alter>(conn: &mut Connection<S>) -> Result<Vec<Row>, Error>
-    ensures rows { HasCleanDisk (state S.Store conn.new) → (state S.Store conn.old).now.schema ≡ desk_schema
-        → IfOk result (λ rows. AreRows vehicles_table (state S.Store conn.old).now.trees rows.items) }
-    ensures order { HasCleanDisk (state S.Store conn.new) → (state S.Store conn.old).now.schema ≡ desk_schema
-        → IfOk result (λ rows. AreInOrder 2 rows.items) }
+    ensures rows { ReadsTables (state S.Store conn.old) (state S.Store conn.new)
+        (λ trees. IfOk result (λ rows. AreRows vehicles_table trees rows.items)) }
+    ensures order { ReadsTables (state S.Store conn.old) (state S.Store conn.new)
+        (λ _. IfOk result (λ rows. AreInOrder 2 rows.items)) }
     ensures rests { Rests (state S.Store conn.old) (state S.Store conn.new) result }
 {
     rows_of_table(conn, VEHICLE_ROWS)
@@ -133,10 +133,10 @@ pub(crate) fn vehicle_rows<S: Alter>(conn: &mut Connection<S>) -> Result<Vec<Row
 
 /// The rows of the riders.
 pub(crate) fn rider_rows<S: Alter>(conn: &mut Connection<S>) -> Result<Vec<Row>, Error>
-    ensures rows { HasCleanDisk (state S.Store conn.new) → (state S.Store conn.old).now.schema ≡ desk_schema
-        → IfOk result (λ rows. AreRows riders_table (state S.Store conn.old).now.trees rows.items) }
-    ensures order { HasCleanDisk (state S.Store conn.new) → (state S.Store conn.old).now.schema ≡ desk_schema
-        → IfOk result (λ rows. AreInOrder 1 rows.items) }
+    ensures rows { ReadsTables (state S.Store conn.old) (state S.Store conn.new)
+        (λ trees. IfOk result (λ rows. AreRows riders_table trees rows.items)) }
+    ensures order { ReadsTables (state S.Store conn.old) (state S.Store conn.new)
+        (λ _. IfOk result (λ rows. AreInOrder 1 rows.items)) }
     ensures rests { Rests (state S.Store conn.old) (state S.Store conn.new) result }
 {
     rows_of_table(conn, RIDER_ROWS)
@@ -144,10 +144,10 @@ pub(crate) fn rider_rows<S: Alter>(conn: &mut Connection<S>) -> Result<Vec<Row>,
 
 /// The rows of the entries of the case files.
 pub(crate) fn entry_rows<S: Alter>(conn: &mut Connection<S>) -> Result<Vec<Row>, Error>
-    ensures rows { HasCleanDisk (state S.Store conn.new) → (state S.Store conn.old).now.schema ≡ desk_schema
-        → IfOk result (λ rows. AreRows entries_table (state S.Store conn.old).now.trees rows.items) }
-    ensures order { HasCleanDisk (state S.Store conn.new) → (state S.Store conn.old).now.schema ≡ desk_schema
-        → IfOk result (λ rows. AreInOrder 2 rows.items) }
+    ensures rows { ReadsTables (state S.Store conn.old) (state S.Store conn.new)
+        (λ trees. IfOk result (λ rows. AreRows entries_table trees rows.items)) }
+    ensures order { ReadsTables (state S.Store conn.old) (state S.Store conn.new)
+        (λ _. IfOk result (λ rows. AreInOrder 2 rows.items)) }
     ensures rests { Rests (state S.Store conn.old) (state S.Store conn.new) result }
 {
     rows_of_table(conn, ENTRY_ROWS)
@@ -155,10 +155,10 @@ pub(crate) fn entry_rows<S: Alter>(conn: &mut Connection<S>) -> Result<Vec<Row>,
 
 /// The rows of the trips.
 pub(crate) fn trip_rows<S: Alter>(conn: &mut Connection<S>) -> Result<Vec<Row>, Error>
-    ensures rows { HasCleanDisk (state S.Store conn.new) → (state S.Store conn.old).now.schema ≡ desk_schema
-        → IfOk result (λ rows. AreRows trips_table (state S.Store conn.old).now.trees rows.items) }
-    ensures order { HasCleanDisk (state S.Store conn.new) → (state S.Store conn.old).now.schema ≡ desk_schema
-        → IfOk result (λ rows. AreInOrder 1 rows.items) }
+    ensures rows { ReadsTables (state S.Store conn.old) (state S.Store conn.new)
+        (λ trees. IfOk result (λ rows. AreRows trips_table trees rows.items)) }
+    ensures order { ReadsTables (state S.Store conn.old) (state S.Store conn.new)
+        (λ _. IfOk result (λ rows. AreInOrder 1 rows.items)) }
     ensures rests { Rests (state S.Store conn.old) (state S.Store conn.new) result }
 {
     rows_of_table(conn, TRIP_ROWS)
@@ -166,10 +166,10 @@ pub(crate) fn trip_rows<S: Alter>(conn: &mut Connection<S>) -> Result<Vec<Row>, 
 
 /// The rows of the planned stops.
 pub(crate) fn stop_rows<S: Alter>(conn: &mut Connection<S>) -> Result<Vec<Row>, Error>
-    ensures rows { HasCleanDisk (state S.Store conn.new) → (state S.Store conn.old).now.schema ≡ desk_schema
-        → IfOk result (λ rows. AreRows stops_table (state S.Store conn.old).now.trees rows.items) }
-    ensures order { HasCleanDisk (state S.Store conn.new) → (state S.Store conn.old).now.schema ≡ desk_schema
-        → IfOk result (λ rows. AreInOrder 3 rows.items) }
+    ensures rows { ReadsTables (state S.Store conn.old) (state S.Store conn.new)
+        (λ trees. IfOk result (λ rows. AreRows stops_table trees rows.items)) }
+    ensures order { ReadsTables (state S.Store conn.old) (state S.Store conn.new)
+        (λ _. IfOk result (λ rows. AreInOrder 3 rows.items)) }
     ensures rests { Rests (state S.Store conn.old) (state S.Store conn.new) result }
 {
     rows_of_table(conn, STOP_ROWS)
@@ -177,10 +177,10 @@ pub(crate) fn stop_rows<S: Alter>(conn: &mut Connection<S>) -> Result<Vec<Row>, 
 
 /// The rows of the travel tables.
 pub(crate) fn travel_rows<S: Alter>(conn: &mut Connection<S>) -> Result<Vec<Row>, Error>
-    ensures rows { HasCleanDisk (state S.Store conn.new) → (state S.Store conn.old).now.schema ≡ desk_schema
-        → IfOk result (λ rows. AreRows travel_table (state S.Store conn.old).now.trees rows.items) }
-    ensures order { HasCleanDisk (state S.Store conn.new) → (state S.Store conn.old).now.schema ≡ desk_schema
-        → IfOk result (λ rows. AreInOrder 3 rows.items) }
+    ensures rows { ReadsTables (state S.Store conn.old) (state S.Store conn.new)
+        (λ trees. IfOk result (λ rows. AreRows travel_table trees rows.items)) }
+    ensures order { ReadsTables (state S.Store conn.old) (state S.Store conn.new)
+        (λ _. IfOk result (λ rows. AreInOrder 3 rows.items)) }
     ensures rests { Rests (state S.Store conn.old) (state S.Store conn.new) result }
 {
     rows_of_table(conn, TRAVEL_ROWS)
@@ -188,10 +188,10 @@ pub(crate) fn travel_rows<S: Alter>(conn: &mut Connection<S>) -> Result<Vec<Row>
 
 /// The rows of the riders in wheelchairs.
 pub(crate) fn rider_chair_rows<S: Alter>(conn: &mut Connection<S>) -> Result<Vec<Row>, Error>
-    ensures rows { HasCleanDisk (state S.Store conn.new) → (state S.Store conn.old).now.schema ≡ desk_schema
-        → IfOk result (λ rows. AreRows rider_chairs_table (state S.Store conn.old).now.trees rows.items) }
-    ensures order { HasCleanDisk (state S.Store conn.new) → (state S.Store conn.old).now.schema ≡ desk_schema
-        → IfOk result (λ rows. AreInOrder 1 rows.items) }
+    ensures rows { ReadsTables (state S.Store conn.old) (state S.Store conn.new)
+        (λ trees. IfOk result (λ rows. AreRows rider_chairs_table trees rows.items)) }
+    ensures order { ReadsTables (state S.Store conn.old) (state S.Store conn.new)
+        (λ _. IfOk result (λ rows. AreInOrder 1 rows.items)) }
     ensures rests { Rests (state S.Store conn.old) (state S.Store conn.new) result }
 {
     rows_of_table(conn, RIDER_CHAIR_ROWS)
@@ -199,10 +199,10 @@ pub(crate) fn rider_chair_rows<S: Alter>(conn: &mut Connection<S>) -> Result<Vec
 
 /// The rows of the wheelchair places of the vehicles.
 pub(crate) fn vehicle_chair_rows<S: Alter>(conn: &mut Connection<S>) -> Result<Vec<Row>, Error>
-    ensures rows { HasCleanDisk (state S.Store conn.new) → (state S.Store conn.old).now.schema ≡ desk_schema
-        → IfOk result (λ rows. AreRows vehicle_chairs_table (state S.Store conn.old).now.trees rows.items) }
-    ensures order { HasCleanDisk (state S.Store conn.new) → (state S.Store conn.old).now.schema ≡ desk_schema
-        → IfOk result (λ rows. AreInOrder 2 rows.items) }
+    ensures rows { ReadsTables (state S.Store conn.old) (state S.Store conn.new)
+        (λ trees. IfOk result (λ rows. AreRows vehicle_chairs_table trees rows.items)) }
+    ensures order { ReadsTables (state S.Store conn.old) (state S.Store conn.new)
+        (λ _. IfOk result (λ rows. AreInOrder 2 rows.items)) }
     ensures rests { Rests (state S.Store conn.old) (state S.Store conn.new) result }
 {
     rows_of_table(conn, VEHICLE_CHAIR_ROWS)
@@ -210,10 +210,10 @@ pub(crate) fn vehicle_chair_rows<S: Alter>(conn: &mut Connection<S>) -> Result<V
 
 /// The rows of the trips of riders in wheelchairs.
 pub(crate) fn trip_chair_rows<S: Alter>(conn: &mut Connection<S>) -> Result<Vec<Row>, Error>
-    ensures rows { HasCleanDisk (state S.Store conn.new) → (state S.Store conn.old).now.schema ≡ desk_schema
-        → IfOk result (λ rows. AreRows trip_chairs_table (state S.Store conn.old).now.trees rows.items) }
-    ensures order { HasCleanDisk (state S.Store conn.new) → (state S.Store conn.old).now.schema ≡ desk_schema
-        → IfOk result (λ rows. AreInOrder 1 rows.items) }
+    ensures rows { ReadsTables (state S.Store conn.old) (state S.Store conn.new)
+        (λ trees. IfOk result (λ rows. AreRows trip_chairs_table trees rows.items)) }
+    ensures order { ReadsTables (state S.Store conn.old) (state S.Store conn.new)
+        (λ _. IfOk result (λ rows. AreInOrder 1 rows.items)) }
     ensures rests { Rests (state S.Store conn.old) (state S.Store conn.new) result }
 {
     rows_of_table(conn, TRIP_CHAIR_ROWS)

@@ -1,6 +1,5 @@
 ghost use Rattle.std.specs.Prelude.{◌≡◌, ◌⊎◌, List, flat_map, map, IfOk, IfErr, MatchOption};
 ghost use Rattle.sqlite.specs.Held.{state};
-ghost use Rattle.sqlite.specs.State.{HasCleanDisk};
 ghost use Rattle.pt_base.specs.Codes.{memory_refused};
 ghost use Rattle.pt_base.specs.Day.{IsDay};
 ghost use Rattle.pt_desk_rules.specs.State.{travel_key};
@@ -9,10 +8,10 @@ ghost use Rattle.pt_travel.specs.Chain as travel;
 ghost use Rattle.pt_tables_opening.specs.Faults.{fault, store_refused, unsound};
 ghost use Rattle.pt_tables_reading.specs.Fitting.{FitsDriveAt};
 ghost use Rattle.pt_tables_opening.specs.Gathered.{FitsDrive, FitsTravel, IsGatheredTable};
-ghost use Rattle.pt_tables_opening.specs.Opening.{Rests};
+ghost use Rattle.pt_tables_opening.specs.Opening.{ReadsTables, Rests};
 ghost use Rattle.pt_tables_reading.specs.Reading.{Reads};
 ghost use Rattle.pt_tables_rows.specs.Rows.{travel_row, travel_rows};
-ghost use Rattle.pt_tables_rows.specs.Schema.{desk_schema, travel_table};
+ghost use Rattle.pt_tables_rows.specs.Schema.{travel_table};
 ghost use Rattle.pt_tables_opening.specs.Told.{AreRowsOfNone, IsFitting};
 
 use crate::OpenFault;
@@ -122,14 +121,11 @@ pub(crate) fn travel_in<S: Alter>(
     conn: &mut Connection<S>,
 ) -> Result<Edits<TravelTable>, OpenFault>
     ensures fitting { IfOk result (IsFitting travel_key FitsTravel) }
-    ensures told { HasCleanDisk (state S.Store conn.new) → (state S.Store conn.old).now.schema ≡ desk_schema
-        → IfOk result (IsGatheredTable travel_key travel_table travel_rows FitsTravel
-        (state S.Store conn.old).now.trees) }
+    ensures told { ReadsTables (state S.Store conn.old) (state S.Store conn.new)
+        (λ trees. IfOk result (IsGatheredTable travel_key travel_table travel_rows FitsTravel trees)) }
     ensures faults { IfErr result (λ refused. (refused ≡ fault memory_refused) ⊎ ((refused ≡ fault store_refused)
-        ⊎ ((refused ≡ unsound 11) × (HasCleanDisk (state S.Store conn.new)
-        → (state S.Store conn.old).now.schema ≡ desk_schema
-        → AreRowsOfNone travel_key travel_table (flat_map travel_rows) FitsTravel
-        (state S.Store conn.old).now.trees)))) }
+        ⊎ ((refused ≡ unsound 11) × (ReadsTables (state S.Store conn.old) (state S.Store conn.new)
+        (AreRowsOfNone travel_key travel_table (flat_map travel_rows) FitsTravel))))) }
     ensures rests { Rests (state S.Store conn.old) (state S.Store conn.new) result }
 {
     gathered_in(alloc, conn, UnsoundTable::Travel)
