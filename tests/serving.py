@@ -27,6 +27,18 @@ TIMES = "from,to,minutes\n1,2,18\n2,1,18\n1,3,11\n3,1,11\n2,3,9\n3,2,9\n"
 Reply = collections.namedtuple("Reply", "status body")
 
 
+@contextlib.contextmanager
+def variables(**given):
+    """The environment of what is started meanwhile."""
+    before = dict(os.environ)
+    os.environ.update(given)
+    try:
+        yield
+    finally:
+        os.environ.clear()
+        os.environ.update(before)
+
+
 def ran(program, *words, **named):
     """How the program ends with these words."""
     return subprocess.run([program, *map(str, words)], capture_output=True, timeout=SECONDS, **named)
