@@ -1,3 +1,4 @@
+pub mod AnsweringLemmas
 pub mod ReceivedLemmas
 pub mod ExchangeLemmas
 pub mod ToldLemmas

@@ -1,15 +1,13 @@
-ghost use Rattle.std.specs.Prelude.{◌≡◌, ◌⊎◌, ℕ, ◌≤◌, List, Err, IfOk, IfErr, OnOk};
-ghost use Rattle.pt_base.specs.Fault.{fault};
+ghost use Rattle.std.specs.Prelude.{◌≡◌, IfErr, OnOk};
+ghost use Rattle.std.specs.Io.KnownBytes.{Appends};
 ghost use Rattle.pt_base.specs.Codes.{write_failed};
-ghost use Rattle.pt_http.specs.Exchange.{Desk, desk_of, IsExchangedOver, IsWritten, IsUnanswered, ServesOver};
-ghost use Rattle.pt_desk.specs.Store.{Store, IsSettled};
+ghost use Rattle.pt_base.specs.Fault.{fault};
+ghost use Rattle.pt_desk.specs.Store.{Store};
+ghost use Rattle.pt_http.specs.Answering.{AnswersOne, CanBeAskedAgain, ExchangesOne, GoesOn};
+ghost use Rattle.pt_http.specs.Exchange.{IsExchangedOver, desk_of};
 ghost use Rattle.pt_http.specs.Input.{HasInput};
 ghost use Rattle.pt_http.specs.Received.{Responds};
-ghost use Rattle.pt_http_inbox.specs.Inbox.{ReadsOn};
-ghost use Rattle.std.specs.Io.KnownBytes.{Appends};
 ghost use Rattle.pt_http_reply.specs.Reply.{bytes_of};
-ghost use Rattle.pt_http_reply.specs.Response.{IsReplyText};
-ghost use Rattle.pt_http_reply.specs.declared.response.Response.{Response};
 ghost use Rattle.pt_http_request.specs.Targets.{desk_routes};
 
 use crate::received::{Received, receive};
@@ -28,9 +26,7 @@ fn respond<K: Keeper>(alloc: Global, keeper: &mut K, now: Moment, received: &Rec
     ensures responds { (K.store keeper.new).doubt ≡ 0
         → Responds now received.now (desk_of (K.store keeper.old))
         (desk_of (K.store keeper.new)) result }
-    ensures clean { (K.store keeper.old).doubt ≤ (K.store keeper.new).doubt }
-    ensures serves { (K.store keeper.old).shut ≤ (K.store keeper.new).shut }
-    ensures settled { IsSettled (K.store keeper.old) → IsSettled (K.store keeper.new) }
+    ensures goes { GoesOn (K.store keeper.old) (K.store keeper.new) }
 {
     match received {
         Received::Refused(fault) => Response::Refused(*fault),
@@ -69,28 +65,9 @@ pub fn exchange<K: Keeper, R: Read + Drop, W: Write>(
     out: &mut W,
 ) -> Result<Response, Fault>
     requires { router.now ≡ desk_routes }
-    ensures answered { (K.store keeper.new).doubt ≡ 0 → (input : List ℕ) → HasInput R.remaining inbox.old input
-        → IfOk result (λ reply. IsExchangedOver R.remaining
-        (K.store keeper.old) (K.store keeper.new) now input inbox.new reply) }
-    ensures written { IfOk result (λ reply. IsWritten reply (W.contents out.old) (W.contents out.new)) }
-    ensures unheard { (K.store keeper.new).doubt ≡ 0 → (input : List ℕ) → HasInput R.remaining inbox.old input
-        → result ≡ Err (fault write_failed) → (reply : Response)
-        × IsExchangedOver R.remaining (K.store keeper.old) (K.store keeper.new) now input inbox.new reply
-        × ((text : List ℕ) × IsReplyText reply text) }
-    // Whatever the reader gives, and also where its bytes are not known.
-    ensures served { (K.store keeper.new).doubt ≡ 0
-        → IfOk result (ServesOver (K.store keeper.old) (K.store keeper.new) now) }
-    ensures unseen { (K.store keeper.new).doubt ≡ 0 → result ≡ Err (fault write_failed)
-        → (reply : Response) × ServesOver (K.store keeper.old) (K.store keeper.new) now reply }
-    ensures unanswered { IfErr result (λ error. IsUnanswered error → (keeper.new ≡ keeper.old) × (out.new ≡ out.old)) }
-    // What was not answered can be asked again: what the inbox held is still there, and then what has come since.
-    ensures still_there { IfErr result (λ error. IsUnanswered error → (input : List ℕ)
-        → HasInput R.remaining inbox.old input → HasInput R.remaining inbox.new input) }
-    ensures still_held { IfErr result (λ error. IsUnanswered error → ReadsOn R.remaining inbox.old inbox.new) }
-    ensures fault { IfErr result (λ error. IsUnanswered error ⊎ (error ≡ fault write_failed)) }
-    ensures clean { (K.store keeper.old).doubt ≤ (K.store keeper.new).doubt }
-    ensures serves { (K.store keeper.old).shut ≤ (K.store keeper.new).shut }
-    ensures settled { IsSettled (K.store keeper.old) → IsSettled (K.store keeper.new) }
+    ensures exchange { ExchangesOne R.remaining inbox.old inbox.new (K.store keeper.old) (K.store keeper.new) now
+        (W.contents out.old) (W.contents out.new) ((keeper.new ≡ keeper.old) × (out.new ≡ out.old)) result }
+    ensures again { CanBeAskedAgain R.remaining inbox.old inbox.new result }
 {
     let received = receive(alloc, router, inbox)?;
     let response = respond(alloc, keeper, now, &received);
@@ -110,29 +87,11 @@ pub fn answer_bytes<K: Keeper, R: Read + Drop, W: Write>(
     inbox: &mut Inbox<R>,
     out: &mut W,
 ) -> Result<(), Fault>
-    ensures answered { (K.store keeper.new).doubt ≡ 0 → (input : List ℕ) → HasInput R.remaining inbox.old input
-        → OnOk result ((reply : Response)
-        × IsExchangedOver R.remaining (K.store keeper.old) (K.store keeper.new) now input inbox.new reply
-        × IsWritten reply (W.contents out.old) (W.contents out.new)) }
-    // The reply was not wholly written, but the request is answered.
-    ensures unheard { (K.store keeper.new).doubt ≡ 0 → (input : List ℕ) → HasInput R.remaining inbox.old input
-        → result ≡ Err (fault write_failed) → (reply : Response)
-        × IsExchangedOver R.remaining (K.store keeper.old) (K.store keeper.new) now input inbox.new reply }
-    // Whatever the reader gives, and also where its bytes are not known.
-    ensures served { (K.store keeper.new).doubt ≡ 0
-        → OnOk result ((reply : Response) × ServesOver (K.store keeper.old) (K.store keeper.new) now reply
-        × IsWritten reply (W.contents out.old) (W.contents out.new)) }
-    ensures unseen { (K.store keeper.new).doubt ≡ 0 → result ≡ Err (fault write_failed)
-        → (reply : Response) × ServesOver (K.store keeper.old) (K.store keeper.new) now reply }
-    ensures unanswered { IfErr result (λ error. IsUnanswered error → (keeper.new ≡ keeper.old) × (out.new ≡ out.old)) }
-    // What was not answered can be asked again: what the inbox held is still there, and then what has come since.
-    ensures still_there { IfErr result (λ error. IsUnanswered error → (input : List ℕ)
-        → HasInput R.remaining inbox.old input → HasInput R.remaining inbox.new input) }
-    ensures still_held { IfErr result (λ error. IsUnanswered error → ReadsOn R.remaining inbox.old inbox.new) }
-    ensures fault { IfErr result (λ error. IsUnanswered error ⊎ (error ≡ fault write_failed)) }
-    ensures clean { (K.store keeper.old).doubt ≤ (K.store keeper.new).doubt }
-    ensures serves { (K.store keeper.old).shut ≤ (K.store keeper.new).shut }
-    ensures settled { IsSettled (K.store keeper.old) → IsSettled (K.store keeper.new) }
+    ensures answers { AnswersOne (HasInput R.remaining inbox.old)
+        (λ input. IsExchangedOver R.remaining (K.store keeper.old) (K.store keeper.new) now input inbox.new)
+        (K.store keeper.old) (K.store keeper.new) now (W.contents out.old) (W.contents out.new)
+        ((keeper.new ≡ keeper.old) × (out.new ≡ out.old)) result }
+    ensures again { CanBeAskedAgain R.remaining inbox.old inbox.new result }
 {
     let Ok(router) = desk_router(alloc) else {
         return Err(Fault::of(MEMORY));

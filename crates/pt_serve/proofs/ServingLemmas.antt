@@ -8,7 +8,7 @@ use Rattle.pt_base.specs.declared.moment.Moment.{Moment}
 use Rattle.pt_desk.specs.Store.{Store}
 use Rattle.pt_http.specs.Exchange.{Desk, IsUnanswered, Serves, desk_of}
 use Rattle.pt_http_reply.specs.declared.response.Response.{Response}
-use Rattle.pt_serve.specs.Serving.{IsMomentIn, IsServed, Served, ServesInTurn, ServesOn, Turn, unheard, unanswered, failures_in, has_failed}
+use Rattle.pt_serve.specs.Serving.{IsMomentIn, ServesATurn, ServesInTurn, ServesOn, ServesOne, Turn, unheard, unanswered, failures_in, has_failed}
 
 -- one connection more
 pub one_more : (zone : List ℕ) (turns : List Turn) (turn : Turn) (old now new : Desk) → ServesInTurn zone turns old now
@@ -27,10 +27,6 @@ abbrev pub HasServed : List ℕ → ℕ → ℕ → ℕ → Desk → Desk → Ty
 HasServed zone before after failed old new =
     (turns : List Turn) × (length turns + after ≡ before) × (failures_in turns ≡ failed)
     × ServesInTurn zone turns old new
-
--- what came of one, which failed or not
-abbrev pub ServesATurn : List ℕ → Option Fault → Desk → Desk → Type 0
-ServesATurn zone failed old new = (turn : Turn) × (has_failed turn ≡ is_some failed) × ServesOn zone turn old new
 
 -- and of the next
 pub goes_on : (zone : List ℕ) (before now_left after failed more : ℕ) (next : Option Fault) (old now new : Desk)
@@ -57,9 +53,6 @@ goes_on_clean zone before now_left after failed more next old now new has stays 
     let was_clean : now.doubt ≡ 0 = omega arith in
     goes_on zone before now_left after failed more next (desk_of old) (desk_of now) (desk_of new)
     (has was_clean) one counts (serves clean)
-
-abbrev pub ServesOne : List ℕ → Desk → Desk → Type 0
-ServesOne zone old new = (one : Served) × IsServed zone one old new
 
 -- a reply at a moment of the zone is one that was served
 pub served_at : (zone : List ℕ) (now : Moment) (old new : Desk) → IsMomentIn zone now

@@ -1,5 +1,5 @@
 -- What a desk has served on connections one after another.
-use Rattle.std.specs.Prelude.{◌≡◌, ◌⊎◌, ℕ, Bool, true, false, List, [], ◌∷◌, ℤ, pos}
+use Rattle.std.specs.Prelude.{◌≡◌, ◌⊎◌, ℕ, Bool, true, false, List, [], ◌∷◌, ℤ, pos, Option, is_some}
 use Rattle.std.specs.List.{count_by}
 use Rattle.pt_base.specs.Codes.{memory_refused, date_out_of_range}
 use Rattle.pt_base.specs.Fault.{fault}
@@ -24,6 +24,10 @@ pub record IsServed (zone : List ℕ) (one : Served) (old new : Desk) : Type 0 w
   pub moment : IsMomentIn zone one.now
   pub answered : Serves one.now old new one.reply
 
+-- and this is some request
+abbrev pub ServesOne : List ℕ → Desk → Desk → Type 0
+ServesOne zone old new = (one : Served) × IsServed zone one old new
+
 -- what comes of a connection: its request is answered and the whole reply written, or answered though the reply is not
 -- wholly written, or no request of it is answered
 pub data Turn : Type 0 where
@@ -45,6 +49,10 @@ abbrev pub ServesOn : List ℕ → Turn → Desk → Desk → Type 0
 ServesOn zone (heard one) old new = IsServed zone one old new
 ServesOn zone (unheard one) old new = IsServed zone one old new
 ServesOn zone unanswered old new = new ≡ old
+
+-- this or that came of one connection, which told of a failure or not
+abbrev pub ServesATurn : List ℕ → Option Fault → Desk → Desk → Type 0
+ServesATurn zone failed old new = (turn : Turn) × (has_failed turn ≡ is_some failed) × ServesOn zone turn old new
 
 -- on connections one after another the desk serves these
 abbrev pub ServesInTurn : List ℕ → List Turn → Desk → Desk → Type 0

@@ -1,10 +1,9 @@
-ghost use Rattle.std.specs.Prelude.{◌≡◌, ◌⊎◌, ◌≤◌, ℕ, List, Some, Err, IfErr, OnOk};
-ghost use Rattle.pt_base.specs.Codes.{write_failed};
-ghost use Rattle.pt_base.specs.Fault.{fault};
-ghost use Rattle.pt_desk.specs.Store.{IsSettled, Store};
-ghost use Rattle.pt_http.specs.Exchange.{IsUnanswered, IsWritten, ServesOver, desk_of};
+ghost use Rattle.std.specs.Prelude.{◌≡◌, ◌⊎◌, OnOk};
+ghost use Rattle.pt_desk.specs.Store.{Store};
+ghost use Rattle.pt_http.specs.Answering.{GoesOn, TellsFailure};
+ghost use Rattle.pt_http.specs.Exchange.{ServesOver, desk_of};
 ghost use Rattle.pt_http_reply.specs.declared.response.Response.{Response};
-ghost use Rattle.pt_serve.specs.Connection.{IsAnsweredFrom};
+ghost use Rattle.pt_serve.specs.Connection.{AnswersFrom};
 
 use crate::bounded::{Bounded, Ends, Waits};
 use pt_base::fault::READ_FAILED;
@@ -28,25 +27,8 @@ pub fn answer_connection<K: Keeper, R: Read + Drop, W: Write>(
     reader: R,
     out: &mut W,
 ) -> Result<(), Fault>
-    ensures answered { (K.store keeper.new).doubt ≡ 0 → (input : List ℕ) → R.remaining reader ≡ Some input
-        → OnOk result ((reply : Response)
-        × IsAnsweredFrom (K.store keeper.old) (K.store keeper.new) now input reply
-        × IsWritten reply (W.contents out.old) (W.contents out.new)) }
-    // The reply was not wholly written, but the request is answered.
-    ensures unheard { (K.store keeper.new).doubt ≡ 0 → (input : List ℕ) → R.remaining reader ≡ Some input
-        → result ≡ Err (fault write_failed) → (reply : Response)
-        × IsAnsweredFrom (K.store keeper.old) (K.store keeper.new) now input reply }
-    // Whatever the reader gives, and also where its bytes are not known.
-    ensures served { (K.store keeper.new).doubt ≡ 0
-        → OnOk result ((reply : Response) × ServesOver (K.store keeper.old) (K.store keeper.new) now reply
-        × IsWritten reply (W.contents out.old) (W.contents out.new)) }
-    ensures unseen { (K.store keeper.new).doubt ≡ 0 → result ≡ Err (fault write_failed)
-        → (reply : Response) × ServesOver (K.store keeper.old) (K.store keeper.new) now reply }
-    ensures unanswered { IfErr result (λ error. IsUnanswered error → (keeper.new ≡ keeper.old) × (out.new ≡ out.old)) }
-    ensures fault { IfErr result (λ error. IsUnanswered error ⊎ (error ≡ fault write_failed)) }
-    ensures clean { (K.store keeper.old).doubt ≤ (K.store keeper.new).doubt }
-    ensures serves { (K.store keeper.old).shut ≤ (K.store keeper.new).shut }
-    ensures settled { IsSettled (K.store keeper.old) → IsSettled (K.store keeper.new) }
+    ensures answers { AnswersFrom (R.remaining reader) (K.store keeper.old) (K.store keeper.new) now
+        (W.contents out.old) (W.contents out.new) ((keeper.new ≡ keeper.old) × (out.new ≡ out.old)) result }
 {
     let mut inbox = Inbox::new(alloc, reader)?;
     answer_bytes(alloc, keeper, now, &mut inbox, out)
@@ -66,26 +48,8 @@ pub fn answer_in_time<C: Clock, K: Keeper, R: Read + Waits + Drop, W: Write + Wa
     reader: R,
     out: W,
 ) -> (W, Result<(), Fault>)
-    ensures answered { (K.store keeper.new).doubt ≡ 0 → (input : List ℕ) → R.remaining reader ≡ Some input
-        → OnOk result.1 ((reply : Response)
-        × IsAnsweredFrom (K.store keeper.old) (K.store keeper.new) now input reply
-        × IsWritten reply (W.contents out) (W.contents result.0)) }
-    // The reply was not wholly written, but the request is answered.
-    ensures unheard { (K.store keeper.new).doubt ≡ 0 → (input : List ℕ) → R.remaining reader ≡ Some input
-        → result.1 ≡ Err (fault write_failed) → (reply : Response)
-        × IsAnsweredFrom (K.store keeper.old) (K.store keeper.new) now input reply }
-    // Whatever the reader gives, and also where its bytes are not known.
-    ensures served { (K.store keeper.new).doubt ≡ 0
-        → OnOk result.1 ((reply : Response) × ServesOver (K.store keeper.old) (K.store keeper.new) now reply
-        × IsWritten reply (W.contents out) (W.contents result.0)) }
-    ensures unseen { (K.store keeper.new).doubt ≡ 0 → result.1 ≡ Err (fault write_failed)
-        → (reply : Response) × ServesOver (K.store keeper.old) (K.store keeper.new) now reply }
-    ensures unanswered { IfErr result.1 (λ error. IsUnanswered error
-        → (keeper.new ≡ keeper.old) × (result.0 ≡ out)) }
-    ensures fault { IfErr result.1 (λ error. IsUnanswered error ⊎ (error ≡ fault write_failed)) }
-    ensures clean { (K.store keeper.old).doubt ≤ (K.store keeper.new).doubt }
-    ensures serves { (K.store keeper.old).shut ≤ (K.store keeper.new).shut }
-    ensures settled { IsSettled (K.store keeper.old) → IsSettled (K.store keeper.new) }
+    ensures answers { AnswersFrom (R.remaining reader) (K.store keeper.old) (K.store keeper.new) now
+        (W.contents out) (W.contents result.0) ((keeper.new ≡ keeper.old) × (result.0 ≡ out)) result.1 }
 {
     let Ok(ends) = Ends::from_now(clock) else {
         return (out, Err(Fault::of(READ_FAILED)));
@@ -118,17 +82,11 @@ pub fn serve_one<C: Clock, K: Keeper>(
 ) -> Result<(), Fault>
     ensures served { (K.store keeper.new).doubt ≡ 0
         → OnOk result ((reply : Response) × ServesOver (K.store keeper.old) (K.store keeper.new) now reply) }
-    // The reply was not wholly written, but the request is answered.
-    ensures unseen { (K.store keeper.new).doubt ≡ 0 → result ≡ Err (fault write_failed)
-        → (reply : Response) × ServesOver (K.store keeper.old) (K.store keeper.new) now reply }
     ensures one { (K.store keeper.new).doubt ≡ 0
         → (desk_of (K.store keeper.new) ≡ desk_of (K.store keeper.old))
         ⊎ ((reply : Response) × ServesOver (K.store keeper.old) (K.store keeper.new) now reply) }
-    ensures unanswered { IfErr result (λ error. IsUnanswered error → keeper.new ≡ keeper.old) }
-    ensures fault { IfErr result (λ error. IsUnanswered error ⊎ (error ≡ fault write_failed)) }
-    ensures clean { (K.store keeper.old).doubt ≤ (K.store keeper.new).doubt }
-    ensures serves { (K.store keeper.old).shut ≤ (K.store keeper.new).shut }
-    ensures settled { IsSettled (K.store keeper.old) → IsSettled (K.store keeper.new) }
+    ensures failure { TellsFailure (K.store keeper.old) (K.store keeper.new) now (keeper.new ≡ keeper.old) result }
+    ensures goes { GoesOn (K.store keeper.old) (K.store keeper.new) }
 {
     answer_in_time(clock, alloc, keeper, now, stream, stream).1
 }

@@ -1,14 +1,15 @@
-ghost use Rattle.std.specs.Prelude.{◌≡◌, ◌⊎◌, ◌+◌, ◌<◌, ◌≤◌, ◌↔◌, List, Option, Some, None, Ok, Err};
-ghost use Rattle.std.specs.Prelude.{IfErr, IfOk, IfSome, OnErr, OnOk, is_some, length};
+ghost use Rattle.std.specs.Prelude.{◌≡◌, ◌⊎◌, ◌+◌, ◌<◌, ◌≤◌, ◌↔◌, List, Some, None, Ok, Err};
+ghost use Rattle.std.specs.Prelude.{IfErr, IfOk, IfSome, OnErr, OnOk, length};
 ghost use Rattle.pt_base.specs.Codes.{read_failed, write_failed};
 ghost use Rattle.pt_base.specs.Fault.{fault};
 ghost use Rattle.pt_clock.specs.Codes.{no_such_zone};
 ghost use Rattle.pt_clock.specs.LocalTime.{IsZoneRule};
-ghost use Rattle.pt_desk.specs.Store.{IsSettled, Store};
+ghost use Rattle.pt_desk.specs.Store.{Store};
+ghost use Rattle.pt_http.specs.Answering.{GoesOn};
 ghost use Rattle.pt_http.specs.Exchange.{desk_of};
 ghost use Rattle.pt_serve.specs.Port.{left_of};
-ghost use Rattle.pt_serve.specs.Serving.{EndsServing, IsMomentIn, IsServed, Served, ServesInTurn, ServesOn, Turn};
-ghost use Rattle.pt_serve.specs.Serving.{failures_in, has_failed};
+ghost use Rattle.pt_serve.specs.Serving.{EndsServing, IsMomentIn, ServesATurn, ServesInTurn, ServesOne, Turn};
+ghost use Rattle.pt_serve.specs.Serving.{failures_in};
 
 use crate::connection::serve_one;
 use crate::listening::Port;
@@ -56,14 +57,13 @@ fn serve_next<C: Clock, K: Keeper>(
     connection: io::Result<TcpStream>,
 ) -> Result<Option<Fault>, Fault>
     ensures turn { (K.store keeper.new).doubt ≡ 0
-        → IfOk result (λ failed. (turn : Turn) × (has_failed turn ≡ is_some failed)
-        × ServesOn zone.now turn (desk_of (K.store keeper.old)) (desk_of (K.store keeper.new))) }
+        → IfOk result (λ failed.
+        ServesATurn zone.now failed (desk_of (K.store keeper.old)) (desk_of (K.store keeper.new))) }
     ensures served { (K.store keeper.new).doubt ≡ 0 → result ≡ Ok None
-        → (one : Served) × IsServed zone.now one (desk_of (K.store keeper.old)) (desk_of (K.store keeper.new)) }
+        → ServesOne zone.now (desk_of (K.store keeper.old)) (desk_of (K.store keeper.new)) }
     // The reply was not wholly written, but the request is answered.
-    ensures unseen { (K.store keeper.new).doubt ≡ 0
-        → result ≡ Ok (Some (fault write_failed))
-        → (one : Served) × IsServed zone.now one (desk_of (K.store keeper.old)) (desk_of (K.store keeper.new)) }
+    ensures unseen { (K.store keeper.new).doubt ≡ 0 → result ≡ Ok (Some (fault write_failed))
+        → ServesOne zone.now (desk_of (K.store keeper.old)) (desk_of (K.store keeper.new)) }
     ensures unread { result ≡ Ok (Some (fault read_failed)) → keeper.new ≡ keeper.old }
     ensures refused { OnErr connection (result ≡ Ok (Some (fault read_failed))) }
     ensures failed { IfOk result (λ failed. IfSome failed (λ error.
@@ -71,9 +71,7 @@ fn serve_next<C: Clock, K: Keeper>(
     ensures ends { IfErr result EndsServing }
     ensures ended { OnErr result (keeper.new ≡ keeper.old) }
     ensures zone { result ≡ Err (fault no_such_zone) → ¬ (IsZoneRule zone.now) }
-    ensures clean { (K.store keeper.old).doubt ≤ (K.store keeper.new).doubt }
-    ensures serves { (K.store keeper.old).shut ≤ (K.store keeper.new).shut }
-    ensures settled { IsSettled (K.store keeper.old) → IsSettled (K.store keeper.new) }
+    ensures goes { GoesOn (K.store keeper.old) (K.store keeper.new) }
 {
     let Ok(stream) = connection else {
         return Ok(Some(Fault::of(READ_FAILED)));
@@ -113,9 +111,7 @@ pub fn serve<R: Clock + Eprint, K: Keeper>(
     ensures ended { OnErr result (left_of port.new < left_of port.old) }
     ensures fault { IfErr result EndsServing }
     ensures zone { result ≡ Err (fault no_such_zone) → ¬ (IsZoneRule zone.now) }
-    ensures clean { (K.store keeper.old).doubt ≤ (K.store keeper.new).doubt }
-    ensures serves { (K.store keeper.old).shut ≤ (K.store keeper.new).shut }
-    ensures settled { IsSettled (K.store keeper.old) → IsSettled (K.store keeper.new) }
+    ensures goes { GoesOn (K.store keeper.old) (K.store keeper.new) }
 {
     let mut failed = 0;
     while let Some(connection) = port.accept() {

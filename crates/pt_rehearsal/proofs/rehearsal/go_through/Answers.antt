@@ -42,19 +42,19 @@ pub returns-in_err-response-clause-stopped : goal.returns-in_err-response-clause
 returns-in_err-response-clause-stopped g c = λ clean input has.
     let store = g.K.Keeper.store in
     let contents = g.W.Write.contents in
-    let was : (store c.loop.keeper).doubt ≡ 0 = omega (arith, clean, c.exchange.ensures.clean) in
+    let was : (store c.loop.keeper).doubt ≡ 0 = omega (arith, clean, c.exchange.ensures.exchange.goes.clean) in
     let st = c.loop.invariant.stands was input has in
     let next = next_some g.R.Read.remaining c.next_moment.new.inbox st.left c.in_ok-now.field-0 c.in-Some.now
     c.in-Some.is (c.in_ok-now.ensures.next st.left st.has) in
     let error = c.in_err-response.field-0.0 in
     let p = err_from_is_err_and c.from_residual-in_err-response.result c.from_residual-in_err-response.ensures.1 in
-    rw (p.1, p.2) (either c.in_err-response.ensures.fault
+    rw (p.1, p.2) (either c.in_err-response.ensures.exchange.failure.fault
     (λ unanswered.
-    let kept = c.in_err-response.ensures.unanswered unanswered in
+    let kept = c.in_err-response.ensures.exchange.failure.unanswered unanswered in
     stopped_unanswered _ input _ _ _ _ _ _ _ error st (omega (arith, c.loop-test.true)) unanswered
     (ap (λ keeper. desk_of (store keeper)) kept.0) (ap contents kept.1))
     (λ write.
-    let unheard = c.exchange.ensures.unheard clean next.0 next.1 (c.in_err-response.was ∙ ap Err write) in
+    let unheard = c.exchange.ensures.exchange.unheard clean next.0 next.1 (c.in_err-response.was ∙ ap Err write) in
     let text = unheard.2 in
     let one = one_more c.in-Some.now unheard.0 text.0 in
     let step = step_of c.in-Some.now st.left next.0 unheard.1.0 text.0 _ _ unheard.0 next.2
@@ -64,12 +64,12 @@ returns-in_err-response-clause-stopped g c = λ clean input has.
 pub returns-then-is_last-clause-finished : goal.returns-then-is_last-clause-finished
 returns-then-is_last-clause-finished g c = λ clean input has.
     let store = g.K.Keeper.store in
-    let was : (store c.loop.keeper).doubt ≡ 0 = omega (arith, clean, c.exchange.ensures.clean) in
+    let was : (store c.loop.keeper).doubt ≡ 0 = omega (arith, clean, c.exchange.ensures.exchange.goes.clean) in
     let st = c.loop.invariant.stands was input has in
     let next = next_some g.R.Read.remaining c.next_moment.new.inbox st.left c.in_ok-now.field-0 c.in-Some.now
     c.in-Some.is (c.in_ok-now.ensures.next st.left st.has) in
-    let answered = c.in_ok-response.ensures.answered clean next.0 next.1 in
-    let written = c.in_ok-response.ensures.written in
+    let answered = c.in_ok-response.ensures.exchange.answered clean next.0 next.1 in
+    let written = c.in_ok-response.ensures.exchange.written in
     let reply = c.in_ok-response.response in
     let one = one_more c.in-Some.now reply written.0 in
     let step = step_of c.in-Some.now st.left next.0 answered.0 written.0 _ _ reply next.2
@@ -87,16 +87,16 @@ pub loop-preserved : goal.loop-preserved
 loop-preserved g c =
     let store = g.K.Keeper.store in
     record {
-      clean = omega (arith, c.loop.invariant.clean, c.exchange.ensures.clean);
-      serves = omega (arith, c.loop.invariant.serves, c.exchange.ensures.serves);
-      settled = λ was. c.exchange.ensures.settled (c.loop.invariant.settled was);
+      clean = omega (arith, c.loop.invariant.clean, c.exchange.ensures.exchange.goes.clean);
+      serves = omega (arith, c.loop.invariant.serves, c.exchange.ensures.exchange.goes.serves);
+      settled = λ was. c.exchange.ensures.exchange.goes.settled (c.loop.invariant.settled was);
       stands = λ clean input has.
-          let was : (store c.loop.keeper).doubt ≡ 0 = omega (arith, clean, c.exchange.ensures.clean) in
+          let was : (store c.loop.keeper).doubt ≡ 0 = omega (arith, clean, c.exchange.ensures.exchange.goes.clean) in
           let st = c.loop.invariant.stands was input has in
           let next = next_some g.R.Read.remaining c.next_moment.new.inbox st.left c.in_ok-now.field-0 c.in-Some.now
           c.in-Some.is (c.in_ok-now.ensures.next st.left st.has) in
-          let answered = c.in_ok-response.ensures.answered clean next.0 next.1 in
-          let written = c.in_ok-response.ensures.written in
+          let answered = c.in_ok-response.ensures.exchange.answered clean next.0 next.1 in
+          let written = c.in_ok-response.ensures.exchange.written in
           let reply = c.in_ok-response.response in
           let one = one_more c.in-Some.now reply written.0 in
           let step = step_of c.in-Some.now st.left next.0 answered.0 written.0 _ _ reply
@@ -136,7 +136,7 @@ returns-clause-finished g c = λ clean input has.
     )
 
 pub returns-in_err-response-clause-settled : goal.returns-in_err-response-clause-settled
-returns-in_err-response-clause-settled g c = λ was. c.exchange.ensures.settled (c.loop.invariant.settled was)
+returns-in_err-response-clause-settled g c = λ was. c.exchange.ensures.exchange.goes.settled (c.loop.invariant.settled was)
 
 pub returns-then-is_last-clause-settled : goal.returns-then-is_last-clause-settled
-returns-then-is_last-clause-settled g c = λ was. c.exchange.ensures.settled (c.loop.invariant.settled was)
+returns-then-is_last-clause-settled g c = λ was. c.exchange.ensures.exchange.goes.settled (c.loop.invariant.settled was)

@@ -1,24 +1,32 @@
-use Rattle.std.proofs.Common.{◌∙◌, ℕ, List, ◌++◌, ap, sym}
-use Rattle.std.proofs.lemmas.Result.{on_ok_weaker}
-use Rattle.pt_http.specs.Input.{HasInput}
+use Rattle.std.proofs.Common.{◌≡◌, ◌∙◌, ℕ, List, ◌++◌, Some, ap, inl, refl, sym}
+use Rattle.pt_base.specs.Codes.{memory_refused}
+use Rattle.pt_base.specs.Fault.{fault}
+use Rattle.pt_http.proofs.AnsweringLemmas.{answers_none, answers_otherwise, handed}
+use Rattle.pt_serve.specs.Connection.{AnswersFrom, IsAnsweredFrom}
 use Rattle.pt_serve.proofs.connection.answer_connection.Goals as goal
 
-pub returns-clause-answered : goal.returns-clause-answered
-returns-clause-answered g c = λ clean bytes known.
-    let input : HasInput g.R.Read.remaining c.in_ok-inbox.inbox bytes = record {
-      left = bytes;
-      known = ap g.R.Read.remaining c.in_ok-inbox.ensures.reader ∙ known;
-      whole = sym (ap (λ (held : List ℕ). held ++ bytes) c.in_ok-inbox.ensures.empty);
-    } in
-    on_ok_weaker c.answer_bytes.result (λ found. (found.0, (found.1.0, found.1.2), found.2))
-    (c.answer_bytes.ensures.answered clean bytes input)
+pub returns-in_err-inbox : goal.returns-in_err-inbox
+returns-in_err-inbox g c =
+    let store = g.K.Keeper.store c.args.keeper.now in
+    let written = g.W.Write.contents c.args.out.now in
+    record {
+      answers = handed
+          (λ result. AnswersFrom (g.R.Read.remaining c.args.reader) store store c.args.now written written
+          ((c.args.keeper.now ≡ c.args.keeper.now) × (c.args.out.now ≡ c.args.out.now)) result) (fault memory_refused)
+          c.from_residual.result c.from_residual.ensures.1
+          (answers_none _ _ store c.args.now written _ (fault memory_refused) (inl refl) (refl, refl));
+    }
 
-pub returns-clause-unheard : goal.returns-clause-unheard
-returns-clause-unheard g c = λ clean bytes known is.
-    let input : HasInput g.R.Read.remaining c.in_ok-inbox.inbox bytes = record {
-      left = bytes;
-      known = ap g.R.Read.remaining c.in_ok-inbox.ensures.reader ∙ known;
-      whole = sym (ap (λ (held : List ℕ). held ++ bytes) c.in_ok-inbox.ensures.empty);
-    } in
-    let found = c.answer_bytes.ensures.unheard clean bytes input is in
-    (found.0, (found.1.0, found.1.2))
+pub returns : goal.returns
+returns g c =
+    let remaining = g.R.Read.remaining in
+    let store = g.K.Keeper.store in
+    record {
+      answers = answers_otherwise _ (λ input. remaining c.args.reader ≡ Some input) _
+          (IsAnsweredFrom (store c.args.keeper.now) (store c.answer_bytes.new.keeper) c.args.now) _ _ _ _ _ _ _ _
+          (λ bytes known. record {
+            left = bytes;
+            known = ap remaining c.in_ok-inbox.ensures.reader ∙ known;
+            whole = sym (ap (λ (held : List ℕ). held ++ bytes) c.in_ok-inbox.ensures.empty);
+          }) (λ input reply found. (found.0, found.2)) (λ same. same) c.answer_bytes.ensures.answers;
+    }

@@ -1,5 +1,5 @@
 use Rattle.std.proofs.Common.{◌≡◌, ◌+◌, ◌≤◌}
-use Rattle.pt_desk.specs.Store.{IsSettled}
+use Rattle.pt_http.specs.Answering.{GoesOn}
 use Rattle.pt_http.specs.Exchange.{desk_of}
 use Rattle.pt_serve.proofs.ServingLemmas.{HasServed}
 use Rattle.pt_serve.specs.Port.{left_of}
@@ -10,9 +10,7 @@ abbrev pub invariant-loop-connection : goal.invariant-loop-connection
 invariant-loop-connection g l =
     let store = g.K.Keeper.store in
     record {
-      clean : (store l.fn.keeper).doubt ≤ (store l.keeper).doubt;
-      serves : (store l.fn.keeper).shut ≤ (store l.keeper).shut;
-      settled : IsSettled (store l.fn.keeper) → IsSettled (store l.keeper);
+      goes : GoesOn (store l.fn.keeper) (store l.keeper);
       few : l.failed + left_of l.port ≤ left_of l.fn.port;
       served : (store l.keeper).doubt ≡ 0
           → HasServed l.zone (left_of l.fn.port) (left_of l.port) l.failed (desk_of (store l.fn.keeper))

@@ -15,8 +15,8 @@ returns-in-Ok-serve_one-clause-turn g c = λ clean.
 pub returns-clause-turn : goal.returns-clause-turn
 returns-clause-turn g c = λ clean.
     failed_turn _ c.in_ok-now.now _ _ c.in-Err.fault c.in_ok-now.ensures.moment
-    (λ error. ap (λ keeper. desk_of (g.K.Keeper.store keeper)) (c.in-Err.ensures.unanswered error))
-    (λ error. c.in-Err.ensures.unseen clean (ap Err error)) c.in-Err.ensures.fault
+    (λ error. ap (λ keeper. desk_of (g.K.Keeper.store keeper)) (c.in-Err.ensures.failure.unanswered error))
+    (λ error. c.in-Err.ensures.failure.unseen clean (ap Err error)) c.in-Err.ensures.failure.fault
 
 pub returns-in-Ok-serve_one-clause-served : goal.returns-in-Ok-serve_one-clause-served
 returns-in-Ok-serve_one-clause-served g c = λ clean is.
@@ -27,4 +27,4 @@ pub returns-clause-unseen : goal.returns-clause-unseen
 returns-clause-unseen g c = λ clean is.
     let same : c.in-Err.fault ≡ fault write_failed = cc is in
     served_at _ c.in_ok-now.now _ _ c.in_ok-now.ensures.moment
-    (c.in-Err.ensures.unseen clean (ap Err same))
+    (c.in-Err.ensures.failure.unseen clean (ap Err same))

@@ -1,0 +1,247 @@
+-- One request answered, or not, from what its parts ensure.
+use Rattle.std.proofs.Common.{◌≡◌, ◌∙◌, ℕ, false, List, Option, Result, Ok, Err, ap, arith, inl, inr, sym, subst}
+use Rattle.std.proofs.lemmas.Result.{IfErr-weaker, on_ok_weaker}
+use Rattle.std.specs.Result.{IsErrAnd}
+use Rattle.pt_base.specs.Codes.{write_failed}
+use Rattle.pt_base.specs.Fault.{fault}
+use Rattle.pt_base.specs.declared.fault.Fault.{Fault}
+use Rattle.pt_base.specs.declared.moment.Moment.{Moment}
+use Rattle.pt_desk.specs.Store.{Store}
+use Rattle.pt_http.specs.Answering.{AnswersOne, CanBeAskedAgain, ExchangesOne, GoesOn, TellsFailure}
+use Rattle.pt_http.specs.Exchange.{IsExchangedOver, IsUnanswered, IsWritten, ServesOver, desk_of}
+use Rattle.pt_http.specs.Input.{HasInput}
+use Rattle.pt_http.specs.Received.{BeginsWith, Responds, is_end}
+use Rattle.pt_http.specs.declared.received.Received.{Received}
+use Rattle.pt_http_inbox.specs.Inbox.{reads_of}
+use Rattle.pt_http_inbox.specs.declared.inbox.Inbox.{Inbox}
+use Rattle.pt_http_reply.specs.Response.{IsReplyText}
+use Rattle.pt_http_reply.specs.declared.response.Response.{Response}
+use Rattle.pt_http.proofs.ExchangeLemmas.{exchanged, same_end, served}
+use Rattle.pt_http.proofs.ToldLemmas.{sent_responds}
+use Rattle.pt_http_reply.specs.Reply.{IsSent}
+
+-- a fault as `?` hands it on
+pub handed : {T : Type 0} (P : Result T Fault → Type 0) (error : Fault) (result : Result T Fault)
+    → IsErrAnd result (λ told. told ≡ error) → P (Err error) → P result
+handed P error (Ok value) is holds = absurd is
+handed {T} P error (Err told) is holds = subst (λ (it : Fault). P (Err it)) (sym is) holds
+
+-- a store that nothing was asked of
+pub goes_nowhere : (store : Store) → GoesOn store store
+goes_nowhere store = record { clean = omega arith; serves = omega arith; settled = λ was. was }
+
+-- one call after another
+pub goes_further : (old mid new : Store) → GoesOn old mid → GoesOn mid new → GoesOn old new
+goes_further old mid new first next = record {
+  clean = omega (arith, first.clean, next.clean);
+  serves = omega (arith, first.serves, next.serves);
+  settled = λ was. next.settled (first.settled was);
+}
+
+-- want of memory and a read that failed are no write that failed
+pub no_write : (error : Fault) → IsUnanswered error → error ≡ fault write_failed → ⊥
+no_write error (inl memory) write =
+    let same : 0 ≡ 47 = sym (ap (λ (it : Fault). it.code) memory) ∙ ap (λ (it : Fault). it.code) write in
+    omega (arith, same)
+no_write error (inr read) write =
+    let same : 46 ≡ 47 = sym (ap (λ (it : Fault). it.code) read) ∙ ap (λ (it : Fault). it.code) write in
+    omega (arith, same)
+
+told_error : {T : Type 0} (error other : Fault) → ◌≡◌ {A = Result T Fault} (Err error) (Err other) → error ≡ other
+told_error error other is = cc
+
+no_error : {T : Type 0} (value : T) (error : Fault) → ◌≡◌ {A = Result T Fault} (Ok value) (Err error) → ⊥
+no_error value error is = absurd (cc)
+
+-- a call that was not answered tells so
+pub tells_unanswered : {T : Type 0} (old new : Store) (now : Moment) (Same : Type 0) (error : Fault)
+    → IsUnanswered error → Same → TellsFailure {T = T} old new now Same (Err error)
+tells_unanswered old new now Same error unanswered same = record {
+  unseen = λ clean is. absurd (no_write error unanswered (told_error error (fault write_failed) is));
+  unanswered = λ again. same;
+  fault = inl unanswered;
+}
+
+-- one whose reply was not wholly written does
+pub tells_unwritten : {T : Type 0} (old new : Store) (now : Moment) (Same : Type 0) (error : Fault)
+    → error ≡ fault write_failed → (new.doubt ≡ 0 → (reply : Response) × ServesOver old new now reply)
+    → TellsFailure {T = T} old new now Same (Err error)
+tells_unwritten old new now Same error write served = record {
+  unseen = λ clean is. served clean;
+  unanswered = λ again. absurd (no_write error again write);
+  fault = inr write;
+}
+
+-- and one that has not failed has nothing to tell
+pub tells_nothing : {T : Type 0} (old new : Store) (now : Moment) (Same : Type 0) (value : T)
+    → TellsFailure old new now Same (Ok value)
+tells_nothing old new now Same value = record {
+  unseen = λ clean is. absurd (no_error value (fault write_failed) is);
+  unanswered = tt;
+  fault = tt;
+}
+
+-- more is the same
+pub tells_more : {T : Type 0} (old new : Store) (now : Moment) (Same More : Type 0) (result : Result T Fault)
+    → (Same → More) → TellsFailure old new now Same result → TellsFailure old new now More result
+tells_more old new now Same More result more tells = record {
+  unseen = tells.unseen;
+  unanswered = IfErr-weaker result (λ error. IsUnanswered error → Same) (λ error. IsUnanswered error → More)
+      (λ error kept. λ unanswered. more (kept unanswered)) tells.unanswered;
+  fault = tells.fault;
+}
+
+-- nothing was answered and nothing is changed
+pub answers_none : {T : Type 0} (Gives : List ℕ → Type 0) (Answers : List ℕ → Response → Type 0) (store : Store)
+    (now : Moment) (out : Option (List ℕ)) (Same : Type 0) (error : Fault) → IsUnanswered error → Same
+    → AnswersOne {T = T} Gives Answers store store now out out Same (Err error)
+answers_none Gives Answers store now out Same error unanswered same = record {
+  answered = λ clean input gives. tt;
+  unheard = λ clean input gives is. absurd (no_write error unanswered (told_error error (fault write_failed) is));
+  served = λ clean. tt;
+  failure = tells_unanswered store store now Same error unanswered same;
+  goes = goes_nowhere store;
+}
+
+-- the same of bytes that come otherwise
+pub answers_otherwise : {T : Type 0} (Gives Has : List ℕ → Type 0) (Answers Tells : List ℕ → Response → Type 0)
+    (old new : Store) (now : Moment) (out_old out_new : Option (List ℕ)) (Same More : Type 0)
+    (result : Result T Fault) → ((input : List ℕ) → Has input → Gives input)
+    → ((input : List ℕ) (reply : Response) → Answers input reply → Tells input reply) → (Same → More)
+    → AnswersOne Gives Answers old new now out_old out_new Same result
+    → AnswersOne Has Tells old new now out_old out_new More result
+answers_otherwise Gives Has Answers Tells old new now out_old out_new Same More result gives tells more one = record {
+  answered = λ clean input has. on_ok_weaker result (λ found. (found.0, tells input found.0 found.1, found.2))
+      (one.answered clean input (gives input has));
+  unheard = λ clean input has is.
+      let found = one.unheard clean input (gives input has) is in
+      (found.0, tells input found.0 found.1);
+  served = one.served;
+  failure = tells_more old new now Same More result more one.failure;
+  goes = one.goes;
+}
+
+-- what was received is exchanged for what was sent, of which the rest is left
+pub exchanged_over : {R : Type 0} (remaining : R → Option (List ℕ)) (inbox_old inbox_new : Inbox R) (old new : Store)
+    (now : Moment) (came : Received) (reply sent : Response)
+    → ((input : List ℕ) → HasInput remaining inbox_old input
+    → (rest : List ℕ) × HasInput remaining inbox_new rest × BeginsWith input came rest)
+    → (is_end came ≡ false → reads_of inbox_new ≡ 0)
+    → (new.doubt ≡ 0 → Responds now came (desk_of old) (desk_of new) reply) → IsSent reply sent → new.doubt ≡ 0
+    → (input : List ℕ) → HasInput remaining inbox_old input
+    → IsExchangedOver remaining old new now input inbox_new sent
+exchanged_over remaining inbox_old inbox_new old new now came reply sent received fresh responds is clean input has =
+    let begins = received input has in
+    let answers = sent_responds now came (desk_of old) (desk_of new) reply sent (responds clean) is in (
+      begins.0,
+      begins.1,
+      exchanged now input came (desk_of old) (desk_of new) sent begins.0 begins.2 answers,
+      (λ more. fresh (same_end now came (desk_of old) (desk_of new) sent answers ∙ more)),
+    )
+
+-- whatever came in
+pub served_over : (old new : Store) (now : Moment) (came : Received) (reply sent : Response)
+    → (new.doubt ≡ 0 → Responds now came (desk_of old) (desk_of new) reply) → IsSent reply sent → new.doubt ≡ 0
+    → ServesOver old new now sent
+served_over old new now came reply sent responds is clean =
+    served now came (desk_of old) (desk_of new) sent
+    (sent_responds now came (desk_of old) (desk_of new) reply sent (responds clean) is)
+
+-- an exchange that was not answered
+pub exchanges_none : {R : Type 0} (remaining : R → Option (List ℕ)) (inbox_old inbox_new : Inbox R) (store : Store)
+    (now : Moment) (out : Option (List ℕ)) (Same : Type 0) (error : Fault) → IsUnanswered error → Same
+    → ExchangesOne remaining inbox_old inbox_new store store now out out Same (Err error)
+exchanges_none remaining inbox_old inbox_new store now out Same error unanswered same = record {
+  answered = λ clean input has. tt;
+  written = tt;
+  unheard = λ clean input has is. absurd (no_write error unanswered (told_error error (fault write_failed) is));
+  served = λ clean. tt;
+  failure = tells_unanswered store store now Same error unanswered same;
+  goes = goes_nowhere store;
+}
+
+-- one whose reply was not wholly written
+pub exchanges_unwritten : {R : Type 0} (remaining : R → Option (List ℕ)) (inbox_old inbox_new : Inbox R)
+    (old new : Store) (now : Moment) (out_old out_new : Option (List ℕ)) (Same : Type 0) (error : Fault)
+    (reply : Response) → error ≡ fault write_failed
+    → (new.doubt ≡ 0 → (input : List ℕ) → HasInput remaining inbox_old input
+    → IsExchangedOver remaining old new now input inbox_new reply)
+    → ((text : List ℕ) × IsReplyText reply text) → (new.doubt ≡ 0 → ServesOver old new now reply) → GoesOn old new
+    → ExchangesOne remaining inbox_old inbox_new old new now out_old out_new Same (Err error)
+exchanges_unwritten remaining inbox_old inbox_new old new now out_old out_new Same error reply write exchanged text served
+    goes = record {
+      answered = λ clean input has. tt;
+      written = tt;
+      unheard = λ clean input has is. (reply, exchanged clean input has, text);
+      served = λ clean. tt;
+      failure = tells_unwritten old new now Same error write (λ clean. (reply, served clean));
+      goes = goes;
+    }
+
+-- and one that was answered
+pub exchanges : {R : Type 0} (remaining : R → Option (List ℕ)) (inbox_old inbox_new : Inbox R) (old new : Store)
+    (now : Moment) (out_old out_new : Option (List ℕ)) (Same : Type 0) (reply : Response)
+    → (new.doubt ≡ 0 → (input : List ℕ) → HasInput remaining inbox_old input
+    → IsExchangedOver remaining old new now input inbox_new reply)
+    → IsWritten reply out_old out_new → (new.doubt ≡ 0 → ServesOver old new now reply) → GoesOn old new
+    → ExchangesOne remaining inbox_old inbox_new old new now out_old out_new Same (Ok reply)
+exchanges remaining inbox_old inbox_new old new now out_old out_new Same reply exchanged written served goes = record {
+  answered = exchanged;
+  written = written;
+  unheard = λ clean input has is. absurd (no_error reply (fault write_failed) is);
+  served = served;
+  failure = tells_nothing old new now Same reply;
+  goes = goes;
+}
+
+-- the same where the reply is not told
+pub answers_told : {R T : Type 0} (remaining : R → Option (List ℕ)) (inbox_old inbox_new : Inbox R)
+    (old new : Store) (now : Moment) (out_old out_new : Option (List ℕ)) (Same : Type 0) (reply : Response) (value : T)
+    → ExchangesOne remaining inbox_old inbox_new old new now out_old out_new Same (Ok reply)
+    → AnswersOne (HasInput remaining inbox_old) (λ input. IsExchangedOver remaining old new now input inbox_new) old new
+    now out_old out_new Same (Ok value)
+answers_told remaining inbox_old inbox_new old new now out_old out_new Same reply value one = record {
+  answered = λ clean input has. (reply, one.answered clean input has, one.written);
+  unheard = λ clean input has is. absurd (no_error value (fault write_failed) is);
+  served = λ clean. (reply, one.served clean, one.written);
+  failure = tells_nothing old new now Same value;
+  goes = one.goes;
+}
+
+pub answers_failed : {R T : Type 0} (remaining : R → Option (List ℕ)) (inbox_old inbox_new : Inbox R)
+    (old new : Store) (now : Moment) (out_old out_new : Option (List ℕ)) (Same : Type 0) (error : Fault)
+    → ExchangesOne remaining inbox_old inbox_new old new now out_old out_new Same (Err error)
+    → AnswersOne {T = T} (HasInput remaining inbox_old)
+    (λ input. IsExchangedOver remaining old new now input inbox_new) old new now out_old out_new Same (Err error)
+answers_failed remaining inbox_old inbox_new old new now out_old out_new Same error one = record {
+  answered = λ clean input has. tt;
+  unheard = λ clean input has is.
+      let found = one.unheard clean input has (ap Err (told_error error (fault write_failed) is)) in
+      (found.0, found.1);
+  served = λ clean. tt;
+  failure = record {
+    unseen = λ clean is. one.failure.unseen clean (ap Err (told_error error (fault write_failed) is));
+    unanswered = one.failure.unanswered;
+    fault = one.failure.fault;
+  };
+  goes = one.goes;
+}
+
+-- what was told is no matter for what can be asked again
+pub again_told : {R T : Type 0} (remaining : R → Option (List ℕ)) (old new : Inbox R) (value : T)
+    → CanBeAskedAgain remaining old new (Ok value)
+again_told remaining old new value = record { still_there = tt; still_held = tt }
+
+pub again_unwritten : {R T : Type 0} (remaining : R → Option (List ℕ)) (old new : Inbox R) (error : Fault)
+    → error ≡ fault write_failed → CanBeAskedAgain {T = T} remaining old new (Err error)
+again_unwritten remaining old new error write = record {
+  still_there = λ unanswered. absurd (no_write error unanswered write);
+  still_held = λ unanswered. absurd (no_write error unanswered write);
+}
+
+pub again_failed : {R T U : Type 0} (remaining : R → Option (List ℕ)) (old new : Inbox R) (error : Fault)
+    → CanBeAskedAgain {T = T} remaining old new (Err error) → CanBeAskedAgain {T = U} remaining old new (Err error)
+again_failed remaining old new error again = record {
+  still_there = again.still_there;
+  still_held = again.still_held;
+}
