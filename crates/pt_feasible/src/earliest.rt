@@ -48,7 +48,7 @@ pub fn earliest_times<S: Stops, T: Times>(
         if bound > u64::from(visit.hi.number()) {
             return None;
         }
-        let step = step_from(stops, times, vehicle, k)?;
+        let step = step_from(stops, times, vehicle, k, visit)?;
         earliest.times.push(bound as u16);
         earliest.steps.push(step);
         arrival = bound + u64::from(step);

@@ -8,7 +8,7 @@ ghost use Rattle.pt_feasible.specs.Stop.{is_pickup, is_drop};
 ghost use Rattle.pt_feasible.specs.Visit.{visits};
 
 use crate::visit::visit_at;
-use crate::{Stop, StopKind, Stops};
+use crate::{Stop, StopKind, Stops, Visit};
 use pt_base::Vehicle;
 use pt_travel::Times;
 
@@ -37,9 +37,10 @@ pub(crate) fn step_from<S: Stops, T: Times>(
     times: &T,
     vehicle: &Vehicle,
     k: usize,
+    this: Visit,
 ) -> Option<u32>
     requires few { length (S.stops stops.now) ≤ most_stops }
-    requires among { k < length (S.stops stops.now) + 2 }
+    requires this { slice_get (visits vehicle.now (S.stops stops.now)) k ≡ Some this }
     ensures kept { IfSome result (λ step. (b : List ℕ)
         → HasTimeToDrive (T.minutes times.now) (visits vehicle.now (S.stops stops.now)) b k
         ↔ (k + 1 < length (S.stops stops.now) + 2 → slice_index b k + step ≤ slice_index b (k + 1))) }
@@ -49,7 +50,6 @@ pub(crate) fn step_from<S: Stops, T: Times>(
     if k > stops.len() {
         return Some(0);
     }
-    let this = visit_at(stops, vehicle, k);
     let next = visit_at(stops, vehicle, k + 1);
     let drive = times.minutes(this.place, next.place)?;
     Some(u32::from(this.service) + u32::from(drive))

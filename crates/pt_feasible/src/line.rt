@@ -42,13 +42,14 @@ pub(crate) fn line_of<S: Stops, T: Times>(
         let visit = visit_at(stops, vehicle, k);
         let least = u64::from(minute_at(floor, k));
         let bound = u64::from(visit.lo.number()).max(least).max(arrival);
-        if bound > u64::from(visit.hi.number()) {
+        let latest = visit.hi.number();
+        if bound > u64::from(latest) {
             return None;
         }
-        let step = step_from(stops, times, vehicle, k)?;
+        let step = step_from(stops, times, vehicle, k, visit)?;
         earliest.push(bound as u16);
         limits.push(Limits {
-            latest: visit.hi.number() as u16,
+            latest: latest as u16,
             step,
             since: since_at(stops, vehicle, k),
         });

@@ -20,9 +20,12 @@ use Rattle.pt_insertion.specs.declared.asked.Asked.{Asked}
 use Rattle.pt_insertion.specs.Asked.{pickup_stop, drop_stop}
 use Rattle.pt_insertion.specs.Insertion.{with_trip, IsWithout}
 use Rattle.pt_insertion.specs.Possible.{IsPossible}
-use Rattle.pt_insertion.specs.Riding.{IsRiddenFor}
+use Rattle.pt_insertion.specs.declared.bounds.Bounds.{Bounds}
+use Rattle.pt_insertion.specs.declared.window.Window.{Window}
+use Rattle.pt_insertion.specs.Bounds.{AreBounds, IsPickupWindow, IsDropWindow}
+use Rattle.pt_insertion.specs.Riding.{IsRiddenFor, IsServedUntil}
 use Rattle.pt_insertion.specs.TravelTimes.{KeepsTriangleLaw}
-use Rattle.pt_insertion.proofs.BetweenLemmas.{old_visit_at, drive_between, drop_at, is_ride, some_and_more}
+use Rattle.pt_insertion.proofs.BetweenLemmas.{old_visit_at, old_time_between, drive_between, drop_at, drop_can_begin, is_ride, no_sooner, some_and_more}
 use Rattle.pt_insertion.proofs.InsertionLemmas.{length-with_trip, with_trip_before, with_trip_pickup, with_trip_between}
 use Rattle.pt_insertion.proofs.InsertionPairing.{IsPaired-with_trip}
 use Rattle.pt_insertion.proofs.PlaceLemmas.{without_with, old_visit-between}
@@ -107,6 +110,14 @@ begins_ride minutes vehicle stops asked i later b last from among fits e =
     let service : asked.service ≡ last.service = ap (λ (visit : Visit). visit.service) same in
     (sym place, omega arith)
 
+-- the pickup's service ends no sooner than its window and service tell
+pub begins_served : (minutes : ℕ → ℕ → Option ℕ) (vehicle : Vehicle) (stops : List Stop) (asked : Asked) (i : ℕ) (pickup : Window) →
+    IsPickupWindow minutes vehicle stops asked i pickup → IsServedUntil minutes vehicle stops asked i i (pickup.lo + asked.service)
+begins_served minutes vehicle stops asked i pickup begins later b last from among fits e =
+    let (at, least) = begins_ride minutes vehicle stops asked i later b last from among fits e in
+    let (low, high) = begins later b from among fits in
+    omega (arith, low, least)
+
 -- what has to be driven from the last visit to a later one
 drive_on : (minutes : ℕ → ℕ → Option ℕ) (vehicle : Vehicle) (stops : List Stop) (asked : Asked) (i j place ridden : ℕ) →
     KeepsTriangleLaw minutes → vehicle.closes ≤ last_minute → IsRiddenFor minutes vehicle stops asked i j place ridden →
@@ -181,3 +192,105 @@ way_left minutes vehicle stops asked i j place ridden law day h so_far later fro
     some_and_more (minutes place asked.goal) _ _ (λ rest late. omega (arith, ride.within_limit, late))
     (drive_on minutes vehicle stops asked i j place ridden law day so_far later b h from among fits (later + 2) (stop_visit (drop_stop asked))
     (omega arith) (drop_at vehicle asked i later stops possible.drop_later among))
+
+-- a later visit is begun no sooner than where the vehicle leaves and drives to it
+comes_on : (minutes : ℕ → ℕ → Option ℕ) (vehicle : Vehicle) (stops : List Stop) (asked : Asked) (i j place ridden leaves : ℕ) →
+    KeepsTriangleLaw minutes → vehicle.closes ≤ last_minute →
+    IsRiddenFor minutes vehicle stops asked i j place ridden → IsServedUntil minutes vehicle stops asked i j leaves →
+    (later : ℕ) (b : List ℕ) → i ≤ j → j ≤ later → later ≤ length stops → TimesFit minutes vehicle (with_trip asked i later stops) b →
+    (k : ℕ) (next : Visit) → j + 1 < k → slice_get (visits vehicle (with_trip asked i later stops)) k ≡ Some next →
+    IsSomeAnd (minutes place next.place) (λ drive. leaves + drive ≤ slice_index b k)
+comes_on minutes vehicle stops asked i j place ridden leaves law day so_far served later b h from among fits k next after there =
+    let all = visits vehicle (with_trip asked i later stops) in
+    let count = length-visits vehicle (with_trip asked i later stops) in
+    let longer = length-with_trip asked i later stops (omega arith) among in
+    let last = get_or all (j + 1) (depot_visit vehicle) in
+    let here : slice_get all (j + 1) ≡ Some last = slice_get-get_or all (j + 1) (depot_visit vehicle) (omega arith) in
+    let (at, least) = so_far later b last from among fits here in
+    let ends = served later b last from among fits here in
+    subst (λ (p : ℕ). IsSomeAnd (minutes p next.place) (λ drive. leaves + drive ≤ slice_index b k)) at
+    (some_and_more (minutes last.place next.place) _ _ (λ drive late. omega arith)
+    (drive_between minutes vehicle (with_trip asked i later stops) b law day fits (j + 1) k last next after here there))
+
+-- the next stop is begun no sooner than the vehicle comes there, and between its bounds
+pub comes_between : (minutes : ℕ → ℕ → Option ℕ) (vehicle : Vehicle) (stops : List Stop) (asked : Asked) (bounds : Bounds)
+    (i j place ridden leaves : ℕ) (here : Visit) (drive : ℕ) →
+    KeepsTriangleLaw minutes → AreBounds minutes vehicle stops bounds → IsWithout asked.trip stops → i ≤ j →
+    slice_get (visits vehicle stops) (j + 1) ≡ Some here → minutes place here.place ≡ Some drive →
+    IsRiddenFor minutes vehicle stops asked i j place ridden → IsServedUntil minutes vehicle stops asked i j leaves →
+    (later : ℕ) (b : List ℕ) → j + 1 ≤ later → later ≤ length stops → TimesFit minutes vehicle (with_trip asked i later stops) b →
+    (leaves + drive ≤ slice_index b (j + 2))
+    × (slice_index bounds.earliest.items (j + 1) ≤ slice_index b (j + 2)) × (slice_index b (j + 2) ≤ slice_index bounds.latest (j + 1))
+comes_between minutes vehicle stops asked bounds i j place ridden leaves here drive law are new h e way so_far served later b from among fits =
+    let (low, high) = old_time_between minutes vehicle asked i later stops bounds b law are (omega arith) new fits (j + 1) in
+    let stands = ap (slice_index b) (old_visit-between asked i later stops (j + 1) (omega arith) among new (omega arith) from) in
+    let next : slice_index b (j + 1 + 1) ≡ slice_index b (j + 2) = ap (slice_index b) (let same : j + 1 + 1 ≡ j + 2 = omega arith in same) in
+    let late = held (minutes place here.place) _ drive way
+    (comes_on minutes vehicle stops asked i j place ridden leaves law are.within_a_day so_far served later b h (omega arith) among fits (j + 2) here
+    (omega arith) (next_stop vehicle stops asked i j later here h from among new e)) in
+    (late, omega (arith, low, stands, next), omega (arith, high, stands, next))
+
+-- the service at the next stop ends no sooner than it begins, by its bound and by the way there, and lasts
+pub serves_on : (minutes : ℕ → ℕ → Option ℕ) (vehicle : Vehicle) (stops : List Stop) (asked : Asked) (bounds : Bounds)
+    (i j place ridden leaves : ℕ) (here : Visit) (drive begins : ℕ) →
+    KeepsTriangleLaw minutes → AreBounds minutes vehicle stops bounds → IsWithout asked.trip stops → i ≤ j →
+    slice_get (visits vehicle stops) (j + 1) ≡ Some here → minutes place here.place ≡ Some drive →
+    IsRiddenFor minutes vehicle stops asked i j place ridden → IsServedUntil minutes vehicle stops asked i j leaves →
+    ((minute : ℕ) → slice_index bounds.earliest.items (j + 1) ≤ minute → leaves + drive ≤ minute → begins ≤ minute) →
+    IsServedUntil minutes vehicle stops asked i (j + 1) (begins + here.service)
+serves_on minutes vehicle stops asked bounds i j place ridden leaves here drive begins law are new h e way so_far served least later b last from among fits at =
+    let there = next_stop vehicle stops asked i j later here h from among new e in
+    let next : j + 1 + 1 ≡ j + 2 = omega arith in
+    let same : here ≡ last = same_Some here last (sym there ∙ ap (slice_get (visits vehicle (with_trip asked i later stops))) (sym next) ∙ at) in
+    let service : here.service ≡ last.service = ap (λ (visit : Visit). visit.service) same in
+    let begun = ap (slice_index b) next in
+    let (come, low, high) = comes_between minutes vehicle stops asked bounds i j place ridden leaves here drive law are new h e way so_far served later b from
+    among fits in
+    let after = least (slice_index b (j + 2)) low come in
+    omega (arith, after, service, begun)
+
+-- where the next stop would begin too late no drop comes after it
+pub too_late_on : (minutes : ℕ → ℕ → Option ℕ) (vehicle : Vehicle) (stops : List Stop) (asked : Asked) (bounds : Bounds)
+    (i j place ridden leaves : ℕ) (here : Visit) (drive begins : ℕ) →
+    KeepsTriangleLaw minutes → AreBounds minutes vehicle stops bounds → IsWithout asked.trip stops → i ≤ j →
+    slice_get (visits vehicle stops) (j + 1) ≡ Some here → minutes place here.place ≡ Some drive →
+    IsRiddenFor minutes vehicle stops asked i j place ridden → IsServedUntil minutes vehicle stops asked i j leaves →
+    ((minute : ℕ) → slice_index bounds.earliest.items (j + 1) ≤ minute → leaves + drive ≤ minute → begins ≤ minute) →
+    slice_index bounds.latest (j + 1) < begins → (later : ℕ) → j + 1 ≤ later → ¬ IsPossible minutes vehicle stops asked i later
+too_late_on minutes vehicle stops asked bounds i j place ridden leaves here drive begins law are new h e way so_far served least late later from possible =
+    let (b, fits) = possible.times in
+    let (come, low, high) = comes_between minutes vehicle stops asked bounds i j place ridden leaves here drive law are new h e way so_far served later b from
+    possible.among fits in
+    let after = least (slice_index b (j + 2)) low come in
+    omega (arith, after, high, late)
+
+-- where the vehicle leaves after the drop's window, no drop comes later
+pub no_drops_after : (minutes : ℕ → ℕ → Option ℕ) (vehicle : Vehicle) (stops : List Stop) (asked : Asked) (window : Window) (i j place ridden leaves : ℕ) →
+    KeepsTriangleLaw minutes → vehicle.closes ≤ last_minute → IsDropWindow minutes vehicle stops asked i window → i ≤ j →
+    IsRiddenFor minutes vehicle stops asked i j place ridden → IsServedUntil minutes vehicle stops asked i j leaves →
+    window.hi < leaves → (later : ℕ) → j ≤ later → ¬ IsPossible minutes vehicle stops asked i later
+no_drops_after minutes vehicle stops asked window i j place ridden leaves law day begins h so_far served late later from possible =
+    let (b, fits) = possible.times in
+    let (low, high) = begins later b possible.drop_later possible.among fits in
+    let come = no_sooner (minutes place asked.goal) _ _
+    (comes_on minutes vehicle stops asked i j place ridden leaves law day so_far served later b h from possible.among fits (later + 2)
+    (stop_visit (drop_stop asked)) (omega arith) (drop_at vehicle asked i later stops possible.drop_later possible.among)) in
+    omega (arith, high, come, late)
+
+-- the drop comes no sooner than the way to it takes, in its window, and in time for the next stop
+pub drop_comes : (minutes : ℕ → ℕ → Option ℕ) (vehicle : Vehicle) (stops : List Stop) (asked : Asked) (bounds : Bounds) (window : Window)
+    (i j place ridden leaves : ℕ) (next : Visit) →
+    KeepsTriangleLaw minutes → AreBounds minutes vehicle stops bounds → IsWithout asked.trip stops → IsDropWindow minutes vehicle stops asked i window →
+    slice_get (visits vehicle stops) (j + 1) ≡ Some next →
+    IsRiddenFor minutes vehicle stops asked i j place ridden → IsServedUntil minutes vehicle stops asked i j leaves →
+    IsPossible minutes vehicle stops asked i j →
+    IsSomeAnd (minutes place asked.goal) (λ to. (leaves + to ≤ window.hi)
+    × IsSomeAnd (minutes asked.goal next.place) (λ on. leaves + to + asked.service + on ≤ slice_index bounds.latest (j + 1)))
+drop_comes minutes vehicle stops asked bounds window i j place ridden leaves next law are new begins e so_far served possible =
+    let (b, fits) = possible.times in
+    let (low, high) = begins j b possible.drop_later possible.among fits in
+    let can = drop_can_begin minutes vehicle asked i j stops bounds b law are possible.drop_later possible.among new fits in
+    some_and_more (minutes place asked.goal) _ _ (λ to come.
+    (omega (arith, high, come), some_and_more (minutes asked.goal next.place) _ _ (λ on before. omega (arith, come, before)) (can.before next e)))
+    (comes_on minutes vehicle stops asked i j place ridden leaves law are.within_a_day so_far served j b possible.drop_later (omega arith) possible.among fits
+    (j + 2) (stop_visit (drop_stop asked)) (omega arith) (drop_at vehicle asked i j stops possible.drop_later possible.among))

@@ -1,7 +1,9 @@
 -- The driving minutes of a route: the driving times between neighbours, from the depot and back to it.
-use Rattle.std.specs.Prelude.{ℕ, ◌+◌, List, [], ◌∷◌, ◌++◌, map, Option, unwrap_or}
+use Rattle.std.specs.Prelude.{◌≡◌, ℕ, ◌+◌, ◌-◌, List, [], ◌∷◌, ◌++◌, map, Option, Some, slice_get, unwrap_or}
 use Rattle.pt_base.specs.declared.vehicle.Vehicle.{Vehicle}
 use Rattle.pt_feasible.specs.declared.stop.Stop.{Stop}
+use Rattle.pt_feasible.specs.declared.visit.Visit.{Visit}
+use Rattle.pt_feasible.specs.Visit.{visits}
 
 -- the minutes from a place through these places in turn; where there is no way, nothing is counted
 unfoldable pub driving_through : (ℕ → ℕ → Option ℕ) → ℕ → List ℕ → ℕ
@@ -16,3 +18,17 @@ places_to_depot vehicle stops = map (λ stop. stop.place) stops ++ vehicle.depot
 -- from the depot to each stop in turn, and back to the depot
 abbrev pub driving : (ℕ → ℕ → Option ℕ) → Vehicle → List Stop → ℕ
 driving minutes vehicle stops = driving_through minutes vehicle.depot (places_to_depot vehicle stops)
+
+-- the minutes of a drive; where there is no way, nothing is counted
+abbrev pub leg : (ℕ → ℕ → Option ℕ) → ℕ → ℕ → ℕ
+leg minutes from to = unwrap_or (minutes from to) 0
+
+-- the minutes that the way over a place takes more than the way without it
+abbrev pub detour : (ℕ → ℕ → Option ℕ) → (from place to : ℕ) → ℕ
+detour minutes from place to = leg minutes from place + leg minutes place to - leg minutes from to
+
+-- so many minutes more take the drives between the k-th visit and the next one with this place between them
+abbrev pub IsDetour : (ℕ → ℕ → Option ℕ) → Vehicle → List Stop → (k place more : ℕ) → Type 0
+IsDetour minutes vehicle stops k place more = (here next : Visit) →
+    slice_get (visits vehicle stops) k ≡ Some here → slice_get (visits vehicle stops) (k + 1) ≡ Some next →
+    more ≡ detour minutes here.place place next.place

@@ -18,9 +18,19 @@ IsRiddenFor minutes vehicle stops asked i j place ridden = (later : ℕ) (b : Li
     slice_get (visits vehicle (with_trip asked i later stops)) (j + 1) ≡ Some last →
     (last.place ≡ place) × (slice_index b (i + 1) + asked.service + ridden ≤ slice_index b (j + 1) + last.service)
 
+-- with the pickup after i old stops and the drop after j or more, service at the later of the pickup and the j-th visit ends
+-- no sooner than at this minute
+abbrev pub IsServedUntil : (ℕ → ℕ → Option ℕ) → Vehicle → List Stop → Asked → (i j leaves : ℕ) → Type 0
+IsServedUntil minutes vehicle stops asked i j leaves = (later : ℕ) (b : List ℕ) (last : Visit) →
+    j ≤ later → later ≤ length stops → TimesFit minutes vehicle (with_trip asked i later stops) b →
+    slice_get (visits vehicle (with_trip asked i later stops)) (j + 1) ≡ Some last →
+    leaves ≤ slice_index b (j + 1) + last.service
+
 -- the ride after j old stops, wherever its drop comes from there on
 pub record IsRiding (minutes : ℕ → ℕ → Option ℕ) (vehicle : Vehicle) (stops : List Stop) (asked : Asked) (i j : ℕ)
     (riding : Riding) : Type 0 where
   pub others : riding.others ≡ load_aboard (take j stops)
   pub within_limit : riding.minutes ≤ asked.ride
   pub ridden : IsRiddenFor minutes vehicle stops asked i j riding.place riding.minutes
+  pub served : IsServedUntil minutes vehicle stops asked i j riding.leaves
+  pub in_range : riding.leaves ≤ 131070

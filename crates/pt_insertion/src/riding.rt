@@ -3,10 +3,13 @@ ghost use Rattle.pt_base.specs.Load.{load_sum, FitsWithin};
 ghost use Rattle.pt_base.specs.Ranges.{last_minute};
 ghost use Rattle.pt_feasible.specs.Loads.{load_aboard};
 ghost use Rattle.pt_feasible.specs.Route.{stops_of};
+ghost use Rattle.pt_insertion.specs.Bounds.{AreBounds, IsPickupWindow};
 ghost use Rattle.pt_insertion.specs.Insertion.{IsWithout};
 ghost use Rattle.pt_insertion.specs.Possible.{IsPossible};
 ghost use Rattle.pt_insertion.specs.Riding.{IsRiding};
 
+use crate::bounds::Bounds;
+use crate::window::Window;
 use crate::{Asked, Duty};
 use pt_base::{Load, PlaceId, Vehicle};
 use pt_feasible::{aboard_after, visit_at};
@@ -19,16 +22,27 @@ pub(crate) struct Riding {
     pub place: PlaceId,
     /// The minutes of driving and service from the end of the pickup to the end of the service there.
     pub minutes: u32,
+    /// The minute of the day before which the service there does not end.
+    pub leaves: u32,
     /// Who is aboard from there on, without the party that is asked for.
     pub others: Load,
 }
 
 /// The ride as it begins after the first `i` stops; `None` where the vehicle has no room for the party.
-pub(crate) fn boarded(duty: &Duty<'_>, asked: &Asked, i: usize, others: Load) -> Option<Riding>
+pub(crate) fn boarded(
+    duty: &Duty<'_>,
+    asked: &Asked,
+    pickup: Window,
+    i: usize,
+    others: Load,
+) -> Option<Riding>
     requires among { i ≤ length (stops_of duty.now.route.now) }
     requires new_trip { IsWithout asked.now.trip (stops_of duty.now.route.now) }
     requires others { others ≡ load_aboard (take i (stops_of duty.now.route.now)) }
-    ensures riding { (minutes : ℕ → ℕ → Option ℕ) → IfSome result (λ riding.
+    requires small { pickup.lo ≤ last_minute }
+    ensures riding { (minutes : ℕ → ℕ → Option ℕ)
+        → IsPickupWindow minutes duty.now.vehicle.now (stops_of duty.now.route.now) asked.now i pickup
+        → IfSome result (λ riding.
         IsRiding minutes duty.now.vehicle.now (stops_of duty.now.route.now) asked.now i i riding) }
     ensures none { (minutes : ℕ → ℕ → Option ℕ) → IfNone result ((j : ℕ) →
         ¬ IsPossible minutes duty.now.vehicle.now (stops_of duty.now.route.now) asked.now i j) }
@@ -39,17 +53,19 @@ pub(crate) fn boarded(duty: &Duty<'_>, asked: &Asked, i: usize, others: Load) ->
     Some(Riding {
         place: asked.origin,
         minutes: 0,
+        leaves: pickup.lo + u32::from(asked.service),
         others,
     })
 }
 
-/// The ride one stop on; `None` where the vehicle is too full or the ride too long from there on.
+/// The ride one stop on; `None` where the vehicle is too full or too late, or the ride too long, from there on.
 ///
-/// No later drop is possible then. Driving and service alone count: a wait makes a ride no shorter.
+/// No later drop is possible then. Of a ride's length driving and service alone count: a wait makes it no shorter.
 pub(crate) fn ride_on<T: Times>(
     duty: &Duty<'_>,
     asked: &Asked,
     times: &T,
+    bounds: &Bounds,
     riding: Riding,
     i: usize,
     j: usize,
@@ -57,7 +73,7 @@ pub(crate) fn ride_on<T: Times>(
     requires drop_later { i ≤ j }
     requires stop { j < length (stops_of duty.now.route.now) }
     requires new_trip { IsWithout asked.now.trip (stops_of duty.now.route.now) }
-    requires within_a_day { duty.now.vehicle.now.closes ≤ last_minute }
+    requires bounds { AreBounds (T.minutes times.now) duty.now.vehicle.now (stops_of duty.now.route.now) bounds.now }
     requires riding { IsRiding (T.minutes times.now) duty.now.vehicle.now
         (stops_of duty.now.route.now) asked.now i j riding }
     ensures riding { IfSome result (λ on.
@@ -77,9 +93,14 @@ pub(crate) fn ride_on<T: Times>(
     if !has_room(duty.vehicle, others, asked.load) {
         return None;
     }
+    let begins = u32::from(bounds.earliest[j + 1]).max(riding.leaves + u32::from(drive));
+    if begins > u32::from(bounds.latest[j + 1]) {
+        return None;
+    }
     Some(Riding {
         place: here.place,
         minutes,
+        leaves: begins + u32::from(here.service),
         others,
     })
 }
