@@ -1,11 +1,11 @@
 ghost use Rattle.std.specs.Prelude.{◌≡◌, ◌≢◌, ◌⊎◌, Err, IfErr, IfOk, false, map, string_bytes};
-ghost use Rattle.clap.specs.Words.{FailsBy, HasMatchesOf, app_of, fault_of, new_app, with_rule, with_subcommand};
+ghost use Rattle.clap.specs.Words.{FailsBy, HasMatchesOf, app_of, fault_of, with_rule, with_subcommand};
 ghost use Rattle.clap.specs.declared.error.kind.ErrorKind.TheVariants.{OutOfMemory};
 ghost use Rattle.clap.specs.declared.builder.command.Command.TheViews.{out-Command as fields_of};
-ghost use Rattle.pt_command_line.specs.CommandLine.{audit_words, desk_words, explain_words, init_words};
+ghost use Rattle.pt_command_line.specs.CommandLine.{audit_words, command, desk_words, explain_words, init_words};
 ghost use Rattle.pt_command_line.specs.CommandLine.{manifest_words, migrate_words, place, program_words};
-ghost use Rattle.pt_command_line.specs.CommandLine.{question_places, rehearse_words, serve_words, travel_words};
-ghost use Rattle.pt_command_line.specs.CommandLine.{trips_words, with_places};
+ghost use Rattle.pt_command_line.specs.CommandLine.{rehearse_words, serve_words, travel_words, trips_words};
+ghost use Rattle.pt_command_line.specs.CommandLine.{with_places};
 ghost use Rattle.pt_command_line.specs.Codes.{wrong_words};
 ghost use Rattle.pt_command_line.specs.Line.{IsLine, IsSameLine, SpellsLine};
 ghost use Rattle.pt_command_line.specs.declared.asked.Line.{Line};
@@ -64,46 +64,71 @@ const AUDIT: &str = "Prints `yes` where the log shows that no vehicle can take t
 or the denial. For example: \
 desk audit refusal.log desk.db EST5EDT,M3.2.0,M11.1.0 KEY 7 2025-03-11 540 2 3 none 0 0";
 
-const ADMIN_KEY: &str =
-    "The admin's key, which requests give in the header Desk-Key: it has no blank at either end";
+/// A place for a word: its name, and what the help says of it.
+type Place<'a> = (&'a str, &'a str);
 
-const KEY: &str = "The key of the caller who asks";
+const ADMIN_KEY: Place = (
+    "KEY",
+    "The admin's key, which requests give in the header Desk-Key: it has no blank at either end",
+);
 
-const NEW_FILE: &str = "The file that is made, which must not exist";
+const KEY: Place = ("KEY", "The key of the caller who asks");
 
-const FILE: &str = "The file of the database";
+const NEW_FILE: Place = ("FILE", "The file that is made, which must not exist");
 
-const ZONE: &str = "The POSIX rule of the agency's time zone, such as EST5EDT,M3.2.0,M11.1.0";
+const FILE: Place = ("FILE", "The file of the database");
 
-const PORT: &str = "The port, 1 to 65535";
+const ZONE: Place = (
+    "ZONE",
+    "The POSIX rule of the agency's time zone, such as EST5EDT,M3.2.0,M11.1.0",
+);
 
-const COUNT: &str = "How many connections are answered, 1 to 1000000";
+const PORT: Place = ("PORT", "The port, 1 to 65535");
 
-const NUMBER: &str = "The number of the request, above that of the caller's last accepted one";
+const COUNT: Place = ("COUNT", "How many connections are answered, 1 to 1000000");
 
-const FIRST_DAY: &str = "The first day on which the times hold, YYYY-MM-DD";
+const NUMBER: Place = (
+    "NUMBER",
+    "The number of the request, above that of the caller's last accepted one",
+);
 
-const DAY: &str = "The day, YYYY-MM-DD";
+const FIRST_DAY: Place = ("DAY", "The first day on which the times hold, YYYY-MM-DD");
 
-const CSV: &str = "The file of the times, with the header from,to,minutes";
+const DAY: Place = ("DAY", "The day, YYYY-MM-DD");
 
-const VEHICLE: &str = "The vehicle's number";
+const CSV: Place = (
+    "CSV",
+    "The file of the times, with the header from,to,minutes",
+);
 
-const LOG: &str = "The file of the log, as `explain` printed it";
+const VEHICLE: Place = ("VEHICLE", "The vehicle's number");
 
-const RIDER: &str = "The rider's number";
+const LOG: Place = ("LOG", "The file of the log, as `explain` printed it");
 
-const WISH: &str = "The minute when the rider wishes to be picked up, 0 to 1439";
+const RIDER: Place = ("RIDER", "The rider's number");
 
-const FROM: &str = "The number of the place where the trip begins";
+const WISH: Place = (
+    "WISH",
+    "The minute when the rider wishes to be picked up, 0 to 1439",
+);
 
-const TO: &str = "The number of the place where the trip ends";
+const FROM: Place = ("FROM", "The number of the place where the trip begins");
 
-const BY: &str = "The minute by which the rider has to be there, 0 to 1439, or `none`";
+const TO: Place = ("TO", "The number of the place where the trip ends");
 
-const ATTENDANT: &str = "Whether an attendant comes along: 1, else 0";
+const BY: Place = (
+    "BY",
+    "The minute by which the rider has to be there, 0 to 1439, or `none`",
+);
 
-const COMPANIONS: &str = "How many companions come along, 0 to 255";
+const ATTENDANT: Place = ("ATTENDANT", "Whether an attendant comes along: 1, else 0");
+
+const COMPANIONS: Place = ("COMPANIONS", "How many companions come along, 0 to 255");
+
+/// The places of a question about a rider's wish.
+const QUESTION_PLACES: [Place; 11] = [
+    FILE, ZONE, KEY, RIDER, DAY, WISH, FROM, TO, BY, ATTENDANT, COMPANIONS,
+];
 
 /// The command with one more place for a word, which may not be left out.
 fn with_place<'a>(
@@ -119,12 +144,35 @@ fn with_place<'a>(
     command.arg(Arg::new(alloc, name).required(true).help(help))
 }
 
-/// The command, of which this is said in its help.
-fn command_of<'a>(alloc: Global, name: &'a str, about: &'a str) -> Command<'a>
-    ensures app { app_of result ≡ new_app name.entry.now }
-    ensures local { (fields_of result).has_globals ≡ false }
+/// The command with more places for words, in order.
+fn with_places<'a>(
+    alloc: Global,
+    mut command: Command<'a>,
+    places: &[Place<'a>],
+) -> Result<Command<'a>, AllocError>
+    ensures app { IfOk result (λ more.
+        app_of more ≡ with_places (app_of command.entry) (map (λ place. place.0.now) places.now)) }
+    ensures local { (fields_of command.entry).has_globals ≡ false
+        → IfOk result (λ more. (fields_of more).has_globals ≡ false) }
 {
-    Command::new(alloc, name).about(about)
+    for &(name, help) in places {
+        command = with_place(alloc, command, name, help)?;
+    }
+    Ok(command)
+}
+
+/// The command with these places, of which `about` is said in its help.
+fn command_of<'a>(
+    alloc: Global,
+    name: &'a str,
+    about: &'a str,
+    places: &[Place<'a>],
+) -> Result<Command<'a>, AllocError>
+    ensures app { IfOk result (λ made.
+        app_of made ≡ command name.entry.now (map (λ place. place.0.now) places.now)) }
+    ensures local { IfOk result (λ made. (fields_of made).has_globals ≡ false) }
+{
+    with_places(alloc, Command::new(alloc, name).about(about), places)
 }
 
 /// The command `rehearse`.
@@ -132,8 +180,7 @@ fn rehearse_command<'a>(alloc: Global) -> Result<Command<'a>, AllocError>
     ensures app { IfOk result (λ command. app_of command ≡ rehearse_words) }
     ensures local { IfOk result (λ command. (fields_of command).has_globals ≡ false) }
 {
-    let command = command_of(alloc, "rehearse", REHEARSE);
-    with_place(alloc, command, "KEY", ADMIN_KEY)
+    command_of(alloc, "rehearse", REHEARSE, &[ADMIN_KEY])
 }
 
 /// The command `init`.
@@ -141,9 +188,7 @@ fn init_command<'a>(alloc: Global) -> Result<Command<'a>, AllocError>
     ensures app { IfOk result (λ command. app_of command ≡ init_words) }
     ensures local { IfOk result (λ command. (fields_of command).has_globals ≡ false) }
 {
-    let command = command_of(alloc, "init", INIT);
-    let command = with_place(alloc, command, "FILE", NEW_FILE)?;
-    with_place(alloc, command, "KEY", ADMIN_KEY)
+    command_of(alloc, "init", INIT, &[NEW_FILE, ADMIN_KEY])
 }
 
 /// The command `migrate`.
@@ -151,8 +196,7 @@ fn migrate_command<'a>(alloc: Global) -> Result<Command<'a>, AllocError>
     ensures app { IfOk result (λ command. app_of command ≡ migrate_words) }
     ensures local { IfOk result (λ command. (fields_of command).has_globals ≡ false) }
 {
-    let command = command_of(alloc, "migrate", MIGRATE);
-    with_place(alloc, command, "FILE", FILE)
+    command_of(alloc, "migrate", MIGRATE, &[FILE])
 }
 
 /// The command `serve`.
@@ -160,11 +204,7 @@ fn serve_command<'a>(alloc: Global) -> Result<Command<'a>, AllocError>
     ensures app { IfOk result (λ command. app_of command ≡ serve_words) }
     ensures local { IfOk result (λ command. (fields_of command).has_globals ≡ false) }
 {
-    let command = command_of(alloc, "serve", SERVE);
-    let command = with_place(alloc, command, "FILE", FILE)?;
-    let command = with_place(alloc, command, "ZONE", ZONE)?;
-    let command = with_place(alloc, command, "PORT", PORT)?;
-    with_place(alloc, command, "COUNT", COUNT)
+    command_of(alloc, "serve", SERVE, &[FILE, ZONE, PORT, COUNT])
 }
 
 /// The command `travel`.
@@ -172,13 +212,12 @@ fn travel_command<'a>(alloc: Global) -> Result<Command<'a>, AllocError>
     ensures app { IfOk result (λ command. app_of command ≡ travel_words) }
     ensures local { IfOk result (λ command. (fields_of command).has_globals ≡ false) }
 {
-    let command = command_of(alloc, "travel", TRAVEL);
-    let command = with_place(alloc, command, "FILE", FILE)?;
-    let command = with_place(alloc, command, "ZONE", ZONE)?;
-    let command = with_place(alloc, command, "KEY", KEY)?;
-    let command = with_place(alloc, command, "NUMBER", NUMBER)?;
-    let command = with_place(alloc, command, "DAY", FIRST_DAY)?;
-    with_place(alloc, command, "CSV", CSV)
+    command_of(
+        alloc,
+        "travel",
+        TRAVEL,
+        &[FILE, ZONE, KEY, NUMBER, FIRST_DAY, CSV],
+    )
 }
 
 /// The command `manifest`.
@@ -186,12 +225,12 @@ fn manifest_command<'a>(alloc: Global) -> Result<Command<'a>, AllocError>
     ensures app { IfOk result (λ command. app_of command ≡ manifest_words) }
     ensures local { IfOk result (λ command. (fields_of command).has_globals ≡ false) }
 {
-    let command = command_of(alloc, "manifest", MANIFEST);
-    let command = with_place(alloc, command, "FILE", FILE)?;
-    let command = with_place(alloc, command, "ZONE", ZONE)?;
-    let command = with_place(alloc, command, "KEY", KEY)?;
-    let command = with_place(alloc, command, "VEHICLE", VEHICLE)?;
-    with_place(alloc, command, "DAY", DAY)
+    command_of(
+        alloc,
+        "manifest",
+        MANIFEST,
+        &[FILE, ZONE, KEY, VEHICLE, DAY],
+    )
 }
 
 /// The command `trips`.
@@ -199,30 +238,7 @@ fn trips_command<'a>(alloc: Global) -> Result<Command<'a>, AllocError>
     ensures app { IfOk result (λ command. app_of command ≡ trips_words) }
     ensures local { IfOk result (λ command. (fields_of command).has_globals ≡ false) }
 {
-    let command = command_of(alloc, "trips", TRIPS);
-    let command = with_place(alloc, command, "FILE", FILE)?;
-    let command = with_place(alloc, command, "ZONE", ZONE)?;
-    let command = with_place(alloc, command, "KEY", KEY)?;
-    with_place(alloc, command, "DAY", DAY)
-}
-
-/// The command with the places of a question about a rider's wish.
-fn with_question<'a>(alloc: Global, command: Command<'a>) -> Result<Command<'a>, AllocError>
-    ensures app { IfOk result (λ more. app_of more ≡ with_places (app_of command.entry) question_places) }
-    ensures local { (fields_of command.entry).has_globals ≡ false
-        → IfOk result (λ more. (fields_of more).has_globals ≡ false) }
-{
-    let command = with_place(alloc, command, "FILE", FILE)?;
-    let command = with_place(alloc, command, "ZONE", ZONE)?;
-    let command = with_place(alloc, command, "KEY", KEY)?;
-    let command = with_place(alloc, command, "RIDER", RIDER)?;
-    let command = with_place(alloc, command, "DAY", DAY)?;
-    let command = with_place(alloc, command, "WISH", WISH)?;
-    let command = with_place(alloc, command, "FROM", FROM)?;
-    let command = with_place(alloc, command, "TO", TO)?;
-    let command = with_place(alloc, command, "BY", BY)?;
-    let command = with_place(alloc, command, "ATTENDANT", ATTENDANT)?;
-    with_place(alloc, command, "COMPANIONS", COMPANIONS)
+    command_of(alloc, "trips", TRIPS, &[FILE, ZONE, KEY, DAY])
 }
 
 /// The command `explain`.
@@ -230,8 +246,7 @@ fn explain_command<'a>(alloc: Global) -> Result<Command<'a>, AllocError>
     ensures app { IfOk result (λ command. app_of command ≡ explain_words) }
     ensures local { IfOk result (λ command. (fields_of command).has_globals ≡ false) }
 {
-    let command = command_of(alloc, "explain", EXPLAIN);
-    with_question(alloc, command)
+    command_of(alloc, "explain", EXPLAIN, &QUESTION_PLACES)
 }
 
 /// The command `audit`.
@@ -239,16 +254,16 @@ fn audit_command<'a>(alloc: Global) -> Result<Command<'a>, AllocError>
     ensures app { IfOk result (λ command. app_of command ≡ audit_words) }
     ensures local { IfOk result (λ command. (fields_of command).has_globals ≡ false) }
 {
-    let command = command_of(alloc, "audit", AUDIT);
-    let command = with_place(alloc, command, "LOG", LOG)?;
-    with_question(alloc, command)
+    let command = command_of(alloc, "audit", AUDIT, &[LOG])?;
+    with_places(alloc, command, &QUESTION_PLACES)
 }
 
 /// The program's words before its commands are named, one of which may not be left out.
 fn program_command<'a>(alloc: Global) -> Command<'a>
     ensures { app_of result ≡ program_words }
 {
-    command_of(alloc, "desk", ABOUT)
+    Command::new(alloc, "desk")
+        .about(ABOUT)
         .version(VERSION)
         .after_help(EXIT_STATUS)
         .subcommand_required(true)
