@@ -25,7 +25,7 @@ use Rattle.pt_spelling.specs.declared.replies.KeptReply.{KeptReply}
 use Rattle.pt_spelling.specs.declared.replies.KeptReply.TheVariants as reply
 use Rattle.pt_desk_rules.specs.Arrival.{arrival_of}
 use Rattle.pt_desk_rules.specs.Booking.{IsBooking}
-use Rattle.pt_desk_rules.specs.Deciding.{booked, changed, kept_by, kept_in, IsCancelDecided, IsChangeDecided}
+use Rattle.pt_desk_rules.specs.Deciding.{booked, changed, kept_by, with_kept, IsCancelDecided, IsChangeDecided}
 use Rattle.pt_desk_rules.specs.Deciding.{IsEndDecided, IsDecidedBy, IsDecisionAfter}
 use Rattle.pt_desk_rules.specs.Facts.{facts_of}
 use Rattle.pt_desk_rules.specs.Numbers.{accepted_writes, committed, kept_from, kept_where, last_number, number_of}
@@ -59,61 +59,67 @@ abbrev pub callers_by : Write → Edit Caller
 callers_by (write.PutCaller new) = puts_one new
 callers_by _ = no_edit
 
--- the change makes this of the callers, and keeps this of its own caller
-abbrev IsChangeOf : Edit Caller → Kept → Change → Type 0
-IsChangeOf callers kept change = (change.kept ≡ puts_one kept) × (change.callers ≡ callers)
+-- an acceptance makes this of the callers, and nothing of what is kept
+abbrev pub Makes : Edit Caller → Decision → Type 0
+Makes callers (decision.Denied first) = Unit {0}
+Makes callers (decision.Accepted told change) = (change.kept ≡ no_edit) × (change.callers ≡ callers)
 
--- so does an acceptance
-abbrev Keeps : Edit Caller → Kept → Decision → Type 0
-Keeps callers kept (decision.Denied first) = Unit {0}
-Keeps callers kept (decision.Accepted told change) = IsChangeOf callers kept change
-
-booking_keeps : (kept : Kept) (change : Trip → Plan → Change)
-    → ((trip : Trip) (plan : Plan) → IsChangeOf no_edit kept (change trip plan))
+booking_makes : (change : Trip → Plan → Change)
+    → ((told : Answer) (trip : Trip) (plan : Plan) → Makes no_edit (decision.Accepted told (change trip plan)))
     → (number : ℕ) (left_out : Option ℕ) (today : ℕ) (wish : Wish) (facts : WriteFacts) (decided : Decision)
-    → IsBooking change number left_out today wish facts decided → Keeps no_edit kept decided
-booking_keeps kept change keeps number left_out today wish facts decided (scheduled.Denied rule, by, is) =
-    subst (Keeps no_edit kept) (sym is) tt
-booking_keeps kept change keeps number left_out today wish facts decided
+    → IsBooking change number left_out today wish facts decided → Makes no_edit decided
+booking_makes change makes number left_out today wish facts decided (scheduled.Denied rule, by, is) =
+    subst (Makes no_edit) (sym is) tt
+booking_makes change makes number left_out today wish facts decided
     (scheduled.Booked trip plan, by, (told, confirms, is)) =
-    subst (Keeps no_edit kept) (sym is) (keeps trip plan)
+    subst (Makes no_edit) (sym is) (makes (Booked told) trip plan)
 
-change_keeps : (found : Option Trip) (wish : Wish) (kept : Kept) (today : ℕ) (facts : WriteFacts) (decided : Decision)
-    → IsChangeDecided found wish kept today facts decided → Keeps no_edit kept decided
-change_keeps None wish kept today facts decided changes = absurd changes
-change_keeps (Some old) wish kept today facts decided changes =
-    booking_keeps kept (changed kept old facts.booking.plan) (λ trip plan. (refl, refl)) old.id (Some old.id) today wish
+change_makes : (found : Option Trip) (wish : Wish) (today : ℕ) (facts : WriteFacts) (decided : Decision)
+    → IsChangeDecided found wish today facts decided → Makes no_edit decided
+change_makes None wish today facts decided changes = absurd changes
+change_makes (Some old) wish today facts decided changes =
+    booking_makes (changed old facts.booking.plan) (λ told trip plan. (refl, refl)) old.id (Some old.id) today wish
     facts decided changes
 
-cancel_keeps : (found : Option Trip) (kept : Kept) (facts : WriteFacts) (decided : Decision)
-    → IsCancelDecided found kept facts decided → Keeps no_edit kept decided
-cancel_keeps None kept facts decided cancels = absurd cancels
-cancel_keeps (Some trip) kept facts decided is = subst (Keeps no_edit kept) (sym is) (refl, refl)
+cancel_makes : (found : Option Trip) (facts : WriteFacts) (decided : Decision)
+    → IsCancelDecided found facts decided → Makes no_edit decided
+cancel_makes None facts decided cancels = absurd cancels
+cancel_makes (Some trip) facts decided is = subst (Makes no_edit) (sym is) (refl, refl)
 
-end_keeps : (found : Option Trip) (outcome : Outcome) (kept : Kept) (decided : Decision)
-    → IsEndDecided found outcome kept decided → Keeps no_edit kept decided
-end_keeps None outcome kept decided ends = absurd ends
-end_keeps (Some trip) outcome kept decided is = subst (Keeps no_edit kept) (sym is) (refl, refl)
+end_makes : (found : Option Trip) (outcome : Outcome) (decided : Decision) → IsEndDecided found outcome decided
+    → Makes no_edit decided
+end_makes None outcome decided ends = absurd ends
+end_makes (Some trip) outcome decided is = subst (Makes no_edit) (sym is) (refl, refl)
 
-decided_keeps : (asked : Write) (kept : Kept) (today : ℕ) (facts : WriteFacts) (decided : Decision)
-    → IsDecidedBy asked kept today facts decided → Keeps (callers_by asked) kept decided
-decided_keeps (write.Book rider wish) kept today facts decided is =
-    booking_keeps kept (booked kept) (λ trip plan. (refl, refl)) (facts.booking.last_trip + 1) None today wish facts
-    decided is
-decided_keeps (write.Change trip wish) kept today facts decided is =
-    change_keeps facts.booking.trip wish kept today facts decided is
-decided_keeps (write.Cancel trip) kept today facts decided is = cancel_keeps facts.booking.trip kept facts decided is
-decided_keeps (write.Outcome trip outcome) kept today facts decided is =
-    end_keeps facts.booking.trip outcome kept decided is
-decided_keeps asked kept today facts decided is = subst (Keeps (callers_by asked) kept) (sym is) (refl, refl)
+pub decided_makes : (asked : Write) (author today : ℕ) (facts : WriteFacts) (decided : Decision)
+    → IsDecidedBy asked author today facts decided → Makes (callers_by asked) decided
+decided_makes (write.Book rider wish) author today facts decided is =
+    booking_makes booked (λ told trip plan. (refl, refl)) (facts.booking.last_trip + 1) None today wish facts decided is
+decided_makes (write.Change trip wish) author today facts decided is =
+    change_makes facts.booking.trip wish today facts decided is
+decided_makes (write.Cancel trip) author today facts decided is = cancel_makes facts.booking.trip facts decided is
+decided_makes (write.Outcome trip outcome) author today facts decided is =
+    end_makes facts.booking.trip outcome decided is
+decided_makes asked author today facts decided is = subst (Makes (callers_by asked)) (sym is) (refl, refl)
+
+-- and with what is kept of the write, this of its own caller
+abbrev Keeps : Edit Caller → ℕ → Sent → Decision → Type 0
+Keeps callers me sent (decision.Denied first) = Unit {0}
+Keeps callers me sent (decision.Accepted told change) =
+    (change.kept ≡ puts_one (kept_by me sent (unwrap_or (reply_of told) reply.Done))) × (change.callers ≡ callers)
+
+made_keeps : (callers : Edit Caller) (me : ℕ) (sent : Sent) (made : Decision) → Makes callers made
+    → Keeps callers me sent (with_kept me sent made)
+made_keeps callers me sent (decision.Denied first) makes = tt
+made_keeps callers me sent (decision.Accepted told change) makes = (refl, makes.1)
 
 decision_keeps : (first : Option Rule) (asked : Write) (me : Caller) (now : Moment) (sent : Sent) (facts : WriteFacts)
     (decided : Decision) → IsDecisionAfter first asked me now sent facts decided
-    → Keeps (callers_by asked) (kept_in me.id sent decided) decided
-decision_keeps (Some first) asked me now sent facts decided is =
-    subst (λ d. Keeps (callers_by asked) (kept_in me.id sent d) d) (sym is) tt
-decision_keeps None asked me now sent facts decided is =
-    decided_keeps asked (kept_in me.id sent decided) now.day facts decided is
+    → Keeps (callers_by asked) me.id sent decided
+decision_keeps (Some first) asked me now sent facts decided is = subst (Keeps (callers_by asked) me.id sent) (sym is) tt
+decision_keeps None asked me now sent facts decided (made, is, keeps) =
+    subst (Keeps (callers_by asked) me.id sent) (sym keeps)
+    (made_keeps (callers_by asked) me.id sent made (decided_makes asked me.id now.day facts made is))
 
 -- what an accepted write is told can be kept
 told_again : (told : Answer) → is_of_write told ≡ true → told ≡ answer_of (unwrap_or (reply_of told) reply.Done)
@@ -155,7 +161,7 @@ kept_after kept change s new is keeps =
 
 decided_is_kept : (asked : Write) (me : Caller) (number : ℕ) (s new : State) (told : Answer) (decided : Decision)
     → last_number me.id s < number → IsOfWrite decided
-    → Keeps (callers_by asked) (kept_in me.id (sent_with number asked) decided) decided → told ≡ told_of decided
+    → Keeps (callers_by asked) me.id (sent_with number asked) decided → told ≡ told_of decided
     → Some new ≡ left_of decided s → IsKept me number asked told s new
 decided_is_kept asked me number s new told (decision.Denied first) above of keeps tells leaves = absurd (cc)
 decided_is_kept asked me number s new told (decision.Accepted says change) above of keeps tells leaves =
@@ -183,11 +189,11 @@ write_is_kept New asked me now number s new told comes (decided, is, made, tells
     (decision_keeps first asked me now sent facts decided is) tells leaves
 
 -- what an accepted write leaves of the callers
-callers_after : (asked : Write) (kept : Kept) (s new : State) (decided : Decision)
-    → Keeps (callers_by asked) kept decided → Some new ≡ left_of decided s
+callers_after : (asked : Write) (me : ℕ) (sent : Sent) (s new : State) (decided : Decision)
+    → Keeps (callers_by asked) me sent decided → Some new ≡ left_of decided s
     → new.callers ≡ edited caller_key (callers_by asked) s.callers
-callers_after asked kept s new (decision.Denied first) keeps leaves = absurd (cc)
-callers_after asked kept s new (decision.Accepted told change) keeps leaves =
+callers_after asked me sent s new (decision.Denied first) keeps leaves = absurd (cc)
+callers_after asked me sent s new (decision.Accepted told change) keeps leaves =
     ap (λ (t : State). t.callers) (same_Some new (applied change s) leaves)
     ∙ ap (λ e. edited caller_key e s.callers) keeps.1
 
@@ -200,7 +206,7 @@ write_leaves_callers New asked me now number s new told (decided, is, made, tell
     let facts = facts_of asked s in
     let sent = sent_with number asked in
     let first = first_failing (rules_of asked me now facts) in
-    callers_after asked (kept_in me.id sent decided) s new decided
+    callers_after asked me.id sent s new decided
     (decision_keeps first asked me now sent facts decided is) leaves
 
 pub accepted_writes_are_kept : AcceptedWritesAreKept

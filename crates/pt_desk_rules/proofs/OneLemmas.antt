@@ -5,7 +5,6 @@ use Rattle.std.proofs.Common.{Option, Some, None, arith, sym, ap, subst}
 use Rattle.std.proofs.Props.{props}
 use Rattle.std.proofs.lemmas.Bool.{cases_lt}
 use Rattle.std.proofs.lemmas.List.{get_or_default}
-use Rattle.std.specs.Option.{unwrap_or}
 use Rattle.std.specs.Prelude.{slice_index}
 use Rattle.pt_base.specs.declared.moment.Moment.{Moment}
 use Rattle.pt_base.specs.declared.rule.Rule.{Rule}
@@ -30,17 +29,14 @@ use Rattle.pt_scheduling.specs.Scheduling.{AreRoutes, IsBookedIn, IsPlanWith, Is
 use Rattle.pt_scheduling.specs.declared.scheduling.Scheduled.{Scheduled}
 use Rattle.pt_scheduling.specs.declared.scheduling.Scheduled.TheVariants as scheduled
 use Rattle.pt_spelling.proofs.ReplyLemmas.{told-same}
-use Rattle.pt_spelling.specs.Replies.{reply_of}
-use Rattle.pt_spelling.specs.declared.replies.KeptReply.TheVariants as reply
 use Rattle.pt_desk_rules.specs.Booking.{routes_for, rows_of, HasRoutes, IsAnswered, IsBooking, IsToldOf}
-use Rattle.pt_desk_rules.specs.Deciding.{booked, changed, given_up, keeping, kept_by, kept_in, reply_in}
+use Rattle.pt_desk_rules.specs.Deciding.{booked, changed, with_kept}
 use Rattle.pt_desk_rules.specs.Deciding.{IsCancelDecided, IsChangeDecided, IsDecidedBy, IsDecisionAfter, IsEndDecided}
 use Rattle.pt_desk_rules.specs.Facts.{change_facts, facts_of, wish_facts}
 use Rattle.pt_desk_rules.specs.One.{OutcomesAreOne}
 use Rattle.pt_desk_rules.specs.Again.{IsSameAnswer}
-use Rattle.pt_desk_rules.specs.Outcomes.{ended}
 use Rattle.pt_desk_rules.specs.Rules.{explain_rules, rules_of}
-use Rattle.pt_desk_rules.specs.State.{puts_one, trip_of, State}
+use Rattle.pt_desk_rules.specs.State.{trip_of, State}
 use Rattle.pt_desk_rules.specs.Step.{arrival_in, left_of, sender, sent_with, told_of}
 use Rattle.pt_desk_rules.specs.Step.{IsOutcomeAs, IsOutcomeBy}
 use Rattle.pt_desk_rules.specs.Trips.{IsConfirmation}
@@ -53,7 +49,6 @@ use Rattle.pt_desk_rules.specs.declared.deciding.Decision.TheVariants as decisio
 use Rattle.pt_desk_rules.specs.declared.facts.WriteFacts.{WriteFacts}
 use Rattle.pt_desk_rules.specs.declared.kept.Arrival.{Arrival}
 use Rattle.pt_desk_rules.specs.declared.kept.Arrival.TheVariants.{New, Repeated, Stale}
-use Rattle.pt_desk_rules.specs.declared.kept.Kept.{Kept}
 use Rattle.pt_desk_rules.specs.declared.kept.Sent.{Sent}
 use Rattle.pt_requests.specs.declared.caller.Caller.{Caller}
 use Rattle.pt_requests.specs.declared.request.Answer.{Answer}
@@ -291,10 +286,7 @@ wish_one number left_out today wish facts a b routes (asked, by, (minutes, times
     (came_first minutes vehicles asked a there is) (came_first minutes vehicles asked b there moved) in
     came_one minutes vehicles asked a b there first is moved
 
--- The decisions on a write are told and kept alike, and where what is kept is the same, they are one.
-abbrev AreAlike : Kept → Kept → Decision → Decision → Type 0
-AreAlike kept also d e = (reply_in d ≡ reply_in e) × (kept ≡ also → d ≡ e)
-
+-- a trip is confirmed in one way
 confirmed_one : (trip : Trip) (a b : Confirmation) → IsConfirmation trip a → IsConfirmation trip b → a ≡ b
 confirmed_one trip a b one two =
     let number = one.number ∙ sym two.number in
@@ -305,88 +297,66 @@ confirmed_one trip a b one two =
     let due = one.due ∙ sym two.due in
     told-same a b (λ i. number i ∷ vehicle i ∷ from i ∷ to i ∷ fare i ∷ due i ∷ [])
 
-told_alike : (change : Kept → Trip → Plan → Change) (kept also : Kept) (found : Scheduled) (d e : Decision)
-    → IsToldOf (change kept) found d → IsToldOf (change also) found e → AreAlike kept also d e
-told_alike change kept also (scheduled.Denied rule) d e one two =
-    (ap reply_in one ∙ sym (ap reply_in two), λ same. one ∙ sym two)
-told_alike change kept also (scheduled.Booked trip plan) d e (told, confirms, is) (says, confirm, it) =
-    let one = confirmed_one trip told says confirms confirm in
-    let decided : kept ≡ also → decision.Accepted (answer.Booked told) (change kept trip plan)
-    ≡ decision.Accepted (answer.Booked says) (change also trip plan)
-    = λ same i. decision.Accepted (answer.Booked (one i)) (change (same i) trip plan) in (
-      ap reply_in is ∙ ap (λ t. unwrap_or (reply_of (answer.Booked t)) reply.Done) one ∙ sym (ap reply_in it),
-      λ same. is ∙ decided same ∙ sym it,
-    )
+told_one : (change : Trip → Plan → Change) (found : Scheduled) (d e : Decision) → IsToldOf change found d
+    → IsToldOf change found e → d ≡ e
+told_one change (scheduled.Denied rule) d e one two = one ∙ sym two
+told_one change (scheduled.Booked trip plan) d e (told, confirms, is) (says, confirm, it) =
+    is
+    ∙ ap (λ t. decision.Accepted (answer.Booked t) (change trip plan)) (confirmed_one trip told says confirms confirm)
+    ∙ sym it
 
-booking_alike : (change : Kept → Trip → Plan → Change) (kept also : Kept) (number : ℕ) (left_out : Option ℕ)
-    (today : ℕ) (wish : Wish) (facts : WriteFacts) (d e : Decision) → AreRoutes number (routes_for number wish facts)
-    → IsBooking (change kept) number left_out today wish facts d
-    → IsBooking (change also) number left_out today wish facts e → AreAlike kept also d e
-booking_alike change kept also number left_out today wish facts d e routes (found, answered, told)
-    (other, again, tell) =
+booking_one : (change : Trip → Plan → Change) (number : ℕ) (left_out : Option ℕ) (today : ℕ) (wish : Wish)
+    (facts : WriteFacts) (d e : Decision) → AreRoutes number (routes_for number wish facts)
+    → IsBooking change number left_out today wish facts d → IsBooking change number left_out today wish facts e → d ≡ e
+booking_one change number left_out today wish facts d e routes (found, answered, told) (other, again, tell) =
     let same = wish_one number left_out today wish facts found other routes answered again in
-    told_alike change kept also other d e (subst (λ f. IsToldOf (change kept) f d) same told) tell
+    told_one change other d e (subst (λ f. IsToldOf change f d) same told) tell
 
-change_alike : (found : Option Trip) (wish : Wish) (kept also : Kept) (today : ℕ) (s : State) (d e : Decision)
-    → HasRoutes s → IsChangeDecided found wish kept today (change_facts found wish s) d
-    → IsChangeDecided found wish also today (change_facts found wish s) e → AreAlike kept also d e
-change_alike None wish kept also today s d e routes one two = absurd one
-change_alike (Some old) wish kept also today s d e routes one two =
+change_one : (found : Option Trip) (wish : Wish) (today : ℕ) (s : State) (d e : Decision) → HasRoutes s
+    → IsChangeDecided found wish today (change_facts found wish s) d
+    → IsChangeDecided found wish today (change_facts found wish s) e → d ≡ e
+change_one None wish today s d e routes one two = absurd one
+change_one (Some old) wish today s d e routes one two =
     let facts = change_facts (Some old) wish s in
-    booking_alike (λ k. changed k old facts.booking.plan) kept also old.id (Some old.id) today wish facts d e
-    (routes old.id wish.day) one two
+    booking_one (changed old facts.booking.plan) old.id (Some old.id) today wish facts d e (routes old.id wish.day) one
+    two
 
-accepted_alike : (told : Answer) (change : Kept → Change) (kept also : Kept) (d e : Decision)
-    → d ≡ decision.Accepted told (change kept) → e ≡ decision.Accepted told (change also) → AreAlike kept also d e
-accepted_alike told change kept also d e one two = (
-  ap reply_in one ∙ sym (ap reply_in two),
-  λ same. one ∙ ap (λ k. decision.Accepted told (change k)) same ∙ sym two,
-)
+cancel_one : (found : Option Trip) (facts : WriteFacts) (d e : Decision) → IsCancelDecided found facts d
+    → IsCancelDecided found facts e → d ≡ e
+cancel_one None facts d e one two = absurd one
+cancel_one (Some trip) facts d e one two = one ∙ sym two
 
-cancel_alike : (found : Option Trip) (kept also : Kept) (facts : WriteFacts) (d e : Decision)
-    → IsCancelDecided found kept facts d → IsCancelDecided found also facts e → AreAlike kept also d e
-cancel_alike None kept also facts d e one two = absurd one
-cancel_alike (Some trip) kept also facts d e one two =
-    accepted_alike answer.Done (λ k. given_up k trip facts.booking.plan) kept also d e one two
+end_one : (found : Option Trip) (outcome : Outcome) (d e : Decision) → IsEndDecided found outcome d
+    → IsEndDecided found outcome e → d ≡ e
+end_one None outcome d e one two = absurd one
+end_one (Some trip) outcome d e one two = one ∙ sym two
 
-end_alike : (found : Option Trip) (outcome : Outcome) (kept also : Kept) (d e : Decision)
-    → IsEndDecided found outcome kept d → IsEndDecided found outcome also e → AreAlike kept also d e
-end_alike None outcome kept also d e one two = absurd one
-end_alike (Some trip) outcome kept also d e one two =
-    accepted_alike answer.Done (λ k. record (keeping k) { trips = puts_one (ended outcome trip) }) kept also d e one two
-
-decided_alike : (asked : Write) (kept also : Kept) (today : ℕ) (s : State) (d e : Decision) → HasRoutes s
-    → IsDecidedBy asked kept today (facts_of asked s) d → IsDecidedBy asked also today (facts_of asked s) e
-    → AreAlike kept also d e
-decided_alike (write.Book rider wish) kept also today s d e routes one two =
-    booking_alike booked kept also (s.last_trip + 1) None today wish (facts_of (write.Book rider wish) s) d e
+decided_one : (asked : Write) (author today : ℕ) (s : State) (d e : Decision) → HasRoutes s
+    → IsDecidedBy asked author today (facts_of asked s) d → IsDecidedBy asked author today (facts_of asked s) e → d ≡ e
+decided_one (write.Book rider wish) author today s d e routes one two =
+    booking_one booked (s.last_trip + 1) None today wish (facts_of (write.Book rider wish) s) d e
     (routes (s.last_trip + 1) wish.day) one two
-decided_alike (write.Change trip wish) kept also today s d e routes one two =
+decided_one (write.Change trip wish) author today s d e routes one two =
     let found = trip_of trip s in
     let facts = change_facts found wish s in
     let same = change_trip found wish s in
-    change_alike found wish kept also today s d e routes
-    (subst (λ f. IsChangeDecided f wish kept today facts d) same one)
-    (subst (λ f. IsChangeDecided f wish also today facts e) same two)
-decided_alike (write.Cancel trip) kept also today s d e routes one two =
+    change_one found wish today s d e routes (subst (λ f. IsChangeDecided f wish today facts d) same one)
+    (subst (λ f. IsChangeDecided f wish today facts e) same two)
+decided_one (write.Cancel trip) author today s d e routes one two =
     let facts = facts_of (write.Cancel trip) s in
-    cancel_alike facts.booking.trip kept also facts d e one two
-decided_alike (write.Outcome trip outcome) kept also today s d e routes one two =
+    cancel_one facts.booking.trip facts d e one two
+decided_one (write.Outcome trip outcome) author today s d e routes one two =
     let facts = facts_of (write.Outcome trip outcome) s in
-    end_alike facts.booking.trip outcome kept also d e one two
-decided_alike asked kept also today s d e routes one two = (
-  ap reply_in one ∙ sym (ap reply_in two),
-  λ same. one ∙ sym (subst (λ k. IsDecidedBy asked k today (facts_of asked s) e) (sym same) two),
-)
+    end_one facts.booking.trip outcome d e one two
+decided_one asked author today s d e routes one two = one ∙ sym two
 
 -- a new write is decided in one way
 decision_one : (first : Option Rule) (asked : Write) (me : Caller) (now : Moment) (sent : Sent) (s : State)
     (d e : Decision) → HasRoutes s → IsDecisionAfter first asked me now sent (facts_of asked s) d
     → IsDecisionAfter first asked me now sent (facts_of asked s) e → d ≡ e
 decision_one (Some first) asked me now sent s d e routes one two = one ∙ sym two
-decision_one None asked me now sent s d e routes one two =
-    let (told, same) = decided_alike asked (kept_in me.id sent d) (kept_in me.id sent e) now.day s d e routes one two in
-    same (ap (kept_by me.id sent) told)
+decision_one None asked me now sent s d e routes (made, one, keeps) (other, two, keep) =
+    keeps ∙ ap (with_kept me.id sent) (decided_one asked me.id now.day s made other routes one two) ∙ sym keep
 
 write_one : (arrival : Arrival) (asked : Write) (me : Caller) (now : Moment) (number : ℕ) (s : State)
     (told other : Answer) (left also : Option State) → HasRoutes s

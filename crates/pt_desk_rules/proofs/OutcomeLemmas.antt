@@ -9,7 +9,7 @@ use Rattle.pt_scheduling.specs.Plan.{Plan}
 use Rattle.pt_scheduling.specs.declared.scheduling.Scheduled.TheVariants as scheduled
 use Rattle.pt_desk_rules.specs.Booking.{IsBooking}
 use Rattle.pt_rights.specs.declared.tally.Outcome.{Outcome}
-use Rattle.pt_desk_rules.specs.Deciding.{booked, changed, kept_in, IsCancelDecided, IsChangeDecided, IsEndDecided, IsDecidedBy, IsDecisionAfter}
+use Rattle.pt_desk_rules.specs.Deciding.{booked, changed, with_kept, IsCancelDecided, IsChangeDecided, IsEndDecided, IsDecidedBy, IsDecisionAfter}
 use Rattle.pt_desk_rules.specs.Facts.{facts_of}
 use Rattle.pt_desk_rules.specs.Rules.{rules_of}
 use Rattle.pt_desk_rules.specs.State.{State}
@@ -17,7 +17,6 @@ use Rattle.pt_desk_rules.specs.Step.{arrival_in, sent_with, told_of, left_of, Is
 use Rattle.pt_requests.specs.declared.caller.Caller.{Caller}
 use Rattle.pt_desk_rules.specs.declared.kept.Arrival.{Arrival}
 use Rattle.pt_desk_rules.specs.declared.kept.Arrival.TheVariants.{New, Repeated, Stale}
-use Rattle.pt_desk_rules.specs.declared.kept.Kept.{Kept}
 use Rattle.pt_desk_rules.specs.declared.kept.Sent.{Sent}
 use Rattle.pt_desk_rules.specs.declared.change.Change.{Change}
 use Rattle.pt_desk_rules.specs.declared.deciding.Decision.{Decision}
@@ -48,29 +47,35 @@ booking_is : (change : Trip → Plan → Change) (number : ℕ) (left_out : Opti
 booking_is change number left_out today wish facts decided (scheduled.Denied rule, by, is) = subst IsOfWrite (sym is) tt
 booking_is change number left_out today wish facts decided (scheduled.Booked trip plan, by, (told, confirms, is)) = subst IsOfWrite (sym is) refl
 
-change_is : (found : Option Trip) (wish : Wish) (kept : Kept) (today : ℕ) (facts : WriteFacts) (decided : Decision) → IsChangeDecided found wish kept today facts decided → IsOfWrite decided
-change_is None wish kept today facts decided changes = absurd changes
-change_is (Some old) wish kept today facts decided changes = booking_is (changed kept old facts.booking.plan) old.id (Some old.id) today wish facts decided changes
+change_is : (found : Option Trip) (wish : Wish) (today : ℕ) (facts : WriteFacts) (decided : Decision) → IsChangeDecided found wish today facts decided → IsOfWrite decided
+change_is None wish today facts decided changes = absurd changes
+change_is (Some old) wish today facts decided changes = booking_is (changed old facts.booking.plan) old.id (Some old.id) today wish facts decided changes
 
-cancel_is : (found : Option Trip) (kept : Kept) (facts : WriteFacts) (decided : Decision) → IsCancelDecided found kept facts decided → IsOfWrite decided
-cancel_is None kept facts decided cancels = absurd cancels
-cancel_is (Some trip) kept facts decided is = subst IsOfWrite (sym is) refl
+cancel_is : (found : Option Trip) (facts : WriteFacts) (decided : Decision) → IsCancelDecided found facts decided → IsOfWrite decided
+cancel_is None facts decided cancels = absurd cancels
+cancel_is (Some trip) facts decided is = subst IsOfWrite (sym is) refl
 
-end_is : (found : Option Trip) (outcome : Outcome) (kept : Kept) (decided : Decision) → IsEndDecided found outcome kept decided → IsOfWrite decided
-end_is None outcome kept decided ends = absurd ends
-end_is (Some trip) outcome kept decided is = subst IsOfWrite (sym is) refl
+end_is : (found : Option Trip) (outcome : Outcome) (decided : Decision) → IsEndDecided found outcome decided → IsOfWrite decided
+end_is None outcome decided ends = absurd ends
+end_is (Some trip) outcome decided is = subst IsOfWrite (sym is) refl
 
-decided_is : (asked : Write) (kept : Kept) (today : ℕ) (facts : WriteFacts) (decided : Decision) → IsDecidedBy asked kept today facts decided → IsOfWrite decided
-decided_is (write.Book rider wish) kept today facts decided is = booking_is (booked kept) (facts.booking.last_trip + 1) None today wish facts decided is
-decided_is (write.Change trip wish) kept today facts decided is = change_is facts.booking.trip wish kept today facts decided is
-decided_is (write.Cancel trip) kept today facts decided is = cancel_is facts.booking.trip kept facts decided is
-decided_is (write.Outcome trip outcome) kept today facts decided is = end_is facts.booking.trip outcome kept decided is
-decided_is _ kept today facts decided is = subst IsOfWrite (sym is) refl
+decided_is : (asked : Write) (author today : ℕ) (facts : WriteFacts) (decided : Decision) → IsDecidedBy asked author today facts decided → IsOfWrite decided
+decided_is (write.Book rider wish) author today facts decided is = booking_is booked (facts.booking.last_trip + 1) None today wish facts decided is
+decided_is (write.Change trip wish) author today facts decided is = change_is facts.booking.trip wish today facts decided is
+decided_is (write.Cancel trip) author today facts decided is = cancel_is facts.booking.trip facts decided is
+decided_is (write.Outcome trip outcome) author today facts decided is = end_is facts.booking.trip outcome decided is
+decided_is _ author today facts decided is = subst IsOfWrite (sym is) refl
+
+-- what is kept with it is not told
+kept_is : (me : ℕ) (sent : Sent) (made : Decision) → IsOfWrite made → IsOfWrite (with_kept me sent made)
+kept_is me sent (decision.Denied first) is = tt
+kept_is me sent (decision.Accepted told change) is = is
 
 pub decision_is : (first : Option Rule) (asked : Write) (me : Caller) (now : Moment) (sent : Sent) (facts : WriteFacts) (decided : Decision)
     → IsDecisionAfter first asked me now sent facts decided → IsOfWrite decided
 decision_is (Some first) asked me now sent facts decided is = subst IsOfWrite (sym is) tt
-decision_is None asked me now sent facts decided is = decided_is asked (kept_in me.id sent decided) now.day facts decided is
+decision_is None asked me now sent facts decided (made, is, keeps) =
+    subst IsOfWrite (sym keeps) (kept_is me.id sent made (decided_is asked me.id now.day facts made is))
 
 denial_changes_nothing : (decided : Decision) (s : State) → IsOfWrite decided → is_of_write (told_of decided) ≡ false → left_of decided s ≡ None
 denial_changes_nothing (decision.Denied first) s is other = refl

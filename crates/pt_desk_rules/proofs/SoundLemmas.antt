@@ -15,19 +15,23 @@ use Rattle.pt_base.specs.declared.vehicle.Vehicle.{Vehicle}
 use Rattle.pt_base.specs.declared.rule.Rule.{Rule}
 use Rattle.pt_corridor.specs.Route.{Route, IsFixedRoute}
 use Rattle.pt_records.specs.Keys.{pair_key}
-use Rattle.pt_records.specs.Records.{put, put_all, take_away, is_within, record_at, Each, IsInOrder}
+use Rattle.pt_records.specs.Records.{edited, put, put_all, take_away, is_within, record_at, Each, IsInOrder}
 use Rattle.pt_records.proofs.OrderLemmas.{Each-put, Each-weaker, Each-both, IsInOrder-put}
 use Rattle.pt_records.proofs.TableLemmas.{same_or_other, stays_there, found_by_key, below_is, IsTable-put, IsTable-add, IsTable-replace, Each-filter, IsInOrder-filter}
 use Rattle.pt_records.proofs.WithinLemmas.{within-put_other, within-put_last, Each-within}
 use Rattle.pt_rights.specs.Rules.{first_failing}
 use Rattle.pt_rights.specs.declared.entry.Entry.{Entry}
 use Rattle.pt_desk_rules.specs.Limits.{most_callers, most_places, most_routes, most_riders, most_tables}
+use Rattle.std.specs.Option.{unwrap_or}
+use Rattle.pt_spelling.specs.Replies.{reply_of}
 use Rattle.pt_spelling.specs.Requests.{spelling}
+use Rattle.pt_spelling.specs.declared.replies.KeptReply.{KeptReply}
+use Rattle.pt_spelling.specs.declared.replies.KeptReply.TheVariants as reply
 use Rattle.pt_desk_rules.specs.State.{State, caller_with, kept_of, rider_of, trip_of, file_of, caller_key, kept_key, place_key, route_key, rider_key, entry_key, vehicle_key, travel_key, trip_key, span_of, versions_from, tables_from, tables_before, entries_of, applied}
 use Rattle.pt_desk_rules.specs.Facts.{cancel_facts, change_facts, facts_of, has_subject, plan_for}
 use Rattle.pt_travel.specs.Chain.{Row}
 use Rattle.pt_desk_rules.proofs.FleetLemmas.{version_stays, fleet_stays}
-use Rattle.pt_desk_rules.proofs.NumberLemmas.{new_is_above}
+use Rattle.pt_desk_rules.proofs.NumberLemmas.{callers_by, decided_makes, new_is_above, Makes}
 use Rattle.pt_desk_rules.specs.Fleet.{on_duty, vehicle_count, versions_before, versions_of_others}
 use Rattle.pt_desk_rules.specs.Planned.{is_booked_from, planned_on, trips_on}
 use Rattle.pt_desk_rules.specs.Travel.{DatedTable}
@@ -36,7 +40,7 @@ use Rattle.pt_desk_rules.specs.Booking.{routes_on, IsBooking}
 use Rattle.pt_rights.specs.declared.tally.Outcome.{Outcome}
 use Rattle.pt_desk_rules.specs.Outcomes.{awaits_outcome}
 use Rattle.pt_desk_rules.proofs.EndLemmas.{end_sound}
-use Rattle.pt_desk_rules.specs.Deciding.{booked, kept_in, IsCancelDecided, IsChangeDecided, IsEndDecided, IsDecidedBy, IsDecisionAfter, IsMade, IsMadeIf}
+use Rattle.pt_desk_rules.specs.Deciding.{booked, kept_by, with_kept, IsCancelDecided, IsChangeDecided, IsEndDecided, IsDecidedBy, IsDecisionAfter, IsMade, IsMadeIf}
 use Rattle.pt_desk_rules.specs.Trips.{cancelled, plan_of_stops, plan_span}
 use Rattle.pt_booking.specs.Request as request_of
 use Rattle.pt_scheduling.specs.Plan.{Plan, plan_key, planned_stops, stops_of_plan, without, IsPlannedRoute, IsRoutePlan}
@@ -68,7 +72,7 @@ use Rattle.pt_requests.specs.declared.caller.Role.TheVariants as role
 use Rattle.pt_desk_rules.specs.declared.change.Change.{Change}
 use Rattle.pt_desk_rules.specs.declared.change.FiledEntry.{FiledEntry}
 use Rattle.pt_desk_rules.specs.declared.deciding.Decision.{Decision}
-use Rattle.pt_desk_rules.specs.declared.deciding.Decision.TheVariants.{Accepted}
+use Rattle.pt_desk_rules.specs.declared.deciding.Decision.TheVariants.{Denied, Accepted}
 use Rattle.pt_requests.specs.declared.request.Answer.{Answer}
 use Rattle.pt_requests.specs.declared.request.Request.{Request}
 use Rattle.pt_requests.specs.declared.request.Request.TheVariants as request
@@ -541,15 +545,15 @@ on_day request trip wish is wished = ap (λ (w : Wish). w.day) (is ∙ wished)
 found_again : (id : ℕ) (trip : Trip) (trips : List Trip) → record_at trip_key id trips ≡ Some trip → record_at trip_key trip.id trips ≡ Some trip
 found_again id trip trips found = subst (λ (n : ℕ). record_at trip_key n trips ≡ Some trip) (sym (found_key trip_key id trip trips found)) found
 
-booking_sound : (kept : Kept) (today : ℕ) (rider : ℕ) (wish : Wish) (s : State) (decided : Decision) → IsSound s → IsKeptIn s.callers kept
-    → IsMadeIf decided (write.Book rider wish) today → IsBooking (booked kept) (s.last_trip + 1) None today wish (facts_of (write.Book rider wish) s) decided → IsSound (state_after (left_of decided s) s)
-booking_sound kept today rider wish s decided sound there made (scheduled.Denied rule, by, is) = subst (λ d. IsSound (state_after (left_of d s) s)) (sym is) sound
-booking_sound kept today rider wish s decided sound there made (scheduled.Booked trip plan, (request, asked, (minutes, times, (none, (chosen, at)))), (told, confirms, is)) =
+booking_sound : (today : ℕ) (rider : ℕ) (wish : Wish) (s : State) (decided : Decision) → IsSound s
+    → IsMadeIf decided (write.Book rider wish) today → IsBooking booked (s.last_trip + 1) None today wish (facts_of (write.Book rider wish) s) decided → IsSound (state_after (left_of decided s) s)
+booking_sound today rider wish s decided sound made (scheduled.Denied rule, by, is) = subst (λ d. IsSound (state_after (left_of d s) s)) (sym is) sound
+booking_sound today rider wish s decided sound made (scheduled.Booked trip plan, (request, asked, (minutes, times, (none, (chosen, at)))), (told, confirms, is)) =
     let is_day : IsDay wish.day = (subst (λ d. IsMadeIf d (write.Book rider wish) today) is made).0 in
     let on = on_day request trip wish at.trip_of.wish asked.wished in
     let own : trip.id ≡ s.last_trip + 1 = at.trip_of.number ∙ asked.trip in
     subst (λ d. IsSound (state_after (left_of d s) s)) (sym is)
-    (numbered_sound kept _ (book_sound trip plan s sound own
+    (book_sound trip plan s sound own
     (booked_is_there minutes (s.last_trip + 1) wish.day rider wish request trip plan s asked.trip asked.rider asked.from asked.to asked.wished (chosen, at))
     (booked_there minutes (s.last_trip + 1) wish.day request trip plan s sound asked.trip (chosen, at))
     (booked_stand minutes (s.last_trip + 1) wish.day request trip plan s sound asked.trip on (chosen, at))
@@ -558,13 +562,13 @@ booking_sound kept today rider wish s decided sound there made (scheduled.Booked
     (has_stops trip.id plan.stops (booked_has_own minutes (s.last_trip + 1) wish.day request trip plan s asked.trip
     own (chosen, at)))
     (booked_fits minutes (s.last_trip + 1) wish.day request trip plan s sound asked.trip on is_day times
-    (chosen, at))) there)
+    (chosen, at)))
 
-change_trip_sound : (kept : Kept) (today : ℕ) (found : Option Trip) (id : ℕ) (wish : Wish) (s : State) (decided : Decision) → IsSound s → IsKeptIn s.callers kept
-    → IsMadeIf decided (write.Change id wish) today → trip_of id s ≡ found → IsChangeDecided found wish kept today (change_facts found wish s) decided → IsSound (state_after (left_of decided s) s)
-change_trip_sound kept today None id wish s decided sound there made found changes = absurd changes
-change_trip_sound kept today (Some old) id wish s decided sound there made found (scheduled.Denied rule, by, is) = subst (λ d. IsSound (state_after (left_of d s) s)) (sym is) sound
-change_trip_sound kept today (Some old) id wish s decided sound there made found (scheduled.Booked trip plan, (request, asked, (minutes, times, (none, (chosen, at)))), (told, confirms, is)) =
+change_trip_sound : (today : ℕ) (found : Option Trip) (id : ℕ) (wish : Wish) (s : State) (decided : Decision) → IsSound s
+    → IsMadeIf decided (write.Change id wish) today → trip_of id s ≡ found → IsChangeDecided found wish today (change_facts found wish s) decided → IsSound (state_after (left_of decided s) s)
+change_trip_sound today None id wish s decided sound made found changes = absurd changes
+change_trip_sound today (Some old) id wish s decided sound made found (scheduled.Denied rule, by, is) = subst (λ d. IsSound (state_after (left_of d s) s)) (sym is) sound
+change_trip_sound today (Some old) id wish s decided sound made found (scheduled.Booked trip plan, (request, asked, (minutes, times, (none, (chosen, at)))), (told, confirms, is)) =
     let left = without old.id (stops_of_plan (plan_for (Some old) s)) in
     let new = and_one IsRoutePlan (plan_of_stops old left) plan (left_routes old left (left_there old s sound)) (booked_there minutes old.id wish.day request trip plan s sound asked.trip (chosen, at)) in
     let number : trip.id ≡ old.id = at.trip_of.number ∙ asked.trip in
@@ -577,7 +581,7 @@ change_trip_sound kept today (Some old) id wish s decided sound there made found
     (booked_stand minutes old.id wish.day request trip plan s sound asked.trip (on_day request trip wish at.trip_of.wish asked.wished) (chosen, at)) in
     let below = subst (λ (n : ℕ). n ≤ s.last_trip) (sym (at.trip_of.number ∙ asked.trip)) (Each-found (IsNumberedTo s.last_trip) trip_key id old s.trips sound.trips_numbered found) in
     subst (λ d. IsSound (state_after (left_of d s) s)) (sym is)
-    (numbered_sound kept _ (edit_sound trip (plan_span old) (plan_of_stops old left ++ plan ∷ []) s sound below
+    (edit_sound trip (plan_span old) (plan_of_stops old left ++ plan ∷ []) s sound below
     (booked_is_there minutes old.id wish.day old.rider wish request trip plan s asked.trip asked.rider asked.from asked.to asked.wished (chosen, at)) new standing
     (plans_beside s.trips old trip s.planned number here sound.planned_trips_stand)
     (subst IsDay (sym on) is_day) (and_one IsOnDay (plan_of_stops old left) plan (left_on old left old_day) (plan_on_day minutes old.id wish.day request trip plan s on is_day (chosen, at)))
@@ -588,15 +592,15 @@ change_trip_sound kept today (Some old) id wish s decided sound there made found
     (and_one (FitsIn s.vehicles s.travel (put trip_key trip s.trips)) (plan_of_stops old left) plan
     (left_fits old trip s sound old_day number)
     (booked_fits minutes old.id wish.day request trip plan s sound asked.trip on is_day times (chosen, at)))
-    (fit_beside old trip s sound number here)) there)
+    (fit_beside old trip s sound number here))
 
-cancel_sound : (kept : Kept) (found : Option Trip) (id : ℕ) (s : State) (decided : Decision) → IsSound s → IsKeptIn s.callers kept
-    → trip_of id s ≡ found → IsCancelDecided found kept (cancel_facts found s) decided → IsSound (state_after (left_of decided s) s)
-cancel_sound kept None id s decided sound there found cancels = absurd cancels
-cancel_sound kept (Some trip) id s decided sound there found is =
+cancel_sound : (found : Option Trip) (id : ℕ) (s : State) (decided : Decision) → IsSound s
+    → trip_of id s ≡ found → IsCancelDecided found (cancel_facts found s) decided → IsSound (state_after (left_of decided s) s)
+cancel_sound None id s decided sound found cancels = absurd cancels
+cancel_sound (Some trip) id s decided sound found is =
     let left = without trip.id (stops_of_plan (plan_for (Some trip) s)) in
     subst (λ d. IsSound (state_after (left_of d s) s)) (sym is)
-    (numbered_sound kept _ (edit_sound (cancelled trip) (plan_span trip) (plan_of_stops trip left) s sound
+    (edit_sound (cancelled trip) (plan_span trip) (plan_of_stops trip left) s sound
     (Each-found (IsNumberedTo s.last_trip) trip_key id trip s.trips sound.trips_numbered found) (
       Each-found (IsOfRider s.riders) trip_key id trip s.trips sound.trips_of_riders found,
       Each-found (HasPlaces s.places) trip_key id trip s.trips sound.trip_places_there found,
@@ -609,13 +613,13 @@ cancel_sound kept (Some trip) id s decided sound there found is =
     (cancel_planned trip s sound (Each-found HasDay trip_key id trip s.trips sound.trip_days found))
     (left_has_stops trip left) (left_fits trip (cancelled trip) s sound
     (Each-found HasDay trip_key id trip s.trips sound.trip_days found) refl)
-    (fit_beside trip (cancelled trip) s sound refl (found_again id trip s.trips found))) there)
+    (fit_beside trip (cancelled trip) s sound refl (found_again id trip s.trips found)))
 
-outcome_sound : (kept : Kept) (outcome : Outcome) (found : Option Trip) (id : ℕ) (s : State) (decided : Decision) → IsSound s → IsKeptIn s.callers kept
-    → trip_of id s ≡ found → IsTrue (awaits_outcome found) → IsEndDecided found outcome kept decided → IsSound (state_after (left_of decided s) s)
-outcome_sound kept outcome None id s decided sound there found booked ends = absurd ends
-outcome_sound kept outcome (Some trip) id s decided sound there found booked is =
-    subst (λ d. IsSound (state_after (left_of d s) s)) (sym is) (numbered_sound kept _ (end_sound outcome id trip s sound found booked) there)
+outcome_sound : (outcome : Outcome) (found : Option Trip) (id : ℕ) (s : State) (decided : Decision) → IsSound s
+    → trip_of id s ≡ found → IsTrue (awaits_outcome found) → IsEndDecided found outcome decided → IsSound (state_after (left_of decided s) s)
+outcome_sound outcome None id s decided sound found booked ends = absurd ends
+outcome_sound outcome (Some trip) id s decided sound found booked is =
+    subst (λ d. IsSound (state_after (left_of d s) s)) (sym is) (end_sound outcome id trip s sound found booked)
 
 -- the facts of a change and of a cancellation have the trip that is there
 pub change_trip : (found : Option Trip) (wish : Wish) (s : State) → (change_facts found wish s).booking.trip ≡ found
@@ -627,52 +631,73 @@ cancel_trip None s = refl
 cancel_trip (Some trip) s = refl
 
 -- what an accepted write makes of a sound state
-decided_sound : (asked : Write) (me : Caller) (now : Moment) (sent : Sent) (s : State) (decided : Decision) → IsSound s → IsKeptIn s.callers (kept_in me.id sent decided) → AllHold (rules_of asked me now (facts_of asked s))
-    → IsDecidedBy asked (kept_in me.id sent decided) now.day (facts_of asked s) decided → IsMadeIf decided asked now.day → IsSound (state_after (left_of decided s) s)
-decided_sound (write.PutCaller new) me now sent s decided sound there hold is made =
-    accepted_sound now.day (write.PutCaller new) s decided _ _ is made (λ made. numbered_sound _ _ (put_caller_sound new s sound made hold.1.0 hold.1.1.0 hold.1.1.1.0) (stays_there caller_key me.id new s.callers there.0, there.1))
-decided_sound (write.PutPolicy new) me now sent s decided sound there hold is made =
-    accepted_sound now.day (write.PutPolicy new) s decided _ _ is made (λ made. numbered_sound _ _ (put_policy_sound new s sound) there)
-decided_sound (write.PutPlace new) me now sent s decided sound there hold is made =
-    accepted_sound now.day (write.PutPlace new) s decided _ _ is made (λ made. numbered_sound _ _ (put_place_sound new s sound hold.1.1.0) there)
-decided_sound (write.PutRoute new) me now sent s decided sound there hold is made =
-    accepted_sound now.day (write.PutRoute new) s decided _ _ is made (λ made. numbered_sound _ _ (put_route_sound new s sound made hold.1.0) there)
-decided_sound (write.PutRider new) me now sent s decided sound there hold is made =
-    accepted_sound now.day (write.PutRider new) s decided _ _ is made (λ made. numbered_sound _ _ (put_rider_sound new s sound hold.1.0 hold.1.1.0) there)
-decided_sound (write.Enter rider entry) me now sent s decided sound there hold is made =
-    accepted_on now.day (write.Enter rider entry) s decided _ _ is made
-    (λ made on. numbered_sound _ _ (enter_sound rider entry me now s sound there.0 hold made on) there)
-decided_sound (write.PutVehicle new) me now sent s decided sound there hold is made =
-    accepted_sound now.day (write.PutVehicle new) s decided _ _ is made
-    (λ made. numbered_sound _ _ (put_vehicle_sound new s sound made.0 made.1 hold.1.0
-    (not_true (is_booked_from (Some new.id) new.from_day s.trips) hold.1.1.0) hold.1.1.1.0) there)
-decided_sound (write.Travel day rows) me now sent s decided sound there hold is made =
-    accepted_sound now.day (write.Travel day rows) s decided _ _ is made
-    (λ made. numbered_sound _ _ (put_travel_sound (record { from_day = day; rows = rows }) s sound made.0
-    (made.1, hold.1.0) (not_true (is_booked_from None day s.trips) hold.1.1.0) hold.1.1.1.0) there)
-decided_sound (write.Book rider wish) me now sent s decided sound there hold is made =
-    booking_sound (kept_in me.id sent decided) now.day rider wish s decided sound there made is
-decided_sound (write.Change trip wish) me now sent s decided sound there hold is made =
-    change_trip_sound (kept_in me.id sent decided) now.day (trip_of trip s) trip wish s decided sound there made refl
-    (subst (λ f. IsChangeDecided f wish (kept_in me.id sent decided) now.day (facts_of (write.Change trip wish) s) decided) (change_trip (trip_of trip s) wish s) is)
-decided_sound (write.Cancel trip) me now sent s decided sound there hold is made =
-    cancel_sound (kept_in me.id sent decided) (trip_of trip s) trip s decided sound there refl
-    (subst (λ f. IsCancelDecided f (kept_in me.id sent decided) (facts_of (write.Cancel trip) s) decided) (cancel_trip (trip_of trip s) s) is)
-decided_sound (write.Outcome trip outcome) me now sent s decided sound there hold is made =
-    outcome_sound (kept_in me.id sent decided) outcome (trip_of trip s) trip s decided sound there refl hold.1.1.0 is
+decided_sound : (asked : Write) (me : Caller) (now : Moment) (s : State) (made : Decision) → IsSound s → IsIn caller_key s.callers me.id → AllHold (rules_of asked me now (facts_of asked s))
+    → IsDecidedBy asked me.id now.day (facts_of asked s) made → IsMadeIf made asked now.day → IsSound (state_after (left_of made s) s)
+decided_sound (write.PutCaller new) me now s made sound there hold is ready =
+    accepted_sound now.day (write.PutCaller new) s made _ _ is ready (λ digest. put_caller_sound new s sound digest hold.1.0 hold.1.1.0 hold.1.1.1.0)
+decided_sound (write.PutPolicy new) me now s made sound there hold is ready =
+    accepted_sound now.day (write.PutPolicy new) s made _ _ is ready (λ _. put_policy_sound new s sound)
+decided_sound (write.PutPlace new) me now s made sound there hold is ready =
+    accepted_sound now.day (write.PutPlace new) s made _ _ is ready (λ _. put_place_sound new s sound hold.1.1.0)
+decided_sound (write.PutRoute new) me now s made sound there hold is ready =
+    accepted_sound now.day (write.PutRoute new) s made _ _ is ready (λ route. put_route_sound new s sound route hold.1.0)
+decided_sound (write.PutRider new) me now s made sound there hold is ready =
+    accepted_sound now.day (write.PutRider new) s made _ _ is ready (λ _. put_rider_sound new s sound hold.1.0 hold.1.1.0)
+decided_sound (write.Enter rider entry) me now s made sound there hold is ready =
+    accepted_on now.day (write.Enter rider entry) s made _ _ is ready (λ ranges on. enter_sound rider entry me now s sound there hold ranges on)
+decided_sound (write.PutVehicle new) me now s made sound there hold is ready =
+    accepted_sound now.day (write.PutVehicle new) s made _ _ is ready
+    (λ is. put_vehicle_sound new s sound is.0 is.1 hold.1.0
+    (not_true (is_booked_from (Some new.id) new.from_day s.trips) hold.1.1.0) hold.1.1.1.0)
+decided_sound (write.Travel day rows) me now s made sound there hold is ready =
+    accepted_sound now.day (write.Travel day rows) s made _ _ is ready
+    (λ is. put_travel_sound (record { from_day = day; rows = rows }) s sound is.0
+    (is.1, hold.1.0) (not_true (is_booked_from None day s.trips) hold.1.1.0) hold.1.1.1.0)
+decided_sound (write.Book rider wish) me now s made sound there hold is ready =
+    booking_sound now.day rider wish s made sound ready is
+decided_sound (write.Change trip wish) me now s made sound there hold is ready =
+    change_trip_sound now.day (trip_of trip s) trip wish s made sound ready refl
+    (subst (λ f. IsChangeDecided f wish now.day (facts_of (write.Change trip wish) s) made) (change_trip (trip_of trip s) wish s) is)
+decided_sound (write.Cancel trip) me now s made sound there hold is ready =
+    cancel_sound (trip_of trip s) trip s made sound refl
+    (subst (λ f. IsCancelDecided f (facts_of (write.Cancel trip) s) made) (cancel_trip (trip_of trip s) s) is)
+decided_sound (write.Outcome trip outcome) me now s made sound there hold is ready =
+    outcome_sound outcome (trip_of trip s) trip s made sound refl hold.1.1.0 is
 
-after_sound : (asked : Write) (me : Caller) (now : Moment) (sent : Sent) (s : State) (first : Option Rule) (decided : Decision) → IsSound s → IsKeptIn s.callers (kept_in me.id sent decided)
+-- a caller who is there stays there
+caller_stays : (asked : Write) (id : ℕ) (callers : List Caller) → IsIn caller_key callers id → IsIn caller_key (edited caller_key (callers_by asked) callers) id
+caller_stays (write.PutCaller new) id callers there = stays_there caller_key id new callers there
+caller_stays _ id callers there = there
+
+-- what is kept of the write leaves it sound: no more than that is changed
+kept_sound : (asked : Write) (me : ℕ) (sent : Sent) (s : State) (made : Decision) → IsIn caller_key s.callers me → ((reply : KeptReply) → IsKeptWrite (kept_by me sent reply))
+    → Makes (callers_by asked) made → IsSound (state_after (left_of made s) s) → IsSound (state_after (left_of (with_kept me sent made) s) s)
+kept_sound asked me sent s (Denied first) there write makes sound = sound
+kept_sound asked me sent s (Accepted told change) there write makes sound =
+    let kept = kept_by me sent (unwrap_or (reply_of told) reply.Done) in
+    let stays = subst (λ edit. IsIn caller_key (edited caller_key edit s.callers) me) (sym makes.1) (caller_stays asked me s.callers there) in
+    subst (λ edit. IsSound (record (applied change s) { kept = put kept_key kept (edited kept_key edit s.kept) })) makes.0
+    (numbered_sound kept (applied change s) sound (stays, write (unwrap_or (reply_of told) reply.Done)))
+
+ready_made : (me : ℕ) (sent : Sent) (made : Decision) (asked : Write) (today : ℕ) → IsMadeIf (with_kept me sent made) asked today → IsMadeIf made asked today
+ready_made me sent (Denied first) asked today ready = tt
+ready_made me sent (Accepted told change) asked today ready = ready
+
+after_sound : (asked : Write) (me : Caller) (now : Moment) (sent : Sent) (s : State) (first : Option Rule) (decided : Decision) → IsSound s → IsIn caller_key s.callers me.id → ((reply : KeptReply) → IsKeptWrite (kept_by me.id sent reply))
     → first_failing (rules_of asked me now (facts_of asked s)) ≡ first → IsDecisionAfter first asked me now sent (facts_of asked s) decided → IsMadeIf decided asked now.day → IsSound (state_after (left_of decided s) s)
-after_sound asked me now sent s (Some rule) decided sound there first is made = subst (λ d. IsSound (state_after (left_of d s) s)) (sym is) sound
-after_sound asked me now sent s None decided sound there first is made =
-    decided_sound asked me now sent s decided sound there (all_hold (rules_of asked me now (facts_of asked s)) first) is made
+after_sound asked me now sent s (Some rule) decided sound there write first is ready = subst (λ d. IsSound (state_after (left_of d s) s)) (sym is) sound
+after_sound asked me now sent s None decided sound there write first (made, is, keeps) ready =
+    subst (λ d. IsSound (state_after (left_of d s) s)) (sym keeps)
+    (kept_sound asked me.id sent s made there write (decided_makes asked me.id now.day (facts_of asked s) made is)
+    (decided_sound asked me now s made sound there (all_hold (rules_of asked me now (facts_of asked s)) first) is
+    (ready_made me.id sent made asked now.day (subst (λ d. IsMadeIf d asked now.day) keeps ready))))
 
 write_sound : (asked : Write) (me : Caller) (now : Moment) (number : ℕ) (s : State) (arrival : Arrival) (told : Answer) (left : Option State) → IsSound s → IsIn caller_key s.callers me.id
     → arrival_in s asked me number ≡ arrival → IsOutcomeAs arrival asked me now number s told left → IsSound (state_after left s)
 write_sound asked me now number s New told left sound there comes (decided, is, (made, ranges), tells, leaves) =
     let above = new_is_above number (spelling asked) (kept_of me.id s) comes in
-    let write : IsKeptWrite (kept_in me.id (sent_with number asked) decided) = record { numbered = omega arith; spelled = (asked, ranges, refl) } in
-    subst (λ l. IsSound (state_after l s)) (sym leaves) (after_sound asked me now (sent_with number asked) s (first_failing (rules_of asked me now (facts_of asked s))) decided sound (there, write) refl is made)
+    let write : (reply : KeptReply) → IsKeptWrite (kept_by me.id (sent_with number asked) reply) = λ reply. record { numbered = omega arith; spelled = (asked, ranges, refl) } in
+    subst (λ l. IsSound (state_after l s)) (sym leaves) (after_sound asked me now (sent_with number asked) s (first_failing (rules_of asked me now (facts_of asked s))) decided sound there write refl is made)
 write_sound asked me now number s (Repeated reply) told left sound there comes (tells, leaves) = subst (λ l. IsSound (state_after l s)) (sym leaves) sound
 write_sound asked me now number s Stale told left sound there comes (tells, leaves) = subst (λ l. IsSound (state_after l s)) (sym leaves) sound
 

@@ -54,14 +54,11 @@ abbrev pub kept_by : ℕ → Sent → KeptReply → Kept
 kept_by caller sent reply =
     record { caller = caller; number = sent.number; request = sent.request; reply = reply }
 
--- what an accepted write is told
-abbrev pub reply_in : Decision → KeptReply
-reply_in (Denied first) = reply.Done
-reply_in (Accepted told change) = unwrap_or (reply_of told) reply.Done
-
--- what is kept of a write that is decided so
-abbrev pub kept_in : ℕ → Sent → Decision → Kept
-kept_in caller sent decided = kept_by caller sent (reply_in decided)
+-- the decision with what is kept of the write: an accepted one is kept with what it is told
+abbrev pub with_kept : ℕ → Sent → Decision → Decision
+with_kept caller sent (Denied first) = Denied first
+with_kept caller sent (Accepted told change) =
+    Accepted told (record change { kept = puts_one (kept_by caller sent (unwrap_or (reply_of told) reply.Done)) })
 
 abbrev pub no_change : Change
 no_change = record {
@@ -79,73 +76,67 @@ no_change = record {
   last_trip = None;
 }
 
--- a change of what is kept of its write alone
-abbrev pub keeping : Kept → Change
-keeping kept = record no_change { kept = puts_one kept }
-
 -- what is made of a trip that is booked: the next number is given to it
-abbrev pub booked : Kept → Trip → Plan → Change
-booked kept trip plan =
-    record (keeping kept) { trips = puts_one trip; planned = puts_one plan; last_trip = Some trip.id }
+abbrev pub booked : Trip → Plan → Change
+booked trip plan = record no_change { trips = puts_one trip; planned = puts_one plan; last_trip = Some trip.id }
 
 -- of one that is changed: its stops are taken from where they were
-abbrev pub changed : Kept → Trip → Option Plan → Trip → Plan → Change
-changed kept old left new plan = record (keeping kept) { trips = puts_one new; planned = moves_to old left plan }
+abbrev pub changed : Trip → Option Plan → Trip → Plan → Change
+changed old left new plan = record no_change { trips = puts_one new; planned = moves_to old left plan }
 
 -- and of one that is cancelled
-abbrev pub given_up : Kept → Trip → Option Plan → Change
-given_up kept trip left =
-    record (keeping kept) { trips = puts_one (cancelled trip); planned = gives_up trip left }
+abbrev pub given_up : Trip → Option Plan → Change
+given_up trip left = record no_change { trips = puts_one (cancelled trip); planned = gives_up trip left }
 
 -- the change of a trip that is there: it is asked for anew under its number, as if it were not booked
-abbrev pub IsChangeDecided : Option Trip → Wish → Kept → ℕ → WriteFacts → Decision → Type 0
-IsChangeDecided None wish kept today facts decided = ⊥
-IsChangeDecided (Some trip) wish kept today facts decided =
-    IsBooking (changed kept trip facts.booking.plan) trip.id (Some trip.id) today wish facts decided
+abbrev pub IsChangeDecided : Option Trip → Wish → ℕ → WriteFacts → Decision → Type 0
+IsChangeDecided None wish today facts decided = ⊥
+IsChangeDecided (Some trip) wish today facts decided =
+    IsBooking (changed trip facts.booking.plan) trip.id (Some trip.id) today wish facts decided
 
-abbrev pub IsCancelDecided : Option Trip → Kept → WriteFacts → Decision → Type 0
-IsCancelDecided None kept facts decided = ⊥
-IsCancelDecided (Some trip) kept facts decided = decided ≡ Accepted answer.Done (given_up kept trip facts.booking.plan)
+abbrev pub IsCancelDecided : Option Trip → WriteFacts → Decision → Type 0
+IsCancelDecided None facts decided = ⊥
+IsCancelDecided (Some trip) facts decided = decided ≡ Accepted answer.Done (given_up trip facts.booking.plan)
 
 -- the outcome of a trip that is there
-abbrev pub IsEndDecided : Option Trip → Outcome → Kept → Decision → Type 0
-IsEndDecided None outcome kept decided = ⊥
-IsEndDecided (Some trip) outcome kept decided =
-    decided ≡ Accepted answer.Done (record (keeping kept) { trips = puts_one (ended outcome trip) })
+abbrev pub IsEndDecided : Option Trip → Outcome → Decision → Type 0
+IsEndDecided None outcome decided = ⊥
+IsEndDecided (Some trip) outcome decided =
+    decided ≡ Accepted answer.Done (record no_change { trips = puts_one (ended outcome trip) })
 
--- What is decided on the day today where none of a write's own rules fails: what it is told, and what it changes. The
--- rules of a trip that is asked for come after those.
-abbrev pub IsDecidedBy : Write → Kept → ℕ → WriteFacts → Decision → Type 0
-IsDecidedBy (write.PutCaller new) kept today facts decided =
-    decided ≡ Accepted answer.Done (record (keeping kept) { callers = puts_one new })
-IsDecidedBy (write.PutPolicy new) kept today facts decided =
-    decided ≡ Accepted answer.Done (record (keeping kept) { policy = Some new })
-IsDecidedBy (write.PutPlace new) kept today facts decided =
-    decided ≡ Accepted answer.Done (record (keeping kept) { places = puts_one new })
-IsDecidedBy (write.PutRoute new) kept today facts decided =
-    decided ≡ Accepted answer.Done (record (keeping kept) { routes = puts_one new })
-IsDecidedBy (write.PutRider new) kept today facts decided =
-    decided ≡ Accepted answer.Done (record (keeping kept) { riders = puts_one new })
-IsDecidedBy (write.Enter rider entry) kept today facts decided =
-    decided ≡ Accepted (answer.Entered (length facts.file)) (record (keeping kept) {
+-- What is decided on a write by this author on the day today where none of its own rules fails: what it is told, and
+-- what it changes beside what is kept of it. The rules of a trip that is asked for come after those.
+abbrev pub IsDecidedBy : Write → ℕ → ℕ → WriteFacts → Decision → Type 0
+IsDecidedBy (write.PutCaller new) author today facts decided =
+    decided ≡ Accepted answer.Done (record no_change { callers = puts_one new })
+IsDecidedBy (write.PutPolicy new) author today facts decided =
+    decided ≡ Accepted answer.Done (record no_change { policy = Some new })
+IsDecidedBy (write.PutPlace new) author today facts decided =
+    decided ≡ Accepted answer.Done (record no_change { places = puts_one new })
+IsDecidedBy (write.PutRoute new) author today facts decided =
+    decided ≡ Accepted answer.Done (record no_change { routes = puts_one new })
+IsDecidedBy (write.PutRider new) author today facts decided =
+    decided ≡ Accepted answer.Done (record no_change { riders = puts_one new })
+IsDecidedBy (write.Enter rider entry) author today facts decided =
+    decided ≡ Accepted (answer.Entered (length facts.file)) (record no_change {
       entries = puts_one (record {
         rider = rider;
         position = length facts.file;
-        entered = record { entry = entry; day = today; author = kept.caller };
+        entered = record { entry = entry; day = today; author = author };
       });
     })
-IsDecidedBy (write.PutVehicle new) kept today facts decided =
+IsDecidedBy (write.PutVehicle new) author today facts decided =
     decided ≡ Accepted answer.Done
-    (record (keeping kept) { vehicles = replaces (versions_from new.id new.from_day) new })
-IsDecidedBy (write.Travel day rows) kept today facts decided =
+    (record no_change { vehicles = replaces (versions_from new.id new.from_day) new })
+IsDecidedBy (write.Travel day rows) author today facts decided =
     decided ≡ Accepted answer.Done
-    (record (keeping kept) { travel = replaces (tables_from day) (record { from_day = day; rows = rows }) })
-IsDecidedBy (write.Book rider wish) kept today facts decided =
-    IsBooking (booked kept) (facts.booking.last_trip + 1) None today wish facts decided
-IsDecidedBy (write.Change trip wish) kept today facts decided =
-    IsChangeDecided facts.booking.trip wish kept today facts decided
-IsDecidedBy (write.Cancel trip) kept today facts decided = IsCancelDecided facts.booking.trip kept facts decided
-IsDecidedBy (write.Outcome trip outcome) kept today facts decided = IsEndDecided facts.booking.trip outcome kept decided
+    (record no_change { travel = replaces (tables_from day) (record { from_day = day; rows = rows }) })
+IsDecidedBy (write.Book rider wish) author today facts decided =
+    IsBooking booked (facts.booking.last_trip + 1) None today wish facts decided
+IsDecidedBy (write.Change trip wish) author today facts decided =
+    IsChangeDecided facts.booking.trip wish today facts decided
+IsDecidedBy (write.Cancel trip) author today facts decided = IsCancelDecided facts.booking.trip facts decided
+IsDecidedBy (write.Outcome trip outcome) author today facts decided = IsEndDecided facts.booking.trip outcome decided
 
 -- where none of its own rules fails, what a trip needs is there
 abbrev pub IsReady : Write → WriteFacts → Type 0
@@ -161,7 +152,7 @@ IsReady _ facts = Unit {0}
 abbrev pub IsDecisionAfter : Option Rule → Write → Caller → Moment → Sent → WriteFacts → Decision → Type 0
 IsDecisionAfter (Some first) asked me now sent facts decided = decided ≡ Denied first
 IsDecisionAfter None asked me now sent facts decided =
-    IsDecidedBy asked (kept_in me.id sent decided) now.day facts decided
+    (made : Decision) × IsDecidedBy asked me.id now.day facts made × (decided ≡ with_kept me.id sent made)
 
 -- the decision on a write by this caller with a new number, at this moment
 abbrev pub IsDecision : Write → Caller → Moment → Sent → WriteFacts → Decision → Type 0

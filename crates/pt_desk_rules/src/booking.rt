@@ -4,22 +4,18 @@ ghost use Rattle.pt_base.specs.Day.{IsDay};
 ghost use Rattle.pt_booking.specs.Request.{request_of};
 ghost use Rattle.pt_scheduling.specs.Routes.{routes_without};
 ghost use Rattle.pt_desk_rules.specs.Booking.{IsAnswered, IsAsking, IsBooking, IsRequestBy, IsScheduledBy, rows_of};
-ghost use Rattle.pt_desk_rules.specs.Deciding.{booked, changed, given_up, kept_by, kept_in, IsChangeDecided};
+ghost use Rattle.pt_desk_rules.specs.Deciding.{booked, given_up, IsChangeDecided};
 ghost use Rattle.pt_desk_rules.specs.declared.deciding.Decision.TheVariants.{Accepted};
 ghost use Rattle.pt_requests.specs.declared.request.Answer.TheVariants.{Booked, Done};
 ghost use Rattle.pt_requests.specs.declared.request.Confirmation.{Confirmation};
 ghost use Rattle.pt_desk_rules.specs.Limits.{last_trip_number};
-ghost use Rattle.pt_desk_rules.specs.State.{no_edit, place_key, puts_one};
-ghost use Rattle.pt_spelling.specs.Replies.{answer_of};
-ghost use Rattle.pt_spelling.specs.declared.replies.KeptReply.TheVariants as reply;
+ghost use Rattle.pt_desk_rules.specs.State.{place_key};
 ghost use Rattle.pt_desk_rules.specs.Trips.{has_ends, IsConfirmation};
 ghost use Rattle.pt_records.specs.Records.{record_at};
 
 use crate::trips::{cancelled, confirmation_of, giving_up, moving};
-use crate::{
-    Answer, Change, DayFacts, Decision, Kept, KeptReply, Sent, TravelTable, WriteFacts, on_duty,
-};
-use pt_base::{CallerId, Day, Place, PlaceId, Rider, Trip, TripId, Vehicle, Wish};
+use crate::{Answer, Change, DayFacts, Decision, TravelTable, WriteFacts, on_duty};
+use pt_base::{Day, Place, PlaceId, Rider, Trip, TripId, Vehicle, Wish};
 use pt_booking::TripRequest;
 use pt_records::{Key, Rows, Table};
 use pt_scheduling::{DayPlans, PlannedRoute, Scheduled, days_of_use, schedule};
@@ -140,35 +136,20 @@ pub(crate) fn answer_wish(
     schedule_on(alloc, &facts.booking.day, &vehicles, &request)
 }
 
-/// A write that is accepted, and told this.
-fn accepted(reply: KeptReply, change: Change) -> Decision
-    ensures { result ≡ Accepted (answer_of reply) change }
+/// A trip that is booked is confirmed.
+fn confirmed(trip: &Trip, change: Change) -> Decision
+    ensures { (told : Confirmation) × IsConfirmation trip.now told × (result ≡ Accepted (Booked told) change) }
 {
     Decision::Accepted {
-        answer: reply.answer(),
+        answer: Answer::Booked(confirmation_of(trip)),
         change,
     }
-}
-
-/// A trip that is booked is confirmed, and the confirmation is kept.
-fn confirmed(trip: &Trip, me: CallerId, sent: Sent, change: Change) -> Result<Decision, AllocError>
-    requires { change.kept ≡ no_edit }
-    ensures { IfOk result (λ decided. (told : Confirmation) × IsConfirmation trip.now told
-        × (decided ≡ Accepted (Booked told)
-        (record change { kept = puts_one (kept_by me sent (reply.Booked told)) }))) }
-{
-    let kept = sent.kept(me, KeptReply::Booked(confirmation_of(trip)));
-    let reply = kept.reply;
-    let made = change.with(kept)?;
-    Ok(accepted(reply, made))
 }
 
 /// Decides a booking: its trip gets the next number.
 pub(crate) fn decide_booking(
     alloc: Global,
     facts: &WriteFacts,
-    me: CallerId,
-    sent: Sent,
     today: Day,
     wish: &Wish,
 ) -> Result<Decision, AllocError>
@@ -176,8 +157,7 @@ pub(crate) fn decide_booking(
     requires ends { IsTrue (has_ends wish.now facts.now.places) }
     requires number { facts.now.booking.last_trip < last_trip_number }
     ensures { IfOk result (λ decided.
-        IsBooking (booked (kept_in me sent decided)) (facts.now.booking.last_trip + 1) None today wish.now facts.now
-        decided) }
+        IsBooking booked (facts.now.booking.last_trip + 1) None today wish.now facts.now decided) }
 {
     let number = TripId::of(facts.booking.last_trip + 1).unwrap();
     match answer_wish(alloc, facts, number, &None, today, wish)? {
@@ -187,7 +167,7 @@ pub(crate) fn decide_booking(
             change.trips.put(trip)?;
             change.planned.put(plan)?;
             change.last_trip = Some(trip.id);
-            confirmed(&trip, me, sent, change)
+            Ok(confirmed(&trip, change))
         }
     }
 }
@@ -196,16 +176,13 @@ pub(crate) fn decide_booking(
 pub(crate) fn decide_change(
     alloc: Global,
     facts: &WriteFacts,
-    me: CallerId,
-    sent: Sent,
     today: Day,
     wish: &Wish,
 ) -> Result<Decision, AllocError>
     requires trip { IsTrue (is_some facts.now.booking.trip) }
     requires rider { IsTrue (is_some facts.now.rider) }
     requires ends { IsTrue (has_ends wish.now facts.now.places) }
-    ensures { IfOk result (λ decided.
-        IsChangeDecided facts.now.booking.trip wish.now (kept_in me sent decided) today facts.now decided) }
+    ensures { IfOk result (λ decided. IsChangeDecided facts.now.booking.trip wish.now today facts.now decided) }
 {
     let old = facts.booking.trip.unwrap();
     match answer_wish(alloc, facts, old.id, &Some(old.id), today, wish)? {
@@ -214,7 +191,7 @@ pub(crate) fn decide_change(
             let mut change = Change::none(alloc);
             change.trips.put(trip)?;
             change.planned = moving(alloc, &old, &facts.booking.plan, plan)?;
-            confirmed(&trip, me, sent, change)
+            Ok(confirmed(&trip, change))
         }
     }
 }
@@ -222,13 +199,12 @@ pub(crate) fn decide_change(
 /// Decides the cancellation of a trip.
 pub(crate) fn decide_cancel(
     alloc: Global,
-    kept: Kept,
     trip: &Trip,
     plan: &Option<PlannedRoute>,
 ) -> Result<Decision, AllocError>
-    ensures { IfOk result (λ decided. decided ≡ Accepted Done (given_up kept trip.now plan.now)) }
+    ensures { IfOk result (λ decided. decided ≡ Accepted Done (given_up trip.now plan.now)) }
 {
-    let mut change = Change::keeping(alloc, kept)?;
+    let mut change = Change::none(alloc);
     let wish: Wish = trip.wish;
     change.trips.put(cancelled(trip, wish))?;
     change.planned = giving_up(alloc, trip, plan)?;

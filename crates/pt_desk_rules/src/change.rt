@@ -1,6 +1,5 @@
-ghost use Rattle.std.specs.Prelude.{◌≡◌, IfOk};
-ghost use Rattle.pt_desk_rules.specs.Deciding.{no_change, keeping};
-ghost use Rattle.pt_desk_rules.specs.State.{no_edit, puts_one};
+ghost use Rattle.std.specs.Prelude.{◌≡◌};
+ghost use Rattle.pt_desk_rules.specs.Deciding.{no_change};
 
 use crate::{Caller, Kept, TravelTable};
 use pt_base::{Place, Policy, Rider, RiderId, Trip, TripId, Vehicle};
@@ -8,7 +7,7 @@ use pt_corridor::FixedRoute;
 use pt_records::{Edits, Key, Keyed};
 use pt_rights::Entered;
 use pt_scheduling::PlannedRoute;
-use std::alloc::{AllocError, Global};
+use std::alloc::Global;
 
 /// An entry of a rider's case file.
 #[derive(Debug, Drop)]
@@ -57,26 +56,6 @@ impl Change {
             planned: Edits::none(alloc),
             last_trip: None,
         }
-    }
-
-    /// The same change, which keeps this too.
-    pub(crate) fn with(self, kept: Kept) -> Result<Self, AllocError>
-        requires { self.kept ≡ no_edit }
-        ensures value { IfOk result (λ change. change ≡ record self { kept = puts_one kept }) }
-    {
-        let mut edits = self.kept;
-        edits.put(kept)?;
-        Ok(Change {
-            kept: edits,
-            ..self
-        })
-    }
-
-    /// A change that keeps what is kept of its write, and nothing more.
-    pub(crate) fn keeping(alloc: Global, kept: Kept) -> Result<Self, AllocError>
-        ensures value { IfOk result (λ change. change ≡ keeping kept) }
-    {
-        Change::none(alloc).with(kept)
     }
 }
 

@@ -1,6 +1,6 @@
 ghost use Rattle.std.specs.Prelude.{◌≡◌, Some, length, IfOk};
 ghost use Rattle.pt_base.specs.Day.{IsDay};
-ghost use Rattle.pt_desk_rules.specs.Deciding.{keeping, kept_by, kept_in, IsReady, IsDecidedBy, IsDecision};
+ghost use Rattle.pt_desk_rules.specs.Deciding.{no_change, with_kept, IsReady, IsDecidedBy, IsDecision};
 ghost use Rattle.pt_desk_rules.specs.Deciding.{IsMade, IsMadeIf};
 ghost use Rattle.pt_corridor.specs.Route.{IsFixedRoute};
 ghost use Rattle.pt_travel.specs.Table.{IsTable};
@@ -16,12 +16,11 @@ ghost use Rattle.pt_desk_rules.specs.State.{puts_one, replaces, versions_from, t
 use crate::booking::{decide_booking, decide_cancel, decide_change, has_day};
 use crate::outcomes::decide_outcome;
 use crate::{
-    Answer, Caller, Change, FiledEntry, Kept, KeptReply, Sent, TravelTable, Write, WriteFacts,
-    denial,
+    Answer, Caller, Change, FiledEntry, KeptReply, Sent, TravelTable, Write, WriteFacts, denial,
 };
 use pt_base::{CallerId, Day, Moment, Place, Policy, Rider, RiderId, Rule, Vehicle};
 use pt_corridor::FixedRoute;
-use pt_records::{Key, Span};
+use pt_records::{Edits, Key, Span};
 use pt_rights::{Condition, Entered, Entry, Grant};
 use pt_travel::Raw;
 use std::alloc::{AllocError, Global};
@@ -67,50 +66,49 @@ fn done(change: Change) -> Decision
     }
 }
 
-fn put_caller(alloc: Global, kept: Kept, new: &Caller) -> Result<Decision, AllocError>
+fn put_caller(alloc: Global, new: &Caller) -> Result<Decision, AllocError>
     ensures decided { IfOk result (λ decided.
-        decided ≡ Accepted Done (record (keeping kept) { callers = puts_one new.now })) }
+        decided ≡ Accepted Done (record no_change { callers = puts_one new.now })) }
     ensures digest { IfOk result (λ _. length new.now.digest ≡ 32) }
 {
-    let mut change = Change::keeping(alloc, kept)?;
+    let mut change = Change::none(alloc);
     let Caller { id, role, digest } = new.copied();
     change.callers.put(Caller { id, role, digest })?;
     Ok(done(change))
 }
 
-fn put_policy(alloc: Global, kept: Kept, new: &Policy) -> Result<Decision, AllocError>
-    ensures decided { IfOk result (λ decided.
-        decided ≡ Accepted Done (record (keeping kept) { policy = Some new.now })) }
+fn put_policy(alloc: Global, new: &Policy) -> Decision
+    ensures { result ≡ Accepted Done (record no_change { policy = Some new.now }) }
 {
-    let mut change = Change::keeping(alloc, kept)?;
+    let mut change = Change::none(alloc);
     change.policy = Some(*new);
-    Ok(done(change))
+    done(change)
 }
 
-fn put_place(alloc: Global, kept: Kept, new: &Place) -> Result<Decision, AllocError>
+fn put_place(alloc: Global, new: &Place) -> Result<Decision, AllocError>
     ensures decided { IfOk result (λ decided.
-        decided ≡ Accepted Done (record (keeping kept) { places = puts_one new.now })) }
+        decided ≡ Accepted Done (record no_change { places = puts_one new.now })) }
 {
-    let mut change = Change::keeping(alloc, kept)?;
+    let mut change = Change::none(alloc);
     change.places.put(*new)?;
     Ok(done(change))
 }
 
-fn put_route(alloc: Global, kept: Kept, new: &FixedRoute) -> Result<Decision, AllocError>
+fn put_route(alloc: Global, new: &FixedRoute) -> Result<Decision, AllocError>
     ensures decided { IfOk result (λ decided.
-        decided ≡ Accepted Done (record (keeping kept) { routes = puts_one new.now })) }
+        decided ≡ Accepted Done (record no_change { routes = puts_one new.now })) }
     ensures route { IfOk result (λ _. IsFixedRoute new.now) }
 {
-    let mut change = Change::keeping(alloc, kept)?;
+    let mut change = Change::none(alloc);
     change.routes.put(new.clone()?)?;
     Ok(done(change))
 }
 
-fn put_rider(alloc: Global, kept: Kept, new: &Rider) -> Result<Decision, AllocError>
+fn put_rider(alloc: Global, new: &Rider) -> Result<Decision, AllocError>
     ensures decided { IfOk result (λ decided.
-        decided ≡ Accepted Done (record (keeping kept) { riders = puts_one new.now })) }
+        decided ≡ Accepted Done (record no_change { riders = puts_one new.now })) }
 {
-    let mut change = Change::keeping(alloc, kept)?;
+    let mut change = Change::none(alloc);
     change.riders.put(*new)?;
     Ok(done(change))
 }
@@ -174,16 +172,14 @@ fn enter(
     alloc: Global,
     facts: &WriteFacts,
     me: CallerId,
-    sent: Sent,
     today: Day,
     rider: RiderId,
     entry: &Entry,
 ) -> Result<Decision, AllocError>
-    ensures { IfOk result (λ decided.
-        IsDecidedBy (Enter rider entry.now) (kept_in me sent decided) today facts.now decided) }
+    ensures { IfOk result (λ decided. IsDecidedBy (Enter rider entry.now) me today facts.now decided) }
 {
     let position = facts.file.len() as u32;
-    let mut change = Change::keeping(alloc, sent.kept(me, KeptReply::Entered(position)))?;
+    let mut change = Change::none(alloc);
     change.entries.put(FiledEntry {
         rider,
         position,
@@ -206,26 +202,26 @@ fn closes_in_day(new: &Vehicle)
     let _number = new.closes.number();
 }
 
-fn put_vehicle(alloc: Global, kept: Kept, new: &Vehicle) -> Result<Decision, AllocError>
+fn put_vehicle(alloc: Global, new: &Vehicle) -> Result<Decision, AllocError>
     ensures decided { IfOk result (λ decided. decided ≡ Accepted Done
-        (record (keeping kept) { vehicles = replaces (versions_from new.now.id new.now.from_day) new.now })) }
+        (record no_change { vehicles = replaces (versions_from new.now.id new.now.from_day) new.now })) }
     ensures day { IfOk result (λ _. IsDay new.now.from_day) }
     ensures hours { IfOk result (λ _. ClosesInDay new.now) }
 {
     closes_in_day(new);
-    let mut change = Change::keeping(alloc, kept)?;
+    let mut change = Change::none(alloc);
     change.vehicles.take_away(versions_from(new))?;
     change.vehicles.put(*new)?;
     Ok(done(change))
 }
 
-fn put_travel(alloc: Global, kept: Kept, day: Day, rows: &Raw) -> Result<Decision, AllocError>
-    ensures decided { IfOk result (λ decided. decided ≡ Accepted Done (record (keeping kept) {
+fn put_travel(alloc: Global, day: Day, rows: &Raw) -> Result<Decision, AllocError>
+    ensures decided { IfOk result (λ decided. decided ≡ Accepted Done (record no_change {
       travel = replaces (tables_from day) (record { from_day = day; rows = rows.now });
     })) }
     ensures table { IfOk result (λ _. IsDay day × IsTable rows.now) }
 {
-    let mut change = Change::keeping(alloc, kept)?;
+    let mut change = Change::none(alloc);
     change.travel.take_away(tables_from(day))?;
     change
         .travel
@@ -238,53 +234,63 @@ fn decide_by(
     alloc: Global,
     facts: &WriteFacts,
     me: CallerId,
-    sent: Sent,
     today: Day,
     write: &Write,
 ) -> Result<Decision, AllocError>
     requires ready { IsReady write.now facts.now }
-    ensures decided { IfOk result (λ decided.
-        IsDecidedBy write.now (kept_in me sent decided) today facts.now decided) }
+    ensures decided { IfOk result (λ decided. IsDecidedBy write.now me today facts.now decided) }
     ensures made { IfOk result (λ _. IsMade write.now) }
 {
     match write {
-        Write::PutCaller(new) => put_caller(alloc, sent.kept(me, KeptReply::Done), new),
-        Write::PutPolicy(new) => put_policy(alloc, sent.kept(me, KeptReply::Done), new),
-        Write::PutPlace(new) => put_place(alloc, sent.kept(me, KeptReply::Done), new),
-        Write::PutRoute(new) => put_route(alloc, sent.kept(me, KeptReply::Done), new),
-        Write::PutRider(new) => put_rider(alloc, sent.kept(me, KeptReply::Done), new),
+        Write::PutCaller(new) => put_caller(alloc, new),
+        Write::PutPolicy(new) => Ok(put_policy(alloc, new)),
+        Write::PutPlace(new) => put_place(alloc, new),
+        Write::PutRoute(new) => put_route(alloc, new),
+        Write::PutRider(new) => put_rider(alloc, new),
         Write::Enter { rider, entry } => {
             keeps_ranges(entry);
-            enter(alloc, facts, me, sent, today, *rider, entry)
+            enter(alloc, facts, me, today, *rider, entry)
         }
-        Write::PutVehicle(new) => put_vehicle(alloc, sent.kept(me, KeptReply::Done), new),
-        Write::Travel { day, rows } => put_travel(
-            alloc,
-            sent.kept(me, KeptReply::Done),
-            *day,
-            rows,
-        ),
+        Write::PutVehicle(new) => put_vehicle(alloc, new),
+        Write::Travel { day, rows } => put_travel(alloc, *day, rows),
         Write::Book { rider: _, wish } => {
             has_day(wish);
-            decide_booking(alloc, facts, me, sent, today, wish)
+            decide_booking(alloc, facts, today, wish)
         }
         Write::Change { trip: _, wish } => {
             has_day(wish);
-            decide_change(alloc, facts, me, sent, today, wish)
+            decide_change(alloc, facts, today, wish)
         }
         Write::Cancel(_) => decide_cancel(
             alloc,
-            sent.kept(me, KeptReply::Done),
             facts.booking.trip.as_ref().unwrap(),
             &facts.booking.plan,
         ),
         Write::Outcome { trip: _, outcome } => {
-            decide_outcome(
-                alloc,
-                sent.kept(me, KeptReply::Done),
-                facts.booking.trip.as_ref().unwrap(),
-                *outcome,
-            )
+            decide_outcome(alloc, facts.booking.trip.as_ref().unwrap(), *outcome)
+        }
+    }
+}
+
+/// The decision with what is kept of the write, if it is accepted.
+fn with_kept(
+    alloc: Global,
+    made: Decision,
+    me: CallerId,
+    sent: Sent,
+) -> Result<Decision, AllocError>
+    ensures { IfOk result (λ decided. decided ≡ with_kept me sent made) }
+{
+    match made {
+        Decision::Denied(rule) => Ok(Decision::Denied(rule)),
+        Decision::Accepted { answer, change } => {
+            let reply = KeptReply::of(&answer).unwrap_or(KeptReply::Done);
+            let mut kept = Edits::none(alloc);
+            kept.put(sent.kept(me, reply))?;
+            Ok(Decision::Accepted {
+                answer,
+                change: Change { kept, ..change },
+            })
         }
     }
 }
@@ -313,5 +319,6 @@ pub fn decide(
     if let Some(rule) = denial(facts, me, now, write) {
         return Ok(Decision::Denied(rule));
     }
-    decide_by(alloc, facts, me.id, sent, today, write)
+    let made = decide_by(alloc, facts, me.id, today, write)?;
+    with_kept(alloc, made, me.id, sent)
 }

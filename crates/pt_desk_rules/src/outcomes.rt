@@ -1,11 +1,11 @@
 ghost use Rattle.std.specs.Prelude.{◌≡◌, IfOk};
-ghost use Rattle.pt_desk_rules.specs.Deciding.{keeping};
+ghost use Rattle.pt_desk_rules.specs.Deciding.{no_change};
 ghost use Rattle.pt_desk_rules.specs.Outcomes.{awaits_outcome, ended, has_come, status_of};
 ghost use Rattle.pt_desk_rules.specs.State.{puts_one};
 ghost use Rattle.pt_desk_rules.specs.declared.deciding.Decision.TheVariants.{Accepted};
 ghost use Rattle.pt_requests.specs.declared.request.Answer.TheVariants.{Done};
 
-use crate::{Answer, Change, Decision, Kept};
+use crate::{Answer, Change, Decision};
 use pt_base::{Day, Trip, TripStatus, Wish};
 use pt_rights::Outcome;
 use std::alloc::{AllocError, Global};
@@ -64,14 +64,13 @@ fn ended(trip: &Trip, wish: Wish, outcome: Outcome) -> Trip
 /// Decides the outcome of a trip.
 pub(crate) fn decide_outcome(
     alloc: Global,
-    kept: Kept,
     trip: &Trip,
     outcome: Outcome,
 ) -> Result<Decision, AllocError>
     ensures { IfOk result (λ decided. decided
-        ≡ Accepted Done (record (keeping kept) { trips = puts_one (ended outcome trip.now) })) }
+        ≡ Accepted Done (record no_change { trips = puts_one (ended outcome trip.now) })) }
 {
-    let mut change = Change::keeping(alloc, kept)?;
+    let mut change = Change::none(alloc);
     let wish: Wish = trip.wish;
     change.trips.put(ended(trip, wish, outcome))?;
     Ok(Decision::Accepted {

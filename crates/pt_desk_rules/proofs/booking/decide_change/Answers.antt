@@ -1,23 +1,21 @@
 use Rattle.std.proofs.Common.{Some, refl}
-use Rattle.pt_desk_rules.specs.Deciding.{changed, kept_by}
-use Rattle.pt_spelling.specs.declared.replies.KeptReply.TheVariants as reply
-use Rattle.pt_desk_rules.proofs.BookingLemmas.{denied, booked_decided, of_trip, of_found, changed_made}
+use Rattle.pt_desk_rules.specs.Deciding.{changed}
+use Rattle.pt_desk_rules.proofs.BookingLemmas.{denied, confirmed, of_trip, changed_made}
 use Rattle.pt_desk_rules.proofs.booking.decide_change.Goals as goal
 
 pub returns-in-Denied : goal.returns-in-Denied
 returns-in-Denied c =
     let facts = c.args.facts.now in
     let old = c.unwrap-old.result in
-    let kept = kept_by c.args.me c.args.sent reply.Done in
-    of_trip facts.booking.trip old kept c.args.today c.args.wish.now facts _ c.unwrap-old.ensures
-    (denied (changed kept old facts.booking.plan) old.id old.id (Some old.id) c.args.today c.args.wish.now facts c.in_ok-rule.field-0 c.in-Denied.rule refl c.in-Denied.is c.in_ok-rule.ensures)
+    of_trip facts.booking.trip old c.args.today c.args.wish.now facts _ c.unwrap-old.ensures
+    (denied (changed old facts.booking.plan) old.id old.id (Some old.id) c.args.today c.args.wish.now facts c.in_ok-rule.field-0 c.in-Denied.rule refl c.in-Denied.is c.in_ok-rule.ensures)
 
 pub returns-in_ok-change-in-Booked : goal.returns-in_ok-change-in-Booked
 returns-in_ok-change-in-Booked c =
     let facts = c.args.facts.now in
     let old = c.unwrap-old.result in
-    of_found facts.booking.trip old c.args.me c.args.sent c.args.today c.args.wish.now facts c.confirmed.result c.unwrap-old.ensures
-    (booked_decided (λ kept. changed kept old facts.booking.plan) old.id old.id (Some old.id) c.args.today c.args.wish.now facts c.in_ok-rule.field-0 c.in-Booked.trip c.in-Booked.plan
-    (record c.none-change.result { trips = c.put.new.self; planned = c.in_ok-change-in-Booked.field-0 }) c.args.me c.args.sent c.confirmed.result refl c.in-Booked.is c.in_ok-rule.ensures
-    (λ kept. changed_made c.none-change.result kept c.put.new.self c.in_ok-change-in-Booked.field-0 old facts.booking.plan c.in-Booked.trip c.in-Booked.plan
-    c.none-change.ensures.value c.in_ok-put-in-Booked.ensures.value c.in_ok-change-in-Booked.ensures.value) c.confirmed.ensures)
+    of_trip facts.booking.trip old c.args.today c.args.wish.now facts c.confirmed.result c.unwrap-old.ensures
+    (confirmed (changed old facts.booking.plan) old.id old.id (Some old.id) c.args.today c.args.wish.now facts c.in_ok-rule.field-0 c.in-Booked.trip c.in-Booked.plan
+    _ c.confirmed.result refl c.in-Booked.is c.in_ok-rule.ensures c.confirmed.ensures
+    (changed_made c.none-change.result c.put.new.self c.in_ok-change-in-Booked.field-0 old facts.booking.plan c.in-Booked.trip c.in-Booked.plan
+    c.none-change.ensures.value c.in_ok-put-in-Booked.ensures.value c.in_ok-change-in-Booked.ensures.value))
