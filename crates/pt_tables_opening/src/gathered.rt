@@ -50,7 +50,7 @@ pub(crate) trait Gathered: Keyed {
 
     /// The record that has these rows, or none where no record has them. Of the rows of a record, no later one is such
     /// as the first.
-    fn gathered(alloc: Global, rows: &[Row]) -> Result<Option<Self>, AllocError>
+    fn of_rows(alloc: Global, rows: &[Row]) -> Result<Option<Self>, AllocError>
         ensures told { IfOk result (Reads rows_of Fits rows.now) }
         ensures once { (x : Self) → Fits x → BeginsOnce Begins (rows_of x) };
 }
@@ -91,7 +91,7 @@ pub(crate) fn gathered_of<T: Gathered>(
     let mut left = rows;
     while !left.is_empty() {
         let (group, later) = left.split_at(group_end::<T>(left));
-        match T::gathered(alloc, group)? {
+        match T::of_rows(alloc, group)? {
             Some(record) => records.put(record)?,
             None => return Ok(None),
         }

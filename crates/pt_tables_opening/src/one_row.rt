@@ -33,7 +33,7 @@ impl OneRow for Caller {
         caller_rows(conn)
     }
 
-    fn told(_alloc: Global, row: &Row) -> Result<Option<Self>, AllocError> {
+    fn of_row(_alloc: Global, row: &Row) -> Result<Option<Self>, AllocError> {
         Ok(caller_of(row))
     }
 }
@@ -67,7 +67,7 @@ impl OneRow for Kept {
         kept_rows(conn)
     }
 
-    fn told(alloc: Global, row: &Row) -> Result<Option<Self>, AllocError> {
+    fn of_row(alloc: Global, row: &Row) -> Result<Option<Self>, AllocError> {
         copied_kept(alloc, row)
     }
 }
@@ -87,7 +87,7 @@ impl OneRow for Place {
         place_rows(conn)
     }
 
-    fn told(_alloc: Global, row: &Row) -> Result<Option<Self>, AllocError> {
+    fn of_row(_alloc: Global, row: &Row) -> Result<Option<Self>, AllocError> {
         Ok(place_of(row))
     }
 }
@@ -107,7 +107,7 @@ impl OneRow for FixedRoute {
         route_rows(conn)
     }
 
-    fn told(alloc: Global, row: &Row) -> Result<Option<Self>, AllocError> {
+    fn of_row(alloc: Global, row: &Row) -> Result<Option<Self>, AllocError> {
         route_of(alloc, row)
     }
 }
@@ -127,7 +127,7 @@ impl OneRow for Vehicle {
         vehicle_rows(conn)
     }
 
-    fn told(_alloc: Global, row: &Row) -> Result<Option<Self>, AllocError> {
+    fn of_row(_alloc: Global, row: &Row) -> Result<Option<Self>, AllocError> {
         Ok(vehicle_of(row))
     }
 }
@@ -147,7 +147,7 @@ impl OneRow for Rider {
         rider_rows(conn)
     }
 
-    fn told(_alloc: Global, row: &Row) -> Result<Option<Self>, AllocError> {
+    fn of_row(_alloc: Global, row: &Row) -> Result<Option<Self>, AllocError> {
         Ok(rider_of(row))
     }
 }
@@ -167,7 +167,7 @@ impl OneRow for FiledEntry {
         entry_rows(conn)
     }
 
-    fn told(alloc: Global, row: &Row) -> Result<Option<Self>, AllocError> {
+    fn of_row(alloc: Global, row: &Row) -> Result<Option<Self>, AllocError> {
         entry_of(alloc, row)
     }
 }
@@ -187,7 +187,7 @@ impl OneRow for Trip {
         trip_rows(conn)
     }
 
-    fn told(_alloc: Global, row: &Row) -> Result<Option<Self>, AllocError> {
+    fn of_row(_alloc: Global, row: &Row) -> Result<Option<Self>, AllocError> {
         Ok(trip_of(row))
     }
 }

@@ -103,7 +103,7 @@ impl Gathered for PlannedRoute {
         is_nought(row, PLACE_COLUMN)
     }
 
-    fn gathered(alloc: Global, rows: &[Row]) -> Result<Option<Self>, AllocError> {
+    fn of_rows(alloc: Global, rows: &[Row]) -> Result<Option<Self>, AllocError> {
         plan_of(alloc, rows)
     }
 }

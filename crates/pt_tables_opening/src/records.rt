@@ -39,7 +39,7 @@ pub(crate) trait OneRow: Keyed {
         ensures rests { Rests (state S.Store conn.old) (state S.Store conn.new) result };
 
     /// The record of a row, or none where no record has it.
-    fn told(alloc: Global, row: &Row) -> Result<Option<Self>, AllocError>
+    fn of_row(alloc: Global, row: &Row) -> Result<Option<Self>, AllocError>
         ensures told { IfOk result (Reads row_of Fits row.now) };
 }
 
@@ -52,7 +52,7 @@ pub(crate) fn records_of<T: OneRow>(
 {
     let mut records = Edits::none(alloc);
     for row in rows {
-        match T::told(alloc, row)? {
+        match T::of_row(alloc, row)? {
             Some(record) => records.put(record)?,
             None => return Ok(None),
         }

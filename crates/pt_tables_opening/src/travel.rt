@@ -109,7 +109,7 @@ impl Gathered for TravelTable {
         is_nought(row, FROM_COLUMN)
     }
 
-    fn gathered(alloc: Global, rows: &[Row]) -> Result<Option<Self>, AllocError> {
+    fn of_rows(alloc: Global, rows: &[Row]) -> Result<Option<Self>, AllocError> {
         table_of(alloc, rows)
     }
 }

@@ -20,7 +20,7 @@ returns-in-None g c =
     let none = subst (Reads g.T.Gathered.rows_of Fits front) c.in-None.is c.in_ok-record.ensures.told in
     record {
       told = λ xs each same.
-          none_first g.T.Gathered.rows_of Fits g.T.Gathered.Begins c.gathered.ensures.once left front c.group_end.result some ends c.split_at.ensures.front none
+          none_first g.T.Gathered.rows_of Fits g.T.Gathered.Begins c.of_rows.ensures.once left front c.group_end.result some ends c.split_at.ensures.front none
           (c.loop-left.invariant.back xs each same);
     }
 
@@ -48,5 +48,5 @@ loop-left-preserved g c =
           c.split_at.ensures.back told.0 c.loop-left.invariant.done;
       each = subst (Each Fits) (sym puts) (each_push Fits c.loop-left.records.puts c.in-Some.record c.loop-left.invariant.each told.1);
       back = λ xs each same.
-          remain_next rows_of Fits g.T.Gathered.Begins c.gathered.ensures.once left back end some ends c.split_at.ensures.back (c.loop-left.invariant.back xs each same);
+          remain_next rows_of Fits g.T.Gathered.Begins c.of_rows.ensures.once left back end some ends c.split_at.ensures.back (c.loop-left.invariant.back xs each same);
     }
