@@ -1,3 +1,4 @@
+pub mod AgreeLemmas
 pub mod AppendLemmas
 pub mod CallerWrites
 pub mod CastLemmas
@@ -13,6 +14,7 @@ pub mod GroupLemmas
 pub mod InsertLemmas
 pub mod KeptWrites
 pub mod KeyLemmas
+pub mod KnownLemmas
 pub mod NumberedLemmas
 pub mod NumberedWrites
 pub mod PartsLemmas

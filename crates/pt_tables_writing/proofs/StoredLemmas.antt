@@ -1,18 +1,20 @@
 -- What puts and takes of records make of one table, one after the other.
-use Rattle.std.proofs.Common.{◌≡◌, ◌++◌, ℕ, Bool, true, false, not, cond, List, [], ◌∷◌, flat_map, filter, refl, sym, ap, subst, ◌∙◌}
+use Rattle.std.proofs.Common.{◌≡◌, ◌++◌, ℕ, Bool, true, false, not, cond, List, [], ◌∷◌, Some, flat_map, filter, refl, sym, ap, subst, ◌∙◌}
 use Rattle.std.specs.Prelude.{◌==◌, ◌||◌}
 use Rattle.std.proofs.lemmas.Bool.Decides.{nat_tests}
 use Rattle.std.proofs.Common.{arith}
 use Rattle.sqlite.specs.Effect.{Database}
 use Rattle.sqlite.specs.Order.{Row}
 use Rattle.sqlite.specs.Table.{Table}
-use Rattle.pt_records.specs.Records.{Each, Edit, IsInOrder, edited, is_within, put, put_all, take_all, take_away, within}
+use Rattle.pt_records.specs.Records.{Each, Edit, IsInOrder, edited, is_within, put, put_all, record_at, take_all, take_away, within}
 use Rattle.pt_records.specs.declared.span.Span.{Span}
 use Rattle.pt_records.proofs.OrderLemmas.{Each-put, IsInOrder-put}
 use Rattle.pt_records.proofs.TableLemmas.{Each-filter, IsInOrder-filter, IsInOrder-take_all}
 use Rattle.pt_tables_rows.specs.Schema.{desk_schema}
+use Rattle.pt_tables_writing.specs.Agreeing.{KnowsEdited, OfEach}
 use Rattle.pt_tables_writing.specs.Stored.{without, without_all, PutsAll, TakesAll, TakesSpans, EditsTable}
-use Rattle.pt_tables_writing.specs.Writes.{Puts, Takes, Rewrites}
+use Rattle.pt_tables_writing.specs.Writes.{Puts, Replaces, Takes, Rewrites}
+use Rattle.pt_tables_writing.proofs.AgreeLemmas.{known_stands}
 use Rattle.pt_tables_writing.proofs.TurnLemmas.{rewrites_then, rewrites_self}
 
 -- ---- lists
@@ -246,3 +248,13 @@ module _ {A : Type 0} (t : Table) (key : A → ℕ) (Fits : A → Type 0) (rows 
       ap (λ ps. put_all key ps now) put_is ∙ ap (λ ss. put_all key edit.puts (take_all key ss xs)) away in
       subst (λ ys. Rewrites t (flat_map rows xs) (flat_map rows ys) a c) same
       (rewrites_then t (flat_map rows xs) (flat_map rows now) (flat_map rows (put_all key puts now)) a b c before then)
+
+  -- an edit that only puts a record in place of one that the lists have
+  pub replaced_made : (edit : Edit A) (before new : A) (known : List A) → edit ≡ record { away = []; puts = new ∷ [] }
+      → record_at key (key new) known ≡ Some before → (a b : Database) → Replaces t key Fits rows before new a b
+      → OfEach (KnowsEdited key edit known) (EditsTable t key Fits rows edit) a b
+  replaced_made edit before new known is found a b replaces there agrees =
+      let here = subst (λ e. KnowsEdited key e known there) is agrees in
+      subst (λ e. EditsTable t key Fits rows e there a b) (sym is)
+      (λ fit order fits. replaces fit.0 there order fits
+      (known_stands (record_at key (key new) known) (record_at key (key new) there) before here.replaced.0 found))

@@ -37,6 +37,16 @@ both_do a b c F G H x (Ok y) join first next =
     (keeps_then a b c first.0 next.0, next.1, λ has. join has (first.2 has) next.2)
 both_do a b c F G H x (Err e) join first next = keeps_then a b c first.0 next
 
+as_ok : {X : Type 0} (a b : Connected) (F G : Database → Database → Type 0) (r : Result X Error)
+    → (F a.now b.now → G a.now b.now) → ChangesIfOk a b F r → ChangesIfOk a b G r
+as_ok a b F G (Ok x) is done = (done.0, done.1, λ has. is (done.2 has))
+as_ok a b F G (Err e) is done = done
+
+-- what was done is also this
+pub did_as : {X : Type 0} (a b : Connected) (F G : Database → Database → Type 0) (r : Result X Error)
+    → (F a.now b.now → G a.now b.now) → Makes a b F r → Makes a b G r
+did_as a b F G r is did clean inside = as_ok a b F G r is (did clean inside)
+
 -- the one statement, and then the other
 pub did_then : {X Y : Type 0} (a b c : Connected) (F G H : Database → Database → Type 0) (x : X) (r : Result Y Error)
     → (a.now.schema ≡ desk_schema → F a.now b.now → (b.now.schema ≡ desk_schema → G b.now c.now) → H a.now c.now)

@@ -4,6 +4,7 @@ ghost use Rattle.sqlite.specs.Order.{Row};
 ghost use Rattle.sqlite.specs.State.{Survives};
 ghost use Rattle.sqlite.specs.Table.{Table as StoredTable};
 ghost use Rattle.pt_records.specs.Records.{Each};
+ghost use Rattle.pt_tables_writing.specs.Agreeing.{KnowsTaken, OfEach};
 ghost use Rattle.pt_tables_writing.specs.Stored.{EditsTable, PutsAll, TakesAll, TakesSpans};
 ghost use Rattle.pt_tables_rows.specs.Tables.{Makes};
 ghost use Rattle.pt_tables_writing.specs.Writes.{Puts, Takes};
@@ -129,7 +130,7 @@ fn unmark_each<S: Alter, T: Marked>(tx: &mut Transaction<'_, S>, gone: &[T]) -> 
     Ok(())
 }
 
-/// Takes away those of the records with the keys of these spans; `records` are those of the table, before any of it.
+/// Takes away those of the records with the keys of these spans; `records` has these, before any of it.
 pub(crate) fn unmark_spans<S: Alter, T: Marked>(
     tx: &mut Transaction<'_, S>,
     spans: &[Span],
@@ -137,7 +138,8 @@ pub(crate) fn unmark_spans<S: Alter, T: Marked>(
 ) -> Result<(), Error>
     ensures same_reference { tx.new.conn.ghost_name ≡ tx.old.conn.ghost_name }
     ensures written { Makes (state S.Store tx.old.conn.now) (state S.Store tx.new.conn.now)
-        (TakesSpans T.home T.key T.Fits T.rows_of spans.now records.now.items) result }
+        (OfEach (KnowsTaken T.key spans.now records.now.items)
+        (TakesSpans T.home T.key T.Fits T.rows_of spans.now)) result }
     ensures survives { Survives (state S.Store tx.old.conn.now) (state S.Store tx.new.conn.now) (λ _. ⊥) }
 {
     for span in spans {
@@ -146,7 +148,7 @@ pub(crate) fn unmark_spans<S: Alter, T: Marked>(
     Ok(())
 }
 
-/// Makes the edit in the second table of these records.
+/// Makes the edit in the second table; `records` has the records that are there and that it takes away.
 pub(crate) fn write_marks<S: Alter, T: Marked>(
     tx: &mut Transaction<'_, S>,
     edits: &Edits<T>,
@@ -154,7 +156,8 @@ pub(crate) fn write_marks<S: Alter, T: Marked>(
 ) -> Result<(), Error>
     ensures same_reference { tx.new.conn.ghost_name ≡ tx.old.conn.ghost_name }
     ensures written { Makes (state S.Store tx.old.conn.now) (state S.Store tx.new.conn.now)
-        (EditsTable T.home T.key T.Fits T.rows_of edits.now records.now.items) result }
+        (OfEach (KnowsTaken T.key edits.now.away records.now.items)
+        (EditsTable T.home T.key T.Fits T.rows_of edits.now)) result }
     ensures survives { Survives (state S.Store tx.old.conn.now) (state S.Store tx.new.conn.now) (λ _. ⊥) }
 {
     unmark_spans(tx, edits.spans(), records)?;

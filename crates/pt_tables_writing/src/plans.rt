@@ -7,6 +7,7 @@ ghost use Rattle.pt_tables_rows.specs.Rows.{stop_rows};
 ghost use Rattle.pt_tables_rows.specs.Schema.{stops_table};
 ghost use Rattle.pt_tables_rows.specs.Tables.{Makes};
 ghost use Rattle.pt_tables_rows.specs.WellFormed.{IsStoredPlan};
+ghost use Rattle.pt_tables_writing.specs.Agreeing.{KnowsEdited, OfEach};
 ghost use Rattle.pt_tables_writing.specs.Stored.{EditsTable};
 
 use crate::grouped::replace_plan;
@@ -31,8 +32,10 @@ fn replaced<'a>(
     Some((before, plan))
 }
 
-/// Makes the edit in the table of plans; `records` are those of the table. Where one plan comes in place of another, as
-/// in a booking, the rows of the stops that both begin with stay.
+/// Makes the edit in the table of plans; `records` has those that are there and that it takes away.
+///
+/// Where one plan comes in place of another that `records` has, as in a booking, the rows of the stops that both begin with
+/// stay.
 pub(crate) fn write_plans<S: Alter>(
     tx: &mut Transaction<'_, S>,
     edits: &Edits<PlannedRoute>,
@@ -40,7 +43,8 @@ pub(crate) fn write_plans<S: Alter>(
 ) -> Result<(), Error>
     ensures same_reference { tx.new.conn.ghost_name ≡ tx.old.conn.ghost_name }
     ensures written { Makes (state S.Store tx.old.conn.now) (state S.Store tx.new.conn.now)
-        (EditsTable stops_table plan_key IsStoredPlan stop_rows edits.now records.now.items) result }
+        (OfEach (KnowsEdited plan_key edits.now records.now.items)
+        (EditsTable stops_table plan_key IsStoredPlan stop_rows edits.now)) result }
     ensures survives { Survives (state S.Store tx.old.conn.now) (state S.Store tx.new.conn.now) (λ _. ⊥) }
 {
     match replaced(edits, records) {

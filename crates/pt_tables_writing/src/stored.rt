@@ -4,6 +4,7 @@ ghost use Rattle.sqlite.specs.Order.{Row};
 ghost use Rattle.sqlite.specs.State.{Survives};
 ghost use Rattle.sqlite.specs.Table.{Table as StoredTable};
 ghost use Rattle.pt_records.specs.Records.{Each};
+ghost use Rattle.pt_tables_writing.specs.Agreeing.{KnowsTaken, OfEach};
 ghost use Rattle.pt_tables_writing.specs.Stored.{EditsTable, PutsAll, TakesAll, TakesSpans};
 ghost use Rattle.pt_tables_rows.specs.Tables.{Makes};
 ghost use Rattle.pt_tables_writing.specs.Writes.{Puts, Takes};
@@ -274,7 +275,7 @@ fn take_each<S: Alter, T: Stored>(tx: &mut Transaction<'_, S>, gone: &[T]) -> Re
     Ok(())
 }
 
-/// Takes away the records with the keys of these spans; `records` are those of the table, before any of it.
+/// Takes away the records with the keys of these spans; `records` has those that are there, before any of it.
 fn take_spans<S: Alter, T: Stored>(
     tx: &mut Transaction<'_, S>,
     spans: &[Span],
@@ -282,7 +283,8 @@ fn take_spans<S: Alter, T: Stored>(
 ) -> Result<(), Error>
     ensures same_reference { tx.new.conn.ghost_name ≡ tx.old.conn.ghost_name }
     ensures written { Makes (state S.Store tx.old.conn.now) (state S.Store tx.new.conn.now)
-        (TakesSpans T.home T.key T.Fits T.rows_of spans.now records.now.items) result }
+        (OfEach (KnowsTaken T.key spans.now records.now.items)
+        (TakesSpans T.home T.key T.Fits T.rows_of spans.now)) result }
     ensures survives { Survives (state S.Store tx.old.conn.now) (state S.Store tx.new.conn.now) (λ _. ⊥) }
 {
     for span in spans {
@@ -291,7 +293,7 @@ fn take_spans<S: Alter, T: Stored>(
     Ok(())
 }
 
-/// Makes the edit in the table of these records.
+/// Makes the edit in the table; `records` has the records that are there and that it takes away.
 pub(crate) fn write_edits<S: Alter, T: Stored>(
     tx: &mut Transaction<'_, S>,
     edits: &Edits<T>,
@@ -299,7 +301,8 @@ pub(crate) fn write_edits<S: Alter, T: Stored>(
 ) -> Result<(), Error>
     ensures same_reference { tx.new.conn.ghost_name ≡ tx.old.conn.ghost_name }
     ensures written { Makes (state S.Store tx.old.conn.now) (state S.Store tx.new.conn.now)
-        (EditsTable T.home T.key T.Fits T.rows_of edits.now records.now.items) result }
+        (OfEach (KnowsTaken T.key edits.now.away records.now.items)
+        (EditsTable T.home T.key T.Fits T.rows_of edits.now)) result }
     ensures survives { Survives (state S.Store tx.old.conn.now) (state S.Store tx.new.conn.now) (λ _. ⊥) }
 {
     take_spans(tx, edits.spans(), records)?;

@@ -2,7 +2,8 @@ ghost use Rattle.std.specs.Prelude.{◌≡◌, ◌∷◌, [], IsTrue, OnOk, OnEr
 ghost use Rattle.std.specs.Option.{unwrap_or};
 ghost use Rattle.sqlite.specs.Held.{state};
 ghost use Rattle.sqlite.specs.State.{HasCleanDisk, Survives};
-ghost use Rattle.pt_desk_rules.specs.State.{applied};
+ghost use Rattle.pt_desk_rules.specs.State.{State, applied};
+ghost use Rattle.pt_tables_writing.specs.Agreeing.{AgreesFor, OfEach};
 ghost use Rattle.pt_tables_writing.specs.Committing.{IsMade, LeadsTo};
 ghost use Rattle.pt_tables_writing.specs.Groups.{Leads, with_people, with_area, with_trips};
 ghost use Rattle.pt_tables_writing.specs.Groups.{WritesRiders, WritesVehicles, WritesFleet, WritesTrips};
@@ -29,9 +30,8 @@ fn write_riders<S: Alter>(
     mirror: &ListKeeper,
 ) -> Result<(), Error>
     ensures same_reference { tx.new.conn.ghost_name ≡ tx.old.conn.ghost_name }
-    ensures written { let content = mirror.now.content in
-        Makes (state S.Store tx.old.conn.now) (state S.Store tx.new.conn.now)
-        (WritesRiders change.now content) result }
+    ensures written { Makes (state S.Store tx.old.conn.now) (state S.Store tx.new.conn.now)
+        (OfEach (AgreesFor change.now mirror.now.content) (WritesRiders change.now)) result }
     ensures survives { Survives (state S.Store tx.old.conn.now) (state S.Store tx.new.conn.now) (λ _. ⊥) }
 {
     let riders = mirror.riders_table();
@@ -39,16 +39,18 @@ fn write_riders<S: Alter>(
     write_marks(tx, &change.riders, riders)
 }
 
-/// Writes what the change makes of callers, what is kept for them, riders and entries; `mirror` has what is there.
+/// Writes what the change makes of callers, what is kept for them, riders and entries.
+///
+/// `mirror` has those that are there and that it takes away.
 fn write_people<S: Alter>(
     tx: &mut Transaction<'_, S>,
     change: &Change,
     mirror: &ListKeeper,
 ) -> Result<(), Error>
     ensures same_reference { tx.new.conn.ghost_name ≡ tx.old.conn.ghost_name }
-    ensures written { let content = mirror.now.content in
-        Makes (state S.Store tx.old.conn.now) (state S.Store tx.new.conn.now)
-        (Leads change.now content content (with_people change.now content)) result }
+    ensures written { Makes (state S.Store tx.old.conn.now) (state S.Store tx.new.conn.now)
+        (OfEach (AgreesFor change.now mirror.now.content) (λ content.
+        Leads change.now content content (with_people change.now content))) result }
     ensures survives { Survives (state S.Store tx.old.conn.now) (state S.Store tx.new.conn.now) (λ _. ⊥) }
 {
     write_edits(tx, &change.callers, mirror.callers_table())?;
@@ -64,9 +66,8 @@ fn write_vehicles<S: Alter>(
     mirror: &ListKeeper,
 ) -> Result<(), Error>
     ensures same_reference { tx.new.conn.ghost_name ≡ tx.old.conn.ghost_name }
-    ensures written { let content = mirror.now.content in
-        Makes (state S.Store tx.old.conn.now) (state S.Store tx.new.conn.now)
-        (WritesVehicles change.now content) result }
+    ensures written { Makes (state S.Store tx.old.conn.now) (state S.Store tx.new.conn.now)
+        (OfEach (AgreesFor change.now mirror.now.content) (WritesVehicles change.now)) result }
     ensures survives { Survives (state S.Store tx.old.conn.now) (state S.Store tx.new.conn.now) (λ _. ⊥) }
 {
     write_edits(tx, &change.vehicles, mirror.vehicles_table())?;
@@ -81,9 +82,8 @@ fn write_fleet<S: Alter>(
     mirror: &ListKeeper,
 ) -> Result<(), Error>
     ensures same_reference { tx.new.conn.ghost_name ≡ tx.old.conn.ghost_name }
-    ensures written { let content = mirror.now.content in
-        Makes (state S.Store tx.old.conn.now) (state S.Store tx.new.conn.now)
-        (WritesFleet change.now content) result }
+    ensures written { Makes (state S.Store tx.old.conn.now) (state S.Store tx.new.conn.now)
+        (OfEach (AgreesFor change.now mirror.now.content) (WritesFleet change.now)) result }
     ensures survives { Survives (state S.Store tx.old.conn.now) (state S.Store tx.new.conn.now) (λ _. ⊥) }
 {
     unmark_spans(tx, change.vehicles.spans(), mirror.vehicles_table())?;
@@ -97,9 +97,10 @@ fn write_area<S: Alter>(
     mirror: &ListKeeper,
 ) -> Result<(), Error>
     ensures same_reference { tx.new.conn.ghost_name ≡ tx.old.conn.ghost_name }
-    ensures written { let content = mirror.now.content in let before = with_people change.now content in
-        Makes (state S.Store tx.old.conn.now) (state S.Store tx.new.conn.now)
-        (Leads change.now content before (with_area change.now before)) result }
+    ensures written { Makes (state S.Store tx.old.conn.now) (state S.Store tx.new.conn.now)
+        (OfEach (AgreesFor change.now mirror.now.content) (λ content.
+        let before = with_people change.now content in
+        Leads change.now content before (with_area change.now before))) result }
     ensures survives { Survives (state S.Store tx.old.conn.now) (state S.Store tx.new.conn.now) (λ _. ⊥) }
 {
     write_edits(tx, &change.places, mirror.places_table())?;
@@ -135,11 +136,11 @@ fn write_settings<S: Alter>(
     mirror: &ListKeeper,
 ) -> Result<(), Error>
     ensures same_reference { tx.new.conn.ghost_name ≡ tx.old.conn.ghost_name }
-    ensures written { let content = mirror.now.content in
-        Makes (state S.Store tx.old.conn.now) (state S.Store tx.new.conn.now)
-        (λ old new. (p : _) (n : _) → Rewrites desk_table (desk_row p n ∷ [])
+    ensures written { Makes (state S.Store tx.old.conn.now) (state S.Store tx.new.conn.now)
+        (OfEach (AgreesFor change.now mirror.now.content) (λ content old new. (p : _) (n : _) →
+        Rewrites desk_table (desk_row p n ∷ [])
         (desk_row (unwrap_or change.now.policy content.policy) (unwrap_or change.now.last_trip content.last_trip) ∷ [])
-        old new) result }
+        old new)) result }
     ensures open { HasCleanDisk (state S.Store tx.new.conn.now) → IsTrue (state S.Store tx.old.conn.now).in_transaction
         → OnOk result (IsTrue (state S.Store tx.old.conn.now).is_open) }
     ensures survives { Survives (state S.Store tx.old.conn.now) (state S.Store tx.new.conn.now) (λ _. ⊥) }
@@ -155,9 +156,8 @@ fn write_booked<S: Alter>(
     mirror: &ListKeeper,
 ) -> Result<(), Error>
     ensures same_reference { tx.new.conn.ghost_name ≡ tx.old.conn.ghost_name }
-    ensures written { let content = mirror.now.content in
-        Makes (state S.Store tx.old.conn.now) (state S.Store tx.new.conn.now)
-        (WritesTrips change.now content) result }
+    ensures written { Makes (state S.Store tx.old.conn.now) (state S.Store tx.new.conn.now)
+        (OfEach (AgreesFor change.now mirror.now.content) (WritesTrips change.now)) result }
     ensures survives { Survives (state S.Store tx.old.conn.now) (state S.Store tx.new.conn.now) (λ _. ⊥) }
 {
     let trips = mirror.trips_table();
@@ -172,10 +172,10 @@ fn write_trips<S: Alter>(
     mirror: &ListKeeper,
 ) -> Result<(), Error>
     ensures same_reference { tx.new.conn.ghost_name ≡ tx.old.conn.ghost_name }
-    ensures written { let content = mirror.now.content in
+    ensures written { Makes (state S.Store tx.old.conn.now) (state S.Store tx.new.conn.now)
+        (OfEach (AgreesFor change.now mirror.now.content) (λ content.
         let before = with_area change.now (with_people change.now content) in
-        Makes (state S.Store tx.old.conn.now) (state S.Store tx.new.conn.now)
-        (Leads change.now content before (with_trips change.now before)) result }
+        Leads change.now content before (with_trips change.now before))) result }
     ensures open { HasCleanDisk (state S.Store tx.new.conn.now) → IsTrue (state S.Store tx.old.conn.now).in_transaction
         → OnOk result (IsTrue (state S.Store tx.old.conn.now).is_open) }
     ensures survives { Survives (state S.Store tx.old.conn.now) (state S.Store tx.new.conn.now) (λ _. ⊥) }
@@ -192,9 +192,9 @@ fn write_tables<S: Alter>(
     mirror: &ListKeeper,
 ) -> Result<(), Error>
     ensures same_reference { tx.new.conn.ghost_name ≡ tx.old.conn.ghost_name }
-    ensures written { let content = mirror.now.content in
-        Makes (state S.Store tx.old.conn.now) (state S.Store tx.new.conn.now)
-        (Leads change.now content content (applied change.now content)) result }
+    ensures written { Makes (state S.Store tx.old.conn.now) (state S.Store tx.new.conn.now)
+        (OfEach (AgreesFor change.now mirror.now.content) (λ content.
+        Leads change.now content content (applied change.now content))) result }
     ensures open { HasCleanDisk (state S.Store tx.new.conn.now) → IsTrue (state S.Store tx.old.conn.now).in_transaction
         → OnOk result (IsTrue (state S.Store tx.old.conn.now).is_open) }
     ensures survives { Survives (state S.Store tx.old.conn.now) (state S.Store tx.new.conn.now) (λ _. ⊥) }
@@ -204,23 +204,24 @@ fn write_tables<S: Alter>(
     write_trips(tx, change, mirror)
 }
 
-/// Makes the change in the tables in one transaction; `mirror` has the records that are there.
+/// Makes the change in the tables in one transaction. Of the records that are there `mirror` has those that the change
+/// takes away, and a plan that it replaces only as it is there.
 pub fn write_change<S: Alter>(
     conn: &mut Connection<S>,
     change: &Change,
     mirror: &ListKeeper,
 ) -> Result<(), Error>
     requires settled { conn.old.in_transaction ≡ false }
-    requires told { IsWellFormed mirror.now.content }
     requires puts { PutsWellFormed change.now }
     ensures settled { conn.new.in_transaction ≡ false }
-    ensures made { HasCleanDisk (state S.Store conn.new)
-        → OnOk result (IsMade mirror.now.content (applied change.now mirror.now.content)
+    ensures made { (content : State) → IsWellFormed content → AgreesFor change.now mirror.now.content content
+        → HasCleanDisk (state S.Store conn.new) → OnOk result (IsMade content (applied change.now content)
         (state S.Store conn.old) (state S.Store conn.new)) }
     ensures undone { HasCleanDisk (state S.Store conn.new)
         → OnErr result (IsUndone (state S.Store conn.old) (state S.Store conn.new)) }
-    ensures survives { Survives (state S.Store conn.old) (state S.Store conn.new)
-        (LeadsTo mirror.now.content (applied change.now mirror.now.content) (state S.Store conn.old)) }
+    ensures survives { (content : State) → IsWellFormed content → AgreesFor change.now mirror.now.content content
+        → Survives (state S.Store conn.old) (state S.Store conn.new)
+        (LeadsTo content (applied change.now content) (state S.Store conn.old)) }
 {
     let mut tx = conn.transaction();
     write_tables(&mut tx, change, mirror)?;

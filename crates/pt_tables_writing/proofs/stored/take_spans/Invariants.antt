@@ -2,6 +2,7 @@ use Rattle.std.proofs.Common.{◌≡◌, Ok, take}
 use Rattle.sqlite.specs.Held.{state}
 use Rattle.sqlite.specs.State.{Survives}
 use Rattle.pt_tables_rows.specs.Tables.{Makes}
+use Rattle.pt_tables_writing.specs.Agreeing.{KnowsTaken, OfEach}
 use Rattle.pt_tables_writing.specs.Stored.{TakesSpans}
 use Rattle.pt_tables_writing.proofs.stored.take_spans.Given as goal
 
@@ -12,5 +13,6 @@ invariant-loop-span g l =
     record {
       same : l.tx.conn.ghost_name ≡ l.initial.tx.conn.ghost_name;
       survives : Survives old now (λ _. ⊥);
-      written : Makes {X = Unit {0}} old now (TakesSpans g.T.Stored.home g.T.Keyed.key g.T.Stored.Fits g.T.Stored.rows_of (take l.span-index l.spans) l.records.items) (Ok tt);
+      written : Makes {X = Unit {0}} old now (OfEach (KnowsTaken g.T.Keyed.key l.spans l.records.items)
+          (TakesSpans g.T.Stored.home g.T.Keyed.key g.T.Stored.Fits g.T.Stored.rows_of (take l.span-index l.spans))) (Ok tt);
     }

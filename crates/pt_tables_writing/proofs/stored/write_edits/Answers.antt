@@ -1,4 +1,6 @@
+use Rattle.std.proofs.Common.{sym, subst}
 use Rattle.sqlite.specs.Held.{state}
+use Rattle.pt_tables_writing.specs.Agreeing.{KnowsTaken, OfEach}
 use Rattle.pt_tables_writing.specs.Stored.{PutsAll, TakesSpans, EditsTable}
 use Rattle.pt_tables_writing.proofs.TurnLemmas.{did_then}
 use Rattle.pt_tables_writing.proofs.StoredLemmas.{edits_made}
@@ -17,7 +19,9 @@ returns-clause-written g c =
     let xs = c.args.records.now.items in
     let spans = c.spans.result.now in
     let puts = c.puts.result.now in
-    did_then {X = Unit {0}} {Y = Unit {0}} old mid new (TakesSpans t key Fits rows spans xs) (PutsAll t key Fits rows puts)
-    (EditsTable t key Fits rows edit xs) c.in_ok-take_spans.field-0 c.put_each.result
-    (λ has first next. edits_made t key Fits rows edit spans puts xs c.spans.ensures.value c.puts.ensures.value old.now mid.now new.now first next)
+    did_then {X = Unit {0}} {Y = Unit {0}} old mid new (OfEach (KnowsTaken key spans xs) (TakesSpans t key Fits rows spans)) (PutsAll t key Fits rows puts)
+    (OfEach (KnowsTaken key edit.away xs) (EditsTable t key Fits rows edit)) c.in_ok-take_spans.field-0 c.put_each.result
+    (λ has first next there agrees.
+    edits_made t key Fits rows edit spans puts there c.spans.ensures.value c.puts.ensures.value old.now mid.now new.now
+    (first there (subst (λ ss. KnowsTaken key ss xs there) (sym c.spans.ensures.value) agrees)) next)
     c.put_each.ensures.survives c.in_ok-take_spans.ensures.written c.put_each.ensures.written

@@ -1,29 +1,28 @@
-use Rattle.std.proofs.Common.{◌∷◌, [], Ok, subst}
+use Rattle.std.proofs.Common.{Ok, subst}
 use Rattle.sqlite.specs.Held.{state}
-use Rattle.pt_desk_rules.specs.State.{place_key, route_key, travel_key}
 use Rattle.pt_tables_rows.specs.Tables.{Makes}
+use Rattle.pt_tables_writing.specs.Agreeing.{AgreesFor, OfEach}
 use Rattle.pt_tables_writing.specs.Groups.{Leads, WritesFleet, with_people, with_area}
-use Rattle.pt_tables_rows.specs.Rows.{place_row, route_row, travel_rows}
-use Rattle.pt_tables_rows.specs.Schema.{places_table, fixed_table, travel_table}
-use Rattle.pt_tables_writing.specs.Stored.{EditsTable}
+use Rattle.pt_tables_writing.proofs.KnownLemmas.{Known-places, Known-routes, Known-travel, area_known}
 use Rattle.pt_tables_writing.proofs.TurnLemmas.{did_four}
-use Rattle.pt_tables_writing.proofs.GroupLemmas.{Edits-places, Edits-routes, Edits-travel, area_leads}
 use Rattle.pt_tables_writing.proofs.writes.write_area.Goals as goal
 
 pub returns-clause-written : goal.returns-clause-written
 returns-clause-written g c =
     let change = c.args.change.now in
-    let content = c.args.mirror.now.content in
+    let known = c.args.mirror.now.content in
     let s1 = state g.S.Store c.args.tx.now.conn.now in
     let s2 = state g.S.Store c.write_edits.new.tx.conn.now in
     let s3 = state g.S.Store c.write_edits-2.new.tx.conn.now in
     let s4 = state g.S.Store c.write_fleet.new.tx.conn.now in
     let s5 = state g.S.Store c.write_edits-3.new.tx.conn.now in
-    let one = subst (λ xs. Makes {X = Unit {0}} s1 s2 (EditsTable places_table place_key (λ _. Unit {0}) (λ x. place_row x ∷ []) change.places xs) (Ok c.in_ok-write_edits.field-0)) c.places_table.ensures.value c.in_ok-write_edits.ensures.written in
-    let two = subst (λ xs. Makes {X = Unit {0}} s2 s3 (EditsTable fixed_table route_key (λ _. Unit {0}) (λ x. route_row x ∷ []) change.routes xs) (Ok c.in_ok-write_edits-2.field-0)) c.routes_table.ensures.value c.in_ok-write_edits-2.ensures.written in
+    let one = subst (λ xs. Makes {X = Unit {0}} s1 s2 (Known-places change xs) (Ok c.in_ok-write_edits.field-0)) c.places_table.ensures.value c.in_ok-write_edits.ensures.written in
+    let two = subst (λ xs. Makes {X = Unit {0}} s2 s3 (Known-routes change xs) (Ok c.in_ok-write_edits-2.field-0)) c.routes_table.ensures.value c.in_ok-write_edits-2.ensures.written in
     let three = c.in_ok-write_fleet.ensures.written in
-    let four = subst (λ xs. Makes {X = Unit {0}} s4 s5 (EditsTable travel_table travel_key (λ _. Unit {0}) travel_rows change.travel xs) c.write_edits-3.result) c.travel_table.ensures.value c.write_edits-3.ensures.written in
-    did_four {X = Unit {0}} {Y = Unit {0}} {Z = Unit {0}} {W = Unit {0}} s1 s2 s3 s4 s5 (Edits-places change content) (Edits-routes change content) (WritesFleet change content) (Edits-travel change content)
-    (Leads change content (with_people change content) (with_area change (with_people change content))) c.in_ok-write_edits.field-0 c.in_ok-write_edits-2.field-0 c.in_ok-write_fleet.field-0 c.write_edits-3.result
-    (area_leads change content s1.now s2.now s3.now s4.now s5.now)
+    let four = subst (λ xs. Makes {X = Unit {0}} s4 s5 (Known-travel change xs) c.write_edits-3.result) c.travel_table.ensures.value c.write_edits-3.ensures.written in
+    did_four {X = Unit {0}} {Y = Unit {0}} {Z = Unit {0}} {W = Unit {0}} s1 s2 s3 s4 s5 (Known-places change known.places) (Known-routes change known.routes)
+    (OfEach (AgreesFor change known) (WritesFleet change)) (Known-travel change known.travel)
+    (OfEach (AgreesFor change known) (λ content. Leads change content (with_people change content) (with_area change (with_people change content))))
+    c.in_ok-write_edits.field-0 c.in_ok-write_edits-2.field-0 c.in_ok-write_fleet.field-0 c.write_edits-3.result
+    (area_known change known s1.now s2.now s3.now s4.now s5.now)
     c.in_ok-write_edits-2.ensures.survives c.in_ok-write_fleet.ensures.survives c.write_edits-3.ensures.survives one two three four

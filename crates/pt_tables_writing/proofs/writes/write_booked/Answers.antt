@@ -1,23 +1,22 @@
-use Rattle.std.proofs.Common.{◌∷◌, [], Ok, subst}
+use Rattle.std.proofs.Common.{Ok, subst}
 use Rattle.sqlite.specs.Held.{state}
-use Rattle.pt_desk_rules.specs.State.{trip_key}
 use Rattle.pt_tables_rows.specs.Tables.{Makes}
+use Rattle.pt_tables_writing.specs.Agreeing.{AgreesFor, OfEach}
 use Rattle.pt_tables_writing.specs.Groups.{WritesTrips}
-use Rattle.pt_tables_rows.specs.Rows.{trip_row, trip_chair_rows}
-use Rattle.pt_tables_rows.specs.Schema.{trips_table, trip_chairs_table}
-use Rattle.pt_tables_writing.specs.Stored.{EditsTable}
+use Rattle.pt_tables_writing.proofs.KnownLemmas.{Known-trips, Marked-trips}
 use Rattle.pt_tables_writing.proofs.TurnLemmas.{did_then}
-use Rattle.pt_tables_writing.proofs.GroupLemmas.{Edits-trips, Marks-trips}
 use Rattle.pt_tables_writing.proofs.writes.write_booked.Goals as goal
 
 pub returns-clause-written : goal.returns-clause-written
 returns-clause-written g c =
     let change = c.args.change.now in
-    let content = c.args.mirror.now.content in
+    let known = c.args.mirror.now.content in
     let s1 = state g.S.Store c.args.tx.now.conn.now in
     let s2 = state g.S.Store c.write_edits.new.tx.conn.now in
     let s3 = state g.S.Store c.write_marks.new.tx.conn.now in
-    let one = subst (λ xs. Makes {X = Unit {0}} s1 s2 (EditsTable trips_table trip_key (λ _. Unit {0}) (λ x. trip_row x ∷ []) change.trips xs) (Ok c.in_ok-write_edits.field-0)) c.trips_table-trips.ensures.value c.in_ok-write_edits.ensures.written in
-    let two = subst (λ xs. Makes {X = Unit {0}} s2 s3 (EditsTable trip_chairs_table trip_key (λ _. Unit {0}) trip_chair_rows change.trips xs) c.write_marks.result) c.trips_table-trips.ensures.value c.write_marks.ensures.written in
-    did_then {X = Unit {0}} {Y = Unit {0}} s1 s2 s3 (Edits-trips change content) (Marks-trips change content) (WritesTrips change content) c.in_ok-write_edits.field-0 c.write_marks.result
-    (λ has first next. (s2.now, first, next)) c.write_marks.ensures.survives one two
+    let one = subst (λ xs. Makes {X = Unit {0}} s1 s2 (Known-trips change xs) (Ok c.in_ok-write_edits.field-0)) c.trips_table-trips.ensures.value c.in_ok-write_edits.ensures.written in
+    let two = subst (λ xs. Makes {X = Unit {0}} s2 s3 (Marked-trips change xs) c.write_marks.result) c.trips_table-trips.ensures.value c.write_marks.ensures.written in
+    did_then {X = Unit {0}} {Y = Unit {0}} s1 s2 s3 (Known-trips change known.trips) (Marked-trips change known.trips) (OfEach (AgreesFor change known) (WritesTrips change))
+    c.in_ok-write_edits.field-0 c.write_marks.result
+    (λ has first next there agrees. (s2.now, first there.trips agrees.trips, λ kept. next kept there.trips agrees.trips))
+    c.write_marks.ensures.survives one two

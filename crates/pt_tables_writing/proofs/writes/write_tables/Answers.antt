@@ -1,5 +1,6 @@
 use Rattle.sqlite.specs.Held.{state}
 use Rattle.pt_desk_rules.specs.State.{applied}
+use Rattle.pt_tables_writing.specs.Agreeing.{AgreesFor, OfEach}
 use Rattle.pt_tables_writing.specs.Groups.{Leads, with_people, with_area, with_trips}
 use Rattle.pt_tables_writing.proofs.TurnLemmas.{did_three, open_then, stayed, stayed_then}
 use Rattle.pt_tables_writing.proofs.writes.write_tables.Goals as goal
@@ -7,32 +8,33 @@ use Rattle.pt_tables_writing.proofs.writes.write_tables.Goals as goal
 pub returns-clause-written : goal.returns-clause-written
 returns-clause-written g c =
     let change = c.args.change.now in
-    let content = c.args.mirror.now.content in
-    let people = with_people change content in
-    let area = with_area change people in
+    let known = c.args.mirror.now.content in
     let s1 = state g.S.Store c.args.tx.now.conn.now in
     let s2 = state g.S.Store c.write_people.new.tx.conn.now in
     let s3 = state g.S.Store c.write_area.new.tx.conn.now in
     let s4 = state g.S.Store c.write_trips.new.tx.conn.now in
-    did_three {X = Unit {0}} {Y = Unit {0}} {Z = Unit {0}} s1 s2 s3 s4 (Leads change content content people) (Leads change content people area)
-    (Leads change content area (with_trips change area)) (Leads change content content (applied change content))
+    did_three {X = Unit {0}} {Y = Unit {0}} {Z = Unit {0}} s1 s2 s3 s4
+    (OfEach (AgreesFor change known) (λ content. Leads change content content (with_people change content)))
+    (OfEach (AgreesFor change known) (λ content. Leads change content (with_people change content) (with_area change (with_people change content))))
+    (OfEach (AgreesFor change known) (λ content. Leads change content (with_area change (with_people change content)) (with_trips change (with_area change (with_people change content)))))
+    (OfEach (AgreesFor change known) (λ content. Leads change content content (applied change content)))
     c.in_ok-write_people.field-0 c.in_ok-write_area.field-0 c.write_trips.result
-    (λ one two three told puts stands.
-    let first = one stands.schema told puts stands in
-    let second = two first.schema told puts first in
-    three second.schema told puts second)
+    (λ one two three there agrees told puts stands.
+    let first = one stands.schema there agrees told puts stands in
+    let second = two first.schema there agrees told puts first in
+    three second.schema there agrees told puts second)
     c.in_ok-write_area.ensures.survives c.write_trips.ensures.survives c.in_ok-write_people.ensures.written c.in_ok-write_area.ensures.written c.write_trips.ensures.written
 
 pub returns-clause-open : goal.returns-clause-open
 returns-clause-open g c clean inside =
     let change = c.args.change.now in
-    let content = c.args.mirror.now.content in
-    let people = with_people change content in
+    let known = c.args.mirror.now.content in
     let s1 = state g.S.Store c.args.tx.now.conn.now in
     let s2 = state g.S.Store c.write_people.new.tx.conn.now in
     let s3 = state g.S.Store c.write_area.new.tx.conn.now in
     let s4 = state g.S.Store c.write_trips.new.tx.conn.now in
-    let one = stayed {X = Unit {0}} s1 s2 (Leads change content content people) c.in_ok-write_people.field-0 c.in_ok-write_people.ensures.written in
-    let two = stayed {X = Unit {0}} s2 s3 (Leads change content people (with_area change people)) c.in_ok-write_area.field-0 c.in_ok-write_area.ensures.written in
+    let one = stayed {X = Unit {0}} s1 s2 (OfEach (AgreesFor change known) (λ content. Leads change content content (with_people change content))) c.in_ok-write_people.field-0 c.in_ok-write_people.ensures.written in
+    let two = stayed {X = Unit {0}} s2 s3 (OfEach (AgreesFor change known) (λ content. Leads change content (with_people change content) (with_area change (with_people change content))))
+    c.in_ok-write_area.field-0 c.in_ok-write_area.ensures.written in
     open_then s1 s3 s4 c.write_trips.result c.write_trips.ensures.survives (stayed_then s1 s2 s3 c.in_ok-write_area.ensures.survives one two)
     c.write_trips.ensures.open clean inside
