@@ -115,7 +115,7 @@ pub(crate) fn migrate_file(rt: &HostRuntime, file: &str) -> Result<Outcome, Faul
 }
 
 /// The desk in the database of a file.
-fn opened(rt: &HostRuntime, file: &str) -> Result<FileKeeper, Fault>
+fn adopt_file(rt: &HostRuntime, file: &str) -> Result<FileKeeper, Fault>
     ensures sound { IfOk result (λ keeper. IsSound keeper.mirror.content) }
 {
     if let Err(error) = fs::open(rt, file) {
@@ -136,7 +136,7 @@ pub(crate) fn serve_file(
     count: u32,
 ) -> Result<Outcome, Fault> {
     moment_at(rt, zone)?;
-    let mut keeper = opened(rt, file)?;
+    let mut keeper = adopt_file(rt, file)?;
     let mut port = Port::open(rt, port, count)?;
     serve(rt, rt.alloc(), &mut keeper, zone, &mut port)?;
     Ok(Outcome::Done)
@@ -151,7 +151,7 @@ pub(crate) fn print_read(
     read: Read,
 ) -> Result<Outcome, Fault> {
     let now = moment_at(rt, zone)?;
-    let mut keeper = opened(rt, file)?;
+    let mut keeper = adopt_file(rt, file)?;
     ask(
         rt.alloc(),
         &mut keeper,
@@ -192,7 +192,7 @@ pub(crate) fn put_times(
 ) -> Result<Outcome, Fault> {
     let now = moment_at(rt, zone)?;
     let text = read_file(rt, csv)?;
-    let mut keeper = opened(rt, file)?;
+    let mut keeper = adopt_file(rt, file)?;
     let rows = times_for(rt.alloc(), &mut keeper, text.as_slice())?;
     let (key, number) = caller;
     let request = Request::Write(Write::Travel { day, rows });
@@ -217,7 +217,7 @@ pub(crate) fn print_refusal(
     wish: &Wish,
 ) -> Result<Outcome, Fault> {
     let now = moment_at(rt, zone)?;
-    let mut keeper = opened(rt, file)?;
+    let mut keeper = adopt_file(rt, file)?;
     let Ok(mut out) = BufWriter::new(rt.alloc(), rt.stdout()) else {
         return Err(Fault::of(MEMORY));
     };
@@ -244,7 +244,7 @@ pub(crate) fn print_verdict(
 ) -> Result<Outcome, Fault> {
     let now = moment_at(rt, zone)?;
     let text = read_file(rt, log)?;
-    let mut keeper = opened(rt, file)?;
+    let mut keeper = adopt_file(rt, file)?;
     let log = read_log(rt.alloc(), text.as_slice())?;
     audit_refusal(
         rt.alloc(),
