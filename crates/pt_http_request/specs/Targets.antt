@@ -25,26 +25,26 @@ abbrev pub with_route : Result Scan InsertError → Path → RowsOf (RouteOf Pat
 with_route (Ok scanned) value rows = placed (scanned.pattern, route_from scanned value) rows
 with_route (Err error) value rows = rows
 
+-- the rows with each of these routes put in, the first of them first
+abbrev pub with_routes : List (List ℕ × Path) → RowsOf (RouteOf Path) → RowsOf (RouteOf Path)
+with_routes [] rows = rows
+with_routes (route ∷ later) rows = with_routes later (with_route (parse_route route.0) route.1 rows)
+
+-- the paths of the desk, each with the route that it is
+abbrev pub desk_paths : List (List ℕ × Path)
+desk_paths =
+    (codes "/callers", path.Callers) ∷ (codes "/policy", path.Policy) ∷ (codes "/places", path.Places)
+    ∷ (codes "/routes", path.Routes) ∷ (codes "/riders", path.Riders) ∷ (codes "/vehicles", path.Vehicles)
+    ∷ (codes "/riders/{rider}/entries", path.Entries) ∷ (codes "/riders/{rider}/standing/{day}", path.Standing)
+    ∷ (codes "/riders/{rider}/trips", path.RiderTrips) ∷ (codes "/trips", path.Trips)
+    ∷ (codes "/trips/{trip}/change", path.Change) ∷ (codes "/trips/{trip}/cancel", path.Cancel)
+    ∷ (codes "/trips/{trip}/outcome", path.Outcome) ∷ (codes "/riders/{rider}/letters/{entry}", path.Letter)
+    ∷ (codes "/vehicles/{vehicle}/manifest/{day}", path.Manifest) ∷ (codes "/days/{day}/sheet", path.DaySheet)
+    ∷ (codes "/days/{day}/trips.csv", path.Export) ∷ []
+
 -- the routes of the desk
 abbrev pub desk_routes : RowsOf (RouteOf Path)
-desk_routes =
-    with_route (parse_route (codes "/days/{day}/trips.csv")) path.Export
-    (with_route (parse_route (codes "/days/{day}/sheet")) path.DaySheet
-    (with_route (parse_route (codes "/vehicles/{vehicle}/manifest/{day}")) path.Manifest
-    (with_route (parse_route (codes "/riders/{rider}/letters/{entry}")) path.Letter
-    (with_route (parse_route (codes "/trips/{trip}/outcome")) path.Outcome
-    (with_route (parse_route (codes "/trips/{trip}/cancel")) path.Cancel
-    (with_route (parse_route (codes "/trips/{trip}/change")) path.Change
-    (with_route (parse_route (codes "/trips")) path.Trips
-    (with_route (parse_route (codes "/riders/{rider}/trips")) path.RiderTrips
-    (with_route (parse_route (codes "/riders/{rider}/standing/{day}")) path.Standing
-    (with_route (parse_route (codes "/riders/{rider}/entries")) path.Entries
-    (with_route (parse_route (codes "/vehicles")) path.Vehicles
-    (with_route (parse_route (codes "/riders")) path.Riders
-    (with_route (parse_route (codes "/routes")) path.Routes
-    (with_route (parse_route (codes "/places")) path.Places
-    (with_route (parse_route (codes "/policy")) path.Policy
-    (with_route (parse_route (codes "/callers")) path.Callers []))))))))))))))))
+desk_routes = with_routes desk_paths []
 
 -- the parts of a path that the parameters of its route took, in order
 abbrev pub parts_of : RouteOf Path → List ℕ → List (List ℕ)

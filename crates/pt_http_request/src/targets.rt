@@ -1,6 +1,6 @@
-ghost use Rattle.std.specs.Prelude.{◌≡◌, map, slice_get, IsUtf8, IfOk};
+ghost use Rattle.std.specs.Prelude.{◌≡◌, [], map, slice_get, IsUtf8, IfOk};
 ghost use Rattle.std.specs.Option.{option_copied};
-ghost use Rattle.pt_http_request.specs.Targets.{desk_routes, AreTexts, target_from, target_in, path_of};
+ghost use Rattle.pt_http_request.specs.Targets.{desk_routes, with_routes, AreTexts, target_from, target_in, path_of};
 
 use crate::numbers::{id_from, position_from};
 use matchit::{InsertError, ParamsIter, Router};
@@ -67,29 +67,43 @@ pub enum WriteTarget {
     Outcome(TripId),
 }
 
-/// A router over the paths of the desk.
-pub fn desk_router(alloc: Global) -> Result<Router<Path>, InsertError>
-    ensures { IfOk result (λ router. router ≡ desk_routes) }
+/// The paths of the desk, each with the route that it is. A new one stands last.
+const PATHS: [(&str, Path); 17] = [
+    ("/callers", Path::Callers),
+    ("/policy", Path::Policy),
+    ("/places", Path::Places),
+    ("/routes", Path::Routes),
+    ("/riders", Path::Riders),
+    ("/vehicles", Path::Vehicles),
+    ("/riders/{rider}/entries", Path::Entries),
+    ("/riders/{rider}/standing/{day}", Path::Standing),
+    ("/riders/{rider}/trips", Path::RiderTrips),
+    ("/trips", Path::Trips),
+    ("/trips/{trip}/change", Path::Change),
+    ("/trips/{trip}/cancel", Path::Cancel),
+    ("/trips/{trip}/outcome", Path::Outcome),
+    ("/riders/{rider}/letters/{entry}", Path::Letter),
+    ("/vehicles/{vehicle}/manifest/{day}", Path::Manifest),
+    ("/days/{day}/sheet", Path::DaySheet),
+    ("/days/{day}/trips.csv", Path::Export),
+];
+
+/// A router over these paths, in their order.
+fn router_over(alloc: Global, paths: &[(&str, Path)]) -> Result<Router<Path>, InsertError>
+    ensures routes { IfOk result (λ router. router ≡ with_routes (map (λ p. (p.0.now, p.1)) paths.now) []) }
 {
     let mut router = Router::new(alloc);
-    router.insert("/callers", Path::Callers)?;
-    router.insert("/policy", Path::Policy)?;
-    router.insert("/places", Path::Places)?;
-    router.insert("/routes", Path::Routes)?;
-    router.insert("/riders", Path::Riders)?;
-    router.insert("/vehicles", Path::Vehicles)?;
-    router.insert("/riders/{rider}/entries", Path::Entries)?;
-    router.insert("/riders/{rider}/standing/{day}", Path::Standing)?;
-    router.insert("/riders/{rider}/trips", Path::RiderTrips)?;
-    router.insert("/trips", Path::Trips)?;
-    router.insert("/trips/{trip}/change", Path::Change)?;
-    router.insert("/trips/{trip}/cancel", Path::Cancel)?;
-    router.insert("/trips/{trip}/outcome", Path::Outcome)?;
-    router.insert("/riders/{rider}/letters/{entry}", Path::Letter)?;
-    router.insert("/vehicles/{vehicle}/manifest/{day}", Path::Manifest)?;
-    router.insert("/days/{day}/sheet", Path::DaySheet)?;
-    router.insert("/days/{day}/trips.csv", Path::Export)?;
+    for &(text, path) in paths {
+        router.insert(text, path)?;
+    }
     Ok(router)
+}
+
+/// A router over the paths of the desk.
+pub fn desk_router(alloc: Global) -> Result<Router<Path>, InsertError>
+    ensures routes { IfOk result (λ router. router ≡ desk_routes) }
+{
+    router_over(alloc, &PATHS)
 }
 
 /// The first two parts of a path that parameters took.
