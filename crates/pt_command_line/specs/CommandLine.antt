@@ -67,8 +67,12 @@ program_words = on_top (λ top. record top {
 })
     (new_app (codes "desk"))
 
+-- a program with more commands, in order
+abbrev pub with_commands : App → List App → App
+with_commands program commands = fold (λ desk command. with_subcommand desk command.top) program commands
+
 -- desk and its commands
 abbrev pub desk_words : App
-desk_words = fold (λ desk command. with_subcommand desk command.top) program_words
-    (rehearse_words ∷ init_words ∷ serve_words ∷ travel_words ∷ manifest_words ∷ trips_words ∷ explain_words
-    ∷ audit_words ∷ migrate_words ∷ [])
+desk_words = with_commands program_words
+    (rehearse_words ∷ init_words ∷ migrate_words ∷ serve_words ∷ travel_words ∷ manifest_words ∷ trips_words
+    ∷ explain_words ∷ audit_words ∷ [])

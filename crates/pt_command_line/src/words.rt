@@ -2,10 +2,8 @@ ghost use Rattle.std.specs.Prelude.{◌≡◌, ◌≢◌, ◌⊎◌, Err, IfErr,
 ghost use Rattle.clap.specs.Words.{FailsBy, HasMatchesOf, app_of, fault_of, with_rule, with_subcommand};
 ghost use Rattle.clap.specs.declared.error.kind.ErrorKind.TheVariants.{OutOfMemory};
 ghost use Rattle.clap.specs.declared.builder.command.Command.TheViews.{out-Command as fields_of};
-ghost use Rattle.pt_command_line.specs.CommandLine.{audit_words, command, desk_words, explain_words, init_words};
-ghost use Rattle.pt_command_line.specs.CommandLine.{manifest_words, migrate_words, place, program_words};
-ghost use Rattle.pt_command_line.specs.CommandLine.{rehearse_words, serve_words, travel_words, trips_words};
-ghost use Rattle.pt_command_line.specs.CommandLine.{with_places};
+ghost use Rattle.pt_command_line.specs.CommandLine.{audit_words, command, desk_words, place, program_words};
+ghost use Rattle.pt_command_line.specs.CommandLine.{with_commands, with_places};
 ghost use Rattle.pt_command_line.specs.Codes.{wrong_words};
 ghost use Rattle.pt_command_line.specs.Line.{IsLine, IsSameLine, SpellsLine};
 ghost use Rattle.pt_command_line.specs.declared.asked.Line.{Line};
@@ -130,6 +128,21 @@ const QUESTION_PLACES: [Place; 11] = [
     FILE, ZONE, KEY, RIDER, DAY, WISH, FROM, TO, BY, ATTENDANT, COMPANIONS,
 ];
 
+/// A command: its name, what the help says of it, and the places for its words.
+type Words<'a> = (&'a str, &'a str, &'a [Place<'a>]);
+
+/// The commands in the order of the help, but for `audit`, which comes last and asks for a log too.
+const COMMANDS: [Words; 8] = [
+    ("rehearse", REHEARSE, &[ADMIN_KEY]),
+    ("init", INIT, &[NEW_FILE, ADMIN_KEY]),
+    ("migrate", MIGRATE, &[FILE]),
+    ("serve", SERVE, &[FILE, ZONE, PORT, COUNT]),
+    ("travel", TRAVEL, &[FILE, ZONE, KEY, NUMBER, FIRST_DAY, CSV]),
+    ("manifest", MANIFEST, &[FILE, ZONE, KEY, VEHICLE, DAY]),
+    ("trips", TRIPS, &[FILE, ZONE, KEY, DAY]),
+    ("explain", EXPLAIN, &QUESTION_PLACES),
+];
+
 /// The command with one more place for a word, which may not be left out.
 fn with_place<'a>(
     alloc: Global,
@@ -175,80 +188,6 @@ fn command_of<'a>(
     with_places(alloc, Command::new(alloc, name).about(about), places)
 }
 
-/// The command `rehearse`.
-fn rehearse_command<'a>(alloc: Global) -> Result<Command<'a>, AllocError>
-    ensures app { IfOk result (λ command. app_of command ≡ rehearse_words) }
-    ensures local { IfOk result (λ command. (fields_of command).has_globals ≡ false) }
-{
-    command_of(alloc, "rehearse", REHEARSE, &[ADMIN_KEY])
-}
-
-/// The command `init`.
-fn init_command<'a>(alloc: Global) -> Result<Command<'a>, AllocError>
-    ensures app { IfOk result (λ command. app_of command ≡ init_words) }
-    ensures local { IfOk result (λ command. (fields_of command).has_globals ≡ false) }
-{
-    command_of(alloc, "init", INIT, &[NEW_FILE, ADMIN_KEY])
-}
-
-/// The command `migrate`.
-fn migrate_command<'a>(alloc: Global) -> Result<Command<'a>, AllocError>
-    ensures app { IfOk result (λ command. app_of command ≡ migrate_words) }
-    ensures local { IfOk result (λ command. (fields_of command).has_globals ≡ false) }
-{
-    command_of(alloc, "migrate", MIGRATE, &[FILE])
-}
-
-/// The command `serve`.
-fn serve_command<'a>(alloc: Global) -> Result<Command<'a>, AllocError>
-    ensures app { IfOk result (λ command. app_of command ≡ serve_words) }
-    ensures local { IfOk result (λ command. (fields_of command).has_globals ≡ false) }
-{
-    command_of(alloc, "serve", SERVE, &[FILE, ZONE, PORT, COUNT])
-}
-
-/// The command `travel`.
-fn travel_command<'a>(alloc: Global) -> Result<Command<'a>, AllocError>
-    ensures app { IfOk result (λ command. app_of command ≡ travel_words) }
-    ensures local { IfOk result (λ command. (fields_of command).has_globals ≡ false) }
-{
-    command_of(
-        alloc,
-        "travel",
-        TRAVEL,
-        &[FILE, ZONE, KEY, NUMBER, FIRST_DAY, CSV],
-    )
-}
-
-/// The command `manifest`.
-fn manifest_command<'a>(alloc: Global) -> Result<Command<'a>, AllocError>
-    ensures app { IfOk result (λ command. app_of command ≡ manifest_words) }
-    ensures local { IfOk result (λ command. (fields_of command).has_globals ≡ false) }
-{
-    command_of(
-        alloc,
-        "manifest",
-        MANIFEST,
-        &[FILE, ZONE, KEY, VEHICLE, DAY],
-    )
-}
-
-/// The command `trips`.
-fn trips_command<'a>(alloc: Global) -> Result<Command<'a>, AllocError>
-    ensures app { IfOk result (λ command. app_of command ≡ trips_words) }
-    ensures local { IfOk result (λ command. (fields_of command).has_globals ≡ false) }
-{
-    command_of(alloc, "trips", TRIPS, &[FILE, ZONE, KEY, DAY])
-}
-
-/// The command `explain`.
-fn explain_command<'a>(alloc: Global) -> Result<Command<'a>, AllocError>
-    ensures app { IfOk result (λ command. app_of command ≡ explain_words) }
-    ensures local { IfOk result (λ command. (fields_of command).has_globals ≡ false) }
-{
-    command_of(alloc, "explain", EXPLAIN, &QUESTION_PLACES)
-}
-
 /// The command `audit`.
 fn audit_command<'a>(alloc: Global) -> Result<Command<'a>, AllocError>
     ensures app { IfOk result (λ command. app_of command ≡ audit_words) }
@@ -278,19 +217,27 @@ fn with_command<'a>(program: Command<'a>, command: Command<'a>) -> Result<Comman
     program.subcommand(command)
 }
 
+/// The program's words with more commands, in order.
+fn with_commands<'a>(
+    alloc: Global,
+    mut program: Command<'a>,
+    commands: &[Words<'a>],
+) -> Result<Command<'a>, AllocError>
+    ensures app { IfOk result (λ more.
+        app_of more ≡ with_commands (app_of program.entry) (map (λ w. command w.0.now (map (λ place. place.0.now) w.2.now)) commands.now)) }
+{
+    for &(name, about, places) in commands {
+        program = with_command(program, command_of(alloc, name, about, places)?)?;
+    }
+    Ok(program)
+}
+
 /// The words that the program takes.
 fn desk_command<'a>(alloc: Global) -> Result<Command<'a>, AllocError>
-    ensures { IfOk result (λ command. app_of command ≡ desk_words) }
+    ensures app { IfOk result (λ command. app_of command ≡ desk_words) }
 {
-    let desk = with_command(program_command(alloc), rehearse_command(alloc)?)?;
-    let desk = with_command(desk, init_command(alloc)?)?;
-    let desk = with_command(desk, serve_command(alloc)?)?;
-    let desk = with_command(desk, travel_command(alloc)?)?;
-    let desk = with_command(desk, manifest_command(alloc)?)?;
-    let desk = with_command(desk, trips_command(alloc)?)?;
-    let desk = with_command(desk, explain_command(alloc)?)?;
-    let desk = with_command(desk, audit_command(alloc)?)?;
-    with_command(desk, migrate_command(alloc)?)
+    let desk = with_commands(alloc, program_command(alloc), &COMMANDS)?;
+    with_command(desk, audit_command(alloc)?)
 }
 
 /// What stands at the places of the command that the words name, the program's own name first.
