@@ -1,5 +1,5 @@
 -- What a list keeper has.
-use Rattle.std.specs.Prelude.{ℕ, ◌≤◌, length}
+use Rattle.std.specs.Prelude.{ℕ, ◌≤◌, [], length}
 use Rattle.pt_desk_rules.specs.State.{State}
 use Rattle.pt_desk_rules.specs.declared.change.Change.{Change}
 
@@ -34,6 +34,24 @@ no_room = record {
 pub record Listed : Type 0 where
   pub content : State
   pub room : Room
+
+-- What a keeper over a database knows in memory: the settings, and the planned routes. What is kept of writes, riders,
+-- entries and trips it asks its tables for.
+abbrev pub known_of : State → State
+known_of s = record s { kept = []; riders = []; entries = []; trips = [] }
+
+-- a state with the known tables of another
+abbrev pub with_known : State → State → State
+with_known other s = record other { kept = s.kept; riders = s.riders; entries = s.entries; trips = s.trips }
+
+-- there is room for what the change puts into the known tables
+pub record HasKnownRoom (change : Change) (room : Room) : Type 0 where
+  pub callers : length change.callers.puts ≤ room.callers
+  pub places : length change.places.puts ≤ room.places
+  pub routes : length change.routes.puts ≤ room.routes
+  pub vehicles : length change.vehicles.puts ≤ room.vehicles
+  pub travel : length change.travel.puts ≤ room.travel
+  pub planned : length change.planned.puts ≤ room.planned
 
 -- there is room for all that the change puts
 pub record HasRoom (change : Change) (room : Room) : Type 0 where

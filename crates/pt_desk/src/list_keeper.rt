@@ -1,11 +1,9 @@
-ghost use Rattle.std.specs.Prelude.{◌≡◌, ◌∷◌, ◌++◌, ◌<◌, [], length, find, bytes_eq};
-ghost use Rattle.std.specs.Prelude.{IfOk, OnOk};
-ghost use Rattle.pt_desk_rules.specs.Limits.{most_entries};
-ghost use Rattle.pt_desk_rules.specs.Planned.{is_booked_from, is_standing_from, planned_on, trips_of, trips_on};
-ghost use Rattle.pt_records.specs.Records.{IsInOrder};
-ghost use Rattle.pt_scheduling.specs.Plan.{plan_key};
-ghost use Rattle.pt_desk_rules.specs.State.{span_of, entries_of, file_with, tables_before, trip_key};
+ghost use Rattle.std.specs.Prelude.{◌≡◌, IfOk, OnOk};
+ghost use Rattle.pt_desk_rules.specs.State.{span_of};
 
+use crate::answers::{
+    file_with, find_caller, is_booked_from, planned_on, table_count_before, trips_of, trips_on,
+};
 use crate::{Keeper, StoreFault};
 use pt_base::{
     CallerId, Day, Place, PlaceId, Policy, Rider, RiderId, RouteId, Trip, TripId, Vehicle,
@@ -17,7 +15,7 @@ use pt_desk_rules::{
     has_version, table_on,
 };
 use pt_records::{Edits, Key, Rows, Span, Table};
-use pt_rights::{CaseFile, Entered};
+use pt_rights::CaseFile;
 use std::alloc::{AllocError, Global};
 use std::marker::Model;
 
@@ -92,7 +90,7 @@ impl Model for ListKeeper {
 
 impl ListKeeper {
     ghost use Rattle.pt_desk.specs.LeastState.{IsLeastState};
-    ghost use Rattle.pt_desk.specs.Listed.{HasRoom};
+    ghost use Rattle.pt_desk.specs.Listed.{HasRoom, HasKnownRoom, known_of, with_known};
     ghost use Rattle.pt_desk.specs.Store.{IsSettled};
     ghost use Rattle.pt_desk_rules.specs.Sound.{IsSound};
     ghost use Rattle.pt_desk_rules.specs.State.{applied};
@@ -129,21 +127,30 @@ impl ListKeeper {
         })
     }
 
+    /// Makes room for what the change puts into the tables that a keeper over a database knows in memory. Want of memory
+    /// leaves the room in some tables, and no record changed.
+    pub fn reserve_known(&mut self, change: &Change) -> Result<(), AllocError>
+        ensures content { self.new.content ≡ self.old.content }
+        ensures room { OnOk result (HasKnownRoom change.now self.new.room) }
+    {
+        self.callers.reserve(&change.callers)?;
+        self.places.reserve(&change.places)?;
+        self.routes.reserve(&change.routes)?;
+        self.vehicles.reserve(&change.vehicles)?;
+        self.travel.reserve(&change.travel)?;
+        self.planned.reserve(&change.planned)
+    }
+
     /// Makes room for all that the change puts. Want of memory leaves the room in some tables, and no record changed.
     pub fn reserve(&mut self, change: &Change) -> Result<(), AllocError>
         ensures content { self.new.content ≡ self.old.content }
         ensures room { OnOk result (HasRoom change.now self.new.room) }
     {
-        self.callers.reserve(&change.callers)?;
+        self.reserve_known(change)?;
         self.kept.reserve(&change.kept)?;
-        self.places.reserve(&change.places)?;
-        self.routes.reserve(&change.routes)?;
         self.riders.reserve(&change.riders)?;
         self.entries.reserve(&change.entries)?;
-        self.vehicles.reserve(&change.vehicles)?;
-        self.travel.reserve(&change.travel)?;
-        self.trips.reserve(&change.trips)?;
-        self.planned.reserve(&change.planned)
+        self.trips.reserve(&change.trips)
     }
 
     /// Makes the change, where there is room for it, and takes no memory.
@@ -163,6 +170,41 @@ impl ListKeeper {
         self.trips.edit(change.trips);
         self.planned.edit(change.planned);
         self.last_trip = change.last_trip.or(self.last_trip);
+    }
+
+    /// Makes of the known tables what the change makes of them, where there is room for it, and takes no memory.
+    pub fn make_known(&mut self, change: Change)
+        requires { HasKnownRoom change self.old.room }
+        ensures content { self.new.content ≡ with_known (applied change self.old.content) self.old.content }
+    {
+        self.callers.edit(change.callers);
+        self.policy = change.policy.unwrap_or(self.policy);
+        self.places.edit(change.places);
+        self.routes.edit(change.routes);
+        self.vehicles.edit(change.vehicles);
+        self.travel.edit(change.travel);
+        self.planned.edit(change.planned);
+        self.last_trip = change.last_trip.or(self.last_trip);
+    }
+
+    /// The known tables alone. What is kept of writes, riders, entries and trips are let go.
+    pub fn into_known(self, alloc: Global) -> Self
+        ensures content { result.content ≡ known_of self.content }
+    {
+        ListKeeper {
+            callers: self.callers,
+            kept: Table::none(alloc),
+            policy: self.policy,
+            places: self.places,
+            routes: self.routes,
+            riders: Table::none(alloc),
+            entries: Table::none(alloc),
+            vehicles: self.vehicles,
+            travel: self.travel,
+            trips: Table::none(alloc),
+            planned: self.planned,
+            last_trip: self.last_trip,
+        }
     }
 
     /// The policy.
@@ -253,100 +295,6 @@ impl ListKeeper {
     }
 }
 
-/// The first caller whose key has this digest.
-fn find_caller(callers: &[Caller], digest: &Digest) -> Option<Caller>
-    ensures { result ≡ find (λ caller. bytes_eq caller.digest digest.now) callers.now }
-{
-    for caller in callers {
-        if caller.digest == *digest {
-            return Some(*caller);
-        }
-    }
-    None
-}
-
-/// How many travel tables hold from a day before this one.
-fn table_count_before(tables: &[TravelTable], day: Day) -> usize
-    ensures value { result ≡ length (tables_before day tables.now) }
-{
-    let mut count = 0;
-    for table in tables {
-        if table.from_day() < day {
-            count += 1;
-        }
-    }
-    count
-}
-
-/// Whether the trip stands on the day or later, and is the vehicle's where one is named.
-fn stands_from(trip: &Trip, vehicle: &Option<VehicleId>, day: Day) -> bool
-    ensures value { result ≡ is_standing_from vehicle.now day trip.now }
-{
-    let is_of = match vehicle {
-        Some(id) => trip.vehicle == *id,
-        None => true,
-    };
-    trip.status.stands() && day <= trip.wish.day && is_of
-}
-
-/// Whether some trip stands on the day or later.
-fn is_booked_from(trips: &[Trip], vehicle: &Option<VehicleId>, day: Day) -> bool
-    ensures value { result ≡ is_booked_from vehicle.now day trips.now }
-{
-    for trip in trips {
-        if stands_from(trip, vehicle, day) {
-            return true;
-        }
-    }
-    false
-}
-
-/// The trips of a rider.
-fn trips_of(alloc: Global, trips: &[Trip], rider: RiderId) -> Result<Rows<Trip>, AllocError>
-    requires order { IsInOrder trip_key trips.now }
-    ensures value { IfOk result (λ found. found ≡ trips_of rider trips.now) }
-{
-    let mut found = Vec::new(alloc);
-    for trip in trips {
-        if trip.rider == rider {
-            found.push(*trip)?;
-        }
-    }
-    Ok(Rows::of(found))
-}
-
-/// The trips of a day.
-fn trips_on(alloc: Global, trips: &[Trip], day: Day) -> Result<Rows<Trip>, AllocError>
-    requires order { IsInOrder trip_key trips.now }
-    ensures value { IfOk result (λ found. found ≡ trips_on day trips.now) }
-{
-    let mut found = Vec::new(alloc);
-    for trip in trips {
-        if trip.wish.day == day {
-            found.push(*trip)?;
-        }
-    }
-    Ok(Rows::of(found))
-}
-
-/// The routes of a day.
-fn planned_on(
-    alloc: Global,
-    plans: &[PlannedRoute],
-    day: Day,
-) -> Result<Rows<PlannedRoute>, AllocError>
-    requires order { IsInOrder plan_key plans.now }
-    ensures value { IfOk result (λ found. found ≡ planned_on day plans.now) }
-{
-    let mut found = Vec::new(alloc);
-    for plan in plans {
-        if plan.day == day {
-            found.push(plan.copy(alloc)?)?;
-        }
-    }
-    Ok(Rows::of(found))
-}
-
 /// The keys of a rider's entries.
 fn span_of(rider: RiderId) -> Span
     ensures value { result ≡ span_of rider }
@@ -355,32 +303,6 @@ fn span_of(rider: RiderId) -> Span
         from: Key::pair(rider.number(), 0),
         to: Key::pair(rider.number(), u32::MAX),
     }
-}
-
-/// Adds a copy of the entry at the end of the file.
-fn push_copy(file: &mut CaseFile, new: &Entered) -> Result<(), AllocError>
-    requires { length file.old < most_entries }
-    ensures value { OnOk result (file.new ≡ file.old ++ new.now ∷ []) }
-{
-    let Entered { entry, day, author } = new.clone()?;
-    match file.push(entry, day, author) {
-        Ok(()) => Ok(()),
-        Err(_) => Err(AllocError),
-    }
-}
-
-/// The entries as a case file, so far as it has room.
-fn file_with(alloc: Global, entries: &[FiledEntry]) -> Result<CaseFile, AllocError>
-    ensures value { IfOk result (λ file. file ≡ file_with entries.now) }
-{
-    let mut file = CaseFile::new(alloc);
-    for filed in entries {
-        if file.is_full() {
-            return Ok(file);
-        }
-        push_copy(&mut file, &filed.entered)?;
-    }
-    Ok(file)
 }
 
 impl Keeper for ListKeeper {

@@ -5,9 +5,9 @@ use Rattle.pt_records.proofs.TableLemmas.{IsInOrder-filter}
 use Rattle.pt_records.specs.Records.{IsInOrder}
 use Rattle.pt_base.specs.declared.trip.Trip.{Trip}
 use Rattle.pt_scheduling.specs.Plan.{Plan, plan_key}
-use Rattle.pt_desk_rules.specs.Planned.{trips_on}
+use Rattle.pt_desk_rules.specs.Planned.{trips_of}
 use Rattle.pt_desk_rules.specs.State.{trip_key}
-use Rattle.pt_desk.proofs.list_keeper.trips_on.Goals as goal
+use Rattle.pt_desk.proofs.answers.trips_of.Goals as goal
 
 pub of-requires : goal.of-requires
 of-requires c =
@@ -15,6 +15,6 @@ of-requires c =
     record {
       order =
           subst (λ (xs : List Trip). IsInOrder trip_key xs)
-          (sym (sym (append-nil _) ∙ sym (ap (λ (rest : List Trip). c.loop-trip.found.items ++ trips_on c.args.day rest) (drop_all c.loop-trip.trip-index all (omega arith))) ∙ c.loop-trip.invariant))
-          (IsInOrder-filter trip_key (λ trip. trip.wish.day == c.args.day) all c.requires.order);
+          (sym (sym (append-nil _) ∙ sym (ap (λ (rest : List Trip). c.loop-trip.found.items ++ trips_of c.args.rider rest) (drop_all c.loop-trip.trip-index all (omega arith))) ∙ c.loop-trip.invariant))
+          (IsInOrder-filter trip_key (λ trip. trip.rider == c.args.rider) all c.requires.order);
     }

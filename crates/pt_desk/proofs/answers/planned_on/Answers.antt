@@ -7,7 +7,7 @@ use Rattle.pt_base.specs.declared.trip.Trip.{Trip}
 use Rattle.pt_scheduling.specs.Plan.{Plan, plan_key}
 use Rattle.pt_desk_rules.specs.Planned.{planned_on}
 use Rattle.pt_desk_rules.specs.State.{trip_key}
-use Rattle.pt_desk.proofs.list_keeper.planned_on.Goals as goal
+use Rattle.pt_desk.proofs.answers.planned_on.Goals as goal
 
 pub of-requires : goal.of-requires
 of-requires c =
