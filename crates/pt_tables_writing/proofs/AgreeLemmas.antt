@@ -1,11 +1,12 @@
 -- Lists that agree with what is there.
 use Rattle.std.proofs.Common.{◌≡◌, ◌<◌, ◌⊎◌, inl, inr, ℕ, zero, suc, List, [], ◌∷◌, length, get_or, Option, None, Some, refl, sym, subst, ◌∙◌, arith}
+use Rattle.pt_desk.specs.Listed.{known_of}
 use Rattle.pt_desk_rules.specs.State.{State, caller_key, kept_key, place_key, route_key, rider_key, entry_key, vehicle_key, travel_key, trip_key}
 use Rattle.pt_desk_rules.specs.declared.change.Change.{Change}
 use Rattle.pt_records.specs.Records.{Edit, within}
 use Rattle.pt_records.specs.declared.span.Span.{Span}
-use Rattle.pt_scheduling.specs.Plan.{Plan, plan_key}
-use Rattle.pt_tables_writing.specs.Agreeing.{AgreesFor, KnowsEdited, KnowsReplaced, KnowsTaken}
+use Rattle.pt_scheduling.specs.Plan.{plan_key}
+use Rattle.pt_tables_writing.specs.Agreeing.{AgreesFor, KnowsReplaced, KnowsTaken}
 
 -- ---- lists that have all
 
@@ -43,11 +44,10 @@ agrees_whole change content = record {
 taken_nothing : {A : Type 0} (key : A → ℕ) (spans : List Span) (known there : List A) → spans ≡ [] → KnowsTaken key spans known there
 taken_nothing key spans known there none = subst (λ ss. KnowsTaken key ss known there) (sym none) tt
 
--- the lists that have the settings and, of the plans, what the change asks for, agree where it takes away nothing else
-pub agrees_part : (change : Change) (there : State) (planned : List Plan) → change.kept.away ≡ [] → change.riders.away ≡ []
-    → change.entries.away ≡ [] → change.trips.away ≡ [] → KnowsEdited plan_key change.planned planned there.planned
-    → AgreesFor change (record there { kept = []; riders = []; entries = []; trips = []; planned = planned }) there
-agrees_part change there planned kept riders entries trips knows = record {
+-- the lists that have what a keeper knows in memory agree, where the change takes away nothing else
+pub agrees_known : (change : Change) (there : State) → change.kept.away ≡ [] → change.riders.away ≡ [] → change.entries.away ≡ []
+    → change.trips.away ≡ [] → AgreesFor change (known_of there) there
+agrees_known change there kept riders entries trips = record {
   callers = taken_whole caller_key change.callers.away there.callers;
   kept = taken_nothing kept_key change.kept.away [] there.kept kept;
   policy = refl;
@@ -58,7 +58,10 @@ agrees_part change there planned kept riders entries trips knows = record {
   vehicles = taken_whole vehicle_key change.vehicles.away there.vehicles;
   travel = taken_whole travel_key change.travel.away there.travel;
   trips = taken_nothing trip_key change.trips.away [] there.trips trips;
-  planned = knows;
+  planned = record {
+    taken = taken_whole plan_key change.planned.away there.planned;
+    replaced = replaced_whole plan_key change.planned.puts there.planned;
+  };
   last_trip = refl;
 }
 
