@@ -1,5 +1,5 @@
 -- A desk that has records of no table, and one that has those of a table more.
-use Rattle.std.proofs.Common.{◌≡◌, ◌++◌, ◌<◌, ℕ, List, [], ◌∷◌, Option, Some, append_assoc, refl, sym, ap, subst, ◌∙◌, arith}
+use Rattle.std.proofs.Common.{◌≡◌, ◌++◌, ◌<◌, ℕ, List, [], ◌∷◌, Option, Some, append_assoc, refl, sym, ap, subst, ◌∙◌}
 use Rattle.pt_base.specs.declared.policy.Policy.{Policy}
 use Rattle.pt_desk.specs.LeastState.{IsLeastState}
 use Rattle.pt_desk_rules.specs.Deciding.{no_change}

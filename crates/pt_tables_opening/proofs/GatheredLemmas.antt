@@ -6,7 +6,8 @@ use Rattle.sqlite.specs.Order.{Row}
 use Rattle.sqlite.specs.Table.{Table}
 use Rattle.sqlite.specs.Tree.{Trees}
 use Rattle.pt_records.specs.Records.{Each, Edit}
-use Rattle.pt_tables_opening.specs.Gathered.{AreInOrder, BeginsOnce, IsGatheredFrom, IsGatheredTable, GathersNothing, IsUngathered}
+use Rattle.pt_tables_asking.specs.Asking.{AreInOrder}
+use Rattle.pt_tables_opening.specs.Gathered.{BeginsOnce, IsGatheredFrom, IsGatheredTable, GathersNothing, IsUngathered}
 use Rattle.pt_tables_rows.specs.Tables.{AreRows}
 
 pub each_at : {A : Type 0} (P : A → Type 0) (xs : List A) (k : ℕ) (d : A) → Each P xs → k < length xs → P (get_or xs k d)

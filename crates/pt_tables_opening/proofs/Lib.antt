@@ -5,14 +5,13 @@ pub mod FirstLemmas
 pub mod GatheredLemmas
 pub mod NoneLemmas
 pub mod OrderedLemmas
-pub mod OrderedQueries
 pub mod PlanReading
 pub mod RestLemmas
 pub mod RowOrders
 pub mod RowTexts
 pub mod SameTables
 pub mod SchemaLemmas
+pub mod ShownRows
 pub mod StepLemmas
 pub mod TableReads
 pub mod ToldLemmas
-pub mod WholeQueries

@@ -19,7 +19,8 @@ use Rattle.pt_tables_rows.specs.Schema.{stops_table, travel_table}
 use Rattle.pt_tables_rows.specs.Tables.{columns_of}
 use Rattle.pt_tables_opening.specs.Told.{AreRowsOfNone}
 use Rattle.pt_tables_opening.proofs.GatheredLemmas.{each_at, same_records}
-use Rattle.pt_tables_opening.proofs.OrderedLemmas.{IsNumbered, IsSpan, rows_told, triple_key}
+use Rattle.pt_tables_asking.proofs.OrderedLemmas.{IsNumbered, triple_key}
+use Rattle.pt_tables_opening.proofs.OrderedLemmas.{IsSpan, rows_told}
 use Rattle.pt_tables_opening.proofs.PlanReading.{plan-once, travel-once}
 use Rattle.pt_tables_rows.proofs.SameRowsGroups.{plan-told, table-told}
 use Rattle.pt_tables_rows.proofs.SameRowsLists.{steps-in_order}

@@ -7,13 +7,14 @@ use Rattle.sqlite.specs.Order.{Row}
 use Rattle.sqlite.specs.declared.error.Error.{Error}
 use Rattle.pt_desk_rules.specs.State.{caller_key, kept_key, place_key, route_key, rider_key, entry_key, vehicle_key, trip_key}
 use Rattle.pt_tables_reading.specs.Fitting.{FitsFiled, FitsRoute, FitsVehicle}
-use Rattle.pt_tables_opening.specs.Gathered.{AreInOrder}
+use Rattle.pt_tables_asking.specs.Asking.{AreInOrder}
 use Rattle.pt_tables_reading.specs.Reading.{FitsCaller, FitsKept, FitsPlace, FitsRider, FitsTrip}
 use Rattle.pt_tables_rows.specs.Rows.{row_if, rider_chair_rows, vehicle_chair_rows, trip_chair_rows, caller_row, kept_row, place_row, route_row, rider_row, entry_row, vehicle_row, trip_row}
 use Rattle.pt_tables_opening.specs.Beside.{AreBeside, KeepsBeside}
 use Rattle.pt_tables_opening.specs.Told.{KeepsOrder}
 use Rattle.pt_tables_opening.proofs.BesideLemmas.{beside_each, beside_in_order}
-use Rattle.pt_tables_opening.proofs.OrderedLemmas.{IsCounted, IsPaired, count_le, double_key, keeps_order, pair_le, same_order}
+use Rattle.pt_tables_asking.proofs.OrderedLemmas.{IsCounted, IsPaired, count_le, double_key, pair_le, same_order}
+use Rattle.pt_tables_opening.proofs.OrderedLemmas.{keeps_all_order}
 use Rattle.pt_tables_rows.proofs.SameRowsRecords.{number_in}
 
 -- the rows keep the order of these records, if they stand in the order of so many columns
@@ -22,11 +23,11 @@ Keeps columns key row_of Fits = (r : Result (Vec Row Global) Error) → IfOk r (
 
 module _ {A : Type 0} (key : A → ℕ) (row_of : A → Row) (Fits : A → Type 0) where
   by_one : ((x : A) → IsCounted (row_of x)) → ((x : A) → number_in 0 (row_of x) ≡ key x) → Keeps 1 key row_of Fits
-  by_one is keyed (Ok rows) order = keeps_order 1 (number_in 0) IsCounted count_le key row_of Fits (λ x fits. is x) keyed rows.items order
+  by_one is keyed (Ok rows) order = keeps_all_order 1 (number_in 0) IsCounted count_le key row_of Fits (λ x fits. is x) keyed rows.items order
   by_one is keyed (Err e) order = tt
 
   by_two : ((x : A) → Fits x → IsPaired (row_of x)) → ((x : A) → double_key (row_of x) ≡ key x) → Keeps 2 key row_of Fits
-  by_two is keyed (Ok rows) order = keeps_order 2 double_key IsPaired pair_le key row_of Fits is keyed rows.items order
+  by_two is keyed (Ok rows) order = keeps_all_order 2 double_key IsPaired pair_le key row_of Fits is keyed rows.items order
   by_two is keyed (Err e) order = tt
 
 pub callers_ordered : Keeps 1 caller_key caller_row FitsCaller

@@ -1,26 +1,20 @@
 -- Two contents that have the rows of the first tables have the same records there, but for wheelchairs and the places for them, of which
 -- the last three tell.
-use Rattle.std.proofs.Common.{◌≡◌, ℕ, ◌<◌, ◌≤◌, not, List, [], ◌∷◌, take, map, flat_map, Option, false, refl, sym, ap, subst, subst₂, ◌∙◌, arith}
+use Rattle.std.proofs.Common.{◌≡◌, ℕ, ◌<◌, not, List, [], ◌∷◌, take, map, false, refl, sym, ap, subst, subst₂, ◌∙◌, arith}
 use Rattle.std.specs.Prelude.{◌==◌, IsPermutation}
 use Rattle.std.proofs.lemmas.List.Sorted.{IsPermutation-refl, IsPermutation-sym, IsPermutation-trans}
 use Rattle.sqlite.specs.Order.{Row}
-use Rattle.sqlite.specs.Table.{Table}
 use Rattle.sqlite.specs.Tree.{Trees}
 use Rattle.pt_base.specs.declared.place.Place.{Place}
 use Rattle.pt_base.specs.declared.rider.Rider.{Rider}
 use Rattle.pt_base.specs.declared.trip.Trip.{Trip}
-use Rattle.pt_base.specs.declared.trip_status.TripStatus.{TripStatus}
 use Rattle.pt_base.specs.declared.vehicle.Vehicle.{Vehicle}
-use Rattle.pt_corridor.specs.Route.{Route}
 use Rattle.pt_desk_rules.specs.State.{State, caller_key, kept_key, place_key, route_key, rider_key, entry_key, vehicle_key, travel_key, trip_key}
 use Rattle.pt_desk_rules.specs.Travel.{DatedTable}
 use Rattle.pt_desk_rules.specs.declared.change.FiledEntry.{FiledEntry}
-use Rattle.pt_desk_rules.specs.declared.kept.Kept.{Kept}
 use Rattle.pt_records.specs.Keys.{pair_key}
 use Rattle.pt_records.specs.Records.{Each, IsInOrder}
 use Rattle.pt_requests.specs.declared.caller.Caller.{Caller}
-use Rattle.pt_rights.specs.declared.entry.Entry.{Entry}
-use Rattle.pt_rights.specs.declared.entry.Entry.TheVariants as entry
 use Rattle.pt_scheduling.specs.Plan.{Plan, plan_key}
 use Rattle.pt_soundness.specs.Tables.{all_tables, number_of, IsSoundIn}
 use Rattle.pt_soundness.specs.Unsound.{AreSoundCallers, AreSoundEntries, AreSoundKept, AreSoundLoads, AreSoundPlaces, AreSoundPlans, AreSoundRiders, AreSoundRoutes, AreSoundTables, AreSoundTrips, AreSoundVehicles}
@@ -33,10 +27,8 @@ use Rattle.pt_tables_opening.specs.Gathered.{FitsPlan, FitsTravel}
 use Rattle.pt_tables_opening.specs.Standing.{HasRowsIn, IsLaidIn, StandsIn, StandsTo}
 use Rattle.pt_tables_opening.specs.Steps.{HasRowsTo}
 use Rattle.pt_tables_reading.specs.Fitting.{FitsFiled, FitsRoute, FitsVehicle}
-use Rattle.pt_tables_reading.specs.Reading.{FitsCaller, FitsKept, FitsPlace, FitsRider, FitsTrip}
-use Rattle.pt_tables_rows.specs.Rows.{caller_row, kept_row, place_row, route_row, vehicle_row, rider_row, entry_row, trip_row, stop_rows, travel_rows, desk_row, vehicle_chair_rows, trip_chair_rows}
-use Rattle.pt_tables_rows.specs.Schema.{vehicles_table, riders_table, trips_table}
-use Rattle.pt_tables_rows.specs.Tables.{AreRows, columns_of}
+use Rattle.pt_tables_reading.specs.Reading.{FitsKept, FitsRider, FitsTrip}
+use Rattle.pt_tables_rows.specs.Rows.{caller_row, kept_row, place_row, route_row, vehicle_row, rider_row, entry_row, trip_row, stop_rows, travel_rows, vehicle_chair_rows, trip_chair_rows}
 use Rattle.pt_tables_rows.proofs.WellFormedLemmas.{grants_in_range}
 use Rattle.pt_tables_rows.proofs.SameRowsLists.{told_by_rows, told_by_row, told_by_any_row, told_beside, in_one_order, one_same}
 use Rattle.pt_tables_rows.proofs.SameRowsRecords.{number_in, known_in, known-value, so_keyed, last_trip-told, caller-told, kept-told, place-told, route-told, vehicle-told, entry-told, trip-told}

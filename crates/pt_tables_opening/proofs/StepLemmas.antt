@@ -1,5 +1,5 @@
 -- Reads of the tables one after the other, each judged before the next.
-use Rattle.std.proofs.Common.{◌≡◌, ◌+◌, ◌-◌, ◌<◌, ◌≤◌, ◌↔◌, ◌++◌, ◌⊎◌, inl, inr, ℕ, zero, suc, Option, None, Some, IsSome, IfSome, List, [], ◌∷◌, take, Result, Ok, Err, IfOk, IfErr, IsErr, IsErrAnd, refl, sym, ap, subst, subst₂, ◌∙◌, arith}
+use Rattle.std.proofs.Common.{◌≡◌, ◌-◌, ◌<◌, ◌≤◌, ◌↔◌, ◌++◌, ◌⊎◌, inl, inr, ℕ, zero, suc, Option, None, Some, IsSome, IfSome, List, [], ◌∷◌, take, Result, Ok, Err, IfOk, IfErr, IsErr, IsErrAnd, refl, sym, ap, subst, subst₂, arith}
 use Rattle.std.specs.Option.{unwrap_or}
 use Rattle.sqlite.specs.Effect.{Database}
 use Rattle.sqlite.specs.State.{State as Connected, HasCleanDisk, IsUnchanged}
@@ -12,12 +12,11 @@ use Rattle.pt_desk_rules.specs.State.{State, applied}
 use Rattle.pt_desk_rules.specs.declared.change.Change.{Change}
 use Rattle.pt_records.specs.Records.{Each}
 use Rattle.pt_records.proofs.OrderLemmas.{Each-weaker}
-use Rattle.pt_rights.specs.declared.entry.Entry.{Entry}
-use Rattle.pt_rights.specs.declared.entry.Entry.TheVariants as entry
-use Rattle.pt_soundness.specs.Tables.{all_tables, number_of, IsSoundBefore, IsSoundIn, IsSoundTo}
+use Rattle.pt_soundness.specs.Tables.{all_tables, number_of, IsSoundIn}
 use Rattle.pt_soundness.specs.declared.unsound_table.UnsoundTable.{UnsoundTable}
 use Rattle.pt_soundness.specs.declared.unsound_table.UnsoundTable.TheVariants as table
 use Rattle.pt_soundness.proofs.TableLemmas.{sound_in, sound_of}
+use Rattle.pt_tables_asking.specs.Content.{IsReadable}
 use Rattle.pt_tables_opening.specs.Faults.{IsRefusal, fault, store_refused, tables_refused, unsound}
 use Rattle.pt_tables_opening.specs.Opening.{Rests}
 use Rattle.pt_tables_opening.specs.Refused.{AreUnsound, KeepsRanges, SparesOtherVersion, TellsOf, TellsWhy}
@@ -37,7 +36,7 @@ use Rattle.pt_tables_opening.specs.Gathered.{FitsPlan, FitsTravel}
 use Rattle.pt_tables_rows.specs.Rows.{desk_row}
 use Rattle.pt_tables_rows.specs.Schema.{desk_schema, desk_table}
 use Rattle.pt_tables_rows.specs.Tables.{AreRows, HasRows}
-use Rattle.pt_tables_rows.specs.WellFormed.{GrantsInRange, HasReply, HasRisingRows, IsFiled, IsLaid, IsStoredPlan, IsVersion, IsWellFormed}
+use Rattle.pt_tables_rows.specs.WellFormed.{HasReply, HasRisingRows, IsFiled, IsLaid, IsStoredPlan, IsVersion, IsWellFormed}
 use Rattle.pt_tables_rows.proofs.WellFormedLemmas.{day-word}
 
 -- reads that answered, and then no more
@@ -439,7 +438,7 @@ all_rows s trees each = record {
 pub all_sound : (s : State) → IsReadTo 14 s → IsSound s
 all_sound s read = sound_of s read.sound
 
-pub all_well_formed : (s : State) → IsReadTo 14 s → IsWellFormed s
+all_well_formed : (s : State) → IsReadTo 14 s → IsWellFormed s
 all_well_formed s read =
     let callers : IsLaidIn s table.Callers = read.laid.1.0 in
     let kept : IsLaidIn s table.Kept = read.laid.1.1.0 in
@@ -468,4 +467,19 @@ all_well_formed s read =
       trips = trips.0;
       planned = planned.0;
       stops = Each-weaker FitsPlan IsStoredPlan (λ plan fits. (day-word plan.day fits.day, fits.some)) s.planned planned.1;
+    }
+
+-- each record that was read is read back
+pub all_readable : (s : State) → IsReadTo 14 s → IsReadable s
+all_readable s read =
+    let kept : IsLaidIn s table.Kept = read.laid.1.1.0 in
+    let riders : IsLaidIn s table.Riders = read.laid.1.1.1.1.1.1.0 in
+    let entries : IsLaidIn s table.Entries = read.laid.1.1.1.1.1.1.1.0 in
+    let trips : IsLaidIn s table.Trips = read.laid.1.1.1.1.1.1.1.1.0 in
+    record {
+      well_formed = all_well_formed s read;
+      kept = kept.1;
+      riders = riders.1;
+      entries = entries.1;
+      trips = trips.1;
     }

@@ -1,76 +1,17 @@
 -- Records that rows tell, one after the other, and the content that has them.
-use Rattle.std.proofs.Common.{◌≡◌, ◌+◌, ◌++◌, ◌<◌, zero, suc, ℕ, Bool, true, false, IsTrue, List, [], ◌∷◌, length, map, drop, get_or, drop-cons, add-one, append_assoc, append-nil, Option, None, Some, Result, Ok, Err, IfOk, IfErr, ◌⊎◌, inl, inr, refl, sym, ap, subst, ◌∙◌, arith}
-use Rattle.std.proofs.lemmas.List.{drop_all}
+use Rattle.std.proofs.Common.{◌≡◌, ◌+◌, ◌++◌, ◌<◌, suc, ℕ, List, [], ◌∷◌, length, map, drop, get_or, drop-cons, add-one, append_assoc, append-nil, Result, Ok, Err, IfOk, IfErr, ◌⊎◌, inl, inr, refl, sym, ap, subst, ◌∙◌}
 use Rattle.std.proofs.lemmas.List.Sorted.{IsPermutation-sym, IsPermutation-trans}
 use Rattle.sqlite.specs.Order.{Row}
 use Rattle.sqlite.specs.Table.{Table}
 use Rattle.sqlite.specs.Tree.{Trees}
 use Rattle.pt_records.specs.Records.{Each, Edit, IsInOrder, put, put_all}
-use Rattle.pt_records.proofs.OrderLemmas.{Each-weaker}
 use Rattle.pt_records.proofs.RecordLemmas.{put_past}
 use Rattle.pt_tables_rows.specs.Tables.{AreRows, columns_of}
-use Rattle.pt_tables_opening.specs.Told.{AreRowsOfNone, IsAfter, IsTableOf, IsToldBy, KeepsOrder, TellsNothing}
-
--- ---- rows
-
--- where no record has a row, no records have all rows
-pub no_records : {A : Type 0} (row_of : A → Row) (Fits : A → Type 0) (row : Row) → ((x : A) → Fits x → row_of x ≡ row → ⊥) → (rows : List Row) (i : ℕ)
-    → i < length rows → row ≡ get_or rows i row → (xs : List A) → Each Fits xs → map row_of xs ≡ rows → ⊥
-no_records {A} row_of Fits row none rows i low at xs each same = go xs i each (subst (λ l. i < length l) (sym same) low) (subst (λ l. row ≡ get_or l i row) (sym same) at)
-  where
-    go : (xs : List A) (i : ℕ) → Each Fits xs → i < length (map row_of xs) → row ≡ get_or (map row_of xs) i row → ⊥
-    go [] i each low at = absurd (omega arith)
-    go (x ∷ xs) zero each low at = none x each.0 (sym at)
-    go (x ∷ xs) (suc i) each low at = go xs i each.1 (omega arith) at
-
--- ---- keys that rise
-
--- the keys of these rise, and are above the last one
-abbrev pub RiseFrom : {A : Type 0} → (A → ℕ) → Option ℕ → List A → Type 0
-RiseFrom key None xs = IsInOrder key xs
-RiseFrom key (Some last) xs = Each (λ y. last < key y) xs × IsInOrder key xs
-
-first_after : {A : Type 0} (key : A → ℕ) (last : Option ℕ) (x : A) (xs : List A) → RiseFrom key last (x ∷ xs) → IsAfter last (key x)
-first_after key None x xs h = tt
-first_after key (Some last) x xs h = h.0.0
-
-rest_rises : {A : Type 0} (key : A → ℕ) (last : Option ℕ) (x : A) (xs : List A) → RiseFrom key last (x ∷ xs) → RiseFrom key (Some (key x)) xs
-rest_rises key None x xs h = h
-rest_rises key (Some last) x xs h = h.1
-
-all_rise : {A : Type 0} (key : A → ℕ) (last : Option ℕ) (x : A) (xs : List A) → IsAfter last (key x) → RiseFrom key (Some (key x)) xs → RiseFrom key last (x ∷ xs)
-all_rise key None x xs after h = h
-all_rise key (Some last) x xs after h = ((after, Each-weaker (λ y. key x < key y) (λ y. last < key y) (λ y above. omega arith) xs h.0), h)
+use Rattle.pt_tables_opening.specs.Told.{AreRowsOfNone, IsTableOf, IsToldBy, KeepsOrder, TellsNothing}
 
 pub next_from : {A : Type 0} (x : A) (xs : List A) (i : ℕ) → i < length xs → x ≡ get_or xs i x → drop i xs ≡ x ∷ drop (i + 1) xs
 next_from x xs i lt at =
     drop-cons xs i x lt ∙ ap (λ y. y ∷ drop (suc i) xs) (sym at) ∙ ap (λ n. x ∷ drop n xs) (sym (add-one i))
-
-module _ {A : Type 0} (key : A → ℕ) (last : Option ℕ) (x : A) (xs : List A) (i : ℕ) (lt : i < length xs) (at : x ≡ get_or xs i x) where
-  pub forth_next : (k : ℕ) → k ≡ key x → IsAfter last k → (RiseFrom key last (drop i xs) → IsInOrder key xs) → RiseFrom key (Some k) (drop (i + 1) xs) → IsInOrder key xs
-  forth_next k is after forth h =
-      forth (subst (RiseFrom key last) (sym (next_from x xs i lt at))
-      (all_rise key last x (drop (i + 1) xs) (subst (IsAfter last) is after) (subst (λ n. RiseFrom key (Some n) (drop (i + 1) xs)) is h)))
-
-  pub back_next : (k : ℕ) → k ≡ key x → (IsInOrder key xs → RiseFrom key last (drop i xs)) → IsInOrder key xs → RiseFrom key (Some k) (drop (i + 1) xs)
-  back_next k is back h =
-      subst (λ n. RiseFrom key (Some n) (drop (i + 1) xs)) (sym is)
-      (rest_rises key last x (drop (i + 1) xs) (subst (RiseFrom key last) (next_from x xs i lt at) (back h)))
-
-  pub rise_not : (b : Bool) → (IsAfter last (key x) → IsTrue b) → b ≡ false → (IsInOrder key xs → RiseFrom key last (drop i xs))
-      → (IsTrue false → IsInOrder key xs) × (IsInOrder key xs → IsTrue false)
-  rise_not b tells is back = (
-    λ no. absurd (cc),
-    λ order. let holds = tells (first_after key last x (drop (i + 1) xs) (subst (RiseFrom key last) (next_from x xs i lt at) (back order))) in absurd (cc),
-  )
-
-pub rise_all : {A : Type 0} (key : A → ℕ) (last : Option ℕ) (xs : List A) (i : ℕ) → length xs ≡ i → (RiseFrom key last (drop i xs) → IsInOrder key xs)
-    → (IsTrue true → IsInOrder key xs) × (IsInOrder key xs → IsTrue true)
-rise_all {A} key last xs i end forth = (λ is. forth (subst (RiseFrom key last) (sym (drop_all i xs (omega arith))) (none last)), λ order. refl)
-  where
-    none : (last : Option ℕ) → RiseFrom key last []
-    none None = tt
-    none (Some n) = (tt, tt)
 
 -- ---- a table of nothing but what was put
 

@@ -1,12 +1,8 @@
 -- What rows tell of records that have several rows each.
 use Rattle.std.specs.Prelude.{◌≡◌, ◌⊎◌, ℕ, ◌<◌, ◌≤◌, ◌^◌, List, [], ◌∷◌, length, flat_map, Option, None, Some}
-use Rattle.std.specs.Prelude.{IsSorted, replicate}
-use Rattle.sqlite.specs.Collation.TheVariants.{Binary}
 use Rattle.sqlite.specs.Order.{Row, column}
-use Rattle.sqlite.specs.Query.{key_cmp}
 use Rattle.sqlite.specs.Table.{Table}
 use Rattle.sqlite.specs.Tree.{Trees}
-use Rattle.sqlite_value.specs.Keys.{ascending}
 use Rattle.pt_base.specs.Day.{IsDay}
 use Rattle.pt_desk_rules.specs.Sound.{HasStops}
 use Rattle.pt_desk_rules.specs.Travel.{DatedTable}
@@ -16,6 +12,7 @@ use Rattle.pt_scheduling.specs.declared.planned.PlannedStop.{PlannedStop}
 use Rattle.pt_spelling.specs.Replies.{IsId}
 use Rattle.pt_travel.specs.Chain as travel
 use Rattle.pt_travel.specs.Table.{IsTable}
+use Rattle.pt_tables_asking.specs.Asking.{AreInOrder}
 use Rattle.pt_tables_rows.specs.Rows.{number_value}
 use Rattle.pt_tables_rows.specs.Tables.{AreRows}
 use Rattle.pt_tables_opening.specs.Told.{PutsInOrder}
@@ -24,10 +21,6 @@ use Rattle.pt_tables_opening.specs.Told.{PutsInOrder}
 abbrev pub BeginsOnce : (Row → Type 0) → List Row → Type 0
 BeginsOnce Begins [] = ⊥
 BeginsOnce Begins (first ∷ later) = Begins first × Each (λ row. Begins row → ⊥) later
-
--- the rows stand in the order of their first so many columns
-abbrev pub AreInOrder : ℕ → List Row → Type 0
-AreInOrder columns rows = IsSorted (key_cmp 0 (replicate columns (ascending Binary))) rows
 
 -- the records that have these rows, in their order, or none where no records that fit have them
 abbrev pub TellsGathered : {A : Type 0} → (A → List Row) → (A → Type 0) → List Row → Option (Edit A) → Type 0

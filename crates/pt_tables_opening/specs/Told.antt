@@ -1,5 +1,5 @@
 -- What rows tell of records.
-use Rattle.std.specs.Prelude.{◌≡◌, ◌≢◌, ◌⊎◌, ℕ, ◌<◌, List, [], ◌∷◌, map, Option, None, Some, IsPermutation}
+use Rattle.std.specs.Prelude.{◌≡◌, ◌≢◌, ◌⊎◌, ℕ, List, [], ◌∷◌, map, Option, None, Some, IsPermutation}
 use Rattle.sqlite.specs.Order.{Row, column}
 use Rattle.sqlite.specs.Table.{Table}
 use Rattle.sqlite.specs.Tree.{Trees}
@@ -15,11 +15,6 @@ use Rattle.pt_tables_rows.specs.Tables.{AreRows}
 abbrev pub TellsAll : {A : Type 0} → (A → Row) → (A → Type 0) → List Row → Option (Edit A) → Type 0
 TellsAll row_of Fits rows (Some edit) = (edit.away ≡ []) × (map row_of edit.puts ≡ rows) × Each Fits edit.puts
 TellsAll row_of Fits rows None = (xs : List _) → Each Fits xs → map row_of xs ≡ rows → ⊥
-
--- the key is above the last one, where there is one
-abbrev pub IsAfter : Option ℕ → ℕ → Type 0
-IsAfter None key = Unit {0}
-IsAfter (Some last) key = last < key
 
 -- nothing but records in the order of their keys
 abbrev pub PutsInOrder : {A : Type 0} → (A → ℕ) → Edit A → Type 0

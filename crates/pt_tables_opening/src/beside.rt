@@ -16,7 +16,7 @@ ghost use Rattle.pt_tables_rows.specs.Tables.{AreRows};
 
 use crate::OpenFault;
 use crate::open_fault::fault_of;
-use crate::records::OneRow;
+use crate::records::InTable;
 use crate::table_rows::{rider_chair_rows, trip_chair_rows, vehicle_chair_rows};
 use pt_base::{Rider, Trip, Vehicle};
 use pt_records::Edits;
@@ -26,7 +26,7 @@ use sqlite::{Alter, Connection, Error, Row};
 use std::alloc::{AllocError, Global};
 
 /// A record that may have a row in a second table too.
-pub(crate) trait Beside: OneRow {
+pub(crate) trait Beside: InTable {
     /// The second table.
     ghost second: { StoredTable };
 

@@ -11,7 +11,7 @@ mod changes;
 mod content;
 mod first_version;
 mod gathered;
-mod one_row;
+mod in_table;
 mod open_fault;
 mod plans;
 mod records;

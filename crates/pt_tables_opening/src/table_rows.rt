@@ -4,7 +4,7 @@ ghost use Rattle.sqlite.specs.Held.{state};
 ghost use Rattle.sqlite.specs.Listing.{understood};
 ghost use Rattle.sqlite.specs.Schema.{Schema};
 ghost use Rattle.sqlite.specs.State.{HasCleanDisk, Shown};
-ghost use Rattle.pt_tables_opening.specs.Gathered.{AreInOrder};
+ghost use Rattle.pt_tables_asking.specs.Asking.{AreInOrder};
 ghost use Rattle.pt_tables_opening.specs.Opening.{ReadsTables, Rests, RestsOn};
 ghost use Rattle.pt_tables_rows.specs.Schema.{desk_table, callers_table, kept_table, places_table};
 ghost use Rattle.pt_tables_rows.specs.Schema.{fixed_table, vehicles_table, riders_table, entries_table, trips_table};

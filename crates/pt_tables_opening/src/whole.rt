@@ -5,13 +5,13 @@ ghost use Rattle.pt_base.specs.Codes.{memory_refused};
 ghost use Rattle.pt_desk_rules.specs.Sound.{IsSound};
 ghost use Rattle.pt_desk_rules.specs.State.{applied};
 ghost use Rattle.pt_soundness.specs.Tables.{number_of, IsSoundBefore, IsSoundIn};
+ghost use Rattle.pt_tables_asking.specs.Content.{IsReadable};
 ghost use Rattle.pt_tables_opening.specs.Faults.{IsRefusal, fault, unsound};
 ghost use Rattle.pt_tables_opening.specs.Opening.{Rests, Stays};
 ghost use Rattle.pt_tables_opening.specs.Refused.{SparesOtherVersion, TellsOf};
 ghost use Rattle.pt_tables_opening.specs.Steps.{IsReadTo, OpensTable, OpensTo};
 ghost use Rattle.pt_tables_rows.specs.Schema.{desk_schema};
 ghost use Rattle.pt_tables_rows.specs.Tables.{HasRows};
-ghost use Rattle.pt_tables_rows.specs.WellFormed.{IsWellFormed};
 
 use crate::OpenFault;
 use crate::agency::agency_in;
@@ -108,7 +108,7 @@ pub fn content_in<S: Alter>(
 ) -> Result<ListKeeper, OpenFault>
     ensures schema { IfOk result (λ _. (state S.Store conn.old).now.schema ≡ desk_schema) }
     ensures sound { IfOk result (λ keeper. IsSound keeper.content) }
-    ensures well_formed { IfOk result (λ keeper. IsWellFormed keeper.content) }
+    ensures readable { IfOk result (λ keeper. IsReadable keeper.content) }
     ensures rows { HasCleanDisk (state S.Store conn.new)
         → IfOk result (λ keeper. HasRows keeper.content (state S.Store conn.old).now.trees) }
     ensures faults { IfErr result IsRefusal }

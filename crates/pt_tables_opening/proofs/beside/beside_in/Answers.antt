@@ -14,7 +14,7 @@ pub returns-clause-faults : goal.returns-clause-faults
 returns-clause-faults g c =
     let trees = (state g.S.Store c.args.conn.now).now.trees in
     let second = g.T.Beside.second in
-    refuses_beside g.T.Keyed.key g.T.OneRow.home second g.T.OneRow.row_of g.T.Beside.beside_of g.T.OneRow.Fits c.second_rows.ensures.beside
+    refuses_beside g.T.Keyed.key g.T.InTable.home second g.T.OneRow.row_of g.T.Beside.beside_of g.T.OneRow.Fits c.second_rows.ensures.beside
     trees c.args.records.now c.requires.order c.deref.result.now
     (HasCleanDisk (state g.S.Store c.second_rows.new.conn)) ((state g.S.Store c.args.conn.now).now.schema ≡ desk_schema)
     (λ clean has. subst (AreRows second trees) (sym c.deref.ensures.value) (c.in-Ok.ensures.rows clean has))

@@ -2,7 +2,6 @@ use Rattle.std.proofs.Common.{ap}
 use Rattle.sqlite.specs.Held.{state}
 use Rattle.pt_desk_rules.specs.declared.change.Change.{Change}
 use Rattle.pt_soundness.specs.declared.unsound_table.UnsoundTable.TheVariants as table
-use Rattle.pt_tables_opening.specs.Told.{AreRowsOfNone}
 use Rattle.pt_tables_opening.proofs.StepLemmas.{fails_so, puts_so}
 use Rattle.pt_tables_opening.proofs.TableReads.{places_none, places_read, places_shown, puts_places}
 use Rattle.pt_tables_opening.proofs.changes.places_change.Goals as goal

@@ -3,7 +3,7 @@ use Rattle.sqlite.specs.Held.{state}
 use Rattle.sqlite.specs.State.{HasCleanDisk}
 use Rattle.pt_base.specs.Codes.{memory_refused}
 use Rattle.pt_tables_opening.specs.Faults.{fault, store_refused, unsound}
-use Rattle.pt_tables_opening.specs.Gathered.{AreInOrder}
+use Rattle.pt_tables_asking.specs.Asking.{AreInOrder}
 use Rattle.pt_tables_opening.specs.Opening.{Rests}
 use Rattle.pt_tables_rows.specs.Schema.{desk_schema}
 use Rattle.pt_tables_rows.specs.Tables.{AreRows}

@@ -1,6 +1,6 @@
 use Rattle.std.proofs.Common.{subst, arith}
 use Rattle.pt_tables_reading.specs.Reading.{Reads}
-use Rattle.pt_tables_opening.proofs.ToldLemmas.{no_records}
+use Rattle.pt_tables_asking.proofs.RecordLemmas.{no_records}
 use Rattle.pt_tables_opening.proofs.records.records_of.Goals as goal
 
 pub returns-in-None : goal.returns-in-None

@@ -21,14 +21,14 @@ returns-clause-rests g c =
 pub returns-clause-told : goal.returns-clause-told
 returns-clause-told g c clean has =
     let trees = (state g.S.Store c.args.conn.now).now.trees in
-    let home = g.T.OneRow.home in
+    let home = g.T.InTable.home in
     are_of_table g.T.Keyed.key home g.T.OneRow.row_of g.T.OneRow.Fits trees c.deref.result.now
     (subst (AreRows home trees) (sym c.deref.ensures.value) (c.in-Ok.ensures.rows clean has)) c.told_table.result c.told_table.ensures.told
 
 pub returns-clause-faults : goal.returns-clause-faults
 returns-clause-faults g c =
     let trees = (state g.S.Store c.args.conn.now).now.trees in
-    let home = g.T.OneRow.home in
+    let home = g.T.InTable.home in
     refuses_table g.T.Keyed.key home g.T.OneRow.row_of g.T.OneRow.Fits trees c.deref.result.now
     (HasCleanDisk (state g.S.Store c.all_rows.new.conn)) ((state g.S.Store c.args.conn.now).now.schema ≡ desk_schema)
     (λ clean has. subst (AreRows home trees) (sym c.deref.ensures.value) (c.in-Ok.ensures.rows clean has))

@@ -2,21 +2,21 @@ use Rattle.sqlite.specs.Held.{state}
 use Rattle.pt_tables_rows.specs.Schema.{desk_schema, desk_table, first_schema}
 use Rattle.pt_tables_opening.specs.declared.table_rows.TheConstants.{DESK_ROWS}
 use Rattle.pt_tables_opening.proofs.RowTexts.{desk_rows_text, first_rows_text}
-use Rattle.pt_tables_opening.proofs.WholeQueries.{shows_if_ok, shows_if_ok_in}
+use Rattle.pt_tables_opening.proofs.ShownRows.{shows_all}
 use Rattle.pt_tables_opening.proofs.table_rows.desk_rows.Goals as goal
 
 pub returns-clause-rows : goal.returns-clause-rows
 returns-clause-rows g c clean has =
-    shows_if_ok desk_table DESK_ROWS.now desk_rows_text (state g.S.Store c.args.conn.now) (state g.S.Store c.rows_of_table.new.conn)
-    c.rows_of_table.result has (c.rows_of_table.ensures.shown clean)
+    shows_all desk_schema 1 desk_table DESK_ROWS.now desk_rows_text (state g.S.Store c.args.conn.now) (state g.S.Store c.rows_of_table.new.conn)
+    has c.rows_of_table.result (c.rows_of_table.ensures.shown clean)
 
 pub returns-clause-rests : goal.returns-clause-rests
 returns-clause-rests g c = c.rows_of_table.ensures.rests desk_schema desk_rows_text.plain
 
 pub returns-clause-first_rows : goal.returns-clause-first_rows
 returns-clause-first_rows g c clean has =
-    shows_if_ok_in first_schema desk_table DESK_ROWS.now first_rows_text (state g.S.Store c.args.conn.now) (state g.S.Store c.rows_of_table.new.conn)
-    c.rows_of_table.result has (c.rows_of_table.ensures.shown clean)
+    shows_all first_schema 1 desk_table DESK_ROWS.now first_rows_text (state g.S.Store c.args.conn.now) (state g.S.Store c.rows_of_table.new.conn)
+    has c.rows_of_table.result (c.rows_of_table.ensures.shown clean)
 
 pub returns-clause-first_rests : goal.returns-clause-first_rests
 returns-clause-first_rests g c = c.rows_of_table.ensures.rests first_schema first_rows_text.plain

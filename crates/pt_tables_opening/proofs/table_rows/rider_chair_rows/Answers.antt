@@ -1,20 +1,19 @@
 use Rattle.sqlite.specs.Held.{state}
 use Rattle.pt_tables_rows.specs.Schema.{desk_schema, rider_chairs_table}
 use Rattle.pt_tables_opening.specs.declared.table_rows.TheConstants.{RIDER_CHAIR_ROWS}
-use Rattle.pt_tables_opening.proofs.OrderedQueries.{shows_order}
-use Rattle.pt_tables_opening.proofs.RowTexts.{rider_chair_rows_order, rider_chair_rows_text}
-use Rattle.pt_tables_opening.proofs.WholeQueries.{shows_if_ok}
+use Rattle.pt_tables_opening.proofs.RowTexts.{rider_chair_rows_text}
+use Rattle.pt_tables_opening.proofs.ShownRows.{shows_all, shows_order}
 use Rattle.pt_tables_opening.proofs.table_rows.rider_chair_rows.Goals as goal
 
 pub returns-clause-rows : goal.returns-clause-rows
 returns-clause-rows g c clean has =
-    shows_if_ok rider_chairs_table RIDER_CHAIR_ROWS.now rider_chair_rows_text (state g.S.Store c.args.conn.now) (state g.S.Store c.rows_of_table.new.conn)
-    c.rows_of_table.result has (c.rows_of_table.ensures.shown clean)
+    shows_all desk_schema 1 rider_chairs_table RIDER_CHAIR_ROWS.now rider_chair_rows_text (state g.S.Store c.args.conn.now) (state g.S.Store c.rows_of_table.new.conn)
+    has c.rows_of_table.result (c.rows_of_table.ensures.shown clean)
 
 pub returns-clause-rests : goal.returns-clause-rests
 returns-clause-rests g c = c.rows_of_table.ensures.rests desk_schema rider_chair_rows_text.plain
 
 pub returns-clause-order : goal.returns-clause-order
 returns-clause-order g c clean has =
-    shows_order 1 rider_chairs_table RIDER_CHAIR_ROWS.now rider_chair_rows_text rider_chair_rows_order (state g.S.Store c.args.conn.now) (state g.S.Store c.rows_of_table.new.conn)
-    c.rows_of_table.result has (c.rows_of_table.ensures.shown clean)
+    shows_order desk_schema 1 rider_chairs_table RIDER_CHAIR_ROWS.now rider_chair_rows_text (state g.S.Store c.args.conn.now) (state g.S.Store c.rows_of_table.new.conn)
+    has c.rows_of_table.result (c.rows_of_table.ensures.shown clean)

@@ -1,0 +1,9 @@
+pub mod AnswerLemmas
+pub mod AskedQueries
+pub mod ContentLemmas
+pub mod InsideLemmas
+pub mod MarkLemmas
+pub mod OrderedLemmas
+pub mod ReadLemmas
+pub mod RecordLemmas
+pub mod TextLemmas

@@ -1,0 +1,18 @@
+use Rattle.std.proofs.Common.{◌==◌, rules}
+use Rattle.sqlite.specs.Held.{state}
+use Rattle.pt_tables_asking.proofs.ContentLemmas.{rider_trips_there}
+use Rattle.pt_tables_asking.proofs.TextLemmas.{trips_by_rider_text}
+use Rattle.pt_tables_asking.proofs.reads.trips_by_rider.Goals as goal
+
+pub trips_asked-requires : goal.trips_asked-requires
+trips_asked-requires g c = let it = trips_by_rider_text c.args.rider in record { settled = c.requires.settled; plain = it.plain; unlisted = it.unlisted }
+
+pub returns-clause-told : goal.returns-clause-told
+returns-clause-told g c clean content readable held =
+    c.trips_asked.ensures.told clean content readable held (λ trip. trip.rider == c.args.rider)
+    (rider_trips_there content readable (state g.S.Store c.args.conn.now) held c.args.rider _ (search rules))
+
+pub returns-clause-readable : goal.returns-clause-readable
+returns-clause-readable g c clean content readable held =
+    c.trips_asked.ensures.readable clean content readable held (λ trip. trip.rider == c.args.rider)
+    (rider_trips_there content readable (state g.S.Store c.args.conn.now) held c.args.rider _ (search rules))
