@@ -1,0 +1,167 @@
+-- What a commit makes of the store over tables.
+use Rattle.std.proofs.Common.{◌≡◌, ◌≤◌, ◌⊎◌, inl, inr, ℕ, Option, Some, None, Result, Ok, Err, false, length, refl, sym, ap, subst, ◌∙◌, arith}
+use Rattle.sqlite.specs.Held.{Held, state}
+use Rattle.sqlite.specs.State.{State as Connected, HasCleanDisk, Survives}
+use Rattle.sqlite.specs.Store.{Ghosts}
+use Rattle.pt_desk.specs.Listed.{known_of}
+use Rattle.pt_desk.specs.Store.{Goes, Store}
+use Rattle.pt_desk.specs.declared.keeper.StoreFault.{StoreFault}
+use Rattle.pt_desk.specs.declared.keeper.StoreFault.TheVariants.{Memory, Store as failed}
+use Rattle.pt_desk_rules.specs.State.{State, applied}
+use Rattle.pt_desk_rules.specs.declared.change.Change.{Change}
+use Rattle.pt_tables_asking.specs.Content.{IsReadable}
+use Rattle.pt_tables_keeper.proofs.ReadLemmas.{not_lasting}
+use Rattle.pt_tables_keeper.proofs.StepLemmas.{Settles, finds, settles, shut_falls}
+use Rattle.pt_tables_keeper.proofs.StoreLemmas.{reads_then}
+use Rattle.pt_tables_keeper.specs.Keeper.{AreInStep, KeptTables, kept_store, store_of}
+use Rattle.pt_tables_keeper.specs.Writable.{IsWritable}
+use Rattle.pt_tables_rows.proofs.SameRows.{opens_once}
+use Rattle.pt_tables_rows.specs.Tables.{IsKept, Stands}
+use Rattle.pt_tables_writing.proofs.AgreeLemmas.{agrees_known}
+use Rattle.pt_tables_writing.specs.Agreeing.{AgreesFor}
+use Rattle.pt_tables_writing.specs.Committing.{IsMade, LeadsTo, MayFind}
+use Rattle.pt_tables_writing.specs.Least.{IsUndone}
+
+-- ---- what is known
+
+-- the lists of what is known agree with the content, where the change is written
+pub agrees_writable : (change : Change) (lists known content : State) → IsWritable change → lists ≡ known_of known → known ≡ content → AgreesFor change lists content
+agrees_writable change lists known content may are same =
+    subst (λ l. AgreesFor change l content) (sym (are ∙ ap known_of same)) (agrees_known change content may.kept may.riders may.entries may.trips)
+
+-- ---- a transaction
+
+module _ {riders : ℕ} (old new : Connected) (before after : State) (f : ℕ) (none : f ≡ 0) (was : AreInStep before riders f old)
+    (survives : Survives old new (LeadsTo before after old)) (readable : IsReadable after) (law : Settles new) where
+  early : HasCleanDisk new → HasCleanDisk old
+  early clean = let up = survives.clean in omega arith
+
+  -- a crash leaves what it could leave before, or the content after the change
+  crashes : (o : Option State) → MayFind new o → MayFind old o ⊎ (o ≡ Some after)
+  crashes o found = elim (survives.crash found.0 found.1 found.2) [
+    | inl before_it ↦ inl (early found.0, found.1, before_it, found.3)
+    | inr leads ↦
+        let rows = leads.rows ((was.kept none (early found.0)).stands leads.was_open) in
+        inr (opens_once found.1 o (Some after) found.3 (readable.well_formed, rows))
+  ]
+
+  made_kept : IsMade before after old new → HasCleanDisk new → IsKept after new
+  made_kept made clean =
+      let held = (was.kept none (early clean)).stands made.was_open in
+      record { stands = λ _. made.stands held; committed = λ _. made.committed }
+
+  undone_kept : IsUndone old new → HasCleanDisk new → IsKept before new
+  undone_kept undone clean =
+      let held = was.kept none (early clean) in
+      record {
+        stands = λ here. subst (Stands before) (sym (undone.now here ∙ held.committed (undone.was_open here))) (held.stands (undone.was_open here));
+        committed = λ here. undone.committed here ∙ sym (undone.now here);
+      }
+
+  -- all is done, and the tables have it
+  pub step_made : (count : ℕ) → (HasCleanDisk old → count ≡ length after.riders) → new.in_transaction ≡ false → (HasCleanDisk new → IsMade before after old new) → AreInStep after count f new
+  step_made count counted settled made = record {
+    most = was.most;
+    settled = settled;
+    readable = readable;
+    kept = λ _ clean. made_kept (made clean) clean;
+    counted = λ _ clean. counted (early clean);
+  }
+
+  pub commits_made : (count : ℕ) → (HasCleanDisk old → count ≡ length after.riders) → new.in_transaction ≡ false → (HasCleanDisk new → IsMade before after old new)
+      → Goes {X = Unit {0}} (kept_store old before f) (kept_store new after f) tt (Some after) (Ok tt)
+  commits_made count counted settled made = record {
+    clean = survives.clean;
+    serves = shut_falls old new survives.clean (λ clean _. (made clean).was_open);
+    grows = omega arith;
+    told = λ is. absurd (cc);
+    stays = λ low up. absurd (omega arith);
+    settled = λ _. settles new after f law (step_made count counted settled made);
+    holds = λ clean. record {
+      tells = (refl, refl);
+      crash = crashes;
+      durable = λ o found. finds new after law readable (made_kept (made clean) clean) (made clean).is_open o found;
+    };
+  }
+
+  -- nothing is done, for want of memory or since the store failed
+  pub step_undone : (g : ℕ) → g ≤ 1 → new.in_transaction ≡ false → (HasCleanDisk new → IsUndone old new) → AreInStep before riders g new
+  step_undone g most settled undone = record {
+    most = most;
+    settled = settled;
+    readable = was.readable;
+    kept = λ _ clean. undone_kept (undone clean) clean;
+    counted = λ _ clean. was.counted none (early clean);
+  }
+
+  pub commits_not : (g : ℕ) (e : StoreFault) → (e ≡ failed → g ≡ 1) → (e ≡ Memory → g ≡ 0)
+      → new.in_transaction ≡ false → (HasCleanDisk new → IsUndone old new)
+      → Goes {X = Unit {0}} (kept_store old before f) (kept_store new before g) tt (Some after) (Err e)
+  commits_not g Memory on_failed on_memory settled undone =
+      let zero : g ≡ 0 = on_memory refl in
+      let most : g ≤ 1 = omega arith in
+      record {
+        clean = survives.clean;
+        serves = shut_falls old new survives.clean (λ clean here. (undone clean).was_open here);
+        grows = omega arith;
+        told = λ is. absurd (cc);
+        stays = λ low up. absurd (omega arith);
+        settled = λ _. settles new before g law (step_undone g most settled undone);
+        holds = λ clean. record { tells = refl; crash = crashes; durable = tt };
+      }
+  commits_not g failed on_failed on_memory settled undone =
+      let one : g ≡ 1 = on_failed refl in
+      let most : g ≤ 1 = omega arith in
+      record {
+        clean = survives.clean;
+        serves = shut_falls old new survives.clean (λ clean here. (undone clean).was_open here);
+        grows = omega arith;
+        told = λ _. omega arith;
+        stays = λ _ _. refl;
+        settled = λ _. settles new before g law (step_undone g most settled undone);
+        holds = λ clean. record { tells = tt; crash = crashes; durable = tt };
+      }
+
+-- a failure is counted once
+pub at_most_one : (g : ℕ) (e : StoreFault) → (e ≡ failed → g ≡ 1) → (e ≡ Memory → g ≡ 0) → g ≤ 1
+at_most_one g Memory on_failed on_memory = let zero : g ≡ 0 = on_memory refl in omega arith
+at_most_one g failed on_failed on_memory = let one : g ≡ 1 = on_failed refl in omega arith
+
+-- ---- before anything is written
+
+-- memory was refused
+pub wants_memory : (s : Connected) (a : State) (f : ℕ) (left : Option State) (r : Result (Unit {0}) StoreFault) → f ≡ 0
+    → r ≡ Err Memory → Goes {X = Unit {0}} (kept_store s a f) (kept_store s a f) tt left r
+wants_memory s a f left r none is = subst (λ r. Goes {X = Unit {0}} (kept_store s a f) (kept_store s a f) tt left r) (sym is) (record {
+  clean = omega arith;
+  serves = omega arith;
+  grows = omega arith;
+  told = λ same. absurd (cc);
+  stays = λ low up. absurd (omega arith);
+  settled = λ before. before;
+  holds = λ clean. record { tells = refl; crash = λ o found. inl found; durable = not_lasting (Unit {0}) (kept_store s a f) left Memory };
+})
+
+-- ---- the keeper
+
+-- a commit of these tables is one of the keeper that has them
+pub commits_by : {S : Type 0} (g : Ghosts S) (conn : Held S) (failures : ℕ) (content : State) (now : KeptTables S) (change : Change) (after : Store)
+    (r : Result (Unit {0}) StoreFault) → ◌≡◌ {A = KeptTables S} (record { conn = conn; failures = failures; content = content }) now
+    → Goes {X = Unit {0}} (kept_store (state g conn) content failures) after tt (Some (applied change content)) r
+    → Goes {X = Unit {0}} (store_of g now) after tt (Some (applied change now.content)) r
+commits_by {S} g conn failures content now change after r is h =
+    subst (λ (k : KeptTables S). Goes {X = Unit {0}} (store_of g k) after tt (Some (applied change k.content)) r) is h
+
+-- what is said of the riders of the keeper is said of these tables
+pub riders_counted : {S : Type 0} (g : Ghosts S) (conn : Held S) (failures : ℕ) (content : State) (now : KeptTables S) (change : Change) (riders : ℕ)
+    → ◌≡◌ {A = KeptTables S} (record { conn = conn; failures = failures; content = content }) now
+    → (HasCleanDisk (state g now.conn) → riders ≡ length (applied change now.content).riders) → HasCleanDisk (state g conn) → riders ≡ length (applied change content).riders
+riders_counted {S} g conn failures content now change riders is counted =
+    subst (λ (k : KeptTables S). HasCleanDisk (state g k.conn) → riders ≡ length (applied change k.content).riders) (sym is) counted
+
+-- a commit after a read
+pub commits_then : {X : Type 0} (a b c : Store) (x v : X) (change : Change) (r : Result (Unit {0}) StoreFault) → Goes a b v None (Ok x)
+    → Goes {X = Unit {0}} b c tt (Some (applied change b.content)) r → Goes {X = Unit {0}} a c tt (Some (applied change a.content)) r
+commits_then a b c x v change r first next =
+    reads_then a b c x v tt tt (Some (applied change b.content)) (Some (applied change a.content)) r first next
+    (λ _ _ same. (refl, ap (λ s. Some (applied change s)) same))

@@ -1,0 +1,22 @@
+use Rattle.std.proofs.Common.{◌≡◌, Err, Some, length, sym, subst, rules}
+use Rattle.pt_desk.specs.Store.{Goes}
+use Rattle.pt_desk_rules.specs.State.{applied}
+use Rattle.pt_tables_keeper.proofs.CommitLemmas.{commits_then}
+use Rattle.pt_tables_keeper.proofs.ReadLemmas.{goes_not}
+use Rattle.pt_tables_keeper.specs.Keeper.{store_of}
+use Rattle.pt_tables_keeper.proofs.keeper.SqlKeeperKeeper.commit.Goals as goal
+
+pub returns-in_err-rider_count-clause-commits : goal.returns-in_err-rider_count-clause-commits
+returns-in_err-rider_count-clause-commits g c =
+    let old = store_of g.S.Store c.args.self.now in
+    let new = store_of g.S.Store c.rider_count_after.new.self in
+    let made = applied c.args.change c.args.self.now.content in
+    let e = c.in_err-rider_count.field-0.0 in
+    let passed : c.from_residual-in_err-rider_count.result ≡ Err e = search rules in
+    subst (λ r. Goes {X = Unit {0}} old new tt (Some made) r) (sym passed)
+    (goes_not old new (length made.riders) tt (Some made) e c.in_err-rider_count.ensures.reads)
+
+pub returns-clause-commits : goal.returns-clause-commits
+returns-clause-commits g c =
+    commits_then (store_of g.S.Store c.args.self.now) (store_of g.S.Store c.rider_count_after.new.self) (store_of g.S.Store c.make.new.self)
+    c.in_ok-rider_count.rider_count (length (applied c.args.change c.args.self.now.content).riders) c.args.change c.make.result c.in_ok-rider_count.ensures.reads c.make.ensures.commits

@@ -1,0 +1,61 @@
+-- What a keeper over tables shows, what it keeps true, and what it makes of what it reads.
+use Rattle.std.specs.Prelude.{◌≡◌, ◌≤◌, ◌&&◌, ℕ, Result, Ok, Err, false, length, refl}
+use Rattle.std.specs.Coded.{Coded, code_by, coded×, coded_ℕ}
+use Rattle.pt_desk.specs.Store.{Store}
+use Rattle.pt_desk.specs.declared.keeper.StoreFault.{StoreFault}
+use Rattle.pt_desk.specs.declared.keeper.StoreFault.TheVariants as fault
+use Rattle.pt_desk_rules.specs.State.{State}
+use Rattle.sqlite.specs.Held.{Held, held_code, state}
+use Rattle.sqlite.specs.State.{State as Connected, HasCleanDisk}
+use Rattle.sqlite.specs.Store.{Ghosts}
+use Rattle.sqlite.specs.View.{doubt}
+use Rattle.pt_tables_asking.specs.Content.{IsReadable}
+use Rattle.pt_tables_asking.specs.declared.asking.Unread.{Unread}
+use Rattle.pt_tables_asking.specs.declared.asking.Unread.TheVariants.{Memory, Store as failed, Row}
+use Rattle.pt_tables_keeper.specs.Coding.{state_code}
+use Rattle.pt_tables_rows.specs.Tables.{IsKept}
+use Rattle.pt_tables_writing.specs.Committing.{MayFind}
+
+-- a connection, the count of failures, and the content of its tables
+pub record KeptTables (S : Type 0) : Type 0 where
+  pub conn : Held S
+  pub failures : ℕ
+  pub content : State
+
+abbrev pub kept_tables_code : {S : Type 0} → Coded S → Coded (KeptTables S)
+kept_tables_code {S} store =
+    code_by (Held S × (ℕ × State)) (coded× (held_code store) (coded× coded_ℕ state_code))
+    (λ k. (k.conn, (k.failures, k.content))) (λ p. record { conn = p.0; failures = p.1.0; content = p.1.1 }) (λ _. refl)
+
+-- The content is one that is read back from its rows; and until the store has failed the tables have it, its riders are
+-- counted, and no transaction is open.
+pub record AreInStep (content : State) (riders failures : ℕ) (s : Connected) : Type 0 where
+  pub most : failures ≤ 1
+  pub settled : s.in_transaction ≡ false
+  pub readable : IsReadable content
+  pub kept : failures ≡ 0 → HasCleanDisk s → IsKept content s
+  pub counted : failures ≡ 0 → HasCleanDisk s → riders ≡ length content.riders
+
+-- 0 so long as the disk is clean and the connection open
+abbrev pub shut : Connected → ℕ
+shut s = doubt (s.is_clean && s.is_open)
+
+-- all that contracts say of a store with this content in the tables of this connection
+abbrev pub kept_store : Connected → State → ℕ → Store
+kept_store s content failures = record {
+  content = content;
+  doubt = doubt s.is_clean;
+  shut = shut s;
+  failures = failures;
+  found = MayFind s;
+}
+
+abbrev pub store_of : {S : Type 0} → Ghosts S → KeptTables S → Store
+store_of g k = kept_store (state g k.conn) k.content k.failures
+
+-- what is answered of what was read, and the failures that are counted
+abbrev pub Counts : {X : Type 0} → ℕ → Result X Unread → Result X StoreFault → Type 0
+Counts failures (Ok x) result = (result ≡ Ok x) × (failures ≡ 0)
+Counts failures (Err Memory) result = (result ≡ Err fault.Memory) × (failures ≡ 0)
+Counts failures (Err failed) result = (result ≡ Err fault.Store) × (failures ≡ 1)
+Counts failures (Err Row) result = (result ≡ Err fault.Store) × (failures ≡ 1)

@@ -1,0 +1,4 @@
+pub mod Coding
+pub mod Keeper
+pub mod Known
+pub mod Writable

@@ -1,0 +1,363 @@
+ghost use Rattle.std.specs.Prelude.{◌≡◌, ◌<◌, ◌↔◌, IfErr, OnErr, OnOk, false, length};
+ghost use Rattle.pt_desk.specs.Store.{Commits, Reads};
+ghost use Rattle.pt_desk.specs.declared.keeper.StoreFault.TheVariants.{Memory, Store as Failed};
+ghost use Rattle.pt_desk_rules.specs.State.{applied};
+ghost use Rattle.sqlite.specs.Held.{state};
+ghost use Rattle.sqlite.specs.State.{HasCleanDisk};
+ghost use Rattle.pt_tables_asking.specs.Content.{IsReadable};
+ghost use Rattle.pt_tables_keeper.specs.Keeper.{Counts, store_of};
+ghost use Rattle.pt_tables_keeper.specs.Writable.{IsWritable};
+ghost use Rattle.pt_tables_rows.specs.Tables.{IsKept};
+
+use crate::known::Known;
+use crate::writable::is_writable;
+use pt_base::{
+    CallerId, Day, Place, PlaceId, Policy, Rider, RiderId, RouteId, Trip, TripId, Vehicle,
+    VehicleId,
+};
+use pt_corridor::FixedRoute;
+use pt_desk::{
+    Keeper, StoreFault, file_with, find_caller, is_booked_from, planned_on, table_count_before,
+};
+use pt_desk_rules::{
+    Arrival, Caller, Change, Digest, PlannedRoute, Spelling, TravelTable, has_version, table_on,
+};
+use pt_records::{Key, Rows};
+use pt_rights::CaseFile;
+use pt_tables_asking::{
+    Unread, entries_by_rider, kept_by_caller, rider_by_number, trip_by_number, trips_by_day,
+    trips_by_rider, trips_from_day,
+};
+use pt_tables_writing::write_change;
+use sqlite::{Alter, Connection, Error, ErrorCode};
+use std::alloc::Global;
+use std::marker::Model;
+
+/// The failures of a store that has not failed.
+const NEVER_FAILED: u32 = 0;
+
+/// The failures of a store that has failed.
+const FAILED: u32 = 1;
+
+/// The store over the tables of a desk's database. The settings, the planned routes and the number of riders are in
+/// memory, and all other records are read as they are asked for.
+#[derive(Drop)]
+pub struct SqlKeeper<S: Alter> {
+    alloc: Global,
+    conn: Connection<S>,
+    /// 0, and 1 for good once the store has failed in a call.
+    failures: u32,
+    known: Known,
+    rider_count: usize,
+}
+
+impl<S: Alter> Model for SqlKeeper<S> {
+    ghost use Rattle.sqlite.specs.Held.{state};
+    ghost use Rattle.pt_tables_keeper.specs.Keeper.{AreInStep, KeptTables, kept_tables_code};
+
+    ghost Value = { KeptTables S };
+
+    ghost coded = { kept_tables_code S.code };
+
+    ghost view = { λ k. record { conn = k.conn; failures = k.failures; content = k.known.content } };
+
+    ghost invariant = { λ k. AreInStep k.known.content k.rider_count k.failures (state S.Store k.conn) };
+}
+
+/// What a read answers. One that failed for another reason than want of memory is counted.
+fn counted<T>(failures: &mut u32, found: Result<T, Unread>) -> Result<T, StoreFault>
+    requires { failures.old ≡ 0 }
+    ensures counts { Counts failures.new found result }
+{
+    match found {
+        Ok(value) => Ok(value),
+        Err(Unread::Memory) => Err(StoreFault::Memory),
+        Err(Unread::Store | Unread::Row) => {
+            *failures = FAILED;
+            Err(StoreFault::Store)
+        }
+    }
+}
+
+/// The fault that an error of the store is told as; one that is no want of memory is counted.
+fn blame(failures: &mut u32, error: &Error) -> StoreFault
+    requires { failures.old ≡ 0 }
+    ensures failed { result ≡ Failed → failures.new ≡ 1 }
+    ensures memory { result ≡ Memory → failures.new ≡ 0 }
+    ensures cause { result ≡ Memory ↔ error.now ≡ Error.SqliteFailure ErrorCode.OutOfMemory }
+{
+    if matches!(error, Error::SqliteFailure(ErrorCode::OutOfMemory)) {
+        return StoreFault::Memory;
+    }
+    *failures = FAILED;
+    StoreFault::Store
+}
+
+impl<S: Alter> SqlKeeper<S> {
+    /// The store over a database whose tables have the content of which this is known, and so many riders.
+    pub fn of(alloc: Global, conn: Connection<S>, known: Known, rider_count: usize) -> SqlKeeper<S>
+        requires settled { conn.in_transaction ≡ false }
+        requires readable { IsReadable known.content }
+        requires kept { HasCleanDisk (state S.Store conn) → IsKept known.content (state S.Store conn) }
+        requires riders { rider_count ≡ length known.content.riders }
+        ensures conn { result.conn ≡ conn }
+        ensures content { result.content ≡ known.content }
+        ensures serves { result.failures ≡ 0 }
+    {
+        SqlKeeper {
+            alloc,
+            conn,
+            failures: NEVER_FAILED,
+            known,
+            rider_count,
+        }
+    }
+
+    /// Hands the connection back. Unless the store has failed its tables have the rows of the content, all committed.
+    pub fn release(self) -> Connection<S>
+        ensures same { result ≡ self.conn }
+        ensures settled { result.in_transaction ≡ false }
+        ensures rows { self.failures ≡ 0 → HasCleanDisk (state S.Store result)
+            → IsKept self.content (state S.Store result) }
+    {
+        let SqlKeeper {
+            alloc: _,
+            conn,
+            failures: _,
+            known: _,
+            rider_count: _,
+        } = self;
+        conn
+    }
+
+    /// Refuses to serve once the store has failed.
+    fn serve(&self) -> Result<(), StoreFault>
+        ensures served { OnOk result (self.now.failures ≡ 0) }
+        ensures failed { OnErr result (0 < self.now.failures) }
+        ensures fault { IfErr result (λ fault. fault ≡ Failed) }
+    {
+        if self.failures > NEVER_FAILED {
+            return Err(StoreFault::Store);
+        }
+        Ok(())
+    }
+
+    /// How many riders there are after the change: one more where it puts one that is not there.
+    fn rider_count_after(&mut self, change: &Change) -> Result<usize, StoreFault>
+        requires serves { self.old.failures ≡ 0 }
+        requires writable { IsWritable change.now }
+        ensures reads { Reads (store_of S.Store self.old) (store_of S.Store self.new)
+            (λ s. length (applied change.now s).riders) result }
+    {
+        let Some(new) = change.riders.puts().first() else {
+            return Ok(self.rider_count);
+        };
+        match self.rider(new.id)? {
+            Some(_) => Ok(self.rider_count),
+            None => Ok(self.rider_count.saturating_add(1)),
+        }
+    }
+
+    /// Makes the change in the tables, and then in memory; so many riders are there after it.
+    fn make(&mut self, change: Change, rider_count: usize) -> Result<(), StoreFault>
+        requires serves { self.old.failures ≡ 0 }
+        requires writable { IsWritable change }
+        requires counted { HasCleanDisk (state S.Store self.old.conn)
+            → rider_count ≡ length (applied change self.old.content).riders }
+        ensures commits { Commits (store_of S.Store self.old) (store_of S.Store self.new) (applied change) result }
+    {
+        self.known.reserve(&change)?;
+        match write_change(&mut self.conn, &change, self.known.lists()) {
+            Ok(()) => {
+                self.known.make(change);
+                self.rider_count = rider_count;
+                Ok(())
+            }
+            Err(error) => Err(blame(&mut self.failures, &error)),
+        }
+    }
+}
+
+impl<S: Alter> Keeper for SqlKeeper<S> {
+    ghost use Rattle.pt_tables_keeper.specs.Keeper.{store_of};
+
+    ghost store = { λ k. store_of S.Store k };
+
+    ghost found_clean = { λ _ _ may. may.0 };
+
+    fn caller_with(&mut self, digest: &Digest) -> Result<Option<Caller>, StoreFault> {
+        self.serve()?;
+        let callers = self.known.lists().callers_table();
+        Ok(find_caller(callers.as_slice(), digest))
+    }
+
+    fn caller(&mut self, id: CallerId) -> Result<Option<Caller>, StoreFault> {
+        self.serve()?;
+        let callers = self.known.lists().callers_table();
+        Ok(callers.find(&Key::of(id.number())).copied())
+    }
+
+    fn caller_count(&mut self) -> Result<usize, StoreFault> {
+        self.serve()?;
+        Ok(self.known.lists().callers_table().as_slice().len())
+    }
+
+    fn arrival(
+        &mut self,
+        caller: CallerId,
+        number: u32,
+        request: &Spelling,
+    ) -> Result<Arrival, StoreFault> {
+        self.serve()?;
+        let found = kept_by_caller(self.alloc, &mut self.conn, caller);
+        let last = counted(&mut self.failures, found)?;
+        Ok(Arrival::of(number, request, last.as_ref()))
+    }
+
+    fn policy(&mut self) -> Result<Policy, StoreFault> {
+        self.serve()?;
+        Ok(self.known.lists().current_policy())
+    }
+
+    fn place(&mut self, id: PlaceId) -> Result<Option<Place>, StoreFault> {
+        self.serve()?;
+        let places = self.known.lists().places_table();
+        Ok(places.find(&Key::of(id.number())).copied())
+    }
+
+    fn place_count(&mut self) -> Result<usize, StoreFault> {
+        self.serve()?;
+        Ok(self.known.lists().places_table().as_slice().len())
+    }
+
+    fn places(&mut self, alloc: Global) -> Result<Rows<Place>, StoreFault> {
+        self.serve()?;
+        let places = self.known.lists().places_table();
+        Ok(Rows::of(places.as_slice().to_vec(alloc)?))
+    }
+
+    fn has_route(&mut self, id: RouteId) -> Result<bool, StoreFault> {
+        self.serve()?;
+        let routes = self.known.lists().routes_table();
+        Ok(routes.find(&Key::of(id.number())).is_some())
+    }
+
+    fn route_count(&mut self) -> Result<usize, StoreFault> {
+        self.serve()?;
+        Ok(self.known.lists().routes_table().as_slice().len())
+    }
+
+    fn routes(&mut self, alloc: Global) -> Result<Rows<FixedRoute>, StoreFault> {
+        self.serve()?;
+        let routes = self.known.lists().routes_table();
+        Ok(Rows::of(routes.as_slice().to_vec(alloc)?))
+    }
+
+    fn rider(&mut self, id: RiderId) -> Result<Option<Rider>, StoreFault> {
+        self.serve()?;
+        let found = rider_by_number(self.alloc, &mut self.conn, id);
+        counted(&mut self.failures, found)
+    }
+
+    fn rider_count(&mut self) -> Result<usize, StoreFault> {
+        self.serve()?;
+        Ok(self.rider_count)
+    }
+
+    fn case_file(&mut self, alloc: Global, rider: RiderId) -> Result<CaseFile, StoreFault> {
+        self.serve()?;
+        let found = entries_by_rider(alloc, &mut self.conn, rider);
+        let entries = counted(&mut self.failures, found)?;
+        Ok(file_with(alloc, entries.as_slice())?)
+    }
+
+    fn has_vehicle(&mut self, id: VehicleId) -> Result<bool, StoreFault> {
+        self.serve()?;
+        let vehicles = self.known.lists().vehicles_table();
+        Ok(has_version(vehicles.as_slice(), id))
+    }
+
+    fn vehicles(&mut self, alloc: Global) -> Result<Rows<Vehicle>, StoreFault> {
+        self.serve()?;
+        let vehicles = self.known.lists().vehicles_table();
+        Ok(Rows::of(vehicles.as_slice().to_vec(alloc)?))
+    }
+
+    fn table_count_before(&mut self, day: Day) -> Result<usize, StoreFault> {
+        self.serve()?;
+        let travel = self.known.lists().travel_table();
+        Ok(table_count_before(travel.as_slice(), day))
+    }
+
+    fn travel_on(&mut self, alloc: Global, day: Day) -> Result<Option<TravelTable>, StoreFault> {
+        self.serve()?;
+        match table_on(self.known.lists().travel_table().as_slice(), day) {
+            Some(table) => Ok(Some(table.copy(alloc)?)),
+            None => Ok(None),
+        }
+    }
+
+    fn is_booked_from(&mut self, vehicle: Option<VehicleId>, day: Day) -> Result<bool, StoreFault> {
+        self.serve()?;
+        let found = trips_from_day(self.alloc, &mut self.conn, day);
+        let trips = counted(&mut self.failures, found)?;
+        Ok(is_booked_from(trips.as_slice(), &vehicle, day))
+    }
+
+    fn trip(&mut self, id: TripId) -> Result<Option<Trip>, StoreFault> {
+        self.serve()?;
+        let found = trip_by_number(self.alloc, &mut self.conn, id);
+        counted(&mut self.failures, found)
+    }
+
+    fn trips_of(&mut self, alloc: Global, rider: RiderId) -> Result<Rows<Trip>, StoreFault> {
+        self.serve()?;
+        let found = trips_by_rider(alloc, &mut self.conn, rider);
+        counted(&mut self.failures, found)
+    }
+
+    fn trips_on(&mut self, alloc: Global, day: Day) -> Result<Rows<Trip>, StoreFault> {
+        self.serve()?;
+        let found = trips_by_day(alloc, &mut self.conn, day);
+        counted(&mut self.failures, found)
+    }
+
+    fn planned_on(&mut self, alloc: Global, day: Day) -> Result<Rows<PlannedRoute>, StoreFault> {
+        self.serve()?;
+        let planned = self.known.lists().planned_table();
+        Ok(planned_on(alloc, planned.as_slice(), day)?)
+    }
+
+    fn last_trip(&mut self) -> Result<u32, StoreFault> {
+        self.serve()?;
+        Ok(self.known.lists().current_last_trip())
+    }
+
+    fn planned_route(
+        &mut self,
+        alloc: Global,
+        vehicle: VehicleId,
+        day: Day,
+    ) -> Result<Option<PlannedRoute>, StoreFault> {
+        self.serve()?;
+        let planned = self.known.lists().planned_table();
+        match planned.find(&Key::pair(vehicle.number(), day.number())) {
+            Some(route) => Ok(Some(route.copy(alloc)?)),
+            None => Ok(None),
+        }
+    }
+
+    fn commit(&mut self, change: Change) -> Result<(), StoreFault> {
+        self.serve()?;
+        if !is_writable(&change) {
+            self.failures = FAILED;
+            return Err(StoreFault::Store);
+        }
+        let rider_count = self.rider_count_after(&change)?;
+        self.make(change, rider_count)
+    }
+
+    fn failures(&self) -> u32 {
+        self.failures
+    }
+}

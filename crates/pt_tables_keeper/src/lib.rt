@@ -1,0 +1,13 @@
+//! The store over the tables of a database: the settings and the planned routes are in memory, and all other records
+//! are read as they are asked for.
+#![tactic(auto)]
+
+pub use keeper::SqlKeeper;
+pub use known::Known;
+pub use tables_content::Content;
+
+mod fitting;
+mod keeper;
+mod known;
+mod tables_content;
+mod writable;
