@@ -14,7 +14,7 @@ use pt_commands::{
 };
 use pt_desk::{Keeper, Read, Request, Write, place_ids};
 use pt_serve::{Port, moment_at, serve};
-use pt_tables::{OpenFault, SqlKeeper, migrate};
+use pt_tables::{OpenFault, SqlKeeper, adopt, create, migrate};
 use pt_travel::Raw;
 use sqlite::{Connection, Error, ErrorCode};
 use sqlite_std_file::File;
@@ -96,7 +96,7 @@ pub fn init(rt: &HostRuntime, file: &str, key: &str) -> Result<Outcome, Fault> {
         return Err(fault_of_making(&error));
     }
     let conn = connected(rt, file)?;
-    match SqlKeeper::create(rt.alloc(), conn, key.as_bytes()) {
+    match create(rt.alloc(), conn, key.as_bytes()) {
         Ok(_) => Ok(Outcome::Done),
         Err((_, refused)) => Err(fault_of_opening(refused)),
     }
@@ -116,12 +116,12 @@ pub fn migrate_file(rt: &HostRuntime, file: &str) -> Result<Outcome, Fault> {
 
 /// The desk in the database of a file.
 fn adopt_file(rt: &HostRuntime, file: &str) -> Result<FileKeeper, Fault>
-    ensures sound { IfOk result (λ keeper. IsSound keeper.mirror.content) }
+    ensures sound { IfOk result (λ keeper. IsSound keeper.content) }
 {
     if let Err(error) = fs::open(rt, file) {
         return Err(fault_of_reading(&error));
     }
-    match SqlKeeper::adopt(rt.alloc(), connected(rt, file)?) {
+    match adopt(rt.alloc(), connected(rt, file)?) {
         Ok(keeper) => Ok(keeper),
         Err(refusal) => Err(fault_of_refusal(refusal)),
     }

@@ -1,38 +1,31 @@
--- A desk whose content was read from the tables is in step with them.
-use Rattle.std.proofs.Common.{◌≡◌, ◌≤◌, inl, inr, false, IsTrue, Ok, refl, sym, subst, ◌∙◌, ap, arith}
+-- A desk whose content was read from the tables, and one whose tables are refused.
+use Rattle.std.proofs.Common.{◌≡◌, ◌≤◌, inl, inr, IsTrue, Ok, refl, sym, subst, ◌∙◌, ap, arith}
 use Rattle.sqlite.specs.Effect.{Database}
 use Rattle.sqlite.specs.State.{State as Connected, HasCleanDisk, Survives}
 use Rattle.sqlite.specs.Tree.{Trees}
 use Rattle.sqlite.specs.View.{doubt}
 use Rattle.pt_desk_rules.specs.State.{State}
 use Rattle.pt_tables_opening.specs.Faults.{rows_refused, tables_refused}
-use Rattle.pt_tables.specs.Mirror.{IsInStep}
 use Rattle.pt_tables_opening.specs.Opening.{IsReopened, Rests, Stays}
 use Rattle.pt_tables_rows.specs.Schema.{desk_schema}
-use Rattle.pt_tables_rows.specs.Tables.{HasRows, Stands}
+use Rattle.pt_tables_rows.specs.Tables.{HasRows, IsKept, Stands}
 use Rattle.pt_tables_opening.specs.Refused.{AreUnsound, HasOtherTables, ListsOthers, TellsOf}
 use Rattle.pt_tables_opening.specs.Standing.{IsFirstAtFault}
 use Rattle.pt_tables_opening.specs.Told.{HasOtherVersion}
 use Rattle.pt_tables_opening.specs.declared.open_fault.OpenFault.{OpenFault}
-use Rattle.pt_tables_rows.specs.WellFormed.{IsWellFormed}
 
--- after reads of a connection that was opened anew, the desk with the content of the tables is in step with them
-pub adopted : {X E : Type 0} (content : State) (old mid new : Connected) (x : X) → Rests {E = E} mid new (Ok x) → mid.in_transaction ≡ false → mid.now.schema ≡ desk_schema
-    → (HasCleanDisk mid → IsReopened old mid) → IsWellFormed content → (HasCleanDisk new → HasRows content mid.now.trees) → IsInStep content 0 new
-adopted content old mid new x rests none has opened told rows = record {
-  most = omega arith;
-  settled = rests.settled none;
-  told = told;
-  kept = λ _ clean.
-      let early : HasCleanDisk mid = omega (arith, rests.survives.clean) in
-      let anew = opened early in
-      let same = rests.same clean has in
-      let stands : Stands content mid.now = record { schema = has; rows = rows clean; rowids = anew.rowids has } in
-      record {
-        stands = λ here. subst (Stands content) (sym same.0.now_is) stands;
-        committed = λ here. same.0.committed_is ∙ anew.committed ∙ sym same.0.now_is;
-      };
-}
+-- after reads of a connection that was opened anew its tables have the content that was read
+pub adopted : {X E : Type 0} (content : State) (old mid new : Connected) (x : X) → Rests {E = E} mid new (Ok x) → mid.now.schema ≡ desk_schema → (HasCleanDisk mid → IsReopened old mid)
+    → (HasCleanDisk new → HasRows content mid.now.trees) → HasCleanDisk new → IsKept content new
+adopted content old mid new x rests has opened rows clean =
+    let early : HasCleanDisk mid = omega (arith, rests.survives.clean) in
+    let anew = opened early in
+    let same = rests.same clean has in
+    let stands : Stands content mid.now = record { schema = has; rows = rows clean; rowids = anew.rowids has } in
+    record {
+      stands = λ here. subst (Stands content) (sym same.0.now_is) stands;
+      committed = λ here. same.0.committed_is ∙ anew.committed ∙ sym same.0.now_is;
+    }
 
 -- a store that is handed back after reads of such a connection shows what the first connection had committed
 pub handed_back : (old mid new : Connected) (trees : Trees) → trees ≡ new.committed.trees → IsTrue new.is_open → HasCleanDisk new → (HasCleanDisk new → Stays mid new)

@@ -1,16 +1,18 @@
 -- The least state as a new database has it.
-use Rattle.std.proofs.Common.{◌≡◌, inl, inr, ℕ, List, IsTrue, false, refl, sym, ap, subst, ◌∙◌, arith}
+use Rattle.std.proofs.Common.{◌≡◌, inl, inr, ℕ, List, IsTrue, false, refl, sym, ap, subst, ◌∙◌}
 use Rattle.sha2.specs.Sha256.{sha256}
 use Rattle.sqlite.specs.Effect.{Database}
 use Rattle.sqlite.specs.Tree.{Trees}
-use Rattle.sqlite.specs.State.{State as Connected, HasCleanDisk, Survives}
+use Rattle.sqlite.specs.State.{State as Connected, Survives}
 use Rattle.sqlite.proofs.StateLemmas.{survives_weaker}
 use Rattle.pt_base.specs.declared.policy.Policy.{Policy}
 use Rattle.pt_desk.specs.LeastState.{IsLeastPolicy, IsLeastState}
 use Rattle.pt_desk_rules.specs.State.{State, caller_key, kept_key, place_key, route_key, rider_key, entry_key, vehicle_key, travel_key, trip_key}
 use Rattle.pt_records.specs.Records.{Each, IsInOrder}
 use Rattle.pt_scheduling.specs.Plan.{plan_key}
-use Rattle.pt_tables.specs.Mirror.{IsInStep}
+use Rattle.pt_tables_asking.specs.Content.{IsReadable}
+use Rattle.pt_tables_reading.specs.Fitting.{FitsFiled}
+use Rattle.pt_tables_reading.specs.Reading.{FitsKept, FitsRider, FitsTrip}
 use Rattle.pt_tables_writing.specs.Least.{IsNew, IsAsBefore, IsDeskDatabase, IsInUse, IsUndone, IsNewDesk, IsLeastDesk}
 use Rattle.pt_tables_rows.specs.Rows.{desk_row}
 use Rattle.pt_tables_rows.specs.Schema.{no_schema}
@@ -59,7 +61,7 @@ committed_least key s new db least here tables made same = record {
       subst (HasRows content) (sym (same ∙ ap (λ (d : Database). d.trees) (kept.committed here))) (kept.stands here).rows;
 }
 
--- ---- the least state is in step with the tables that have its rows
+-- ---- the least state is read back from the tables that have its rows
 
 least_well_formed : (key : List ℕ) (s : State) → IsLeastState key s → IsWellFormed s
 least_well_formed key s least = record {
@@ -81,14 +83,17 @@ least_well_formed key s least = record {
   stops = subst (Each IsStoredPlan) (sym least.planned) tt;
 }
 
-pub least_in_step : (key : List ℕ) (s : State) (new : Connected) → IsLeastState key s → new.in_transaction ≡ false
-    → (HasCleanDisk new → (any : State) → IsNew s.policy (sha256 key) any → IsKept any new) → IsInStep s 0 new
-least_in_step key s new least settled made = record {
-  most = omega arith;
-  settled = settled;
-  told = least_well_formed key s least;
-  kept = λ _ clean. made clean s (least_is_new key s s least least);
+pub least_readable : (key : List ℕ) (s : State) → IsLeastState key s → IsReadable s
+least_readable key s least = record {
+  well_formed = least_well_formed key s least;
+  kept = subst (Each FitsKept) (sym least.kept) tt;
+  riders = subst (Each FitsRider) (sym least.riders) tt;
+  entries = subst (Each FitsFiled) (sym least.entries) tt;
+  trips = subst (Each FitsTrip) (sym least.trips) tt;
 }
+
+pub least_kept : (key : List ℕ) (s : State) (new : Connected) → IsLeastState key s → ((any : State) → IsNew s.policy (sha256 key) any → IsKept any new) → IsKept s new
+least_kept key s new least made = made s (least_is_new key s s least least)
 
 pub never_in_use : (s : Connected) → s.in_transaction ≡ false → s.now.schema ≡ no_schema → IsInUse s → ⊥
 never_in_use s alone blank (inl inside) = absurd (let none = subst IsTrue alone inside in cc)

@@ -1,5 +1,4 @@
 pub mod AdoptLemmas
-pub mod KeeperLemmas
 pub mod LeastLemmas
 pub mod MigrationLemmas
 pub mod NewLemmas

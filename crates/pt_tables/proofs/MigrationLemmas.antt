@@ -21,7 +21,6 @@ use Rattle.pt_tables_opening.specs.Opening.{IsFirstVersion}
 use Rattle.pt_tables_rows.specs.Rows.{desk_row, first_version, versioned_row, number_value, row_if, rider_chair_rows, vehicle_chair_rows, trip_chair_rows}
 use Rattle.pt_tables_rows.specs.Schema.{desk_schema, first_schema, desk_table, callers_table, kept_table, places_table, fixed_table, vehicles_table, riders_table, entries_table, trips_table, stops_table, travel_table, rider_chairs_table, vehicle_chairs_table, trip_chairs_table}
 use Rattle.pt_tables_rows.specs.Tables.{AddsChairs, AreRows, HasFirstRows, HasRows, columns_of}
-use Rattle.pt_tables_writing.specs.Least.{IsDeskDatabase}
 use Rattle.pt_tables_writing.specs.Writes.{Rewrites, RaisesVersion}
 use Rattle.pt_tables_writing.proofs.RaiseWrites.{row_holds}
 use Rattle.pt_tables.proofs.NewLemmas.{none_there}

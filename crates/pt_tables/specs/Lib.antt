@@ -1,2 +1,1 @@
 pub mod Migration
-pub mod Mirror

@@ -1,0 +1,96 @@
+//! A desk whose database is opened.
+
+ghost use Rattle.std.specs.Prelude.{◌≡◌, ◌⊎◌, IsTrue, IfOk, IfErr, IsErrAnd, MatchResult, false};
+ghost use Rattle.pt_base.specs.Codes.{memory_refused};
+ghost use Rattle.pt_desk.specs.Store.{IsSettled};
+ghost use Rattle.pt_desk_rules.specs.Sound.{IsSound};
+ghost use Rattle.sqlite.specs.Held.{state};
+ghost use Rattle.sqlite.specs.State.{HasCleanDisk};
+ghost use Rattle.sqlite.specs.Tree.{Trees};
+ghost use Rattle.sqlite.specs.View.{IsClean};
+ghost use Rattle.pt_tables_opening.specs.Faults.{IsRefusal, fault, rows_refused, store_refused, tables_refused};
+ghost use Rattle.pt_tables_opening.specs.Opening.{IsReopened};
+ghost use Rattle.pt_tables_opening.specs.Refused.{AreUnsound, HasOtherTables, SparesOtherVersion};
+ghost use Rattle.pt_tables_opening.specs.Standing.{IsFirstAtFault};
+ghost use Rattle.pt_tables_rows.specs.Tables.{HasRows};
+
+use crate::keeping::keeper_of;
+use pt_desk::Keeper;
+use pt_tables_keeper::SqlKeeper;
+use pt_tables_opening::{OpenFault, content_in, fault_of};
+use sqlite::{Alter, Connection};
+use std::alloc::Global;
+
+/// A new connection to what another had committed, whose open transaction, if it has one, is undone: code 32 where the
+/// store failed, and 0 where memory was refused. Its store is handed back with the refusal.
+fn reopened<S: Alter + Drop>(
+    alloc: Global,
+    conn: Connection<S>,
+) -> Result<Connection<S>, (S, OpenFault)>
+    ensures opened { IfOk result (λ new. HasCleanDisk (state S.Store new)
+        → IsReopened (state S.Store conn) (state S.Store new)) }
+    ensures settled { IfOk result (λ new. new.in_transaction ≡ false) }
+    ensures kept { IfErr result (λ refused. IsClean (S.Store.view refused.0) → IsTrue (S.Store.view refused.0).is_open
+        → (S.Store.view refused.0).trees ≡ (state S.Store conn).committed.trees) }
+    ensures crash { MatchResult result
+        (λ new. HasCleanDisk (state S.Store new) → (trees : Trees)
+        → (state S.Store new).may_leave trees → (state S.Store conn).may_leave trees)
+        (λ refused. IsClean (S.Store.view refused.0) → (trees : Trees)
+        → S.Store.recovers refused.0 trees → (state S.Store conn).may_leave trees) }
+    ensures faults { IfErr result (λ refused.
+        (refused.1 ≡ fault memory_refused) ⊎ (refused.1 ≡ fault store_refused)) }
+{
+    let store = conn.into_store();
+    if store.is_broken() {
+        return Err((store, OpenFault::STORE));
+    }
+    match Connection::over(alloc, store) {
+        Ok(conn) => Ok(conn),
+        Err((error, store)) => Err((store, fault_of(&error))),
+    }
+}
+
+/// Opens a database that has the desk's tables: their content is read and judged, and nothing is written.
+///
+/// A refusal hands the store back: code 30 where the tables are not the desk's, or are of another version; 31 with
+/// the number of the first table at fault, where the rows are those of no sound state; 32 where a transaction is
+/// open or the store failed; 0 where memory was refused.
+pub fn adopt<S: Alter + Drop>(
+    alloc: Global,
+    conn: Connection<S>,
+) -> Result<SqlKeeper<S>, (S, OpenFault)>
+    ensures sound { IfOk result (λ keeper. IsSound keeper.content) }
+    ensures rows { IfOk result (λ keeper. HasCleanDisk (state S.Store keeper.conn)
+        → HasRows keeper.content (state S.Store conn).committed.trees) }
+    ensures serves { IfOk result (λ keeper. keeper.failures ≡ 0) }
+    ensures settled { IfOk result (λ keeper. IsSettled (⟦<SqlKeeper<S> as Keeper>⟧.store keeper)) }
+    ensures kept { IfErr result (λ refused. IsClean (S.Store.view refused.0)
+        → IsTrue (S.Store.view refused.0).is_open
+        → (S.Store.view refused.0).trees ≡ (state S.Store conn).committed.trees) }
+    ensures crash { MatchResult result
+        (λ keeper. HasCleanDisk (state S.Store keeper.conn) → (trees : Trees)
+        → (state S.Store keeper.conn).may_leave trees → (state S.Store conn).may_leave trees)
+        (λ refused. IsClean (S.Store.view refused.0) → (trees : Trees)
+        → S.Store.recovers refused.0 trees → (state S.Store conn).may_leave trees) }
+    ensures faults { IfErr result (λ refused. IsRefusal refused.1) }
+    ensures other_tables { IfErr result (λ refused. IsClean (S.Store.view refused.0)
+        → refused.1.code ≡ tables_refused → HasOtherTables (state S.Store conn).committed.trees) }
+    ensures unsound { IfErr result (λ refused. IsClean (S.Store.view refused.0)
+        → refused.1.code ≡ rows_refused → AreUnsound (state S.Store conn).committed.trees) }
+    ensures first { IfErr result (λ refused. IsClean (S.Store.view refused.0)
+        → refused.1.code ≡ rows_refused
+        → IsFirstAtFault (state S.Store conn).committed.trees refused.1.table) }
+    ensures version { IfErr result (λ refused. IsClean (S.Store.view refused.0)
+        → SparesOtherVersion (state S.Store conn).committed.trees refused.1) }
+    ensures in_use { IsTrue (state S.Store conn).in_transaction
+        → IsErrAnd result (λ refused. refused.1 ≡ fault store_refused) }
+{
+    if !conn.is_autocommit() {
+        return Err((conn.into_store(), OpenFault::STORE));
+    }
+    let mut conn = reopened(alloc, conn)?;
+    match content_in(alloc, &mut conn) {
+        Ok(lists) => Ok(keeper_of(alloc, conn, lists)),
+        Err(refused) => Err((conn.into_store(), refused)),
+    }
+}

@@ -1,0 +1,33 @@
+//! The store over tables whose content was just made, or read.
+
+ghost use Rattle.std.specs.Prelude.{◌≡◌, false};
+ghost use Rattle.pt_desk.specs.Store.{IsSettled};
+ghost use Rattle.sqlite.specs.Held.{state};
+ghost use Rattle.sqlite.specs.State.{HasCleanDisk};
+ghost use Rattle.pt_tables_asking.specs.Content.{IsReadable};
+ghost use Rattle.pt_tables_rows.specs.Tables.{IsKept};
+
+use pt_desk::{Keeper, ListKeeper};
+use pt_tables_keeper::{Content, Known, SqlKeeper};
+use sqlite::{Alter, Connection};
+use std::alloc::Global;
+
+/// The store over a database whose tables have the content of these lists. What it does not know in memory is let go.
+pub(crate) fn keeper_of<S: Alter>(
+    alloc: Global,
+    conn: Connection<S>,
+    lists: ListKeeper,
+) -> SqlKeeper<S>
+    requires settled { conn.in_transaction ≡ false }
+    requires readable { IsReadable lists.content }
+    requires kept { HasCleanDisk (state S.Store conn) → IsKept lists.content (state S.Store conn) }
+    ensures conn { result.conn ≡ conn }
+    ensures content { result.content ≡ lists.content }
+    ensures serves { result.failures ≡ 0 }
+    ensures settled { IsSettled (⟦<SqlKeeper<S> as Keeper>⟧.store result) }
+{
+    let tables = Content::of(&lists);
+    let rider_count = lists.riders_table().as_slice().len();
+    let known = Known::of(lists.into_known(alloc), tables);
+    SqlKeeper::of(alloc, conn, known, rider_count)
+}
