@@ -127,8 +127,8 @@ impl ListKeeper {
         })
     }
 
-    /// Makes room for what the change puts into the tables that a keeper over a database knows in memory. Want of memory
-    /// leaves the room in some tables, and no record changed.
+    /// Makes room for what the change puts into the tables that a keeper over a database knows in memory. Want of
+    /// memory leaves the room in some tables, and no record changed.
     pub fn reserve_known(&mut self, change: &Change) -> Result<(), AllocError>
         ensures content { self.new.content ≡ self.old.content }
         ensures room { OnOk result (HasKnownRoom change.now self.new.room) }

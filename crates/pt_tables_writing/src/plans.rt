@@ -34,8 +34,8 @@ fn replaced<'a>(
 
 /// Makes the edit in the table of plans; `records` has those that are there and that it takes away.
 ///
-/// Where one plan comes in place of another that `records` has, as in a booking, the rows of the stops that both begin with
-/// stay.
+/// Where one plan comes in place of another that `records` has, as in a booking, the rows of the stops that both begin
+/// with stay.
 pub(crate) fn write_plans<S: Alter>(
     tx: &mut Transaction<'_, S>,
     edits: &Edits<PlannedRoute>,
