@@ -1,5 +1,5 @@
 -- Records in order of key, and what putting one keeps.
-use Rattle.std.proofs.Common.{rules, ◌≡◌, ◌⊎◌, inl, inr, ℕ, ◌+◌, ◌<◌, ◌≤◌, IsTrue, List, [], ◌∷◌, length, suc, Option, Some, None, is_some, arith, refl, sym, ap, ◌∙◌, subst}
+use Rattle.std.proofs.Common.{rules, ◌≡◌, ◌⊎◌, inl, inr, ℕ, ◌+◌, ◌-◌, ◌<◌, ◌≤◌, IsTrue, List, [], ◌∷◌, length, suc, Option, Some, None, is_some, arith, refl, sym, ap, ◌∙◌, subst}
 use Rattle.std.specs.Prelude.{◌==◌, cond}
 use Rattle.std.proofs.lemmas.Bool.{cases_order}
 use Rattle.std.proofs.lemmas.Bool.Decides.{nat_tests}
@@ -74,6 +74,26 @@ length-put_there key new (x ∷ xs) order there = elim (compared (key x) (key ne
   | inr (inr gt) ↦ absurd (none_is_no_some (record_at key (key new) (x ∷ xs))
       (record_at-above key (key new) (x ∷ xs) (gt, Each-weaker (λ y. key x < key y) (λ y. key new < key y) (λ y above. omega arith) xs order.0)) there)
 ]
+
+-- one record more where the key is not there
+pub length-put_new : {A : Type 0} (key : A → ℕ) (new : A) (xs : List A) → record_at key (key new) xs ≡ None → length (put key new xs) ≡ length xs + 1
+length-put_new key new [] none = refl
+length-put_new key new (x ∷ xs) none = elim (compared (key x) (key new)) [
+  | inl lt ↦
+      let rest = length-put_new key new xs (sym (record_at-past key (key new) x xs (λ same. absurd (omega arith))) ∙ none) in
+      rw (put_past key new x xs lt) (omega arith)
+  | inr (inl same) ↦ absurd (let here = sym (record_at-here key (key new) x xs same) ∙ none in cc)
+  | inr (inr gt) ↦ rw (put_before key new x xs gt) (omega arith)
+]
+
+-- no more records than numbers below which their keys are
+pub length-below : {A : Type 0} (key : A → ℕ) (low most : ℕ) (xs : List A) → IsInOrder key xs → Each (λ x. low ≤ key x) xs → Each (λ x. key x < most) xs → length xs ≤ most - low
+length-below key low most [] order above below = omega arith
+length-below key low most (x ∷ xs) order above below =
+    let rest = length-below key (key x + 1) most xs order.1 (Each-weaker (λ y. key x < key y) (λ y. key x + 1 ≤ key y) (λ y lt. omega arith) xs order.0) below.1 in
+    let first : low ≤ key x = above.0 in
+    let last : key x < most = below.0 in
+    omega arith
 
 -- the new record is found by its key
 pub record_at-put_same : {A : Type 0} (key : A → ℕ) (new : A) (xs : List A) → record_at key (key new) (put key new xs) ≡ Some new
