@@ -17,6 +17,7 @@ use Rattle.pt_desk_rules.specs.Fleet.{is_newer, is_on_duty, on_duty}
 use Rattle.pt_desk_rules.specs.Planned.{planned_on, trips_on}
 use Rattle.pt_desk_rules.specs.Sound.{HasFirstDay, IsSound}
 use Rattle.pt_desk_rules.specs.State.{State, vehicle_key}
+use Rattle.pt_desk_rules.proofs.RangeLemmas.{first_days}
 
 -- a test that one of these passes is passed by some of them
 abbrev pub IsOneOf : List Vehicle → Vehicle → Type 0
@@ -91,4 +92,4 @@ pub has_routes : (s : State) → IsSound s → HasRoutes s
 has_routes s sound = λ number day.
     are_routes number day (trips_on day s.trips) (planned_on day s.planned) (on_duty day s.vehicles)
     (Each-filter IsRoutePlan (λ plan. plan.day == day) s.planned sound.planned_routes)
-    (duty_pairs day s.vehicles sound.first_days sound.vehicles_in_order)
+    (duty_pairs day s.vehicles (first_days s sound) sound.vehicles_in_order)

@@ -19,11 +19,12 @@ use Rattle.pt_scheduling.specs.declared.planned.PlannedStop.{PlannedStop}
 use Rattle.pt_scheduling.proofs.PlanLemmas.{found_key}
 use Rattle.pt_scheduling.proofs.RouteLemmas.{Each-found}
 use Rattle.pt_desk_rules.specs.Outcomes.{ended, status_of}
-use Rattle.pt_desk_rules.specs.Sound.{IsSound, IsNumberedTo, HasDay, HasPlaces, HasStandingTrips, IsOfRider, IsPlanned, StandsIn}
+use Rattle.pt_desk_rules.specs.Sound.{IsSound, IsNumberedTo, HasPlaces, HasStandingTrips, IsOfRider, IsPlanned, StandsIn}
 use Rattle.pt_desk_rules.specs.State.{State, trip_key, trip_of}
 use Rattle.pt_desk_rules.specs.Trips.{is_booked}
 use Rattle.pt_desk_rules.proofs.FitLemmas.{each_drive, each_load, planned_fit, CanServe, FitsIn}
 use Rattle.pt_desk_rules.proofs.PlannedLemmas.{put_stands, still_stands}
+use Rattle.pt_desk_rules.specs.Ranges.{KeepsRanges}
 
 -- whatever came of a trip that was not cancelled, it stands
 ended_stands : (end : Outcome) → stands (status_of end) ≡ true
@@ -73,14 +74,14 @@ ended_stops end trip trips here (stop ∷ later) =
           ∙ ap (λ (rest : List Stop). after_stop (record_at trip_key stop.trip trips) stop.kind rest) (ended_stops end trip trips here later)
     ]
 
-pub end_sound : (end : Outcome) (id : ℕ) (trip : Trip) (s : State) → IsSound s → trip_of id s ≡ Some trip → IsTrue (is_booked trip.status) → IsSound (record s { trips = put trip_key (ended end trip) s.trips })
-end_sound end id trip s sound found booked =
+pub end_sound : (end : Outcome) (id : ℕ) (trip : Trip) (s : State) → IsSound s → trip_of id s ≡ Some trip → IsTrue (is_booked trip.status)
+    → KeepsRanges (record s { trips = put trip_key (ended end trip) s.trips }) → IsSound (record s { trips = put trip_key (ended end trip) s.trips })
+end_sound end id trip s sound found booked ranges =
     let here : record_at trip_key trip.id s.trips ≡ Some trip = subst (λ (n : ℕ). record_at trip_key n s.trips ≡ Some trip) (sym (found_key trip_key id trip s.trips found)) found in
     let order = IsInOrder-put trip_key (ended end trip) s.trips sound.trips_in_order in
     let numbered = Each-put (IsNumberedTo s.last_trip) trip_key (ended end trip) s.trips sound.trips_numbered (Each-found (IsNumberedTo s.last_trip) trip_key id trip s.trips sound.trips_numbered found) in
     let riders = Each-put (IsOfRider s.riders) trip_key (ended end trip) s.trips sound.trips_of_riders (Each-found (IsOfRider s.riders) trip_key id trip s.trips sound.trips_of_riders found) in
     let ends = Each-put (HasPlaces s.places) trip_key (ended end trip) s.trips sound.trip_places_there (Each-found (HasPlaces s.places) trip_key id trip s.trips sound.trip_places_there found) in
-    let days = Each-put HasDay trip_key (ended end trip) s.trips sound.trip_days (Each-found HasDay trip_key id trip s.trips sound.trip_days found) in
     let standing = plans_stand end trip s.trips s.planned here sound.planned_trips_stand in
     let planned = Each-put (IsPlanned s.planned) trip_key (ended end trip) s.trips sound.standing_planned (λ _. Each-found (IsPlanned s.planned) trip_key id trip s.trips sound.standing_planned found (booked_stands trip.status booked)) in
     let fit = Each-weaker (FitsIn s.vehicles s.travel s.trips) (FitsIn s.vehicles s.travel (put trip_key (ended end trip) s.trips))

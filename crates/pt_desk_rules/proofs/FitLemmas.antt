@@ -1,6 +1,5 @@
 -- Each plan fits under the version of its vehicle and the travel table that are in force on its day.
-use Rattle.std.proofs.Common.{◌≡◌, ◌⊎◌, ℕ, ◌+◌, ◌<◌, ◌≤◌, zero, suc, Bool, true, false, not, List, [], ◌∷◌, length}
-use Rattle.std.proofs.Common.{Option, Some, None, Any, get_or, cond, refl, sym, ap, ◌∙◌, subst, inl, inr, arith}
+use Rattle.std.proofs.Common.{◌≡◌, ◌⊎◌, ℕ, ◌+◌, ◌<◌, ◌≤◌, zero, suc, Bool, true, false, not, List, [], ◌∷◌, length, Option, Some, None, Any, get_or, cond, refl, sym, ap, ◌∙◌, subst, inl, inr, arith}
 use Rattle.std.specs.Prelude.{◌==◌, ◌&&◌, ◌||◌, nat_le, filter, find}
 use Rattle.std.specs.List.{list_any}
 use Rattle.std.proofs.lemmas.Bool.Decides.{nat_tests}
@@ -25,8 +24,7 @@ use Rattle.pt_scheduling.proofs.RouteLemmas.{booked_plan, has_trip, Each-found}
 use Rattle.pt_desk_rules.specs.Booking.{routes_on, rows_of, AreTimes}
 use Rattle.pt_desk_rules.specs.Fleet.{has_weekday, is_newer, is_on_duty, on_duty, ClosesInDay}
 use Rattle.pt_desk_rules.specs.Planned.{is_booked_from, is_standing_from, planned_on, trips_on}
-use Rattle.pt_desk_rules.specs.Sound.{CanDrive, DrivesIn, HasDay, HasFirstDay, HasStandingTrips, HasStops, HasTimes}
-use Rattle.pt_desk_rules.specs.Sound.{HoldsOnDuty, IsOnDay, IsSound, LoadsFitIn, StandsIn}
+use Rattle.pt_desk_rules.specs.Sound.{CanDrive, DrivesIn, HasDay, HasFirstDay, HasStandingTrips, HasStops, HasTimes, HoldsOnDuty, IsOnDay, IsSound, LoadsFitIn, StandsIn}
 use Rattle.pt_desk_rules.specs.State.{tables_before, tables_from, travel_key, trip_key, vehicle_key, State}
 use Rattle.pt_desk_rules.specs.Travel as dated
 use Rattle.pt_desk_rules.specs.Travel.{holds_on, table_on, DatedTable}
@@ -35,6 +33,7 @@ use Rattle.pt_desk_rules.proofs.DutyLemmas.{duty_order, each_one, id_of}
 use Rattle.pt_desk_rules.proofs.FleetLemmas.{filter-kept, filter-put_other, fleet_with, kept_versions}
 use Rattle.pt_desk_rules.proofs.PlannedLemmas.{filter-gives, own_key, place_of_old, standing_at, stands_below}
 use Rattle.pt_desk_rules.proofs.StandingLemmas.{same_place, trip_on}
+use Rattle.pt_desk_rules.proofs.RangeLemmas.{first_days, hours, trip_days, planned_days}
 
 -- Lists in which the same elements pass.
 
@@ -193,7 +192,7 @@ both_fit vehicles travel trips plan days order (k, first, within, at, drives) (l
 pub planned_fit : (s : State) → IsSound s → Each (FitsIn s.vehicles s.travel s.trips) s.planned
 planned_fit s sound =
     Each-both (DrivesIn s.vehicles s.travel s.trips) (LoadsFitIn s.vehicles s.trips) (FitsIn s.vehicles s.travel s.trips)
-    (λ plan drives loads. both_fit s.vehicles s.travel s.trips plan sound.first_days sound.vehicles_in_order drives loads)
+    (λ plan drives loads. both_fit s.vehicles s.travel s.trips plan (first_days s sound) sound.vehicles_in_order drives loads)
     s.planned sound.planned_drive sound.planned_load
 
 -- the vehicle of a plan that fits drives its stops
@@ -361,7 +360,7 @@ first_trip : (s : State) (plan : Plan) (stops : List PlannedStop) → IsSound s 
 first_trip s plan [] sound on some each = absurd (omega arith)
 first_trip s plan (stop ∷ later) sound on some each =
     let (trip, there, standing, at) = each.0 in
-    let place = same_place trip plan (Each-found HasDay trip_key stop.trip trip s.trips sound.trip_days there) on at
+    let place = same_place trip plan (Each-found HasDay trip_key stop.trip trip s.trips (trip_days s sound) there) on at
     in
     (trip, stop.trip, there, standing, place.0, place.1)
 
@@ -395,7 +394,7 @@ IsSoundPlan s plan =
 pub sound_plans : (s : State) → IsSound s → Each (IsSoundPlan s) s.planned
 sound_plans s sound =
     Each-both IsOnDay (λ plan. HasStops plan × HasStandingTrips s.trips plan × FitsIn s.vehicles s.travel s.trips
-    plan) (IsSoundPlan s) (λ plan on rest. (on, rest.0, rest.1, rest.2)) s.planned sound.planned_days
+    plan) (IsSoundPlan s) (λ plan on rest. (on, rest.0, rest.1, rest.2)) s.planned (planned_days s sound)
     (Each-both HasStops (λ plan. HasStandingTrips s.trips plan × FitsIn s.vehicles s.travel s.trips plan)
     (λ plan. HasStops plan × HasStandingTrips s.trips plan × FitsIn s.vehicles s.travel s.trips plan)
     (λ plan some rest. (some, rest.0, rest.1)) s.planned sound.planned_have_stops
@@ -411,7 +410,7 @@ pub vehicle_fits : (new : Vehicle) (s : State) → IsSound s → HasFirstDay new
 vehicle_fits new s sound day free =
     Each-weaker (IsSoundPlan s) (FitsIn (fleet_with new s.vehicles) s.travel s.trips)
     (λ plan is. serves_still plan.day plan.vehicle new s.vehicles s.travel (stops_among s.trips plan.stops) day
-    sound.first_days
+    (first_days s sound)
     (λ same. before_free s plan new.id new.from_day sound is.0 is.1 is.2 free same) is.3) s.planned
     (sound_plans s sound)
 
@@ -469,7 +468,7 @@ without_fits : (s : State) (plan : Plan) (k : ℕ) → IsSound s → IsRoutePlan
     → CanServe s.vehicles s.travel plan.vehicle plan.day (stops_among s.trips (without k plan.stops))
 without_fits s plan k sound route (l, version, within, at, (own, (minutes, times, feasible))) =
     let hours = subst ClosesInDay at (Each-at ClosesInDay (on_duty plan.day s.vehicles)
-    (Each-filter ClosesInDay (is_on_duty plan.day s.vehicles) s.vehicles sound.hours) l version within) in (
+    (Each-filter ClosesInDay (is_on_duty plan.day s.vehicles) s.vehicles (hours s sound)) l version within) in (
       l,
       version,
       within,
@@ -538,7 +537,7 @@ in_both : (new : Trip) (number vehicle day : ℕ) (s : State) (stop : PlannedSto
 in_both new number vehicle day s stop sound is_day own (trip, there, standing, at) left =
     let same = found_key trip_key stop.trip trip s.trips there in
     let place = same_place trip (record { vehicle = vehicle; day = day; stops = [] })
-    (Each-found HasDay trip_key stop.trip trip s.trips sound.trip_days there) is_day at in (
+    (Each-found HasDay trip_key stop.trip trip s.trips (trip_days s sound) there) is_day at in (
       trip,
       subst (λ (n : ℕ). record_at trip_key n (trips_on day s.trips) ≡ Some trip) same
           (trip_on day trip s.trips place.1 (subst (λ (n : ℕ). record_at trip_key n s.trips ≡ Some trip) (sym same)

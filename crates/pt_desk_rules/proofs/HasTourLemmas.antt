@@ -1,6 +1,5 @@
 -- In a sound state each vehicle that has stops on a day has a tour.
-use Rattle.std.proofs.Common.{◌≡◌, ℕ, ◌<◌, Bool, true, false, IsTrue, List, [], ◌∷◌, length}
-use Rattle.std.proofs.Common.{Option, Some, None, cond, refl, sym, ap, ◌∙◌, subst, inl, inr, arith}
+use Rattle.std.proofs.Common.{◌≡◌, ℕ, ◌<◌, Bool, true, false, IsTrue, List, [], ◌∷◌, length, Option, Some, None, cond, refl, sym, ap, ◌∙◌, subst, inl, inr, arith}
 use Rattle.std.specs.Prelude.{◌==◌, ◌&&◌, filter, find, is_some}
 use Rattle.pt_base.specs.Day.{IsDay}
 use Rattle.pt_base.specs.declared.trip.Trip.{Trip}
@@ -27,6 +26,7 @@ use Rattle.pt_desk_rules.specs.Travel.{table_on}
 use Rattle.pt_desk_rules.proofs.DutyLemmas.{duty_order, each_one, id_of}
 use Rattle.pt_desk_rules.proofs.FitLemmas.{is_no, planned_fit, some_at, CanServe, FitsIn, Some_of}
 use Rattle.pt_desk_rules.proofs.StandingLemmas.{is_same, record_at-filter, same_day, same_place, same_vehicle, trip_on}
+use Rattle.pt_desk_rules.proofs.RangeLemmas.{first_days, trip_days, planned_days}
 
 -- the first that passes two tests is the first that passes one, of those that pass the other
 pub find_both : {A : Type 0} (p q : A → Bool) (xs : List A) → find (λ x. p x && q x) xs ≡ find p (filter q xs)
@@ -94,7 +94,7 @@ plan_tour : (s : State) (id day : ℕ) (plan : Plan) (sheet : VehicleSheet) → 
     → IsManifestOf id day (day_of day s) (duty_of id day s.vehicles) sheet → IsTrue (is_some sheet.tour)
 plan_tour s id day plan sheet sound is_day found some shows =
     let key = pair_key id day in
-    let on = Each-found IsOnDay plan_key key plan s.planned sound.planned_days found in
+    let on = Each-found IsOnDay plan_key key plan s.planned (planned_days s sound) found in
     let same = found_key plan_key key plan s.planned found in
     let of_vehicle : plan.vehicle ≡ id = same_vehicle plan.vehicle plan.day id day on.1 is_day.1 same in
     let of_day : plan.day ≡ day = same_day plan.vehicle plan.day id day on.1 is_day.1 same in
@@ -105,7 +105,7 @@ plan_tour s id day plan sheet sound is_day found some shows =
     let rows = rows_of (table_on day s.travel) in
     let (k, version, within, at, holds) = subst (λ (v : ℕ). CanServe s.vehicles s.travel v day stops) of_vehicle
     (subst (λ (d : ℕ). CanServe s.vehicles s.travel plan.vehicle d stops) of_day fits) in
-    let order = duty_order day s.vehicles s.vehicles (each_one s.vehicles) sound.first_days sound.vehicles_in_order in
+    let order = duty_order day s.vehicles s.vehicles (each_one s.vehicles) (first_days s sound) sound.vehicles_in_order in
     let (there, is_found, drives) = find_one (CanDrive rows stops) id (on_duty day s.vehicles) order
     (some_at (λ (v : Vehicle). (v.id ≡ id) × CanDrive rows stops v) (on_duty day s.vehicles) k version within at
     holds) in
@@ -119,7 +119,7 @@ plan_tour s id day plan sheet sound is_day found some shows =
     (is_same plan.day day of_day) found) in
     let driven : stops_on day (trips_on day s.trips) (planned_on day s.planned) there.id ≡ stops
     = ap (stops_among (trips_on day s.trips)) planned
-    ∙ same_stops day plan s.trips plan.stops sound.trip_days on of_day stand in
+    ∙ same_stops day plan s.trips plan.stops (trip_days s sound) on of_day stand in
     let has : HasTour rows there stops = record {
       some = some_stops s.trips (plan_key plan) plan.stops stand some;
       route = among_route s.trips plan.stops (Each-found IsRoutePlan plan_key key plan s.planned sound.planned_routes

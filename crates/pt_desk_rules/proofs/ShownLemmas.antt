@@ -23,14 +23,14 @@ use Rattle.pt_desk_rules.specs.Fleet.{duty_of, is_on_duty, on_duty}
 use Rattle.pt_desk_rules.specs.Planned.{planned_on, trips_on}
 use Rattle.pt_desk_rules.specs.Sound.{HasDay, HasStandingTrips, IsSound, StandsIn}
 use Rattle.pt_desk_rules.specs.State.{trip_key, State}
-use Rattle.pt_desk_rules.specs.Tours.{tour_stop, IsManifestOf, IsShownAt, IsTourOrNone}
-use Rattle.pt_desk_rules.specs.Tours.{ShowStandingTrips, StandsOn}
+use Rattle.pt_desk_rules.specs.Tours.{tour_stop, IsManifestOf, IsShownAt, IsTourOrNone, ShowStandingTrips, StandsOn}
 use Rattle.pt_desk_rules.specs.Travel.{table_on}
 use Rattle.pt_desk_rules.proofs.DutyLemmas.{id_of}
 use Rattle.pt_desk_rules.proofs.HasTourLemmas.{find_both}
 use Rattle.pt_desk_rules.proofs.PlannedLemmas.{standing_at}
 use Rattle.pt_desk_rules.proofs.StandingLemmas.{same_day, same_vehicle}
 use Rattle.pt_desk_rules.proofs.TourLemmas.{each_at}
+use Rattle.pt_desk_rules.proofs.RangeLemmas.{trip_days}
 
 after_of : (P : ℕ → Type 0) (trips : List Trip) (stop : PlannedStop) (found : Option Trip) (rest : List Stop)
     → record_at trip_key stop.trip trips ≡ found → P stop.trip → Each (λ (s : Stop). P s.trip) rest
@@ -53,7 +53,7 @@ each_among P trips (stop ∷ later) each =
 stands_on : (s : State) (id day vehicle number : ℕ) → IsSound s → IsDay day → vehicle ≡ id
     → StandsIn s.trips (pair_key vehicle day) number → StandsOn s id day number
 stands_on s id day vehicle number sound is_day own (trip, found, standing, place) =
-    let on = Each-found HasDay trip_key number trip s.trips sound.trip_days found in (
+    let on = Each-found HasDay trip_key number trip s.trips (trip_days s sound) found in (
       trip,
       found,
       standing,

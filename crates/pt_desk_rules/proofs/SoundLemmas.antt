@@ -13,7 +13,7 @@ use Rattle.pt_base.specs.declared.policy.Policy.{Policy}
 use Rattle.pt_base.specs.declared.rider.Rider.{Rider}
 use Rattle.pt_base.specs.declared.vehicle.Vehicle.{Vehicle}
 use Rattle.pt_base.specs.declared.rule.Rule.{Rule}
-use Rattle.pt_corridor.specs.Route.{Route, IsFixedRoute}
+use Rattle.pt_corridor.specs.Route.{Route}
 use Rattle.pt_records.specs.Keys.{pair_key}
 use Rattle.pt_records.specs.Records.{edited, put, put_all, take_away, is_within, record_at, Each, IsInOrder}
 use Rattle.pt_records.proofs.OrderLemmas.{Each-put, Each-weaker, Each-both, IsInOrder-put}
@@ -40,7 +40,7 @@ use Rattle.pt_desk_rules.specs.Booking.{routes_on, IsBooking}
 use Rattle.pt_rights.specs.declared.tally.Outcome.{Outcome}
 use Rattle.pt_desk_rules.specs.Outcomes.{awaits_outcome}
 use Rattle.pt_desk_rules.proofs.EndLemmas.{end_sound}
-use Rattle.pt_desk_rules.specs.Deciding.{booked, kept_by, with_kept, IsCancelDecided, IsChangeDecided, IsEndDecided, IsDecidedBy, IsDecisionAfter, IsMade, IsMadeIf}
+use Rattle.pt_desk_rules.specs.Deciding.{booked, kept_by, with_kept, IsCancelDecided, IsChangeDecided, IsEndDecided, IsDecidedBy, IsDecisionAfter, PutsInRangeIf}
 use Rattle.pt_desk_rules.specs.Trips.{cancelled, plan_of_stops, plan_span}
 use Rattle.pt_booking.specs.Request as request_of
 use Rattle.pt_scheduling.specs.Plan.{Plan, plan_key, planned_stops, stops_of_plan, without, IsPlannedRoute, IsRoutePlan}
@@ -48,11 +48,11 @@ use Rattle.pt_scheduling.specs.Scheduling.{IsBookedIn}
 use Rattle.pt_scheduling.specs.declared.planned.PlannedStop.{PlannedStop}
 use Rattle.pt_scheduling.proofs.PlanLemmas.{found_key}
 use Rattle.pt_scheduling.proofs.RouteLemmas.{booked_has, booked_keeps, booked_plan, booked_route, booked_trips, has_trip, left_has, left_route, planned_route, Each-found}
-use Rattle.pt_desk_rules.specs.Fleet.{ClosesInDay}
-use Rattle.pt_spelling.specs.Ranges.{IsEntry}
-use Rattle.pt_desk_rules.specs.Sound.{HasStops, HoldsFromDay, IsEntered}
-use Rattle.pt_desk_rules.proofs.FitLemmas.{booked_fits, each_drive, each_load, fit_after, fit_beside, has_stops}
-use Rattle.pt_desk_rules.proofs.FitLemmas.{left_fits, left_has_stops, travel_fits, vehicle_fits, FitsIn}
+use Rattle.pt_spelling.specs.Ranges.{IsRequest}
+use Rattle.pt_desk_rules.specs.Ranges.{FitsKept, KeepsRanges}
+use Rattle.pt_desk_rules.specs.Sound.{HasStops}
+use Rattle.pt_desk_rules.proofs.RangeLemmas.{Each-more, each-put, first_days, kept_in_range, planned_days, puts_beside, ranges_kept, trip_days}
+use Rattle.pt_desk_rules.proofs.FitLemmas.{booked_fits, each_drive, each_load, fit_after, fit_beside, has_stops, left_fits, left_has_stops, travel_fits, vehicle_fits, FitsIn}
 use Rattle.pt_desk_rules.proofs.StandingLemmas.{each_found, has_on, plans_left, put_planned, same_place, stays_beside, stays_planned, trip_on, Each-put_over}
 use Rattle.pt_desk_rules.proofs.PlannedLemmas.{left_standing, plans_after, plans_beside, put_stands, standing_without}
 use Rattle.pt_scheduling.specs.declared.scheduling.Scheduled.TheVariants as scheduled
@@ -61,7 +61,7 @@ use Rattle.pt_base.specs.declared.trip.Wish.{Wish}
 use Rattle.pt_base.specs.declared.moment.Moment.{Moment}
 use Rattle.pt_records.specs.declared.span.Span.{Span}
 use Rattle.pt_desk_rules.specs.Step.{state_after, arrival_in, sent_with, left_of, sender, IsOutcome, IsOutcomeBy, IsOutcomeAs}
-use Rattle.pt_desk_rules.specs.Sound.{IsSound, IsNumberedTo, IsSoundFile, IsIn, HasDigest, HasOneHolder, HasSubject, IsOfCaller, IsKeptWrite, HasFiledRider, HasAuthor, HasFirstDay, HasDepot, HasDay, HasPlaces, HasStandingTrips, IsOfPlaces, IsOfRider, IsOnDay, IsPlanned, StandsIn, AreNumberedFrom}
+use Rattle.pt_desk_rules.specs.Sound.{IsSound, IsNumberedTo, IsSoundFile, IsIn, HasOneHolder, HasSubject, IsOfCaller, IsKeptWrite, HasFiledRider, HasAuthor, HasFirstDay, HasDepot, HasDay, HasPlaces, HasStandingTrips, IsOfPlaces, IsOfRider, IsPlanned, StandsIn, AreNumberedFrom}
 use Rattle.pt_requests.specs.declared.caller.Caller.{Caller}
 use Rattle.pt_desk_rules.specs.declared.kept.Arrival.{Arrival}
 use Rattle.pt_desk_rules.specs.declared.kept.Arrival.TheVariants.{New, Repeated, Stale}
@@ -112,19 +112,19 @@ AllHold [] = Unit {0}
 AllHold (first ∷ rest) = (first.1 ≡ true) × AllHold rest
 
 -- Each lemma gives the lines that change; `search` takes the others as they are.
-put_caller_sound : (new : Caller) (s : State) → IsSound s → HasDigest new → IsTrue (has_subject new.role s.riders s.vehicles) → IsTrue (is_nobody_else new.id (caller_with new.digest s))
-    → IsTrue (is_some (record_at caller_key new.id s.callers) || nat_lt (length s.callers) most_callers) → IsSound (record s { callers = put caller_key new s.callers })
-put_caller_sound new s sound made subject free room =
+put_caller_sound : (new : Caller) (s : State) → IsSound s → IsTrue (has_subject new.role s.riders s.vehicles) → IsTrue (is_nobody_else new.id (caller_with new.digest s))
+    → IsTrue (is_some (record_at caller_key new.id s.callers) || nat_lt (length s.callers) most_callers)
+    → KeepsRanges (record s { callers = put caller_key new s.callers }) → IsSound (record s { callers = put caller_key new s.callers })
+put_caller_sound new s sound subject free room ranges =
     let table = IsTable-put caller_key new s.callers most_callers sound.callers room in
-    let digests = Each-put HasDigest caller_key new s.callers sound.digests made in
     let holders = one_holder-put new s.callers sound.one_holder_each (holders_are new s.callers sound.one_holder_each free) in
     let subjects = Each-put (HasSubject s.riders s.vehicles) caller_key new s.callers sound.subjects_there subject in
     let kept = Each-weaker (IsOfCaller s.callers) (IsOfCaller (put caller_key new s.callers)) (λ kept there. stays_there caller_key kept.caller new s.callers there) s.kept sound.kept_of_callers in
     let authors = Each-weaker (HasAuthor s.callers) (HasAuthor (put caller_key new s.callers)) (λ filed there. stays_there caller_key filed.entered.author new s.callers there) s.entries sound.authors_there in
     search rules
 
-put_policy_sound : (new : Policy) (s : State) → IsSound s → IsSound (record s { policy = new })
-put_policy_sound new s sound = search rules
+put_policy_sound : (new : Policy) (s : State) → IsSound s → KeepsRanges (record s { policy = new }) → IsSound (record s { policy = new })
+put_policy_sound new s sound ranges = search rules
 
 both_hold : (a b : Bool) → IsTrue (a && b) → IsTrue a × IsTrue b
 both_hold true true is = (refl, refl)
@@ -144,19 +144,20 @@ rows_stay new places (row ∷ rows) are =
     let ends = both_hold (is_some (record_at place_key row.0 places)) (is_some (record_at place_key row.1 places)) parts.0 in
     hold_both _ _ (hold_both _ _ (stays_there place_key row.0 new places ends.0) (stays_there place_key row.1 new places ends.1)) (rows_stay new places rows parts.1)
 
-put_place_sound : (new : Place) (s : State) → IsSound s → IsTrue (nat_lt (length s.places) most_places) → IsSound (record s { places = put place_key new s.places })
-put_place_sound new s sound room =
+put_place_sound : (new : Place) (s : State) → IsSound s → IsTrue (nat_lt (length s.places) most_places)
+    → KeepsRanges (record s { places = put place_key new s.places }) → IsSound (record s { places = put place_key new s.places })
+put_place_sound new s sound room ranges =
     let table = IsTable-add place_key new s.places most_places sound.places room in
     let depots = Each-weaker (HasDepot s.places) (HasDepot (put place_key new s.places)) (λ version there. stays_there place_key version.depot new s.places there) s.vehicles sound.depots_there in
-    let travel = Each-weaker (IsOfPlaces s.places) (IsOfPlaces (put place_key new s.places)) (λ table is. (is.0, rows_stay new s.places table.rows is.1)) s.travel sound.travel_of_places in
+    let travel = Each-weaker (IsOfPlaces s.places) (IsOfPlaces (put place_key new s.places)) (λ table is. rows_stay new s.places table.rows is) s.travel sound.travel_of_places in
     let ends = Each-weaker (HasPlaces s.places) (HasPlaces (put place_key new s.places))
     (λ trip there. (stays_there place_key trip.wish.from new s.places there.0, stays_there place_key trip.wish.to new s.places there.1)) s.trips sound.trip_places_there in
     search rules
 
-put_route_sound : (new : Route) (s : State) → IsSound s → IsFixedRoute new → IsTrue (is_some (record_at route_key new.id s.routes) || nat_lt (length s.routes) most_routes) → IsSound (record s { routes = put route_key new s.routes })
-put_route_sound new s sound made room =
+put_route_sound : (new : Route) (s : State) → IsSound s → IsTrue (is_some (record_at route_key new.id s.routes) || nat_lt (length s.routes) most_routes)
+    → KeepsRanges (record s { routes = put route_key new s.routes }) → IsSound (record s { routes = put route_key new s.routes })
+put_route_sound new s sound room ranges =
     let table = IsTable-put route_key new s.routes most_routes sound.routes room in
-    let all_made = Each-put IsFixedRoute route_key new s.routes sound.routes_made made in
     search rules
 
 subject_stays : (new : Rider) (riders : List Rider) (vehicles : List Vehicle) (role : Role) → IsTrue (has_subject role riders vehicles) → IsTrue (has_subject role (put rider_key new riders) vehicles)
@@ -169,8 +170,9 @@ subject_stays new riders vehicles (role.Driver vehicle) there = there
 subject_stays new riders vehicles role.Admin there = there
 
 put_rider_sound : (new : Rider) (s : State) → IsSound s → IsTrue (is_nobody_of_another_kind new.kind (rider_of new.id s))
-    → IsTrue (is_some (record_at rider_key new.id s.riders) || nat_lt (length s.riders) most_riders) → IsSound (record s { riders = put rider_key new s.riders })
-put_rider_sound new s sound free room =
+    → IsTrue (is_some (record_at rider_key new.id s.riders) || nat_lt (length s.riders) most_riders)
+    → KeepsRanges (record s { riders = put rider_key new s.riders }) → IsSound (record s { riders = put rider_key new s.riders })
+put_rider_sound new s sound free room ranges =
     let table = IsTable-put rider_key new s.riders most_riders sound.riders room in
     let subjects = Each-weaker (HasSubject s.riders s.vehicles) (HasSubject (put rider_key new s.riders) s.vehicles) (λ caller there. subject_stays new s.riders s.vehicles caller.role there) s.callers sound.subjects_there in
     let files = Each-weaker (HasFiledRider s.riders) (HasFiledRider (put rider_key new s.riders)) (λ filed there. stays_there rider_key filed.rider new s.riders there) s.entries sound.entries_of_riders in
@@ -224,9 +226,8 @@ files_stay new entries order files at room rider =
     ]
 
 put_entry_sound : (new : FiledEntry) (s : State) → IsSound s → IsIn rider_key s.riders new.rider → IsIn caller_key s.callers new.entered.author → new.position ≡ length (entries_of new.rider s.entries) → length (entries_of new.rider s.entries) < 200
-    → IsEntered new → IsSound (record s { entries = put entry_key new s.entries })
-put_entry_sound new s sound rider author at room is =
-    let made = Each-put IsEntered entry_key new s.entries sound.entries_made is in
+    → KeepsRanges (record s { entries = put entry_key new s.entries }) → IsSound (record s { entries = put entry_key new s.entries })
+put_entry_sound new s sound rider author at room ranges =
     let order = IsInOrder-put entry_key new s.entries sound.entries_in_order in
     let riders = Each-put (HasFiledRider s.riders) entry_key new s.entries sound.entries_of_riders rider in
     let authors = Each-put (HasAuthor s.callers) entry_key new s.entries sound.authors_there author in
@@ -245,8 +246,9 @@ whole_file rider s room =
 abbrev IsKeptIn : List Caller → Kept → Type 0
 IsKeptIn callers kept = IsIn caller_key callers kept.caller × IsKeptWrite kept
 
-numbered_sound : (kept : Kept) (s : State) → IsSound s → IsKeptIn s.callers kept → IsSound (record s { kept = put kept_key kept s.kept })
-numbered_sound kept s sound (there, write) =
+numbered_sound : (kept : Kept) (s : State) → IsSound s → FitsKept kept → IsKeptIn s.callers kept → IsSound (record s { kept = put kept_key kept s.kept })
+numbered_sound kept s sound fits (there, write) =
+    let ranges = kept_in_range kept s fits sound.ranges in
     let order = IsInOrder-put kept_key kept s.kept sound.kept_in_order in
     let callers = Each-put (IsOfCaller s.callers) kept_key kept s.kept sound.kept_of_callers there in
     let writes = Each-put IsKeptWrite kept_key kept s.kept sound.kept_writes write in
@@ -262,13 +264,14 @@ all_hold (first ∷ rest) none = let here = holds_first first.0 first.1 rest non
 
 enter_sound : (rider : ℕ) (entry : Entry) (me : Caller) (now : Moment) (s : State) → IsSound s
     → IsIn caller_key s.callers me.id → AllHold (rules_of (write.Enter rider entry) me now
-    (facts_of (write.Enter rider entry) s)) → IsEntry entry → IsDay now.day
+    (facts_of (write.Enter rider entry) s))
+    → KeepsRanges (record s { entries = put entry_key (record { rider = rider; position = length (file_of rider s); entered = record { entry = entry; day = now.day; author = me.id } }) s.entries })
     → IsSound (record s { entries = put entry_key (record { rider = rider; position = length (file_of rider s); entered = record { entry = entry; day = now.day; author = me.id } }) s.entries })
-enter_sound rider entry me now s sound there hold is_entry on =
+enter_sound rider entry me now s sound there hold ranges =
     let room = below_is (length (file_of rider s)) 200 hold.1.1.0 in
     let whole = whole_file rider s room in
     put_entry_sound (record { rider = rider; position = length (file_of rider s); entered = record { entry = entry; day = now.day; author = me.id } }) s sound
-    hold.1.0 there whole (omega arith) (record { on_day = on; ranges = is_entry })
+    hold.1.0 there whole (omega arith) ranges
 
 driver_stays : (new : Vehicle) (riders : List Rider) (vehicles : List Vehicle) (role : Role) → HasFirstDay new → Each HasFirstDay vehicles → IsTrue (has_subject role riders vehicles)
     → IsTrue (has_subject role riders (put vehicle_key new (take_away vehicle_key (versions_from new.id new.from_day) vehicles)))
@@ -284,34 +287,30 @@ not_true : (b : Bool) → not b ≡ true → b ≡ false
 not_true true is = absurd (cc)
 not_true false is = refl
 
-put_vehicle_sound : (new : Vehicle) (s : State) → IsSound s → HasFirstDay new → ClosesInDay new
+put_vehicle_sound : (new : Vehicle) (s : State) → IsSound s → HasFirstDay new
     → HasDepot s.places new → is_booked_from (Some new.id) new.from_day s.trips ≡ false
     → IsTrue (has_room_for new s.vehicles)
+    → KeepsRanges (record s { vehicles = put vehicle_key new (take_away vehicle_key (versions_from new.id new.from_day) s.vehicles) })
     → IsSound (record s { vehicles = put vehicle_key new (take_away vehicle_key (versions_from new.id new.from_day) s.vehicles) })
-put_vehicle_sound new s sound day closes depot free room =
+put_vehicle_sound new s sound day depot free room ranges =
     let kept = λ (version : Vehicle). not (is_within (vehicle_key version) (versions_from new.id new.from_day)) in
     let left = filter kept s.vehicles in
     let rooms = both_hold (nat_lt (length (versions_before new.id new.from_day s.vehicles)) 20) (nat_lt (vehicle_count (versions_of_others new.id s.vehicles)) 50) room in
     let order = IsInOrder-put vehicle_key new left (IsInOrder-filter vehicle_key kept s.vehicles sound.vehicles_in_order) in
-    let days = Each-put HasFirstDay vehicle_key new left (Each-filter HasFirstDay kept s.vehicles sound.first_days) day in
-    let hours = Each-put ClosesInDay vehicle_key new left (Each-filter ClosesInDay kept s.vehicles sound.hours) closes
-    in
     let fit = vehicle_fits new s sound day free in
     let drive = each_drive (put vehicle_key new left) s.travel s.trips s.planned fit in
     let load = each_load (put vehicle_key new left) s.travel s.trips s.planned fit in
     let depots = Each-put (HasDepot s.places) vehicle_key new left (Each-filter (HasDepot s.places) kept s.vehicles sound.depots_there) depot in
-    let fleet = fleet_stays new s.vehicles day sound.first_days sound.fleet (below_is _ 20 rooms.0) (below_is _ 50 rooms.1) in
-    let subjects = Each-weaker (HasSubject s.riders s.vehicles) (HasSubject s.riders (put vehicle_key new left)) (λ caller there. driver_stays new s.riders s.vehicles caller.role day sound.first_days there) s.callers sound.subjects_there in
+    let fleet = fleet_stays new s.vehicles day (first_days s sound) sound.fleet (below_is _ 20 rooms.0) (below_is _ 50 rooms.1) in
+    let subjects = Each-weaker (HasSubject s.riders s.vehicles) (HasSubject s.riders (put vehicle_key new left)) (λ caller there. driver_stays new s.riders s.vehicles caller.role day (first_days s sound) there) s.callers sound.subjects_there in
     search rules
 
-put_travel_sound : (new : DatedTable) (s : State) → IsSound s → HoldsFromDay new → IsOfPlaces s.places new
+put_travel_sound : (new : DatedTable) (s : State) → IsSound s → IsOfPlaces s.places new
     → is_booked_from None new.from_day s.trips ≡ false
     → IsTrue (nat_lt (length (tables_before new.from_day s.travel)) most_tables)
+    → KeepsRanges (record s { travel = put travel_key new (take_away travel_key (tables_from new.from_day) s.travel) })
     → IsSound (record s { travel = put travel_key new (take_away travel_key (tables_from new.from_day) s.travel) })
-put_travel_sound new s sound day is free room =
-    let days = Each-put HoldsFromDay travel_key new (tables_before new.from_day s.travel)
-    (Each-filter HoldsFromDay (λ table. not (is_within (travel_key table) (tables_from new.from_day))) s.travel
-    sound.travel_days) day in
+put_travel_sound new s sound is free room ranges =
     let fit = travel_fits new s sound free in
     let drive = each_drive s.vehicles (put travel_key new (tables_before new.from_day s.travel)) s.trips s.planned fit in
     let table = IsTable-replace travel_key (tables_from new.from_day) new s.travel most_tables sound.travel room in
@@ -319,18 +318,10 @@ put_travel_sound new s sound day is free room =
     (Each-filter (IsOfPlaces s.places) (λ table. not (is_within (travel_key table) (tables_from new.from_day))) s.travel sound.travel_of_places) is in
     search rules
 
-accepted_on : (today : ℕ) (asked : Write) (s : State) (decided : Decision) (told : Answer) (change : Change)
-    → decided ≡ Accepted told change → IsMadeIf decided asked today
-    → (IsMade asked → IsDay today → IsSound (applied change s)) → IsSound (state_after (left_of decided s) s)
-accepted_on today asked s decided told change is made sound =
-    let both = subst (λ d. IsMadeIf d asked today) is made in
-    subst (λ d. IsSound (state_after (left_of d s) s)) (sym is) (sound both.0 both.1)
-
-accepted_sound : (today : ℕ) (asked : Write) (s : State) (decided : Decision) (told : Answer) (change : Change)
-    → decided ≡ Accepted told change → IsMadeIf decided asked today → (IsMade asked → IsSound (applied change s))
-    → IsSound (state_after (left_of decided s) s)
-accepted_sound today asked s decided told change is made sound =
-    accepted_on today asked s decided told change is made (λ made on. sound made)
+accepted_sound : (s : State) (decided : Decision) (told : Answer) (change : Change) → IsSound s → decided ≡ Accepted told change → PutsInRangeIf decided
+    → (KeepsRanges (applied change s) → IsSound (applied change s)) → IsSound (state_after (left_of decided s) s)
+accepted_sound s decided told change before is puts sound =
+    subst (λ d. IsSound (state_after (left_of d s) s)) (sym is) (sound (ranges_kept change s (subst PutsInRangeIf is puts) before.ranges))
 
 -- a later number is given, and no trip had it
 numbered_on : (last next : ℕ) → last ≤ next → (trips : List Trip) → Each (IsNumberedTo last) trips → Each (IsNumberedTo next) trips
@@ -341,10 +332,11 @@ abbrev IsThere : State → Trip → Type 0
 IsThere s trip = IsOfRider s.riders trip × HasPlaces s.places trip
 
 book_sound : (trip : Trip) (plan : Plan) (s : State) → IsSound s → trip.id ≡ s.last_trip + 1 → IsThere s trip → IsRoutePlan plan → HasStandingTrips (put trip_key trip s.trips) plan
-    → HasDay trip → IsOnDay plan → Each (IsPlanned (put plan_key plan s.planned)) (put trip_key trip s.trips)
+    → Each (IsPlanned (put plan_key plan s.planned)) (put trip_key trip s.trips)
     → HasStops plan → FitsIn s.vehicles s.travel (put trip_key trip s.trips) plan
+    → KeepsRanges (record s { trips = put trip_key trip s.trips; planned = put plan_key plan s.planned; last_trip = trip.id })
     → IsSound (record s { trips = put trip_key trip s.trips; planned = put plan_key plan s.planned; last_trip = trip.id })
-book_sound trip plan s sound is there route standing day on planned_all some fits =
+book_sound trip plan s sound is there route standing planned_all some fits ranges =
     let have_stops = Each-put HasStops plan_key plan s.planned sound.planned_have_stops some in
     let fit = Each-put (FitsIn s.vehicles s.travel (put trip_key trip s.trips)) plan_key plan s.planned
     (fit_after trip s sound is) fits in
@@ -356,8 +348,6 @@ book_sound trip plan s sound is there route standing day on planned_all some fit
     let routes = Each-put IsRoutePlan plan_key plan s.planned sound.planned_routes route in
     let stand = Each-put (HasStandingTrips (put trip_key trip s.trips)) plan_key plan s.planned
     (plans_after s.last_trip s.trips trip s.planned is sound.trips_numbered sound.planned_trips_stand) standing in
-    let days = Each-put HasDay trip_key trip s.trips sound.trip_days day in
-    let on_days = Each-put IsOnDay plan_key plan s.planned sound.planned_days on in
     let riders = Each-put (IsOfRider s.riders) trip_key trip s.trips sound.trips_of_riders there.0 in
     let ends = Each-put (HasPlaces s.places) trip_key trip s.trips sound.trip_places_there there.1 in
     search rules
@@ -366,30 +356,23 @@ put_all_order : (plans : List Plan) (there : List Plan) → IsInOrder plan_key t
 put_all_order [] there order = order
 put_all_order (plan ∷ plans) there order = put_all_order plans (put plan_key plan there) (IsInOrder-put plan_key plan there order)
 
-put_all_each : (P : Plan → Type 0) (plans there : List Plan) → Each P plans → Each P there → Each P (put_all plan_key plans there)
-put_all_each P [] there new old = old
-put_all_each P (plan ∷ plans) there new old = put_all_each P plans (put plan_key plan there) new.1 (Each-put P plan_key plan there old new.0)
-
 -- what is left of a plan is a route, and so is a plan that is put beside it
 left_routes : (trip : Trip) (stops : List PlannedStop) → IsPlannedRoute stops → Each IsRoutePlan (plan_of_stops trip stops)
 left_routes trip [] route = tt
 left_routes trip (stop ∷ later) route = (route, tt)
 
-and_one : (P : Plan → Type 0) (plans : List Plan) (plan : Plan) → Each P plans → P plan → Each P (plans ++ plan ∷ [])
-and_one P [] plan each holds = (holds, tt)
-and_one P (first ∷ later) plan each holds = (each.0, and_one P later plan each.1 holds)
-
 edit_sound : (trip : Trip) (away : Span) (plans : List Plan) (s : State) → IsSound s → trip.id ≤ s.last_trip → IsThere s trip → Each IsRoutePlan plans
     → Each (HasStandingTrips (put trip_key trip s.trips)) plans → Each (HasStandingTrips (put trip_key trip s.trips)) (take_away plan_key away s.planned)
-    → HasDay trip → Each IsOnDay plans → Each (IsPlanned (put_all plan_key plans (take_away plan_key away s.planned)))
+    → Each (IsPlanned (put_all plan_key plans (take_away plan_key away s.planned)))
     (put trip_key trip s.trips) → Each HasStops plans
     → Each (FitsIn s.vehicles s.travel (put trip_key trip s.trips)) plans
     → Each (FitsIn s.vehicles s.travel (put trip_key trip s.trips)) (take_away plan_key away s.planned)
+    → KeepsRanges (record s { trips = put trip_key trip s.trips; planned = put_all plan_key plans (take_away plan_key away s.planned) })
     → IsSound (record s { trips = put trip_key trip s.trips; planned = put_all plan_key plans (take_away plan_key away s.planned) })
-edit_sound trip away plans s sound below there new standing beside day on planned_all some fits fits_beside =
-    let have_stops = put_all_each HasStops plans (take_away plan_key away s.planned) some
+edit_sound trip away plans s sound below there new standing beside planned_all some fits fits_beside ranges =
+    let have_stops = each-put HasStops plan_key plans (take_away plan_key away s.planned) some
     (Each-filter HasStops (λ plan. not (is_within (plan_key plan) away)) s.planned sound.planned_have_stops) in
-    let fit = put_all_each (FitsIn s.vehicles s.travel (put trip_key trip s.trips)) plans
+    let fit = each-put (FitsIn s.vehicles s.travel (put trip_key trip s.trips)) plan_key plans
     (take_away plan_key away s.planned) fits fits_beside in
     let drive = each_drive s.vehicles s.travel (put trip_key trip s.trips)
     (put_all plan_key plans (take_away plan_key away s.planned)) fit in
@@ -398,10 +381,8 @@ edit_sound trip away plans s sound below there new standing beside day on planne
     let trips = IsInOrder-put trip_key trip s.trips sound.trips_in_order in
     let numbered = Each-put (IsNumberedTo s.last_trip) trip_key trip s.trips sound.trips_numbered below in
     let planned = put_all_order plans (take_away plan_key away s.planned) (IsInOrder-filter plan_key (λ plan. not (is_within (plan_key plan) away)) s.planned sound.planned_in_order) in
-    let days = Each-put HasDay trip_key trip s.trips sound.trip_days day in
-    let on_days = put_all_each IsOnDay plans (take_away plan_key away s.planned) on (Each-filter IsOnDay (λ plan. not (is_within (plan_key plan) away)) s.planned sound.planned_days) in
-    let stand = put_all_each (HasStandingTrips (put trip_key trip s.trips)) plans (take_away plan_key away s.planned) standing beside in
-    let routes = put_all_each IsRoutePlan plans (take_away plan_key away s.planned) new (Each-filter IsRoutePlan (λ plan. not (is_within (plan_key plan) away)) s.planned sound.planned_routes) in
+    let stand = each-put (HasStandingTrips (put trip_key trip s.trips)) plan_key plans (take_away plan_key away s.planned) standing beside in
+    let routes = each-put IsRoutePlan plan_key plans (take_away plan_key away s.planned) new (Each-filter IsRoutePlan (λ plan. not (is_within (plan_key plan) away)) s.planned sound.planned_routes) in
     let riders = Each-put (IsOfRider s.riders) trip_key trip s.trips sound.trips_of_riders there.0 in
     let ends = Each-put (HasPlaces s.places) trip_key trip s.trips sound.trip_places_there there.1 in
     search rules
@@ -450,7 +431,7 @@ kept_each s sound =
     Each-both (λ (t : Trip). record_at trip_key t.id s.trips ≡ Some t) (λ (t : Trip). HasDay t × IsPlanned s.planned t × IsNumberedTo s.last_trip t) (IsKept s)
     (λ t found rest. (found, rest.0, rest.1, rest.2)) s.trips (each_found s.trips sound.trips_in_order)
     (Each-both HasDay (λ (t : Trip). IsPlanned s.planned t × IsNumberedTo s.last_trip t) (λ (t : Trip). HasDay t × IsPlanned s.planned t × IsNumberedTo s.last_trip t)
-    (λ t day rest. (day, rest.0, rest.1)) s.trips sound.trip_days
+    (λ t day rest. (day, rest.0, rest.1)) s.trips (trip_days s sound)
     (Each-both (IsPlanned s.planned) (IsNumberedTo s.last_trip) (λ (t : Trip). IsPlanned s.planned t × IsNumberedTo s.last_trip t) (λ t planned below. (planned, below)) s.trips
     sound.standing_planned sound.trips_numbered))
 
@@ -467,7 +448,7 @@ booked_keeps_others minutes number day request trip plan s other sound is own on
     = ap (λ (v : ℕ). has_trip other.id (planned_stops v day s.planned)) (sym place.0) ∙ ap (λ (d : ℕ). has_trip other.id (planned_stops other.vehicle d s.planned)) (sym other_day) ∙ kept.2 standing in
     booked_keeps minutes day (trips_on day s.trips) (planned_on day s.planned) (on_duty day s.vehicles) request trip plan other (λ alike. differ (sym alike))
     (trip_on day other s.trips other_day kept.0)
-    (left_has other.id request.trip (planned_stops plan.vehicle day (planned_on day s.planned)) (λ alike. differ (alike ∙ is ∙ sym own)) (has_on plan.vehicle day other.id s.planned is_day sound.planned_days there))
+    (left_has other.id request.trip (planned_stops plan.vehicle day (planned_on day s.planned)) (λ alike. differ (alike ∙ is ∙ sym own)) (has_on plan.vehicle day other.id s.planned is_day (planned_days s sound) there))
     (subst (λ (n : ℕ). IsBookedIn minutes (routes_on n day s) request trip plan) (sym is) booked)
 
 -- and the trip itself
@@ -528,16 +509,6 @@ cancel_planned trip s sound day =
     (λ t kept differ standing. stays_planned trip t s.planned day kept.1 differ (kept.2 standing)) s.trips (kept_each s sound))
     (λ standing. absurd (cc))
 
-left_on : (trip : Trip) (stops : List PlannedStop) → HasDay trip → Each IsOnDay (plan_of_stops trip stops)
-left_on trip [] day = tt
-left_on trip (stop ∷ later) day = (day, tt)
-
--- a plan of a trip that is booked is on its day
-plan_on_day : (minutes : ℕ → ℕ → Option ℕ) (number day : ℕ) (request : request_of.Request) (trip : Trip) (plan : Plan) (s : State) → trip.wish.day ≡ day → IsDay day
-    → IsBookedIn minutes (routes_on number day s) request trip plan → IsOnDay plan
-plan_on_day minutes number day request trip plan s on is_day booked =
-    let (vehicle, of_day, stand) = booked_plan minutes (routes_on number day s) request trip plan booked in subst IsDay (sym on ∙ of_day) is_day
-
 on_day : (request : request_of.Request) (trip : Trip) (wish : Wish) → trip.wish ≡ request.wish → request.wish ≡ wish → trip.wish.day ≡ wish.day
 on_day request trip wish is wished = ap (λ (w : Wish). w.day) (is ∙ wished)
 
@@ -546,61 +517,57 @@ found_again : (id : ℕ) (trip : Trip) (trips : List Trip) → record_at trip_ke
 found_again id trip trips found = subst (λ (n : ℕ). record_at trip_key n trips ≡ Some trip) (sym (found_key trip_key id trip trips found)) found
 
 booking_sound : (today : ℕ) (rider : ℕ) (wish : Wish) (s : State) (decided : Decision) → IsSound s
-    → IsMadeIf decided (write.Book rider wish) today → IsBooking booked (s.last_trip + 1) None today wish (facts_of (write.Book rider wish) s) decided → IsSound (state_after (left_of decided s) s)
-booking_sound today rider wish s decided sound made (scheduled.Denied rule, by, is) = subst (λ d. IsSound (state_after (left_of d s) s)) (sym is) sound
-booking_sound today rider wish s decided sound made (scheduled.Booked trip plan, (request, asked, (minutes, times, (none, (chosen, at)))), (told, confirms, is)) =
-    let is_day : IsDay wish.day = (subst (λ d. IsMadeIf d (write.Book rider wish) today) is made).0 in
+    → IsDay wish.day → PutsInRangeIf decided → IsBooking booked (s.last_trip + 1) None today wish (facts_of (write.Book rider wish) s) decided → IsSound (state_after (left_of decided s) s)
+booking_sound today rider wish s decided sound is_day puts (scheduled.Denied rule, by, is) = subst (λ d. IsSound (state_after (left_of d s) s)) (sym is) sound
+booking_sound today rider wish s decided sound is_day puts (scheduled.Booked trip plan, (request, asked, (minutes, times, (none, (chosen, at)))), (told, confirms, is)) =
     let on = on_day request trip wish at.trip_of.wish asked.wished in
     let own : trip.id ≡ s.last_trip + 1 = at.trip_of.number ∙ asked.trip in
-    subst (λ d. IsSound (state_after (left_of d s) s)) (sym is)
-    (book_sound trip plan s sound own
+    accepted_sound s decided _ _ sound is puts (λ ranges.
+    book_sound trip plan s sound own
     (booked_is_there minutes (s.last_trip + 1) wish.day rider wish request trip plan s asked.trip asked.rider asked.from asked.to asked.wished (chosen, at))
     (booked_there minutes (s.last_trip + 1) wish.day request trip plan s sound asked.trip (chosen, at))
     (booked_stand minutes (s.last_trip + 1) wish.day request trip plan s sound asked.trip on (chosen, at))
-    (subst IsDay (sym on) is_day) (plan_on_day minutes (s.last_trip + 1) wish.day request trip plan s on is_day (chosen, at))
     (book_planned minutes wish.day request trip plan s sound asked.trip own on is_day (chosen, at))
     (has_stops trip.id plan.stops (booked_has_own minutes (s.last_trip + 1) wish.day request trip plan s asked.trip
     own (chosen, at)))
     (booked_fits minutes (s.last_trip + 1) wish.day request trip plan s sound asked.trip on is_day times
-    (chosen, at)))
+    (chosen, at)) ranges)
 
 change_trip_sound : (today : ℕ) (found : Option Trip) (id : ℕ) (wish : Wish) (s : State) (decided : Decision) → IsSound s
-    → IsMadeIf decided (write.Change id wish) today → trip_of id s ≡ found → IsChangeDecided found wish today (change_facts found wish s) decided → IsSound (state_after (left_of decided s) s)
-change_trip_sound today None id wish s decided sound made found changes = absurd changes
-change_trip_sound today (Some old) id wish s decided sound made found (scheduled.Denied rule, by, is) = subst (λ d. IsSound (state_after (left_of d s) s)) (sym is) sound
-change_trip_sound today (Some old) id wish s decided sound made found (scheduled.Booked trip plan, (request, asked, (minutes, times, (none, (chosen, at)))), (told, confirms, is)) =
+    → IsDay wish.day → PutsInRangeIf decided → trip_of id s ≡ found → IsChangeDecided found wish today (change_facts found wish s) decided → IsSound (state_after (left_of decided s) s)
+change_trip_sound today None id wish s decided sound is_day puts found changes = absurd changes
+change_trip_sound today (Some old) id wish s decided sound is_day puts found (scheduled.Denied rule, by, is) = subst (λ d. IsSound (state_after (left_of d s) s)) (sym is) sound
+change_trip_sound today (Some old) id wish s decided sound is_day puts found (scheduled.Booked trip plan, (request, asked, (minutes, times, (none, (chosen, at)))), (told, confirms, is)) =
     let left = without old.id (stops_of_plan (plan_for (Some old) s)) in
-    let new = and_one IsRoutePlan (plan_of_stops old left) plan (left_routes old left (left_there old s sound)) (booked_there minutes old.id wish.day request trip plan s sound asked.trip (chosen, at)) in
+    let new = Each-more IsRoutePlan (plan_of_stops old left) plan (left_routes old left (left_there old s sound)) (booked_there minutes old.id wish.day request trip plan s sound asked.trip (chosen, at)) in
     let number : trip.id ≡ old.id = at.trip_of.number ∙ asked.trip in
-    let is_day : IsDay wish.day = (subst (λ d. IsMadeIf d (write.Change id wish) today) is made).0 in
     let on = on_day request trip wish at.trip_of.wish asked.wished in
-    let old_day : HasDay old = Each-found HasDay trip_key id old s.trips sound.trip_days found in
+    let old_day : HasDay old = Each-found HasDay trip_key id old s.trips (trip_days s sound) found in
     let here : record_at trip_key old.id s.trips ≡ Some old = found_again id old s.trips found in
-    let standing = and_one (HasStandingTrips (put trip_key trip s.trips)) (plan_of_stops old left) plan
+    let standing = Each-more (HasStandingTrips (put trip_key trip s.trips)) (plan_of_stops old left) plan
     (left_standing (put trip_key trip s.trips) old left (standing_without s.trips trip old.id old.vehicle old.wish.day s.planned number sound.planned_trips_stand))
     (booked_stand minutes old.id wish.day request trip plan s sound asked.trip (on_day request trip wish at.trip_of.wish asked.wished) (chosen, at)) in
     let below = subst (λ (n : ℕ). n ≤ s.last_trip) (sym (at.trip_of.number ∙ asked.trip)) (Each-found (IsNumberedTo s.last_trip) trip_key id old s.trips sound.trips_numbered found) in
-    subst (λ d. IsSound (state_after (left_of d s) s)) (sym is)
-    (edit_sound trip (plan_span old) (plan_of_stops old left ++ plan ∷ []) s sound below
+    accepted_sound s decided _ _ sound is puts (λ ranges.
+    edit_sound trip (plan_span old) (plan_of_stops old left ++ plan ∷ []) s sound below
     (booked_is_there minutes old.id wish.day old.rider wish request trip plan s asked.trip asked.rider asked.from asked.to asked.wished (chosen, at)) new standing
     (plans_beside s.trips old trip s.planned number here sound.planned_trips_stand)
-    (subst IsDay (sym on) is_day) (and_one IsOnDay (plan_of_stops old left) plan (left_on old left old_day) (plan_on_day minutes old.id wish.day request trip plan s on is_day (chosen, at)))
     (change_planned minutes wish.day request old trip plan s sound old_day asked.trip number on is_day (chosen, at))
-    (and_one HasStops (plan_of_stops old left) plan (left_has_stops old left)
+    (Each-more HasStops (plan_of_stops old left) plan (left_has_stops old left)
     (has_stops trip.id plan.stops (booked_has_own minutes old.id wish.day request trip plan s asked.trip number
     (chosen, at))))
-    (and_one (FitsIn s.vehicles s.travel (put trip_key trip s.trips)) (plan_of_stops old left) plan
+    (Each-more (FitsIn s.vehicles s.travel (put trip_key trip s.trips)) (plan_of_stops old left) plan
     (left_fits old trip s sound old_day number)
     (booked_fits minutes old.id wish.day request trip plan s sound asked.trip on is_day times (chosen, at)))
-    (fit_beside old trip s sound number here))
+    (fit_beside old trip s sound number here) ranges)
 
 cancel_sound : (found : Option Trip) (id : ℕ) (s : State) (decided : Decision) → IsSound s
-    → trip_of id s ≡ found → IsCancelDecided found (cancel_facts found s) decided → IsSound (state_after (left_of decided s) s)
-cancel_sound None id s decided sound found cancels = absurd cancels
-cancel_sound (Some trip) id s decided sound found is =
+    → PutsInRangeIf decided → trip_of id s ≡ found → IsCancelDecided found (cancel_facts found s) decided → IsSound (state_after (left_of decided s) s)
+cancel_sound None id s decided sound puts found cancels = absurd cancels
+cancel_sound (Some trip) id s decided sound puts found is =
     let left = without trip.id (stops_of_plan (plan_for (Some trip) s)) in
-    subst (λ d. IsSound (state_after (left_of d s) s)) (sym is)
-    (edit_sound (cancelled trip) (plan_span trip) (plan_of_stops trip left) s sound
+    accepted_sound s decided _ _ sound is puts (λ ranges.
+    edit_sound (cancelled trip) (plan_span trip) (plan_of_stops trip left) s sound
     (Each-found (IsNumberedTo s.last_trip) trip_key id trip s.trips sound.trips_numbered found) (
       Each-found (IsOfRider s.riders) trip_key id trip s.trips sound.trips_of_riders found,
       Each-found (HasPlaces s.places) trip_key id trip s.trips sound.trip_places_there found,
@@ -609,17 +576,16 @@ cancel_sound (Some trip) id s decided sound found is =
     (left_standing (put trip_key (cancelled trip) s.trips) trip left
     (standing_without s.trips (cancelled trip) trip.id trip.vehicle trip.wish.day s.planned refl sound.planned_trips_stand))
     (plans_beside s.trips trip (cancelled trip) s.planned refl (found_again id trip s.trips found) sound.planned_trips_stand)
-    (Each-found HasDay trip_key id trip s.trips sound.trip_days found) (left_on trip left (Each-found HasDay trip_key id trip s.trips sound.trip_days found))
-    (cancel_planned trip s sound (Each-found HasDay trip_key id trip s.trips sound.trip_days found))
+    (cancel_planned trip s sound (Each-found HasDay trip_key id trip s.trips (trip_days s sound) found))
     (left_has_stops trip left) (left_fits trip (cancelled trip) s sound
-    (Each-found HasDay trip_key id trip s.trips sound.trip_days found) refl)
-    (fit_beside trip (cancelled trip) s sound refl (found_again id trip s.trips found)))
+    (Each-found HasDay trip_key id trip s.trips (trip_days s sound) found) refl)
+    (fit_beside trip (cancelled trip) s sound refl (found_again id trip s.trips found)) ranges)
 
 outcome_sound : (outcome : Outcome) (found : Option Trip) (id : ℕ) (s : State) (decided : Decision) → IsSound s
-    → trip_of id s ≡ found → IsTrue (awaits_outcome found) → IsEndDecided found outcome decided → IsSound (state_after (left_of decided s) s)
-outcome_sound outcome None id s decided sound found booked ends = absurd ends
-outcome_sound outcome (Some trip) id s decided sound found booked is =
-    subst (λ d. IsSound (state_after (left_of d s) s)) (sym is) (end_sound outcome id trip s sound found booked)
+    → PutsInRangeIf decided → trip_of id s ≡ found → IsTrue (awaits_outcome found) → IsEndDecided found outcome decided → IsSound (state_after (left_of decided s) s)
+outcome_sound outcome None id s decided sound puts found booked ends = absurd ends
+outcome_sound outcome (Some trip) id s decided sound puts found booked is =
+    accepted_sound s decided _ _ sound is puts (λ ranges. end_sound outcome id trip s sound found booked ranges)
 
 -- the facts of a change and of a cancellation have the trip that is there
 pub change_trip : (found : Option Trip) (wish : Wish) (s : State) → (change_facts found wish s).booking.trip ≡ found
@@ -632,37 +598,37 @@ cancel_trip (Some trip) s = refl
 
 -- what an accepted write makes of a sound state
 decided_sound : (asked : Write) (me : Caller) (now : Moment) (s : State) (made : Decision) → IsSound s → IsIn caller_key s.callers me.id → AllHold (rules_of asked me now (facts_of asked s))
-    → IsDecidedBy asked me.id now.day (facts_of asked s) made → IsMadeIf made asked now.day → IsSound (state_after (left_of made s) s)
-decided_sound (write.PutCaller new) me now s made sound there hold is ready =
-    accepted_sound now.day (write.PutCaller new) s made _ _ is ready (λ digest. put_caller_sound new s sound digest hold.1.0 hold.1.1.0 hold.1.1.1.0)
-decided_sound (write.PutPolicy new) me now s made sound there hold is ready =
-    accepted_sound now.day (write.PutPolicy new) s made _ _ is ready (λ _. put_policy_sound new s sound)
-decided_sound (write.PutPlace new) me now s made sound there hold is ready =
-    accepted_sound now.day (write.PutPlace new) s made _ _ is ready (λ _. put_place_sound new s sound hold.1.1.0)
-decided_sound (write.PutRoute new) me now s made sound there hold is ready =
-    accepted_sound now.day (write.PutRoute new) s made _ _ is ready (λ route. put_route_sound new s sound route hold.1.0)
-decided_sound (write.PutRider new) me now s made sound there hold is ready =
-    accepted_sound now.day (write.PutRider new) s made _ _ is ready (λ _. put_rider_sound new s sound hold.1.0 hold.1.1.0)
-decided_sound (write.Enter rider entry) me now s made sound there hold is ready =
-    accepted_on now.day (write.Enter rider entry) s made _ _ is ready (λ ranges on. enter_sound rider entry me now s sound there hold ranges on)
-decided_sound (write.PutVehicle new) me now s made sound there hold is ready =
-    accepted_sound now.day (write.PutVehicle new) s made _ _ is ready
-    (λ is. put_vehicle_sound new s sound is.0 is.1 hold.1.0
-    (not_true (is_booked_from (Some new.id) new.from_day s.trips) hold.1.1.0) hold.1.1.1.0)
-decided_sound (write.Travel day rows) me now s made sound there hold is ready =
-    accepted_sound now.day (write.Travel day rows) s made _ _ is ready
-    (λ is. put_travel_sound (record { from_day = day; rows = rows }) s sound is.0
-    (is.1, hold.1.0) (not_true (is_booked_from None day s.trips) hold.1.1.0) hold.1.1.1.0)
-decided_sound (write.Book rider wish) me now s made sound there hold is ready =
-    booking_sound now.day rider wish s made sound ready is
-decided_sound (write.Change trip wish) me now s made sound there hold is ready =
-    change_trip_sound now.day (trip_of trip s) trip wish s made sound ready refl
+    → IsDecidedBy asked me.id now.day (facts_of asked s) made → IsRequest asked → PutsInRangeIf made → IsSound (state_after (left_of made s) s)
+decided_sound (write.PutCaller new) me now s made sound there hold is asked puts =
+    accepted_sound s made _ _ sound is puts (λ ranges. put_caller_sound new s sound hold.1.0 hold.1.1.0 hold.1.1.1.0 ranges)
+decided_sound (write.PutPolicy new) me now s made sound there hold is asked puts =
+    accepted_sound s made _ _ sound is puts (λ ranges. put_policy_sound new s sound ranges)
+decided_sound (write.PutPlace new) me now s made sound there hold is asked puts =
+    accepted_sound s made _ _ sound is puts (λ ranges. put_place_sound new s sound hold.1.1.0 ranges)
+decided_sound (write.PutRoute new) me now s made sound there hold is asked puts =
+    accepted_sound s made _ _ sound is puts (λ ranges. put_route_sound new s sound hold.1.0 ranges)
+decided_sound (write.PutRider new) me now s made sound there hold is asked puts =
+    accepted_sound s made _ _ sound is puts (λ ranges. put_rider_sound new s sound hold.1.0 hold.1.1.0 ranges)
+decided_sound (write.Enter rider entry) me now s made sound there hold is asked puts =
+    accepted_sound s made _ _ sound is puts (λ ranges. enter_sound rider entry me now s sound there hold ranges)
+decided_sound (write.PutVehicle new) me now s made sound there hold is asked puts =
+    accepted_sound s made _ _ sound is puts
+    (λ ranges. put_vehicle_sound new s sound asked.from_day hold.1.0
+    (not_true (is_booked_from (Some new.id) new.from_day s.trips) hold.1.1.0) hold.1.1.1.0 ranges)
+decided_sound (write.Travel day rows) me now s made sound there hold is asked puts =
+    accepted_sound s made _ _ sound is puts
+    (λ ranges. put_travel_sound (record { from_day = day; rows = rows }) s sound
+    hold.1.0 (not_true (is_booked_from None day s.trips) hold.1.1.0) hold.1.1.1.0 ranges)
+decided_sound (write.Book rider wish) me now s made sound there hold is asked puts =
+    booking_sound now.day rider wish s made sound asked.1.day puts is
+decided_sound (write.Change trip wish) me now s made sound there hold is asked puts =
+    change_trip_sound now.day (trip_of trip s) trip wish s made sound asked.1.day puts refl
     (subst (λ f. IsChangeDecided f wish now.day (facts_of (write.Change trip wish) s) made) (change_trip (trip_of trip s) wish s) is)
-decided_sound (write.Cancel trip) me now s made sound there hold is ready =
-    cancel_sound (trip_of trip s) trip s made sound refl
+decided_sound (write.Cancel trip) me now s made sound there hold is asked puts =
+    cancel_sound (trip_of trip s) trip s made sound puts refl
     (subst (λ f. IsCancelDecided f (facts_of (write.Cancel trip) s) made) (cancel_trip (trip_of trip s) s) is)
-decided_sound (write.Outcome trip outcome) me now s made sound there hold is ready =
-    outcome_sound outcome (trip_of trip s) trip s made sound refl hold.1.1.0 is
+decided_sound (write.Outcome trip outcome) me now s made sound there hold is asked puts =
+    outcome_sound outcome (trip_of trip s) trip s made sound puts refl hold.1.1.0 is
 
 -- a caller who is there stays there
 caller_stays : (asked : Write) (id : ℕ) (callers : List Caller) → IsIn caller_key callers id → IsIn caller_key (edited caller_key (callers_by asked) callers) id
@@ -671,33 +637,35 @@ caller_stays _ id callers there = there
 
 -- what is kept of the write leaves it sound: no more than that is changed
 kept_sound : (asked : Write) (me : ℕ) (sent : Sent) (s : State) (made : Decision) → IsIn caller_key s.callers me → ((reply : KeptReply) → IsKeptWrite (kept_by me sent reply))
-    → Makes (callers_by asked) made → IsSound (state_after (left_of made s) s) → IsSound (state_after (left_of (with_kept me sent made) s) s)
-kept_sound asked me sent s (Denied first) there write makes sound = sound
-kept_sound asked me sent s (Accepted told change) there write makes sound =
+    → Makes (callers_by asked) made → PutsInRangeIf (with_kept me sent made) → IsSound (state_after (left_of made s) s) → IsSound (state_after (left_of (with_kept me sent made) s) s)
+kept_sound asked me sent s (Denied first) there write makes puts sound = sound
+kept_sound asked me sent s (Accepted told change) there write makes puts sound =
     let kept = kept_by me sent (unwrap_or (reply_of told) reply.Done) in
     let stays = subst (λ edit. IsIn caller_key (edited caller_key edit s.callers) me) (sym makes.1) (caller_stays asked me s.callers there) in
     subst (λ edit. IsSound (record (applied change s) { kept = put kept_key kept (edited kept_key edit s.kept) })) makes.0
-    (numbered_sound kept (applied change s) sound (stays, write (unwrap_or (reply_of told) reply.Done)))
+    (numbered_sound kept (applied change s) sound puts.kept.0 (stays, write (unwrap_or (reply_of told) reply.Done)))
 
-ready_made : (me : ℕ) (sent : Sent) (made : Decision) (asked : Write) (today : ℕ) → IsMadeIf (with_kept me sent made) asked today → IsMadeIf made asked today
-ready_made me sent (Denied first) asked today ready = tt
-ready_made me sent (Accepted told change) asked today ready = ready
+made_in_range : (asked : Write) (me : ℕ) (sent : Sent) (made : Decision) → Makes (callers_by asked) made → PutsInRangeIf (with_kept me sent made) → PutsInRangeIf made
+made_in_range asked me sent (Denied first) makes puts = tt
+made_in_range asked me sent (Accepted told change) makes puts = puts_beside change _ makes.0 puts
 
 after_sound : (asked : Write) (me : Caller) (now : Moment) (sent : Sent) (s : State) (first : Option Rule) (decided : Decision) → IsSound s → IsIn caller_key s.callers me.id → ((reply : KeptReply) → IsKeptWrite (kept_by me.id sent reply))
-    → first_failing (rules_of asked me now (facts_of asked s)) ≡ first → IsDecisionAfter first asked me now sent (facts_of asked s) decided → IsMadeIf decided asked now.day → IsSound (state_after (left_of decided s) s)
-after_sound asked me now sent s (Some rule) decided sound there write first is ready = subst (λ d. IsSound (state_after (left_of d s) s)) (sym is) sound
-after_sound asked me now sent s None decided sound there write first (made, is, keeps) ready =
+    → first_failing (rules_of asked me now (facts_of asked s)) ≡ first → IsDecisionAfter first asked me now sent (facts_of asked s) decided → IsRequest asked → PutsInRangeIf decided → IsSound (state_after (left_of decided s) s)
+after_sound asked me now sent s (Some rule) decided sound there write first is request puts = subst (λ d. IsSound (state_after (left_of d s) s)) (sym is) sound
+after_sound asked me now sent s None decided sound there write first (made, is, keeps) request puts =
+    let makes = decided_makes asked me.id now.day (facts_of asked s) made is in
+    let kept_puts = subst PutsInRangeIf keeps puts in
     subst (λ d. IsSound (state_after (left_of d s) s)) (sym keeps)
-    (kept_sound asked me.id sent s made there write (decided_makes asked me.id now.day (facts_of asked s) made is)
-    (decided_sound asked me now s made sound there (all_hold (rules_of asked me now (facts_of asked s)) first) is
-    (ready_made me.id sent made asked now.day (subst (λ d. IsMadeIf d asked now.day) keeps ready))))
+    (kept_sound asked me.id sent s made there write makes kept_puts
+    (decided_sound asked me now s made sound there (all_hold (rules_of asked me now (facts_of asked s)) first) is request
+    (made_in_range asked me.id sent made makes kept_puts)))
 
 write_sound : (asked : Write) (me : Caller) (now : Moment) (number : ℕ) (s : State) (arrival : Arrival) (told : Answer) (left : Option State) → IsSound s → IsIn caller_key s.callers me.id
     → arrival_in s asked me number ≡ arrival → IsOutcomeAs arrival asked me now number s told left → IsSound (state_after left s)
-write_sound asked me now number s New told left sound there comes (decided, is, (made, ranges), tells, leaves) =
+write_sound asked me now number s New told left sound there comes (decided, is, (puts, ranges), tells, leaves) =
     let above = new_is_above number (spelling asked) (kept_of me.id s) comes in
     let write : (reply : KeptReply) → IsKeptWrite (kept_by me.id (sent_with number asked) reply) = λ reply. record { numbered = omega arith; spelled = (asked, ranges, refl) } in
-    subst (λ l. IsSound (state_after l s)) (sym leaves) (after_sound asked me now (sent_with number asked) s (first_failing (rules_of asked me now (facts_of asked s))) decided sound there write refl is made)
+    subst (λ l. IsSound (state_after l s)) (sym leaves) (after_sound asked me now (sent_with number asked) s (first_failing (rules_of asked me now (facts_of asked s))) decided sound there write refl is ranges puts)
 write_sound asked me now number s (Repeated reply) told left sound there comes (tells, leaves) = subst (λ l. IsSound (state_after l s)) (sym leaves) sound
 write_sound asked me now number s Stale told left sound there comes (tells, leaves) = subst (λ l. IsSound (state_after l s)) (sym leaves) sound
 

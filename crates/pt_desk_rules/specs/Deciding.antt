@@ -1,7 +1,6 @@
 -- What the rules make of a request, by the facts alone.
 use Rattle.std.specs.Prelude.{◌≡◌, ℕ, ◌+◌, ◌<◌, ◌↔◌, Bool, IsTrue, List, length, Option, Some, None, is_some}
 use Rattle.std.specs.Option.{unwrap_or}
-use Rattle.pt_base.specs.Day.{IsDay}
 use Rattle.pt_base.specs.declared.rider.Residence.{Residence}
 use Rattle.pt_base.specs.declared.rider.Residence.TheVariants.{Resident, Visitor}
 use Rattle.pt_base.specs.declared.rider.Rider.{Rider}
@@ -9,20 +8,18 @@ use Rattle.pt_base.specs.declared.rule.Rule.{Rule}
 use Rattle.pt_base.specs.declared.trip.Trip.{Trip}
 use Rattle.pt_base.specs.declared.trip.Wish.{Wish}
 use Rattle.pt_base.specs.declared.moment.Moment.{Moment}
-use Rattle.pt_corridor.specs.Route.{IsFixedRoute}
 use Rattle.pt_requests.specs.declared.sheets.DaySheet.{DaySheet}
 use Rattle.pt_requests.specs.declared.sheets.VehicleSheet.{VehicleSheet}
 use Rattle.pt_rights.specs.Rules.{first_failing}
 use Rattle.pt_rights.specs.Standing.{standing_of}
 use Rattle.pt_rights.specs.Suspension.{is_suspended}
 use Rattle.pt_rights.specs.declared.entry.Entered.{Entered}
-use Rattle.pt_travel.specs.Table.{IsTable}
 use Rattle.pt_scheduling.specs.Plan.{Plan}
 use Rattle.pt_scheduling.specs.Uses.{AreUses}
 use Rattle.pt_visitors.specs.Periods.{MayUse}
 use Rattle.pt_desk_rules.specs.Booking.{IsBooking}
-use Rattle.pt_spelling.specs.Ranges.{IsEntry}
-use Rattle.pt_desk_rules.specs.Fleet.{duty_of, ClosesInDay}
+use Rattle.pt_desk_rules.specs.Ranges.{PutsInRange}
+use Rattle.pt_desk_rules.specs.Fleet.{duty_of}
 use Rattle.pt_rights.specs.declared.tally.Outcome.{Outcome}
 use Rattle.pt_desk_rules.specs.Letters.{letter_at, IsToldLetter}
 use Rattle.pt_desk_rules.specs.Outcomes.{ended}
@@ -159,26 +156,10 @@ abbrev pub IsDecision : Write → Caller → Moment → Sent → WriteFacts → 
 IsDecision asked me now sent facts decided =
     IsDecisionAfter (first_failing (rules_of asked me now facts)) asked me now sent facts decided
 
--- A digest that is put has 32 bytes, a fixed route, a travel table and an entry are such, days are days, and a
--- vehicle is back within its day.
-abbrev pub IsMade : Write → Type 0
-IsMade (write.PutCaller new) = length new.digest ≡ 32
-IsMade (write.PutPolicy new) = Unit {0}
-IsMade (write.PutPlace new) = Unit {0}
-IsMade (write.PutRoute new) = IsFixedRoute new
-IsMade (write.PutRider new) = Unit {0}
-IsMade (write.Enter rider entry) = IsEntry entry
-IsMade (write.PutVehicle new) = IsDay new.from_day × ClosesInDay new
-IsMade (write.Travel day rows) = IsDay day × IsTable rows
-IsMade (write.Book rider wish) = IsDay wish.day
-IsMade (write.Change trip wish) = IsDay wish.day
-IsMade (write.Cancel trip) = Unit {0}
-IsMade (write.Outcome trip outcome) = Unit {0}
-
--- what is accepted is made, on a day
-abbrev pub IsMadeIf : Decision → Write → ℕ → Type 0
-IsMadeIf (Denied first) asked today = Unit {0}
-IsMadeIf (Accepted answer change) asked today = IsMade asked × IsDay today
+-- what an accepted write puts keeps to the ranges of its records
+abbrev pub PutsInRangeIf : Decision → Type 0
+PutsInRangeIf (Denied first) = Unit {0}
+PutsInRangeIf (Accepted told change) = PutsInRange change
 
 -- what is told of a rider of this kind on a day: of a visitor, whether the day may be used beside the days of the
 -- visitor's trips (37.127(e)); of a resident, what the case file gives

@@ -1,5 +1,6 @@
 pub mod Limits
 pub mod State
+pub mod Ranges
 pub mod Facts
 pub mod Fleet
 pub mod Permission

@@ -7,7 +7,6 @@ use Rattle.pt_base.specs.declared.place.Place.{Place}
 use Rattle.pt_base.specs.declared.rider.Rider.{Rider}
 use Rattle.pt_base.specs.declared.trip.Trip.{Trip}
 use Rattle.pt_base.specs.declared.vehicle.Vehicle.{Vehicle}
-use Rattle.pt_corridor.specs.Route.{IsFixedRoute}
 use Rattle.pt_feasible.specs.Loads.{LoadsFit}
 use Rattle.pt_feasible.specs.ServiceTimes.{TimesFit}
 use Rattle.pt_feasible.specs.declared.stop.Stop.{Stop}
@@ -17,15 +16,14 @@ use Rattle.pt_scheduling.specs.Plan.{Plan, plan_key, planned_stops, stops_among,
 use Rattle.pt_scheduling.specs.Routes.{IsFeasible}
 use Rattle.pt_spelling.specs.Requests.{IsSpelling}
 use Rattle.pt_travel.specs.Chain.{Row}
-use Rattle.pt_travel.specs.Table as Travel
 use Rattle.pt_desk_rules.specs.Limits.{most_callers, most_places, most_routes, most_riders, most_entries}
 use Rattle.pt_desk_rules.specs.Limits.{most_vehicles, most_versions, most_tables}
 use Rattle.pt_desk_rules.specs.State.{State, caller_key, kept_key, place_key, route_key, rider_key, entry_key}
 use Rattle.pt_desk_rules.specs.State.{vehicle_key, travel_key, trip_key, entries_of}
 use Rattle.pt_desk_rules.specs.Facts.{has_subject}
-use Rattle.pt_spelling.specs.Ranges.{IsEntry}
+use Rattle.pt_desk_rules.specs.Ranges.{KeepsRanges}
 use Rattle.pt_desk_rules.specs.Booking.{rows_of, AreTimes}
-use Rattle.pt_desk_rules.specs.Fleet.{on_duty, vehicle_count, versions_of, ClosesInDay}
+use Rattle.pt_desk_rules.specs.Fleet.{on_duty, vehicle_count, versions_of}
 use Rattle.pt_desk_rules.specs.Rules.{are_there}
 use Rattle.pt_desk_rules.specs.Travel.{table_on, DatedTable}
 use Rattle.pt_requests.specs.declared.caller.Caller.{Caller}
@@ -39,10 +37,6 @@ IsIn key xs k = IsTrue (is_some (record_at key k xs))
 -- no two callers have one digest
 abbrev pub HasOneHolder : List Caller → Caller → Type 0
 HasOneHolder callers a = Each (λ b. a.digest ≡ b.digest → a.id ≡ b.id) callers
-
--- a SHA-256 digest has 32 bytes
-abbrev pub HasDigest : Caller → Type 0
-HasDigest caller = length caller.digest ≡ 32
 
 -- the rider or the vehicle that a caller's role speaks of is there
 abbrev pub HasSubject : List Rider → List Vehicle → Caller → Type 0
@@ -63,11 +57,6 @@ HasFiledRider riders filed = IsIn rider_key riders filed.rider
 -- who entered it is a caller
 abbrev pub HasAuthor : List Caller → FiledEntry → Type 0
 HasAuthor callers filed = IsIn caller_key callers filed.entered.author
-
--- its day is one, and it keeps to its ranges
-pub record IsEntered (filed : FiledEntry) : Type 0 where
-  pub on_day : IsDay filed.entered.day
-  pub ranges : IsEntry filed.entered.entry
 
 -- the positions of these entries count up from this number, with no gap
 abbrev pub AreNumberedFrom : ℕ → List FiledEntry → Type 0
@@ -92,13 +81,9 @@ pub record IsFleet (vehicles : List Vehicle) : Type 0 where
   pub few : vehicle_count vehicles ≤ most_vehicles
   pub few_versions : (id : ℕ) → length (versions_of id vehicles) ≤ most_versions
 
--- a table's first day is a day
-abbrev pub HoldsFromDay : DatedTable → Type 0
-HoldsFromDay table = IsDay table.from_day
-
--- the rows are a travel table's, and name places that are there
+-- the rows of a travel table name places that are there
 abbrev pub IsOfPlaces : List Place → DatedTable → Type 0
-IsOfPlaces places table = Travel.IsTable table.rows × IsTrue (are_there table.rows places)
+IsOfPlaces places table = IsTrue (are_there table.rows places)
 
 -- a trip has a number that was given
 abbrev pub IsNumberedTo : ℕ → Trip → Type 0
@@ -164,11 +149,11 @@ abbrev pub LoadsFitIn : List Vehicle → List Trip → Plan → Type 0
 LoadsFitIn vehicles trips plan =
     HoldsOnDuty (λ version. LoadsFit version (stops_among trips plan.stops)) vehicles plan.vehicle plan.day
 
--- Each line speaks of the tables that it needs and of no other, so that a write of another table leaves it as it is.
--- The ranges of a place, a vehicle, a trip and the policy are fields of their records, so that every state keeps them.
+-- Each line but the first speaks of the tables that it needs and of no other, so that a write of another table leaves it
+-- as it is.
 pub record IsSound (s : State) : Type 0 where
+  pub ranges : KeepsRanges s
   pub callers : IsTable caller_key most_callers s.callers
-  pub digests : Each HasDigest s.callers
   pub one_holder_each : Each (HasOneHolder s.callers) s.callers
   pub subjects_there : Each (HasSubject s.riders s.vehicles) s.callers
   pub kept_in_order : IsInOrder kept_key s.kept
@@ -176,30 +161,23 @@ pub record IsSound (s : State) : Type 0 where
   pub kept_writes : Each IsKeptWrite s.kept
   pub places : IsTable place_key most_places s.places
   pub routes : IsTable route_key most_routes s.routes
-  pub routes_made : Each IsFixedRoute s.routes
   pub riders : IsTable rider_key most_riders s.riders
   pub entries_in_order : IsInOrder entry_key s.entries
   pub entries_of_riders : Each (HasFiledRider s.riders) s.entries
   pub authors_there : Each (HasAuthor s.callers) s.entries
-  pub entries_made : Each IsEntered s.entries
   pub files : (rider : ℕ) → IsSoundFile (entries_of rider s.entries)
   pub vehicles_in_order : IsInOrder vehicle_key s.vehicles
-  pub first_days : Each HasFirstDay s.vehicles
-  pub hours : Each ClosesInDay s.vehicles
   pub depots_there : Each (HasDepot s.places) s.vehicles
   pub fleet : IsFleet s.vehicles
   pub travel : IsTable travel_key most_tables s.travel
-  pub travel_days : Each HoldsFromDay s.travel
   pub travel_of_places : Each (IsOfPlaces s.places) s.travel
   pub trips_in_order : IsInOrder trip_key s.trips
   pub trips_numbered : Each (IsNumberedTo s.last_trip) s.trips
   pub trips_of_riders : Each (IsOfRider s.riders) s.trips
   pub trip_places_there : Each (HasPlaces s.places) s.trips
-  pub trip_days : Each HasDay s.trips
   pub planned_in_order : IsInOrder plan_key s.planned
   pub planned_routes : Each IsRoutePlan s.planned
   pub planned_trips_stand : Each (HasStandingTrips s.trips) s.planned
-  pub planned_days : Each IsOnDay s.planned
   pub planned_have_stops : Each HasStops s.planned
   pub planned_drive : Each (DrivesIn s.vehicles s.travel s.trips) s.planned
   pub planned_load : Each (LoadsFitIn s.vehicles s.trips) s.planned

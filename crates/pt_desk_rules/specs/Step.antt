@@ -11,7 +11,7 @@ use Rattle.pt_desk_rules.specs.Arrival.{arrival_of}
 use Rattle.pt_desk_rules.specs.State.{State, caller_with, kept_of, applied}
 use Rattle.pt_desk_rules.specs.Explaining.{IsExplained}
 use Rattle.pt_desk_rules.specs.Facts.{facts_of, read_facts_of, wish_facts}
-use Rattle.pt_desk_rules.specs.Deciding.{IsDecision, IsTold, IsMadeIf}
+use Rattle.pt_desk_rules.specs.Deciding.{IsDecision, IsTold, PutsInRangeIf}
 use Rattle.pt_requests.specs.declared.caller.Caller.{Caller}
 use Rattle.pt_desk_rules.specs.declared.kept.Arrival.{Arrival}
 use Rattle.pt_desk_rules.specs.declared.kept.Arrival.TheVariants.{New, Repeated, Stale}
@@ -57,7 +57,7 @@ IsExplainOutcome rider wish me now s told left =
 abbrev pub IsDecidedOutcome : Write → Caller → Moment → ℕ → State → Answer → Option State → Type 0
 IsDecidedOutcome asked me now number s told left =
     (decided : Decision) × IsDecision asked me now (sent_with number asked) (facts_of asked s) decided
-    × (IsMadeIf decided asked now.day × IsRequest asked)
+    × (PutsInRangeIf decided × IsRequest asked)
     × (told ≡ told_of decided) × (left ≡ left_of decided s)
 
 -- how a write with this number comes in beside the caller's last accepted one

@@ -1,6 +1,5 @@
 ghost use Rattle.std.specs.Prelude.{◌≡◌, ℕ, ◌+◌, ◌<◌, Option, None, Some, IsTrue, is_some, IfOk};
 ghost use Rattle.std.specs.List.Sorted.{IsStrictlyIncreasing};
-ghost use Rattle.pt_base.specs.Day.{IsDay};
 ghost use Rattle.pt_booking.specs.Request.{request_of};
 ghost use Rattle.pt_scheduling.specs.Routes.{routes_without};
 ghost use Rattle.pt_desk_rules.specs.Booking.{IsAnswered, IsAsking, IsBooking, IsRequestBy, IsScheduledBy, rows_of};
@@ -13,6 +12,7 @@ ghost use Rattle.pt_desk_rules.specs.State.{place_key};
 ghost use Rattle.pt_desk_rules.specs.Trips.{has_ends, IsConfirmation};
 ghost use Rattle.pt_records.specs.Records.{record_at};
 
+use crate::change::one;
 use crate::trips::{cancelled, confirmation_of, giving_up, moving};
 use crate::{Answer, Change, DayFacts, Decision, TravelTable, WriteFacts, on_duty};
 use pt_base::{Day, Place, PlaceId, Rider, Trip, TripId, Vehicle, Wish};
@@ -43,13 +43,6 @@ fn schedule_on(
     }
     let table = TravelTable::none(alloc, request.wish.day)?;
     schedule(alloc, request, &plans, table.times())
-}
-
-/// The day of a wish is a day of the calendar, as its type has it.
-pub(crate) fn has_day(wish: &Wish)
-    ensures { IsDay wish.now.day }
-{
-    let _number = wish.day.number();
 }
 
 /// The place of this number.
@@ -204,12 +197,15 @@ pub(crate) fn decide_cancel(
 ) -> Result<Decision, AllocError>
     ensures { IfOk result (λ decided. decided ≡ Accepted Done (given_up trip.now plan.now)) }
 {
-    let mut change = Change::none(alloc);
     let wish: Wish = trip.wish;
-    change.trips.put(cancelled(trip, wish))?;
-    change.planned = giving_up(alloc, trip, plan)?;
+    let trips = one(alloc, cancelled(trip, wish))?;
+    let planned = giving_up(alloc, trip, plan)?;
     Ok(Decision::Accepted {
         answer: Answer::Done,
-        change,
+        change: Change {
+            trips,
+            planned,
+            ..Change::none(alloc)
+        },
     })
 }

@@ -1,13 +1,14 @@
-ghost use Rattle.std.specs.Prelude.{◌≡◌};
+ghost use Rattle.std.specs.Prelude.{◌≡◌, IfOk};
 ghost use Rattle.pt_desk_rules.specs.Deciding.{no_change};
+ghost use Rattle.pt_desk_rules.specs.State.{puts_one, replaces};
 
 use crate::{Caller, Kept, TravelTable};
 use pt_base::{Place, Policy, Rider, RiderId, Trip, TripId, Vehicle};
 use pt_corridor::FixedRoute;
-use pt_records::{Edits, Key, Keyed};
+use pt_records::{Edits, Key, Keyed, Span};
 use pt_rights::Entered;
 use pt_scheduling::PlannedRoute;
-use std::alloc::Global;
+use std::alloc::{AllocError, Global};
 
 /// An entry of a rider's case file.
 #[derive(Debug, Drop)]
@@ -57,6 +58,29 @@ impl Change {
             last_trip: None,
         }
     }
+}
+
+/// One record that is put.
+pub(crate) fn one<T: Keyed + Drop>(alloc: Global, new: T) -> Result<Edits<T>, AllocError>
+    ensures { IfOk result (λ edits. edits ≡ puts_one new) }
+{
+    let mut edits = Edits::none(alloc);
+    edits.put(new)?;
+    Ok(edits)
+}
+
+/// One record that is put in place of those with these keys.
+pub(crate) fn replacing<T: Keyed + Drop>(
+    alloc: Global,
+    span: Span,
+    new: T,
+) -> Result<Edits<T>, AllocError>
+    ensures { IfOk result (λ edits. edits ≡ replaces span new) }
+{
+    let mut edits = Edits::none(alloc);
+    edits.take_away(span)?;
+    edits.put(new)?;
+    Ok(edits)
 }
 
 impl Keyed for FiledEntry {

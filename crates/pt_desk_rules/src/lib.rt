@@ -2,7 +2,7 @@
 #![tactic(auto)]
 
 pub use change::{Change, FiledEntry};
-pub use deciding::{Decision, decide, keeps_ranges};
+pub use deciding::{Decision, decide};
 pub use denying::denial;
 pub use explaining::{Inquiry, RefusalFacts, explain, refusal_facts};
 pub use facts::{BookingFacts, DayFacts, ReadFacts, WriteFacts};
@@ -23,9 +23,11 @@ pub use limits::{
 pub use pt_requests::{Answer, Caller, Confirmation, Digest, Read, Request, Role, Write};
 pub use pt_scheduling::{PlannedRoute, PlannedStop};
 pub use pt_spelling::{KeptReply, Spelling};
+pub use ranges::puts_in_range;
 pub use tallies::Tallies;
 pub use telling::tell;
 pub use travel::{TravelTable, table_on};
+pub use trips::have_stops;
 
 mod booking;
 mod change;
@@ -40,6 +42,7 @@ mod letters;
 mod limits;
 mod outcomes;
 mod permission;
+mod ranges;
 mod tallies;
 mod telling;
 mod tours;

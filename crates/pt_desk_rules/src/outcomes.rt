@@ -5,6 +5,7 @@ ghost use Rattle.pt_desk_rules.specs.State.{puts_one};
 ghost use Rattle.pt_desk_rules.specs.declared.deciding.Decision.TheVariants.{Accepted};
 ghost use Rattle.pt_requests.specs.declared.request.Answer.TheVariants.{Done};
 
+use crate::change::one;
 use crate::{Answer, Change, Decision};
 use pt_base::{Day, Trip, TripStatus, Wish};
 use pt_rights::Outcome;
@@ -70,11 +71,13 @@ pub(crate) fn decide_outcome(
     ensures { IfOk result (λ decided. decided
         ≡ Accepted Done (record no_change { trips = puts_one (ended outcome trip.now) })) }
 {
-    let mut change = Change::none(alloc);
     let wish: Wish = trip.wish;
-    change.trips.put(ended(trip, wish, outcome))?;
+    let trips = one(alloc, ended(trip, wish, outcome))?;
     Ok(Decision::Accepted {
         answer: Answer::Done,
-        change,
+        change: Change {
+            trips,
+            ..Change::none(alloc)
+        },
     })
 }

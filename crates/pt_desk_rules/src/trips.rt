@@ -1,6 +1,8 @@
-ghost use Rattle.std.specs.Prelude.{◌≡◌, ◌==◌, ◌&&◌, ◌||◌, nat_lt, IfOk};
+ghost use Rattle.std.specs.Prelude.{◌≡◌, ◌==◌, ◌&&◌, ◌||◌, ◌↔◌, nat_lt, IfOk, IsTrue};
+ghost use Rattle.pt_desk_rules.specs.Sound.{HasStops};
 ghost use Rattle.pt_desk_rules.specs.Trips.{has_ends, is_cancellable, is_changeable, cancelled, plan_span};
 ghost use Rattle.pt_desk_rules.specs.Trips.{gives_up, moves_to, IsConfirmation};
+ghost use Rattle.pt_records.specs.Records.{Each};
 
 use crate::Confirmation;
 use crate::denying::is_there;
@@ -126,4 +128,18 @@ pub(crate) fn moving(
     let mut edits = giving_up(alloc, trip, plan)?;
     edits.put(new)?;
     Ok(edits)
+}
+
+/// Whether the plan has stops.
+fn has_stops(plan: &PlannedRoute) -> bool
+    ensures { IsTrue result ↔ HasStops plan.now }
+{
+    !plan.stops.is_empty()
+}
+
+/// Whether the plans have stops.
+pub fn have_stops(plans: &[PlannedRoute]) -> bool
+    ensures { IsTrue result ↔ Each HasStops plans.now }
+{
+    plans.iter().all(has_stops)
 }

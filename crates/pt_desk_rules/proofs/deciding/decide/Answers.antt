@@ -1,8 +1,7 @@
 use Rattle.std.proofs.Common.{◌≡◌, ◌∙◌, None, sym, subst}
 use Rattle.pt_rights.specs.Rules.{first_failing}
-use Rattle.pt_desk_rules.specs.Deciding.{with_kept, IsDecision, IsDecisionAfter}
+use Rattle.pt_desk_rules.specs.Deciding.{IsDecisionAfter}
 use Rattle.pt_desk_rules.specs.Rules.{rules_of}
-use Rattle.pt_desk_rules.proofs.BookingLemmas.{if_ok}
 use Rattle.pt_desk_rules.proofs.deciding.decide.Goals as goal
 
 pub returns-clause-decided : goal.returns-clause-decided
@@ -13,7 +12,7 @@ returns-clause-decided c =
     let sent = c.args.sent in
     let facts = c.args.facts.now in
     let made = c.in_ok-made.made in
+    let decided = c.in_ok-decided.decided in
     let none : first_failing (rules_of asked me now facts) ≡ None = sym c.denial.ensures.value ∙ c.in_default.is in
-    if_ok (λ d. d ≡ with_kept me.id sent made) (IsDecision asked me now sent facts)
-    (λ d keeps. subst (λ first. IsDecisionAfter first asked me now sent facts d) (sym none)
-    (made, c.in_ok-made.ensures.decided, keeps)) c.with_kept.result c.with_kept.ensures
+    subst (λ first. IsDecisionAfter first asked me now sent facts decided) (sym none)
+    (made, c.in_ok-made.ensures.decided, c.in_ok-decided.ensures)

@@ -2,7 +2,7 @@ use Rattle.std.proofs.Common.{◌≡◌, get_or, subst, arith, All}
 use Rattle.std.proofs.lemmas.List.{get_or_read, take_all}
 use Rattle.std.proofs.lemmas.List.Elements.{All-more}
 use Rattle.pt_rights.specs.Conditions.{IsCondition}
-use Rattle.pt_desk_rules.proofs.deciding.are_conditions.Goals as goal
+use Rattle.pt_desk_rules.proofs.ranges.fit_conditions.Goals as goal
 
 pub loop-condition-preserved : goal.loop-condition-preserved
 loop-condition-preserved c =
@@ -12,7 +12,7 @@ loop-condition-preserved c =
     let at : condition ≡ get_or list i condition
     = get_or_read list i condition (omega arith) c.condition-item.is condition in
     All-more IsCondition list i condition (omega arith) c.loop-condition.invariant
-    (subst IsCondition at c.is_condition.ensures)
+    (subst IsCondition at c.fits_condition.ensures)
 
 pub returns : goal.returns
 returns c =

@@ -1,0 +1,110 @@
+-- Records keep to their ranges: in a sound state, and after a change whose puts do.
+use Rattle.std.proofs.Common.{◌≡◌, ℕ, not, List, [], ◌∷◌, ◌++◌, Option, None, Some, sym, subst}
+use Rattle.std.specs.Option.{unwrap_or}
+use Rattle.std.specs.Prelude.{IfSome, filter}
+use Rattle.pt_records.specs.Records.{Each, Edit, edited, is_within, put, put_all, take_all, take_away}
+use Rattle.pt_records.specs.declared.span.Span.{Span}
+use Rattle.pt_records.proofs.OrderLemmas.{Each-put, Each-weaker}
+use Rattle.pt_records.proofs.TableLemmas.{Each-filter}
+use Rattle.pt_spelling.specs.Ranges.{IsCaller, IsRoute, IsVehicle, IsWord}
+use Rattle.pt_desk_rules.specs.Fleet.{ClosesInDay}
+use Rattle.pt_desk_rules.specs.Ranges.{FitsFiled, FitsKept, FitsPlace, FitsPlan, FitsRider, FitsTravel, FitsTrip, KeepsRanges, PutsInRange}
+use Rattle.pt_desk_rules.specs.Sound.{HasDay, HasFirstDay, IsOnDay, IsSound}
+use Rattle.pt_desk_rules.specs.State.{State, applied, no_edit, caller_key, kept_key, place_key, route_key, rider_key, entry_key, vehicle_key, travel_key, trip_key}
+use Rattle.pt_desk_rules.specs.declared.change.Change.{Change}
+use Rattle.pt_desk_rules.specs.declared.kept.Kept.{Kept}
+use Rattle.pt_scheduling.specs.Plan.{plan_key}
+
+-- ---- what holds of each record
+
+pub Each-more : {A : Type 0} (P : A → Type 0) (done : List A) (new : A) → Each P done → P new
+    → Each P (done ++ new ∷ [])
+Each-more P [] new each holds = (holds, tt)
+Each-more P (x ∷ done) new each holds = (each.0, Each-more P done new each.1 holds)
+
+-- ---- and of each after an edit that puts such records
+
+pub each-taken : {A : Type 0} (P : A → Type 0) (key : A → ℕ) (spans : List Span) (xs : List A) → Each P xs
+    → Each P (take_all key spans xs)
+each-taken P key [] xs each = each
+each-taken P key (span ∷ spans) xs each =
+    each-taken P key spans (take_away key span xs) (Each-filter P (λ x. not (is_within (key x) span)) xs each)
+
+pub each-put : {A : Type 0} (P : A → Type 0) (key : A → ℕ) (news xs : List A) → Each P news → Each P xs
+    → Each P (put_all key news xs)
+each-put P key [] xs new each = each
+each-put P key (x ∷ news) xs new each = each-put P key news (put key x xs) new.1 (Each-put P key x xs each new.0)
+
+pub each-edited : {A : Type 0} (P : A → Type 0) (key : A → ℕ) (edit : Edit A) (xs : List A) → Each P edit.puts
+    → Each P xs → Each P (edited key edit xs)
+each-edited P key edit xs new each =
+    each-put P key edit.puts (take_all key edit.away xs) new (each-taken P key edit.away xs each)
+
+given_word : (given : Option ℕ) (last : ℕ) → IfSome given IsWord → IsWord last → IsWord (unwrap_or given last)
+given_word None last is word = word
+given_word (Some number) last is word = is
+
+-- ---- ranges
+
+pub ranges_kept : (change : Change) (s : State) → PutsInRange change → KeepsRanges s → KeepsRanges (applied change s)
+ranges_kept change s puts ranges = record {
+  callers = each-edited IsCaller caller_key change.callers s.callers puts.callers ranges.callers;
+  kept = each-edited FitsKept kept_key change.kept s.kept puts.kept ranges.kept;
+  places = each-edited FitsPlace place_key change.places s.places puts.places ranges.places;
+  routes = each-edited IsRoute route_key change.routes s.routes puts.routes ranges.routes;
+  riders = each-edited FitsRider rider_key change.riders s.riders puts.riders ranges.riders;
+  entries = each-edited FitsFiled entry_key change.entries s.entries puts.entries ranges.entries;
+  vehicles = each-edited IsVehicle vehicle_key change.vehicles s.vehicles puts.vehicles ranges.vehicles;
+  travel = each-edited FitsTravel travel_key change.travel s.travel puts.travel ranges.travel;
+  trips = each-edited FitsTrip trip_key change.trips s.trips puts.trips ranges.trips;
+  planned = each-edited FitsPlan plan_key change.planned s.planned puts.planned ranges.planned;
+  last_trip = given_word change.last_trip s.last_trip puts.last_trip ranges.last_trip;
+}
+
+-- the same where no more is changed than what is kept
+pub kept_in_range : (kept : Kept) (s : State) → FitsKept kept → KeepsRanges s
+    → KeepsRanges (record s { kept = put kept_key kept s.kept })
+kept_in_range kept s fits ranges = record {
+  callers = ranges.callers;
+  kept = Each-put FitsKept kept_key kept s.kept ranges.kept fits;
+  places = ranges.places;
+  routes = ranges.routes;
+  riders = ranges.riders;
+  entries = ranges.entries;
+  vehicles = ranges.vehicles;
+  travel = ranges.travel;
+  trips = ranges.trips;
+  planned = ranges.planned;
+  last_trip = ranges.last_trip;
+}
+
+-- what a decision puts beside what is kept of the write
+pub puts_beside : (change : Change) (kept : Edit Kept) → change.kept ≡ no_edit
+    → PutsInRange (record change { kept = kept }) → PutsInRange change
+puts_beside change kept none puts = record {
+  callers = puts.callers;
+  kept = subst (λ (edit : Edit Kept). Each FitsKept edit.puts) (sym none) tt;
+  places = puts.places;
+  routes = puts.routes;
+  riders = puts.riders;
+  entries = puts.entries;
+  vehicles = puts.vehicles;
+  travel = puts.travel;
+  trips = puts.trips;
+  planned = puts.planned;
+  last_trip = puts.last_trip;
+}
+
+-- ---- what ranges say of days
+
+pub first_days : (s : State) → IsSound s → Each HasFirstDay s.vehicles
+first_days s sound = Each-weaker IsVehicle HasFirstDay (λ version is. is.from_day) s.vehicles sound.ranges.vehicles
+
+pub hours : (s : State) → IsSound s → Each ClosesInDay s.vehicles
+hours s sound = Each-weaker IsVehicle ClosesInDay (λ version is. is.closes) s.vehicles sound.ranges.vehicles
+
+pub trip_days : (s : State) → IsSound s → Each HasDay s.trips
+trip_days s sound = Each-weaker FitsTrip HasDay (λ trip is. is.wish.day) s.trips sound.ranges.trips
+
+pub planned_days : (s : State) → IsSound s → Each IsOnDay s.planned
+planned_days s sound = Each-weaker FitsPlan IsOnDay (λ plan is. is.day) s.planned sound.ranges.planned

@@ -1,0 +1,95 @@
+-- What the fields of records keep to, where definitions see no more than numbers and lists: a number of a record is one of
+-- 32 bits from 1 on, a day is a day, a minute one of a day. Ranges that a record keeps itself are not said again.
+use Rattle.std.specs.Prelude.{ℕ, ◌≤◌, ◌<◌, ◌^◌, IfSome}
+use Rattle.pt_base.specs.Day.{IsDay}
+use Rattle.pt_base.specs.Ranges.{last_minute}
+use Rattle.pt_base.specs.declared.place.Place.{Place}
+use Rattle.pt_base.specs.declared.rider.Rider.{Rider}
+use Rattle.pt_base.specs.declared.trip.Trip.{Trip}
+use Rattle.pt_records.specs.Records.{Each}
+use Rattle.pt_scheduling.specs.Plan.{Plan}
+use Rattle.pt_scheduling.specs.declared.planned.PlannedStop.{PlannedStop}
+use Rattle.pt_spelling.specs.Ranges.{IsCaller, IsEntry, IsRoute, IsVehicle, IsWish, IsWord}
+use Rattle.pt_spelling.specs.Replies.{IsId, IsReply}
+use Rattle.pt_travel.specs.Chain.{Row}
+use Rattle.pt_travel.specs.Table.{IsTable}
+use Rattle.pt_desk_rules.specs.State.{State}
+use Rattle.pt_desk_rules.specs.Travel.{DatedTable}
+use Rattle.pt_desk_rules.specs.declared.change.Change.{Change}
+use Rattle.pt_desk_rules.specs.declared.change.FiledEntry.{FiledEntry}
+use Rattle.pt_desk_rules.specs.declared.kept.Kept.{Kept}
+
+abbrev pub IsMinute : ℕ → Type 0
+IsMinute n = n ≤ last_minute
+
+abbrev pub FitsPlace : Place → Type 0
+FitsPlace place = IsId place.id
+
+abbrev pub FitsRider : Rider → Type 0
+FitsRider rider = IsId rider.id
+
+-- the last accepted write of a caller
+pub record FitsKept (kept : Kept) : Type 0 where
+  pub caller : IsId kept.caller
+  pub number : IsWord kept.number
+  pub reply : IsReply kept.reply
+
+pub record FitsFiled (filed : FiledEntry) : Type 0 where
+  pub rider : IsId filed.rider
+  pub position : IsWord filed.position
+  pub entry : IsEntry filed.entered.entry
+  pub day : IsDay filed.entered.day
+  pub author : IsId filed.entered.author
+
+pub record FitsTrip (trip : Trip) : Type 0 where
+  pub id : IsId trip.id
+  pub rider : IsId trip.rider
+  pub wish : IsWish trip.wish
+  pub vehicle : IsId trip.vehicle
+  pub window_from : IsMinute trip.window_from
+  pub window_to : IsMinute trip.window_to
+
+abbrev pub FitsStop : PlannedStop → Type 0
+FitsStop stop = IsId stop.trip
+
+pub record FitsPlan (plan : Plan) : Type 0 where
+  pub vehicle : IsId plan.vehicle
+  pub day : IsDay plan.day
+  pub stops : Each FitsStop plan.stops
+
+-- one row of a travel table, a drive
+abbrev pub FitsDrive : Row → Type 0
+FitsDrive drive = IsId drive.0 × IsId drive.1 × (drive.2 < 2 ^ 16)
+
+pub record FitsTravel (dated : DatedTable) : Type 0 where
+  pub from_day : IsDay dated.from_day
+  pub drives : Each FitsDrive dated.rows
+  pub table : IsTable dated.rows
+
+-- each record of the state keeps to its ranges, and so does the number that was last given to a trip
+pub record KeepsRanges (s : State) : Type 0 where
+  pub callers : Each IsCaller s.callers
+  pub kept : Each FitsKept s.kept
+  pub places : Each FitsPlace s.places
+  pub routes : Each IsRoute s.routes
+  pub riders : Each FitsRider s.riders
+  pub entries : Each FitsFiled s.entries
+  pub vehicles : Each IsVehicle s.vehicles
+  pub travel : Each FitsTravel s.travel
+  pub trips : Each FitsTrip s.trips
+  pub planned : Each FitsPlan s.planned
+  pub last_trip : IsWord s.last_trip
+
+-- and so does each record that a change puts
+pub record PutsInRange (change : Change) : Type 0 where
+  pub callers : Each IsCaller change.callers.puts
+  pub kept : Each FitsKept change.kept.puts
+  pub places : Each FitsPlace change.places.puts
+  pub routes : Each IsRoute change.routes.puts
+  pub riders : Each FitsRider change.riders.puts
+  pub entries : Each FitsFiled change.entries.puts
+  pub vehicles : Each IsVehicle change.vehicles.puts
+  pub travel : Each FitsTravel change.travel.puts
+  pub trips : Each FitsTrip change.trips.puts
+  pub planned : Each FitsPlan change.planned.puts
+  pub last_trip : IfSome change.last_trip IsWord
