@@ -1,4 +1,4 @@
-mod StoreLemmas
+pub mod StoreLemmas
 mod SoundLemmas
 mod FileLemmas
 mod RunLemmas

@@ -1,14 +1,13 @@
-use Rattle.std.proofs.Common.{◌≡◌, ◌∙◌, refl, sym, ap, subst, Ok, Err, None, Option, true, false}
-use Rattle.pt_base.specs.declared.rule.Rule.TheVariants.{Key, Number}
-use Rattle.pt_desk_rules.specs.Deciding.{IsDecision, IsTold}
-use Rattle.pt_desk_rules.specs.State.{State, kept_of, caller_with}
-use Rattle.pt_desk_rules.specs.Step.{sent_with, told_of, left_of, IsReadOutcome, IsDecidedOutcome, IsWriteOutcome, IsOutcomeBy, IsOutcome}
+use Rattle.std.proofs.Common.{◌≡◌, ◌∙◌, refl, subst, Option}
+use Rattle.pt_desk_rules.specs.Deciding.{IsDecision}
+use Rattle.pt_desk_rules.specs.State.{State}
+use Rattle.pt_desk_rules.specs.Step.{sent_with, told_of, left_of, IsDecidedOutcome}
 use Rattle.pt_requests.specs.declared.request.Answer.{Answer}
-use Rattle.pt_requests.specs.declared.request.Answer.TheVariants.{Done, Denied}
+use Rattle.pt_requests.specs.declared.request.Answer.TheVariants.{Done}
 use Rattle.pt_desk_rules.specs.declared.kept.Sent.{Sent}
 use Rattle.pt_desk.specs.Store.{Answers}
 use Rattle.pt_desk.specs.declared.keeper.StoreFault.TheVariants.{Memory}
-use Rattle.pt_desk.proofs.AnswerLemmas.{read_then, read_told, read_fault, read_memory, goes_by, handed}
+use Rattle.pt_desk.proofs.AnswerLemmas.{read_then, read_fault, read_memory, goes_by, handed}
 use Rattle.pt_desk.proofs.answering.answer_new.Goals as goal
 
 pub returns-in_err-facts : goal.returns-in_err-facts
@@ -46,7 +45,7 @@ returns g c =
             decision,
             subst (λ facts. IsDecision c.args.write.now c.args.me.now c.args.now (sent_with c.args.sent.number c.args.write.now) facts decision) is
                 (subst (λ (sent : Sent). IsDecision c.args.write.now c.args.me.now c.args.now sent c.in_ok-facts.facts decision) c.requires.spelled c.in_ok-decision.ensures.decided),
-            (c.in_ok-decision.ensures.made, c.requires.ranges),
+            (c.in_ok-decision.ensures.ranges, c.requires.ranges),
             carried.0,
             carried.1,
           ));
