@@ -1,5 +1,5 @@
 -- What the tables before the last three keep says nothing of wheelchairs, nor of the places for them.
-use Rattle.std.proofs.Common.{◌≡◌, ℕ, ◌+◌, ◌-◌, ◌≤◌, Bool, true, IsTrue, List, [], ◌∷◌, ◌++◌, length, map, filter, Option, None, Some, is_some, if◌then◌else◌, not, refl, sym, ap, ap₂, subst, ◌∙◌, arith}
+use Rattle.std.proofs.Common.{◌≡◌, ℕ, ◌+◌, ◌-◌, ◌≤◌, Bool, IsTrue, List, [], ◌∷◌, ◌++◌, length, map, Option, None, Some, is_some, if◌then◌else◌, not, refl, sym, ap, ap₂, subst, ◌∙◌, arith}
 use Rattle.std.specs.Prelude.{◌==◌, ◌&&◌, nat_le, nat_lt, slice_get, slice_index, false, unwrap_or}
 use Rattle.std.specs.List.{list_any}
 use Rattle.pt_base.specs.Day.{weekday_of}
@@ -11,7 +11,7 @@ use Rattle.pt_base.specs.declared.trip.Trip.{Trip}
 use Rattle.pt_base.specs.declared.trip_status.TripStatus.{TripStatus}
 use Rattle.pt_base.specs.declared.vehicle.Vehicle.{Vehicle}
 use Rattle.pt_feasible.specs.ServiceTimes.{TimesFit}
-use Rattle.pt_feasible.specs.Stop.{is_drop, is_pickup, lets_leave, takes_aboard}
+use Rattle.pt_feasible.specs.Stop.{lets_leave, takes_aboard}
 use Rattle.pt_feasible.specs.Visit.{depot_visit, stop_visit, visits}
 use Rattle.pt_feasible.specs.declared.stop.Stop.{Stop}
 use Rattle.pt_feasible.specs.declared.stop.StopKind.{StopKind}
@@ -25,16 +25,14 @@ use Rattle.pt_requests.specs.declared.caller.Role.{Role}
 use Rattle.pt_requests.specs.declared.caller.Role.TheVariants as role
 use Rattle.pt_scheduling.specs.Plan.{after_stop, Plan, plan_key, planned_stops, stops_among, trip_stop}
 use Rattle.pt_scheduling.specs.declared.planned.PlannedStop.{PlannedStop}
-use Rattle.pt_travel.specs.Chain.{Row}
 use Rattle.pt_desk_rules.specs.Booking.{rows_of}
-use Rattle.pt_desk_rules.specs.Fleet.{ClosesInDay, has_version, has_weekday, is_in_force, is_newer, is_on_duty, on_duty, vehicle_count, versions_of}
-use Rattle.pt_desk_rules.specs.Limits.{most_vehicles, most_versions}
-use Rattle.pt_desk_rules.specs.Sound.{DrivesIn, HasDay, HasDepot, HasFiledRider, HasFirstDay, HasPlaces, HasStandingTrips, HasTimes, IsFleet, IsNumberedTo, IsOfRider, IsPlanned, StandsIn}
+use Rattle.pt_desk_rules.specs.Fleet.{has_version, is_newer, is_on_duty, on_duty, vehicle_count, versions_of}
+use Rattle.pt_desk_rules.specs.Sound.{DrivesIn, HasDepot, HasFiledRider, HasPlaces, HasStandingTrips, HasTimes, IsNumberedTo, IsOfRider, IsPlanned, StandsIn}
 use Rattle.pt_desk_rules.specs.State.{rider_key, trip_key, vehicle_key}
 use Rattle.pt_desk_rules.specs.Travel.{DatedTable, table_on}
 use Rattle.pt_desk_rules.specs.declared.change.FiledEntry.{FiledEntry}
 use Rattle.pt_soundness.specs.Unsound.{AreSoundEntries, AreSoundPlans, AreSoundRiders, AreSoundTables, AreSoundTrips, AreSoundVehicles, HasDriven, HasRider, has_driven, has_rider}
-use Rattle.pt_soundness.proofs.PairedLemmas.{BothOrNone, Paired, any_paired, at_paired, each_paired, filter_paired, found_paired, both_there, length_paired, order_paired, other_there, some_paired, there_paired}
+use Rattle.pt_soundness.proofs.PairedLemmas.{BothOrNone, Paired, any_paired, at_paired, each_paired, filter_paired, found_paired, length_paired, order_paired, other_there, some_paired, there_paired}
 
 abbrev pub AlikeRider : Rider → Rider → Type 0
 AlikeRider one other = one.id ≡ other.id
@@ -100,7 +98,6 @@ module _ (xs ys : List Rider) (h : Paired AlikeRider xs ys) where
     in_order = sound.in_order;
     of_riders = Each-weaker (HasFiledRider xs) (HasFiledRider ys) (λ filed there. rider_there filed.rider there) entries sound.of_riders;
     authors_there = sound.authors_there;
-    made = sound.made;
     files = sound.files;
   }
 
@@ -134,8 +131,6 @@ vehicle_keys x y alike = ap₂ pair_key alike.id alike.from_day
 pub alike_vehicles : (callers : List Caller) (places : List Place) (xs ys : List Vehicle) → Paired AlikeVehicle xs ys → AreSoundVehicles callers places xs → AreSoundVehicles callers places ys
 alike_vehicles callers places xs ys h sound = record {
   in_order = order_paired AlikeVehicle vehicle_key vehicle_keys xs ys h sound.in_order;
-  first_days = each_paired AlikeVehicle HasFirstDay HasFirstDay (λ x y alike day. let same = alike.from_day in let first = day.0 in let last = day.1 in omega arith) xs ys h sound.first_days;
-  hours = each_paired AlikeVehicle ClosesInDay ClosesInDay (λ x y alike low. let same = alike.closes in omega arith) xs ys h sound.hours;
   depots_there = each_paired AlikeVehicle (HasDepot places) (HasDepot places) (λ x y alike there. subst (λ d. IsTrue (is_some (record_at (λ (p : Place). p.id) d places))) alike.depot there) xs ys h sound.depots_there;
   fleet = record {
     few = (let same = vehicle_counts xs ys h in let few = sound.fleet.few in omega arith);
@@ -259,7 +254,6 @@ module _ (xs ys : List Trip) (h : Paired AlikeTrip xs ys) where
     trips_stand = Each-weaker (HasStandingTrips xs) (HasStandingTrips ys)
         (λ plan stand. Each-weaker (λ stop. StandsIn xs (plan_key plan) stop.trip) (λ stop. StandsIn ys (plan_key plan) stop.trip)
         (λ stop. stands_alike (plan_key plan) stop.trip) plan.stops stand) plans sound.trips_stand;
-    days = sound.days;
     have_stops = sound.have_stops;
     standing_planned = each_paired AlikeTrip (IsPlanned plans) (IsPlanned plans) planned xs ys h sound.standing_planned;
   }
@@ -283,14 +277,12 @@ module _ (xs ys : List Trip) (h : Paired AlikeTrip xs ys) where
           subst (λ k. IsTrue (is_some (record_at (λ (p : Place). p.id) k places))) alike.from there.0,
           subst (λ k. IsTrue (is_some (record_at (λ (p : Place). p.id) k places))) alike.to there.1,
         )) xs ys h sound.places_there;
-    days = each_paired AlikeTrip HasDay HasDay (λ x y alike day. let same = alike.day in let first = day.0 in let last = day.1 in omega arith) xs ys h sound.days;
   }
 
   pub alike_tables : (places : List Place) (vehicles others : List Vehicle) (plans : List Plan) (travel : List DatedTable) → Paired AlikeVehicle vehicles others
       → AreSoundTables places vehicles xs plans travel → AreSoundTables places others ys plans travel
   alike_tables places vehicles others plans travel same sound = record {
     table = sound.table;
-    days = sound.days;
     of_places = sound.of_places;
     drive = Each-weaker (DrivesIn vehicles travel xs) (DrivesIn others travel ys) drives plans sound.drive;
   }

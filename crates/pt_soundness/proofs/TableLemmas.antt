@@ -11,7 +11,9 @@ use Rattle.pt_desk_rules.specs.Sound.{HasFirstDay, HasSubject, IsSound}
 use Rattle.pt_desk_rules.specs.State.{State}
 use Rattle.pt_scheduling.specs.Plan.{IsRoutePlan}
 use Rattle.pt_soundness.specs.Unsound.{has_driven, has_rider, HasDriven, HasRider}
-use Rattle.pt_soundness.specs.Tables.{IsSoundIn, IsSoundTo}
+use Rattle.pt_soundness.specs.Tables.{IsSoundIn, IsSoundTo, KeepsLinesIn, KeepsRangesIn}
+use Rattle.pt_spelling.specs.Ranges.{IsVehicle}
+use Rattle.pt_desk_rules.specs.Ranges.{KeepsRanges}
 use Rattle.pt_soundness.specs.declared.unsound_table.UnsoundTable.{UnsoundTable}
 use Rattle.pt_soundness.specs.declared.unsound_table.UnsoundTable.TheVariants as table
 
@@ -44,55 +46,68 @@ rider_of role.Dispatcher riders vehicles there = refl
 rider_of (role.Driver vehicle) riders vehicles there = refl
 rider_of role.Admin riders vehicles there = refl
 
-pub sound_in : (s : State) → IsSound s → (t : UnsoundTable) → IsSoundIn s t
-sound_in s sound table.Desk = tt
-sound_in s sound table.Callers = record { table = sound.callers; digests = sound.digests; one_holder_each = sound.one_holder_each }
-sound_in s sound table.Kept = record { in_order = sound.kept_in_order; of_callers = sound.kept_of_callers; writes = sound.kept_writes }
-sound_in s sound table.Places = sound.places
-sound_in s sound table.Fixed = record { table = sound.routes; made = sound.routes_made }
-sound_in s sound table.Vehicles = record {
+ranges_in : (s : State) → KeepsRanges s → (t : UnsoundTable) → KeepsRangesIn s t
+ranges_in s ranges table.Desk = ranges.last_trip
+ranges_in s ranges table.Callers = ranges.callers
+ranges_in s ranges table.Kept = ranges.kept
+ranges_in s ranges table.Places = ranges.places
+ranges_in s ranges table.Fixed = ranges.routes
+ranges_in s ranges table.Vehicles = ranges.vehicles
+ranges_in s ranges table.Riders = ranges.riders
+ranges_in s ranges table.Entries = ranges.entries
+ranges_in s ranges table.Trips = ranges.trips
+ranges_in s ranges table.Stops = ranges.planned
+ranges_in s ranges table.Travel = ranges.travel
+ranges_in s ranges table.RiderChairs = tt
+ranges_in s ranges table.VehicleChairs = tt
+ranges_in s ranges table.TripChairs = tt
+
+lines_in : (s : State) → IsSound s → (t : UnsoundTable) → KeepsLinesIn s t
+lines_in s sound table.Desk = tt
+lines_in s sound table.Callers = record { table = sound.callers; one_holder_each = sound.one_holder_each }
+lines_in s sound table.Kept = record { in_order = sound.kept_in_order; of_callers = sound.kept_of_callers; writes = sound.kept_writes }
+lines_in s sound table.Places = sound.places
+lines_in s sound table.Fixed = sound.routes
+lines_in s sound table.Vehicles = record {
   in_order = sound.vehicles_in_order;
-  first_days = sound.first_days;
-  hours = sound.hours;
   depots_there = sound.depots_there;
   fleet = sound.fleet;
   driven_there = Each-weaker (HasSubject s.riders s.vehicles) (HasDriven s.vehicles) (λ caller there. driven_of caller.role s.riders s.vehicles there) s.callers sound.subjects_there;
 }
-sound_in s sound table.Riders = record {
+lines_in s sound table.Riders = record {
   table = sound.riders;
   riders_there = Each-weaker (HasSubject s.riders s.vehicles) (HasRider s.riders) (λ caller there. rider_of caller.role s.riders s.vehicles there) s.callers sound.subjects_there;
 }
-sound_in s sound table.Entries = record {
+lines_in s sound table.Entries = record {
   in_order = sound.entries_in_order;
   of_riders = sound.entries_of_riders;
   authors_there = sound.authors_there;
-  made = sound.entries_made;
   files = sound.files;
 }
-sound_in s sound table.Trips = record {
+lines_in s sound table.Trips = record {
   in_order = sound.trips_in_order;
   numbered = sound.trips_numbered;
   of_riders = sound.trips_of_riders;
   places_there = sound.trip_places_there;
-  days = sound.trip_days;
 }
-sound_in s sound table.Stops = record {
+lines_in s sound table.Stops = record {
   in_order = sound.planned_in_order;
   routes = sound.planned_routes;
   trips_stand = sound.planned_trips_stand;
-  days = sound.planned_days;
   have_stops = sound.planned_have_stops;
   standing_planned = sound.standing_planned;
 }
-sound_in s sound table.Travel = record {
+lines_in s sound table.Travel = record {
   table = sound.travel;
-  days = sound.travel_days;
   of_places = sound.travel_of_places;
   drive = sound.planned_drive;
 }
-sound_in s sound table.RiderChairs = tt
-sound_in s sound table.VehicleChairs = tt
-sound_in s sound table.TripChairs = sound.planned_load
+lines_in s sound table.RiderChairs = tt
+lines_in s sound table.VehicleChairs = tt
+lines_in s sound table.TripChairs = sound.planned_load
+
+pub sound_in : (s : State) → IsSound s → (t : UnsoundTable) → IsSoundIn s t
+sound_in s sound t = (ranges_in s sound.ranges t, lines_in s sound t)
 
 -- and the first so many tables of a sound state are
 pub sound_to : (s : State) → IsSound s → IsSoundTo 14 s
@@ -139,6 +154,7 @@ sound_to s sound = (
 
 pub sound_of : (s : State) → IsSoundTo 14 s → IsSound s
 sound_of s each =
+    let desk : IsSoundIn s table.Desk = each.0 in
     let callers : IsSoundIn s table.Callers = each.1.0 in
     let kept : IsSoundIn s table.Kept = each.1.1.0 in
     let places : IsSoundIn s table.Places = each.1.1.1.0 in
@@ -151,53 +167,62 @@ sound_of s each =
     let travel : IsSoundIn s table.Travel = each.1.1.1.1.1.1.1.1.1.1.0 in
     let loads : IsSoundIn s table.TripChairs = each.1.1.1.1.1.1.1.1.1.1.1.1.1.0 in
     record {
-      callers = callers.table;
-      digests = callers.digests;
-      one_holder_each = callers.one_holder_each;
+      ranges = record {
+        callers = callers.0;
+        kept = kept.0;
+        places = places.0;
+        routes = routes.0;
+        riders = riders.0;
+        entries = entries.0;
+        vehicles = vehicles.0;
+        travel = travel.0;
+        trips = trips.0;
+        planned = plans.0;
+        last_trip = desk.0;
+      };
+      callers = callers.1.table;
+      one_holder_each = callers.1.one_holder_each;
       subjects_there = Each-both (HasDriven s.vehicles) (HasRider s.riders) (HasSubject s.riders s.vehicles)
-          (λ caller driven there. subject_of caller.role s.riders s.vehicles driven there) s.callers vehicles.driven_there riders.riders_there;
-      kept_in_order = kept.in_order;
-      kept_of_callers = kept.of_callers;
-      kept_writes = kept.writes;
-      places = places;
-      routes = routes.table;
-      routes_made = routes.made;
-      riders = riders.table;
-      entries_in_order = entries.in_order;
-      entries_of_riders = entries.of_riders;
-      authors_there = entries.authors_there;
-      entries_made = entries.made;
-      files = entries.files;
-      vehicles_in_order = vehicles.in_order;
-      first_days = vehicles.first_days;
-      hours = vehicles.hours;
-      depots_there = vehicles.depots_there;
-      fleet = vehicles.fleet;
-      travel = travel.table;
-      travel_days = travel.days;
-      travel_of_places = travel.of_places;
-      trips_in_order = trips.in_order;
-      trips_numbered = trips.numbered;
-      trips_of_riders = trips.of_riders;
-      trip_places_there = trips.places_there;
-      trip_days = trips.days;
-      planned_in_order = plans.in_order;
-      planned_routes = plans.routes;
-      planned_trips_stand = plans.trips_stand;
-      planned_days = plans.days;
-      planned_have_stops = plans.have_stops;
-      planned_drive = travel.drive;
-      planned_load = loads;
-      standing_planned = plans.standing_planned;
+          (λ caller driven there. subject_of caller.role s.riders s.vehicles driven there) s.callers vehicles.1.driven_there riders.1.riders_there;
+      kept_in_order = kept.1.in_order;
+      kept_of_callers = kept.1.of_callers;
+      kept_writes = kept.1.writes;
+      places = places.1;
+      routes = routes.1;
+      riders = riders.1.table;
+      entries_in_order = entries.1.in_order;
+      entries_of_riders = entries.1.of_riders;
+      authors_there = entries.1.authors_there;
+      files = entries.1.files;
+      vehicles_in_order = vehicles.1.in_order;
+      depots_there = vehicles.1.depots_there;
+      fleet = vehicles.1.fleet;
+      travel = travel.1.table;
+      travel_of_places = travel.1.of_places;
+      trips_in_order = trips.1.in_order;
+      trips_numbered = trips.1.numbered;
+      trips_of_riders = trips.1.of_riders;
+      trip_places_there = trips.1.places_there;
+      planned_in_order = plans.1.in_order;
+      planned_routes = plans.1.routes;
+      planned_trips_stand = plans.1.trips_stand;
+      planned_have_stops = plans.1.have_stops;
+      planned_drive = travel.1.drive;
+      planned_load = loads.1;
+      standing_planned = plans.1.standing_planned;
     }
 
 -- ---- what the tables before a table tell
 
+-- vehicles that keep to their ranges have first days that are days
+pub days_in : (vehicles : List Vehicle) → Each IsVehicle vehicles → Each HasFirstDay vehicles
+days_in vehicles each = Each-weaker IsVehicle HasFirstDay (λ version is. is.from_day) vehicles each
+
 pub days_to : (s : State) → IsSoundTo 10 s → Each HasFirstDay s.vehicles
-days_to s each = let vehicles : IsSoundIn s table.Vehicles = each.1.1.1.1.1.0 in vehicles.first_days
+days_to s each = let vehicles : IsSoundIn s table.Vehicles = each.1.1.1.1.1.0 in days_in s.vehicles vehicles.0
 
 pub routes_to : (s : State) → IsSoundTo 10 s → Each IsRoutePlan s.planned
-routes_to s each = let plans : IsSoundIn s table.Stops = each.1.1.1.1.1.1.1.1.1.0 in plans.routes
+routes_to s each = let plans : IsSoundIn s table.Stops = each.1.1.1.1.1.1.1.1.1.0 in plans.1.routes
 
 pub first_ten : (s : State) → IsSoundTo 13 s → IsSoundTo 10 s
 first_ten s each = (

@@ -1,22 +1,22 @@
--- What a sound state keeps, table by table: each line with the greatest of the tables that it speaks of.
+-- What a sound state keeps beside the ranges of its records, table by table: each line with the greatest of the tables
+-- that it speaks of.
 use Rattle.std.specs.Prelude.{ℕ, Bool, true, IsTrue, List, is_some}
 use Rattle.pt_base.specs.declared.place.Place.{Place}
 use Rattle.pt_base.specs.declared.rider.Rider.{Rider}
 use Rattle.pt_base.specs.declared.trip.Trip.{Trip}
 use Rattle.pt_base.specs.declared.vehicle.Vehicle.{Vehicle}
-use Rattle.pt_corridor.specs.Route.{Route, IsFixedRoute}
+use Rattle.pt_corridor.specs.Route.{Route}
 use Rattle.pt_records.specs.Records.{Each, IsInOrder, IsTable, record_at}
 use Rattle.pt_requests.specs.declared.caller.Caller.{Caller}
 use Rattle.pt_requests.specs.declared.caller.Role.{Role}
 use Rattle.pt_requests.specs.declared.caller.Role.TheVariants as role
 use Rattle.pt_scheduling.specs.Plan.{Plan, plan_key, IsRoutePlan}
-use Rattle.pt_desk_rules.specs.Fleet.{has_version, ClosesInDay}
+use Rattle.pt_desk_rules.specs.Fleet.{has_version}
 use Rattle.pt_desk_rules.specs.Limits.{most_callers, most_places, most_routes, most_riders, most_tables}
-use Rattle.pt_desk_rules.specs.Sound.{HasDigest, HasOneHolder, IsKeptWrite, IsOfCaller}
-use Rattle.pt_desk_rules.specs.Sound.{HasFiledRider, HasAuthor, IsEntered}
-use Rattle.pt_desk_rules.specs.Sound.{IsSoundFile, HasFirstDay, HasDepot, IsFleet, HoldsFromDay, IsOfPlaces}
-use Rattle.pt_desk_rules.specs.Sound.{IsNumberedTo, IsOfRider, HasPlaces, HasDay, HasStandingTrips}
-use Rattle.pt_desk_rules.specs.Sound.{IsOnDay, HasStops, DrivesIn, LoadsFitIn, IsPlanned}
+use Rattle.pt_desk_rules.specs.Sound.{HasOneHolder, IsKeptWrite, IsOfCaller, HasFiledRider, HasAuthor}
+use Rattle.pt_desk_rules.specs.Sound.{IsSoundFile, HasDepot, IsFleet, IsOfPlaces}
+use Rattle.pt_desk_rules.specs.Sound.{IsNumberedTo, IsOfRider, HasPlaces, HasStandingTrips}
+use Rattle.pt_desk_rules.specs.Sound.{HasStops, DrivesIn, LoadsFitIn, IsPlanned}
 use Rattle.pt_desk_rules.specs.State.{caller_key, kept_key, place_key, route_key, rider_key, entry_key}
 use Rattle.pt_desk_rules.specs.State.{vehicle_key, travel_key, trip_key, entries_of}
 use Rattle.pt_desk_rules.specs.Travel.{DatedTable}
@@ -41,7 +41,6 @@ HasRider riders caller = IsTrue (has_rider caller.role riders)
 
 pub record AreSoundCallers (callers : List Caller) : Type 0 where
   pub table : IsTable caller_key most_callers callers
-  pub digests : Each HasDigest callers
   pub one_holder_each : Each (HasOneHolder callers) callers
 
 pub record AreSoundKept (callers : List Caller) (kept : List Kept) : Type 0 where
@@ -52,14 +51,11 @@ pub record AreSoundKept (callers : List Caller) (kept : List Kept) : Type 0 wher
 abbrev pub AreSoundPlaces : List Place → Type 0
 AreSoundPlaces places = IsTable place_key most_places places
 
-pub record AreSoundRoutes (routes : List Route) : Type 0 where
-  pub table : IsTable route_key most_routes routes
-  pub made : Each IsFixedRoute routes
+abbrev pub AreSoundRoutes : List Route → Type 0
+AreSoundRoutes routes = IsTable route_key most_routes routes
 
 pub record AreSoundVehicles (callers : List Caller) (places : List Place) (vehicles : List Vehicle) : Type 0 where
   pub in_order : IsInOrder vehicle_key vehicles
-  pub first_days : Each HasFirstDay vehicles
-  pub hours : Each ClosesInDay vehicles
   pub depots_there : Each (HasDepot places) vehicles
   pub fleet : IsFleet vehicles
   pub driven_there : Each (HasDriven vehicles) callers
@@ -76,7 +72,6 @@ pub record AreSoundEntries (callers : List Caller) (riders : List Rider) (entrie
   pub in_order : IsInOrder entry_key entries
   pub of_riders : Each (HasFiledRider riders) entries
   pub authors_there : Each (HasAuthor callers) entries
-  pub made : Each IsEntered entries
   pub files : AreSoundFiles entries
 
 pub record AreSoundTrips (places : List Place) (riders : List Rider) (last : ℕ) (trips : List Trip) : Type 0 where
@@ -84,13 +79,11 @@ pub record AreSoundTrips (places : List Place) (riders : List Rider) (last : ℕ
   pub numbered : Each (IsNumberedTo last) trips
   pub of_riders : Each (IsOfRider riders) trips
   pub places_there : Each (HasPlaces places) trips
-  pub days : Each HasDay trips
 
 pub record AreSoundPlans (trips : List Trip) (plans : List Plan) : Type 0 where
   pub in_order : IsInOrder plan_key plans
   pub routes : Each IsRoutePlan plans
   pub trips_stand : Each (HasStandingTrips trips) plans
-  pub days : Each IsOnDay plans
   pub have_stops : Each HasStops plans
   pub standing_planned : Each (IsPlanned plans) trips
 
@@ -98,7 +91,6 @@ pub record AreSoundPlans (trips : List Trip) (plans : List Plan) : Type 0 where
 pub record AreSoundTables (places : List Place) (vehicles : List Vehicle) (trips : List Trip) (plans : List Plan)
     (travel : List DatedTable) : Type 0 where
   pub table : IsTable travel_key most_tables travel
-  pub days : Each HoldsFromDay travel
   pub of_places : Each (IsOfPlaces places) travel
   pub drive : Each (DrivesIn vehicles travel trips) plans
 

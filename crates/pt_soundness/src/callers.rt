@@ -1,17 +1,10 @@
 ghost use Rattle.std.specs.Prelude.{◌≡◌, ◌↔◌, IsTrue};
 ghost use Rattle.pt_records.specs.Records.{Each};
-ghost use Rattle.pt_desk_rules.specs.Sound.{HasDigest, HasOneHolder};
+ghost use Rattle.pt_desk_rules.specs.Sound.{HasOneHolder};
 ghost use Rattle.pt_soundness.specs.Unsound.{AreSoundCallers};
 
 use pt_desk_rules::{Caller, MOST_CALLERS};
 use pt_records::Table;
-
-/// Whether the caller's digest has 32 bytes.
-fn has_digest(caller: &Caller) -> bool
-    ensures { IsTrue result ↔ HasDigest caller.now }
-{
-    caller.digest.bytes().len() == 32
-}
 
 /// Whether the two are one caller or have two digests.
 fn differ(first: &Caller, second: &Caller) -> bool
@@ -27,13 +20,6 @@ fn has_one_holder(callers: &[Caller], caller: &Caller) -> bool
     callers.iter().all(|other| differ(caller, other))
 }
 
-/// Whether each digest has 32 bytes.
-fn have_digests(callers: &[Caller]) -> bool
-    ensures { IsTrue result ↔ Each HasDigest callers.now }
-{
-    callers.iter().all(has_digest)
-}
-
 /// Whether no two callers have one digest.
 fn have_one_holder_each(callers: &[Caller]) -> bool
     ensures { IsTrue result ↔ Each (HasOneHolder callers.now) callers.now }
@@ -46,5 +32,5 @@ pub(crate) fn are_sound_callers(callers: &Table<Caller>) -> bool
     ensures { IsTrue result ↔ AreSoundCallers callers.now.items }
 {
     let callers = callers.as_slice();
-    callers.len() <= MOST_CALLERS && have_digests(callers) && have_one_holder_each(callers)
+    callers.len() <= MOST_CALLERS && have_one_holder_each(callers)
 }

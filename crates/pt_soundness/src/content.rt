@@ -1,5 +1,5 @@
 ghost use Rattle.std.specs.Prelude.{◌↔◌, IfOk, IsTrue};
-ghost use Rattle.pt_soundness.specs.Tables.{IsSoundBefore, IsSoundIn};
+ghost use Rattle.pt_soundness.specs.Tables.{IsSoundBefore, IsSoundIn, KeepsRangesIn};
 
 use crate::UnsoundTable;
 use crate::callers::are_sound_callers;
@@ -14,13 +14,15 @@ use crate::vehicles::are_sound_vehicles;
 use pt_desk::ListKeeper;
 use std::alloc::{AllocError, Global};
 
-/// Whether the records of a table are those of a sound state, where all tables before it are sound.
+/// Whether the records of a table are those of a sound state, where all tables before it are sound. That records keep to
+/// their ranges is known of those that were read from rows.
 pub fn is_sound_in(
     alloc: Global,
     content: &ListKeeper,
     table: UnsoundTable,
 ) -> Result<bool, AllocError>
     requires before { IsSoundBefore content.now.content table }
+    requires ranges { KeepsRangesIn content.now.content table }
     ensures { IfOk result (λ sound. IsTrue sound ↔ IsSoundIn content.now.content table) }
 {
     let (callers, places) = (content.callers_table(), content.places_table());

@@ -1,11 +1,11 @@
 ghost use Rattle.std.specs.Prelude.{◌↔◌, IsTrue};
-ghost use Rattle.pt_desk_rules.specs.Sound.{HasAuthor, HasFiledRider, IsEntered};
+ghost use Rattle.pt_desk_rules.specs.Sound.{HasAuthor, HasFiledRider};
 ghost use Rattle.pt_records.specs.Records.{Each};
 ghost use Rattle.pt_soundness.specs.Unsound.{AreSoundEntries};
 
 use crate::files::are_sound_files;
 use pt_base::Rider;
-use pt_desk_rules::{Caller, FiledEntry, keeps_ranges};
+use pt_desk_rules::{Caller, FiledEntry};
 use pt_records::{Key, Table};
 
 /// Whether the rider in whose case file the entry is, is there.
@@ -24,15 +24,6 @@ fn has_author(callers: &Table<Caller>, filed: &FiledEntry) -> bool
         .is_some()
 }
 
-/// True: the day and the fields of an entry are such, as their types have it.
-fn is_entered(filed: &FiledEntry) -> bool
-    ensures { IsTrue result ↔ IsEntered filed.now }
-{
-    let _number = filed.entered.day.number();
-    keeps_ranges(&filed.entered.entry);
-    true
-}
-
 /// Whether the riders in whose case files the entries are, are there.
 fn have_riders(riders: &Table<Rider>, entries: &[FiledEntry]) -> bool
     ensures { IsTrue result ↔ Each (HasFiledRider riders.now.items) entries.now }
@@ -47,13 +38,6 @@ fn have_authors(callers: &Table<Caller>, entries: &[FiledEntry]) -> bool
     entries.iter().all(|filed| has_author(callers, filed))
 }
 
-/// True: the entries keep to their ranges, as their types have it.
-fn are_entered(entries: &[FiledEntry]) -> bool
-    ensures { IsTrue result ↔ Each IsEntered entries.now }
-{
-    entries.iter().all(is_entered)
-}
-
 /// Whether the entries are those of a sound state, with the callers and the riders.
 pub(crate) fn are_sound_entries(
     callers: &Table<Caller>,
@@ -63,8 +47,5 @@ pub(crate) fn are_sound_entries(
     ensures { IsTrue result ↔ AreSoundEntries callers.now.items riders.now.items entries.now.items }
 {
     let entries = entries.as_slice();
-    have_riders(riders, entries)
-        && have_authors(callers, entries)
-        && are_entered(entries)
-        && are_sound_files(entries)
+    have_riders(riders, entries) && have_authors(callers, entries) && are_sound_files(entries)
 }

@@ -9,7 +9,7 @@ ghost use Rattle.pt_records.specs.Records.{Each};
 ghost use Rattle.pt_scheduling.specs.Plan.{stops_among, IsPlannedRoute, IsRoutePlan};
 ghost use Rattle.pt_soundness.specs.Unsound.{AreSoundTables};
 
-use crate::travel::{are_of_places, hold_from_days};
+use crate::travel::are_of_places;
 use crate::vehicles::versions_of;
 use pt_base::{Day, Place, Trip, Vehicle};
 use pt_desk_rules::{MOST_TABLES, PlannedRoute, PlannedStop, TravelTable, on_duty, table_on};
@@ -152,7 +152,7 @@ pub(crate) fn are_sound_tables(
         trips.now.items plans.now.items travel.now.items) }
 {
     let tables = travel.as_slice();
-    if tables.len() > MOST_TABLES || !hold_from_days(tables) || !are_of_places(places, tables) {
+    if tables.len() > MOST_TABLES || !are_of_places(places, tables) {
         return Ok(false);
     }
     all_drive(alloc, vehicles, tables, trips, plans.as_slice())

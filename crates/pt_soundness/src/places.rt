@@ -1,5 +1,4 @@
 ghost use Rattle.std.specs.Prelude.{◌↔◌, IsTrue};
-ghost use Rattle.pt_corridor.specs.Route.{IsFixedRoute};
 ghost use Rattle.pt_records.specs.Records.{Each};
 ghost use Rattle.pt_soundness.specs.Unsound.{AreSoundPlaces, AreSoundRoutes, AreSoundRiders, HasRider};
 
@@ -15,34 +14,11 @@ pub(crate) fn are_sound_places(places: &Table<Place>) -> bool
     places.as_slice().len() <= MOST_PLACES
 }
 
-/// True: a fixed route is one, as its type has it.
-fn is_fixed_route(route: &FixedRoute) -> bool
-    ensures { IsTrue result ↔ IsFixedRoute route.now }
-{
-    let _points = route.points();
-    let _width = route.width();
-    let _first = route.first();
-    true
-}
-
-/// True: the fixed routes are such, as their types have it.
-fn are_fixed_routes(routes: &[FixedRoute]) -> bool
-    ensures { IsTrue result ↔ Each IsFixedRoute routes.now }
-{
-    for route in routes {
-        if !is_fixed_route(route) {
-            return false;
-        }
-    }
-    true
-}
-
 /// Whether the fixed routes are those of a sound state.
 pub(crate) fn are_sound_routes(routes: &Table<FixedRoute>) -> bool
     ensures { IsTrue result ↔ AreSoundRoutes routes.now.items }
 {
-    let routes = routes.as_slice();
-    routes.len() <= MOST_ROUTES && are_fixed_routes(routes)
+    routes.as_slice().len() <= MOST_ROUTES
 }
 
 /// Whether the rider is there of whom the caller's role speaks, if it speaks of one.

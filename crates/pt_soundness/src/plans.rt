@@ -4,12 +4,12 @@ ghost use Rattle.pt_base.specs.TripStatus.{stands};
 ghost use Rattle.pt_records.specs.Keys.{pair_key};
 ghost use Rattle.pt_records.specs.Records.{Each};
 ghost use Rattle.pt_scheduling.specs.Plan.{plan_key};
-ghost use Rattle.pt_desk_rules.specs.Sound.{HasStandingTrips, HasStops, IsOnDay, IsPlanned, StandsIn};
+ghost use Rattle.pt_desk_rules.specs.Sound.{HasStandingTrips, IsPlanned, StandsIn};
 ghost use Rattle.pt_soundness.specs.Unsound.{AreSoundPlans};
 
 use crate::pairs::are_route_plans;
 use pt_base::{Trip, TripId};
-use pt_desk_rules::{PlannedRoute, PlannedStop};
+use pt_desk_rules::{PlannedRoute, PlannedStop, have_stops};
 use pt_records::{Key, Keyed, Table};
 use std::cmp::Ordering;
 
@@ -51,21 +51,6 @@ fn has_standing_trips(trips: &Table<Trip>, plan: &PlannedRoute) -> bool
     stand_in(trips, plan, &plan.stops)
 }
 
-/// True: the day of a plan is a day, as its type has it.
-fn is_on_day(plan: &PlannedRoute) -> bool
-    ensures { IsTrue result ↔ IsOnDay plan.now }
-{
-    let _number = plan.day.number();
-    true
-}
-
-/// Whether the plan has stops.
-fn has_stops(plan: &PlannedRoute) -> bool
-    ensures { IsTrue result ↔ HasStops plan.now }
-{
-    !plan.stops.is_empty()
-}
-
 /// Whether some stop is one of this trip.
 fn has_trip(stops: &[PlannedStop], trip: TripId) -> bool
     ensures { result ≡ list_any (λ stop. stop.trip == trip) stops.now }
@@ -93,20 +78,6 @@ fn have_standing_trips(trips: &Table<Trip>, plans: &[PlannedRoute]) -> bool
     plans.iter().all(|plan| has_standing_trips(trips, plan))
 }
 
-/// True: the days of the plans are days, as their types have it.
-fn are_on_days(plans: &[PlannedRoute]) -> bool
-    ensures { IsTrue result ↔ Each IsOnDay plans.now }
-{
-    plans.iter().all(is_on_day)
-}
-
-/// Whether the plans have stops.
-fn have_stops(plans: &[PlannedRoute]) -> bool
-    ensures { IsTrue result ↔ Each HasStops plans.now }
-{
-    plans.iter().all(has_stops)
-}
-
 /// Whether the trips that stand are planned.
 fn are_planned(plans: &Table<PlannedRoute>, trips: &[Trip]) -> bool
     ensures { IsTrue result ↔ Each (IsPlanned plans.now.items) trips.now }
@@ -121,7 +92,6 @@ pub(crate) fn are_sound_plans(trips: &Table<Trip>, plans: &Table<PlannedRoute>) 
     let routes = plans.as_slice();
     are_route_plans(routes)
         && have_standing_trips(trips, routes)
-        && are_on_days(routes)
         && have_stops(routes)
         && are_planned(plans, trips.as_slice())
 }

@@ -1,6 +1,6 @@
 ghost use Rattle.std.specs.Prelude.{◌≡◌, ◌↔◌, IsTrue, is_some};
 ghost use Rattle.pt_desk_rules.specs.Rules.{are_there};
-ghost use Rattle.pt_desk_rules.specs.Sound.{HoldsFromDay, IsOfPlaces};
+ghost use Rattle.pt_desk_rules.specs.Sound.{IsOfPlaces};
 ghost use Rattle.pt_desk_rules.specs.State.{place_key};
 ghost use Rattle.pt_records.specs.Records.{Each, record_at};
 
@@ -8,21 +8,6 @@ use pt_base::{Place, PlaceId};
 use pt_desk_rules::TravelTable;
 use pt_records::{Key, Table};
 use pt_travel::Row;
-
-/// True: the first day of a table is a day, as its type has it.
-fn holds_from_day(table: &TravelTable) -> bool
-    ensures { IsTrue result ↔ HoldsFromDay table.now }
-{
-    let _number = table.from_day().number();
-    true
-}
-
-/// True: the first days of the tables are days, as their types have it.
-pub(crate) fn hold_from_days(tables: &[TravelTable]) -> bool
-    ensures { IsTrue result ↔ Each HoldsFromDay tables.now }
-{
-    tables.iter().all(holds_from_day)
-}
 
 /// Whether the place of this number is there.
 fn is_there(places: &Table<Place>, id: PlaceId) -> bool
@@ -43,7 +28,7 @@ fn are_there(places: &Table<Place>, rows: &[Row]) -> bool
     true
 }
 
-/// Whether the rows of a table name places that are there. That they are a travel table's, their type has.
+/// Whether the rows of a table name places that are there.
 fn is_of_places(places: &Table<Place>, table: &TravelTable) -> bool
     ensures { IsTrue result ↔ IsOfPlaces places.now.items table.now }
 {

@@ -1,6 +1,6 @@
 ghost use Rattle.std.specs.Prelude.{◌↔◌, IsTrue};
 ghost use Rattle.pt_records.specs.Records.{Each};
-ghost use Rattle.pt_desk_rules.specs.Sound.{HasDay, HasPlaces, IsNumberedTo, IsOfRider};
+ghost use Rattle.pt_desk_rules.specs.Sound.{HasPlaces, IsNumberedTo, IsOfRider};
 ghost use Rattle.pt_soundness.specs.Unsound.{AreSoundTrips};
 
 use pt_base::{Place, Rider, Trip};
@@ -28,14 +28,6 @@ fn has_places(places: &Table<Place>, trip: &Trip) -> bool
         && places.find(&Key::of(trip.wish.to.number())).is_some()
 }
 
-/// True: the day of a trip is a day, as its type has it.
-fn has_day(trip: &Trip) -> bool
-    ensures { IsTrue result ↔ HasDay trip.now }
-{
-    let _number = trip.wish.day.number();
-    true
-}
-
 /// Whether the trips have numbers that were given.
 fn are_numbered_to(last: u32, trips: &[Trip]) -> bool
     ensures { IsTrue result ↔ Each (IsNumberedTo last) trips.now }
@@ -57,13 +49,6 @@ fn have_places(places: &Table<Place>, trips: &[Trip]) -> bool
     trips.iter().all(|trip| has_places(places, trip))
 }
 
-/// True: the days of the trips are days, as their types have it.
-fn have_days(trips: &[Trip]) -> bool
-    ensures { IsTrue result ↔ Each HasDay trips.now }
-{
-    trips.iter().all(has_day)
-}
-
 /// Whether the trips are those of a sound state, with the places and the riders.
 pub(crate) fn are_sound_trips(
     places: &Table<Place>,
@@ -74,8 +59,5 @@ pub(crate) fn are_sound_trips(
     ensures { IsTrue result ↔ AreSoundTrips places.now.items riders.now.items last trips.now.items }
 {
     let trips = trips.as_slice();
-    are_numbered_to(last, trips)
-        && are_of_riders(riders, trips)
-        && have_places(places, trips)
-        && have_days(trips)
+    are_numbered_to(last, trips) && are_of_riders(riders, trips) && have_places(places, trips)
 }

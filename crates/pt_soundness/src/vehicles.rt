@@ -1,6 +1,6 @@
 ghost use Rattle.std.specs.Prelude.{◌≡◌, ℕ, ◌≤◌, ◌↔◌, ◌∷◌, IsTrue, length};
 ghost use Rattle.pt_records.specs.Records.{Each, IsInOrder};
-ghost use Rattle.pt_desk_rules.specs.Fleet.{ClosesInDay, has_version, vehicle_count, versions_of};
+ghost use Rattle.pt_desk_rules.specs.Fleet.{has_version, vehicle_count, versions_of};
 ghost use Rattle.pt_desk_rules.specs.Limits.{most_versions};
 ghost use Rattle.pt_desk_rules.specs.Sound.{HasDepot, HasFirstDay, IsFleet};
 ghost use Rattle.pt_desk_rules.specs.State.{vehicle_key, versions_from};
@@ -9,22 +9,6 @@ ghost use Rattle.pt_soundness.specs.Unsound.{AreSoundVehicles, HasDriven};
 use pt_base::{Place, Vehicle, VehicleId};
 use pt_desk_rules::{Caller, MOST_VEHICLES, MOST_VERSIONS, Role};
 use pt_records::{Key, Span, Table};
-
-/// True: the first day of a version is a day, as its type has it.
-fn has_first_day(version: &Vehicle) -> bool
-    ensures { IsTrue result ↔ HasFirstDay version.now }
-{
-    let _number = version.from_day.number();
-    true
-}
-
-/// True: a version is back by a minute of the day, as its type has it.
-fn closes_in_day(version: &Vehicle) -> bool
-    ensures { IsTrue result ↔ ClosesInDay version.now }
-{
-    let _number = version.closes.number();
-    true
-}
 
 /// Whether the depot of a version is there.
 fn has_depot(places: &Table<Place>, version: &Vehicle) -> bool
@@ -133,20 +117,6 @@ fn has_driven(vehicles: &Table<Vehicle>, caller: &Caller) -> bool
     }
 }
 
-/// True: the first days are days, as their types have it.
-fn have_first_days(versions: &[Vehicle]) -> bool
-    ensures { IsTrue result ↔ Each HasFirstDay versions.now }
-{
-    versions.iter().all(has_first_day)
-}
-
-/// True: the vehicles are back in the day, as their types have it.
-fn close_in_day(versions: &[Vehicle]) -> bool
-    ensures { IsTrue result ↔ Each ClosesInDay versions.now }
-{
-    versions.iter().all(closes_in_day)
-}
-
 /// Whether the depots are there.
 fn have_depots(places: &Table<Place>, versions: &[Vehicle]) -> bool
     ensures { IsTrue result ↔ Each (HasDepot places.now.items) versions.now }
@@ -168,12 +138,9 @@ pub(crate) fn are_sound_vehicles(
     places: &Table<Place>,
     vehicles: &Table<Vehicle>,
 ) -> bool
+    requires days { Each HasFirstDay vehicles.now.items }
     ensures { IsTrue result ↔ AreSoundVehicles callers.now.items places.now.items vehicles.now.items }
 {
     let versions = vehicles.as_slice();
-    have_first_days(versions)
-        && close_in_day(versions)
-        && have_depots(places, versions)
-        && is_fleet(vehicles)
-        && are_driven(vehicles, callers.as_slice())
+    have_depots(places, versions) && is_fleet(vehicles) && are_driven(vehicles, callers.as_slice())
 }
