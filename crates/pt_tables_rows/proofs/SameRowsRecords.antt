@@ -20,8 +20,7 @@ use Rattle.pt_base.specs.declared.rider.Residence.TheVariants.{Resident, Visitor
 use Rattle.pt_base.specs.declared.rider.Rider.{Rider}
 use Rattle.pt_base.specs.declared.trip.Trip.{Trip}
 use Rattle.pt_base.specs.declared.trip_status.TripStatus.{TripStatus}
-use Rattle.pt_base.specs.declared.trip_status.TripStatus.TheVariants.{Booked, Cancelled, Ridden, MissedRider}
-use Rattle.pt_base.specs.declared.trip_status.TripStatus.TheVariants.{MissedOperator}
+use Rattle.pt_base.specs.declared.trip_status.TripStatus.TheVariants.{Booked, Cancelled, Ridden, MissedRider, MissedOperator}
 use Rattle.pt_base.specs.declared.vehicle.Vehicle.{Vehicle}
 use Rattle.pt_corridor.specs.Route.{Route, IsRouteOnPlane}
 use Rattle.pt_desk_rules.specs.declared.change.FiledEntry.{FiledEntry}
@@ -38,12 +37,9 @@ use Rattle.pt_spelling.specs.Replies.{IsReply}
 use Rattle.pt_spelling.specs.Requests.{role_number, subject_of, kind_number, entry_number}
 use Rattle.pt_spelling.proofs.FieldLemmas.{bool-same, days-same}
 use Rattle.pt_spelling.proofs.SettingLemmas.{policy-same}
-use Rattle.pt_tables_rows.specs.Rows.{desk_row, caller_row, place_row, rider_row, vehicle_row, trip_row, status_number}
-use Rattle.pt_tables_rows.specs.Rows.{optional_value, route_row, kept_row, entry_row, first_number, second_number}
-use Rattle.pt_tables_rows.specs.Rows.{entry_conditions, entry_words, row_if, rider_chair_rows, vehicle_chair_rows}
-use Rattle.pt_tables_rows.specs.Rows.{trip_chair_rows}
+use Rattle.pt_tables_rows.specs.Rows.{desk_row, caller_row, place_row, rider_row, vehicle_row, trip_row, status_number, optional_value, route_row, kept_row, entry_row, first_number, second_number, entry_conditions, entry_words, row_if, rider_chair_rows, vehicle_chair_rows, trip_chair_rows}
 use Rattle.pt_tables_rows.proofs.SameRowsLists.{one_same}
-use Rattle.pt_tables_rows.specs.WellFormed.{GrantsInRange}
+use Rattle.pt_spelling.specs.Ranges.{IsEntry}
 use Rattle.pt_tables_rows.proofs.SameRowsBytes.{line-told, reply-told, grant-told}
 
 -- ---- what stands in a column
@@ -303,18 +299,18 @@ HasSameFields one other =
 some-same : (a b : ℕ) → Some a ≡ Some b → a ≡ b
 some-same a b same = cc
 
-particulars-told : (one other : Entry) → GrantsInRange one → GrantsInRange other → HasSameFields one other
+particulars-told : (one other : Entry) → IsEntry one → IsEntry other → HasSameFields one other
     → entry_conditions one ≡ entry_conditions other → one ≡ other
 particulars-told entry.Complete entry.Complete ones others same conditions = refl
 particulars-told (entry.Grant a) (entry.Grant b) ones others same conditions =
-    ap (λ (g : Grant). entry.Grant g) (grant-told a b ones others (some-same a.until b.until same.1) conditions)
+    ap (λ (g : Grant). entry.Grant g) (grant-told a b ones.conditions others.conditions (some-same a.until b.until same.1) conditions)
 particulars-told (entry.Refuse a) (entry.Refuse b) ones others same conditions =
     ap (λ (t : List ℕ). entry.Refuse t) same.3
 particulars-told (entry.Appeal a) (entry.Appeal b) ones others same conditions =
     ap (λ (n : ℕ). entry.Appeal n) (some-same a b same.1)
 particulars-told entry.Heard entry.Heard ones others same conditions = refl
 particulars-told (entry.AppealGranted a) (entry.AppealGranted b) ones others same conditions =
-    ap (λ (g : Grant). entry.AppealGranted g) (grant-told a b ones others (some-same a.until b.until same.1) conditions)
+    ap (λ (g : Grant). entry.AppealGranted g) (grant-told a b ones.conditions others.conditions (some-same a.until b.until same.1) conditions)
 particulars-told (entry.AppealDenied a) (entry.AppealDenied b) ones others same conditions =
     ap (λ (t : List ℕ). entry.AppealDenied t) same.3
 particulars-told entry.Overturn entry.Overturn ones others same conditions = refl
@@ -327,7 +323,7 @@ particulars-told (entry.Suspend starts ends a) (entry.Suspend first last b) ones
     λ i. entry.Suspend (from i) (to i) (same.3 i)
 particulars-told one other ones others same conditions = absurd (let kind = same.0 in omega arith)
 
-pub entry-told : (one other : FiledEntry) → GrantsInRange one.entered.entry → GrantsInRange other.entered.entry
+pub entry-told : (one other : FiledEntry) → IsEntry one.entered.entry → IsEntry other.entered.entry
     → entry_row one ≡ entry_row other → one ≡ other
 entry-told one other ones others same =
     let a = one.entered.entry in
