@@ -7,41 +7,19 @@ use Rattle.std.specs.List.{join_with_byte, slice_split}
 use Rattle.sqlite.specs.Order.{Row}
 use Rattle.pt_base.specs.Day.{IsDay}
 use Rattle.pt_base.specs.declared.place.Point.{Point}
-use Rattle.pt_base.specs.declared.vehicle.Vehicle.{Vehicle}
 use Rattle.pt_conditions.specs.Texts.{condition_text}
-use Rattle.pt_corridor.specs.Route.{Route, IsFixedRoute}
 use Rattle.pt_rights.specs.Conditions.{IsCondition, IsConditions}
-use Rattle.pt_desk_rules.specs.declared.change.FiledEntry.{FiledEntry}
-use Rattle.pt_rights.specs.Reasons.{IsReasons}
 use Rattle.pt_rights.specs.declared.conditions.Condition.{Condition}
 use Rattle.pt_rights.specs.declared.entry.Entry.{Entry}
 use Rattle.pt_rights.specs.declared.entry.Entry.TheVariants as entry
-use Rattle.pt_rights.specs.declared.entry.Grant.{Grant}
-use Rattle.pt_spelling.specs.Ranges.{IsEntry, IsWord, IsWeek}
+use Rattle.pt_spelling.specs.Ranges.{IsWord}
 use Rattle.pt_spelling.specs.Replies.{IsId}
 use Rattle.pt_spelling.specs.Requests.{entry_number}
 use Rattle.pt_travel.specs.Chain as travel
-use Rattle.pt_tables_reading.specs.Reading.{IsMinute}
 use Rattle.pt_tables_rows.specs.Rows.{entry_conditions, entry_words, first_number, number_value, second_number}
 use Rattle.pt_tables_rows.specs.Rows.{stop_number, travel_row}
 use Rattle.pt_tables_reading.specs.declared.drives.DriveAt.{DriveAt}
 use Rattle.pt_tables_reading.specs.declared.stops.StopAt.{StopAt}
-
--- a vehicle as it is from a day on; the rest its record keeps itself
-pub record FitsVehicle (version : Vehicle) : Type 0 where
-  pub id : IsId version.id
-  pub from_day : IsDay version.from_day
-  pub days : IsWeek version.days
-  pub depot : IsId version.depot
-  pub opens : IsMinute version.opens
-  pub closes : IsMinute version.closes
-
-pub record FitsRoute (route : Route) : Type 0 where
-  pub id : IsId route.id
-  pub fixed : IsFixedRoute route
-  pub days : IsWeek route.days
-  pub first : IsMinute route.first
-  pub last : IsMinute route.last
 
 -- the coordinates are numbers of 32 bits
 abbrev pub FitsPoint : Point → Type 0
@@ -66,13 +44,6 @@ FitsConditions conditions = IsConditions conditions × All IsCondition condition
 -- what a row tells of an entry: its kind, its two numbers, its conditions and its words
 abbrev pub parts_of_entry : Entry → ℕ × Option ℕ × Option ℕ × List ℕ × List ℕ
 parts_of_entry e = (entry_number e, first_number e, second_number e, entry_conditions e, entry_words e)
-
-pub record FitsFiled (filed : FiledEntry) : Type 0 where
-  pub rider : IsId filed.rider
-  pub position : IsWord filed.position
-  pub entry : IsEntry filed.entered.entry
-  pub day : IsDay filed.entered.day
-  pub author : IsId filed.entered.author
 
 -- ---- a row of a plan, and one of a travel table
 

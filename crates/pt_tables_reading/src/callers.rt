@@ -3,7 +3,8 @@ ghost use Rattle.sqlite.specs.declared.types.Value.TheVariants.{Blob};
 ghost use Rattle.sqlite.specs.Order.{column};
 ghost use Rattle.pt_spelling.specs.Requests.{role_number, subject_of};
 ghost use Rattle.pt_tables_rows.specs.Rows.{caller_row};
-ghost use Rattle.pt_tables_reading.specs.Reading.{Reads, FitsRole, FitsDigest, FitsCaller};
+ghost use Rattle.pt_tables_reading.specs.Reading.{Reads, FitsDigest};
+ghost use Rattle.pt_spelling.specs.Ranges.{IsCaller, IsRole};
 
 use crate::columns::{bytes_at, id_at, number_at};
 use pt_base::{RiderId, VehicleId};
@@ -15,7 +16,7 @@ const COLUMNS: usize = 4;
 
 /// The caller of a row.
 pub fn caller_of(row: &Row) -> Option<Caller>
-    ensures { Reads caller_row FitsCaller row.now result }
+    ensures { Reads caller_row IsCaller row.now result }
 {
     if row.column_count() != COLUMNS {
         return None;
@@ -31,7 +32,7 @@ pub fn caller_of(row: &Row) -> Option<Caller>
 
 /// The role that is told apart so, about the rider or vehicle with this number, or 0.
 fn role_of(kind: u32, subject: u32) -> Option<Role>
-    ensures { Reads {B = ℕ × ℕ} (λ role. (role_number role, subject_of role)) FitsRole (kind, subject) result }
+    ensures { Reads {B = ℕ × ℕ} (λ role. (role_number role, subject_of role)) IsRole (kind, subject) result }
 {
     match (kind, subject) {
         (0, rider) => Some(Role::Rider(RiderId::of(rider)?)),

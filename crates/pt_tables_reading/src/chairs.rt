@@ -3,8 +3,9 @@
 ghost use Rattle.std.specs.Prelude.{◌≡◌};
 ghost use Rattle.pt_tables_rows.specs.Rows.{rider_row, vehicle_row, trip_row};
 ghost use Rattle.pt_tables_rows.specs.Rows.{rider_chair_rows, vehicle_chair_rows, trip_chair_rows};
-ghost use Rattle.pt_tables_reading.specs.Fitting.{FitsVehicle};
-ghost use Rattle.pt_tables_reading.specs.Reading.{ReadsBeside, FitsRider, FitsTrip};
+ghost use Rattle.pt_spelling.specs.Ranges.{IsVehicle};
+ghost use Rattle.pt_tables_reading.specs.Reading.{ReadsBeside};
+ghost use Rattle.pt_desk_rules.specs.Ranges.{FitsRider, FitsTrip};
 
 use crate::columns::number_in;
 use pt_base::{Rider, Trip, Vehicle};
@@ -35,8 +36,8 @@ pub fn rider_beside(rider: &Rider, row: &Row) -> Option<Rider>
 
 /// The vehicle with its wheelchair places, where the row is this one's as it is from the same day on.
 pub fn vehicle_beside(version: &Vehicle, row: &Row) -> Option<Vehicle>
-    requires fits { FitsVehicle version.now }
-    ensures { ReadsBeside vehicle_row vehicle_chair_rows FitsVehicle version.now row.now result }
+    requires fits { IsVehicle version.now }
+    ensures { ReadsBeside vehicle_row vehicle_chair_rows IsVehicle version.now row.now result }
 {
     if row.column_count() != COLUMNS_OF_VEHICLE {
         return None;

@@ -10,7 +10,8 @@ ghost use Rattle.pt_spelling.specs.Ranges.{IsWord};
 ghost use Rattle.pt_spelling.specs.Replies.{IsId};
 ghost use Rattle.pt_spelling.specs.Requests.{kind_number};
 ghost use Rattle.pt_tables_rows.specs.Rows.{number_value, truth_value, optional_value, status_number};
-ghost use Rattle.pt_tables_reading.specs.Reading.{Reads, IsMinute};
+ghost use Rattle.pt_tables_reading.specs.Reading.{Reads};
+ghost use Rattle.pt_desk_rules.specs.Ranges.{IsMinute};
 
 use pt_base::{Day, Id, Minute, Residence, TripStatus};
 use sqlite::Row;

@@ -11,7 +11,7 @@ ghost use Rattle.pt_tables_rows.specs.Rows.{first_number, second_number};
 ghost use Rattle.pt_tables_reading.specs.Reading.{Reads};
 ghost use Rattle.pt_spelling.specs.Ranges.{IsEntry};
 ghost use Rattle.pt_tables_reading.specs.Fitting.{joined, FitsConditions, parts_of_entry};
-ghost use Rattle.pt_tables_reading.specs.Fitting.{FitsFiled};
+ghost use Rattle.pt_desk_rules.specs.Ranges.{FitsFiled};
 
 use crate::columns::{day_at, id_at, integer_at, number_at, text_at};
 use crate::conditions::conditions_in;

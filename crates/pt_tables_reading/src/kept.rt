@@ -3,7 +3,8 @@ ghost use Rattle.sqlite.specs.declared.types.Value.TheVariants.{Blob};
 ghost use Rattle.sqlite.specs.Order.{column};
 ghost use Rattle.pt_spelling.specs.Replies.{reply_spelling, IsReply};
 ghost use Rattle.pt_tables_rows.specs.Rows.{kept_row};
-ghost use Rattle.pt_tables_reading.specs.Reading.{Reads, FitsKept, kept_record};
+ghost use Rattle.pt_tables_reading.specs.Reading.{Reads, kept_record};
+ghost use Rattle.pt_desk_rules.specs.Ranges.{FitsKept};
 
 use crate::columns::{bytes_at, id_at, number_at};
 use pt_base::CallerId;

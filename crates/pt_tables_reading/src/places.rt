@@ -2,7 +2,8 @@ ghost use Rattle.sqlite.specs.declared.types.Value.TheVariants.{Int};
 ghost use Rattle.sqlite.specs.Order.{column};
 ghost use Rattle.pt_base.specs.Place.{IsCoordinate};
 ghost use Rattle.pt_tables_rows.specs.Rows.{place_row};
-ghost use Rattle.pt_tables_reading.specs.Reading.{Reads, FitsPlace};
+ghost use Rattle.pt_tables_reading.specs.Reading.{Reads};
+ghost use Rattle.pt_desk_rules.specs.Ranges.{FitsPlace};
 
 use crate::columns::{id_at, signed_at, truth_at};
 use pt_base::{Place, Point};

@@ -1,6 +1,7 @@
 ghost use Rattle.std.specs.Prelude.{◌≡◌};
 ghost use Rattle.pt_tables_rows.specs.Rows.{rider_row};
-ghost use Rattle.pt_tables_reading.specs.Reading.{Reads, FitsRider};
+ghost use Rattle.pt_tables_reading.specs.Reading.{Reads};
+ghost use Rattle.pt_desk_rules.specs.Ranges.{FitsRider};
 
 use crate::columns::{id_at, kind_at, truth_at};
 use pt_base::Rider;

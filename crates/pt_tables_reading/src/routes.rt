@@ -4,7 +4,7 @@ ghost use Rattle.sqlite.specs.Order.{column};
 ghost use Rattle.pt_spelling.specs.Requests.{point_bytes};
 ghost use Rattle.pt_tables_rows.specs.Rows.{route_row};
 ghost use Rattle.pt_tables_reading.specs.Reading.{Reads};
-ghost use Rattle.pt_tables_reading.specs.Fitting.{FitsRoute};
+ghost use Rattle.pt_spelling.specs.Ranges.{IsRoute};
 
 use crate::columns::{bytes_at, id_at, minute_at, number_at, truth_at};
 use crate::points::{are_points, points_from};
@@ -19,7 +19,7 @@ const COLUMNS: usize = 7;
 
 /// The fixed route of a row.
 pub fn route_of(alloc: Global, row: &Row) -> Result<Option<FixedRoute>, AllocError>
-    ensures { IfOk result (Reads route_row FitsRoute row.now) }
+    ensures { IfOk result (Reads route_row IsRoute row.now) }
 {
     let Some(bytes) = bytes_at(row, 2) else {
         return Ok(None);
@@ -33,7 +33,7 @@ pub fn route_of(alloc: Global, row: &Row) -> Result<Option<FixedRoute>, AllocErr
 /// The fixed route of a row, along the points that the row has.
 fn route_along(row: &Row, points: Vec<Point>) -> Option<FixedRoute>
     requires { column row.now 2 ≡ Blob (flat_map point_bytes points.items) }
-    ensures { Reads route_row FitsRoute row.now result }
+    ensures { Reads route_row IsRoute row.now result }
 {
     if row.column_count() != COLUMNS {
         return None;

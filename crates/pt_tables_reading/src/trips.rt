@@ -1,5 +1,6 @@
 ghost use Rattle.pt_tables_rows.specs.Rows.{trip_row};
-ghost use Rattle.pt_tables_reading.specs.Reading.{Reads, FitsTrip};
+ghost use Rattle.pt_tables_reading.specs.Reading.{Reads};
+ghost use Rattle.pt_desk_rules.specs.Ranges.{FitsTrip};
 
 use crate::columns::{
     day_at, id_at, minute_at, number_in, optional_minute_at, status_at, truth_at,

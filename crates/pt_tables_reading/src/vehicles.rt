@@ -1,7 +1,7 @@
 ghost use Rattle.std.specs.Prelude.{◌≡◌};
 ghost use Rattle.pt_tables_rows.specs.Rows.{vehicle_row};
 ghost use Rattle.pt_tables_reading.specs.Reading.{Reads};
-ghost use Rattle.pt_tables_reading.specs.Fitting.{FitsVehicle};
+ghost use Rattle.pt_spelling.specs.Ranges.{IsVehicle};
 
 use crate::columns::{day_at, id_at, minute_at, number_in};
 use crate::weekdays::days_at;
@@ -13,7 +13,7 @@ const COLUMNS: usize = 8;
 
 /// The vehicle, as it is from a day on, of a row, with no wheelchair place, of which a row of its own tells.
 pub fn vehicle_of(row: &Row) -> Option<Vehicle>
-    ensures { Reads vehicle_row FitsVehicle row.now result }
+    ensures { Reads vehicle_row IsVehicle row.now result }
 {
     if row.column_count() != COLUMNS {
         return None;

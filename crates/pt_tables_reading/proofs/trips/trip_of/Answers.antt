@@ -19,6 +19,7 @@ returns c = (
       from = c.in_ok-id_at.ensures.1;
       to = c.in_ok-id_at-2.ensures.1;
       by = c.in_ok-optional_minute_at.ensures.1;
+      companions = (let few = c.in_ok-number_in.ensures.1 in let least = few.0 in let most = few.1 in omega arith);
     };
     vehicle = c.in_ok-id_at-5.ensures.1;
     window_from = c.in_ok-minute_at-2.ensures.1;
