@@ -17,15 +17,13 @@ use Rattle.pt_records.specs.Keys.{pair_key}
 use Rattle.pt_records.specs.Records.{Each, IsInOrder, is_within, within}
 use Rattle.pt_records.specs.declared.span.Span.{Span}
 use Rattle.pt_records.proofs.OrderLemmas.{Each-weaker}
-use Rattle.pt_tables_reading.specs.Fitting.{FitsFiled}
-use Rattle.pt_tables_reading.specs.Reading.{FitsKept, FitsRider, FitsTrip}
+use Rattle.pt_desk_rules.specs.Ranges.{FitsFiled, FitsKept, FitsRider, FitsTrip}
 use Rattle.pt_tables_rows.specs.Rows.{entry_row, kept_row, number_value, rider_row, row_if, trip_row}
 use Rattle.pt_tables_rows.specs.Schema.{desk_schema, entries_table, kept_table, rider_chairs_table, riders_table, trip_chairs_table, trips_table}
 use Rattle.pt_tables_rows.specs.Tables.{AreRows, IsKept, Stands}
-use Rattle.pt_tables_rows.proofs.WellFormedLemmas.{grants_in_range}
 use Rattle.pt_tables_rows.proofs.SameRowsRecords.{number_in, entry-told, kept-told, rider-told, trip-told}
 use Rattle.pt_tables_asking.specs.Asking.{HasAnswer, Rests}
-use Rattle.pt_tables_asking.specs.Content.{IsReadable}
+use Rattle.pt_tables_rows.specs.WellFormed.{IsWellFormed}
 use Rattle.pt_tables_asking.specs.Marks.{FitsMark, HasMarked, mark_if, mark_key, mark_row, marks_of}
 use Rattle.pt_tables_asking.specs.declared.marks.Mark.{Mark}
 use Rattle.pt_tables_asking.specs.declared.texts.TheConstants.{ENTRIES_BY_RIDER, KEPT_BY_CALLER, RIDER_BY_NUMBER, RIDER_MARKS, TRIPS_BY_DAY, TRIPS_BY_RIDER, TRIPS_FROM_DAY, TRIP_BY_NUMBER, TRIP_MARKS}
@@ -78,7 +76,7 @@ in_span : (x rider position : ℕ) → position < 4_294_967_296 → (x == rider)
 in_span x rider position low = grind (arith, nat_tests)
 
 pub entries_apart : (x y : FiledEntry) → FitsFiled x → FitsFiled y → entry_row x ≡ entry_row y → x ≡ y
-entries_apart x y one other = entry-told x y (grants_in_range x.entered.entry one.entry) (grants_in_range y.entered.entry other.entry)
+entries_apart x y one other = entry-told x y one.entry other.entry
 
 pub kept_apart : (x y : Kept) → FitsKept x → FitsKept y → kept_row x ≡ kept_row y → x ≡ y
 kept_apart x y one other = kept-told x y one.reply other.reply
@@ -103,12 +101,12 @@ trips_told x y same marks = trip-told x y same (same_mark x.wheelchair y.wheelch
 
 -- ---- what the texts ask for
 
-module _ (content : State) (readable : IsReadable content) where
+module _ (content : State) (readable : IsWellFormed content) where
   rider_numbers : Each (λ r. rider_key r < 2 ^ 32) content.riders
-  rider_numbers = Each-weaker FitsRider (λ r. rider_key r < 2 ^ 32) (λ r fits. fits.1) content.riders readable.riders
+  rider_numbers = Each-weaker FitsRider (λ r. rider_key r < 2 ^ 32) (λ r fits. fits.1) content.riders readable.ranges.riders
 
   trip_numbers : Each (λ t. trip_key t < 2 ^ 32) content.trips
-  trip_numbers = Each-weaker FitsTrip (λ t. trip_key t < 2 ^ 32) (λ t fits. fits.id.1) content.trips readable.trips
+  trip_numbers = Each-weaker FitsTrip (λ t. trip_key t < 2 ^ 32) (λ t fits. fits.id.1) content.trips readable.ranges.trips
 
   pub rider_marks_fit : Each FitsMark (marks_of rider_key (λ r. r.wheelchair) content.riders)
   rider_marks_fit = marks_fit rider_key (λ r. r.wheelchair) content.riders rider_numbers
@@ -116,28 +114,28 @@ module _ (content : State) (readable : IsReadable content) where
   pub trip_marks_fit : Each FitsMark (marks_of trip_key (λ t. t.wheelchair) content.trips)
   trip_marks_fit = marks_fit trip_key (λ t. t.wheelchair) content.trips trip_numbers
 
-module _ (content : State) (readable : IsReadable content) (db : Database) (stands : Stands content db) where
+module _ (content : State) (readable : IsWellFormed content) (db : Database) (stands : Stands content db) where
   pub kept_answer : (caller : ℕ) → HasAnswer KEPT_BY_CALLER.now (number_value caller ∷ []) kept_row db (filter (λ kept. kept_key kept == caller) content.kept)
   kept_answer caller =
       has_passing kept_key kept_row FitsKept 1 (by_one kept_key kept_row FitsKept (λ x. refl) (λ x. refl)) kept_table KEPT_BY_CALLER.now (number_value caller ∷ []) (has_number 0 caller) (kept_text caller)
-      db stands.schema (λ kept. kept_key kept == caller) (λ kept fits. same_number kept.caller caller) content.kept readable.kept readable.well_formed.kept stands.rows.records.kept
+      db stands.schema (λ kept. kept_key kept == caller) (λ kept fits. same_number kept.caller caller) content.kept readable.ranges.kept readable.kept stands.rows.records.kept
 
   pub rider_answer : (rider : ℕ) → HasAnswer RIDER_BY_NUMBER.now (number_value rider ∷ []) rider_row db (filter (λ r. rider_key r == rider) content.riders)
   rider_answer rider =
       has_passing rider_key rider_row FitsRider 1 (by_one rider_key rider_row FitsRider (λ x. refl) (λ x. refl)) riders_table RIDER_BY_NUMBER.now (number_value rider ∷ []) (has_number 0 rider) (rider_text rider)
-      db stands.schema (λ r. rider_key r == rider) (λ r fits. same_number r.id rider) content.riders readable.riders readable.well_formed.riders stands.rows.records.riders
+      db stands.schema (λ r. rider_key r == rider) (λ r fits. same_number r.id rider) content.riders readable.ranges.riders readable.riders stands.rows.records.riders
 
   pub entries_answer : (rider : ℕ) → HasAnswer ENTRIES_BY_RIDER.now (number_value rider ∷ []) entry_row db (entries_of rider content.entries)
   entries_answer rider =
       has_passing entry_key entry_row FitsFiled 2 (by_two entry_key entry_row FitsFiled (λ x fits. record { first = refl; second = refl; second_low = fits.position }) (λ x. refl)) entries_table
       ENTRIES_BY_RIDER.now (number_value rider ∷ []) (has_number 0 rider) (entries_text rider) db stands.schema (λ filed. is_within (entry_key filed) (span_of rider))
-      (λ filed fits. same_number filed.rider rider ∙ in_span filed.rider rider filed.position fits.position) content.entries readable.entries readable.well_formed.entries stands.rows.records.entries
+      (λ filed fits. same_number filed.rider rider ∙ in_span filed.rider rider filed.position fits.position) content.entries readable.ranges.entries readable.entries stands.rows.records.entries
 
   module _ (text : List ℕ) (params : Row) (passes_row : Row → Bool) (asks : AsksFor 1 trips_table text params passes_row) (passes : Trip → Bool) (passing : (t : Trip) → passes_row (trip_row t) ≡ passes t) where
     trips_answer : HasAnswer text params trip_row db (filter passes content.trips)
     trips_answer =
         has_passing trip_key trip_row FitsTrip 1 (by_one trip_key trip_row FitsTrip (λ x. refl) (λ x. refl)) trips_table text params passes_row asks
-        db stands.schema passes (λ t fits. passing t) content.trips readable.trips readable.well_formed.trips stands.rows.records.trips
+        db stands.schema passes (λ t fits. passing t) content.trips readable.ranges.trips readable.trips stands.rows.records.trips
 
   pub trip_answer : (trip : ℕ) → HasAnswer TRIP_BY_NUMBER.now (number_value trip ∷ []) trip_row db (filter (λ t. trip_key t == trip) content.trips)
   trip_answer trip = trips_answer TRIP_BY_NUMBER.now (number_value trip ∷ []) (has_number 0 trip) (trip_text trip) (λ t. trip_key t == trip) (λ t. same_number t.id trip)
@@ -152,14 +150,14 @@ module _ (content : State) (readable : IsReadable content) (db : Database) (stan
   later_trips_answer day = trips_answer TRIPS_FROM_DAY.now (number_value day ∷ []) (has_least 2 day) (trips_from_day_text day) (λ t. nat_le day t.wish.day) (λ t. at_least t.wish.day day)
 
   pub rider_marks_answer : (span : Span) → HasAnswer RIDER_MARKS.now (number_value span.from ∷ number_value span.to ∷ []) mark_row db (within mark_key span (marks_of rider_key (λ r. r.wheelchair) content.riders))
-  rider_marks_answer = marks_answer rider_key (λ r. r.wheelchair) rider_chairs_table RIDER_MARKS.now rider_marks_text db stands.schema content.riders (rider_numbers content readable) readable.well_formed.riders stands.rows.rider_chairs
+  rider_marks_answer = marks_answer rider_key (λ r. r.wheelchair) rider_chairs_table RIDER_MARKS.now rider_marks_text db stands.schema content.riders (rider_numbers content readable) readable.riders stands.rows.rider_chairs
 
   pub trip_marks_answer : (span : Span) → HasAnswer TRIP_MARKS.now (number_value span.from ∷ number_value span.to ∷ []) mark_row db (within mark_key span (marks_of trip_key (λ t. t.wheelchair) content.trips))
-  trip_marks_answer = marks_answer trip_key (λ t. t.wheelchair) trip_chairs_table TRIP_MARKS.now trip_marks_text db stands.schema content.trips (trip_numbers content readable) readable.well_formed.trips stands.rows.trip_chairs
+  trip_marks_answer = marks_answer trip_key (λ t. t.wheelchair) trip_chairs_table TRIP_MARKS.now trip_marks_text db stands.schema content.trips (trip_numbers content readable) readable.trips stands.rows.trip_chairs
 
 -- ---- the same of a connection that keeps the content, and of parameters that were made on the way
 
-module _ (content : State) (readable : IsReadable content) (old : Connected) (held : IsKept content old) where
+module _ (content : State) (readable : IsWellFormed content) (old : Connected) (held : IsKept content old) where
   there : {A : Type 0} (text : List ℕ) (params : Row) (row_of : A → Row) (xs : List A) → ((db : Database) → Stands content db → HasAnswer text params row_of db xs)
       → (given : Row) → given ≡ params → IsTrue old.is_open → HasAnswer text given row_of old.now xs
   there text params row_of xs answer given same here = at_params text row_of old.now xs given params same (answer old.now (held.stands here))

@@ -2,29 +2,18 @@
 use Rattle.std.specs.Prelude.{◌≡◌, ◌≢◌, Result, Err, IfOk}
 use Rattle.sqlite.specs.State.{State as Connected, HasCleanDisk}
 use Rattle.pt_desk_rules.specs.State.{State}
-use Rattle.pt_records.specs.Records.{Each}
 use Rattle.pt_tables_asking.specs.declared.asking.Unread.{Unread}
 use Rattle.pt_tables_asking.specs.declared.asking.Unread.TheVariants.{Row as BadRow}
-use Rattle.pt_tables_reading.specs.Fitting.{FitsFiled}
-use Rattle.pt_tables_reading.specs.Reading.{FitsKept, FitsRider, FitsTrip}
 use Rattle.pt_tables_rows.specs.Tables.{IsKept}
 use Rattle.pt_tables_rows.specs.WellFormed.{IsWellFormed}
-
--- The rows of the content tell it, and each record that is read as it is asked for is such as its row is read back.
-pub record IsReadable (content : State) : Type 0 where
-  pub well_formed : IsWellFormed content
-  pub kept : Each FitsKept content.kept
-  pub riders : Each FitsRider content.riders
-  pub entries : Each FitsFiled content.entries
-  pub trips : Each FitsTrip content.trips
 
 -- what is read is this of the content that the tables have
 abbrev pub Tells : {X : Type 0} → Connected → Connected → (State → X) → Result X Unread → Type 0
 Tells old new value result =
-    HasCleanDisk new → (content : State) → IsReadable content → IsKept content old
+    HasCleanDisk new → (content : State) → IsWellFormed content → IsKept content old
     → IfOk result (λ found. found ≡ value content)
 
 -- no row of the content that the tables have is found to be that of no record
 abbrev pub Decodes : {X : Type 0} → Connected → Connected → Result X Unread → Type 0
 Decodes old new result =
-    HasCleanDisk new → (content : State) → IsReadable content → IsKept content old → result ≢ Err BadRow
+    HasCleanDisk new → (content : State) → IsWellFormed content → IsKept content old → result ≢ Err BadRow

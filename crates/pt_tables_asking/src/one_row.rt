@@ -2,7 +2,8 @@
 
 ghost use Rattle.std.specs.Prelude.{IfOk};
 ghost use Rattle.sqlite.specs.Order.{Row as StoredRow};
-ghost use Rattle.pt_tables_reading.specs.Reading.{FitsKept, Reads};
+ghost use Rattle.pt_tables_reading.specs.Reading.{Reads};
+ghost use Rattle.pt_desk_rules.specs.Ranges.{FitsKept};
 ghost use Rattle.pt_tables_rows.specs.Rows.{kept_row};
 
 use pt_base::{Place, Rider, Trip, Vehicle};
@@ -29,10 +30,10 @@ pub trait OneRow: Drop {
 }
 
 impl OneRow for Caller {
-    ghost use Rattle.pt_tables_reading.specs.Reading.{FitsCaller};
+    ghost use Rattle.pt_spelling.specs.Ranges.{IsCaller};
     ghost use Rattle.pt_tables_rows.specs.Rows.{caller_row};
 
-    ghost Fits = { FitsCaller };
+    ghost Fits = { IsCaller };
 
     ghost row_of = { caller_row };
 
@@ -68,7 +69,7 @@ impl OneRow for Kept {
 }
 
 impl OneRow for Place {
-    ghost use Rattle.pt_tables_reading.specs.Reading.{FitsPlace};
+    ghost use Rattle.pt_desk_rules.specs.Ranges.{FitsPlace};
     ghost use Rattle.pt_tables_rows.specs.Rows.{place_row};
 
     ghost Fits = { FitsPlace };
@@ -81,10 +82,10 @@ impl OneRow for Place {
 }
 
 impl OneRow for FixedRoute {
-    ghost use Rattle.pt_tables_reading.specs.Fitting.{FitsRoute};
+    ghost use Rattle.pt_spelling.specs.Ranges.{IsRoute};
     ghost use Rattle.pt_tables_rows.specs.Rows.{route_row};
 
-    ghost Fits = { FitsRoute };
+    ghost Fits = { IsRoute };
 
     ghost row_of = { route_row };
 
@@ -94,10 +95,10 @@ impl OneRow for FixedRoute {
 }
 
 impl OneRow for Vehicle {
-    ghost use Rattle.pt_tables_reading.specs.Fitting.{FitsVehicle};
+    ghost use Rattle.pt_spelling.specs.Ranges.{IsVehicle};
     ghost use Rattle.pt_tables_rows.specs.Rows.{vehicle_row};
 
-    ghost Fits = { FitsVehicle };
+    ghost Fits = { IsVehicle };
 
     ghost row_of = { vehicle_row };
 
@@ -107,7 +108,7 @@ impl OneRow for Vehicle {
 }
 
 impl OneRow for Rider {
-    ghost use Rattle.pt_tables_reading.specs.Reading.{FitsRider};
+    ghost use Rattle.pt_desk_rules.specs.Ranges.{FitsRider};
     ghost use Rattle.pt_tables_rows.specs.Rows.{rider_row};
 
     ghost Fits = { FitsRider };
@@ -120,7 +121,7 @@ impl OneRow for Rider {
 }
 
 impl OneRow for FiledEntry {
-    ghost use Rattle.pt_tables_reading.specs.Fitting.{FitsFiled};
+    ghost use Rattle.pt_desk_rules.specs.Ranges.{FitsFiled};
     ghost use Rattle.pt_tables_rows.specs.Rows.{entry_row};
 
     ghost Fits = { FitsFiled };
@@ -133,7 +134,7 @@ impl OneRow for FiledEntry {
 }
 
 impl OneRow for Trip {
-    ghost use Rattle.pt_tables_reading.specs.Reading.{FitsTrip};
+    ghost use Rattle.pt_desk_rules.specs.Ranges.{FitsTrip};
     ghost use Rattle.pt_tables_rows.specs.Rows.{trip_row};
 
     ghost Fits = { FitsTrip };

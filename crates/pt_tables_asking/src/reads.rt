@@ -13,7 +13,8 @@ ghost use Rattle.pt_tables_rows.specs.Rows.{trip_row};
 ghost use Rattle.pt_tables_rows.specs.Schema.{desk_schema};
 ghost use Rattle.pt_tables_rows.specs.Tables.{IsKept};
 ghost use Rattle.pt_tables_asking.specs.Asking.{HasAnswer, Rests};
-ghost use Rattle.pt_tables_asking.specs.Content.{Decodes, IsReadable, Tells};
+ghost use Rattle.pt_tables_asking.specs.Content.{Decodes, Tells};
+ghost use Rattle.pt_tables_rows.specs.WellFormed.{IsWellFormed};
 ghost use Rattle.pt_tables_asking.specs.declared.asking.Unread.TheVariants.{Row as BadRow};
 
 use crate::asking::{Unread, asked, first, ordered};
@@ -90,12 +91,12 @@ fn trips_asked<S: Alter>(
     requires settled { conn.old.in_transaction ≡ false }
     requires plain { IsPlain (understood desk_schema text.now) }
     requires unlisted { reads_listing desk_schema text.now ≡ false }
-    ensures told { HasCleanDisk (state S.Store conn.new) → (content : State) → IsReadable content
+    ensures told { HasCleanDisk (state S.Store conn.new) → (content : State) → IsWellFormed content
         → IsKept content (state S.Store conn.old) → (passes : TripRecord → Bool)
         → (IsTrue (state S.Store conn.old).is_open → HasAnswer text.now (bound params.now) trip_row
         (state S.Store conn.old).now (filter passes content.trips))
         → IfOk result (λ found. found ≡ filter passes content.trips) }
-    ensures readable { HasCleanDisk (state S.Store conn.new) → (content : State) → IsReadable content
+    ensures readable { HasCleanDisk (state S.Store conn.new) → (content : State) → IsWellFormed content
         → IsKept content (state S.Store conn.old) → (passes : TripRecord → Bool)
         → (IsTrue (state S.Store conn.old).is_open → HasAnswer text.now (bound params.now) trip_row
         (state S.Store conn.old).now (filter passes content.trips))

@@ -21,12 +21,12 @@ asked_marked-requires g c =
 
 pub returns-in_err-found-clause-readable : goal.returns-in_err-found-clause-readable
 returns-in_err-found-clause-readable g c clean content readable held =
-    let never = c.in_err-found.ensures.readable clean content.riders (λ r. rider_key r == c.args.rider) readable.well_formed.riders readable.riders (rider_marks_fit content readable)
+    let never = c.in_err-found.ensures.readable clean content.riders (λ r. rider_key r == c.args.rider) readable.riders readable.ranges.riders (rider_marks_fit content readable)
     (riders_marked content readable (state g.S.Store c.args.conn.now) held c.args.rider _ (search rules)) in
     search rules
 
 pub returns-clause-told : goal.returns-clause-told
 returns-clause-told g c clean content readable held =
-    let found = c.in_ok-found.ensures.told clean content.riders (λ r. rider_key r == c.args.rider) readable.well_formed.riders
+    let found = c.in_ok-found.ensures.told clean content.riders (λ r. rider_key r == c.args.rider) readable.riders
     (riders_marked content readable (state g.S.Store c.args.conn.now) held c.args.rider _ (search rules)) in
     c.first.ensures.value ∙ ap (λ l. slice_get l 0) found ∙ slice_get-filter (λ r. rider_key r == c.args.rider) content.riders

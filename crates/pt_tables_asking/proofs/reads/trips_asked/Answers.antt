@@ -23,18 +23,18 @@ asked_marked-requires g c =
 
 pub returns-in_err-found-clause-readable : goal.returns-in_err-found-clause-readable
 returns-in_err-found-clause-readable g c clean content readable held passes has =
-    let never = c.in_err-found.ensures.readable clean content.trips passes readable.well_formed.trips readable.trips (trip_marks_fit content readable)
+    let never = c.in_err-found.ensures.readable clean content.trips passes readable.trips readable.ranges.trips (trip_marks_fit content readable)
     (trips_marked content readable (state g.S.Store c.args.conn.now) held c.args.text.now (bound c.args.params.now) passes has) in
     search rules
 
 pub returns-clause-told : goal.returns-clause-told
 returns-clause-told g c clean content readable held passes has =
-    let found = c.in_ok-found.ensures.told clean content.trips passes readable.well_formed.trips
+    let found = c.in_ok-found.ensures.told clean content.trips passes readable.trips
     (trips_marked content readable (state g.S.Store c.args.conn.now) held c.args.text.now (bound c.args.params.now) passes has) in
     ok_same c.ordered.result c.in_ok-found.found.items (filter passes content.trips) c.ordered.ensures.told found
 
 pub returns-clause-readable : goal.returns-clause-readable
 returns-clause-readable g c clean content readable held passes has =
-    let found = c.in_ok-found.ensures.told clean content.trips passes readable.well_formed.trips
+    let found = c.in_ok-found.ensures.told clean content.trips passes readable.trips
     (trips_marked content readable (state g.S.Store c.args.conn.now) held c.args.text.now (bound c.args.params.now) passes has) in
-    c.ordered.ensures.readable (subst (IsInOrder trip_key) (sym found) (IsInOrder-filter trip_key passes content.trips readable.well_formed.trips))
+    c.ordered.ensures.readable (subst (IsInOrder trip_key) (sym found) (IsInOrder-filter trip_key passes content.trips readable.trips))
