@@ -30,7 +30,7 @@ use Rattle.pt_records.specs.Records.{IsInOrder, put}
 use Rattle.pt_tables_rows.specs.Rows.{number_value, row_if, rider_chair_rows, trip_chair_rows, vehicle_chair_rows}
 use Rattle.pt_tables_rows.specs.Schema.{desk_schema, rider_chairs_table, trip_chairs_table, vehicle_chairs_table}
 use Rattle.pt_tables_rows.specs.Tables.{ChangesIfOk, columns_of}
-use Rattle.pt_tables_rows.specs.WellFormed.{IsVersion}
+use Rattle.pt_spelling.specs.Ranges.{IsVehicle}
 use Rattle.pt_tables_writing.specs.Grouped.{Adds}
 use Rattle.pt_tables_writing.specs.Writes.{Puts, Takes}
 use Rattle.pt_tables_writing.specs.declared.chairs.TheConstants.{PUT_RIDER_CHAIR, TAKE_RIDER_CHAIR, PUT_TRIP_CHAIR, TAKE_TRIP_CHAIR, INSERT_VEHICLE_CHAIRS, DELETE_VEHICLE_CHAIRS}
@@ -45,6 +45,7 @@ use Rattle.pt_tables_writing.proofs.RecordRows.{rewrites-permuted, takes}
 use Rattle.pt_tables_writing.proofs.RemovalLemmas.{IsRemoval, TakesNumbered, removed}
 use Rattle.pt_tables_writing.proofs.TurnLemmas.{rewrites_self}
 use Rattle.pt_tables_writing.proofs.UpsertLemmas.{HasNumbers, IsUpsert, PutsNumbered, upserted, only_first}
+use Rattle.pt_tables_rows.proofs.WellFormedLemmas.{day-word}
 
 nothing : {A : Type 0} (b : Bool) → ◌≡◌ {A = List A} (cond b [] []) []
 nothing true = refl
@@ -257,11 +258,11 @@ module _ (version : Vehicle) (old new : State) (count : ℕ) (has : old.now.sche
       (adds vehicle_chairs_table (vehicle_row_beside version) (vehicle_row_beside version) (λ id. refl) INSERT_VEHICLE_CHAIRS.now (vehicle_row_beside version) (vehicle_insert version) old new count has h)
 
   pub takes_vehicle_chairs : version.from_day < 2 ^ 32 → Executes DELETE_VEHICLE_CHAIRS.now (number_value version.id ∷ number_value version.from_day ∷ []) old new (Ok count)
-      → Takes vehicle_chairs_table vehicle_key IsVersion vehicle_chair_rows version old.now new.now
+      → Takes vehicle_chairs_table vehicle_key IsVehicle vehicle_chair_rows version old.now new.now
   takes_vehicle_chairs low h =
       let params = number_value version.id ∷ number_value version.from_day ∷ [] in
-      takes vehicle_key vehicle_chair_rows vehicle_chairs_table IsVersion version (has_columns params)
-      (λ x fits. so_all _ (not (x.chairs == 0)) (vehicle_row_beside x) (pair-told x.id x.from_day version.id version.from_day (number_value x.chairs ∷ []) fits.0 low)) old.now new.now
+      takes vehicle_key vehicle_chair_rows vehicle_chairs_table IsVehicle version (has_columns params)
+      (λ x fits. so_all _ (not (x.chairs == 0)) (vehicle_row_beside x) (pair-told x.id x.from_day version.id version.from_day (number_value x.chairs ∷ []) (day-word x.from_day fits.from_day) low)) old.now new.now
       (removes DELETE_VEHICLE_CHAIRS.now params vehicle_chairs_table (has_columns params) (vehicle_delete version.id version.from_day) old new count has h)
 
 -- no row is added

@@ -17,7 +17,7 @@ use Rattle.pt_desk_rules.specs.declared.change.FiledEntry.{FiledEntry}
 use Rattle.pt_tables_writing.specs.Grouped.{Adds}
 use Rattle.pt_tables_rows.specs.Rows.{number_value, optional_value, entry_row}
 use Rattle.pt_tables_rows.specs.Schema.{desk_schema, entries_table}
-use Rattle.pt_tables_rows.specs.WellFormed.{IsFiled}
+use Rattle.pt_desk_rules.specs.Ranges.{FitsFiled}
 use Rattle.pt_tables_writing.specs.Writes.{Takes}
 use Rattle.pt_tables_writing.specs.declared.grouped.entries.TheConstants.{DELETE_ENTRY, INSERT_ENTRY}
 use Rattle.pt_tables_writing.proofs.AppendLemmas.{adds, behind}
@@ -65,9 +65,9 @@ entry_delete rider position = record {
 }
 
 pub entry-taken : (gone : FiledEntry) → gone.position < 2 ^ 32 → (old new : State) (count : ℕ) → old.now.schema ≡ desk_schema
-    → Executes DELETE_ENTRY.now (number_value gone.rider ∷ number_value gone.position ∷ []) old new (Ok count) → Takes entries_table entry_key IsFiled (λ e. entry_row e ∷ []) gone old.now new.now
+    → Executes DELETE_ENTRY.now (number_value gone.rider ∷ number_value gone.position ∷ []) old new (Ok count) → Takes entries_table entry_key FitsFiled (λ e. entry_row e ∷ []) gone old.now new.now
 entry-taken gone low old new count has h =
     let params = number_value gone.rider ∷ number_value gone.position ∷ [] in
-    takes entry_key (λ e. entry_row e ∷ []) entries_table IsFiled gone (has_columns params)
-    (λ x fits. (pair-told x.rider x.position gone.rider gone.position (drop 2 (entry_row x)) fits.0 low, tt)) old.now new.now
+    takes entry_key (λ e. entry_row e ∷ []) entries_table FitsFiled gone (has_columns params)
+    (λ x fits. (pair-told x.rider x.position gone.rider gone.position (drop 2 (entry_row x)) fits.position low, tt)) old.now new.now
     (removes DELETE_ENTRY.now params entries_table (has_columns params) (entry_delete gone.rider gone.position) old new count has h)

@@ -14,9 +14,12 @@ use Rattle.pt_tables_rows.specs.Rows.{desk_row, caller_row, kept_row, place_row,
 use Rattle.pt_tables_rows.specs.Schema.{desk_schema, desk_table, callers_table, kept_table, places_table, fixed_table, vehicles_table, riders_table, entries_table, trips_table, stops_table, travel_table, rider_chairs_table, vehicle_chairs_table, trip_chairs_table}
 use Rattle.pt_tables_writing.specs.Stored.{EditsTable, PutsAll, TakesSpans}
 use Rattle.pt_tables_rows.specs.Tables.{Stands}
-use Rattle.pt_tables_rows.specs.WellFormed.{IsFiled, IsVersion, IsStoredPlan}
+use Rattle.pt_tables_rows.specs.WellFormed.{IsStoredPlan}
+use Rattle.pt_desk_rules.specs.Ranges.{FitsFiled}
+use Rattle.pt_spelling.specs.Ranges.{IsVehicle}
 use Rattle.pt_tables_writing.specs.Writes.{Rewrites}
 use Rattle.pt_tables_writing.proofs.PartsLemmas.{HoldAll, Marks, marks_of, parts, parted, whole, rider_chairs_turned, vehicle_chairs_turned, trip_chairs_turned, desk_turned, callers_turned, kept_turned, places_turned, routes_turned, vehicles_turned, riders_turned, entries_turned, trips_turned, planned_turned, travel_turned}
+use Rattle.pt_tables_rows.proofs.WellFormedLemmas.{stored-plans}
 
 -- nothing is asked of the records of most tables
 any : {A : Type 0} (xs : List A) → Each (λ _. Unit {0}) xs
@@ -45,7 +48,7 @@ abbrev pub Edits-riders : Change → State → Database → Database → Type 0
 Edits-riders change s = EditsTable riders_table rider_key (λ _. Unit {0}) (λ x. rider_row x ∷ []) change.riders s.riders
 
 abbrev pub Edits-entries : Change → State → Database → Database → Type 0
-Edits-entries change s = EditsTable entries_table entry_key IsFiled (λ x. entry_row x ∷ []) change.entries s.entries
+Edits-entries change s = EditsTable entries_table entry_key FitsFiled (λ x. entry_row x ∷ []) change.entries s.entries
 
 abbrev pub Edits-places : Change → State → Database → Database → Type 0
 Edits-places change s = EditsTable places_table place_key (λ _. Unit {0}) (λ x. place_row x ∷ []) change.places s.places
@@ -54,7 +57,7 @@ abbrev pub Edits-routes : Change → State → Database → Database → Type 0
 Edits-routes change s = EditsTable fixed_table route_key (λ _. Unit {0}) (λ x. route_row x ∷ []) change.routes s.routes
 
 abbrev pub Edits-vehicles : Change → State → Database → Database → Type 0
-Edits-vehicles change s = EditsTable vehicles_table vehicle_key IsVersion (λ x. vehicle_row x ∷ []) change.vehicles s.vehicles
+Edits-vehicles change s = EditsTable vehicles_table vehicle_key IsVehicle (λ x. vehicle_row x ∷ []) change.vehicles s.vehicles
 
 abbrev pub Edits-travel : Change → State → Database → Database → Type 0
 Edits-travel change s = EditsTable travel_table travel_key (λ _. Unit {0}) travel_rows change.travel s.travel
@@ -83,7 +86,7 @@ riders_step change s m a b order edit all =
     let done = edit all.schema (any change.riders.puts) order (any s.riders) in
     record { schema = done.schema; parts = riders_turned s m (edited rider_key change.riders s.riders) a b done all.parts }
 
-entries_step : (change : Change) (s : State) (m : Marks) (a b : Database) → IsInOrder entry_key s.entries → Each IsFiled s.entries → Each IsFiled change.entries.puts
+entries_step : (change : Change) (s : State) (m : Marks) (a b : Database) → IsInOrder entry_key s.entries → Each FitsFiled s.entries → Each FitsFiled change.entries.puts
     → (a.schema ≡ desk_schema → Edits-entries change s a b) → Are s m a → Are (record s { entries = edited entry_key change.entries s.entries }) m b
 entries_step change s m a b order told puts edit all =
     let done = edit all.schema puts order told in
@@ -101,7 +104,7 @@ routes_step change s m a b order edit all =
     let done = edit all.schema (any change.routes.puts) order (any s.routes) in
     record { schema = done.schema; parts = routes_turned s m (edited route_key change.routes s.routes) a b done all.parts }
 
-vehicles_step : (change : Change) (s : State) (m : Marks) (a b : Database) → IsInOrder vehicle_key s.vehicles → Each IsVersion s.vehicles → Each IsVersion change.vehicles.puts
+vehicles_step : (change : Change) (s : State) (m : Marks) (a b : Database) → IsInOrder vehicle_key s.vehicles → Each IsVehicle s.vehicles → Each IsVehicle change.vehicles.puts
     → (a.schema ≡ desk_schema → Edits-vehicles change s a b) → Are s m a → Are (record s { vehicles = edited vehicle_key change.vehicles s.vehicles }) m b
 vehicles_step change s m a b order told puts edit all =
     let done = edit all.schema puts order told in
@@ -133,10 +136,10 @@ abbrev pub Marks-trips : Change → State → Database → Database → Type 0
 Marks-trips change s = EditsTable trip_chairs_table trip_key (λ _. Unit {0}) trip_chair_rows change.trips s.trips
 
 abbrev pub Unmarks-vehicles : Change → State → Database → Database → Type 0
-Unmarks-vehicles change s = TakesSpans vehicle_chairs_table vehicle_key IsVersion vehicle_chair_rows change.vehicles.away s.vehicles
+Unmarks-vehicles change s = TakesSpans vehicle_chairs_table vehicle_key IsVehicle vehicle_chair_rows change.vehicles.away s.vehicles
 
 abbrev pub Marks-vehicles : Change → Database → Database → Type 0
-Marks-vehicles change = PutsAll vehicle_chairs_table vehicle_key IsVersion vehicle_chair_rows change.vehicles.puts
+Marks-vehicles change = PutsAll vehicle_chairs_table vehicle_key IsVehicle vehicle_chair_rows change.vehicles.puts
 
 rider_marks_step : (change : Change) (s : State) (m : Marks) (a b : Database) → IsInOrder rider_key m.riders
     → (a.schema ≡ desk_schema → EditsTable rider_chairs_table rider_key (λ _. Unit {0}) rider_chair_rows change.riders m.riders a b) → Are s m a
@@ -152,14 +155,14 @@ trip_marks_step change s m a b order edit all =
     let done = edit all.schema (any change.trips.puts) order (any m.trips) in
     record { schema = done.schema; parts = trip_chairs_turned s m (edited trip_key change.trips m.trips) a b done all.parts }
 
-unmarks_step : (change : Change) (s : State) (m : Marks) (a b : Database) → IsInOrder vehicle_key m.vehicles → Each IsVersion m.vehicles
-    → (a.schema ≡ desk_schema → TakesSpans vehicle_chairs_table vehicle_key IsVersion vehicle_chair_rows change.vehicles.away m.vehicles a b) → Are s m a
+unmarks_step : (change : Change) (s : State) (m : Marks) (a b : Database) → IsInOrder vehicle_key m.vehicles → Each IsVehicle m.vehicles
+    → (a.schema ≡ desk_schema → TakesSpans vehicle_chairs_table vehicle_key IsVehicle vehicle_chair_rows change.vehicles.away m.vehicles a b) → Are s m a
     → Are s (record m { vehicles = take_all vehicle_key change.vehicles.away m.vehicles }) b
 unmarks_step change s m a b order told takes all =
     let done = takes all.schema order told in
     record { schema = done.schema; parts = vehicle_chairs_turned s m (take_all vehicle_key change.vehicles.away m.vehicles) a b done all.parts }
 
-vehicle_marks_step : (change : Change) (s : State) (m : Marks) (a b : Database) → IsInOrder vehicle_key m.vehicles → Each IsVersion m.vehicles → Each IsVersion change.vehicles.puts
+vehicle_marks_step : (change : Change) (s : State) (m : Marks) (a b : Database) → IsInOrder vehicle_key m.vehicles → Each IsVehicle m.vehicles → Each IsVehicle change.vehicles.puts
     → (a.schema ≡ desk_schema → Marks-vehicles change a b) → Are s m a → Are s (record m { vehicles = put_all vehicle_key change.vehicles.puts m.vehicles }) b
 vehicle_marks_step change s m a b order told puts puts_all all =
     let done = puts_all all.schema puts m.vehicles order told in
@@ -183,7 +186,7 @@ people_lead change content a b c d e one two three four told puts stands =
     let s3 : State = record s2 { riders = edited rider_key change.riders s2.riders } in
     let all_4 = rider_marks_step change s3 m both.0 d told.riders both.2 all_3 in
     let n : Marks = record m { riders = edited rider_key change.riders m.riders } in
-    let all_5 = entries_step change s3 n d e told.entries told.filed puts.filed four all_4 in
+    let all_5 = entries_step change s3 n d e told.entries told.ranges.entries puts.ranges.entries four all_4 in
     stand (with_people change s) e all_5
 
 pub area_leads : (change : Change) (content : State) (a b c d e : Database)
@@ -200,13 +203,13 @@ area_leads change content a b c d e one two three four told puts stands =
     let all_2 = routes_step change s1 m b c told.routes two all_1 in
     let s2 : State = record s1 { routes = edited route_key change.routes s1.routes } in
     let first = three all_2.schema in
-    let all_3 = unmarks_step change s2 m c first.0 told.vehicles told.versions (λ _. first.1) all_2 in
+    let all_3 = unmarks_step change s2 m c first.0 told.vehicles told.ranges.vehicles (λ _. first.1) all_2 in
     let left : Marks = record m { vehicles = take_all vehicle_key change.vehicles.away m.vehicles } in
     let rest = first.2 all_3.schema in
-    let all_4 = vehicles_step change s2 left first.0 rest.0 told.vehicles told.versions puts.versions (λ _. rest.1) all_3 in
+    let all_4 = vehicles_step change s2 left first.0 rest.0 told.vehicles told.ranges.vehicles puts.ranges.vehicles (λ _. rest.1) all_3 in
     let s3 : State = record s2 { vehicles = edited vehicle_key change.vehicles s2.vehicles } in
     let all_5 = vehicle_marks_step change s3 left rest.0 d (IsInOrder-take_all vehicle_key change.vehicles.away m.vehicles told.vehicles)
-    (Each-take_all IsVersion vehicle_key change.vehicles.away m.vehicles told.versions) puts.versions rest.2 all_4 in
+    (Each-take_all IsVehicle vehicle_key change.vehicles.away m.vehicles told.ranges.vehicles) puts.ranges.vehicles rest.2 all_4 in
     let n : Marks = record m { vehicles = edited vehicle_key change.vehicles m.vehicles } in
     let all_6 = travel_step change s3 n d e told.travel four all_5 in
     stand (with_area change s) e all_6
@@ -225,7 +228,7 @@ trips_lead change content a b c d one two three told puts stands =
     let s1 : State = record s { trips = edited trip_key change.trips s.trips } in
     let all_2 = trip_marks_step change s1 m both.0 b told.trips both.2 all_1 in
     let n : Marks = record m { trips = edited trip_key change.trips m.trips } in
-    let all_3 = planned_step change s1 n b c told.planned told.stops puts.stops two all_2 in
+    let all_3 = planned_step change s1 n b c told.planned (stored-plans s1.planned told.ranges.planned told.stops) (stored-plans change.planned.puts puts.ranges.planned puts.stops) two all_2 in
     let s2 : State = record s1 { planned = edited plan_key change.planned s1.planned } in
     let done = three all_3.schema content.policy content.last_trip in
     stand (with_trips change s) d (record {

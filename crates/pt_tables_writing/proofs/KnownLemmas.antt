@@ -17,7 +17,9 @@ use Rattle.pt_requests.specs.declared.caller.Caller.{Caller}
 use Rattle.pt_scheduling.specs.Plan.{Plan, plan_key}
 use Rattle.pt_tables_rows.specs.Rows.{desk_row, caller_row, kept_row, place_row, route_row, vehicle_row, rider_row, entry_row, trip_row, stop_rows, travel_rows, rider_chair_rows, vehicle_chair_rows, trip_chair_rows}
 use Rattle.pt_tables_rows.specs.Schema.{desk_schema, desk_table, callers_table, kept_table, places_table, fixed_table, vehicles_table, riders_table, entries_table, trips_table, stops_table, travel_table, rider_chairs_table, vehicle_chairs_table, trip_chairs_table}
-use Rattle.pt_tables_rows.specs.WellFormed.{IsFiled, IsVersion, IsStoredPlan}
+use Rattle.pt_tables_rows.specs.WellFormed.{IsStoredPlan}
+use Rattle.pt_desk_rules.specs.Ranges.{FitsFiled}
+use Rattle.pt_spelling.specs.Ranges.{IsVehicle}
 use Rattle.pt_tables_writing.specs.Agreeing.{AgreesFor, KnowsEdited, KnowsTaken, OfEach}
 use Rattle.pt_tables_writing.specs.Groups.{Leads, WritesFleet, WritesRiders, WritesTrips, with_people, with_area, with_trips}
 use Rattle.pt_tables_writing.specs.Stored.{EditsTable, TakesSpans}
@@ -39,7 +41,7 @@ Known-riders change known =
 
 abbrev pub Known-entries : Change → List FiledEntry → Database → Database → Type 0
 Known-entries change known =
-    OfEach (KnowsTaken entry_key change.entries.away known) (EditsTable entries_table entry_key IsFiled (λ x. entry_row x ∷ []) change.entries)
+    OfEach (KnowsTaken entry_key change.entries.away known) (EditsTable entries_table entry_key FitsFiled (λ x. entry_row x ∷ []) change.entries)
 
 abbrev pub Known-places : Change → List Place → Database → Database → Type 0
 Known-places change known =
@@ -51,7 +53,7 @@ Known-routes change known =
 
 abbrev pub Known-vehicles : Change → List Vehicle → Database → Database → Type 0
 Known-vehicles change known =
-    OfEach (KnowsTaken vehicle_key change.vehicles.away known) (EditsTable vehicles_table vehicle_key IsVersion (λ x. vehicle_row x ∷ []) change.vehicles)
+    OfEach (KnowsTaken vehicle_key change.vehicles.away known) (EditsTable vehicles_table vehicle_key IsVehicle (λ x. vehicle_row x ∷ []) change.vehicles)
 
 abbrev pub Known-travel : Change → List DatedTable → Database → Database → Type 0
 Known-travel change known =
@@ -76,7 +78,7 @@ Marked-trips change known =
 
 abbrev pub Unmarked-vehicles : Change → List Vehicle → Database → Database → Type 0
 Unmarked-vehicles change known =
-    OfEach (KnowsTaken vehicle_key change.vehicles.away known) (TakesSpans vehicle_chairs_table vehicle_key IsVersion vehicle_chair_rows change.vehicles.away)
+    OfEach (KnowsTaken vehicle_key change.vehicles.away known) (TakesSpans vehicle_chairs_table vehicle_key IsVehicle vehicle_chair_rows change.vehicles.away)
 
 -- the agency's row, as the change leaves it
 abbrev pub Known-settings : Change → State → Database → Database → Type 0

@@ -26,7 +26,6 @@ pub mod RiderWrites
 pub mod RouteWrites
 pub mod StopRows
 pub mod StoredLemmas
-pub mod ToldLemmas
 pub mod TravelRows
 pub mod TreeLemmas
 pub mod TripWrites

@@ -28,8 +28,7 @@ use Rattle.pt_feasible.specs.contracts.stop.StopKind.{the_type}
 use Rattle.pt_scheduling.specs.Plan.{Plan, plan_key}
 use Rattle.pt_scheduling.specs.declared.planned.PlannedStop.{PlannedStop}
 use Rattle.pt_tables_writing.specs.Grouped.{Adds, KeepsStops}
-use Rattle.pt_tables_rows.specs.Rows.{stop_row}
-use Rattle.pt_tables_rows.specs.Rows.{number_value, stop_rows, stop_rows_from}
+use Rattle.pt_tables_rows.specs.Rows.{stop_row, number_value, stop_rows, stop_rows_from}
 use Rattle.pt_tables_rows.specs.Schema.{desk_schema, stops_table}
 use Rattle.pt_tables_rows.specs.WellFormed.{IsStoredPlan}
 use Rattle.pt_tables_writing.specs.Writes.{Replaces, Rewrites, Takes}
@@ -41,6 +40,7 @@ use Rattle.pt_tables_writing.proofs.InsertLemmas.{IsInsert}
 use Rattle.pt_tables_writing.proofs.KeyLemmas.{from-told, pair-told}
 use Rattle.pt_tables_writing.proofs.RecordRows.{replaces, takes}
 use Rattle.pt_tables_rows.proofs.StopLemmas.{stop_rows-push}
+use Rattle.pt_tables_rows.proofs.WellFormedLemmas.{day-word}
 
 module _ (vehicle day : ℕ) (place : ℤ) (stop : PlannedStop) where
   abbrev row : Row
@@ -89,7 +89,7 @@ pub plan-taken : (gone : Plan) → gone.day < 2 ^ 32 → (old new : State) (coun
 plan-taken gone low old new count has h =
     let params = number_value gone.vehicle ∷ number_value gone.day ∷ [] in
     takes plan_key stop_rows stops_table IsStoredPlan gone (has_columns params)
-    (λ x fits. told gone low x.vehicle x.day fits.0 0 x.stops) old.now new.now
+    (λ x fits. told gone low x.vehicle x.day (day-word x.day fits.0.day) 0 x.stops) old.now new.now
     (removes DELETE_STOPS.now params stops_table (has_columns params) (stops_delete gone.vehicle gone.day) old new count has h)
 
 -- ---- stops that two plans share
@@ -214,7 +214,7 @@ module _ (plan : Plan) (low : plan.day < 2 ^ 32) (first : ℕ) where
   others_kept [] apart fits = refl
   others_kept (x ∷ xs) apart fits =
       filter-append (λ r. not (is_later r)) (stop_rows x) (flat_map stop_rows xs)
-      ∙ ap₂ ◌++◌ (filter_all (λ r. not (is_later r)) (stop_rows x) (other x.vehicle x.day fits.0.0 apart.0 0 x.stops)) (others_kept xs apart.1 fits.1)
+      ∙ ap₂ ◌++◌ (filter_all (λ r. not (is_later r)) (stop_rows x) (other x.vehicle x.day (day-word x.day fits.0.0.day) apart.0 0 x.stops)) (others_kept xs apart.1 fits.1)
 
   pub stops-kept : (old new : State) (count : ℕ) → old.now.schema ≡ desk_schema
       → Executes DELETE_LATER_STOPS.now (number_value plan.vehicle ∷ number_value plan.day ∷ number_value first ∷ []) old new (Ok count)
@@ -238,8 +238,8 @@ pub plan-replaced : (before plan : Plan) (n : ℕ) → take n before.stops ≡ t
 plan-replaced before plan n same a b c kept added fit xs order fits there =
     let key : plan_key before ≡ plan_key plan = found_key plan_key (plan_key plan) before xs there in
     let own = Each-found IsStoredPlan plan_key (plan_key plan) before xs fits there in
-    let vehicle : before.vehicle ≡ plan.vehicle = same_vehicle before.vehicle before.day plan.vehicle plan.day own.0 fit.0 key in
-    let day : before.day ≡ plan.day = same_day before.vehicle before.day plan.vehicle plan.day own.0 fit.0 key in
+    let vehicle : before.vehicle ≡ plan.vehicle = same_vehicle before.vehicle before.day plan.vehicle plan.day (day-word before.day own.0.day) (day-word plan.day fit.0.day) key in
+    let day : before.day ≡ plan.day = same_day before.vehicle before.day plan.vehicle plan.day (day-word before.day own.0.day) (day-word plan.day fit.0.day) key in
     let rows : stop_rows before ≡ stop_rows_from 0 plan.vehicle plan.day before.stops = ap₂ (λ v d. stop_rows_from 0 v d before.stops) vehicle day in
     let front = stop_rows_from 0 plan.vehicle plan.day (take n before.stops) in
     replaces plan_key stop_rows stops_table IsStoredPlan before plan front (stop_rows_from n plan.vehicle plan.day (drop n plan.stops)) a b c

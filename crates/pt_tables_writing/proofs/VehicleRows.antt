@@ -16,7 +16,7 @@ use Rattle.pt_desk_rules.specs.State.{vehicle_key}
 use Rattle.pt_tables_writing.specs.Grouped.{Adds}
 use Rattle.pt_tables_rows.specs.Rows.{number_value, vehicle_row}
 use Rattle.pt_tables_rows.specs.Schema.{desk_schema, vehicles_table}
-use Rattle.pt_tables_rows.specs.WellFormed.{IsVersion}
+use Rattle.pt_spelling.specs.Ranges.{IsVehicle}
 use Rattle.pt_tables_writing.specs.Writes.{Takes}
 use Rattle.pt_tables_writing.specs.declared.grouped.vehicles.TheConstants.{DELETE_VEHICLE, INSERT_VEHICLE}
 use Rattle.pt_tables_writing.proofs.AppendLemmas.{adds, behind}
@@ -25,6 +25,7 @@ use Rattle.pt_tables_writing.proofs.DeleteLemmas.{IsDelete, has_columns, removes
 use Rattle.pt_tables_writing.proofs.InsertLemmas.{IsInsert}
 use Rattle.pt_tables_writing.proofs.KeyLemmas.{pair-told}
 use Rattle.pt_tables_writing.proofs.RecordRows.{takes}
+use Rattle.pt_tables_rows.proofs.WellFormedLemmas.{day-word}
 
 vehicle_cast : (version : Vehicle) → cast_row vehicles_table (Null ∷ vehicle_row version) ≡ Null ∷ vehicle_row version
 vehicle_cast version = simp (cast_null, cast_int)
@@ -60,9 +61,9 @@ vehicle_delete id day = record {
 }
 
 pub vehicle-taken : (gone : Vehicle) → gone.from_day < 2 ^ 32 → (old new : State) (count : ℕ) → old.now.schema ≡ desk_schema
-    → Executes DELETE_VEHICLE.now (number_value gone.id ∷ number_value gone.from_day ∷ []) old new (Ok count) → Takes vehicles_table vehicle_key IsVersion (λ v. vehicle_row v ∷ []) gone old.now new.now
+    → Executes DELETE_VEHICLE.now (number_value gone.id ∷ number_value gone.from_day ∷ []) old new (Ok count) → Takes vehicles_table vehicle_key IsVehicle (λ v. vehicle_row v ∷ []) gone old.now new.now
 vehicle-taken gone low old new count has h =
     let params = number_value gone.id ∷ number_value gone.from_day ∷ [] in
-    takes vehicle_key (λ v. vehicle_row v ∷ []) vehicles_table IsVersion gone (has_columns params)
-    (λ x fits. (pair-told x.id x.from_day gone.id gone.from_day (drop 2 (vehicle_row x)) fits.0 low, tt)) old.now new.now
+    takes vehicle_key (λ v. vehicle_row v ∷ []) vehicles_table IsVehicle gone (has_columns params)
+    (λ x fits. (pair-told x.id x.from_day gone.id gone.from_day (drop 2 (vehicle_row x)) (day-word x.from_day fits.from_day) low, tt)) old.now new.now
     (removes DELETE_VEHICLE.now params vehicles_table (has_columns params) (vehicle_delete gone.id gone.from_day) old new count has h)

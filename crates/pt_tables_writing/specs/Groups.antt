@@ -12,7 +12,8 @@ use Rattle.pt_tables_rows.specs.Rows.{vehicle_chair_rows}
 use Rattle.pt_tables_rows.specs.Schema.{desk_schema, riders_table, trips_table, vehicles_table, rider_chairs_table}
 use Rattle.pt_tables_rows.specs.Schema.{trip_chairs_table, vehicle_chairs_table}
 use Rattle.pt_tables_rows.specs.Tables.{Stands}
-use Rattle.pt_tables_rows.specs.WellFormed.{IsVersion, IsWellFormed, PutsWellFormed}
+use Rattle.pt_tables_rows.specs.WellFormed.{IsWellFormed, PutsWellFormed}
+use Rattle.pt_spelling.specs.Ranges.{IsVehicle}
 use Rattle.pt_tables_writing.specs.Stored.{EditsTable, PutsAll, TakesSpans}
 
 -- callers and what is kept for them, riders and what was entered on them
@@ -67,11 +68,11 @@ WritesTrips change s =
 -- the edit of vehicles, and then the wheelchair places of those that are put
 abbrev pub WritesVehicles : Change → State → Database → Database → Type 0
 WritesVehicles change s =
-    Then (EditsTable vehicles_table vehicle_key IsVersion (λ x. vehicle_row x ∷ []) change.vehicles s.vehicles)
-    (PutsAll vehicle_chairs_table vehicle_key IsVersion vehicle_chair_rows change.vehicles.puts)
+    Then (EditsTable vehicles_table vehicle_key IsVehicle (λ x. vehicle_row x ∷ []) change.vehicles s.vehicles)
+    (PutsAll vehicle_chairs_table vehicle_key IsVehicle vehicle_chair_rows change.vehicles.puts)
 
 -- the same, after the wheelchair places of those that are taken away
 abbrev pub WritesFleet : Change → State → Database → Database → Type 0
 WritesFleet change s =
-    Then (TakesSpans vehicle_chairs_table vehicle_key IsVersion vehicle_chair_rows change.vehicles.away s.vehicles)
+    Then (TakesSpans vehicle_chairs_table vehicle_key IsVehicle vehicle_chair_rows change.vehicles.away s.vehicles)
     (WritesVehicles change s)

@@ -7,7 +7,7 @@ ghost use Rattle.pt_desk_rules.specs.State.{rider_key, trip_key, vehicle_key};
 ghost use Rattle.pt_tables_rows.specs.Rows.{rider_chair_rows, trip_chair_rows, vehicle_chair_rows};
 ghost use Rattle.pt_tables_rows.specs.Schema.{rider_chairs_table, trip_chairs_table, vehicle_chairs_table};
 ghost use Rattle.pt_tables_rows.specs.Tables.{Makes};
-ghost use Rattle.pt_tables_rows.specs.WellFormed.{IsVersion};
+ghost use Rattle.pt_spelling.specs.Ranges.{IsVehicle};
 ghost use Rattle.pt_tables_writing.specs.Grouped.{Adds};
 ghost use Rattle.pt_tables_writing.specs.Writes.{Puts, Takes};
 
@@ -120,7 +120,7 @@ pub(crate) fn put_vehicle_chairs<S: Alter>(
 ) -> Result<(), Error>
     ensures same_reference { tx.new.conn.ghost_name ≡ tx.old.conn.ghost_name }
     ensures written { Makes (state S.Store tx.old.conn.now) (state S.Store tx.new.conn.now)
-        (Puts vehicle_chairs_table vehicle_key IsVersion vehicle_chair_rows version.now) result }
+        (Puts vehicle_chairs_table vehicle_key IsVehicle vehicle_chair_rows version.now) result }
     ensures survives { Survives (state S.Store tx.old.conn.now) (state S.Store tx.new.conn.now) (λ _. ⊥) }
 {
     take_vehicle_chairs(tx, version)?;
@@ -134,7 +134,7 @@ pub(crate) fn take_vehicle_chairs<S: Alter>(
 ) -> Result<(), Error>
     ensures same_reference { tx.new.conn.ghost_name ≡ tx.old.conn.ghost_name }
     ensures written { Makes (state S.Store tx.old.conn.now) (state S.Store tx.new.conn.now)
-        (Takes vehicle_chairs_table vehicle_key IsVersion vehicle_chair_rows version.now) result }
+        (Takes vehicle_chairs_table vehicle_key IsVehicle vehicle_chair_rows version.now) result }
     ensures survives { Survives (state S.Store tx.old.conn.now) (state S.Store tx.new.conn.now) (λ _. ⊥) }
 {
     tx.execute(

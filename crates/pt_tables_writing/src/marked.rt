@@ -3,7 +3,6 @@ ghost use Rattle.sqlite.specs.Held.{state};
 ghost use Rattle.sqlite.specs.Order.{Row};
 ghost use Rattle.sqlite.specs.State.{Survives};
 ghost use Rattle.sqlite.specs.Table.{Table as StoredTable};
-ghost use Rattle.pt_records.specs.Records.{Each};
 ghost use Rattle.pt_tables_writing.specs.Agreeing.{KnowsTaken, OfEach};
 ghost use Rattle.pt_tables_writing.specs.Stored.{EditsTable, PutsAll, TakesAll, TakesSpans};
 ghost use Rattle.pt_tables_rows.specs.Tables.{Makes};
@@ -65,11 +64,11 @@ impl Marked for Rider {
 impl Marked for Vehicle {
     ghost use Rattle.pt_tables_rows.specs.Rows.{vehicle_chair_rows};
     ghost use Rattle.pt_tables_rows.specs.Schema.{vehicle_chairs_table};
-    ghost use Rattle.pt_tables_rows.specs.WellFormed.{IsVersion};
+    ghost use Rattle.pt_spelling.specs.Ranges.{IsVehicle};
 
     ghost home = { vehicle_chairs_table };
 
-    ghost Fits = { IsVersion };
+    ghost Fits = { IsVehicle };
 
     ghost rows_of = { vehicle_chair_rows };
 

@@ -3,7 +3,6 @@ ghost use Rattle.sqlite.specs.Held.{state};
 ghost use Rattle.sqlite.specs.Order.{Row};
 ghost use Rattle.sqlite.specs.State.{Survives};
 ghost use Rattle.sqlite.specs.Table.{Table as StoredTable};
-ghost use Rattle.pt_records.specs.Records.{Each};
 ghost use Rattle.pt_tables_writing.specs.Agreeing.{KnowsTaken, OfEach};
 ghost use Rattle.pt_tables_writing.specs.Stored.{EditsTable, PutsAll, TakesAll, TakesSpans};
 ghost use Rattle.pt_tables_rows.specs.Tables.{Makes};
@@ -132,11 +131,11 @@ impl Stored for Vehicle {
     ghost use Rattle.std.specs.Prelude.{◌∷◌, []};
     ghost use Rattle.pt_tables_rows.specs.Rows.{vehicle_row};
     ghost use Rattle.pt_tables_rows.specs.Schema.{vehicles_table};
-    ghost use Rattle.pt_tables_rows.specs.WellFormed.{IsVersion};
+    ghost use Rattle.pt_spelling.specs.Ranges.{IsVehicle};
 
     ghost home = { vehicles_table };
 
-    ghost Fits = { IsVersion };
+    ghost Fits = { IsVehicle };
 
     ghost rows_of = { λ x. vehicle_row x ∷ [] };
 
@@ -173,11 +172,11 @@ impl Stored for FiledEntry {
     ghost use Rattle.std.specs.Prelude.{◌∷◌, []};
     ghost use Rattle.pt_tables_rows.specs.Rows.{entry_row};
     ghost use Rattle.pt_tables_rows.specs.Schema.{entries_table};
-    ghost use Rattle.pt_tables_rows.specs.WellFormed.{IsFiled};
+    ghost use Rattle.pt_desk_rules.specs.Ranges.{FitsFiled};
 
     ghost home = { entries_table };
 
-    ghost Fits = { IsFiled };
+    ghost Fits = { FitsFiled };
 
     ghost rows_of = { λ x. entry_row x ∷ [] };
 

@@ -6,7 +6,7 @@ ghost use Rattle.pt_tables_writing.specs.Grouped.{Adds};
 ghost use Rattle.pt_tables_rows.specs.Rows.{entry_row};
 ghost use Rattle.pt_tables_rows.specs.Schema.{entries_table};
 ghost use Rattle.pt_tables_rows.specs.Tables.{Makes};
-ghost use Rattle.pt_tables_rows.specs.WellFormed.{IsFiled};
+ghost use Rattle.pt_desk_rules.specs.Ranges.{FitsFiled};
 ghost use Rattle.pt_tables_writing.specs.Writes.{Puts, Takes};
 
 use crate::grouped::entry_texts::{
@@ -28,7 +28,7 @@ pub(crate) fn put_entry<S: Alter>(
 ) -> Result<(), Error>
     ensures same_reference { tx.new.conn.ghost_name ≡ tx.old.conn.ghost_name }
     ensures written { Makes (state S.Store tx.old.conn.now) (state S.Store tx.new.conn.now)
-        (Puts entries_table entry_key IsFiled (λ e. entry_row e ∷ []) filed.now) result }
+        (Puts entries_table entry_key FitsFiled (λ e. entry_row e ∷ []) filed.now) result }
     ensures survives { Survives (state S.Store tx.old.conn.now) (state S.Store tx.new.conn.now) (λ _. ⊥) }
 {
     take_entry(tx, filed)?;
@@ -42,7 +42,7 @@ pub(crate) fn take_entry<S: Alter>(
 ) -> Result<(), Error>
     ensures same_reference { tx.new.conn.ghost_name ≡ tx.old.conn.ghost_name }
     ensures written { Makes (state S.Store tx.old.conn.now) (state S.Store tx.new.conn.now)
-        (Takes entries_table entry_key IsFiled (λ e. entry_row e ∷ []) filed.now) result }
+        (Takes entries_table entry_key FitsFiled (λ e. entry_row e ∷ []) filed.now) result }
     ensures survives { Survives (state S.Store tx.old.conn.now) (state S.Store tx.new.conn.now) (λ _. ⊥) }
 {
     tx.execute(DELETE_ENTRY, params![filed.rider.number(), filed.position])?;

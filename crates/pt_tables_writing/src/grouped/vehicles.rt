@@ -5,7 +5,7 @@ ghost use Rattle.pt_desk_rules.specs.State.{vehicle_key};
 ghost use Rattle.pt_tables_rows.specs.Rows.{vehicle_row};
 ghost use Rattle.pt_tables_rows.specs.Schema.{vehicles_table};
 ghost use Rattle.pt_tables_rows.specs.Tables.{Makes};
-ghost use Rattle.pt_tables_rows.specs.WellFormed.{IsVersion};
+ghost use Rattle.pt_spelling.specs.Ranges.{IsVehicle};
 ghost use Rattle.pt_tables_writing.specs.Grouped.{Adds};
 ghost use Rattle.pt_tables_writing.specs.Writes.{Puts, Takes};
 
@@ -25,7 +25,7 @@ pub(crate) fn put_vehicle<S: Alter>(
 ) -> Result<(), Error>
     ensures same_reference { tx.new.conn.ghost_name ≡ tx.old.conn.ghost_name }
     ensures written { Makes (state S.Store tx.old.conn.now) (state S.Store tx.new.conn.now)
-        (Puts vehicles_table vehicle_key IsVersion (λ v. vehicle_row v ∷ []) version.now) result }
+        (Puts vehicles_table vehicle_key IsVehicle (λ v. vehicle_row v ∷ []) version.now) result }
     ensures survives { Survives (state S.Store tx.old.conn.now) (state S.Store tx.new.conn.now) (λ _. ⊥) }
 {
     take_vehicle(tx, version)?;
@@ -39,7 +39,7 @@ pub(crate) fn take_vehicle<S: Alter>(
 ) -> Result<(), Error>
     ensures same_reference { tx.new.conn.ghost_name ≡ tx.old.conn.ghost_name }
     ensures written { Makes (state S.Store tx.old.conn.now) (state S.Store tx.new.conn.now)
-        (Takes vehicles_table vehicle_key IsVersion (λ v. vehicle_row v ∷ []) version.now) result }
+        (Takes vehicles_table vehicle_key IsVehicle (λ v. vehicle_row v ∷ []) version.now) result }
     ensures survives { Survives (state S.Store tx.old.conn.now) (state S.Store tx.new.conn.now) (λ _. ⊥) }
 {
     tx.execute(

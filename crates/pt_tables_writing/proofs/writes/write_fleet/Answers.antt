@@ -4,7 +4,7 @@ use Rattle.pt_desk_rules.specs.State.{vehicle_key}
 use Rattle.pt_tables_rows.specs.Rows.{vehicle_chair_rows}
 use Rattle.pt_tables_rows.specs.Schema.{vehicle_chairs_table}
 use Rattle.pt_tables_rows.specs.Tables.{Makes}
-use Rattle.pt_tables_rows.specs.WellFormed.{IsVersion}
+use Rattle.pt_spelling.specs.Ranges.{IsVehicle}
 use Rattle.pt_tables_writing.specs.Agreeing.{AgreesFor, KnowsTaken, OfEach}
 use Rattle.pt_tables_writing.specs.Groups.{WritesFleet, WritesVehicles}
 use Rattle.pt_tables_writing.specs.Stored.{TakesSpans}
@@ -19,7 +19,7 @@ returns-clause-written g c =
     let s1 = state g.S.Store c.args.tx.now.conn.now in
     let s2 = state g.S.Store c.unmark_spans.new.tx.conn.now in
     let s3 = state g.S.Store c.write_vehicles.new.tx.conn.now in
-    let spans = subst (λ ss. Makes {X = Unit {0}} s1 s2 (OfEach (KnowsTaken vehicle_key ss c.vehicles_table.result.now.items) (TakesSpans vehicle_chairs_table vehicle_key IsVersion vehicle_chair_rows ss)) (Ok c.in_ok-unmark_spans.field-0))
+    let spans = subst (λ ss. Makes {X = Unit {0}} s1 s2 (OfEach (KnowsTaken vehicle_key ss c.vehicles_table.result.now.items) (TakesSpans vehicle_chairs_table vehicle_key IsVehicle vehicle_chair_rows ss)) (Ok c.in_ok-unmark_spans.field-0))
     c.spans.ensures.value c.in_ok-unmark_spans.ensures.written in
     let one = subst (λ xs. Makes {X = Unit {0}} s1 s2 (Unmarked-vehicles change xs) (Ok c.in_ok-unmark_spans.field-0)) c.vehicles_table.ensures.value spans in
     did_then {X = Unit {0}} {Y = Unit {0}} s1 s2 s3 (Unmarked-vehicles change known.vehicles) (OfEach (AgreesFor change known) (WritesVehicles change)) (OfEach (AgreesFor change known) (WritesFleet change))

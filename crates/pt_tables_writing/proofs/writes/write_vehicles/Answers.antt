@@ -4,7 +4,7 @@ use Rattle.pt_desk_rules.specs.State.{vehicle_key}
 use Rattle.pt_tables_rows.specs.Rows.{vehicle_chair_rows}
 use Rattle.pt_tables_rows.specs.Schema.{vehicle_chairs_table}
 use Rattle.pt_tables_rows.specs.Tables.{Makes}
-use Rattle.pt_tables_rows.specs.WellFormed.{IsVersion}
+use Rattle.pt_spelling.specs.Ranges.{IsVehicle}
 use Rattle.pt_tables_writing.specs.Agreeing.{AgreesFor, OfEach}
 use Rattle.pt_tables_writing.specs.Groups.{WritesVehicles}
 use Rattle.pt_tables_writing.specs.Stored.{PutsAll}
@@ -21,7 +21,7 @@ returns-clause-written g c =
     let s2 = state g.S.Store c.write_edits.new.tx.conn.now in
     let s3 = state g.S.Store c.mark_each.new.tx.conn.now in
     let one = subst (λ xs. Makes {X = Unit {0}} s1 s2 (Known-vehicles change xs) (Ok c.in_ok-write_edits.field-0)) c.vehicles_table.ensures.value c.in_ok-write_edits.ensures.written in
-    let two = subst (λ xs. Makes {X = Unit {0}} s2 s3 (PutsAll vehicle_chairs_table vehicle_key IsVersion vehicle_chair_rows xs) c.mark_each.result) c.puts.ensures.value c.mark_each.ensures.written in
+    let two = subst (λ xs. Makes {X = Unit {0}} s2 s3 (PutsAll vehicle_chairs_table vehicle_key IsVehicle vehicle_chair_rows xs) c.mark_each.result) c.puts.ensures.value c.mark_each.ensures.written in
     did_then {X = Unit {0}} {Y = Unit {0}} s1 s2 s3 (Known-vehicles change known.vehicles) (Marks-vehicles change) (OfEach (AgreesFor change known) (WritesVehicles change))
     c.in_ok-write_edits.field-0 c.mark_each.result
     (λ has first next there agrees. (s2.now, first there.vehicles agrees.vehicles, next)) c.mark_each.ensures.survives one two

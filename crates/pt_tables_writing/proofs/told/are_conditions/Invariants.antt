@@ -1,6 +1,0 @@
-use Rattle.std.proofs.Common.{take, All}
-use Rattle.pt_rights.specs.Conditions.{IsCondition}
-use Rattle.pt_tables_writing.proofs.told.are_conditions.Given as goal
-
-abbrev pub invariant-loop-condition : goal.invariant-loop-condition
-invariant-loop-condition l = All IsCondition (take l.condition-index l.conditions)
