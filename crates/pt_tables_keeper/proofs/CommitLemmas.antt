@@ -9,10 +9,10 @@ use Rattle.pt_desk.specs.declared.keeper.StoreFault.{StoreFault}
 use Rattle.pt_desk.specs.declared.keeper.StoreFault.TheVariants.{Memory, Store as failed}
 use Rattle.pt_desk_rules.specs.State.{State, applied}
 use Rattle.pt_desk_rules.specs.declared.change.Change.{Change}
-use Rattle.pt_tables_asking.specs.Content.{IsReadable}
+use Rattle.pt_tables_rows.specs.WellFormed.{IsWellFormed}
 use Rattle.pt_tables_keeper.proofs.ReadLemmas.{not_lasting}
 use Rattle.pt_tables_keeper.proofs.StepLemmas.{Settles, finds, settles, shut_falls}
-use Rattle.pt_tables_keeper.proofs.StoreLemmas.{reads_then}
+use Rattle.pt_desk.proofs.StoreLemmas.{reads_then}
 use Rattle.pt_tables_keeper.specs.Keeper.{AreInStep, KeptTables, kept_store, store_of}
 use Rattle.pt_tables_keeper.specs.Writable.{IsWritable}
 use Rattle.pt_tables_rows.proofs.SameRows.{opens_once}
@@ -32,7 +32,7 @@ agrees_writable change lists known content may are same =
 -- ---- a transaction
 
 module _ {riders : ℕ} (old new : Connected) (before after : State) (f : ℕ) (none : f ≡ 0) (was : AreInStep before riders f old)
-    (survives : Survives old new (LeadsTo before after old)) (readable : IsReadable after) (law : Settles new) where
+    (survives : Survives old new (LeadsTo before after old)) (readable : IsWellFormed after) (law : Settles new) where
   early : HasCleanDisk new → HasCleanDisk old
   early clean = let up = survives.clean in omega arith
 
@@ -42,7 +42,7 @@ module _ {riders : ℕ} (old new : Connected) (before after : State) (f : ℕ) (
     | inl before_it ↦ inl (early found.0, found.1, before_it, found.3)
     | inr leads ↦
         let rows = leads.rows ((was.kept none (early found.0)).stands leads.was_open) in
-        inr (opens_once found.1 o (Some after) found.3 (readable.well_formed, rows))
+        inr (opens_once found.1 o (Some after) found.3 (readable, rows))
   ]
 
   made_kept : IsMade before after old new → HasCleanDisk new → IsKept after new

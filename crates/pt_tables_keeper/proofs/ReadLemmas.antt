@@ -13,7 +13,8 @@ use Rattle.pt_base.specs.declared.trip.Trip.{Trip}
 use Rattle.pt_desk_rules.specs.Planned.{is_booked_from, is_of, is_standing_from}
 use Rattle.pt_desk_rules.specs.State.{State}
 use Rattle.pt_tables_asking.specs.Asking.{Rests}
-use Rattle.pt_tables_asking.specs.Content.{IsReadable, Tells}
+use Rattle.pt_tables_asking.specs.Content.{Tells}
+use Rattle.pt_tables_rows.specs.WellFormed.{IsWellFormed}
 use Rattle.pt_tables_asking.specs.declared.asking.Unread.{Unread}
 use Rattle.pt_tables_asking.specs.declared.asking.Unread.TheVariants as unread
 use Rattle.pt_tables_keeper.proofs.StepLemmas.{Settles, reads_tables, step_still}
@@ -188,8 +189,8 @@ module _ {S X : Type 0} {riders : ℕ} (g : Ghosts S) (conn new : Held S) (failu
 module _ {S : Type 0} {riders : ℕ} (g : Ghosts S) (conn : Held S) (failures : ℕ) (content : State) (now : KeptTables S)
     (is : ◌≡◌ {A = KeptTables S} (record { conn = conn; failures = failures; content = content }) now) (step : AreInStep content riders failures (state g conn)) where
   -- its content is one that is read back from its rows, and its riders are counted until it has failed
-  pub readable_now : IsReadable now.content
-  readable_now = subst (λ (k : KeptTables S). IsReadable k.content) is step.readable
+  pub readable_now : IsWellFormed now.content
+  readable_now = subst (λ (k : KeptTables S). IsWellFormed k.content) is step.readable
 
   pub counted_now : now.failures ≡ 0 → HasCleanDisk (state g now.conn) → riders ≡ length now.content.riders
   counted_now = subst (λ (k : KeptTables S). k.failures ≡ 0 → HasCleanDisk (state g k.conn) → riders ≡ length k.content.riders) is step.counted

@@ -1,44 +1,23 @@
 -- How many riders there are after a change that puts one at most.
-use Rattle.std.proofs.Common.{◌≡◌, ℕ, ◌+◌, ◌-◌, ◌<◌, ◌≤◌, ◌^◌, min, inl, inr, List, [], ◌∷◌, length, Some, None, refl, sym, ap, ◌∙◌, arith}
+use Rattle.std.proofs.Common.{◌≡◌, ℕ, ◌+◌, ◌-◌, ◌<◌, ◌≤◌, ◌^◌, min, List, [], ◌∷◌, length, Some, None, sym, ap, ◌∙◌, arith}
 use Rattle.std.specs.List.{slice_get}
 use Rattle.pt_base.specs.declared.rider.Rider.{Rider}
 use Rattle.pt_desk_rules.specs.State.{State, applied, rider_key, rider_of}
 use Rattle.pt_desk_rules.specs.declared.change.Change.{Change}
-use Rattle.pt_records.proofs.OrderLemmas.{Each-weaker, compared, length-put_there, record_at-here, record_at-past}
-use Rattle.pt_records.proofs.RecordLemmas.{put_before, put_past}
+use Rattle.pt_records.proofs.OrderLemmas.{Each-weaker, length-below, length-put_new, length-put_there}
 use Rattle.pt_records.proofs.TableLemmas.{found_is_some}
-use Rattle.pt_records.specs.Records.{Each, Edit, IsInOrder, edited, put, record_at}
-use Rattle.pt_tables_asking.specs.Content.{IsReadable}
-use Rattle.pt_tables_reading.specs.Reading.{FitsRider}
-
--- one record more where the key is not there
-pub length-put_new : {A : Type 0} (key : A → ℕ) (new : A) (xs : List A) → record_at key (key new) xs ≡ None → length (put key new xs) ≡ length xs + 1
-length-put_new key new [] none = refl
-length-put_new key new (x ∷ xs) none = elim (compared (key x) (key new)) [
-  | inl lt ↦
-      let rest = length-put_new key new xs (sym (record_at-past key (key new) x xs (λ same. absurd (omega arith))) ∙ none) in
-      rw (put_past key new x xs lt) (omega arith)
-  | inr (inl same) ↦ absurd (let here = sym (record_at-here key (key new) x xs same) ∙ none in cc)
-  | inr (inr gt) ↦ rw (put_before key new x xs gt) (omega arith)
-]
-
--- no more records than numbers below which their keys are
-pub length-below : {A : Type 0} (key : A → ℕ) (low most : ℕ) (xs : List A) → IsInOrder key xs → Each (λ x. low ≤ key x) xs → Each (λ x. key x < most) xs → length xs ≤ most - low
-length-below key low most [] order above below = omega arith
-length-below key low most (x ∷ xs) order above below =
-    let rest = length-below key (key x + 1) most xs order.1 (Each-weaker (λ y. key x < key y) (λ y. key x + 1 ≤ key y) (λ y lt. omega arith) xs order.0) below.1 in
-    let first : low ≤ key x = above.0 in
-    let last : key x < most = below.0 in
-    omega arith
+use Rattle.pt_records.specs.Records.{Each, Edit, edited, put, record_at}
+use Rattle.pt_tables_rows.specs.WellFormed.{IsWellFormed}
+use Rattle.pt_desk_rules.specs.Ranges.{FitsRider}
 
 each_any : {A : Type 0} (key : A → ℕ) (xs : List A) → Each (λ x. 0 ≤ key x) xs
 each_any key [] = tt
 each_any key (x ∷ xs) = (omega arith, each_any key xs)
 
-pub few_riders : (content : State) → IsReadable content → length content.riders ≤ 2 ^ 32
+pub few_riders : (content : State) → IsWellFormed content → length content.riders ≤ 2 ^ 32
 few_riders content readable =
-    length-below rider_key 0 (2 ^ 32) content.riders readable.well_formed.riders (each_any rider_key content.riders)
-    (Each-weaker FitsRider (λ r. rider_key r < 2 ^ 32) (λ r fits. fits.1) content.riders readable.riders)
+    length-below rider_key 0 (2 ^ 32) content.riders readable.riders (each_any rider_key content.riders)
+    (Each-weaker FitsRider (λ r. rider_key r < 2 ^ 32) (λ r fits. fits.1) content.riders readable.ranges.riders)
 
 -- ---- a change
 
@@ -54,14 +33,14 @@ edited_is key edit puts xs away are = cc
 pub riders_as_before : (change : Change) (s : State) → change.riders.away ≡ [] → change.riders.puts ≡ [] → length s.riders ≡ length (applied change s).riders
 riders_as_before change s away puts = sym (ap length (edited_is rider_key change.riders [] s.riders away puts))
 
-module _ (change : Change) (s : State) (new : Rider) (readable : IsReadable s) (away : change.riders.away ≡ []) (puts : change.riders.puts ≡ new ∷ []) where
+module _ (change : Change) (s : State) (new : Rider) (readable : IsWellFormed s) (away : change.riders.away ≡ []) (puts : change.riders.puts ≡ new ∷ []) where
   one_put : length (applied change s).riders ≡ length (put rider_key new s.riders)
   one_put = ap length (edited_is rider_key change.riders (new ∷ []) s.riders away puts)
 
   -- it puts one that is there
   pub riders_still : (there : Rider) → Some there ≡ rider_of new.id s → length s.riders ≡ length (applied change s).riders
   riders_still there found =
-      sym (one_put ∙ length-put_there rider_key new s.riders readable.well_formed.riders (found_is_some (record_at rider_key new.id s.riders) there (sym found)))
+      sym (one_put ∙ length-put_there rider_key new s.riders readable.riders (found_is_some (record_at rider_key new.id s.riders) there (sym found)))
 
   -- it puts one that is not there
   pub riders_one_more : None ≡ rider_of new.id s → min (length s.riders + 1) 18446744073709551615 ≡ length (applied change s).riders

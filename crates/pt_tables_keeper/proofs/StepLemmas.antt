@@ -9,7 +9,7 @@ use Rattle.pt_desk.specs.Store.{Goes, IsSettled}
 use Rattle.pt_desk.specs.declared.keeper.StoreFault.{StoreFault}
 use Rattle.pt_desk.specs.declared.keeper.StoreFault.TheVariants.{Memory, Store as failed}
 use Rattle.pt_desk_rules.specs.State.{State}
-use Rattle.pt_tables_asking.specs.Content.{IsReadable}
+use Rattle.pt_tables_rows.specs.WellFormed.{IsWellFormed}
 use Rattle.pt_tables_asking.proofs.ContentLemmas.{kept_still}
 use Rattle.pt_tables_asking.specs.Asking.{Rests}
 use Rattle.pt_tables_keeper.specs.Keeper.{AreInStep, kept_store, shut}
@@ -42,11 +42,11 @@ abbrev pub Settles : Connected → Type 0
 Settles s = (db : Trees) → IsTrue s.is_open → s.may_leave db → db ≡ s.committed.trees
 
 -- while the keeper is in step, open and has not failed, an opening finds its content
-pub finds : (s : Connected) (content : State) → Settles s → IsReadable content → IsKept content s → IsTrue s.is_open → (o : Option State)
+pub finds : (s : Connected) (content : State) → Settles s → IsWellFormed content → IsKept content s → IsTrue s.is_open → (o : Option State)
     → MayFind s o → o ≡ Some content
 finds s content law readable kept here o found =
     let same : found.1 ≡ s.now.trees = law found.1 here found.2 ∙ ap (λ (d : Database). d.trees) (kept.committed here) in
-    opens_once found.1 o (Some content) found.3 (readable.well_formed, subst (HasRows content) (sym same) (kept.stands here).rows)
+    opens_once found.1 o (Some content) found.3 (readable, subst (HasRows content) (sym same) (kept.stands here).rows)
 
 pub settles : {riders : ℕ} (s : Connected) (content : State) (f : ℕ) → Settles s → AreInStep content riders f s → IsSettled (kept_store s content f)
 settles s content f law step open_still none o found =

@@ -9,7 +9,7 @@ use Rattle.sqlite.specs.Held.{Held, held_code, state}
 use Rattle.sqlite.specs.State.{State as Connected, HasCleanDisk}
 use Rattle.sqlite.specs.Store.{Ghosts}
 use Rattle.sqlite.specs.View.{doubt}
-use Rattle.pt_tables_asking.specs.Content.{IsReadable}
+use Rattle.pt_tables_rows.specs.WellFormed.{IsWellFormed}
 use Rattle.pt_tables_asking.specs.declared.asking.Unread.{Unread}
 use Rattle.pt_tables_asking.specs.declared.asking.Unread.TheVariants.{Memory, Store as failed, Row}
 use Rattle.pt_tables_keeper.specs.Coding.{state_code}
@@ -32,7 +32,7 @@ kept_tables_code {S} store =
 pub record AreInStep (content : State) (riders failures : ℕ) (s : Connected) : Type 0 where
   pub most : failures ≤ 1
   pub settled : s.in_transaction ≡ false
-  pub readable : IsReadable content
+  pub readable : IsWellFormed content
   pub kept : failures ≡ 0 → HasCleanDisk s → IsKept content s
   pub counted : failures ≡ 0 → HasCleanDisk s → riders ≡ length content.riders
 

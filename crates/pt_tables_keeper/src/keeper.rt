@@ -4,7 +4,7 @@ ghost use Rattle.pt_desk.specs.declared.keeper.StoreFault.TheVariants.{Memory, S
 ghost use Rattle.pt_desk_rules.specs.State.{applied};
 ghost use Rattle.sqlite.specs.Held.{state};
 ghost use Rattle.sqlite.specs.State.{HasCleanDisk};
-ghost use Rattle.pt_tables_asking.specs.Content.{IsReadable};
+ghost use Rattle.pt_tables_rows.specs.WellFormed.{IsWellFormed};
 ghost use Rattle.pt_tables_keeper.specs.Keeper.{Counts, store_of};
 ghost use Rattle.pt_tables_keeper.specs.Writable.{IsWritable};
 ghost use Rattle.pt_tables_rows.specs.Tables.{IsKept};
@@ -97,7 +97,7 @@ impl<S: Alter> SqlKeeper<S> {
     /// The store over a database whose tables have the content of which this is known, and so many riders.
     pub fn of(alloc: Global, conn: Connection<S>, known: Known, rider_count: usize) -> SqlKeeper<S>
         requires settled { conn.in_transaction ≡ false }
-        requires readable { IsReadable known.content }
+        requires readable { IsWellFormed known.content }
         requires kept { HasCleanDisk (state S.Store conn) → IsKept known.content (state S.Store conn) }
         requires riders { rider_count ≡ length known.content.riders }
         ensures conn { result.conn ≡ conn }

@@ -6,7 +6,6 @@ pub use keeper::SqlKeeper;
 pub use known::Known;
 pub use tables_content::Content;
 
-mod fitting;
 mod keeper;
 mod known;
 mod tables_content;

@@ -4,7 +4,7 @@ use Rattle.pt_desk.specs.Store.{Goes}
 use Rattle.pt_desk.specs.declared.keeper.StoreFault.TheVariants.{Memory}
 use Rattle.pt_desk_rules.specs.State.{applied}
 use Rattle.pt_tables_keeper.proofs.CommitLemmas.{agrees_writable, at_most_one, commits_by, commits_made, commits_not, riders_counted, step_made, step_undone, wants_memory}
-use Rattle.pt_tables_keeper.proofs.ReadableLemmas.{applied-readable}
+use Rattle.pt_tables_rows.proofs.WellFormedLemmas.{applied-well_formed}
 use Rattle.pt_tables_keeper.specs.Keeper.{AreInStep, KeptTables, kept_store}
 use Rattle.pt_tables_keeper.proofs.keeper.SqlKeeper.make.Goals as goal
 
@@ -30,12 +30,12 @@ invariant_of-self-in-Ok g c =
     let f = c.self.inside.failures in
     let none : f ≡ 0 = ap (λ (k : KeptTables _). k.failures) c.self.view_is ∙ c.requires.serves in
     let was = c.self.invariant in
-    let well = was.readable.well_formed in
+    let well = was.readable in
     let may = c.requires.writable in
     let agrees = agrees_writable change c.lists.result.now.content c.reserve.new.self.content content may c.lists.ensures.known c.reserve.ensures.content in
     let after = applied change content in
     subst (λ a. AreInStep a c.args.rider_count f new) (sym (c.make.ensures.content ∙ ap (applied change) c.reserve.ensures.content))
-    (step_made old new content after f none was (c.write_change.ensures.survives content well agrees) (applied-readable change content was.readable may.readable)
+    (step_made old new content after f none was (c.write_change.ensures.survives content well agrees) (applied-well_formed change content was.readable may.told)
     (λ db here left. g.met.S.Store.settled c.write_change.new.conn.store db here left) c.args.rider_count (riders_counted g.S.Store c.self.inside.conn f content c.args.self.now change c.args.rider_count c.self.view_is c.requires.counted)
     c.write_change.ensures.settled (c.in-Ok.ensures.made content well agrees))
 
@@ -48,12 +48,12 @@ invariant_of-self-in-Err-1 g c =
     let f = c.self.inside.failures in
     let none : f ≡ 0 = ap (λ (k : KeptTables _). k.failures) c.self.view_is ∙ c.requires.serves in
     let was = c.self.invariant in
-    let well = was.readable.well_formed in
+    let well = was.readable in
     let may = c.requires.writable in
     let agrees = agrees_writable change c.lists.result.now.content c.reserve.new.self.content content may c.lists.ensures.known c.reserve.ensures.content in
     let after = applied change content in
     subst (λ a. AreInStep a c.self.inside.rider_count c.blame.new.failures new) (sym c.reserve.ensures.content)
-    (step_undone old new content after f none was (c.write_change.ensures.survives content well agrees) (applied-readable change content was.readable may.readable)
+    (step_undone old new content after f none was (c.write_change.ensures.survives content well agrees) (applied-well_formed change content was.readable may.told)
     (λ db here left. g.met.S.Store.settled c.write_change.new.conn.store db here left) c.blame.new.failures
     (at_most_one c.blame.new.failures c.blame.result c.blame.ensures.failed c.blame.ensures.memory) c.write_change.ensures.settled c.in-Err.ensures.undone)
 
@@ -66,11 +66,11 @@ returns-in-Ok g c =
     let f = c.self.inside.failures in
     let none : f ≡ 0 = ap (λ (k : KeptTables _). k.failures) c.self.view_is ∙ c.requires.serves in
     let was = c.self.invariant in
-    let well = was.readable.well_formed in
+    let well = was.readable in
     let may = c.requires.writable in
     let agrees = agrees_writable change c.lists.result.now.content c.reserve.new.self.content content may c.lists.ensures.known c.reserve.ensures.content in
     let after = applied change content in
-    let made = commits_made old new content after f none was (c.write_change.ensures.survives content well agrees) (applied-readable change content was.readable may.readable)
+    let made = commits_made old new content after f none was (c.write_change.ensures.survives content well agrees) (applied-well_formed change content was.readable may.told)
     (λ db here left. g.met.S.Store.settled c.write_change.new.conn.store db here left) c.args.rider_count (riders_counted g.S.Store c.self.inside.conn f content c.args.self.now change c.args.rider_count c.self.view_is c.requires.counted)
     c.write_change.ensures.settled (c.in-Ok.ensures.made content well agrees) in
     record {
@@ -87,11 +87,11 @@ returns-in-Err g c =
     let f = c.self.inside.failures in
     let none : f ≡ 0 = ap (λ (k : KeptTables _). k.failures) c.self.view_is ∙ c.requires.serves in
     let was = c.self.invariant in
-    let well = was.readable.well_formed in
+    let well = was.readable in
     let may = c.requires.writable in
     let agrees = agrees_writable change c.lists.result.now.content c.reserve.new.self.content content may c.lists.ensures.known c.reserve.ensures.content in
     let after = applied change content in
-    let undone = commits_not old new content after f none was (c.write_change.ensures.survives content well agrees) (applied-readable change content was.readable may.readable)
+    let undone = commits_not old new content after f none was (c.write_change.ensures.survives content well agrees) (applied-well_formed change content was.readable may.told)
     (λ db here left. g.met.S.Store.settled c.write_change.new.conn.store db here left) c.blame.new.failures c.blame.result
     c.blame.ensures.failed c.blame.ensures.memory c.write_change.ensures.settled c.in-Err.ensures.undone in
     record {

@@ -1,6 +1,0 @@
-use Rattle.std.proofs.Common.{take}
-use Rattle.pt_records.specs.Records.{Each}
-use Rattle.pt_tables_keeper.proofs.fitting.all_fit.Given as goal
-
-abbrev pub invariant-loop-record : goal.invariant-loop-record
-invariant-loop-record g l = Each g.T.Fitting.Fits (take l.record-index l.records)
