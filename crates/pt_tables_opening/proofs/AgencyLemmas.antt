@@ -25,7 +25,7 @@ module _ (trees : Trees) (rows : List Row) (are : AreRows desk_table trees rows)
   other_version h = (h.0, subst (AreRows desk_table trees) (sym h.1) are, h.2)
 
   no_agency : TellsNoAgency rows → NoneStandsTo 1 trees
-  no_agency h = λ s stands. h.none (s.policy, s.last_trip) stands.0.laid (only_row (desk_row s.policy s.last_trip) stands.0.rows)
+  no_agency h = λ s stands. h.none (s.policy, s.last_trip) stands.0.sound.0 (only_row (desk_row s.policy s.last_trip) stands.0.rows)
 
   pub agency_told : {F : Type 0} (r : Result (Policy × ℕ) F) → IfOk r (λ agency. (agency_row agency ∷ [] ≡ rows) × FitsAgency agency) → IfOk r (IsAgencyOf trees)
   agency_told (Ok agency) h = record { row_is = subst (AreRows desk_table trees) (sym h.0) are; fits = h.1 }

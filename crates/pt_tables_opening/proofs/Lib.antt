@@ -3,6 +3,7 @@ pub mod BesideLemmas
 pub mod ContentLemmas
 pub mod FirstLemmas
 pub mod GatheredLemmas
+pub mod LaidLemmas
 pub mod NoneLemmas
 pub mod OrderedLemmas
 pub mod PlanReading

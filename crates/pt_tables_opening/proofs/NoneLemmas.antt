@@ -13,7 +13,9 @@ use Rattle.pt_scheduling.specs.Plan.{Plan, plan_key}
 use Rattle.pt_scheduling.specs.declared.planned.PlannedStop.{PlannedStop}
 use Rattle.pt_travel.specs.Chain as travel
 use Rattle.pt_travel.specs.Table.{ComesBefore, Rises}
-use Rattle.pt_tables_opening.specs.Gathered.{BeginsOnce, BeginsPlan, BeginsTravel, FitsDrive, FitsPlan, FitsTravel, IsUngathered}
+use Rattle.pt_tables_opening.specs.Gathered.{BeginsOnce, BeginsPlan, BeginsTravel, IsUngathered}
+use Rattle.pt_desk_rules.specs.Ranges.{FitsDrive, FitsTravel}
+use Rattle.pt_tables_opening.specs.Gathered.{FitsRows}
 use Rattle.pt_tables_rows.specs.Rows.{stop_rows, stop_rows_from, travel_row, travel_rows}
 use Rattle.pt_tables_rows.specs.Schema.{stops_table, travel_table}
 use Rattle.pt_tables_rows.specs.Tables.{columns_of}
@@ -65,10 +67,10 @@ plan_below : (from vehicle day : ℕ) (stops : List PlannedStop) → from + leng
 plan_below from vehicle day [] few = tt
 plan_below from vehicle day (stop ∷ stops) few = (omega arith, plan_below (from + 1) vehicle day stops (omega arith))
 
-plan_spans : (plan : Plan) → FitsPlan plan → IsSpan (plan_key plan) 4_294_967_296 (stop_rows plan)
+plan_spans : (plan : Plan) → FitsRows plan → IsSpan (plan_key plan) 4_294_967_296 (stop_rows plan)
 plan_spans plan fits =
-    let few : 0 + length plan.stops ≤ 4_294_967_296 = let most = fits.stops.0 in omega arith in
-    let last = fits.day.1 in
+    let few : 0 + length plan.stops ≤ 4_294_967_296 = let most = fits.few in omega arith in
+    let last = fits.fits.day.1 in
     record {
       numbered = plan_numbered 0 plan.vehicle plan.day plan.stops (omega arith) few;
       in_order = plan_in_order 0 plan.vehicle plan.day plan.stops;
@@ -79,11 +81,11 @@ plan_spans plan fits =
 alike : (one other : List Row) → one ≡ other → IsPermutation one other
 alike one other same = subst (IsPermutation one) same (IsPermutation-refl one)
 
-plan_by_rows : (x y : Plan) → FitsPlan x → FitsPlan y → stop_rows x ≡ stop_rows y → x ≡ y
+plan_by_rows : (x y : Plan) → FitsRows x → FitsRows y → stop_rows x ≡ stop_rows y → x ≡ y
 plan_by_rows x y one other same = plan-told x y one.some other.some (alike (stop_rows x) (stop_rows y) same)
 
-pub no_plans : (trees : Trees) → IsUngathered plan_key stops_table stop_rows FitsPlan trees → AreRowsOfNone plan_key stops_table (flat_map stop_rows) FitsPlan trees
-no_plans trees h = none_have plan_key stops_table stop_rows FitsPlan BeginsPlan plan-once plan_by_rows 4_294_967_296 plan_spans trees h
+pub no_plans : (trees : Trees) → IsUngathered plan_key stops_table stop_rows FitsRows trees → AreRowsOfNone plan_key stops_table (flat_map stop_rows) FitsRows trees
+no_plans trees h = none_have plan_key stops_table stop_rows FitsRows BeginsPlan plan-once plan_by_rows 4_294_967_296 plan_spans trees h
 
 -- ---- travel tables
 

@@ -6,9 +6,11 @@ use Rattle.std.specs.declared.alloc.Global.{Global}
 use Rattle.sqlite.specs.Order.{Row}
 use Rattle.sqlite.specs.declared.error.Error.{Error}
 use Rattle.pt_desk_rules.specs.State.{caller_key, kept_key, place_key, route_key, rider_key, entry_key, vehicle_key, trip_key}
-use Rattle.pt_tables_reading.specs.Fitting.{FitsFiled, FitsRoute, FitsVehicle}
+use Rattle.pt_desk_rules.specs.Ranges.{FitsFiled}
+use Rattle.pt_spelling.specs.Ranges.{IsRoute, IsVehicle}
 use Rattle.pt_tables_asking.specs.Asking.{AreInOrder}
-use Rattle.pt_tables_reading.specs.Reading.{FitsCaller, FitsKept, FitsPlace, FitsRider, FitsTrip}
+use Rattle.pt_spelling.specs.Ranges.{IsCaller}
+use Rattle.pt_desk_rules.specs.Ranges.{FitsKept, FitsPlace, FitsRider, FitsTrip}
 use Rattle.pt_tables_rows.specs.Rows.{row_if, rider_chair_rows, vehicle_chair_rows, trip_chair_rows, caller_row, kept_row, place_row, route_row, rider_row, entry_row, vehicle_row, trip_row}
 use Rattle.pt_tables_opening.specs.Beside.{AreBeside, KeepsBeside}
 use Rattle.pt_tables_opening.specs.Told.{KeepsOrder}
@@ -30,8 +32,8 @@ module _ {A : Type 0} (key : A → ℕ) (row_of : A → Row) (Fits : A → Type 
   by_two is keyed (Ok rows) order = keeps_all_order 2 double_key IsPaired pair_le key row_of Fits is keyed rows.items order
   by_two is keyed (Err e) order = tt
 
-pub callers_ordered : Keeps 1 caller_key caller_row FitsCaller
-callers_ordered = by_one caller_key caller_row FitsCaller (λ x. refl) (λ x. refl)
+pub callers_ordered : Keeps 1 caller_key caller_row IsCaller
+callers_ordered = by_one caller_key caller_row IsCaller (λ x. refl) (λ x. refl)
 
 pub kept_ordered : Keeps 1 kept_key kept_row FitsKept
 kept_ordered = by_one kept_key kept_row FitsKept (λ x. refl) (λ x. refl)
@@ -39,8 +41,8 @@ kept_ordered = by_one kept_key kept_row FitsKept (λ x. refl) (λ x. refl)
 pub places_ordered : Keeps 1 place_key place_row FitsPlace
 places_ordered = by_one place_key place_row FitsPlace (λ x. refl) (λ x. refl)
 
-pub routes_ordered : Keeps 1 route_key route_row FitsRoute
-routes_ordered = by_one route_key route_row FitsRoute (λ x. refl) (λ x. refl)
+pub routes_ordered : Keeps 1 route_key route_row IsRoute
+routes_ordered = by_one route_key route_row IsRoute (λ x. refl) (λ x. refl)
 
 pub riders_ordered : Keeps 1 rider_key rider_row FitsRider
 riders_ordered = by_one rider_key rider_row FitsRider (λ x. refl) (λ x. refl)
@@ -48,8 +50,8 @@ riders_ordered = by_one rider_key rider_row FitsRider (λ x. refl) (λ x. refl)
 pub trips_ordered : Keeps 1 trip_key trip_row FitsTrip
 trips_ordered = by_one trip_key trip_row FitsTrip (λ x. refl) (λ x. refl)
 
-pub vehicles_ordered : Keeps 2 vehicle_key vehicle_row FitsVehicle
-vehicles_ordered = by_two vehicle_key vehicle_row FitsVehicle (λ x fits. record { first = refl; second = refl; second_low = let last = fits.from_day.1 in omega arith }) (λ x. refl)
+pub vehicles_ordered : Keeps 2 vehicle_key vehicle_row IsVehicle
+vehicles_ordered = by_two vehicle_key vehicle_row IsVehicle (λ x fits. record { first = refl; second = refl; second_low = let last = fits.from_day.1 in omega arith }) (λ x. refl)
 
 pub entries_ordered : Keeps 2 entry_key entry_row FitsFiled
 entries_ordered = by_two entry_key entry_row FitsFiled (λ x fits. record { first = refl; second = refl; second_low = fits.position }) (λ x. refl)
@@ -107,10 +109,10 @@ trips_beside_ordered (Ok rows) order = λ xs each ordered same.
     (beside_each trip_key trip_row trip_chair_rows FitsTrip trips_beside IsCounted (λ x fits. so_all IsCounted x.wheelchair _ refl) xs each) same order
 trips_beside_ordered (Err e) order = tt
 
-pub vehicles_beside_ordered : KeepsAll 2 vehicle_key vehicle_chair_rows FitsVehicle
+pub vehicles_beside_ordered : KeepsAll 2 vehicle_key vehicle_chair_rows IsVehicle
 unfolding vehicles_beside
 vehicles_beside_ordered (Ok rows) order = λ xs each ordered same.
-    same_order 2 double_key IsPaired pair_le (flat_map vehicle_chair_rows xs) rows.items (beside_in_order vehicle_key vehicle_row vehicle_chair_rows FitsVehicle vehicles_beside xs ordered)
-    (beside_each vehicle_key vehicle_row vehicle_chair_rows FitsVehicle vehicles_beside IsPaired
+    same_order 2 double_key IsPaired pair_le (flat_map vehicle_chair_rows xs) rows.items (beside_in_order vehicle_key vehicle_row vehicle_chair_rows IsVehicle vehicles_beside xs ordered)
+    (beside_each vehicle_key vehicle_row vehicle_chair_rows IsVehicle vehicles_beside IsPaired
     (λ x fits. so_all IsPaired (not (x.chairs == 0)) _ (record { first = refl; second = refl; second_low = let last = fits.from_day.1 in omega arith })) xs each) same order
 vehicles_beside_ordered (Err e) order = tt

@@ -11,33 +11,26 @@ use Rattle.pt_desk_rules.specs.Sound.{IsSound}
 use Rattle.pt_desk_rules.specs.State.{State, applied}
 use Rattle.pt_desk_rules.specs.declared.change.Change.{Change}
 use Rattle.pt_records.specs.Records.{Each}
-use Rattle.pt_records.proofs.OrderLemmas.{Each-weaker}
 use Rattle.pt_soundness.specs.Tables.{all_tables, number_of, IsSoundIn}
 use Rattle.pt_soundness.specs.declared.unsound_table.UnsoundTable.{UnsoundTable}
 use Rattle.pt_soundness.specs.declared.unsound_table.UnsoundTable.TheVariants as table
 use Rattle.pt_soundness.proofs.TableLemmas.{sound_in, sound_of}
-use Rattle.pt_tables_asking.specs.Content.{IsReadable}
 use Rattle.pt_tables_opening.specs.Faults.{IsRefusal, fault, store_refused, tables_refused, unsound}
 use Rattle.pt_tables_opening.specs.Opening.{Rests}
-use Rattle.pt_tables_opening.specs.Refused.{AreUnsound, KeepsRanges, SparesOtherVersion, TellsOf, TellsWhy}
-use Rattle.pt_tables_opening.specs.Standing.{HasRowsIn, IsFirstAtFault, IsLaidIn, NoneStandsTo, StandsIn, StandsTo}
+use Rattle.pt_tables_opening.specs.Refused.{AreUnsound, SparesOtherVersion, TellsOf, TellsWhy}
+use Rattle.pt_tables_opening.specs.Standing.{HasRowsIn, IsFirstAtFault, NoneStandsTo, StandsIn, StandsTo}
 use Rattle.pt_spelling.specs.Ranges.{IsWord}
-use Rattle.pt_tables_opening.specs.Steps.{HasNoneIn, HasRowsTo, IsFaultOf, IsReadIn, IsReadTo, OpensTable, OpensTo, ReadsTable}
+use Rattle.pt_tables_opening.specs.Steps.{HasNoneIn, HasRowsTo, IsFaultOf, IsLaidIn, IsReadIn, IsReadTo, OpensTable, OpensTo, ReadsTable}
 use Rattle.pt_tables_opening.specs.Told.{HasOtherVersion, IsAgencyOf}
 use Rattle.pt_tables_opening.specs.declared.open_fault.OpenFault.{OpenFault}
 use Rattle.pt_tables_opening.proofs.AgencyLemmas.{spares_by_store, spares_none}
 use Rattle.pt_tables_opening.proofs.GatheredLemmas.{each_push}
 use Rattle.pt_tables_opening.proofs.RestLemmas.{rests_so, rests_then}
-use Rattle.pt_tables_rows.proofs.WellFormedLemmas.{grants_in_range}
+use Rattle.pt_tables_opening.proofs.LaidLemmas.{each_laid}
 use Rattle.pt_tables_opening.proofs.SameTables.{sound_there}
-use Rattle.pt_tables_reading.specs.Fitting.{FitsFiled, FitsRoute, FitsVehicle}
-use Rattle.pt_tables_reading.specs.Reading.{FitsKept}
-use Rattle.pt_tables_opening.specs.Gathered.{FitsPlan, FitsTravel}
 use Rattle.pt_tables_rows.specs.Rows.{desk_row}
 use Rattle.pt_tables_rows.specs.Schema.{desk_schema, desk_table}
 use Rattle.pt_tables_rows.specs.Tables.{AreRows, HasRows}
-use Rattle.pt_tables_rows.specs.WellFormed.{HasReply, HasRisingRows, IsFiled, IsLaid, IsStoredPlan, IsVersion, IsWellFormed}
-use Rattle.pt_tables_rows.proofs.WellFormedLemmas.{day-word}
 
 -- reads that answered, and then no more
 pub last : {X Y E F : Type 0} (old new : Connected) (r : Result X E) (x : X) → r ≡ Ok x → Rests old new r → (s : Result Y F) → Rests old new s
@@ -117,39 +110,39 @@ agency_first P (suc n) some each = each.0
 and_in : (P : UnsoundTable → Type 0) (t : UnsoundTable) → Each P (take (number_of t - 1) all_tables) → P t → Each P (take (number_of t) all_tables)
 and_in P t before here = subst (Each P) (sym (after_all t)) (each_push P (take (number_of t - 1) all_tables) t before here)
 
-all_stand : (s : State) (trees : Trees) (ts : List UnsoundTable) → Each (IsLaidIn s) ts → Each (IsSoundIn s) ts → Each (HasRowsIn s trees) ts → Each (StandsIn s trees) ts
-all_stand s trees [] laid sound rows = tt
-all_stand s trees (t ∷ ts) laid sound rows = (record { rows = rows.0; laid = laid.0; sound = sound.0 }, all_stand s trees ts laid.1 sound.1 rows.1)
+all_stand : (s : State) (trees : Trees) (ts : List UnsoundTable) → Each (IsSoundIn s) ts → Each (HasRowsIn s trees) ts → Each (StandsIn s trees) ts
+all_stand s trees [] sound rows = tt
+all_stand s trees (t ∷ ts) sound rows = (record { rows = rows.0; sound = sound.0 }, all_stand s trees ts sound.1 rows.1)
 
 -- a sound state with these rows stands in all tables
-stands : (s : State) (trees : Trees) → IsSound s → KeepsRanges s → HasRows s trees → StandsTo 14 s trees
-stands s trees sound ranges has = (
-  record { rows = has.records.desk; laid = ranges.last_trip; sound = sound_in s sound table.Desk },
+stands : (s : State) (trees : Trees) → IsSound s → HasRows s trees → StandsTo 14 s trees
+stands s trees sound has = (
+  record { rows = has.records.desk; sound = sound_in s sound table.Desk },
   (
-    record { rows = has.records.callers; laid = (sound.callers.in_order, ranges.callers); sound = sound_in s sound table.Callers },
+    record { rows = has.records.callers; sound = sound_in s sound table.Callers },
     (
-      record { rows = has.records.kept; laid = (sound.kept_in_order, ranges.kept); sound = sound_in s sound table.Kept },
+      record { rows = has.records.kept; sound = sound_in s sound table.Kept },
       (
-        record { rows = has.records.places; laid = (sound.places.in_order, ranges.places); sound = sound_in s sound table.Places },
+        record { rows = has.records.places; sound = sound_in s sound table.Places },
         (
-          record { rows = has.records.fixed; laid = (sound.routes.in_order, ranges.routes); sound = sound_in s sound table.Fixed },
+          record { rows = has.records.fixed; sound = sound_in s sound table.Fixed },
           (
-            record { rows = has.records.vehicles; laid = (sound.vehicles_in_order, ranges.vehicles); sound = sound_in s sound table.Vehicles },
+            record { rows = has.records.vehicles; sound = sound_in s sound table.Vehicles },
             (
-              record { rows = has.records.riders; laid = (sound.riders.in_order, ranges.riders); sound = sound_in s sound table.Riders },
+              record { rows = has.records.riders; sound = sound_in s sound table.Riders },
               (
-                record { rows = has.records.entries; laid = (sound.entries_in_order, ranges.entries); sound = sound_in s sound table.Entries },
+                record { rows = has.records.entries; sound = sound_in s sound table.Entries },
                 (
-                  record { rows = has.records.trips; laid = (sound.trips_in_order, ranges.trips); sound = sound_in s sound table.Trips },
+                  record { rows = has.records.trips; sound = sound_in s sound table.Trips },
                   (
-                    record { rows = has.records.stops; laid = (sound.planned_in_order, ranges.planned); sound = sound_in s sound table.Stops },
+                    record { rows = has.records.stops; sound = sound_in s sound table.Stops },
                     (
-                      record { rows = has.records.travel; laid = (sound.travel.in_order, ranges.travel); sound = sound_in s sound table.Travel },
+                      record { rows = has.records.travel; sound = sound_in s sound table.Travel },
                       (
-                        record { rows = has.rider_chairs; laid = tt; sound = sound_in s sound table.RiderChairs },
+                        record { rows = has.rider_chairs; sound = sound_in s sound table.RiderChairs },
                         (
-                          record { rows = has.vehicle_chairs; laid = tt; sound = sound_in s sound table.VehicleChairs },
-                          (record { rows = has.trip_chairs; laid = tt; sound = sound_in s sound table.TripChairs }, tt),
+                          record { rows = has.vehicle_chairs; sound = sound_in s sound table.VehicleChairs },
+                          (record { rows = has.trip_chairs; sound = sound_in s sound table.TripChairs }, tt),
                         ),
                       ),
                     ),
@@ -166,7 +159,7 @@ stands s trees sound ranges has = (
 
 -- rows that no content stands for are those of no sound state
 none_sound : (n : ℕ) (trees : Trees) → NoneStandsTo n trees → AreUnsound trees
-none_sound n trees none = λ s sound ranges has. none s (each_first (StandsIn s trees) n all_tables (stands s trees sound ranges has))
+none_sound n trees none = λ s sound has. none s (each_first (StandsIn s trees) n all_tables (stands s trees sound has))
 
 -- ---- what a refusal tells
 
@@ -266,7 +259,7 @@ judged_so t old new s read_as change is h r content sound faults =
     go it (Ok keeper) content sound faults rests = record {
       rests = rests;
       read = subst (IsReadTo (number_of t)) (sym content)
-          (record { laid = it.read.laid; sound = and_in (IsSoundIn (applied change s)) t it.read.sound sound; later = it.read.later });
+          (record { sound = and_in (IsSoundIn (applied change s)) t it.read.sound sound; later = it.read.later });
       rows = λ clean has before. subst (λ (c : State). HasRowsTo (number_of t) c old.now.trees) (sym content) (it.rows clean has before);
       faults = tt;
     }
@@ -278,7 +271,9 @@ judged_so t old new s read_as change is h r content sound faults =
         | inl memory ↦ inl memory
         | inr told ↦ inr (inr (
           told.0,
-          λ clean has before other others. told.1 (sound_there t other (applied change s) old.now.trees others it.read.laid (it.rows clean has before)),
+          λ clean has before other others.
+              let all = and_in (IsLaidIn (applied change s)) t (each_laid (applied change s) (take (number_of t - 1) all_tables) it.read.sound) it.read.laid in
+              told.1 (sound_there t other (applied change s) old.now.trees others all it.read.laid (it.rows clean has before)),
         ))
       ];
     }
@@ -312,7 +307,7 @@ module _ (t : UnsoundTable) (old mid new : Connected) (keeper : Listed) (later :
       let before = before_then clean r k has in
       record {
         none = subst (λ (db : Database). db.schema ≡ desk_schema → HasRowsTo (number_of t - 1) keeper.content db.trees → NoneStandsTo (number_of t) db.trees) same (none clean) has before;
-        before = λ _. (keeper.content, all_stand keeper.content old.now.trees (take (number_of t - 1) all_tables) h.read.laid h.read.sound before);
+        before = λ _. (keeper.content, all_stand keeper.content old.now.trees (take (number_of t - 1) all_tables) h.read.sound before);
       }
 
   pub opens_then : (r : Result Listed OpenFault) → OpensTable t mid new keeper.content r → OpensTo (number_of t) old new r
@@ -398,7 +393,7 @@ pub agency_opens : (old new : Connected) (r : Result (Policy × ℕ) OpenFault) 
     → IfErr out (λ it. it ≡ fault memory_refused) → OpensTo 1 old new out
 agency_opens old new r agency is rests of (Ok keeper) policy trip word none memory = record {
   rests = last old new r agency is rests (Ok keeper);
-  read = record { laid = (word, tt); sound = (tt, tt); later = none.1 };
+  read = record { sound = ((word, tt), tt); later = none.1 };
   rows = λ clean has. (subst₂ (λ (p : Policy) (n : ℕ). AreRows desk_table old.now.trees (desk_row p n ∷ [])) (sym policy) (sym trip) (of clean has).row_is, tt);
   faults = tt;
   why = λ clean has. tt;
@@ -437,49 +432,3 @@ all_rows s trees each = record {
 
 pub all_sound : (s : State) → IsReadTo 14 s → IsSound s
 all_sound s read = sound_of s read.sound
-
-all_well_formed : (s : State) → IsReadTo 14 s → IsWellFormed s
-all_well_formed s read =
-    let callers : IsLaidIn s table.Callers = read.laid.1.0 in
-    let kept : IsLaidIn s table.Kept = read.laid.1.1.0 in
-    let places : IsLaidIn s table.Places = read.laid.1.1.1.0 in
-    let routes : IsLaidIn s table.Fixed = read.laid.1.1.1.1.0 in
-    let vehicles : IsLaidIn s table.Vehicles = read.laid.1.1.1.1.1.0 in
-    let riders : IsLaidIn s table.Riders = read.laid.1.1.1.1.1.1.0 in
-    let entries : IsLaidIn s table.Entries = read.laid.1.1.1.1.1.1.1.0 in
-    let trips : IsLaidIn s table.Trips = read.laid.1.1.1.1.1.1.1.1.0 in
-    let planned : IsLaidIn s table.Stops = read.laid.1.1.1.1.1.1.1.1.1.0 in
-    let travel : IsLaidIn s table.Travel = read.laid.1.1.1.1.1.1.1.1.1.1.0 in
-    record {
-      callers = callers.0;
-      kept = kept.0;
-      replies = Each-weaker FitsKept HasReply (λ it fits. fits.reply) s.kept kept.1;
-      places = places.0;
-      routes = routes.0;
-      lines = Each-weaker FitsRoute IsLaid (λ route fits. (fits.fixed.on_plane, fits.days)) s.routes routes.1;
-      riders = riders.0;
-      entries = entries.0;
-      filed = Each-weaker FitsFiled IsFiled (λ it fits. (fits.position, grants_in_range it.entered.entry fits.entry)) s.entries entries.1;
-      vehicles = vehicles.0;
-      versions = Each-weaker FitsVehicle IsVersion (λ version fits. (day-word version.from_day fits.from_day, fits.days)) s.vehicles vehicles.1;
-      travel = travel.0;
-      rows = Each-weaker FitsTravel HasRisingRows (λ it fits. fits.table.in_order) s.travel travel.1;
-      trips = trips.0;
-      planned = planned.0;
-      stops = Each-weaker FitsPlan IsStoredPlan (λ plan fits. (day-word plan.day fits.day, fits.some)) s.planned planned.1;
-    }
-
--- each record that was read is read back
-pub all_readable : (s : State) → IsReadTo 14 s → IsReadable s
-all_readable s read =
-    let kept : IsLaidIn s table.Kept = read.laid.1.1.0 in
-    let riders : IsLaidIn s table.Riders = read.laid.1.1.1.1.1.1.0 in
-    let entries : IsLaidIn s table.Entries = read.laid.1.1.1.1.1.1.1.0 in
-    let trips : IsLaidIn s table.Trips = read.laid.1.1.1.1.1.1.1.1.0 in
-    record {
-      well_formed = all_well_formed s read;
-      kept = kept.1;
-      riders = riders.1;
-      entries = entries.1;
-      trips = trips.1;
-    }

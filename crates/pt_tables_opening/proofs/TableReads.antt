@@ -21,15 +21,18 @@ use Rattle.pt_soundness.specs.declared.unsound_table.UnsoundTable.TheVariants as
 use Rattle.pt_soundness.proofs.AlikeLemmas.{alike_entries, alike_plans, alike_riders, alike_tables, alike_trips, alike_vehicles, AlikeRider, AlikeTrip, AlikeVehicle}
 use Rattle.pt_soundness.proofs.PairedLemmas.{Paired, paired_by}
 use Rattle.pt_tables_opening.specs.Beside.{NoneBeside}
-use Rattle.pt_tables_opening.specs.Gathered.{FitsPlan, FitsTravel}
-use Rattle.pt_tables_opening.specs.Standing.{HasRowsIn, IsLaidIn, NoneStandsTo}
+use Rattle.pt_tables_opening.specs.Gathered.{FitsRows}
+use Rattle.pt_desk_rules.specs.Ranges.{FitsTravel}
+use Rattle.pt_tables_opening.specs.Standing.{HasRowsIn, NoneStandsTo}
 use Rattle.pt_tables_opening.specs.Steps.{HasRowsTo, IsReadIn, IsReadTo}
 use Rattle.pt_tables_opening.specs.Told.{AreRowsOfNone, IsFitting}
 use Rattle.pt_tables_opening.proofs.ContentLemmas.{anew, laid_put, rows_put}
 use Rattle.pt_tables_opening.proofs.GatheredLemmas.{each_push}
+use Rattle.pt_tables_opening.proofs.LaidLemmas.{laid_in}
 use Rattle.pt_tables_opening.proofs.SameTables.{riders_alike, trips_alike, vehicles_alike}
-use Rattle.pt_tables_reading.specs.Fitting.{FitsFiled, FitsRoute, FitsVehicle}
-use Rattle.pt_tables_reading.specs.Reading.{FitsCaller, FitsKept, FitsPlace, FitsRider, FitsTrip}
+use Rattle.pt_desk_rules.specs.Ranges.{FitsFiled}
+use Rattle.pt_spelling.specs.Ranges.{IsRoute, IsVehicle, IsCaller}
+use Rattle.pt_desk_rules.specs.Ranges.{FitsKept, FitsPlace, FitsRider, FitsTrip}
 use Rattle.pt_tables_rows.specs.Rows.{caller_row, kept_row, place_row, route_row, vehicle_row, rider_row, entry_row, trip_row, stop_rows, travel_rows, rider_chair_rows, vehicle_chair_rows, trip_chair_rows}
 use Rattle.pt_tables_rows.specs.Schema.{callers_table, kept_table, places_table, fixed_table, vehicles_table, riders_table, entries_table, trips_table, stops_table, travel_table, rider_chairs_table, vehicle_chairs_table, trip_chairs_table}
 use Rattle.pt_tables_rows.specs.Tables.{AreRows}
@@ -40,28 +43,31 @@ use Rattle.pt_tables_rows.proofs.SameRowsRecords.{number_in}
 abbrev pub puts_callers : Edit Caller → Change
 puts_callers edit = record no_change { callers = edit }
 
-pub callers_read : (s : State) (edit : Edit Caller) → IsReadTo 1 s → IsFitting caller_key FitsCaller edit → IsReadIn table.Callers (applied (puts_callers edit) s)
+pub callers_read : (s : State) (edit : Edit Caller) → IsReadTo 1 s → IsFitting caller_key IsCaller edit → IsReadIn table.Callers (applied (puts_callers edit) s)
 callers_read s edit read fits = record {
-  laid = each_push (IsLaidIn (applied (puts_callers edit) s)) (take 1 all_tables) table.Callers read.laid (laid_put caller_key FitsCaller edit s.callers read.later.0 fits);
+  laid = laid_put caller_key IsCaller edit s.callers read.later.0 fits;
   sound = read.sound;
   later = read.later.1;
 }
 
-pub callers_shown : (s : State) (trees : Trees) (edit : Edit Caller) → IsReadTo 1 s → IsFitting caller_key FitsCaller edit → AreRows callers_table trees (map caller_row edit.puts) → HasRowsTo 1 s trees
+pub callers_shown : (s : State) (trees : Trees) (edit : Edit Caller) → IsReadTo 1 s → IsFitting caller_key IsCaller edit → AreRows callers_table trees (map caller_row edit.puts) → HasRowsTo 1 s trees
     → HasRowsTo 2 (applied (puts_callers edit) s) trees
 callers_shown s trees edit read fits are before =
     each_push (HasRowsIn (applied (puts_callers edit) s) trees) (take 1 all_tables) table.Callers before
     (rows_put caller_key (λ xs. AreRows callers_table trees (map caller_row xs)) edit s.callers read.later.0 fits.puts are)
 
-pub callers_none : (trees : Trees) → AreRowsOfNone caller_key callers_table (map caller_row) FitsCaller trees → NoneStandsTo 2 trees
-callers_none trees none s stands = let it = stands.1.0 in none s.callers it.laid.1 it.laid.0 it.rows
+pub callers_none : (trees : Trees) → AreRowsOfNone caller_key callers_table (map caller_row) IsCaller trees → NoneStandsTo 2 trees
+callers_none trees none s stands =
+    let it = stands.1.0 in
+    let laid = laid_in s table.Callers it.sound in
+    none s.callers laid.1 laid.0 it.rows
 
 abbrev pub puts_kept : Edit Kept → Change
 puts_kept edit = record no_change { kept = edit }
 
 pub kept_read : (s : State) (edit : Edit Kept) → IsReadTo 2 s → IsFitting kept_key FitsKept edit → IsReadIn table.Kept (applied (puts_kept edit) s)
 kept_read s edit read fits = record {
-  laid = each_push (IsLaidIn (applied (puts_kept edit) s)) (take 2 all_tables) table.Kept read.laid (laid_put kept_key FitsKept edit s.kept read.later.0 fits);
+  laid = laid_put kept_key FitsKept edit s.kept read.later.0 fits;
   sound = read.sound;
   later = read.later.1;
 }
@@ -73,14 +79,17 @@ kept_shown s trees edit read fits are before =
     (rows_put kept_key (λ xs. AreRows kept_table trees (map kept_row xs)) edit s.kept read.later.0 fits.puts are)
 
 pub kept_none : (trees : Trees) → AreRowsOfNone kept_key kept_table (map kept_row) FitsKept trees → NoneStandsTo 3 trees
-kept_none trees none s stands = let it = stands.1.1.0 in none s.kept it.laid.1 it.laid.0 it.rows
+kept_none trees none s stands =
+    let it = stands.1.1.0 in
+    let laid = laid_in s table.Kept it.sound in
+    none s.kept laid.1 laid.0 it.rows
 
 abbrev pub puts_places : Edit Place → Change
 puts_places edit = record no_change { places = edit }
 
 pub places_read : (s : State) (edit : Edit Place) → IsReadTo 3 s → IsFitting place_key FitsPlace edit → IsReadIn table.Places (applied (puts_places edit) s)
 places_read s edit read fits = record {
-  laid = each_push (IsLaidIn (applied (puts_places edit) s)) (take 3 all_tables) table.Places read.laid (laid_put place_key FitsPlace edit s.places read.later.0 fits);
+  laid = laid_put place_key FitsPlace edit s.places read.later.0 fits;
   sound = read.sound;
   later = read.later.1;
 }
@@ -92,52 +101,61 @@ places_shown s trees edit read fits are before =
     (rows_put place_key (λ xs. AreRows places_table trees (map place_row xs)) edit s.places read.later.0 fits.puts are)
 
 pub places_none : (trees : Trees) → AreRowsOfNone place_key places_table (map place_row) FitsPlace trees → NoneStandsTo 4 trees
-places_none trees none s stands = let it = stands.1.1.1.0 in none s.places it.laid.1 it.laid.0 it.rows
+places_none trees none s stands =
+    let it = stands.1.1.1.0 in
+    let laid = laid_in s table.Places it.sound in
+    none s.places laid.1 laid.0 it.rows
 
 abbrev pub puts_routes : Edit Route → Change
 puts_routes edit = record no_change { routes = edit }
 
-pub routes_read : (s : State) (edit : Edit Route) → IsReadTo 4 s → IsFitting route_key FitsRoute edit → IsReadIn table.Fixed (applied (puts_routes edit) s)
+pub routes_read : (s : State) (edit : Edit Route) → IsReadTo 4 s → IsFitting route_key IsRoute edit → IsReadIn table.Fixed (applied (puts_routes edit) s)
 routes_read s edit read fits = record {
-  laid = each_push (IsLaidIn (applied (puts_routes edit) s)) (take 4 all_tables) table.Fixed read.laid (laid_put route_key FitsRoute edit s.routes read.later.0 fits);
+  laid = laid_put route_key IsRoute edit s.routes read.later.0 fits;
   sound = read.sound;
   later = read.later.1;
 }
 
-pub routes_shown : (s : State) (trees : Trees) (edit : Edit Route) → IsReadTo 4 s → IsFitting route_key FitsRoute edit → AreRows fixed_table trees (map route_row edit.puts) → HasRowsTo 4 s trees
+pub routes_shown : (s : State) (trees : Trees) (edit : Edit Route) → IsReadTo 4 s → IsFitting route_key IsRoute edit → AreRows fixed_table trees (map route_row edit.puts) → HasRowsTo 4 s trees
     → HasRowsTo 5 (applied (puts_routes edit) s) trees
 routes_shown s trees edit read fits are before =
     each_push (HasRowsIn (applied (puts_routes edit) s) trees) (take 4 all_tables) table.Fixed before
     (rows_put route_key (λ xs. AreRows fixed_table trees (map route_row xs)) edit s.routes read.later.0 fits.puts are)
 
-pub routes_none : (trees : Trees) → AreRowsOfNone route_key fixed_table (map route_row) FitsRoute trees → NoneStandsTo 5 trees
-routes_none trees none s stands = let it = stands.1.1.1.1.0 in none s.routes it.laid.1 it.laid.0 it.rows
+pub routes_none : (trees : Trees) → AreRowsOfNone route_key fixed_table (map route_row) IsRoute trees → NoneStandsTo 5 trees
+routes_none trees none s stands =
+    let it = stands.1.1.1.1.0 in
+    let laid = laid_in s table.Fixed it.sound in
+    none s.routes laid.1 laid.0 it.rows
 
 abbrev pub puts_vehicles : Edit Vehicle → Change
 puts_vehicles edit = record no_change { vehicles = edit }
 
-pub vehicles_read : (s : State) (edit : Edit Vehicle) → IsReadTo 5 s → IsFitting vehicle_key FitsVehicle edit → IsReadIn table.Vehicles (applied (puts_vehicles edit) s)
+pub vehicles_read : (s : State) (edit : Edit Vehicle) → IsReadTo 5 s → IsFitting vehicle_key IsVehicle edit → IsReadIn table.Vehicles (applied (puts_vehicles edit) s)
 vehicles_read s edit read fits = record {
-  laid = each_push (IsLaidIn (applied (puts_vehicles edit) s)) (take 5 all_tables) table.Vehicles read.laid (laid_put vehicle_key FitsVehicle edit s.vehicles read.later.0 fits);
+  laid = laid_put vehicle_key IsVehicle edit s.vehicles read.later.0 fits;
   sound = read.sound;
   later = read.later.1;
 }
 
-pub vehicles_shown : (s : State) (trees : Trees) (edit : Edit Vehicle) → IsReadTo 5 s → IsFitting vehicle_key FitsVehicle edit → AreRows vehicles_table trees (map vehicle_row edit.puts) → HasRowsTo 5 s trees
+pub vehicles_shown : (s : State) (trees : Trees) (edit : Edit Vehicle) → IsReadTo 5 s → IsFitting vehicle_key IsVehicle edit → AreRows vehicles_table trees (map vehicle_row edit.puts) → HasRowsTo 5 s trees
     → HasRowsTo 6 (applied (puts_vehicles edit) s) trees
 vehicles_shown s trees edit read fits are before =
     each_push (HasRowsIn (applied (puts_vehicles edit) s) trees) (take 5 all_tables) table.Vehicles before
     (rows_put vehicle_key (λ xs. AreRows vehicles_table trees (map vehicle_row xs)) edit s.vehicles read.later.0 fits.puts are)
 
-pub vehicles_none : (trees : Trees) → AreRowsOfNone vehicle_key vehicles_table (map vehicle_row) FitsVehicle trees → NoneStandsTo 6 trees
-vehicles_none trees none s stands = let it = stands.1.1.1.1.1.0 in none s.vehicles it.laid.1 it.laid.0 it.rows
+pub vehicles_none : (trees : Trees) → AreRowsOfNone vehicle_key vehicles_table (map vehicle_row) IsVehicle trees → NoneStandsTo 6 trees
+vehicles_none trees none s stands =
+    let it = stands.1.1.1.1.1.0 in
+    let laid = laid_in s table.Vehicles it.sound in
+    none s.vehicles laid.1 laid.0 it.rows
 
 abbrev pub puts_riders : Edit Rider → Change
 puts_riders edit = record no_change { riders = edit }
 
 pub riders_read : (s : State) (edit : Edit Rider) → IsReadTo 6 s → IsFitting rider_key FitsRider edit → IsReadIn table.Riders (applied (puts_riders edit) s)
 riders_read s edit read fits = record {
-  laid = each_push (IsLaidIn (applied (puts_riders edit) s)) (take 6 all_tables) table.Riders read.laid (laid_put rider_key FitsRider edit s.riders read.later.0 fits);
+  laid = laid_put rider_key FitsRider edit s.riders read.later.0 fits;
   sound = read.sound;
   later = read.later.1;
 }
@@ -149,14 +167,17 @@ riders_shown s trees edit read fits are before =
     (rows_put rider_key (λ xs. AreRows riders_table trees (map rider_row xs)) edit s.riders read.later.0 fits.puts are)
 
 pub riders_none : (trees : Trees) → AreRowsOfNone rider_key riders_table (map rider_row) FitsRider trees → NoneStandsTo 7 trees
-riders_none trees none s stands = let it = stands.1.1.1.1.1.1.0 in none s.riders it.laid.1 it.laid.0 it.rows
+riders_none trees none s stands =
+    let it = stands.1.1.1.1.1.1.0 in
+    let laid = laid_in s table.Riders it.sound in
+    none s.riders laid.1 laid.0 it.rows
 
 abbrev pub puts_entries : Edit FiledEntry → Change
 puts_entries edit = record no_change { entries = edit }
 
 pub entries_read : (s : State) (edit : Edit FiledEntry) → IsReadTo 7 s → IsFitting entry_key FitsFiled edit → IsReadIn table.Entries (applied (puts_entries edit) s)
 entries_read s edit read fits = record {
-  laid = each_push (IsLaidIn (applied (puts_entries edit) s)) (take 7 all_tables) table.Entries read.laid (laid_put entry_key FitsFiled edit s.entries read.later.0 fits);
+  laid = laid_put entry_key FitsFiled edit s.entries read.later.0 fits;
   sound = read.sound;
   later = read.later.1;
 }
@@ -168,14 +189,17 @@ entries_shown s trees edit read fits are before =
     (rows_put entry_key (λ xs. AreRows entries_table trees (map entry_row xs)) edit s.entries read.later.0 fits.puts are)
 
 pub entries_none : (trees : Trees) → AreRowsOfNone entry_key entries_table (map entry_row) FitsFiled trees → NoneStandsTo 8 trees
-entries_none trees none s stands = let it = stands.1.1.1.1.1.1.1.0 in none s.entries it.laid.1 it.laid.0 it.rows
+entries_none trees none s stands =
+    let it = stands.1.1.1.1.1.1.1.0 in
+    let laid = laid_in s table.Entries it.sound in
+    none s.entries laid.1 laid.0 it.rows
 
 abbrev pub puts_trips : Edit Trip → Change
 puts_trips edit = record no_change { trips = edit }
 
 pub trips_read : (s : State) (edit : Edit Trip) → IsReadTo 8 s → IsFitting trip_key FitsTrip edit → IsReadIn table.Trips (applied (puts_trips edit) s)
 trips_read s edit read fits = record {
-  laid = each_push (IsLaidIn (applied (puts_trips edit) s)) (take 8 all_tables) table.Trips read.laid (laid_put trip_key FitsTrip edit s.trips read.later.0 fits);
+  laid = laid_put trip_key FitsTrip edit s.trips read.later.0 fits;
   sound = read.sound;
   later = read.later.1;
 }
@@ -187,33 +211,39 @@ trips_shown s trees edit read fits are before =
     (rows_put trip_key (λ xs. AreRows trips_table trees (map trip_row xs)) edit s.trips read.later.0 fits.puts are)
 
 pub trips_none : (trees : Trees) → AreRowsOfNone trip_key trips_table (map trip_row) FitsTrip trees → NoneStandsTo 9 trees
-trips_none trees none s stands = let it = stands.1.1.1.1.1.1.1.1.0 in none s.trips it.laid.1 it.laid.0 it.rows
+trips_none trees none s stands =
+    let it = stands.1.1.1.1.1.1.1.1.0 in
+    let laid = laid_in s table.Trips it.sound in
+    none s.trips laid.1 laid.0 it.rows
 
 abbrev pub puts_planned : Edit Plan → Change
 puts_planned edit = record no_change { planned = edit }
 
-pub planned_read : (s : State) (edit : Edit Plan) → IsReadTo 9 s → IsFitting plan_key FitsPlan edit → IsReadIn table.Stops (applied (puts_planned edit) s)
+pub planned_read : (s : State) (edit : Edit Plan) → IsReadTo 9 s → IsFitting plan_key FitsRows edit → IsReadIn table.Stops (applied (puts_planned edit) s)
 planned_read s edit read fits = record {
-  laid = each_push (IsLaidIn (applied (puts_planned edit) s)) (take 9 all_tables) table.Stops read.laid (laid_put plan_key FitsPlan edit s.planned read.later.0 fits);
+  laid = laid_put plan_key FitsRows edit s.planned read.later.0 fits;
   sound = read.sound;
   later = read.later.1;
 }
 
-pub planned_shown : (s : State) (trees : Trees) (edit : Edit Plan) → IsReadTo 9 s → IsFitting plan_key FitsPlan edit → AreRows stops_table trees (flat_map stop_rows edit.puts) → HasRowsTo 9 s trees
+pub planned_shown : (s : State) (trees : Trees) (edit : Edit Plan) → IsReadTo 9 s → IsFitting plan_key FitsRows edit → AreRows stops_table trees (flat_map stop_rows edit.puts) → HasRowsTo 9 s trees
     → HasRowsTo 10 (applied (puts_planned edit) s) trees
 planned_shown s trees edit read fits are before =
     each_push (HasRowsIn (applied (puts_planned edit) s) trees) (take 9 all_tables) table.Stops before
     (rows_put plan_key (λ xs. AreRows stops_table trees (flat_map stop_rows xs)) edit s.planned read.later.0 fits.puts are)
 
-pub planned_none : (trees : Trees) → AreRowsOfNone plan_key stops_table (flat_map stop_rows) FitsPlan trees → NoneStandsTo 10 trees
-planned_none trees none s stands = let it = stands.1.1.1.1.1.1.1.1.1.0 in none s.planned it.laid.1 it.laid.0 it.rows
+pub planned_none : (trees : Trees) → AreRowsOfNone plan_key stops_table (flat_map stop_rows) FitsRows trees → NoneStandsTo 10 trees
+planned_none trees none s stands =
+    let it = stands.1.1.1.1.1.1.1.1.1.0 in
+    let laid = laid_in s table.Stops it.sound in
+    none s.planned laid.1 laid.0 it.rows
 
 abbrev pub puts_travel : Edit DatedTable → Change
 puts_travel edit = record no_change { travel = edit }
 
 pub travel_read : (s : State) (edit : Edit DatedTable) → IsReadTo 10 s → IsFitting travel_key FitsTravel edit → IsReadIn table.Travel (applied (puts_travel edit) s)
 travel_read s edit read fits = record {
-  laid = each_push (IsLaidIn (applied (puts_travel edit) s)) (take 10 all_tables) table.Travel read.laid (laid_put travel_key FitsTravel edit s.travel read.later.0 fits);
+  laid = laid_put travel_key FitsTravel edit s.travel read.later.0 fits;
   sound = read.sound;
   later = read.later.1;
 }
@@ -225,7 +255,10 @@ travel_shown s trees edit read fits are before =
     (rows_put travel_key (λ xs. AreRows travel_table trees (flat_map travel_rows xs)) edit s.travel read.later.0 fits.puts are)
 
 pub travel_none : (trees : Trees) → AreRowsOfNone travel_key travel_table (flat_map travel_rows) FitsTravel trees → NoneStandsTo 11 trees
-travel_none trees none s stands = let it = stands.1.1.1.1.1.1.1.1.1.1.0 in none s.travel it.laid.1 it.laid.0 it.rows
+travel_none trees none s stands =
+    let it = stands.1.1.1.1.1.1.1.1.1.1.0 in
+    let laid = laid_in s table.Travel it.sound in
+    none s.travel laid.1 laid.0 it.rows
 
 -- ---- records that are marked
 
@@ -262,42 +295,9 @@ same_trips (x ∷ xs) = (
 
 rider_chairs_on : (s : State) (xs : List Rider) → IsReadTo 11 s → IsInOrder rider_key xs → Each FitsRider xs → map rider_row xs ≡ map rider_row s.riders → IsReadIn table.RiderChairs (record s { riders = xs })
 rider_chairs_on s xs read order each same =
-    let alike = riders_alike s.riders xs read.laid.1.1.1.1.1.1.0.1 each (sym same) in
+    let alike = riders_alike s.riders xs read.sound.1.1.1.1.1.1.0.0 each (sym same) in
     record {
-      laid = (
-        read.laid.0,
-        (
-          read.laid.1.0,
-          (
-            read.laid.1.1.0,
-            (
-              read.laid.1.1.1.0,
-              (
-                read.laid.1.1.1.1.0,
-                (
-                  read.laid.1.1.1.1.1.0,
-                  (
-                    (order, each),
-                    (
-                      read.laid.1.1.1.1.1.1.1.0,
-                      (
-                        read.laid.1.1.1.1.1.1.1.1.0,
-                        (
-                          read.laid.1.1.1.1.1.1.1.1.1.0,
-                          (
-                            read.laid.1.1.1.1.1.1.1.1.1.1.0,
-                            (tt, tt),
-                          ),
-                        ),
-                      ),
-                    ),
-                  ),
-                ),
-              ),
-            ),
-          ),
-        ),
-      );
+      laid = tt;
       sound = (
         read.sound.0,
         (
@@ -311,11 +311,11 @@ rider_chairs_on s xs read order each same =
                 (
                   read.sound.1.1.1.1.1.0,
                   (
-                    alike_riders s.riders xs alike s.callers read.sound.1.1.1.1.1.1.0,
+                    (each, alike_riders s.riders xs alike s.callers read.sound.1.1.1.1.1.1.0.1),
                     (
-                      alike_entries s.riders xs alike s.callers s.entries read.sound.1.1.1.1.1.1.1.0,
+                      (read.sound.1.1.1.1.1.1.1.0.0, alike_entries s.riders xs alike s.callers s.entries read.sound.1.1.1.1.1.1.1.0.1),
                       (
-                        alike_trips s.trips s.trips (same_trips s.trips) s.places s.riders xs s.last_trip alike read.sound.1.1.1.1.1.1.1.1.0,
+                        (read.sound.1.1.1.1.1.1.1.1.0.0, alike_trips s.trips s.trips (same_trips s.trips) s.places s.riders xs s.last_trip alike read.sound.1.1.1.1.1.1.1.1.0.1),
                         (
                           read.sound.1.1.1.1.1.1.1.1.1.0,
                           (read.sound.1.1.1.1.1.1.1.1.1.1.0, tt),
@@ -336,7 +336,7 @@ rider_keys : (xs ys : List Rider) → Each FitsRider xs → Each FitsRider ys �
 rider_keys xs ys ones others same = paired_by (λ x y. rider_key y ≡ rider_key x) FitsRider rider_row (λ x y fits also same. sym (ap (number_in 0) same)) xs ys ones others same
 
 riders_anew : (s : State) (edit : Edit Rider) → IsReadTo 11 s → IsFitting rider_key FitsRider edit → map rider_row edit.puts ≡ map rider_row s.riders → edited rider_key edit s.riders ≡ edit.puts
-riders_anew s edit read fits same = anew rider_key edit s.riders fits.puts (rider_keys edit.puts s.riders fits.each read.laid.1.1.1.1.1.1.0.1 same)
+riders_anew s edit read fits same = anew rider_key edit s.riders fits.puts (rider_keys edit.puts s.riders fits.each read.sound.1.1.1.1.1.1.0.0 same)
 
 pub rider_chairs_read : (s : State) (edit : Edit Rider) → IsReadTo 11 s → IsFitting rider_key FitsRider edit → map rider_row edit.puts ≡ map rider_row s.riders → IsReadIn table.RiderChairs (applied (puts_riders edit) s)
 rider_chairs_read s edit read fits same =
@@ -383,49 +383,14 @@ rider_chairs_shown s trees edit read fits same are before =
 pub rider_chairs_none : (trees : Trees) → NoneBeside rider_key riders_table rider_chairs_table rider_row rider_chair_rows FitsRider trees → NoneStandsTo 12 trees
 rider_chairs_none trees none s stands =
     let it = stands.1.1.1.1.1.1.0 in
-    none s.riders it.laid.1 it.laid.0 it.rows stands.1.1.1.1.1.1.1.1.1.1.1.0.rows
+    let laid = laid_in s table.Riders it.sound in
+    none s.riders laid.1 laid.0 it.rows stands.1.1.1.1.1.1.1.1.1.1.1.0.rows
 
-vehicle_chairs_on : (s : State) (xs : List Vehicle) → IsReadTo 12 s → IsInOrder vehicle_key xs → Each FitsVehicle xs → map vehicle_row xs ≡ map vehicle_row s.vehicles → IsReadIn table.VehicleChairs (record s { vehicles = xs })
+vehicle_chairs_on : (s : State) (xs : List Vehicle) → IsReadTo 12 s → IsInOrder vehicle_key xs → Each IsVehicle xs → map vehicle_row xs ≡ map vehicle_row s.vehicles → IsReadIn table.VehicleChairs (record s { vehicles = xs })
 vehicle_chairs_on s xs read order each same =
-    let alike = vehicles_alike s.vehicles xs read.laid.1.1.1.1.1.0.1 each (sym same) in
+    let alike = vehicles_alike s.vehicles xs read.sound.1.1.1.1.1.0.0 each (sym same) in
     record {
-      laid = (
-        read.laid.0,
-        (
-          read.laid.1.0,
-          (
-            read.laid.1.1.0,
-            (
-              read.laid.1.1.1.0,
-              (
-                read.laid.1.1.1.1.0,
-                (
-                  (order, each),
-                  (
-                    read.laid.1.1.1.1.1.1.0,
-                    (
-                      read.laid.1.1.1.1.1.1.1.0,
-                      (
-                        read.laid.1.1.1.1.1.1.1.1.0,
-                        (
-                          read.laid.1.1.1.1.1.1.1.1.1.0,
-                          (
-                            read.laid.1.1.1.1.1.1.1.1.1.1.0,
-                            (
-                              read.laid.1.1.1.1.1.1.1.1.1.1.1.0,
-                              (tt, tt),
-                            ),
-                          ),
-                        ),
-                      ),
-                    ),
-                  ),
-                ),
-              ),
-            ),
-          ),
-        ),
-      );
+      laid = tt;
       sound = (
         read.sound.0,
         (
@@ -437,7 +402,7 @@ vehicle_chairs_on s xs read order each same =
               (
                 read.sound.1.1.1.1.0,
                 (
-                  alike_vehicles s.callers s.places s.vehicles xs alike read.sound.1.1.1.1.1.0,
+                  (each, alike_vehicles s.callers s.places s.vehicles xs alike read.sound.1.1.1.1.1.0.1),
                   (
                     read.sound.1.1.1.1.1.1.0,
                     (
@@ -447,7 +412,7 @@ vehicle_chairs_on s xs read order each same =
                         (
                           read.sound.1.1.1.1.1.1.1.1.1.0,
                           (
-                            alike_tables s.trips s.trips (same_trips s.trips) s.places s.vehicles xs s.planned s.travel alike read.sound.1.1.1.1.1.1.1.1.1.1.0,
+                            (read.sound.1.1.1.1.1.1.1.1.1.1.0.0, alike_tables s.trips s.trips (same_trips s.trips) s.places s.vehicles xs s.planned s.travel alike read.sound.1.1.1.1.1.1.1.1.1.1.0.1),
                             (read.sound.1.1.1.1.1.1.1.1.1.1.1.0, tt),
                           ),
                         ),
@@ -463,17 +428,17 @@ vehicle_chairs_on s xs read order each same =
       later = read.later.1;
     }
 
-vehicle_keys : (xs ys : List Vehicle) → Each FitsVehicle xs → Each FitsVehicle ys → map vehicle_row xs ≡ map vehicle_row ys → Paired (λ x y. vehicle_key y ≡ vehicle_key x) xs ys
-vehicle_keys xs ys ones others same = paired_by (λ x y. vehicle_key y ≡ vehicle_key x) FitsVehicle vehicle_row (λ x y fits also same. sym (ap (λ row. pair_key (number_in 0 row) (number_in 1 row)) same)) xs ys ones others same
+vehicle_keys : (xs ys : List Vehicle) → Each IsVehicle xs → Each IsVehicle ys → map vehicle_row xs ≡ map vehicle_row ys → Paired (λ x y. vehicle_key y ≡ vehicle_key x) xs ys
+vehicle_keys xs ys ones others same = paired_by (λ x y. vehicle_key y ≡ vehicle_key x) IsVehicle vehicle_row (λ x y fits also same. sym (ap (λ row. pair_key (number_in 0 row) (number_in 1 row)) same)) xs ys ones others same
 
-vehicles_anew : (s : State) (edit : Edit Vehicle) → IsReadTo 12 s → IsFitting vehicle_key FitsVehicle edit → map vehicle_row edit.puts ≡ map vehicle_row s.vehicles → edited vehicle_key edit s.vehicles ≡ edit.puts
-vehicles_anew s edit read fits same = anew vehicle_key edit s.vehicles fits.puts (vehicle_keys edit.puts s.vehicles fits.each read.laid.1.1.1.1.1.0.1 same)
+vehicles_anew : (s : State) (edit : Edit Vehicle) → IsReadTo 12 s → IsFitting vehicle_key IsVehicle edit → map vehicle_row edit.puts ≡ map vehicle_row s.vehicles → edited vehicle_key edit s.vehicles ≡ edit.puts
+vehicles_anew s edit read fits same = anew vehicle_key edit s.vehicles fits.puts (vehicle_keys edit.puts s.vehicles fits.each read.sound.1.1.1.1.1.0.0 same)
 
-pub vehicle_chairs_read : (s : State) (edit : Edit Vehicle) → IsReadTo 12 s → IsFitting vehicle_key FitsVehicle edit → map vehicle_row edit.puts ≡ map vehicle_row s.vehicles → IsReadIn table.VehicleChairs (applied (puts_vehicles edit) s)
+pub vehicle_chairs_read : (s : State) (edit : Edit Vehicle) → IsReadTo 12 s → IsFitting vehicle_key IsVehicle edit → map vehicle_row edit.puts ≡ map vehicle_row s.vehicles → IsReadIn table.VehicleChairs (applied (puts_vehicles edit) s)
 vehicle_chairs_read s edit read fits same =
     subst (λ (xs : List Vehicle). IsReadIn table.VehicleChairs (record s { vehicles = xs })) (sym (vehicles_anew s edit read fits same)) (vehicle_chairs_on s edit.puts read fits.puts.1 fits.each same)
 
-pub vehicle_chairs_shown : (s : State) (trees : Trees) (edit : Edit Vehicle) → IsReadTo 12 s → IsFitting vehicle_key FitsVehicle edit → map vehicle_row edit.puts ≡ map vehicle_row s.vehicles
+pub vehicle_chairs_shown : (s : State) (trees : Trees) (edit : Edit Vehicle) → IsReadTo 12 s → IsFitting vehicle_key IsVehicle edit → map vehicle_row edit.puts ≡ map vehicle_row s.vehicles
     → AreRows vehicle_chairs_table trees (flat_map vehicle_chair_rows edit.puts) → HasRowsTo 12 s trees → HasRowsTo 13 (applied (puts_vehicles edit) s) trees
 vehicle_chairs_shown s trees edit read fits same are before =
     subst (λ (xs : List Vehicle). HasRowsTo 13 (record s { vehicles = xs }) trees) (sym (vehicles_anew s edit read fits same)) (
@@ -514,55 +479,17 @@ vehicle_chairs_shown s trees edit read fits same are before =
       ),
     )
 
-pub vehicle_chairs_none : (trees : Trees) → NoneBeside vehicle_key vehicles_table vehicle_chairs_table vehicle_row vehicle_chair_rows FitsVehicle trees → NoneStandsTo 13 trees
+pub vehicle_chairs_none : (trees : Trees) → NoneBeside vehicle_key vehicles_table vehicle_chairs_table vehicle_row vehicle_chair_rows IsVehicle trees → NoneStandsTo 13 trees
 vehicle_chairs_none trees none s stands =
     let it = stands.1.1.1.1.1.0 in
-    none s.vehicles it.laid.1 it.laid.0 it.rows stands.1.1.1.1.1.1.1.1.1.1.1.1.0.rows
+    let laid = laid_in s table.Vehicles it.sound in
+    none s.vehicles laid.1 laid.0 it.rows stands.1.1.1.1.1.1.1.1.1.1.1.1.0.rows
 
 trip_chairs_on : (s : State) (xs : List Trip) → IsReadTo 13 s → IsInOrder trip_key xs → Each FitsTrip xs → map trip_row xs ≡ map trip_row s.trips → IsReadIn table.TripChairs (record s { trips = xs })
 trip_chairs_on s xs read order each same =
-    let alike = trips_alike s.trips xs read.laid.1.1.1.1.1.1.1.1.0.1 each (sym same) in
+    let alike = trips_alike s.trips xs read.sound.1.1.1.1.1.1.1.1.0.0 each (sym same) in
     record {
-      laid = (
-        read.laid.0,
-        (
-          read.laid.1.0,
-          (
-            read.laid.1.1.0,
-            (
-              read.laid.1.1.1.0,
-              (
-                read.laid.1.1.1.1.0,
-                (
-                  read.laid.1.1.1.1.1.0,
-                  (
-                    read.laid.1.1.1.1.1.1.0,
-                    (
-                      read.laid.1.1.1.1.1.1.1.0,
-                      (
-                        (order, each),
-                        (
-                          read.laid.1.1.1.1.1.1.1.1.1.0,
-                          (
-                            read.laid.1.1.1.1.1.1.1.1.1.1.0,
-                            (
-                              read.laid.1.1.1.1.1.1.1.1.1.1.1.0,
-                              (
-                                read.laid.1.1.1.1.1.1.1.1.1.1.1.1.0,
-                                (tt, tt),
-                              ),
-                            ),
-                          ),
-                        ),
-                      ),
-                    ),
-                  ),
-                ),
-              ),
-            ),
-          ),
-        ),
-      );
+      laid = tt;
       sound = (
         read.sound.0,
         (
@@ -580,11 +507,11 @@ trip_chairs_on s xs read order each same =
                     (
                       read.sound.1.1.1.1.1.1.1.0,
                       (
-                        alike_trips s.trips xs alike s.places s.riders s.riders s.last_trip (same_riders s.riders) read.sound.1.1.1.1.1.1.1.1.0,
+                        (each, alike_trips s.trips xs alike s.places s.riders s.riders s.last_trip (same_riders s.riders) read.sound.1.1.1.1.1.1.1.1.0.1),
                         (
-                          alike_plans s.trips xs alike s.planned read.sound.1.1.1.1.1.1.1.1.1.0,
+                          (read.sound.1.1.1.1.1.1.1.1.1.0.0, alike_plans s.trips xs alike s.planned read.sound.1.1.1.1.1.1.1.1.1.0.1),
                           (
-                            alike_tables s.trips xs alike s.places s.vehicles s.vehicles s.planned s.travel (same_vehicles s.vehicles) read.sound.1.1.1.1.1.1.1.1.1.1.0,
+                            (read.sound.1.1.1.1.1.1.1.1.1.1.0.0, alike_tables s.trips xs alike s.places s.vehicles s.vehicles s.planned s.travel (same_vehicles s.vehicles) read.sound.1.1.1.1.1.1.1.1.1.1.0.1),
                             (
                               read.sound.1.1.1.1.1.1.1.1.1.1.1.0,
                               (read.sound.1.1.1.1.1.1.1.1.1.1.1.1.0, tt),
@@ -607,7 +534,7 @@ trip_keys : (xs ys : List Trip) → Each FitsTrip xs → Each FitsTrip ys → ma
 trip_keys xs ys ones others same = paired_by (λ x y. trip_key y ≡ trip_key x) FitsTrip trip_row (λ x y fits also same. sym (ap (number_in 0) same)) xs ys ones others same
 
 trips_anew : (s : State) (edit : Edit Trip) → IsReadTo 13 s → IsFitting trip_key FitsTrip edit → map trip_row edit.puts ≡ map trip_row s.trips → edited trip_key edit s.trips ≡ edit.puts
-trips_anew s edit read fits same = anew trip_key edit s.trips fits.puts (trip_keys edit.puts s.trips fits.each read.laid.1.1.1.1.1.1.1.1.0.1 same)
+trips_anew s edit read fits same = anew trip_key edit s.trips fits.puts (trip_keys edit.puts s.trips fits.each read.sound.1.1.1.1.1.1.1.1.0.0 same)
 
 pub trip_chairs_read : (s : State) (edit : Edit Trip) → IsReadTo 13 s → IsFitting trip_key FitsTrip edit → map trip_row edit.puts ≡ map trip_row s.trips → IsReadIn table.TripChairs (applied (puts_trips edit) s)
 trip_chairs_read s edit read fits same =
@@ -660,4 +587,5 @@ trip_chairs_shown s trees edit read fits same are before =
 pub trip_chairs_none : (trees : Trees) → NoneBeside trip_key trips_table trip_chairs_table trip_row trip_chair_rows FitsTrip trees → NoneStandsTo 14 trees
 trip_chairs_none trees none s stands =
     let it = stands.1.1.1.1.1.1.1.1.0 in
-    none s.trips it.laid.1 it.laid.0 it.rows stands.1.1.1.1.1.1.1.1.1.1.1.1.1.0.rows
+    let laid = laid_in s table.Trips it.sound in
+    none s.trips laid.1 laid.0 it.rows stands.1.1.1.1.1.1.1.1.1.1.1.1.1.0.rows

@@ -3,15 +3,12 @@ use Rattle.std.specs.Prelude.{◌≡◌, ◌⊎◌, ℕ, ◌<◌, ◌≤◌, ◌
 use Rattle.sqlite.specs.Order.{Row, column}
 use Rattle.sqlite.specs.Table.{Table}
 use Rattle.sqlite.specs.Tree.{Trees}
-use Rattle.pt_base.specs.Day.{IsDay}
+use Rattle.pt_desk_rules.specs.Ranges.{FitsPlan, FitsStop}
 use Rattle.pt_desk_rules.specs.Sound.{HasStops}
-use Rattle.pt_desk_rules.specs.Travel.{DatedTable}
 use Rattle.pt_records.specs.Records.{Each, Edit, IsInOrder}
 use Rattle.pt_scheduling.specs.Plan.{Plan}
 use Rattle.pt_scheduling.specs.declared.planned.PlannedStop.{PlannedStop}
-use Rattle.pt_spelling.specs.Replies.{IsId}
 use Rattle.pt_travel.specs.Chain as travel
-use Rattle.pt_travel.specs.Table.{IsTable}
 use Rattle.pt_tables_asking.specs.Asking.{AreInOrder}
 use Rattle.pt_tables_rows.specs.Rows.{number_value}
 use Rattle.pt_tables_rows.specs.Tables.{AreRows}
@@ -62,29 +59,18 @@ pub record IsUngathered {A : Type 0} (key : A → ℕ) (home : Table) (rows_of :
 abbrev pub BeginsPlan : Row → Type 0
 BeginsPlan row = column row 2 ≡ number_value 0
 
-abbrev pub FitsStop : PlannedStop → Type 0
-FitsStop stop = IsId stop.trip
-
--- the place of each is a number of 32 bits
+-- what is told of the stops of a plan: the place of each is a number of 32 bits
 abbrev pub FitStops : List PlannedStop → Type 0
 FitStops stops = (length stops ≤ 2 ^ 32) × Each FitsStop stops
 
-pub record FitsPlan (plan : Plan) : Type 0 where
-  pub vehicle : IsId plan.vehicle
-  pub day : IsDay plan.day
+-- a plan that rows tell has stops, each at a place of 32 bits
+pub record FitsRows (plan : Plan) : Type 0 where
+  pub fits : FitsPlan plan
   pub some : HasStops plan
-  pub stops : FitStops plan.stops
+  pub few : length plan.stops ≤ 2 ^ 32
 
 -- ---- travel tables
 
 -- no place has this row, which begins a travel table
 abbrev pub BeginsTravel : Row → Type 0
 BeginsTravel row = column row 1 ≡ number_value 0
-
-abbrev pub FitsDrive : travel.Row → Type 0
-FitsDrive drive = IsId drive.0 × IsId drive.1 × (drive.2 < 2 ^ 16)
-
-pub record FitsTravel (dated : DatedTable) : Type 0 where
-  pub from_day : IsDay dated.from_day
-  pub drives : Each FitsDrive dated.rows
-  pub table : IsTable dated.rows

@@ -7,35 +7,16 @@ use Rattle.sqlite_schema.specs.declared.schema.Schema.{Schema}
 use Rattle.sqlite_trees.specs.Objects.{catalog_tree}
 use Rattle.pt_desk_rules.specs.Sound.{IsSound}
 use Rattle.pt_desk_rules.specs.State.{State}
-use Rattle.pt_records.specs.Records.{Each}
-use Rattle.pt_spelling.specs.Ranges.{IsWord}
 use Rattle.pt_tables_opening.specs.Faults.{rows_refused, tables_refused}
-use Rattle.pt_tables_reading.specs.Fitting.{FitsFiled, FitsRoute, FitsVehicle}
-use Rattle.pt_tables_opening.specs.Gathered.{FitsPlan, FitsTravel}
-use Rattle.pt_tables_reading.specs.Reading.{FitsCaller, FitsKept, FitsPlace, FitsRider, FitsTrip}
 use Rattle.pt_tables_rows.specs.Schema.{desk_schema}
 use Rattle.pt_tables_rows.specs.Tables.{HasRows}
 use Rattle.pt_tables_opening.specs.Standing.{IsFirstAtFault}
 use Rattle.pt_tables_opening.specs.Told.{HasOtherVersion}
 use Rattle.pt_tables_opening.specs.declared.open_fault.OpenFault.{OpenFault}
 
--- each record is such as the types of its fields keep it, where definitions see no more than numbers and lists
-pub record KeepsRanges (s : State) : Type 0 where
-  pub callers : Each FitsCaller s.callers
-  pub kept : Each FitsKept s.kept
-  pub places : Each FitsPlace s.places
-  pub routes : Each FitsRoute s.routes
-  pub vehicles : Each FitsVehicle s.vehicles
-  pub riders : Each FitsRider s.riders
-  pub entries : Each FitsFiled s.entries
-  pub trips : Each FitsTrip s.trips
-  pub planned : Each FitsPlan s.planned
-  pub travel : Each FitsTravel s.travel
-  pub last_trip : IsWord s.last_trip
-
 -- no sound state has these rows
 abbrev pub AreUnsound : Trees → Type 0
-AreUnsound trees = (s : State) → IsSound s → KeepsRanges s → HasRows s trees → ⊥
+AreUnsound trees = (s : State) → IsSound s → HasRows s trees → ⊥
 
 -- the database's own list of its tables is not that of the desk's
 abbrev pub ListsOthers : Trees → Type 0

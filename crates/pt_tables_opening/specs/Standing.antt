@@ -1,17 +1,11 @@
 -- Which content the first tables of a database stand for, and which table is the first at fault.
 use Rattle.std.specs.Prelude.{ℕ, ◌-◌, ◌<◌, [], ◌∷◌, take, map, flat_map}
 use Rattle.sqlite.specs.Tree.{Trees}
-use Rattle.pt_desk_rules.specs.State.{State, caller_key, kept_key, place_key, route_key, rider_key, entry_key}
-use Rattle.pt_desk_rules.specs.State.{vehicle_key, travel_key, trip_key}
-use Rattle.pt_records.specs.Records.{Each, IsInOrder}
-use Rattle.pt_scheduling.specs.Plan.{plan_key}
+use Rattle.pt_desk_rules.specs.State.{State}
+use Rattle.pt_records.specs.Records.{Each}
 use Rattle.pt_soundness.specs.Tables.{all_tables, IsSoundIn}
 use Rattle.pt_soundness.specs.declared.unsound_table.UnsoundTable.{UnsoundTable}
 use Rattle.pt_soundness.specs.declared.unsound_table.UnsoundTable.TheVariants as table
-use Rattle.pt_spelling.specs.Ranges.{IsWord}
-use Rattle.pt_tables_reading.specs.Fitting.{FitsFiled, FitsRoute, FitsVehicle}
-use Rattle.pt_tables_reading.specs.Reading.{FitsCaller, FitsKept, FitsPlace, FitsRider, FitsTrip}
-use Rattle.pt_tables_opening.specs.Gathered.{FitsPlan, FitsTravel}
 use Rattle.pt_tables_rows.specs.Rows.{desk_row, caller_row, kept_row, place_row, route_row, vehicle_row, rider_row}
 use Rattle.pt_tables_rows.specs.Rows.{entry_row, trip_row, stop_rows, travel_rows}
 use Rattle.pt_tables_rows.specs.Rows.{rider_chair_rows, vehicle_chair_rows, trip_chair_rows}
@@ -37,27 +31,9 @@ HasRowsIn s trees table.RiderChairs = AreRows rider_chairs_table trees (flat_map
 HasRowsIn s trees table.VehicleChairs = AreRows vehicle_chairs_table trees (flat_map vehicle_chair_rows s.vehicles)
 HasRowsIn s trees table.TripChairs = AreRows trip_chairs_table trees (flat_map trip_chair_rows s.trips)
 
--- its records stand in the order of their keys, and each is such as the types of its fields keep it
-abbrev pub IsLaidIn : State → UnsoundTable → Type 0
-IsLaidIn s table.Desk = IsWord s.last_trip
-IsLaidIn s table.Callers = IsInOrder caller_key s.callers × Each FitsCaller s.callers
-IsLaidIn s table.Kept = IsInOrder kept_key s.kept × Each FitsKept s.kept
-IsLaidIn s table.Places = IsInOrder place_key s.places × Each FitsPlace s.places
-IsLaidIn s table.Fixed = IsInOrder route_key s.routes × Each FitsRoute s.routes
-IsLaidIn s table.Vehicles = IsInOrder vehicle_key s.vehicles × Each FitsVehicle s.vehicles
-IsLaidIn s table.Riders = IsInOrder rider_key s.riders × Each FitsRider s.riders
-IsLaidIn s table.Entries = IsInOrder entry_key s.entries × Each FitsFiled s.entries
-IsLaidIn s table.Trips = IsInOrder trip_key s.trips × Each FitsTrip s.trips
-IsLaidIn s table.Stops = IsInOrder plan_key s.planned × Each FitsPlan s.planned
-IsLaidIn s table.Travel = IsInOrder travel_key s.travel × Each FitsTravel s.travel
-IsLaidIn s table.RiderChairs = Unit {0}
-IsLaidIn s table.VehicleChairs = Unit {0}
-IsLaidIn s table.TripChairs = Unit {0}
-
 -- the content has the rows of this table, and is sound there
 pub record StandsIn (s : State) (trees : Trees) (table : UnsoundTable) : Type 0 where
   pub rows : HasRowsIn s trees table
-  pub laid : IsLaidIn s table
   pub sound : IsSoundIn s table
 
 -- and so in each of the first so many tables

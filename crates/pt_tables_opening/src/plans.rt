@@ -5,7 +5,7 @@ ghost use Rattle.pt_scheduling.specs.Plan.{plan_key};
 ghost use Rattle.pt_scheduling.specs.declared.planned.PlannedStop.{PlannedStop};
 ghost use Rattle.pt_tables_opening.specs.Faults.{fault, store_refused, unsound};
 ghost use Rattle.pt_tables_reading.specs.Fitting.{FitsStopAt};
-ghost use Rattle.pt_tables_opening.specs.Gathered.{FitsPlan, FitStops, IsGatheredTable};
+ghost use Rattle.pt_tables_opening.specs.Gathered.{FitStops, IsGatheredTable, FitsRows};
 ghost use Rattle.pt_tables_rows.specs.Rows.{stop_row};
 ghost use Rattle.pt_tables_opening.specs.Opening.{ReadsTables, Rests};
 ghost use Rattle.pt_tables_reading.specs.Reading.{Reads};
@@ -48,7 +48,7 @@ fn stops_of(
     rows: &[Row],
 ) -> Result<Option<Vec<PlannedStop>>, AllocError>
     ensures told { IfOk result (λ found. MatchOption found
-        ((stops : List PlannedStop) → FitsPlan (record { vehicle = vehicle; day = day; stops = stops })
+        ((stops : List PlannedStop) → FitsRows (record { vehicle = vehicle; day = day; stops = stops })
         → stop_rows_from 0 vehicle day stops ≡ rows.now → ⊥)
         (λ stops. (stop_rows_from 0 vehicle day stops.items ≡ rows.now) × FitStops stops.items)) }
 {
@@ -64,7 +64,7 @@ fn stops_of(
 
 /// The planned route that has these rows.
 fn plan_of(alloc: Global, rows: &[Row]) -> Result<Option<PlannedRoute>, AllocError>
-    ensures told { IfOk result (Reads stop_rows FitsPlan rows.now) }
+    ensures told { IfOk result (Reads stop_rows FitsRows rows.now) }
 {
     let Some(row) = rows.first() else {
         return Ok(None);
@@ -83,13 +83,13 @@ fn plan_of(alloc: Global, rows: &[Row]) -> Result<Option<PlannedRoute>, AllocErr
 }
 
 impl Gathered for PlannedRoute {
-    ghost use Rattle.pt_tables_opening.specs.Gathered.{BeginsPlan, FitsPlan};
+    ghost use Rattle.pt_tables_opening.specs.Gathered.{BeginsPlan, FitsRows};
     ghost use Rattle.pt_tables_rows.specs.Rows.{stop_rows};
     ghost use Rattle.pt_tables_rows.specs.Schema.{stops_table};
 
     ghost home = { stops_table };
 
-    ghost Fits = { FitsPlan };
+    ghost Fits = { FitsRows };
 
     ghost rows_of = { stop_rows };
 
@@ -114,12 +114,12 @@ pub(crate) fn planned_in<S: Alter>(
     alloc: Global,
     conn: &mut Connection<S>,
 ) -> Result<Edits<PlannedRoute>, OpenFault>
-    ensures fitting { IfOk result (IsFitting plan_key FitsPlan) }
+    ensures fitting { IfOk result (IsFitting plan_key FitsRows) }
     ensures told { ReadsTables (state S.Store conn.old) (state S.Store conn.new)
-        (λ trees. IfOk result (IsGatheredTable plan_key stops_table stop_rows FitsPlan trees)) }
+        (λ trees. IfOk result (IsGatheredTable plan_key stops_table stop_rows FitsRows trees)) }
     ensures faults { IfErr result (λ refused. (refused ≡ fault memory_refused) ⊎ ((refused ≡ fault store_refused)
         ⊎ ((refused ≡ unsound 10) × (ReadsTables (state S.Store conn.old) (state S.Store conn.new)
-        (AreRowsOfNone plan_key stops_table (flat_map stop_rows) FitsPlan))))) }
+        (AreRowsOfNone plan_key stops_table (flat_map stop_rows) FitsRows))))) }
     ensures rests { Rests (state S.Store conn.old) (state S.Store conn.new) result }
 {
     gathered_in(alloc, conn, UnsoundTable::Stops)

@@ -7,7 +7,8 @@ ghost use Rattle.pt_records.specs.Records.{Each};
 ghost use Rattle.pt_travel.specs.Chain as travel;
 ghost use Rattle.pt_tables_opening.specs.Faults.{fault, store_refused, unsound};
 ghost use Rattle.pt_tables_reading.specs.Fitting.{FitsDriveAt};
-ghost use Rattle.pt_tables_opening.specs.Gathered.{FitsDrive, FitsTravel, IsGatheredTable};
+ghost use Rattle.pt_tables_opening.specs.Gathered.{IsGatheredTable};
+ghost use Rattle.pt_desk_rules.specs.Ranges.{FitsDrive, FitsTravel};
 ghost use Rattle.pt_tables_opening.specs.Opening.{ReadsTables, Rests};
 ghost use Rattle.pt_tables_reading.specs.Reading.{Reads};
 ghost use Rattle.pt_tables_rows.specs.Rows.{travel_row, travel_rows};
@@ -89,7 +90,8 @@ fn table_of(alloc: Global, rows: &[Row]) -> Result<Option<TravelTable>, AllocErr
 }
 
 impl Gathered for TravelTable {
-    ghost use Rattle.pt_tables_opening.specs.Gathered.{BeginsTravel, FitsTravel};
+    ghost use Rattle.pt_tables_opening.specs.Gathered.{BeginsTravel};
+    ghost use Rattle.pt_desk_rules.specs.Ranges.{FitsTravel};
     ghost use Rattle.pt_tables_rows.specs.Rows.{travel_rows};
     ghost use Rattle.pt_tables_rows.specs.Schema.{travel_table};
 

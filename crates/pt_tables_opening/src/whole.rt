@@ -5,11 +5,10 @@ ghost use Rattle.pt_base.specs.Codes.{memory_refused};
 ghost use Rattle.pt_desk_rules.specs.Sound.{IsSound};
 ghost use Rattle.pt_desk_rules.specs.State.{applied};
 ghost use Rattle.pt_soundness.specs.Tables.{number_of, IsSoundBefore, IsSoundIn};
-ghost use Rattle.pt_tables_asking.specs.Content.{IsReadable};
 ghost use Rattle.pt_tables_opening.specs.Faults.{IsRefusal, fault, unsound};
 ghost use Rattle.pt_tables_opening.specs.Opening.{Rests, Stays};
 ghost use Rattle.pt_tables_opening.specs.Refused.{SparesOtherVersion, TellsOf};
-ghost use Rattle.pt_tables_opening.specs.Steps.{IsReadTo, OpensTable, OpensTo};
+ghost use Rattle.pt_tables_opening.specs.Steps.{IsLaidIn, IsReadTo, OpensTable, OpensTo};
 ghost use Rattle.pt_tables_rows.specs.Schema.{desk_schema};
 ghost use Rattle.pt_tables_rows.specs.Tables.{HasRows};
 
@@ -47,6 +46,7 @@ fn judged(
     table: UnsoundTable,
 ) -> Result<ListKeeper, OpenFault>
     requires before { IsSoundBefore (applied change keeper.content) table }
+    requires laid { IsLaidIn (applied change keeper.content) table }
     ensures content { IfOk result (λ judged. judged.content ≡ applied change keeper.content) }
     ensures sound { IfOk result (λ judged. IsSoundIn (applied change keeper.content) table) }
     ensures faults { IfErr result (λ refused. (refused ≡ fault memory_refused)
@@ -108,7 +108,6 @@ pub fn content_in<S: Alter>(
 ) -> Result<ListKeeper, OpenFault>
     ensures schema { IfOk result (λ _. (state S.Store conn.old).now.schema ≡ desk_schema) }
     ensures sound { IfOk result (λ keeper. IsSound keeper.content) }
-    ensures readable { IfOk result (λ keeper. IsReadable keeper.content) }
     ensures rows { HasCleanDisk (state S.Store conn.new)
         → IfOk result (λ keeper. HasRows keeper.content (state S.Store conn.old).now.trees) }
     ensures faults { IfErr result IsRefusal }

@@ -1,6 +1,6 @@
 use Rattle.std.proofs.Common.{◌≡◌, ◌+◌, ◌<◌, ◌^◌, ◌∷◌, [], length, length-append, sym, ap, subst, ◌∙◌, arith}
 use Rattle.pt_records.specs.Records.{Each}
-use Rattle.pt_tables_opening.specs.Gathered.{FitsStop}
+use Rattle.pt_desk_rules.specs.Ranges.{FitsStop}
 use Rattle.pt_tables_opening.proofs.GatheredLemmas.{each_push}
 use Rattle.pt_tables_opening.proofs.PlanReading.{no-stops, stops-next}
 use Rattle.pt_tables_opening.proofs.plans.stops_of.Goals as goal

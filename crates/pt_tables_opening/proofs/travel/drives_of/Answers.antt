@@ -1,6 +1,6 @@
 use Rattle.std.proofs.Common.{sym, subst, arith}
 use Rattle.pt_records.specs.Records.{Each}
-use Rattle.pt_tables_opening.specs.Gathered.{FitsDrive}
+use Rattle.pt_desk_rules.specs.Ranges.{FitsDrive}
 use Rattle.pt_tables_opening.proofs.GatheredLemmas.{each_push}
 use Rattle.pt_tables_opening.proofs.PlanReading.{no-drives, drives-next}
 use Rattle.pt_tables_opening.proofs.travel.drives_of.Goals as goal

@@ -2,7 +2,7 @@ use Rattle.std.proofs.Common.{◌≡◌, ◌-◌, length, map, take, drop, sym, 
 use Rattle.std.proofs.lemmas.List.{take_rest}
 use Rattle.pt_records.specs.Records.{Each}
 use Rattle.pt_travel.specs.Table.{IsTable}
-use Rattle.pt_tables_opening.specs.Gathered.{FitsDrive}
+use Rattle.pt_desk_rules.specs.Ranges.{FitsDrive}
 use Rattle.pt_tables_rows.specs.Rows.{travel_row}
 use Rattle.pt_tables_opening.proofs.PlanReading.{NoDrives, same-drives, where-some}
 use Rattle.pt_tables_opening.proofs.travel.table_of.Goals as goal

@@ -4,7 +4,8 @@ use Rattle.sqlite.specs.State.{HasCleanDisk}
 use Rattle.pt_base.specs.Codes.{memory_refused}
 use Rattle.pt_desk_rules.specs.State.{travel_key}
 use Rattle.pt_tables_opening.specs.Faults.{fault, store_refused, unsound}
-use Rattle.pt_tables_opening.specs.Gathered.{FitsTravel, IsUngathered}
+use Rattle.pt_tables_opening.specs.Gathered.{IsUngathered}
+use Rattle.pt_desk_rules.specs.Ranges.{FitsTravel}
 use Rattle.pt_tables_opening.specs.Told.{AreRowsOfNone}
 use Rattle.pt_tables_rows.specs.Rows.{travel_rows}
 use Rattle.pt_tables_rows.specs.Schema.{desk_schema, travel_table}
