@@ -7,17 +7,11 @@ use Rattle.sqlite.specs.State.{State as Connected, Survives}
 use Rattle.sqlite.proofs.StateLemmas.{survives_weaker}
 use Rattle.pt_base.specs.declared.policy.Policy.{Policy}
 use Rattle.pt_desk.specs.LeastState.{IsLeastPolicy, IsLeastState}
-use Rattle.pt_desk_rules.specs.State.{State, caller_key, kept_key, place_key, route_key, rider_key, entry_key, vehicle_key, travel_key, trip_key}
-use Rattle.pt_records.specs.Records.{Each, IsInOrder}
-use Rattle.pt_scheduling.specs.Plan.{plan_key}
-use Rattle.pt_tables_asking.specs.Content.{IsReadable}
-use Rattle.pt_tables_reading.specs.Fitting.{FitsFiled}
-use Rattle.pt_tables_reading.specs.Reading.{FitsKept, FitsRider, FitsTrip}
+use Rattle.pt_desk_rules.specs.State.{State}
 use Rattle.pt_tables_writing.specs.Least.{IsNew, IsAsBefore, IsDeskDatabase, IsInUse, IsUndone, IsNewDesk, IsLeastDesk}
 use Rattle.pt_tables_rows.specs.Rows.{desk_row}
 use Rattle.pt_tables_rows.specs.Schema.{no_schema}
 use Rattle.pt_tables_rows.specs.Tables.{HasRows, IsKept}
-use Rattle.pt_tables_rows.specs.WellFormed.{IsWellFormed, HasReply, HasRisingRows, IsFiled, IsLaid, IsStoredPlan, IsVersion}
 
 same_row : (p q : Policy) (n : ℕ) → IsLeastPolicy p → IsLeastPolicy q → n ≡ 0 → desk_row p n ≡ desk_row q 0
 same_row p q n a b none = rw (a.base, a.transfer, a.fare, a.service, a.extra_ride, a.min_missed, a.percent, a.span_days, b.base, b.transfer, b.fare, b.service, b.extra_ride, b.min_missed, b.percent, b.span_days, none) refl
@@ -59,37 +53,6 @@ committed_least key s new db least here tables made same = record {
   rows = λ content is.
       let kept = made content (least_is_new key s content least is) in
       subst (HasRows content) (sym (same ∙ ap (λ (d : Database). d.trees) (kept.committed here))) (kept.stands here).rows;
-}
-
--- ---- the least state is read back from the tables that have its rows
-
-least_well_formed : (key : List ℕ) (s : State) → IsLeastState key s → IsWellFormed s
-least_well_formed key s least = record {
-  callers = subst (IsInOrder caller_key) (sym least.callers) (tt, tt);
-  kept = subst (IsInOrder kept_key) (sym least.kept) tt;
-  replies = subst (Each HasReply) (sym least.kept) tt;
-  places = subst (IsInOrder place_key) (sym least.places) tt;
-  routes = subst (IsInOrder route_key) (sym least.routes) tt;
-  lines = subst (Each IsLaid) (sym least.routes) tt;
-  riders = subst (IsInOrder rider_key) (sym least.riders) tt;
-  entries = subst (IsInOrder entry_key) (sym least.entries) tt;
-  filed = subst (Each IsFiled) (sym least.entries) tt;
-  vehicles = subst (IsInOrder vehicle_key) (sym least.vehicles) tt;
-  versions = subst (Each IsVersion) (sym least.vehicles) tt;
-  travel = subst (IsInOrder travel_key) (sym least.travel) tt;
-  rows = subst (Each HasRisingRows) (sym least.travel) tt;
-  trips = subst (IsInOrder trip_key) (sym least.trips) tt;
-  planned = subst (IsInOrder plan_key) (sym least.planned) tt;
-  stops = subst (Each IsStoredPlan) (sym least.planned) tt;
-}
-
-pub least_readable : (key : List ℕ) (s : State) → IsLeastState key s → IsReadable s
-least_readable key s least = record {
-  well_formed = least_well_formed key s least;
-  kept = subst (Each FitsKept) (sym least.kept) tt;
-  riders = subst (Each FitsRider) (sym least.riders) tt;
-  entries = subst (Each FitsFiled) (sym least.entries) tt;
-  trips = subst (Each FitsTrip) (sym least.trips) tt;
 }
 
 pub least_kept : (key : List ℕ) (s : State) (new : Connected) → IsLeastState key s → ((any : State) → IsNew s.policy (sha256 key) any → IsKept any new) → IsKept s new

@@ -4,7 +4,7 @@ ghost use Rattle.std.specs.Prelude.{◌≡◌, false};
 ghost use Rattle.pt_desk.specs.Store.{IsSettled};
 ghost use Rattle.sqlite.specs.Held.{state};
 ghost use Rattle.sqlite.specs.State.{HasCleanDisk};
-ghost use Rattle.pt_tables_asking.specs.Content.{IsReadable};
+ghost use Rattle.pt_tables_rows.specs.WellFormed.{IsWellFormed};
 ghost use Rattle.pt_tables_rows.specs.Tables.{IsKept};
 
 use pt_desk::{Keeper, ListKeeper};
@@ -19,7 +19,7 @@ pub(crate) fn keeper_of<S: Alter>(
     lists: ListKeeper,
 ) -> SqlKeeper<S>
     requires settled { conn.in_transaction ≡ false }
-    requires readable { IsReadable lists.content }
+    requires readable { IsWellFormed lists.content }
     requires kept { HasCleanDisk (state S.Store conn) → IsKept lists.content (state S.Store conn) }
     ensures conn { result.conn ≡ conn }
     ensures content { result.content ≡ lists.content }
