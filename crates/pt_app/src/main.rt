@@ -1,17 +1,19 @@
 //! The program `desk`: its words, standard input and standard output.
 #![tactic(auto)]
 
+use crate::database::{
+    init, migrate_file, print_read, print_refusal, print_verdict, put_times, serve_file,
+};
 use pt_base::Fault;
 use pt_base::fault::MEMORY;
 use pt_command_line::{Line, WRONG_WORDS, line, matches_in};
 use pt_commands::{Outcome, exit_status, outcome_of, outcome_of_refusal, rehearse_with_key};
 use pt_desk::Read;
-use pt_files::{
-    init, migrate_file, print_read, print_refusal, print_verdict, put_times, serve_file,
-};
 use std::io::ErrorKind;
 use std::process::ExitCode;
 use std::{env, io};
+
+mod database;
 
 /// The words that the program was started with, its own name first.
 ///

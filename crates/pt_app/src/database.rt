@@ -1,7 +1,7 @@
 //! Commands over the database in a file.
 ghost use Rattle.std.specs.Prelude.{◌≡◌, ◌⊎◌, IfErr, IfOk};
-ghost use Rattle.pt_files.specs.Codes.{file_exists, no_such_file};
-ghost use Rattle.pt_files.specs.Opening.{IsStoreFault};
+ghost use Rattle.pt_app.specs.Codes.{file_exists, no_such_file};
+ghost use Rattle.pt_app.specs.Opening.{IsStoreFault};
 ghost use Rattle.pt_base.specs.Codes.{memory_refused};
 ghost use Rattle.pt_base.specs.Fault.{fault};
 ghost use Rattle.pt_desk_rules.specs.Sound.{IsSound};
@@ -91,7 +91,7 @@ fn connected(rt: &HostRuntime, file: &str) -> Result<Connection<FileStore<File>>
 }
 
 /// Makes a file, which must not exist, with the tables of a desk whose admin has this key.
-pub fn init(rt: &HostRuntime, file: &str, key: &str) -> Result<Outcome, Fault> {
+pub(crate) fn init(rt: &HostRuntime, file: &str, key: &str) -> Result<Outcome, Fault> {
     if let Err(error) = fs::File::create_new(rt, file) {
         return Err(fault_of_making(&error));
     }
@@ -103,7 +103,7 @@ pub fn init(rt: &HostRuntime, file: &str, key: &str) -> Result<Outcome, Fault> {
 }
 
 /// Makes the tables of the first version in a file those of this one, and prints `done`.
-pub fn migrate_file(rt: &HostRuntime, file: &str) -> Result<Outcome, Fault> {
+pub(crate) fn migrate_file(rt: &HostRuntime, file: &str) -> Result<Outcome, Fault> {
     if let Err(error) = fs::open(rt, file) {
         return Err(fault_of_reading(&error));
     }
@@ -128,7 +128,7 @@ fn adopt_file(rt: &HostRuntime, file: &str) -> Result<FileKeeper, Fault>
 }
 
 /// Answers so many connections on a port of 127.0.0.1, one after the other, by the clocks of a zone.
-pub fn serve_file(
+pub(crate) fn serve_file(
     rt: &HostRuntime,
     file: &str,
     zone: &str,
@@ -143,7 +143,7 @@ pub fn serve_file(
 }
 
 /// Asks the desk in a file for a text, and prints it.
-pub fn print_read(
+pub(crate) fn print_read(
     rt: &HostRuntime,
     file: &str,
     zone: &str,
@@ -182,7 +182,7 @@ fn times_for<K: Keeper>(alloc: Global, keeper: &mut K, text: &[u8]) -> Result<Ra
 }
 
 /// Gives the desk in a file the driving times of a CSV file, which hold from a day on.
-pub fn put_times(
+pub(crate) fn put_times(
     rt: &HostRuntime,
     file: &str,
     zone: &str,
@@ -208,7 +208,7 @@ pub fn put_times(
 }
 
 /// Prints the log of a refusal from the desk in a file, with few writes.
-pub fn print_refusal(
+pub(crate) fn print_refusal(
     rt: &HostRuntime,
     file: &str,
     zone: &str,
@@ -233,7 +233,7 @@ pub fn print_refusal(
 }
 
 /// Prints whether the log in a file shows, of the desk in another, that no vehicle can take the trip.
-pub fn print_verdict(
+pub(crate) fn print_verdict(
     rt: &HostRuntime,
     log: &str,
     file: &str,
