@@ -14,6 +14,7 @@ use crate::grouped::replace_plan;
 use crate::stored::write_edits;
 use pt_records::{Edits, Keyed, Table};
 use pt_scheduling::PlannedRoute;
+use pt_tables_rows::Plans;
 use sqlite::{Alter, Error, Transaction};
 
 /// The plan in whose place the edit puts one, and that one, where the edit does no more.
@@ -49,6 +50,6 @@ pub(crate) fn write_plans<S: Alter>(
 {
     match replaced(edits, records) {
         Some((before, plan)) => replace_plan(tx, before, plan),
-        None => write_edits(tx, edits, records),
+        None => write_edits::<S, Plans>(tx, edits, records),
     }
 }

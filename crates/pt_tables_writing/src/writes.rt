@@ -14,13 +14,16 @@ ghost use Rattle.pt_tables_rows.specs.Tables.{Makes};
 ghost use Rattle.pt_tables_rows.specs.WellFormed.{IsWellFormed, PutsWellFormed};
 ghost use Rattle.pt_tables_writing.specs.Writes.{Rewrites};
 
-use crate::marked::{mark_each, unmark_spans, write_marks};
 use crate::numbered::write_desk;
 use crate::plans::write_plans;
-use crate::stored::write_edits;
+use crate::stored::{put_each, take_spans, write_edits};
 use pt_base::Policy;
 use pt_desk::ListKeeper;
 use pt_desk_rules::Change;
+use pt_tables_rows::{
+    Callers, Entries, FixedRoutes, KeptWrites, Places, RiderChairs, Riders, TravelTables,
+    TripChairs, Trips, VehicleChairs, Vehicles,
+};
 use sqlite::{Alter, Connection, Error, Transaction};
 
 /// Writes what the change makes of riders, and then of those in wheelchairs.
@@ -35,8 +38,8 @@ fn write_riders<S: Alter>(
     ensures survives { Survives (state S.Store tx.old.conn.now) (state S.Store tx.new.conn.now) (λ _. ⊥) }
 {
     let riders = mirror.riders_table();
-    write_edits(tx, &change.riders, riders)?;
-    write_marks(tx, &change.riders, riders)
+    write_edits::<S, Riders>(tx, &change.riders, riders)?;
+    write_edits::<S, RiderChairs>(tx, &change.riders, riders)
 }
 
 /// Writes what the change makes of callers, what is kept for them, riders and entries.
@@ -53,10 +56,10 @@ fn write_people<S: Alter>(
         Leads change.now content content (with_people change.now content))) result }
     ensures survives { Survives (state S.Store tx.old.conn.now) (state S.Store tx.new.conn.now) (λ _. ⊥) }
 {
-    write_edits(tx, &change.callers, mirror.callers_table())?;
-    write_edits(tx, &change.kept, mirror.kept_table())?;
+    write_edits::<S, Callers>(tx, &change.callers, mirror.callers_table())?;
+    write_edits::<S, KeptWrites>(tx, &change.kept, mirror.kept_table())?;
     write_riders(tx, change, mirror)?;
-    write_edits(tx, &change.entries, mirror.entries_table())
+    write_edits::<S, Entries>(tx, &change.entries, mirror.entries_table())
 }
 
 /// Writes what the change makes of vehicles, and then the wheelchair places of those that it puts.
@@ -70,8 +73,8 @@ fn write_vehicles<S: Alter>(
         (OfEach (AgreesFor change.now mirror.now.content) (WritesVehicles change.now)) result }
     ensures survives { Survives (state S.Store tx.old.conn.now) (state S.Store tx.new.conn.now) (λ _. ⊥) }
 {
-    write_edits(tx, &change.vehicles, mirror.vehicles_table())?;
-    mark_each(tx, change.vehicles.puts())
+    write_edits::<S, Vehicles>(tx, &change.vehicles, mirror.vehicles_table())?;
+    put_each::<S, VehicleChairs>(tx, change.vehicles.puts())
 }
 
 /// Takes away the wheelchair places of the vehicles that the change takes away, and then writes what it makes of
@@ -86,7 +89,7 @@ fn write_fleet<S: Alter>(
         (OfEach (AgreesFor change.now mirror.now.content) (WritesFleet change.now)) result }
     ensures survives { Survives (state S.Store tx.old.conn.now) (state S.Store tx.new.conn.now) (λ _. ⊥) }
 {
-    unmark_spans(tx, change.vehicles.spans(), mirror.vehicles_table())?;
+    take_spans::<S, VehicleChairs>(tx, change.vehicles.spans(), mirror.vehicles_table())?;
     write_vehicles(tx, change, mirror)
 }
 
@@ -103,10 +106,10 @@ fn write_area<S: Alter>(
         Leads change.now content before (with_area change.now before))) result }
     ensures survives { Survives (state S.Store tx.old.conn.now) (state S.Store tx.new.conn.now) (λ _. ⊥) }
 {
-    write_edits(tx, &change.places, mirror.places_table())?;
-    write_edits(tx, &change.routes, mirror.routes_table())?;
+    write_edits::<S, Places>(tx, &change.places, mirror.places_table())?;
+    write_edits::<S, FixedRoutes>(tx, &change.routes, mirror.routes_table())?;
     write_fleet(tx, change, mirror)?;
-    write_edits(tx, &change.travel, mirror.travel_table())
+    write_edits::<S, TravelTables>(tx, &change.travel, mirror.travel_table())
 }
 
 /// The policy as the change leaves it.
@@ -161,8 +164,8 @@ fn write_booked<S: Alter>(
     ensures survives { Survives (state S.Store tx.old.conn.now) (state S.Store tx.new.conn.now) (λ _. ⊥) }
 {
     let trips = mirror.trips_table();
-    write_edits(tx, &change.trips, trips)?;
-    write_marks(tx, &change.trips, trips)
+    write_edits::<S, Trips>(tx, &change.trips, trips)?;
+    write_edits::<S, TripChairs>(tx, &change.trips, trips)
 }
 
 /// Writes what the change makes of trips, of the stops that are planned and of the agency's row, after all others.

@@ -10,8 +10,8 @@ use Rattle.pt_tables_writing.proofs.stored.put_each.Goals as goal
 
 pub loop-new-preserved : goal.loop-new-preserved
 loop-new-preserved g c =
-    let t = g.T.Stored.home in
-    let key = g.T.Keyed.key in
+    let t = g.T.TableOf.home in
+    let key = g.T.Record.Keyed.key in
     let old = state g.S.Store c.args.tx.now.conn.now in
     let mid = state g.S.Store c.loop-new.tx.conn.now in
     let new = state g.S.Store c.put.new.tx.conn.now in
@@ -22,10 +22,10 @@ loop-new-preserved g c =
     record {
       same = c.in_ok-put.ensures.same_reference ∙ c.loop-new.invariant.same;
       survives = survive_both old mid new c.loop-new.invariant.survives c.in_ok-put.ensures.survives;
-      written = subst (λ rs. Makes {X = Unit {0}} old new (PutsAll t key g.T.Stored.Fits g.T.Stored.rows_of rs) (Ok tt)) (sym more)
-          (did_then {X = Unit {0}} {Y = Unit {0}} old mid new (PutsAll t key g.T.Stored.Fits g.T.Stored.rows_of done)
-          (Puts t key g.T.Stored.Fits g.T.Stored.rows_of item)
-          (PutsAll t key g.T.Stored.Fits g.T.Stored.rows_of (done ++ item ∷ [])) tt (Ok tt)
-          (λ has first next. puts_next t key g.T.Stored.Fits g.T.Stored.rows_of done item old.now mid.now new.now first next)
+      written = subst (λ rs. Makes {X = Unit {0}} old new (PutsAll t key g.T.TableOf.Fits g.T.TableOf.rows_of rs) (Ok tt)) (sym more)
+          (did_then {X = Unit {0}} {Y = Unit {0}} old mid new (PutsAll t key g.T.TableOf.Fits g.T.TableOf.rows_of done)
+          (Puts t key g.T.TableOf.Fits g.T.TableOf.rows_of item)
+          (PutsAll t key g.T.TableOf.Fits g.T.TableOf.rows_of (done ++ item ∷ [])) tt (Ok tt)
+          (λ has first next. puts_next t key g.T.TableOf.Fits g.T.TableOf.rows_of done item old.now mid.now new.now first next)
           c.in_ok-put.ensures.survives c.loop-new.invariant.written c.in_ok-put.ensures.written);
     }

@@ -12,5 +12,5 @@ invariant-loop-old g l =
     record {
       same : l.tx.conn.ghost_name ≡ l.initial.tx.conn.ghost_name;
       survives : Survives old now (λ _. ⊥);
-      written : Makes {X = Unit {0}} old now (TakesAll g.T.Stored.home g.T.Keyed.key g.T.Stored.Fits g.T.Stored.rows_of (take l.old-index l.gone)) (Ok tt);
+      written : Makes {X = Unit {0}} old now (TakesAll g.T.TableOf.home g.T.Record.Keyed.key g.T.TableOf.Fits g.T.TableOf.rows_of (take l.old-index l.gone)) (Ok tt);
     }

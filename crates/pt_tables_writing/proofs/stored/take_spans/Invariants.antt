@@ -13,6 +13,6 @@ invariant-loop-span g l =
     record {
       same : l.tx.conn.ghost_name ≡ l.initial.tx.conn.ghost_name;
       survives : Survives old now (λ _. ⊥);
-      written : Makes {X = Unit {0}} old now (OfEach (KnowsTaken g.T.Keyed.key l.spans l.records.items)
-          (TakesSpans g.T.Stored.home g.T.Keyed.key g.T.Stored.Fits g.T.Stored.rows_of (take l.span-index l.spans))) (Ok tt);
+      written : Makes {X = Unit {0}} old now (OfEach (KnowsTaken g.T.Record.Keyed.key l.spans l.records.items)
+          (TakesSpans g.T.TableOf.home g.T.Record.Keyed.key g.T.TableOf.Fits g.T.TableOf.rows_of (take l.span-index l.spans))) (Ok tt);
     }

@@ -8,10 +8,10 @@ use Rattle.pt_tables_writing.proofs.stored.write_edits.Goals as goal
 
 pub returns-clause-written : goal.returns-clause-written
 returns-clause-written g c =
-    let t = g.T.Stored.home in
-    let key = g.T.Keyed.key in
-    let Fits = g.T.Stored.Fits in
-    let rows = g.T.Stored.rows_of in
+    let t = g.T.TableOf.home in
+    let key = g.T.Record.Keyed.key in
+    let Fits = g.T.TableOf.Fits in
+    let rows = g.T.TableOf.rows_of in
     let old = state g.S.Store c.args.tx.now.conn.now in
     let mid = state g.S.Store c.take_spans.new.tx.conn.now in
     let new = state g.S.Store c.put_each.new.tx.conn.now in

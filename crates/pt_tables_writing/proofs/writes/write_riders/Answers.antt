@@ -13,10 +13,10 @@ returns-clause-written g c =
     let known = c.args.mirror.now.content in
     let s1 = state g.S.Store c.args.tx.now.conn.now in
     let s2 = state g.S.Store c.write_edits.new.tx.conn.now in
-    let s3 = state g.S.Store c.write_marks.new.tx.conn.now in
+    let s3 = state g.S.Store c.write_edits-2.new.tx.conn.now in
     let one = subst (λ xs. Makes {X = Unit {0}} s1 s2 (Known-riders change xs) (Ok c.in_ok-write_edits.field-0)) c.riders_table-riders.ensures.value c.in_ok-write_edits.ensures.written in
-    let two = subst (λ xs. Makes {X = Unit {0}} s2 s3 (Marked-riders change xs) c.write_marks.result) c.riders_table-riders.ensures.value c.write_marks.ensures.written in
+    let two = subst (λ xs. Makes {X = Unit {0}} s2 s3 (Marked-riders change xs) c.write_edits-2.result) c.riders_table-riders.ensures.value c.write_edits-2.ensures.written in
     did_then {X = Unit {0}} {Y = Unit {0}} s1 s2 s3 (Known-riders change known.riders) (Marked-riders change known.riders) (OfEach (AgreesFor change known) (WritesRiders change))
-    c.in_ok-write_edits.field-0 c.write_marks.result
+    c.in_ok-write_edits.field-0 c.write_edits-2.result
     (λ has first next there agrees. (s2.now, first there.riders agrees.riders, λ kept. next kept there.riders agrees.riders))
-    c.write_marks.ensures.survives one two
+    c.write_edits-2.ensures.survives one two

@@ -19,9 +19,9 @@ returns-clause-written g c =
     let known = c.args.mirror.now.content in
     let s1 = state g.S.Store c.args.tx.now.conn.now in
     let s2 = state g.S.Store c.write_edits.new.tx.conn.now in
-    let s3 = state g.S.Store c.mark_each.new.tx.conn.now in
+    let s3 = state g.S.Store c.put_each.new.tx.conn.now in
     let one = subst (λ xs. Makes {X = Unit {0}} s1 s2 (Known-vehicles change xs) (Ok c.in_ok-write_edits.field-0)) c.vehicles_table.ensures.value c.in_ok-write_edits.ensures.written in
-    let two = subst (λ xs. Makes {X = Unit {0}} s2 s3 (PutsAll vehicle_chairs_table vehicle_key IsVehicle vehicle_chair_rows xs) c.mark_each.result) c.puts.ensures.value c.mark_each.ensures.written in
+    let two = subst (λ xs. Makes {X = Unit {0}} s2 s3 (PutsAll vehicle_chairs_table vehicle_key IsVehicle vehicle_chair_rows xs) c.put_each.result) c.puts.ensures.value c.put_each.ensures.written in
     did_then {X = Unit {0}} {Y = Unit {0}} s1 s2 s3 (Known-vehicles change known.vehicles) (Marks-vehicles change) (OfEach (AgreesFor change known) (WritesVehicles change))
-    c.in_ok-write_edits.field-0 c.mark_each.result
-    (λ has first next there agrees. (s2.now, first there.vehicles agrees.vehicles, next)) c.mark_each.ensures.survives one two
+    c.in_ok-write_edits.field-0 c.put_each.result
+    (λ has first next there agrees. (s2.now, first there.vehicles agrees.vehicles, next)) c.put_each.ensures.survives one two

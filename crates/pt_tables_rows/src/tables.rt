@@ -1,0 +1,259 @@
+//! The tables of records, each described once.
+
+ghost use Rattle.std.specs.Prelude.{List};
+ghost use Rattle.sqlite.specs.Order.{Row};
+ghost use Rattle.sqlite.specs.Table.{Table as StoredTable};
+
+use pt_base::{Place, Rider, Trip, Vehicle};
+use pt_corridor::FixedRoute;
+use pt_desk_rules::{Caller, FiledEntry, Kept, TravelTable};
+use pt_records::Keyed;
+use pt_scheduling::PlannedRoute;
+
+/// A table of records, each with rows of its own in it.
+pub trait TableOf {
+    /// Its records.
+    type Record: Keyed;
+
+    /// The table.
+    ghost home: { StoredTable };
+
+    /// What is true of a record that its rows tell whole.
+    ghost Fits: { Self.Record → Type 0 };
+
+    /// The rows of a record.
+    ghost rows_of: { Self.Record → List Row };
+}
+
+/// Those who may ask the desk.
+#[derive(Clone, Copy, Debug)]
+pub struct Callers;
+
+impl TableOf for Callers {
+    ghost use Rattle.std.specs.Prelude.{◌∷◌, []};
+    ghost use Rattle.pt_tables_rows.specs.Rows.{caller_row};
+    ghost use Rattle.pt_tables_rows.specs.Schema.{callers_table};
+
+    type Record = Caller;
+
+    ghost home = { callers_table };
+
+    ghost Fits = { λ _. Unit {0} };
+
+    ghost rows_of = { λ x. caller_row x ∷ [] };
+}
+
+/// What is kept of writes, for each caller.
+#[derive(Clone, Copy, Debug)]
+pub struct KeptWrites;
+
+impl TableOf for KeptWrites {
+    ghost use Rattle.std.specs.Prelude.{◌∷◌, []};
+    ghost use Rattle.pt_tables_rows.specs.Rows.{kept_row};
+    ghost use Rattle.pt_tables_rows.specs.Schema.{kept_table};
+
+    type Record = Kept;
+
+    ghost home = { kept_table };
+
+    ghost Fits = { λ _. Unit {0} };
+
+    ghost rows_of = { λ x. kept_row x ∷ [] };
+}
+
+/// Places.
+#[derive(Clone, Copy, Debug)]
+pub struct Places;
+
+impl TableOf for Places {
+    ghost use Rattle.std.specs.Prelude.{◌∷◌, []};
+    ghost use Rattle.pt_tables_rows.specs.Rows.{place_row};
+    ghost use Rattle.pt_tables_rows.specs.Schema.{places_table};
+
+    type Record = Place;
+
+    ghost home = { places_table };
+
+    ghost Fits = { λ _. Unit {0} };
+
+    ghost rows_of = { λ x. place_row x ∷ [] };
+}
+
+/// Fixed routes.
+#[derive(Clone, Copy, Debug)]
+pub struct FixedRoutes;
+
+impl TableOf for FixedRoutes {
+    ghost use Rattle.std.specs.Prelude.{◌∷◌, []};
+    ghost use Rattle.pt_tables_rows.specs.Rows.{route_row};
+    ghost use Rattle.pt_tables_rows.specs.Schema.{fixed_table};
+
+    type Record = FixedRoute;
+
+    ghost home = { fixed_table };
+
+    ghost Fits = { λ _. Unit {0} };
+
+    ghost rows_of = { λ x. route_row x ∷ [] };
+}
+
+/// Vehicles, with all their versions.
+#[derive(Clone, Copy, Debug)]
+pub struct Vehicles;
+
+impl TableOf for Vehicles {
+    ghost use Rattle.std.specs.Prelude.{◌∷◌, []};
+    ghost use Rattle.pt_tables_rows.specs.Rows.{vehicle_row};
+    ghost use Rattle.pt_tables_rows.specs.Schema.{vehicles_table};
+    ghost use Rattle.pt_spelling.specs.Ranges.{IsVehicle};
+
+    type Record = Vehicle;
+
+    ghost home = { vehicles_table };
+
+    ghost Fits = { IsVehicle };
+
+    ghost rows_of = { λ x. vehicle_row x ∷ [] };
+}
+
+/// Riders.
+#[derive(Clone, Copy, Debug)]
+pub struct Riders;
+
+impl TableOf for Riders {
+    ghost use Rattle.std.specs.Prelude.{◌∷◌, []};
+    ghost use Rattle.pt_tables_rows.specs.Rows.{rider_row};
+    ghost use Rattle.pt_tables_rows.specs.Schema.{riders_table};
+
+    type Record = Rider;
+
+    ghost home = { riders_table };
+
+    ghost Fits = { λ _. Unit {0} };
+
+    ghost rows_of = { λ x. rider_row x ∷ [] };
+}
+
+/// Entries of case files.
+#[derive(Clone, Copy, Debug)]
+pub struct Entries;
+
+impl TableOf for Entries {
+    ghost use Rattle.std.specs.Prelude.{◌∷◌, []};
+    ghost use Rattle.pt_tables_rows.specs.Rows.{entry_row};
+    ghost use Rattle.pt_tables_rows.specs.Schema.{entries_table};
+    ghost use Rattle.pt_desk_rules.specs.Ranges.{FitsFiled};
+
+    type Record = FiledEntry;
+
+    ghost home = { entries_table };
+
+    ghost Fits = { FitsFiled };
+
+    ghost rows_of = { λ x. entry_row x ∷ [] };
+}
+
+/// Driving times, with all their versions.
+#[derive(Clone, Copy, Debug)]
+pub struct TravelTables;
+
+impl TableOf for TravelTables {
+    ghost use Rattle.pt_tables_rows.specs.Rows.{travel_rows};
+    ghost use Rattle.pt_tables_rows.specs.Schema.{travel_table};
+
+    type Record = TravelTable;
+
+    ghost home = { travel_table };
+
+    ghost Fits = { λ _. Unit {0} };
+
+    ghost rows_of = { travel_rows };
+}
+
+/// Trips.
+#[derive(Clone, Copy, Debug)]
+pub struct Trips;
+
+impl TableOf for Trips {
+    ghost use Rattle.std.specs.Prelude.{◌∷◌, []};
+    ghost use Rattle.pt_tables_rows.specs.Rows.{trip_row};
+    ghost use Rattle.pt_tables_rows.specs.Schema.{trips_table};
+
+    type Record = Trip;
+
+    ghost home = { trips_table };
+
+    ghost Fits = { λ _. Unit {0} };
+
+    ghost rows_of = { λ x. trip_row x ∷ [] };
+}
+
+/// The stops that are planned, a plan in several rows.
+#[derive(Clone, Copy, Debug)]
+pub struct Plans;
+
+impl TableOf for Plans {
+    ghost use Rattle.pt_tables_rows.specs.Rows.{stop_rows};
+    ghost use Rattle.pt_tables_rows.specs.Schema.{stops_table};
+    ghost use Rattle.pt_tables_rows.specs.WellFormed.{IsStoredPlan};
+
+    type Record = PlannedRoute;
+
+    ghost home = { stops_table };
+
+    ghost Fits = { IsStoredPlan };
+
+    ghost rows_of = { stop_rows };
+}
+
+/// The riders in wheelchairs.
+#[derive(Clone, Copy, Debug)]
+pub struct RiderChairs;
+
+impl TableOf for RiderChairs {
+    ghost use Rattle.pt_tables_rows.specs.Rows.{rider_chair_rows};
+    ghost use Rattle.pt_tables_rows.specs.Schema.{rider_chairs_table};
+
+    type Record = Rider;
+
+    ghost home = { rider_chairs_table };
+
+    ghost Fits = { λ _. Unit {0} };
+
+    ghost rows_of = { rider_chair_rows };
+}
+
+/// The vehicles with wheelchair places.
+#[derive(Clone, Copy, Debug)]
+pub struct VehicleChairs;
+
+impl TableOf for VehicleChairs {
+    ghost use Rattle.pt_tables_rows.specs.Rows.{vehicle_chair_rows};
+    ghost use Rattle.pt_tables_rows.specs.Schema.{vehicle_chairs_table};
+    ghost use Rattle.pt_spelling.specs.Ranges.{IsVehicle};
+
+    type Record = Vehicle;
+
+    ghost home = { vehicle_chairs_table };
+
+    ghost Fits = { IsVehicle };
+
+    ghost rows_of = { vehicle_chair_rows };
+}
+
+/// The trips of riders in wheelchairs.
+#[derive(Clone, Copy, Debug)]
+pub struct TripChairs;
+
+impl TableOf for TripChairs {
+    ghost use Rattle.pt_tables_rows.specs.Rows.{trip_chair_rows};
+    ghost use Rattle.pt_tables_rows.specs.Schema.{trip_chairs_table};
+
+    type Record = Trip;
+
+    ghost home = { trip_chairs_table };
+
+    ghost Fits = { λ _. Unit {0} };
+
+    ghost rows_of = { trip_chair_rows };
+}
