@@ -224,7 +224,8 @@ fn with_commands<'a>(
     commands: &[Words<'a>],
 ) -> Result<Command<'a>, AllocError>
     ensures app { IfOk result (λ more.
-        app_of more ≡ with_commands (app_of program.entry) (map (λ w. command w.0.now (map (λ place. place.0.now) w.2.now)) commands.now)) }
+        app_of more ≡ with_commands (app_of program.entry)
+        (map (λ w. command w.0.now (map (λ place. place.0.now) w.2.now)) commands.now)) }
 {
     for &(name, about, places) in commands {
         program = with_command(program, command_of(alloc, name, about, places)?)?;

@@ -1,5 +1,5 @@
--- What the fields of records keep to, where definitions see no more than numbers and lists: a number of a record is one of
--- 32 bits from 1 on, a day is a day, a minute one of a day. Ranges that a record keeps itself are not said again.
+-- What the fields of records keep to, where definitions see no more than numbers and lists: a number of a record is one
+-- of 32 bits from 1 on, a day is a day, a minute one of a day. Ranges that a record keeps itself are not said again.
 use Rattle.std.specs.Prelude.{ℕ, ◌≤◌, ◌<◌, ◌^◌, IfSome}
 use Rattle.pt_base.specs.Day.{IsDay}
 use Rattle.pt_base.specs.Ranges.{last_minute}

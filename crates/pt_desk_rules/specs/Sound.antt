@@ -149,8 +149,8 @@ abbrev pub LoadsFitIn : List Vehicle → List Trip → Plan → Type 0
 LoadsFitIn vehicles trips plan =
     HoldsOnDuty (λ version. LoadsFit version (stops_among trips plan.stops)) vehicles plan.vehicle plan.day
 
--- Each line but the first speaks of the tables that it needs and of no other, so that a write of another table leaves it
--- as it is.
+-- Each line but the first speaks of the tables that it needs and of no other, so that a write of another table leaves
+-- it as it is.
 pub record IsSound (s : State) : Type 0 where
   pub ranges : KeepsRanges s
   pub callers : IsTable caller_key most_callers s.callers

@@ -1,7 +1,7 @@
 //! The fields of records are in their ranges, as their types have it.
 //!
-//! Definitions see a day, a minute or the number of a record as a bare number. That it keeps to its range is known where
-//! its type is in sight, so these functions look at each field, and say no more than that.
+//! Definitions see a day, a minute or the number of a record as a bare number. That it keeps to its range is known
+//! where its type is in sight, so these functions look at each field, and say no more than that.
 ghost use Rattle.std.specs.Prelude.{All};
 ghost use Rattle.pt_records.specs.Records.{Each};
 ghost use Rattle.pt_rights.specs.Conditions.{IsCondition};

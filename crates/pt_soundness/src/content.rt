@@ -14,8 +14,8 @@ use crate::vehicles::are_sound_vehicles;
 use pt_desk::ListKeeper;
 use std::alloc::{AllocError, Global};
 
-/// Whether the records of a table are those of a sound state, where all tables before it are sound. That records keep to
-/// their ranges is known of those that were read from rows.
+/// Whether the records of a table are those of a sound state, where all tables before it are sound. That records keep
+/// to their ranges is known of those that were read from rows.
 pub fn is_sound_in(
     alloc: Global,
     content: &ListKeeper,

@@ -28,10 +28,10 @@ abbrev pub IsAnswer : List ℕ → Row → Database → List Row → Type 0
 IsAnswer text params db rows = Reads (command_in (understood desk_schema text)) db params rows
 
 -- the tables are the desk's, and each answer to the text over them is the rows of these records, in their order
-pub record HasAnswer {A : Type 0} (text : List ℕ) (params : Row) (row_of : A → Row) (db : Database) (xs : List A) : Type 0
-  where
-    pub schema : db.schema ≡ desk_schema
-    pub rows : (rows : List Row) → IsAnswer text params db rows → map row_of xs ≡ rows
+pub record HasAnswer {A : Type 0} (text : List ℕ) (params : Row) (row_of : A → Row) (db : Database) (xs : List A)
+    : Type 0 where
+  pub schema : db.schema ≡ desk_schema
+  pub rows : (rows : List Row) → IsAnswer text params db rows → map row_of xs ≡ rows
 
 -- A read of the tables commits nothing and leaves no transaction open; what it leaves shows what was committed.
 pub record Rests (old new : Connected) : Type 0 where

@@ -3,8 +3,8 @@ use Rattle.std.specs.Prelude.{◌≡◌, ◌≤◌, [], length}
 use Rattle.pt_desk_rules.specs.declared.change.Change.{Change}
 use Rattle.pt_tables_rows.specs.WellFormed.{PutsWellFormed}
 
--- Rows tell all that it puts. From the tables that are read as they are asked for it takes away nothing, and it puts one
--- rider at most.
+-- Rows tell all that it puts. From the tables that are read as they are asked for it takes away nothing, and it puts
+-- one rider at most.
 pub record IsWritable (change : Change) : Type 0 where
   pub told : PutsWellFormed change
   pub kept : change.kept.away ≡ []

@@ -1,5 +1,5 @@
--- The contents that the rows of the tables tell apart: the records of each table stand in the order of their keys and keep
--- to their ranges, and no plan is without stops, of which no row would tell.
+-- The contents that the rows of the tables tell apart: the records of each table stand in the order of their keys and
+-- keep to their ranges, and no plan is without stops, of which no row would tell.
 use Rattle.pt_desk_rules.specs.Ranges.{FitsPlan, KeepsRanges, PutsInRange}
 use Rattle.pt_desk_rules.specs.Sound.{HasStops}
 use Rattle.pt_desk_rules.specs.State.{State, caller_key, kept_key, place_key, route_key, rider_key, entry_key}

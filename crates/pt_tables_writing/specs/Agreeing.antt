@@ -24,8 +24,8 @@ pub record KnowsEdited {A : Type 0} (key : A → ℕ) (edit : Edit A) (known the
   pub taken : KnowsTaken key edit.away known there
   pub replaced : KnowsReplaced key edit.puts known there
 
--- What is known of the content is what is there, wherever the change asks for it: in what it takes away, in the plans in
--- whose place it puts others, and in the policy and the last trip, unless it gives new ones.
+-- What is known of the content is what is there, wherever the change asks for it: in what it takes away, in the plans
+-- in whose place it puts others, and in the policy and the last trip, unless it gives new ones.
 pub record AgreesFor (change : Change) (known there : State) : Type 0 where
   pub callers : KnowsTaken caller_key change.callers.away known.callers there.callers
   pub kept : KnowsTaken kept_key change.kept.away known.kept there.kept

@@ -3,7 +3,8 @@ ghost use Rattle.pt_tables_rows.specs.WellFormed.{PutsWellFormed};
 
 use pt_desk_rules::{Change, have_stops, puts_in_range};
 
-/// Whether rows tell all that the change puts: of a plan with no stops no row would. A change that the rules make is such.
+/// Whether rows tell all that the change puts: of a plan with no stops no row would. A change that the rules make is
+/// such.
 pub fn is_told(change: &Change) -> bool
     ensures { IsTrue result ↔ PutsWellFormed change.now }
 {
