@@ -18,7 +18,7 @@ pub trait TableOf {
     /// The table.
     ghost home: { StoredTable };
 
-    /// What is true of a record that its rows tell whole.
+    /// What is true of each of its records.
     ghost Fits: { Self.Record → Type 0 };
 
     /// The rows of a record.
@@ -33,12 +33,13 @@ impl TableOf for Callers {
     ghost use Rattle.std.specs.Prelude.{◌∷◌, []};
     ghost use Rattle.pt_tables_rows.specs.Rows.{caller_row};
     ghost use Rattle.pt_tables_rows.specs.Schema.{callers_table};
+    ghost use Rattle.pt_spelling.specs.Ranges.{IsCaller};
 
     type Record = Caller;
 
     ghost home = { callers_table };
 
-    ghost Fits = { λ _. Unit {0} };
+    ghost Fits = { IsCaller };
 
     ghost rows_of = { λ x. caller_row x ∷ [] };
 }
@@ -51,12 +52,13 @@ impl TableOf for KeptWrites {
     ghost use Rattle.std.specs.Prelude.{◌∷◌, []};
     ghost use Rattle.pt_tables_rows.specs.Rows.{kept_row};
     ghost use Rattle.pt_tables_rows.specs.Schema.{kept_table};
+    ghost use Rattle.pt_desk_rules.specs.Ranges.{FitsKept};
 
     type Record = Kept;
 
     ghost home = { kept_table };
 
-    ghost Fits = { λ _. Unit {0} };
+    ghost Fits = { FitsKept };
 
     ghost rows_of = { λ x. kept_row x ∷ [] };
 }
@@ -69,12 +71,13 @@ impl TableOf for Places {
     ghost use Rattle.std.specs.Prelude.{◌∷◌, []};
     ghost use Rattle.pt_tables_rows.specs.Rows.{place_row};
     ghost use Rattle.pt_tables_rows.specs.Schema.{places_table};
+    ghost use Rattle.pt_desk_rules.specs.Ranges.{FitsPlace};
 
     type Record = Place;
 
     ghost home = { places_table };
 
-    ghost Fits = { λ _. Unit {0} };
+    ghost Fits = { FitsPlace };
 
     ghost rows_of = { λ x. place_row x ∷ [] };
 }
@@ -87,12 +90,13 @@ impl TableOf for FixedRoutes {
     ghost use Rattle.std.specs.Prelude.{◌∷◌, []};
     ghost use Rattle.pt_tables_rows.specs.Rows.{route_row};
     ghost use Rattle.pt_tables_rows.specs.Schema.{fixed_table};
+    ghost use Rattle.pt_spelling.specs.Ranges.{IsRoute};
 
     type Record = FixedRoute;
 
     ghost home = { fixed_table };
 
-    ghost Fits = { λ _. Unit {0} };
+    ghost Fits = { IsRoute };
 
     ghost rows_of = { λ x. route_row x ∷ [] };
 }
@@ -124,12 +128,13 @@ impl TableOf for Riders {
     ghost use Rattle.std.specs.Prelude.{◌∷◌, []};
     ghost use Rattle.pt_tables_rows.specs.Rows.{rider_row};
     ghost use Rattle.pt_tables_rows.specs.Schema.{riders_table};
+    ghost use Rattle.pt_desk_rules.specs.Ranges.{FitsRider};
 
     type Record = Rider;
 
     ghost home = { riders_table };
 
-    ghost Fits = { λ _. Unit {0} };
+    ghost Fits = { FitsRider };
 
     ghost rows_of = { λ x. rider_row x ∷ [] };
 }
@@ -160,12 +165,13 @@ pub struct TravelTables;
 impl TableOf for TravelTables {
     ghost use Rattle.pt_tables_rows.specs.Rows.{travel_rows};
     ghost use Rattle.pt_tables_rows.specs.Schema.{travel_table};
+    ghost use Rattle.pt_desk_rules.specs.Ranges.{FitsTravel};
 
     type Record = TravelTable;
 
     ghost home = { travel_table };
 
-    ghost Fits = { λ _. Unit {0} };
+    ghost Fits = { FitsTravel };
 
     ghost rows_of = { travel_rows };
 }
@@ -178,12 +184,13 @@ impl TableOf for Trips {
     ghost use Rattle.std.specs.Prelude.{◌∷◌, []};
     ghost use Rattle.pt_tables_rows.specs.Rows.{trip_row};
     ghost use Rattle.pt_tables_rows.specs.Schema.{trips_table};
+    ghost use Rattle.pt_desk_rules.specs.Ranges.{FitsTrip};
 
     type Record = Trip;
 
     ghost home = { trips_table };
 
-    ghost Fits = { λ _. Unit {0} };
+    ghost Fits = { FitsTrip };
 
     ghost rows_of = { λ x. trip_row x ∷ [] };
 }
@@ -213,12 +220,13 @@ pub struct RiderChairs;
 impl TableOf for RiderChairs {
     ghost use Rattle.pt_tables_rows.specs.Rows.{rider_chair_rows};
     ghost use Rattle.pt_tables_rows.specs.Schema.{rider_chairs_table};
+    ghost use Rattle.pt_desk_rules.specs.Ranges.{FitsRider};
 
     type Record = Rider;
 
     ghost home = { rider_chairs_table };
 
-    ghost Fits = { λ _. Unit {0} };
+    ghost Fits = { FitsRider };
 
     ghost rows_of = { rider_chair_rows };
 }
@@ -248,12 +256,13 @@ pub struct TripChairs;
 impl TableOf for TripChairs {
     ghost use Rattle.pt_tables_rows.specs.Rows.{trip_chair_rows};
     ghost use Rattle.pt_tables_rows.specs.Schema.{trip_chairs_table};
+    ghost use Rattle.pt_desk_rules.specs.Ranges.{FitsTrip};
 
     type Record = Trip;
 
     ghost home = { trip_chairs_table };
 
-    ghost Fits = { λ _. Unit {0} };
+    ghost Fits = { FitsTrip };
 
     ghost rows_of = { trip_chair_rows };
 }
