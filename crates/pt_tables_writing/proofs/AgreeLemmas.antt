@@ -3,7 +3,7 @@ use Rattle.std.proofs.Common.{◌≡◌, ◌<◌, ◌⊎◌, inl, inr, ℕ, zero
 use Rattle.pt_desk.specs.Listed.{known_of}
 use Rattle.pt_desk_rules.specs.State.{State, caller_key, kept_key, place_key, route_key, rider_key, entry_key, vehicle_key, travel_key, trip_key}
 use Rattle.pt_desk_rules.specs.declared.change.Change.{Change}
-use Rattle.pt_records.specs.Records.{Edit, within}
+use Rattle.pt_records.specs.Records.{within}
 use Rattle.pt_records.specs.declared.span.Span.{Span}
 use Rattle.pt_scheduling.specs.Plan.{plan_key}
 use Rattle.pt_tables_writing.specs.Agreeing.{AgreesFor, KnowsReplaced, KnowsTaken}

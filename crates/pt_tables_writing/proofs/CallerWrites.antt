@@ -19,6 +19,7 @@ use Rattle.pt_tables_writing.proofs.CastLemmas.{cast_null, cast_int}
 use Rattle.pt_tables_writing.proofs.NumberedWrites.{puts_record, takes_record}
 use Rattle.pt_tables_writing.proofs.RemovalLemmas.{IsRemoval, removed}
 use Rattle.pt_tables_writing.proofs.UpsertLemmas.{IsUpsert, upserted, only_first}
+use Rattle.pt_spelling.specs.Ranges.{IsCaller}
 
 -- the columns after the number
 abbrev rest : Caller → Row
@@ -58,11 +59,11 @@ unfolding understood everything desk_schema
 take_text = record { at = 1; fields = col 1 0 ∷ []; there = refl; is = refl; plain = (refl, refl); shows = λ given r. refl }
 
 module _ (caller : Caller) (old new : State) (count : ℕ) (has : old.now.schema ≡ desk_schema) where
-  pub puts_caller : Executes PUT_CALLER.now (caller_row caller) old new (Ok count) → Puts callers_table caller_key (λ _. Unit {0}) (λ x. caller_row x ∷ []) caller old.now new.now
+  pub puts_caller : Executes PUT_CALLER.now (caller_row caller) old new (Ok count) → Puts callers_table caller_key IsCaller (λ x. caller_row x ∷ []) caller old.now new.now
   puts_caller h =
-      puts_record callers_table (λ r. refl) caller_key caller_row (λ x. refl) caller (stored caller) refl old.now new.now
+      puts_record callers_table (λ r. refl) caller_key IsCaller caller_row (λ x. refl) caller (stored caller) refl old.now new.now
       (upserted PUT_CALLER.now (caller_row caller) callers_table (pos caller.id) (stored caller) (put_text caller) old new count has h)
 
-  pub takes_caller : Executes TAKE_CALLER.now (number_value caller.id ∷ []) old new (Ok count) → Takes callers_table caller_key (λ _. Unit {0}) (λ x. caller_row x ∷ []) caller old.now new.now
+  pub takes_caller : Executes TAKE_CALLER.now (number_value caller.id ∷ []) old new (Ok count) → Takes callers_table caller_key IsCaller (λ x. caller_row x ∷ []) caller old.now new.now
   takes_caller h =
-      takes_record callers_table (λ r. refl) caller_key caller_row (λ x. refl) caller old.now new.now (removed TAKE_CALLER.now callers_table take_text (pos caller.id) old new count has h)
+      takes_record callers_table (λ r. refl) caller_key IsCaller caller_row (λ x. refl) caller old.now new.now (removed TAKE_CALLER.now callers_table take_text (pos caller.id) old new count has h)

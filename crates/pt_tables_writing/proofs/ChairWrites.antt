@@ -34,7 +34,7 @@ use Rattle.pt_spelling.specs.Ranges.{IsVehicle}
 use Rattle.pt_tables_writing.specs.Grouped.{Adds}
 use Rattle.pt_tables_writing.specs.Writes.{Puts, Takes}
 use Rattle.pt_tables_writing.specs.declared.chairs.TheConstants.{PUT_RIDER_CHAIR, TAKE_RIDER_CHAIR, PUT_TRIP_CHAIR, TAKE_TRIP_CHAIR, INSERT_VEHICLE_CHAIRS, DELETE_VEHICLE_CHAIRS}
-use Rattle.pt_tables_writing.proofs.AppendLemmas.{adds, behind}
+use Rattle.pt_tables_writing.proofs.AppendLemmas.{adds, behind_all}
 use Rattle.pt_tables_writing.proofs.CastLemmas.{cast_null, cast_int}
 use Rattle.pt_tables_writing.proofs.DeleteLemmas.{IsDelete, has_columns, removes}
 use Rattle.pt_tables_writing.proofs.InsertLemmas.{IsInsert}
@@ -46,6 +46,7 @@ use Rattle.pt_tables_writing.proofs.RemovalLemmas.{IsRemoval, TakesNumbered, rem
 use Rattle.pt_tables_writing.proofs.TurnLemmas.{rewrites_self}
 use Rattle.pt_tables_writing.proofs.UpsertLemmas.{HasNumbers, IsUpsert, PutsNumbered, upserted, only_first}
 use Rattle.pt_tables_rows.proofs.WellFormedLemmas.{day-word}
+use Rattle.pt_desk_rules.specs.Ranges.{FitsRider, FitsTrip}
 
 nothing : {A : Type 0} (b : Bool) → ◌≡◌ {A = List A} (cond b [] []) []
 nothing true = refl
@@ -53,7 +54,7 @@ nothing false = refl
 
 -- ---- records whose number is the key of their row, where they have one
 
-module _ {A : Type 0} (table : Table) (numbered : IsNumbered table) (key : A → ℕ) (so : A → Bool) (row : A → Row) (keyed : (x : A) → rowid (row x) ≡ Int (pos (key x))) where
+module _ {A : Type 0} (table : Table) (numbered : IsNumbered table) (key : A → ℕ) (Fits : A → Type 0) (so : A → Bool) (row : A → Row) (keyed : (x : A) → rowid (row x) ≡ Int (pos (key x))) where
   abbrev rows_of : A → List Row
   rows_of x = row_if (so x) (row x)
 
@@ -80,7 +81,7 @@ module _ {A : Type 0} (table : Table) (numbered : IsNumbered table) (key : A →
 
   -- its row is put
   puts_so : (new : A) (stored : Row) → IsTrue (so new) → columns_of table stored ≡ row new → (old_db new_db : Database) → PutsNumbered table (pos (key new)) stored old_db new_db
-      → Puts table key (λ _. Unit {0}) rows_of new old_db new_db
+      → Puts table key Fits rows_of new old_db new_db
   puts_so new stored marked shows old_db new_db puts xs order fits =
       let id_is : rowid stored ≡ Int (pos (key new)) = sym (numbered stored) ∙ ap rowid shows ∙ keyed new in
       let own : rows_of new ≡ row new ∷ [] = ap (λ s. row_if s (row new)) marked in
@@ -89,7 +90,7 @@ module _ {A : Type 0} (table : Table) (numbered : IsNumbered table) (key : A →
       (subst (λ rs. IsPermutation (rs ++ flat_map rows_of (others key new xs)) (flat_map rows_of (put key new xs))) own (all_put new xs order))) puts
 
   -- the row of a record with its key is taken away
-  takes_so : (gone : A) (old_db new_db : Database) → TakesNumbered table (pos (key gone)) old_db new_db → Takes table key (λ _. Unit {0}) rows_of gone old_db new_db
+  takes_so : (gone : A) (old_db new_db : Database) → TakesNumbered table (pos (key gone)) old_db new_db → Takes table key Fits rows_of gone old_db new_db
   takes_so gone old_db new_db took xs order fits = record {
     schema = took.schema;
     rows = λ holds.
@@ -155,14 +156,14 @@ unfolding understood everything desk_schema
 take_rider_text = record { at = 11; fields = col 1 0 ∷ []; there = refl; is = refl; plain = (refl, refl); shows = λ given r. refl }
 
 module _ (rider : Rider) (old new : State) (count : ℕ) (has : old.now.schema ≡ desk_schema) where
-  pub puts_rider_chair : IsTrue rider.wheelchair → Executes PUT_RIDER_CHAIR.now (rider_row_beside rider) old new (Ok count) → Puts rider_chairs_table rider_key (λ _. Unit {0}) rider_chair_rows rider old.now new.now
+  pub puts_rider_chair : IsTrue rider.wheelchair → Executes PUT_RIDER_CHAIR.now (rider_row_beside rider) old new (Ok count) → Puts rider_chairs_table rider_key FitsRider rider_chair_rows rider old.now new.now
   puts_rider_chair marked h =
-      puts_so rider_chairs_table (λ r. refl) rider_key (λ x. x.wheelchair) rider_row_beside (λ x. refl) rider (rider_stored rider) marked refl old.now new.now
+      puts_so rider_chairs_table (λ r. refl) rider_key FitsRider (λ x. x.wheelchair) rider_row_beside (λ x. refl) rider (rider_stored rider) marked refl old.now new.now
       (upserted PUT_RIDER_CHAIR.now (rider_row_beside rider) rider_chairs_table (pos rider.id) (rider_stored rider) (put_rider_text rider) old new count has h)
 
-  pub takes_rider_chair : Executes TAKE_RIDER_CHAIR.now (number_value rider.id ∷ []) old new (Ok count) → Takes rider_chairs_table rider_key (λ _. Unit {0}) rider_chair_rows rider old.now new.now
+  pub takes_rider_chair : Executes TAKE_RIDER_CHAIR.now (number_value rider.id ∷ []) old new (Ok count) → Takes rider_chairs_table rider_key FitsRider rider_chair_rows rider old.now new.now
   takes_rider_chair h =
-      takes_so rider_chairs_table (λ r. refl) rider_key (λ x. x.wheelchair) rider_row_beside (λ x. refl) rider old.now new.now
+      takes_so rider_chairs_table (λ r. refl) rider_key FitsRider (λ x. x.wheelchair) rider_row_beside (λ x. refl) rider old.now new.now
       (removed TAKE_RIDER_CHAIR.now rider_chairs_table take_rider_text (pos rider.id) old new count has h)
 
 -- ---- trips
@@ -202,14 +203,14 @@ unfolding understood everything desk_schema
 take_trip_text = record { at = 13; fields = col 1 0 ∷ []; there = refl; is = refl; plain = (refl, refl); shows = λ given r. refl }
 
 module _ (trip : Trip) (old new : State) (count : ℕ) (has : old.now.schema ≡ desk_schema) where
-  pub puts_trip_chair : IsTrue trip.wheelchair → Executes PUT_TRIP_CHAIR.now (trip_row_beside trip) old new (Ok count) → Puts trip_chairs_table trip_key (λ _. Unit {0}) trip_chair_rows trip old.now new.now
+  pub puts_trip_chair : IsTrue trip.wheelchair → Executes PUT_TRIP_CHAIR.now (trip_row_beside trip) old new (Ok count) → Puts trip_chairs_table trip_key FitsTrip trip_chair_rows trip old.now new.now
   puts_trip_chair marked h =
-      puts_so trip_chairs_table (λ r. refl) trip_key (λ x. x.wheelchair) trip_row_beside (λ x. refl) trip (trip_stored trip) marked refl old.now new.now
+      puts_so trip_chairs_table (λ r. refl) trip_key FitsTrip (λ x. x.wheelchair) trip_row_beside (λ x. refl) trip (trip_stored trip) marked refl old.now new.now
       (upserted PUT_TRIP_CHAIR.now (trip_row_beside trip) trip_chairs_table (pos trip.id) (trip_stored trip) (put_trip_text trip) old new count has h)
 
-  pub takes_trip_chair : Executes TAKE_TRIP_CHAIR.now (number_value trip.id ∷ []) old new (Ok count) → Takes trip_chairs_table trip_key (λ _. Unit {0}) trip_chair_rows trip old.now new.now
+  pub takes_trip_chair : Executes TAKE_TRIP_CHAIR.now (number_value trip.id ∷ []) old new (Ok count) → Takes trip_chairs_table trip_key FitsTrip trip_chair_rows trip old.now new.now
   takes_trip_chair h =
-      takes_so trip_chairs_table (λ r. refl) trip_key (λ x. x.wheelchair) trip_row_beside (λ x. refl) trip old.now new.now
+      takes_so trip_chairs_table (λ r. refl) trip_key FitsTrip (λ x. x.wheelchair) trip_row_beside (λ x. refl) trip old.now new.now
       (removed TAKE_TRIP_CHAIR.now trip_chairs_table take_trip_text (pos trip.id) old new count has h)
 
 -- ---- vehicles
@@ -220,19 +221,20 @@ vehicle_row_beside version = number_value version.id ∷ number_value version.fr
 vehicle_cast : (version : Vehicle) → cast_row vehicle_chairs_table (Null ∷ vehicle_row_beside version) ≡ Null ∷ vehicle_row_beside version
 vehicle_cast version = simp (cast_null, cast_int)
 
-vehicle_insert : (version : Vehicle) → IsInsert INSERT_VEHICLE_CHAIRS.now (vehicle_row_beside version) vehicle_chairs_table (behind (vehicle_row_beside version))
+vehicle_insert : (version : Vehicle) → IsInsert INSERT_VEHICLE_CHAIRS.now (vehicle_row_beside version) vehicle_chairs_table (behind_all (vehicle_row_beside version ∷ []))
 unfolding understood everything desk_schema
 vehicle_insert version = record {
   at = 12;
   terms = lit Null ∷ col 0 0 ∷ col 0 1 ∷ col 0 2 ∷ [];
   width = 4;
-  source = Null ∷ vehicle_row_beside version;
+  source = (Null ∷ vehicle_row_beside version) ∷ [];
   there = refl;
   is = refl;
   plain = (refl, refl);
   uncounted = refl;
   values = refl;
   news = λ rows. ap (λ r. with_rowid Chosen rows r ∷ []) (vehicle_cast version);
+  quiet = λ rows. refl;
 }
 
 vehicle_delete : (id day : ℕ) → IsDelete DELETE_VEHICLE_CHAIRS.now (number_value id ∷ number_value day ∷ []) vehicle_chairs_table (has_columns (number_value id ∷ number_value day ∷ []))
@@ -255,7 +257,7 @@ module _ (version : Vehicle) (old new : State) (count : ℕ) (has : old.now.sche
   adds_vehicle_chairs marked h =
       let own : vehicle_chair_rows version ≡ vehicle_row_beside version ∷ [] = ap (λ s. row_if s (vehicle_row_beside version)) marked in
       subst (λ rs. Adds vehicle_chairs_table rs old.now new.now) (sym own)
-      (adds vehicle_chairs_table (vehicle_row_beside version) (vehicle_row_beside version) (λ id. refl) INSERT_VEHICLE_CHAIRS.now (vehicle_row_beside version) (vehicle_insert version) old new count has h)
+      (adds vehicle_chairs_table (vehicle_row_beside version ∷ []) (λ id. refl, tt) INSERT_VEHICLE_CHAIRS.now (vehicle_row_beside version) (vehicle_insert version) old new count has h)
 
   pub takes_vehicle_chairs : version.from_day < 2 ^ 32 → Executes DELETE_VEHICLE_CHAIRS.now (number_value version.id ∷ number_value version.from_day ∷ []) old new (Ok count)
       → Takes vehicle_chairs_table vehicle_key IsVehicle vehicle_chair_rows version old.now new.now

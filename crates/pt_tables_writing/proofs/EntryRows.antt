@@ -20,7 +20,7 @@ use Rattle.pt_tables_rows.specs.Schema.{desk_schema, entries_table}
 use Rattle.pt_desk_rules.specs.Ranges.{FitsFiled}
 use Rattle.pt_tables_writing.specs.Writes.{Takes}
 use Rattle.pt_tables_writing.specs.declared.grouped.entries.TheConstants.{DELETE_ENTRY, INSERT_ENTRY}
-use Rattle.pt_tables_writing.proofs.AppendLemmas.{adds, behind}
+use Rattle.pt_tables_writing.proofs.AppendLemmas.{adds, behind_all}
 use Rattle.pt_tables_writing.proofs.CastLemmas.{cast_null, cast_int}
 use Rattle.pt_tables_writing.proofs.DeleteLemmas.{IsDelete, has_columns, removes}
 use Rattle.pt_tables_writing.proofs.InsertLemmas.{IsInsert}
@@ -34,24 +34,25 @@ cast_optional (Some n) = cast_int _
 entry_cast : (filed : FiledEntry) → cast_row entries_table (Null ∷ entry_row filed) ≡ Null ∷ entry_row filed
 entry_cast filed = simp (cast_null, cast_int, cast_optional)
 
-entry_insert : (filed : FiledEntry) → IsInsert INSERT_ENTRY.now (entry_row filed) entries_table (behind (entry_row filed))
+entry_insert : (filed : FiledEntry) → IsInsert INSERT_ENTRY.now (entry_row filed) entries_table (behind_all (entry_row filed ∷ []))
 unfolding understood everything desk_schema
 entry_insert filed = record {
   at = 7;
   terms = lit Null ∷ col 0 0 ∷ col 0 1 ∷ col 0 2 ∷ col 0 3 ∷ col 0 4 ∷ col 0 5 ∷ col 0 6 ∷ col 0 7 ∷ col 0 8 ∷ [];
   width = 10;
-  source = Null ∷ entry_row filed;
+  source = (Null ∷ entry_row filed) ∷ [];
   there = refl;
   is = refl;
   plain = (refl, refl);
   uncounted = refl;
   values = refl;
   news = λ rows. ap (λ r. with_rowid Chosen rows r ∷ []) (entry_cast filed);
+  quiet = λ rows. refl;
 }
 
 pub entry-added : (filed : FiledEntry) (old new : State) (count : ℕ) → old.now.schema ≡ desk_schema → Executes INSERT_ENTRY.now (entry_row filed) old new (Ok count)
     → Adds entries_table (entry_row filed ∷ []) old.now new.now
-entry-added filed = adds entries_table (entry_row filed) (entry_row filed) (λ id. refl) INSERT_ENTRY.now (entry_row filed) (entry_insert filed)
+entry-added filed = adds entries_table (entry_row filed ∷ []) (λ id. refl, tt) INSERT_ENTRY.now (entry_row filed) (entry_insert filed)
 
 entry_delete : (rider position : ℕ) → IsDelete DELETE_ENTRY.now (number_value rider ∷ number_value position ∷ []) entries_table (has_columns (number_value rider ∷ number_value position ∷ []))
 unfolding understood everything desk_schema

@@ -34,27 +34,28 @@ stored_desk policy last_trip =
 desk_cast : (policy : Policy) (last_trip : ℕ) → cast_row desk_table (stored_desk policy last_trip) ≡ stored_desk policy last_trip
 desk_cast policy last_trip = simp (cast_null, cast_int)
 
-pub desk_insert : (policy : Policy) (last_trip : ℕ) → IsInsert INSERT_DESK.now (desk_row policy last_trip) desk_table (λ _. stored_desk policy last_trip)
+pub desk_insert : (policy : Policy) (last_trip : ℕ) → IsInsert INSERT_DESK.now (desk_row policy last_trip) desk_table (λ _. stored_desk policy last_trip ∷ [])
 unfolding understood everything desk_schema
 desk_insert policy last_trip = record {
   at = 0;
   terms = col 0 0 ∷ lit Null ∷ col 0 1 ∷ col 0 2 ∷ col 0 3 ∷ col 0 4 ∷ col 0 5 ∷ col 0 6 ∷ col 0 7 ∷ col 0 8 ∷ col 0 9 ∷ col 0 10 ∷ [];
   width = 12;
-  source = stored_desk policy last_trip;
+  source = stored_desk policy last_trip ∷ [];
   there = refl;
   is = refl;
   plain = (refl, refl);
   uncounted = refl;
   values = refl;
   news = λ rows. ap (λ r. with_rowid Chosen rows r ∷ []) (desk_cast policy last_trip);
+  quiet = λ rows. refl;
 }
 
 -- the one row of a table, as it is stored, is shown so
-fills : (text : List ℕ) (params : Row) (table : Table) (stored row : Row) → IsInsert text params table (λ _. stored) → columns_of table stored ≡ row
+fills : (text : List ℕ) (params : Row) (table : Table) (stored row : Row) → IsInsert text params table (λ _. stored ∷ []) → columns_of table stored ≡ row
     → IsTrue (is_int (rowid stored)) → (old new : State) (count : ℕ)
     → old.now.schema ≡ desk_schema → Executes text params old new (Ok count) → Fills table row old.now new.now
 fills text params table stored row insert shows whole old new count has h =
-    let left = inserts text params table (λ _. stored) insert old new count has h in
+    let left = inserts text params table (λ _. stored ∷ []) insert old new count has h in
     let one : old.now.trees table.tree ≡ [] → new.now.trees table.tree ≡ stored ∷ [] = λ none. left.rows ∙ ap (put_row stored) none in
     record {
       schema = left.schema;
@@ -75,19 +76,20 @@ admin_cast : (digest : List ℕ) → cast_row callers_table (stored_admin digest
 unfolding stored_admin
 admin_cast digest = simp (cast_null, cast_int)
 
-admin_insert : (digest : List ℕ) → IsInsert INSERT_CALLER.now (caller_row (first_admin digest)) callers_table (λ _. stored_admin digest)
+admin_insert : (digest : List ℕ) → IsInsert INSERT_CALLER.now (caller_row (first_admin digest)) callers_table (λ _. stored_admin digest ∷ [])
 unfolding understood everything desk_schema stored_admin
 admin_insert digest = record {
   at = 1;
   terms = col 0 0 ∷ lit Null ∷ col 0 1 ∷ col 0 2 ∷ col 0 3 ∷ [];
   width = 5;
-  source = stored_admin digest;
+  source = stored_admin digest ∷ [];
   there = refl;
   is = refl;
   plain = (refl, refl);
   uncounted = refl;
   values = refl;
   news = λ rows. ap (λ r. with_rowid Chosen rows r ∷ []) (admin_cast digest);
+  quiet = λ rows. refl;
 }
 
 admin_shown : (digest : List ℕ) → columns_of callers_table (stored_admin digest) ≡ caller_row (first_admin digest)

@@ -19,6 +19,7 @@ use Rattle.pt_tables_writing.proofs.CastLemmas.{cast_null, cast_int}
 use Rattle.pt_tables_writing.proofs.NumberedWrites.{puts_record, takes_record}
 use Rattle.pt_tables_writing.proofs.RemovalLemmas.{IsRemoval, removed}
 use Rattle.pt_tables_writing.proofs.UpsertLemmas.{IsUpsert, upserted, only_first}
+use Rattle.pt_desk_rules.specs.Ranges.{FitsKept}
 
 -- the columns after the number
 abbrev rest : Kept → Row
@@ -58,11 +59,11 @@ unfolding understood everything desk_schema
 take_text = record { at = 2; fields = col 1 0 ∷ []; there = refl; is = refl; plain = (refl, refl); shows = λ given r. refl }
 
 module _ (kept : Kept) (old new : State) (count : ℕ) (has : old.now.schema ≡ desk_schema) where
-  pub puts_kept : Executes PUT_KEPT.now (kept_row kept) old new (Ok count) → Puts kept_table kept_key (λ _. Unit {0}) (λ x. kept_row x ∷ []) kept old.now new.now
+  pub puts_kept : Executes PUT_KEPT.now (kept_row kept) old new (Ok count) → Puts kept_table kept_key FitsKept (λ x. kept_row x ∷ []) kept old.now new.now
   puts_kept h =
-      puts_record kept_table (λ r. refl) kept_key kept_row (λ x. refl) kept (stored kept) refl old.now new.now
+      puts_record kept_table (λ r. refl) kept_key FitsKept kept_row (λ x. refl) kept (stored kept) refl old.now new.now
       (upserted PUT_KEPT.now (kept_row kept) kept_table (pos kept.caller) (stored kept) (put_text kept) old new count has h)
 
-  pub takes_kept : Executes TAKE_KEPT.now (number_value kept.caller ∷ []) old new (Ok count) → Takes kept_table kept_key (λ _. Unit {0}) (λ x. kept_row x ∷ []) kept old.now new.now
+  pub takes_kept : Executes TAKE_KEPT.now (number_value kept.caller ∷ []) old new (Ok count) → Takes kept_table kept_key FitsKept (λ x. kept_row x ∷ []) kept old.now new.now
   takes_kept h =
-      takes_record kept_table (λ r. refl) kept_key kept_row (λ x. refl) kept old.now new.now (removed TAKE_KEPT.now kept_table take_text (pos kept.caller) old new count has h)
+      takes_record kept_table (λ r. refl) kept_key FitsKept kept_row (λ x. refl) kept old.now new.now (removed TAKE_KEPT.now kept_table take_text (pos kept.caller) old new count has h)

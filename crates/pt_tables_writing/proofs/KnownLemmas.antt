@@ -18,8 +18,8 @@ use Rattle.pt_scheduling.specs.Plan.{Plan, plan_key}
 use Rattle.pt_tables_rows.specs.Rows.{desk_row, caller_row, kept_row, place_row, route_row, vehicle_row, rider_row, entry_row, trip_row, stop_rows, travel_rows, rider_chair_rows, vehicle_chair_rows, trip_chair_rows}
 use Rattle.pt_tables_rows.specs.Schema.{desk_schema, desk_table, callers_table, kept_table, places_table, fixed_table, vehicles_table, riders_table, entries_table, trips_table, stops_table, travel_table, rider_chairs_table, vehicle_chairs_table, trip_chairs_table}
 use Rattle.pt_tables_rows.specs.WellFormed.{IsStoredPlan}
-use Rattle.pt_desk_rules.specs.Ranges.{FitsFiled}
-use Rattle.pt_spelling.specs.Ranges.{IsVehicle}
+use Rattle.pt_desk_rules.specs.Ranges.{FitsFiled, FitsKept, FitsPlace, FitsRider, FitsTravel, FitsTrip}
+use Rattle.pt_spelling.specs.Ranges.{IsCaller, IsRoute, IsVehicle}
 use Rattle.pt_tables_writing.specs.Agreeing.{AgreesFor, KnowsEdited, KnowsTaken, OfEach}
 use Rattle.pt_tables_writing.specs.Groups.{Leads, WritesFleet, WritesRiders, WritesTrips, with_people, with_area, with_trips}
 use Rattle.pt_tables_writing.specs.Stored.{EditsTable, TakesSpans}
@@ -29,15 +29,15 @@ use Rattle.pt_tables_writing.proofs.GroupLemmas.{area_leads, people_lead, trips_
 -- the edit of a table, where these records of it are known
 abbrev pub Known-callers : Change → List Caller → Database → Database → Type 0
 Known-callers change known =
-    OfEach (KnowsTaken caller_key change.callers.away known) (EditsTable callers_table caller_key (λ _. Unit {0}) (λ x. caller_row x ∷ []) change.callers)
+    OfEach (KnowsTaken caller_key change.callers.away known) (EditsTable callers_table caller_key IsCaller (λ x. caller_row x ∷ []) change.callers)
 
 abbrev pub Known-kept : Change → List Kept → Database → Database → Type 0
 Known-kept change known =
-    OfEach (KnowsTaken kept_key change.kept.away known) (EditsTable kept_table kept_key (λ _. Unit {0}) (λ x. kept_row x ∷ []) change.kept)
+    OfEach (KnowsTaken kept_key change.kept.away known) (EditsTable kept_table kept_key FitsKept (λ x. kept_row x ∷ []) change.kept)
 
 abbrev pub Known-riders : Change → List Rider → Database → Database → Type 0
 Known-riders change known =
-    OfEach (KnowsTaken rider_key change.riders.away known) (EditsTable riders_table rider_key (λ _. Unit {0}) (λ x. rider_row x ∷ []) change.riders)
+    OfEach (KnowsTaken rider_key change.riders.away known) (EditsTable riders_table rider_key FitsRider (λ x. rider_row x ∷ []) change.riders)
 
 abbrev pub Known-entries : Change → List FiledEntry → Database → Database → Type 0
 Known-entries change known =
@@ -45,11 +45,11 @@ Known-entries change known =
 
 abbrev pub Known-places : Change → List Place → Database → Database → Type 0
 Known-places change known =
-    OfEach (KnowsTaken place_key change.places.away known) (EditsTable places_table place_key (λ _. Unit {0}) (λ x. place_row x ∷ []) change.places)
+    OfEach (KnowsTaken place_key change.places.away known) (EditsTable places_table place_key FitsPlace (λ x. place_row x ∷ []) change.places)
 
 abbrev pub Known-routes : Change → List Route → Database → Database → Type 0
 Known-routes change known =
-    OfEach (KnowsTaken route_key change.routes.away known) (EditsTable fixed_table route_key (λ _. Unit {0}) (λ x. route_row x ∷ []) change.routes)
+    OfEach (KnowsTaken route_key change.routes.away known) (EditsTable fixed_table route_key IsRoute (λ x. route_row x ∷ []) change.routes)
 
 abbrev pub Known-vehicles : Change → List Vehicle → Database → Database → Type 0
 Known-vehicles change known =
@@ -57,11 +57,11 @@ Known-vehicles change known =
 
 abbrev pub Known-travel : Change → List DatedTable → Database → Database → Type 0
 Known-travel change known =
-    OfEach (KnowsTaken travel_key change.travel.away known) (EditsTable travel_table travel_key (λ _. Unit {0}) travel_rows change.travel)
+    OfEach (KnowsTaken travel_key change.travel.away known) (EditsTable travel_table travel_key FitsTravel travel_rows change.travel)
 
 abbrev pub Known-trips : Change → List Trip → Database → Database → Type 0
 Known-trips change known =
-    OfEach (KnowsTaken trip_key change.trips.away known) (EditsTable trips_table trip_key (λ _. Unit {0}) (λ x. trip_row x ∷ []) change.trips)
+    OfEach (KnowsTaken trip_key change.trips.away known) (EditsTable trips_table trip_key FitsTrip (λ x. trip_row x ∷ []) change.trips)
 
 abbrev pub Known-planned : Change → List Plan → Database → Database → Type 0
 Known-planned change known =
@@ -70,11 +70,11 @@ Known-planned change known =
 -- the same of second tables
 abbrev pub Marked-riders : Change → List Rider → Database → Database → Type 0
 Marked-riders change known =
-    OfEach (KnowsTaken rider_key change.riders.away known) (EditsTable rider_chairs_table rider_key (λ _. Unit {0}) rider_chair_rows change.riders)
+    OfEach (KnowsTaken rider_key change.riders.away known) (EditsTable rider_chairs_table rider_key FitsRider rider_chair_rows change.riders)
 
 abbrev pub Marked-trips : Change → List Trip → Database → Database → Type 0
 Marked-trips change known =
-    OfEach (KnowsTaken trip_key change.trips.away known) (EditsTable trip_chairs_table trip_key (λ _. Unit {0}) trip_chair_rows change.trips)
+    OfEach (KnowsTaken trip_key change.trips.away known) (EditsTable trip_chairs_table trip_key FitsTrip trip_chair_rows change.trips)
 
 abbrev pub Unmarked-vehicles : Change → List Vehicle → Database → Database → Type 0
 Unmarked-vehicles change known =

@@ -60,19 +60,19 @@ module _ (table : Table) (numbered : IsNumbered table) where
 
 -- ---- tables of records of one row each, whose number is the key
 
-module _ {A : Type 0} (table : Table) (numbered : IsNumbered table) (key : A → ℕ) (row : A → Row) (keyed : (x : A) → rowid (row x) ≡ Int (pos (key x))) where
+module _ {A : Type 0} (table : Table) (numbered : IsNumbered table) (key : A → ℕ) (Fits : A → Type 0) (row : A → Row) (keyed : (x : A) → rowid (row x) ≡ Int (pos (key x))) where
   abbrev rows_of : A → List Row
   rows_of x = row x ∷ []
 
   -- the record is put
   pub puts_record : (new : A) (stored : Row) → columns_of table stored ≡ row new → (old_db new_db : Database) → PutsNumbered table (pos (key new)) stored old_db new_db
-      → Puts table key (λ _. Unit {0}) (λ x. row x ∷ []) new old_db new_db
+      → Puts table key Fits (λ x. row x ∷ []) new old_db new_db
   puts_record new stored shows old_db new_db puts xs order fits =
       let id_is : rowid stored ≡ Int (pos (key new)) = sym (numbered stored) ∙ ap rowid shows ∙ keyed new in
       put_rewrites table numbered (pos (key new)) stored (row new) (flat_map rows_of xs) (flat_map rows_of (put key new xs)) old_db new_db id_is shows (put_rows key row keyed new xs order) puts
 
   -- the record with its key is taken away
-  pub takes_record : (gone : A) (old_db new_db : Database) → TakesNumbered table (pos (key gone)) old_db new_db → Takes table key (λ _. Unit {0}) (λ x. row x ∷ []) gone old_db new_db
+  pub takes_record : (gone : A) (old_db new_db : Database) → TakesNumbered table (pos (key gone)) old_db new_db → Takes table key Fits (λ x. row x ∷ []) gone old_db new_db
   takes_record gone old_db new_db takes xs order fits = record {
     schema = takes.schema;
     rows = λ holds.

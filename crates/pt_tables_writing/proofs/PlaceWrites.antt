@@ -18,6 +18,7 @@ use Rattle.pt_tables_writing.proofs.CastLemmas.{cast_null, cast_int}
 use Rattle.pt_tables_writing.proofs.NumberedWrites.{puts_record, takes_record}
 use Rattle.pt_tables_writing.proofs.RemovalLemmas.{IsRemoval, removed}
 use Rattle.pt_tables_writing.proofs.UpsertLemmas.{IsUpsert, upserted, only_first}
+use Rattle.pt_desk_rules.specs.Ranges.{FitsPlace}
 
 -- the columns after the number
 abbrev rest : Place → Row
@@ -57,11 +58,11 @@ unfolding understood everything desk_schema
 take_text = record { at = 3; fields = col 1 0 ∷ []; there = refl; is = refl; plain = (refl, refl); shows = λ given r. refl }
 
 module _ (place : Place) (old new : State) (count : ℕ) (has : old.now.schema ≡ desk_schema) where
-  pub puts_place : Executes PUT_PLACE.now (place_row place) old new (Ok count) → Puts places_table place_key (λ _. Unit {0}) (λ x. place_row x ∷ []) place old.now new.now
+  pub puts_place : Executes PUT_PLACE.now (place_row place) old new (Ok count) → Puts places_table place_key FitsPlace (λ x. place_row x ∷ []) place old.now new.now
   puts_place h =
-      puts_record places_table (λ r. refl) place_key place_row (λ x. refl) place (stored place) refl old.now new.now
+      puts_record places_table (λ r. refl) place_key FitsPlace place_row (λ x. refl) place (stored place) refl old.now new.now
       (upserted PUT_PLACE.now (place_row place) places_table (pos place.id) (stored place) (put_text place) old new count has h)
 
-  pub takes_place : Executes TAKE_PLACE.now (number_value place.id ∷ []) old new (Ok count) → Takes places_table place_key (λ _. Unit {0}) (λ x. place_row x ∷ []) place old.now new.now
+  pub takes_place : Executes TAKE_PLACE.now (number_value place.id ∷ []) old new (Ok count) → Takes places_table place_key FitsPlace (λ x. place_row x ∷ []) place old.now new.now
   takes_place h =
-      takes_record places_table (λ r. refl) place_key place_row (λ x. refl) place old.now new.now (removed TAKE_PLACE.now places_table take_text (pos place.id) old new count has h)
+      takes_record places_table (λ r. refl) place_key FitsPlace place_row (λ x. refl) place old.now new.now (removed TAKE_PLACE.now places_table take_text (pos place.id) old new count has h)

@@ -19,6 +19,7 @@ use Rattle.pt_tables_rows.specs.Schema.{tables}
 use Rattle.pt_tables_rows.specs.Tables.{Others}
 use Rattle.pt_tables_writing.specs.Writes.{Holds, Rewrites, Puts, Takes}
 use Rattle.pt_tables_writing.proofs.DeleteLemmas.{Removes}
+use Rattle.pt_tables_writing.proofs.TreeLemmas.{turned}
 
 -- ---- rewriting in turn
 
@@ -162,16 +163,12 @@ module _ {A : Type 0} (key : A → ℕ) where
         subst₂ (λ k l. IsPermutation (rows before ++ flat_map rows (without k xs)) (flat_map rows l)) same (put_there (key new) before xs order same there) (rows-put before xs order) in
         let first = left others (others_apart (key new) xs) (Each-filter Fits (λ x. not (key x == key new)) xs fits) in
         let both = rewrites-then table (rows before ++ rest) (front ++ rest) (tail ++ (front ++ rest)) a b c first (added (front ++ rest)) in
-        let turned : IsPermutation (tail ++ (front ++ rest)) (rows new ++ rest) =
-        subst₂ IsPermutation (append_assoc tail front rest) (ap (λ l. l ++ rest) (sym is)) (IsPermutation-append_left rest (tail ++ front) (front ++ tail) (IsPermutation-append_comm tail front)) in
+        let alike : IsPermutation (tail ++ (front ++ rest)) (rows new ++ rest) = subst (λ l. IsPermutation (tail ++ (front ++ rest)) (l ++ rest)) (sym is) (turned front tail rest) in
         rewrites-from table (flat_map rows xs) (rows before ++ rest) (flat_map rows (put key new xs)) a c (IsPermutation-sym _ _ old)
-        (rewrites-permuted table _ (rows new ++ rest) (flat_map rows (put key new xs)) a c (rows-put new xs order) (rewrites-permuted table _ _ (rows new ++ rest) a c turned both))
+        (rewrites-permuted table _ (rows new ++ rest) (flat_map rows (put key new xs)) a c (rows-put new xs order) (rewrites-permuted table _ _ (rows new ++ rest) a c alike both))
 
 -- rows are added in turn
 pub adds-then : (table : Table) (first second : List Row) (a b c : Database) → Adds table first a b → Adds table second b c → Adds table (first ++ second) a c
 adds-then table first second a b c one other before =
-    let turned : IsPermutation (second ++ (first ++ before)) ((first ++ second) ++ before) =
-    subst (λ l. IsPermutation l ((first ++ second) ++ before)) (append_assoc second first before)
-    (IsPermutation-append_left before (second ++ first) (first ++ second) (IsPermutation-append_comm second first)) in
-    rewrites-permuted table before (second ++ (first ++ before)) ((first ++ second) ++ before) a c turned
+    rewrites-permuted table before (second ++ (first ++ before)) ((first ++ second) ++ before) a c (turned first second before)
     (rewrites-then table before (first ++ before) (second ++ (first ++ before)) a b c (one before) (other (first ++ before)))

@@ -19,6 +19,7 @@ use Rattle.pt_tables_writing.proofs.CastLemmas.{cast_null, cast_int}
 use Rattle.pt_tables_writing.proofs.NumberedWrites.{puts_record, takes_record}
 use Rattle.pt_tables_writing.proofs.RemovalLemmas.{IsRemoval, removed}
 use Rattle.pt_tables_writing.proofs.UpsertLemmas.{IsUpsert, upserted, only_first}
+use Rattle.pt_desk_rules.specs.Ranges.{FitsRider}
 
 -- the columns after the number
 abbrev rest : Rider → Row
@@ -58,11 +59,11 @@ unfolding understood everything desk_schema
 take_text = record { at = 6; fields = col 1 0 ∷ []; there = refl; is = refl; plain = (refl, refl); shows = λ given r. refl }
 
 module _ (rider : Rider) (old new : State) (count : ℕ) (has : old.now.schema ≡ desk_schema) where
-  pub puts_rider : Executes PUT_RIDER.now (rider_row rider) old new (Ok count) → Puts riders_table rider_key (λ _. Unit {0}) (λ x. rider_row x ∷ []) rider old.now new.now
+  pub puts_rider : Executes PUT_RIDER.now (rider_row rider) old new (Ok count) → Puts riders_table rider_key FitsRider (λ x. rider_row x ∷ []) rider old.now new.now
   puts_rider h =
-      puts_record riders_table (λ r. refl) rider_key rider_row (λ x. refl) rider (stored rider) refl old.now new.now
+      puts_record riders_table (λ r. refl) rider_key FitsRider rider_row (λ x. refl) rider (stored rider) refl old.now new.now
       (upserted PUT_RIDER.now (rider_row rider) riders_table (pos rider.id) (stored rider) (put_text rider) old new count has h)
 
-  pub takes_rider : Executes TAKE_RIDER.now (number_value rider.id ∷ []) old new (Ok count) → Takes riders_table rider_key (λ _. Unit {0}) (λ x. rider_row x ∷ []) rider old.now new.now
+  pub takes_rider : Executes TAKE_RIDER.now (number_value rider.id ∷ []) old new (Ok count) → Takes riders_table rider_key FitsRider (λ x. rider_row x ∷ []) rider old.now new.now
   takes_rider h =
-      takes_record riders_table (λ r. refl) rider_key rider_row (λ x. refl) rider old.now new.now (removed TAKE_RIDER.now riders_table take_text (pos rider.id) old new count has h)
+      takes_record riders_table (λ r. refl) rider_key FitsRider rider_row (λ x. refl) rider old.now new.now (removed TAKE_RIDER.now riders_table take_text (pos rider.id) old new count has h)

@@ -20,6 +20,7 @@ use Rattle.pt_tables_writing.proofs.CastLemmas.{cast_null, cast_int}
 use Rattle.pt_tables_writing.proofs.NumberedWrites.{puts_record, takes_record}
 use Rattle.pt_tables_writing.proofs.RemovalLemmas.{IsRemoval, removed}
 use Rattle.pt_tables_writing.proofs.UpsertLemmas.{IsUpsert, upserted, only_first}
+use Rattle.pt_spelling.specs.Ranges.{IsRoute}
 
 -- the columns after the number
 abbrev rest : Route → Row
@@ -59,11 +60,11 @@ unfolding understood everything desk_schema
 take_text = record { at = 4; fields = col 1 0 ∷ []; there = refl; is = refl; plain = (refl, refl); shows = λ given r. refl }
 
 module _ (route : Route) (old new : State) (count : ℕ) (has : old.now.schema ≡ desk_schema) where
-  pub puts_route : Executes PUT_ROUTE.now (route_row route) old new (Ok count) → Puts fixed_table route_key (λ _. Unit {0}) (λ x. route_row x ∷ []) route old.now new.now
+  pub puts_route : Executes PUT_ROUTE.now (route_row route) old new (Ok count) → Puts fixed_table route_key IsRoute (λ x. route_row x ∷ []) route old.now new.now
   puts_route h =
-      puts_record fixed_table (λ r. refl) route_key route_row (λ x. refl) route (stored route) refl old.now new.now
+      puts_record fixed_table (λ r. refl) route_key IsRoute route_row (λ x. refl) route (stored route) refl old.now new.now
       (upserted PUT_ROUTE.now (route_row route) fixed_table (pos route.id) (stored route) (put_text route) old new count has h)
 
-  pub takes_route : Executes TAKE_ROUTE.now (number_value route.id ∷ []) old new (Ok count) → Takes fixed_table route_key (λ _. Unit {0}) (λ x. route_row x ∷ []) route old.now new.now
+  pub takes_route : Executes TAKE_ROUTE.now (number_value route.id ∷ []) old new (Ok count) → Takes fixed_table route_key IsRoute (λ x. route_row x ∷ []) route old.now new.now
   takes_route h =
-      takes_record fixed_table (λ r. refl) route_key route_row (λ x. refl) route old.now new.now (removed TAKE_ROUTE.now fixed_table take_text (pos route.id) old new count has h)
+      takes_record fixed_table (λ r. refl) route_key IsRoute route_row (λ x. refl) route old.now new.now (removed TAKE_ROUTE.now fixed_table take_text (pos route.id) old new count has h)

@@ -1,15 +1,15 @@
 -- What the statements on the stops of vehicles mean.
 use denote.Enum.Bare.{same_true, sameb}
-use Rattle.std.proofs.Common.{◌≡◌, ◌≢◌, ℕ, ◌+◌, ◌-◌, ◌==◌, ◌&&◌, ◌<◌, ◌^◌, ℤ, pos, zero, suc, Bool, true, false, not, cond, List, [], ◌∷◌, drop, ◌++◌, length, filter, flat_map, Ok, get_or, take, length-take, refl, sym, ap, ap₂, subst, ◌∙◌, arith}
+use Rattle.std.proofs.Common.{◌≡◌, ◌≢◌, ℕ, ◌+◌, ◌-◌, ◌==◌, ◌&&◌, ◌<◌, ◌≤◌, ◌^◌, ℤ, pos, zero, suc, Bool, true, false, not, cond, List, [], ◌∷◌, drop, drop-cons, add-one, ◌++◌, length, map, filter, flat_map, Ok, get_or, take, refl, sym, ap, ap₂, subst, ◌∙◌, arith}
 use Rattle.std.specs.Prelude.{nat_le}
 use Rattle.std.specs.List.{AllByRecursion}
 use Rattle.std.proofs.lemmas.Bool.Decides.{nat_tests}
-use Rattle.std.proofs.lemmas.List.{take_more}
+use Rattle.std.proofs.lemmas.List.{take_more, take-take, drop-take, drop-drop, drop_all}
 use Rattle.std.proofs.lemmas.List.Elements.{filter-append}
 use Rattle.sqlite.specs.declared.types.Value.TheVariants.{Null}
 use Rattle.sqlite.specs.Cast.{cast_row}
 use Rattle.sqlite.specs.Collation.TheVariants.{Binary}
-use Rattle.sqlite.specs.Edit.{with_rowid}
+use Rattle.sqlite.specs.Edit.{numbered, with_rowid}
 use Rattle.sqlite.specs.Effect.{Database}
 use Rattle.sqlite.specs.Listing.{understood}
 use Rattle.sqlite.specs.Order.{Row}
@@ -32,14 +32,13 @@ use Rattle.pt_tables_rows.specs.Rows.{stop_row, number_value, stop_rows, stop_ro
 use Rattle.pt_tables_rows.specs.Schema.{desk_schema, stops_table}
 use Rattle.pt_tables_rows.specs.WellFormed.{IsStoredPlan}
 use Rattle.pt_tables_writing.specs.Writes.{Replaces, Rewrites, Takes}
-use Rattle.pt_tables_writing.specs.declared.grouped.stops.TheConstants.{DELETE_LATER_STOPS, DELETE_STOPS, INSERT_STOP}
-use Rattle.pt_tables_writing.proofs.AppendLemmas.{adds, behind}
+use Rattle.pt_tables_writing.specs.declared.grouped.stops.TheConstants.{DELETE_LATER_STOPS, DELETE_STOPS, INSERT_STOP, INSERT_TWO_STOPS}
+use Rattle.pt_tables_writing.proofs.AppendLemmas.{adds, behind_all}
 use Rattle.pt_tables_writing.proofs.CastLemmas.{cast_null, cast_int}
 use Rattle.pt_tables_writing.proofs.DeleteLemmas.{IsDelete, has_columns, has_columns_from, removes}
 use Rattle.pt_tables_writing.proofs.InsertLemmas.{IsInsert}
 use Rattle.pt_tables_writing.proofs.KeyLemmas.{from-told, pair-told}
 use Rattle.pt_tables_writing.proofs.RecordRows.{replaces, takes}
-use Rattle.pt_tables_rows.proofs.StopLemmas.{stop_rows-push}
 use Rattle.pt_tables_rows.proofs.WellFormedLemmas.{day-word}
 
 module _ (vehicle day : ℕ) (place : ℤ) (stop : PlannedStop) where
@@ -49,23 +48,51 @@ module _ (vehicle day : ℕ) (place : ℤ) (stop : PlannedStop) where
   stop_cast : cast_row stops_table (Null ∷ row) ≡ Null ∷ row
   stop_cast = simp (cast_null, cast_int)
 
-  stop_insert : IsInsert INSERT_STOP.now row stops_table (behind row)
+  stop_insert : IsInsert INSERT_STOP.now row stops_table (behind_all (row ∷ []))
   unfolding understood everything desk_schema
   stop_insert = record {
     at = 9;
     terms = lit Null ∷ col 0 0 ∷ col 0 1 ∷ col 0 2 ∷ col 0 3 ∷ col 0 4 ∷ [];
     width = 6;
-    source = Null ∷ row;
+    source = (Null ∷ row) ∷ [];
     there = refl;
     is = refl;
     plain = (refl, refl);
     uncounted = refl;
     values = refl;
     news = λ rows. ap (λ r. with_rowid Chosen rows r ∷ []) stop_cast;
+    quiet = λ rows. refl;
   }
 
   pub stop-added : (old new : State) (count : ℕ) → old.now.schema ≡ desk_schema → Executes INSERT_STOP.now row old new (Ok count) → Adds stops_table (row ∷ []) old.now new.now
-  stop-added = adds stops_table row row (λ id. refl) INSERT_STOP.now row stop_insert
+  stop-added = adds stops_table (row ∷ []) (λ id. refl, tt) INSERT_STOP.now row stop_insert
+
+-- two stops, the second at a place of its own
+module _ (vehicle day : ℕ) (place next : ℤ) (stop later : PlannedStop) where
+  abbrev pub two_rows : List Row
+  two_rows = stop_row vehicle day place stop ∷ stop_row vehicle day next later ∷ []
+
+  abbrev pub two_params : Row
+  two_params = stop_row vehicle day place stop ++ drop 2 (stop_row vehicle day next later)
+
+  two_insert : IsInsert INSERT_TWO_STOPS.now two_params stops_table (behind_all two_rows)
+  unfolding understood everything desk_schema
+  two_insert = record {
+    at = 9;
+    terms = lit Null ∷ col 0 0 ∷ col 0 1 ∷ col 0 2 ∷ col 0 3 ∷ col 0 4 ∷ lit Null ∷ col 0 0 ∷ col 0 1 ∷ col 0 5 ∷ col 0 6 ∷ col 0 7 ∷ [];
+    width = 6;
+    source = map (λ r. Null ∷ r) two_rows;
+    there = refl;
+    is = refl;
+    plain = (refl, refl);
+    uncounted = refl;
+    values = refl;
+    news = λ rows. ap₂ (λ r s. numbered Chosen rows (r ∷ s ∷ [])) (stop_cast vehicle day place stop) (stop_cast vehicle day next later);
+    quiet = λ rows. refl;
+  }
+
+  pub two-added : (old new : State) (count : ℕ) → old.now.schema ≡ desk_schema → Executes INSERT_TWO_STOPS.now two_params old new (Ok count) → Adds stops_table two_rows old.now new.now
+  two-added = adds stops_table two_rows (λ id. refl, (λ id. refl, tt)) INSERT_TWO_STOPS.now two_params two_insert
 
 stops_delete : (vehicle day : ℕ) → IsDelete DELETE_STOPS.now (number_value vehicle ∷ number_value day ∷ []) stops_table (has_columns (number_value vehicle ∷ number_value day ∷ []))
 unfolding understood everything desk_schema
@@ -121,14 +148,9 @@ shared-more place one other a b low other_low a_is b_is same so_far =
 
 -- ---- stops from a place on
 
--- one stop more
-pub stops-more : (first count vehicle day : ℕ) (stops : List PlannedStop) (stop : PlannedStop) → count < length stops → stop ≡ get_or stops count stop
-    → stop_rows_from first vehicle day (take count stops) ++ stop_row vehicle day (pos (first + count)) stop ∷ [] ≡ stop_rows_from first vehicle day (take (count + 1) stops)
-stops-more first count vehicle day stops stop low is =
-    let long : length (take count stops) ≡ count = omega (arith, length-take count stops) in
-    ap (λ n. stop_rows_from first vehicle day (take count stops) ++ stop_row vehicle day (pos n) stop ∷ []) (omega (arith, long))
-    ∙ sym (stop_rows-push first vehicle day (take count stops) stop)
-    ∙ ap (λ l. stop_rows_from first vehicle day l) (ap (λ s. take count stops ++ s ∷ []) is ∙ sym (take_more stops count stop low))
+next_stop : (place : ℕ) (stops : List PlannedStop) (stop : PlannedStop) → place < length stops → stop ≡ get_or stops place stop → drop place stops ≡ stop ∷ drop (place + 1) stops
+next_stop place stops stop low is =
+    drop-cons stops place stop low ∙ ap (λ s. s ∷ drop (suc place) stops) (sym is) ∙ ap (λ n. stop ∷ drop n stops) (sym (add-one place))
 
 -- those before a place, and those from there on
 stops-split : (place count vehicle day : ℕ) (stops : List PlannedStop)
@@ -139,6 +161,37 @@ stops-split place (suc count) vehicle day (stop ∷ later) =
     ap (λ l. stop_row vehicle day (pos place) stop ∷ l)
     (stops-split (place + 1) count vehicle day later
     ∙ ap (λ n. stop_rows_from (place + 1) vehicle day (take count later) ++ stop_rows_from n vehicle day (drop count later)) (omega arith))
+
+-- two stops more, or the last one
+pub stops-more : (first place vehicle day : ℕ) (stops : List PlannedStop) → first ≤ place
+    → stop_rows_from first vehicle day (take (place - first) (drop first stops)) ++ stop_rows_from place vehicle day (take 2 (drop place stops))
+    ≡ stop_rows_from first vehicle day (take (place + 2 - first) (drop first stops))
+stops-more first place vehicle day stops low =
+    let count = place - first in
+    let rest = drop first stops in
+    let along : first + count ≡ place = omega (arith, low) in
+    let all : take (count + 2) rest ≡ take (place + 2 - first) rest = ap (λ n. take n rest) (omega (arith, low)) in
+    let front : take count (take (count + 2) rest) ≡ take count rest = take-take count (count + 2) rest (omega arith) in
+    let back : drop count (take (count + 2) rest) ≡ take 2 (drop place stops) =
+    drop-take count 2 rest ∙ ap (take 2) (drop-drop count first stops ∙ ap (λ n. drop n stops) along) in
+    sym (stops-split first count vehicle day (take (count + 2) rest)
+    ∙ ap₂ ◌++◌ (ap (stop_rows_from first vehicle day) front) (ap₂ (λ n l. stop_rows_from n vehicle day l) along back))
+    ∙ ap (stop_rows_from first vehicle day) all
+
+-- the last stop
+pub last-row : (place vehicle day : ℕ) (stops : List PlannedStop) (stop : PlannedStop) → place + 1 ≡ length stops → stop ≡ get_or stops place stop
+    → stop_rows_from place vehicle day (take 2 (drop place stops)) ≡ stop_row vehicle day (pos place) stop ∷ []
+last-row place vehicle day stops stop last is =
+    ap (λ l. stop_rows_from place vehicle day (take 2 l))
+    (next_stop place stops stop (omega (arith, last)) is ∙ ap (λ l. stop ∷ l) (drop_all (place + 1) stops (omega (arith, last))))
+
+-- a stop and the next
+pub next-rows : (place vehicle day : ℕ) (stops : List PlannedStop) (stop later : PlannedStop) → place + 1 < length stops → stop ≡ get_or stops place stop
+    → later ≡ get_or stops (place + 1) later
+    → stop_rows_from place vehicle day (take 2 (drop place stops)) ≡ two_rows vehicle day (pos place) (pos (place + 1)) stop later
+next-rows place vehicle day stops stop later low is next_is =
+    ap (λ l. stop_rows_from place vehicle day (take 2 l))
+    (next_stop place stops stop (omega (arith, low)) is ∙ ap (λ l. stop ∷ l) (next_stop (place + 1) stops later low next_is))
 
 later_delete : (vehicle day first : ℕ)
     → IsDelete DELETE_LATER_STOPS.now (number_value vehicle ∷ number_value day ∷ number_value first ∷ []) stops_table

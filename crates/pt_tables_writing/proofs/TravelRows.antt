@@ -22,12 +22,13 @@ use Rattle.pt_tables_rows.specs.Rows.{number_value, travel_row, travel_rows}
 use Rattle.pt_tables_rows.specs.Schema.{desk_schema, travel_table}
 use Rattle.pt_tables_writing.specs.Writes.{Takes}
 use Rattle.pt_tables_writing.specs.declared.grouped.travel.TheConstants.{DELETE_TRAVEL, INSERT_TRAVEL}
-use Rattle.pt_tables_writing.proofs.AppendLemmas.{adds, behind}
+use Rattle.pt_tables_writing.proofs.AppendLemmas.{adds, behind_all}
 use Rattle.pt_tables_writing.proofs.CastLemmas.{cast_null, cast_int}
 use Rattle.pt_tables_writing.proofs.DeleteLemmas.{IsDelete, has_columns, removes}
 use Rattle.pt_tables_writing.proofs.InsertLemmas.{IsInsert}
 use Rattle.pt_tables_writing.proofs.KeyLemmas.{one-told}
 use Rattle.pt_tables_writing.proofs.RecordRows.{takes}
+use Rattle.pt_desk_rules.specs.Ranges.{FitsTravel}
 
 module _ (from_day : ℕ) (drive : travel.Row) where
   abbrev row : Row
@@ -36,23 +37,24 @@ module _ (from_day : ℕ) (drive : travel.Row) where
   drive_cast : cast_row travel_table (Null ∷ row) ≡ Null ∷ row
   drive_cast = simp (cast_null, cast_int)
 
-  drive_insert : IsInsert INSERT_TRAVEL.now row travel_table (behind row)
+  drive_insert : IsInsert INSERT_TRAVEL.now row travel_table (behind_all (row ∷ []))
   unfolding understood everything desk_schema
   drive_insert = record {
     at = 10;
     terms = lit Null ∷ col 0 0 ∷ col 0 1 ∷ col 0 2 ∷ col 0 3 ∷ [];
     width = 5;
-    source = Null ∷ row;
+    source = (Null ∷ row) ∷ [];
     there = refl;
     is = refl;
     plain = (refl, refl);
     uncounted = refl;
     values = refl;
     news = λ rows. ap (λ r. with_rowid Chosen rows r ∷ []) drive_cast;
+    quiet = λ rows. refl;
   }
 
   pub drive-added : (old new : State) (count : ℕ) → old.now.schema ≡ desk_schema → Executes INSERT_TRAVEL.now row old new (Ok count) → Adds travel_table (row ∷ []) old.now new.now
-  drive-added = adds travel_table row row (λ id. refl) INSERT_TRAVEL.now row drive_insert
+  drive-added = adds travel_table (row ∷ []) (λ id. refl, tt) INSERT_TRAVEL.now row drive_insert
 
 travel_delete : (from_day : ℕ) → IsDelete DELETE_TRAVEL.now (number_value from_day ∷ []) travel_table (has_columns (number_value from_day ∷ []))
 unfolding understood everything desk_schema
@@ -66,10 +68,10 @@ travel_delete from_day = record {
 }
 
 pub travel-taken : (gone : DatedTable) (old new : State) (count : ℕ) → old.now.schema ≡ desk_schema
-    → Executes DELETE_TRAVEL.now (number_value gone.from_day ∷ []) old new (Ok count) → Takes travel_table travel_key (λ _. Unit {0}) travel_rows gone old.now new.now
+    → Executes DELETE_TRAVEL.now (number_value gone.from_day ∷ []) old new (Ok count) → Takes travel_table travel_key FitsTravel travel_rows gone old.now new.now
 travel-taken gone old new count has h =
     let params = number_value gone.from_day ∷ [] in
-    takes travel_key travel_rows travel_table (λ _. Unit {0}) gone (has_columns params)
+    takes travel_key travel_rows travel_table FitsTravel gone (has_columns params)
     (λ x fits. all-map (λ r. has_columns params r ≡ (travel_key x == travel_key gone)) (travel_row x.from_day) (λ drive. one-told x.from_day gone.from_day (drop 1 (travel_row x.from_day drive))) ((0, 0, 0) ∷ x.rows)) old.now new.now
     (removes DELETE_TRAVEL.now params travel_table (has_columns params) (travel_delete gone.from_day) old new count has h)
 

@@ -1,7 +1,8 @@
 -- Trees whose rowids are integers that rise: what is left without some of them, and what stands behind the last.
-use Rattle.std.proofs.Common.{◌≡◌, ℤ, pos, ◌+ℤ◌, ◌<ℤ◌, List, [], ◌∷◌, ◌++◌, map, filter, fold, drop, not, Bool, true, false, cond, IsTrue, Less, refl, sym, ap, ap₂, subst, ◌∙◌}
+use Rattle.std.proofs.Common.{◌≡◌, ℤ, pos, ◌+ℤ◌, ◌<ℤ◌, List, [], ◌∷◌, ◌++◌, map, filter, fold, drop, not, Bool, true, false, cond, IsTrue, Less, refl, sym, ap, ap₂, subst, ◌∙◌, append_assoc}
 use Rattle.std.specs.Prelude.{IsPermutation}
 use Rattle.std.proofs.lemmas.List.{map-append}
+use Rattle.std.proofs.lemmas.List.Sorted.{IsPermutation-append_left, IsPermutation-append_comm}
 use Rattle.std.specs.List.{AllByRecursion}
 use Rattle.sqlite.specs.declared.types.Value.TheVariants.{Null, Int, Real, Text, Blob}
 use Rattle.sqlite.specs.Order.{Row, value_cmp}
@@ -16,6 +17,12 @@ use Rattle.sqlite_keyed.proofs.SliceLemmas.{insert_next}
 use Rattle.sqlite_keyed.proofs.WriteLemmas.{removes_delete}
 use Rattle.sqlite_keyed.proofs.ListLemmas.{map-map, filter-map, ascending_weaker, ascending_from_map, ascending-filter, all-filter, along_permutation}
 use Rattle.sqlite_typed.proofs.RowLemmas.{puts-map, deletes-map}
+
+-- the first may stand before or behind the second
+pub turned : {A : Type 0} (first second before : List A) → IsPermutation (second ++ (first ++ before)) ((first ++ second) ++ before)
+turned first second before =
+    subst (λ l. IsPermutation l ((first ++ second) ++ before)) (append_assoc second first before)
+    (IsPermutation-append_left before (second ++ first) (first ++ second) (IsPermutation-append_comm second first))
 
 -- each rowid is an integer
 abbrev pub AreWhole : List Row → Type 0

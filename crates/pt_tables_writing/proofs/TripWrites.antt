@@ -18,6 +18,7 @@ use Rattle.pt_tables_writing.proofs.CastLemmas.{cast_null, cast_int, optional_ca
 use Rattle.pt_tables_writing.proofs.NumberedWrites.{puts_record, takes_record}
 use Rattle.pt_tables_writing.proofs.RemovalLemmas.{IsRemoval, removed}
 use Rattle.pt_tables_writing.proofs.UpsertLemmas.{IsUpsert, upserted, only_first}
+use Rattle.pt_desk_rules.specs.Ranges.{FitsTrip}
 
 -- the columns after the number
 abbrev rest : Trip → Row
@@ -59,11 +60,11 @@ unfolding understood everything desk_schema
 take_text = record { at = 8; fields = col 1 0 ∷ []; there = refl; is = refl; plain = (refl, refl); shows = λ given r. refl }
 
 module _ (trip : Trip) (old new : State) (count : ℕ) (has : old.now.schema ≡ desk_schema) where
-  pub puts_trip : Executes PUT_TRIP.now (trip_row trip) old new (Ok count) → Puts trips_table trip_key (λ _. Unit {0}) (λ x. trip_row x ∷ []) trip old.now new.now
+  pub puts_trip : Executes PUT_TRIP.now (trip_row trip) old new (Ok count) → Puts trips_table trip_key FitsTrip (λ x. trip_row x ∷ []) trip old.now new.now
   puts_trip h =
-      puts_record trips_table (λ r. refl) trip_key trip_row (λ x. refl) trip (stored trip) refl old.now new.now
+      puts_record trips_table (λ r. refl) trip_key FitsTrip trip_row (λ x. refl) trip (stored trip) refl old.now new.now
       (upserted PUT_TRIP.now (trip_row trip) trips_table (pos trip.id) (stored trip) (put_text trip) old new count has h)
 
-  pub takes_trip : Executes TAKE_TRIP.now (number_value trip.id ∷ []) old new (Ok count) → Takes trips_table trip_key (λ _. Unit {0}) (λ x. trip_row x ∷ []) trip old.now new.now
+  pub takes_trip : Executes TAKE_TRIP.now (number_value trip.id ∷ []) old new (Ok count) → Takes trips_table trip_key FitsTrip (λ x. trip_row x ∷ []) trip old.now new.now
   takes_trip h =
-      takes_record trips_table (λ r. refl) trip_key trip_row (λ x. refl) trip old.now new.now (removed TAKE_TRIP.now trips_table take_text (pos trip.id) old new count has h)
+      takes_record trips_table (λ r. refl) trip_key FitsTrip trip_row (λ x. refl) trip old.now new.now (removed TAKE_TRIP.now trips_table take_text (pos trip.id) old new count has h)

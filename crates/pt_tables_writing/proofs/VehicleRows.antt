@@ -19,7 +19,7 @@ use Rattle.pt_tables_rows.specs.Schema.{desk_schema, vehicles_table}
 use Rattle.pt_spelling.specs.Ranges.{IsVehicle}
 use Rattle.pt_tables_writing.specs.Writes.{Takes}
 use Rattle.pt_tables_writing.specs.declared.grouped.vehicles.TheConstants.{DELETE_VEHICLE, INSERT_VEHICLE}
-use Rattle.pt_tables_writing.proofs.AppendLemmas.{adds, behind}
+use Rattle.pt_tables_writing.proofs.AppendLemmas.{adds, behind_all}
 use Rattle.pt_tables_writing.proofs.CastLemmas.{cast_null, cast_int}
 use Rattle.pt_tables_writing.proofs.DeleteLemmas.{IsDelete, has_columns, removes}
 use Rattle.pt_tables_writing.proofs.InsertLemmas.{IsInsert}
@@ -30,24 +30,25 @@ use Rattle.pt_tables_rows.proofs.WellFormedLemmas.{day-word}
 vehicle_cast : (version : Vehicle) → cast_row vehicles_table (Null ∷ vehicle_row version) ≡ Null ∷ vehicle_row version
 vehicle_cast version = simp (cast_null, cast_int)
 
-vehicle_insert : (version : Vehicle) → IsInsert INSERT_VEHICLE.now (vehicle_row version) vehicles_table (behind (vehicle_row version))
+vehicle_insert : (version : Vehicle) → IsInsert INSERT_VEHICLE.now (vehicle_row version) vehicles_table (behind_all (vehicle_row version ∷ []))
 unfolding understood everything desk_schema
 vehicle_insert version = record {
   at = 5;
   terms = lit Null ∷ col 0 0 ∷ col 0 1 ∷ col 0 2 ∷ col 0 3 ∷ col 0 4 ∷ col 0 5 ∷ col 0 6 ∷ col 0 7 ∷ [];
   width = 9;
-  source = Null ∷ vehicle_row version;
+  source = (Null ∷ vehicle_row version) ∷ [];
   there = refl;
   is = refl;
   plain = (refl, refl);
   uncounted = refl;
   values = refl;
   news = λ rows. ap (λ r. with_rowid Chosen rows r ∷ []) (vehicle_cast version);
+  quiet = λ rows. refl;
 }
 
 pub vehicle-added : (version : Vehicle) (old new : State) (count : ℕ) → old.now.schema ≡ desk_schema → Executes INSERT_VEHICLE.now (vehicle_row version) old new (Ok count)
     → Adds vehicles_table (vehicle_row version ∷ []) old.now new.now
-vehicle-added version = adds vehicles_table (vehicle_row version) (vehicle_row version) (λ id. refl) INSERT_VEHICLE.now (vehicle_row version) (vehicle_insert version)
+vehicle-added version = adds vehicles_table (vehicle_row version ∷ []) (λ id. refl, tt) INSERT_VEHICLE.now (vehicle_row version) (vehicle_insert version)
 
 vehicle_delete : (id day : ℕ) → IsDelete DELETE_VEHICLE.now (number_value id ∷ number_value day ∷ []) vehicles_table (has_columns (number_value id ∷ number_value day ∷ []))
 unfolding understood everything desk_schema

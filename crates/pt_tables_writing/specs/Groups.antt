@@ -15,6 +15,7 @@ use Rattle.pt_tables_rows.specs.Tables.{Stands}
 use Rattle.pt_tables_rows.specs.WellFormed.{IsWellFormed, PutsWellFormed}
 use Rattle.pt_spelling.specs.Ranges.{IsVehicle}
 use Rattle.pt_tables_writing.specs.Stored.{EditsTable, PutsAll, TakesSpans}
+use Rattle.pt_desk_rules.specs.Ranges.{FitsRider, FitsTrip}
 
 -- callers and what is kept for them, riders and what was entered on them
 abbrev pub with_people : Change → State → State
@@ -56,14 +57,14 @@ Then First Next old new = (mid : Database) × First old mid × (mid.schema ≡ d
 -- the edit of riders, and then of the rows of those in wheelchairs
 abbrev pub WritesRiders : Change → State → Database → Database → Type 0
 WritesRiders change s =
-    Then (EditsTable riders_table rider_key (λ _. Unit {0}) (λ x. rider_row x ∷ []) change.riders s.riders)
-    (EditsTable rider_chairs_table rider_key (λ _. Unit {0}) rider_chair_rows change.riders s.riders)
+    Then (EditsTable riders_table rider_key FitsRider (λ x. rider_row x ∷ []) change.riders s.riders)
+    (EditsTable rider_chairs_table rider_key FitsRider rider_chair_rows change.riders s.riders)
 
 -- the edit of trips, and then of the rows of those of riders in wheelchairs
 abbrev pub WritesTrips : Change → State → Database → Database → Type 0
 WritesTrips change s =
-    Then (EditsTable trips_table trip_key (λ _. Unit {0}) (λ x. trip_row x ∷ []) change.trips s.trips)
-    (EditsTable trip_chairs_table trip_key (λ _. Unit {0}) trip_chair_rows change.trips s.trips)
+    Then (EditsTable trips_table trip_key FitsTrip (λ x. trip_row x ∷ []) change.trips s.trips)
+    (EditsTable trip_chairs_table trip_key FitsTrip trip_chair_rows change.trips s.trips)
 
 -- the edit of vehicles, and then the wheelchair places of those that are put
 abbrev pub WritesVehicles : Change → State → Database → Database → Type 0

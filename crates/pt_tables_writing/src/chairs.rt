@@ -10,6 +10,7 @@ ghost use Rattle.pt_tables_rows.specs.Tables.{Makes};
 ghost use Rattle.pt_spelling.specs.Ranges.{IsVehicle};
 ghost use Rattle.pt_tables_writing.specs.Grouped.{Adds};
 ghost use Rattle.pt_tables_writing.specs.Writes.{Puts, Takes};
+ghost use Rattle.pt_desk_rules.specs.Ranges.{FitsRider, FitsTrip};
 
 use pt_base::{Rider, Trip, Vehicle};
 use sqlite::{Alter, Error, Transaction, params};
@@ -36,7 +37,7 @@ pub(crate) fn put_rider_chair<S: Alter>(
 ) -> Result<(), Error>
     ensures same_reference { tx.new.conn.ghost_name ≡ tx.old.conn.ghost_name }
     ensures written { Makes (state S.Store tx.old.conn.now) (state S.Store tx.new.conn.now)
-        (Puts rider_chairs_table rider_key (λ _. Unit {0}) rider_chair_rows rider.now) result }
+        (Puts rider_chairs_table rider_key FitsRider rider_chair_rows rider.now) result }
     ensures survives { Survives (state S.Store tx.old.conn.now) (state S.Store tx.new.conn.now) (λ _. ⊥) }
 {
     if !rider.wheelchair {
@@ -50,7 +51,7 @@ fn add_rider_chair<S: Alter>(tx: &mut Transaction<'_, S>, rider: &Rider) -> Resu
     requires marked { IsTrue rider.now.wheelchair }
     ensures same_reference { tx.new.conn.ghost_name ≡ tx.old.conn.ghost_name }
     ensures written { Makes (state S.Store tx.old.conn.now) (state S.Store tx.new.conn.now)
-        (Puts rider_chairs_table rider_key (λ _. Unit {0}) rider_chair_rows rider.now) result }
+        (Puts rider_chairs_table rider_key FitsRider rider_chair_rows rider.now) result }
     ensures survives { Survives (state S.Store tx.old.conn.now) (state S.Store tx.new.conn.now) (λ _. ⊥) }
 {
     tx.execute(PUT_RIDER_CHAIR, params![rider.id.number()])?;
@@ -64,7 +65,7 @@ pub(crate) fn take_rider_chair<S: Alter>(
 ) -> Result<(), Error>
     ensures same_reference { tx.new.conn.ghost_name ≡ tx.old.conn.ghost_name }
     ensures written { Makes (state S.Store tx.old.conn.now) (state S.Store tx.new.conn.now)
-        (Takes rider_chairs_table rider_key (λ _. Unit {0}) rider_chair_rows rider.now) result }
+        (Takes rider_chairs_table rider_key FitsRider rider_chair_rows rider.now) result }
     ensures survives { Survives (state S.Store tx.old.conn.now) (state S.Store tx.new.conn.now) (λ _. ⊥) }
 {
     tx.execute(TAKE_RIDER_CHAIR, params![rider.id.number()])?;
@@ -78,7 +79,7 @@ pub(crate) fn put_trip_chair<S: Alter>(
 ) -> Result<(), Error>
     ensures same_reference { tx.new.conn.ghost_name ≡ tx.old.conn.ghost_name }
     ensures written { Makes (state S.Store tx.old.conn.now) (state S.Store tx.new.conn.now)
-        (Puts trip_chairs_table trip_key (λ _. Unit {0}) trip_chair_rows trip.now) result }
+        (Puts trip_chairs_table trip_key FitsTrip trip_chair_rows trip.now) result }
     ensures survives { Survives (state S.Store tx.old.conn.now) (state S.Store tx.new.conn.now) (λ _. ⊥) }
 {
     if !trip.wheelchair {
@@ -92,7 +93,7 @@ fn add_trip_chair<S: Alter>(tx: &mut Transaction<'_, S>, trip: &Trip) -> Result<
     requires marked { IsTrue trip.now.wheelchair }
     ensures same_reference { tx.new.conn.ghost_name ≡ tx.old.conn.ghost_name }
     ensures written { Makes (state S.Store tx.old.conn.now) (state S.Store tx.new.conn.now)
-        (Puts trip_chairs_table trip_key (λ _. Unit {0}) trip_chair_rows trip.now) result }
+        (Puts trip_chairs_table trip_key FitsTrip trip_chair_rows trip.now) result }
     ensures survives { Survives (state S.Store tx.old.conn.now) (state S.Store tx.new.conn.now) (λ _. ⊥) }
 {
     tx.execute(PUT_TRIP_CHAIR, params![trip.id.number()])?;
@@ -106,7 +107,7 @@ pub(crate) fn take_trip_chair<S: Alter>(
 ) -> Result<(), Error>
     ensures same_reference { tx.new.conn.ghost_name ≡ tx.old.conn.ghost_name }
     ensures written { Makes (state S.Store tx.old.conn.now) (state S.Store tx.new.conn.now)
-        (Takes trip_chairs_table trip_key (λ _. Unit {0}) trip_chair_rows trip.now) result }
+        (Takes trip_chairs_table trip_key FitsTrip trip_chair_rows trip.now) result }
     ensures survives { Survives (state S.Store tx.old.conn.now) (state S.Store tx.new.conn.now) (λ _. ⊥) }
 {
     tx.execute(TAKE_TRIP_CHAIR, params![trip.id.number()])?;

@@ -15,17 +15,17 @@ use sqlite::{Alter, Error, Transaction};
 /// A table that is written record by record.
 pub(crate) trait Stored: TableOf {
     /// Puts the record's rows in place of those of the record with its key.
-    fn put<S: Alter>(tx: &mut Transaction<'_, S>, record: &Self::Record) -> Result<(), Error>
+    fn put<S: Alter>(tx: &mut Transaction<'_, S>, one: &Self::Record) -> Result<(), Error>
         ensures same_reference { tx.new.conn.ghost_name ≡ tx.old.conn.ghost_name }
         ensures written { Makes (state S.Store tx.old.conn.now) (state S.Store tx.new.conn.now)
-            (Puts Self.home Self.Record.key Self.Fits Self.rows_of record.now) result }
+            (Puts Self.home Self.Record.key Self.Fits Self.rows_of one.now) result }
         ensures survives { Survives (state S.Store tx.old.conn.now) (state S.Store tx.new.conn.now) (λ _. ⊥) };
 
     /// Takes away the rows of the record with its key.
-    fn take<S: Alter>(tx: &mut Transaction<'_, S>, record: &Self::Record) -> Result<(), Error>
+    fn take<S: Alter>(tx: &mut Transaction<'_, S>, one: &Self::Record) -> Result<(), Error>
         ensures same_reference { tx.new.conn.ghost_name ≡ tx.old.conn.ghost_name }
         ensures written { Makes (state S.Store tx.old.conn.now) (state S.Store tx.new.conn.now)
-            (Takes Self.home Self.Record.key Self.Fits Self.rows_of record.now) result }
+            (Takes Self.home Self.Record.key Self.Fits Self.rows_of one.now) result }
         ensures survives { Survives (state S.Store tx.old.conn.now) (state S.Store tx.new.conn.now) (λ _. ⊥) };
 }
 

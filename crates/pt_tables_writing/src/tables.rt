@@ -22,131 +22,131 @@ use pt_tables_rows::{
 use sqlite::{Alter, Error, Transaction};
 
 impl Stored for Callers {
-    fn put<S: Alter>(tx: &mut Transaction<'_, S>, record: &Caller) -> Result<(), Error> {
-        put_caller(tx, record)
+    fn put<S: Alter>(tx: &mut Transaction<'_, S>, one: &Caller) -> Result<(), Error> {
+        put_caller(tx, one)
     }
 
-    fn take<S: Alter>(tx: &mut Transaction<'_, S>, record: &Caller) -> Result<(), Error> {
-        take_caller(tx, record)
+    fn take<S: Alter>(tx: &mut Transaction<'_, S>, one: &Caller) -> Result<(), Error> {
+        take_caller(tx, one)
     }
 }
 
 impl Stored for KeptWrites {
-    fn put<S: Alter>(tx: &mut Transaction<'_, S>, record: &Kept) -> Result<(), Error> {
-        put_kept(tx, record)
+    fn put<S: Alter>(tx: &mut Transaction<'_, S>, one: &Kept) -> Result<(), Error> {
+        put_kept(tx, one)
     }
 
-    fn take<S: Alter>(tx: &mut Transaction<'_, S>, record: &Kept) -> Result<(), Error> {
-        take_kept(tx, record)
+    fn take<S: Alter>(tx: &mut Transaction<'_, S>, one: &Kept) -> Result<(), Error> {
+        take_kept(tx, one)
     }
 }
 
 impl Stored for Places {
-    fn put<S: Alter>(tx: &mut Transaction<'_, S>, record: &Place) -> Result<(), Error> {
-        put_place(tx, record)
+    fn put<S: Alter>(tx: &mut Transaction<'_, S>, one: &Place) -> Result<(), Error> {
+        put_place(tx, one)
     }
 
-    fn take<S: Alter>(tx: &mut Transaction<'_, S>, record: &Place) -> Result<(), Error> {
-        take_place(tx, record)
+    fn take<S: Alter>(tx: &mut Transaction<'_, S>, one: &Place) -> Result<(), Error> {
+        take_place(tx, one)
     }
 }
 
 impl Stored for FixedRoutes {
-    fn put<S: Alter>(tx: &mut Transaction<'_, S>, record: &FixedRoute) -> Result<(), Error> {
-        put_route(tx, record)
+    fn put<S: Alter>(tx: &mut Transaction<'_, S>, one: &FixedRoute) -> Result<(), Error> {
+        put_route(tx, one)
     }
 
-    fn take<S: Alter>(tx: &mut Transaction<'_, S>, record: &FixedRoute) -> Result<(), Error> {
-        take_route(tx, record)
+    fn take<S: Alter>(tx: &mut Transaction<'_, S>, one: &FixedRoute) -> Result<(), Error> {
+        take_route(tx, one)
     }
 }
 
 impl Stored for Vehicles {
-    fn put<S: Alter>(tx: &mut Transaction<'_, S>, record: &Vehicle) -> Result<(), Error> {
-        put_vehicle(tx, record)
+    fn put<S: Alter>(tx: &mut Transaction<'_, S>, one: &Vehicle) -> Result<(), Error> {
+        put_vehicle(tx, one)
     }
 
-    fn take<S: Alter>(tx: &mut Transaction<'_, S>, record: &Vehicle) -> Result<(), Error> {
-        take_vehicle(tx, record)
+    fn take<S: Alter>(tx: &mut Transaction<'_, S>, one: &Vehicle) -> Result<(), Error> {
+        take_vehicle(tx, one)
     }
 }
 
 impl Stored for Riders {
-    fn put<S: Alter>(tx: &mut Transaction<'_, S>, record: &Rider) -> Result<(), Error> {
-        put_rider(tx, record)
+    fn put<S: Alter>(tx: &mut Transaction<'_, S>, one: &Rider) -> Result<(), Error> {
+        put_rider(tx, one)
     }
 
-    fn take<S: Alter>(tx: &mut Transaction<'_, S>, record: &Rider) -> Result<(), Error> {
-        take_rider(tx, record)
+    fn take<S: Alter>(tx: &mut Transaction<'_, S>, one: &Rider) -> Result<(), Error> {
+        take_rider(tx, one)
     }
 }
 
 impl Stored for Entries {
-    fn put<S: Alter>(tx: &mut Transaction<'_, S>, record: &FiledEntry) -> Result<(), Error> {
-        put_entry(tx, record)
+    fn put<S: Alter>(tx: &mut Transaction<'_, S>, one: &FiledEntry) -> Result<(), Error> {
+        put_entry(tx, one)
     }
 
-    fn take<S: Alter>(tx: &mut Transaction<'_, S>, record: &FiledEntry) -> Result<(), Error> {
-        take_entry(tx, record)
+    fn take<S: Alter>(tx: &mut Transaction<'_, S>, one: &FiledEntry) -> Result<(), Error> {
+        take_entry(tx, one)
     }
 }
 
 impl Stored for TravelTables {
-    fn put<S: Alter>(tx: &mut Transaction<'_, S>, record: &TravelTable) -> Result<(), Error> {
-        put_travel(tx, record)
+    fn put<S: Alter>(tx: &mut Transaction<'_, S>, one: &TravelTable) -> Result<(), Error> {
+        put_travel(tx, one)
     }
 
-    fn take<S: Alter>(tx: &mut Transaction<'_, S>, record: &TravelTable) -> Result<(), Error> {
-        take_travel(tx, record)
+    fn take<S: Alter>(tx: &mut Transaction<'_, S>, one: &TravelTable) -> Result<(), Error> {
+        take_travel(tx, one)
     }
 }
 
 impl Stored for Trips {
-    fn put<S: Alter>(tx: &mut Transaction<'_, S>, record: &Trip) -> Result<(), Error> {
-        put_trip(tx, record)
+    fn put<S: Alter>(tx: &mut Transaction<'_, S>, one: &Trip) -> Result<(), Error> {
+        put_trip(tx, one)
     }
 
-    fn take<S: Alter>(tx: &mut Transaction<'_, S>, record: &Trip) -> Result<(), Error> {
-        take_trip(tx, record)
+    fn take<S: Alter>(tx: &mut Transaction<'_, S>, one: &Trip) -> Result<(), Error> {
+        take_trip(tx, one)
     }
 }
 
 impl Stored for Plans {
-    fn put<S: Alter>(tx: &mut Transaction<'_, S>, record: &PlannedRoute) -> Result<(), Error> {
-        put_plan(tx, record)
+    fn put<S: Alter>(tx: &mut Transaction<'_, S>, one: &PlannedRoute) -> Result<(), Error> {
+        put_plan(tx, one)
     }
 
-    fn take<S: Alter>(tx: &mut Transaction<'_, S>, record: &PlannedRoute) -> Result<(), Error> {
-        take_plan(tx, record)
+    fn take<S: Alter>(tx: &mut Transaction<'_, S>, one: &PlannedRoute) -> Result<(), Error> {
+        take_plan(tx, one)
     }
 }
 
 impl Stored for RiderChairs {
-    fn put<S: Alter>(tx: &mut Transaction<'_, S>, record: &Rider) -> Result<(), Error> {
-        put_rider_chair(tx, record)
+    fn put<S: Alter>(tx: &mut Transaction<'_, S>, one: &Rider) -> Result<(), Error> {
+        put_rider_chair(tx, one)
     }
 
-    fn take<S: Alter>(tx: &mut Transaction<'_, S>, record: &Rider) -> Result<(), Error> {
-        take_rider_chair(tx, record)
+    fn take<S: Alter>(tx: &mut Transaction<'_, S>, one: &Rider) -> Result<(), Error> {
+        take_rider_chair(tx, one)
     }
 }
 
 impl Stored for VehicleChairs {
-    fn put<S: Alter>(tx: &mut Transaction<'_, S>, record: &Vehicle) -> Result<(), Error> {
-        put_vehicle_chairs(tx, record)
+    fn put<S: Alter>(tx: &mut Transaction<'_, S>, one: &Vehicle) -> Result<(), Error> {
+        put_vehicle_chairs(tx, one)
     }
 
-    fn take<S: Alter>(tx: &mut Transaction<'_, S>, record: &Vehicle) -> Result<(), Error> {
-        take_vehicle_chairs(tx, record)
+    fn take<S: Alter>(tx: &mut Transaction<'_, S>, one: &Vehicle) -> Result<(), Error> {
+        take_vehicle_chairs(tx, one)
     }
 }
 
 impl Stored for TripChairs {
-    fn put<S: Alter>(tx: &mut Transaction<'_, S>, record: &Trip) -> Result<(), Error> {
-        put_trip_chair(tx, record)
+    fn put<S: Alter>(tx: &mut Transaction<'_, S>, one: &Trip) -> Result<(), Error> {
+        put_trip_chair(tx, one)
     }
 
-    fn take<S: Alter>(tx: &mut Transaction<'_, S>, record: &Trip) -> Result<(), Error> {
-        take_trip_chair(tx, record)
+    fn take<S: Alter>(tx: &mut Transaction<'_, S>, one: &Trip) -> Result<(), Error> {
+        take_trip_chair(tx, one)
     }
 }

@@ -30,50 +30,50 @@ use sqlite::{Alter, Connection, Error, Transaction};
 fn write_riders<S: Alter>(
     tx: &mut Transaction<'_, S>,
     change: &Change,
-    mirror: &ListKeeper,
+    known: &ListKeeper,
 ) -> Result<(), Error>
     ensures same_reference { tx.new.conn.ghost_name ≡ tx.old.conn.ghost_name }
     ensures written { Makes (state S.Store tx.old.conn.now) (state S.Store tx.new.conn.now)
-        (OfEach (AgreesFor change.now mirror.now.content) (WritesRiders change.now)) result }
+        (OfEach (AgreesFor change.now known.now.content) (WritesRiders change.now)) result }
     ensures survives { Survives (state S.Store tx.old.conn.now) (state S.Store tx.new.conn.now) (λ _. ⊥) }
 {
-    let riders = mirror.riders_table();
+    let riders = known.riders_table();
     write_edits::<S, Riders>(tx, &change.riders, riders)?;
     write_edits::<S, RiderChairs>(tx, &change.riders, riders)
 }
 
 /// Writes what the change makes of callers, what is kept for them, riders and entries.
 ///
-/// `mirror` has those that are there and that it takes away.
+/// `known` has those that are there and that it takes away.
 fn write_people<S: Alter>(
     tx: &mut Transaction<'_, S>,
     change: &Change,
-    mirror: &ListKeeper,
+    known: &ListKeeper,
 ) -> Result<(), Error>
     ensures same_reference { tx.new.conn.ghost_name ≡ tx.old.conn.ghost_name }
     ensures written { Makes (state S.Store tx.old.conn.now) (state S.Store tx.new.conn.now)
-        (OfEach (AgreesFor change.now mirror.now.content) (λ content.
+        (OfEach (AgreesFor change.now known.now.content) (λ content.
         Leads change.now content content (with_people change.now content))) result }
     ensures survives { Survives (state S.Store tx.old.conn.now) (state S.Store tx.new.conn.now) (λ _. ⊥) }
 {
-    write_edits::<S, Callers>(tx, &change.callers, mirror.callers_table())?;
-    write_edits::<S, KeptWrites>(tx, &change.kept, mirror.kept_table())?;
-    write_riders(tx, change, mirror)?;
-    write_edits::<S, Entries>(tx, &change.entries, mirror.entries_table())
+    write_edits::<S, Callers>(tx, &change.callers, known.callers_table())?;
+    write_edits::<S, KeptWrites>(tx, &change.kept, known.kept_table())?;
+    write_riders(tx, change, known)?;
+    write_edits::<S, Entries>(tx, &change.entries, known.entries_table())
 }
 
 /// Writes what the change makes of vehicles, and then the wheelchair places of those that it puts.
 fn write_vehicles<S: Alter>(
     tx: &mut Transaction<'_, S>,
     change: &Change,
-    mirror: &ListKeeper,
+    known: &ListKeeper,
 ) -> Result<(), Error>
     ensures same_reference { tx.new.conn.ghost_name ≡ tx.old.conn.ghost_name }
     ensures written { Makes (state S.Store tx.old.conn.now) (state S.Store tx.new.conn.now)
-        (OfEach (AgreesFor change.now mirror.now.content) (WritesVehicles change.now)) result }
+        (OfEach (AgreesFor change.now known.now.content) (WritesVehicles change.now)) result }
     ensures survives { Survives (state S.Store tx.old.conn.now) (state S.Store tx.new.conn.now) (λ _. ⊥) }
 {
-    write_edits::<S, Vehicles>(tx, &change.vehicles, mirror.vehicles_table())?;
+    write_edits::<S, Vehicles>(tx, &change.vehicles, known.vehicles_table())?;
     put_each::<S, VehicleChairs>(tx, change.vehicles.puts())
 }
 
@@ -82,53 +82,53 @@ fn write_vehicles<S: Alter>(
 fn write_fleet<S: Alter>(
     tx: &mut Transaction<'_, S>,
     change: &Change,
-    mirror: &ListKeeper,
+    known: &ListKeeper,
 ) -> Result<(), Error>
     ensures same_reference { tx.new.conn.ghost_name ≡ tx.old.conn.ghost_name }
     ensures written { Makes (state S.Store tx.old.conn.now) (state S.Store tx.new.conn.now)
-        (OfEach (AgreesFor change.now mirror.now.content) (WritesFleet change.now)) result }
+        (OfEach (AgreesFor change.now known.now.content) (WritesFleet change.now)) result }
     ensures survives { Survives (state S.Store tx.old.conn.now) (state S.Store tx.new.conn.now) (λ _. ⊥) }
 {
-    take_spans::<S, VehicleChairs>(tx, change.vehicles.spans(), mirror.vehicles_table())?;
-    write_vehicles(tx, change, mirror)
+    take_spans::<S, VehicleChairs>(tx, change.vehicles.spans(), known.vehicles_table())?;
+    write_vehicles(tx, change, known)
 }
 
 /// Writes what the change makes of places, routes, vehicles and driving times, after callers and riders.
 fn write_area<S: Alter>(
     tx: &mut Transaction<'_, S>,
     change: &Change,
-    mirror: &ListKeeper,
+    known: &ListKeeper,
 ) -> Result<(), Error>
     ensures same_reference { tx.new.conn.ghost_name ≡ tx.old.conn.ghost_name }
     ensures written { Makes (state S.Store tx.old.conn.now) (state S.Store tx.new.conn.now)
-        (OfEach (AgreesFor change.now mirror.now.content) (λ content.
+        (OfEach (AgreesFor change.now known.now.content) (λ content.
         let before = with_people change.now content in
         Leads change.now content before (with_area change.now before))) result }
     ensures survives { Survives (state S.Store tx.old.conn.now) (state S.Store tx.new.conn.now) (λ _. ⊥) }
 {
-    write_edits::<S, Places>(tx, &change.places, mirror.places_table())?;
-    write_edits::<S, FixedRoutes>(tx, &change.routes, mirror.routes_table())?;
-    write_fleet(tx, change, mirror)?;
-    write_edits::<S, TravelTables>(tx, &change.travel, mirror.travel_table())
+    write_edits::<S, Places>(tx, &change.places, known.places_table())?;
+    write_edits::<S, FixedRoutes>(tx, &change.routes, known.routes_table())?;
+    write_fleet(tx, change, known)?;
+    write_edits::<S, TravelTables>(tx, &change.travel, known.travel_table())
 }
 
 /// The policy as the change leaves it.
-fn policy_after(change: &Change, mirror: &ListKeeper) -> Policy
-    ensures value { result ≡ unwrap_or change.now.policy mirror.now.content.policy }
+fn policy_after(change: &Change, known: &ListKeeper) -> Policy
+    ensures value { result ≡ unwrap_or change.now.policy known.now.content.policy }
 {
     match change.policy {
         Some(policy) => policy,
-        None => mirror.current_policy(),
+        None => known.current_policy(),
     }
 }
 
 /// The number that was last given to a trip as the change leaves it; 0 before the first.
-fn last_trip_after(change: &Change, mirror: &ListKeeper) -> u32
-    ensures value { result ≡ unwrap_or change.now.last_trip mirror.now.content.last_trip }
+fn last_trip_after(change: &Change, known: &ListKeeper) -> u32
+    ensures value { result ≡ unwrap_or change.now.last_trip known.now.content.last_trip }
 {
     match change.last_trip {
         Some(id) => id.number(),
-        None => mirror.current_last_trip(),
+        None => known.current_last_trip(),
     }
 }
 
@@ -136,11 +136,11 @@ fn last_trip_after(change: &Change, mirror: &ListKeeper) -> u32
 fn write_settings<S: Alter>(
     tx: &mut Transaction<'_, S>,
     change: &Change,
-    mirror: &ListKeeper,
+    known: &ListKeeper,
 ) -> Result<(), Error>
     ensures same_reference { tx.new.conn.ghost_name ≡ tx.old.conn.ghost_name }
     ensures written { Makes (state S.Store tx.old.conn.now) (state S.Store tx.new.conn.now)
-        (OfEach (AgreesFor change.now mirror.now.content) (λ content old new. (p : _) (n : _) →
+        (OfEach (AgreesFor change.now known.now.content) (λ content old new. (p : _) (n : _) →
         Rewrites desk_table (desk_row p n ∷ [])
         (desk_row (unwrap_or change.now.policy content.policy) (unwrap_or change.now.last_trip content.last_trip) ∷ [])
         old new)) result }
@@ -148,22 +148,22 @@ fn write_settings<S: Alter>(
         → OnOk result (IsTrue (state S.Store tx.old.conn.now).is_open) }
     ensures survives { Survives (state S.Store tx.old.conn.now) (state S.Store tx.new.conn.now) (λ _. ⊥) }
 {
-    let policy = policy_after(change, mirror);
-    write_desk(tx, &policy, last_trip_after(change, mirror))
+    let policy = policy_after(change, known);
+    write_desk(tx, &policy, last_trip_after(change, known))
 }
 
 /// Writes what the change makes of trips, and then of those of riders in wheelchairs.
 fn write_booked<S: Alter>(
     tx: &mut Transaction<'_, S>,
     change: &Change,
-    mirror: &ListKeeper,
+    known: &ListKeeper,
 ) -> Result<(), Error>
     ensures same_reference { tx.new.conn.ghost_name ≡ tx.old.conn.ghost_name }
     ensures written { Makes (state S.Store tx.old.conn.now) (state S.Store tx.new.conn.now)
-        (OfEach (AgreesFor change.now mirror.now.content) (WritesTrips change.now)) result }
+        (OfEach (AgreesFor change.now known.now.content) (WritesTrips change.now)) result }
     ensures survives { Survives (state S.Store tx.old.conn.now) (state S.Store tx.new.conn.now) (λ _. ⊥) }
 {
-    let trips = mirror.trips_table();
+    let trips = known.trips_table();
     write_edits::<S, Trips>(tx, &change.trips, trips)?;
     write_edits::<S, TripChairs>(tx, &change.trips, trips)
 }
@@ -172,61 +172,61 @@ fn write_booked<S: Alter>(
 fn write_trips<S: Alter>(
     tx: &mut Transaction<'_, S>,
     change: &Change,
-    mirror: &ListKeeper,
+    known: &ListKeeper,
 ) -> Result<(), Error>
     ensures same_reference { tx.new.conn.ghost_name ≡ tx.old.conn.ghost_name }
     ensures written { Makes (state S.Store tx.old.conn.now) (state S.Store tx.new.conn.now)
-        (OfEach (AgreesFor change.now mirror.now.content) (λ content.
+        (OfEach (AgreesFor change.now known.now.content) (λ content.
         let before = with_area change.now (with_people change.now content) in
         Leads change.now content before (with_trips change.now before))) result }
     ensures open { HasCleanDisk (state S.Store tx.new.conn.now) → IsTrue (state S.Store tx.old.conn.now).in_transaction
         → OnOk result (IsTrue (state S.Store tx.old.conn.now).is_open) }
     ensures survives { Survives (state S.Store tx.old.conn.now) (state S.Store tx.new.conn.now) (λ _. ⊥) }
 {
-    write_booked(tx, change, mirror)?;
-    write_plans(tx, &change.planned, mirror.planned_table())?;
-    write_settings(tx, change, mirror)
+    write_booked(tx, change, known)?;
+    write_plans(tx, &change.planned, known.planned_table())?;
+    write_settings(tx, change, known)
 }
 
 /// Writes all that the change makes of the tables, those that others refer to before these.
 fn write_tables<S: Alter>(
     tx: &mut Transaction<'_, S>,
     change: &Change,
-    mirror: &ListKeeper,
+    known: &ListKeeper,
 ) -> Result<(), Error>
     ensures same_reference { tx.new.conn.ghost_name ≡ tx.old.conn.ghost_name }
     ensures written { Makes (state S.Store tx.old.conn.now) (state S.Store tx.new.conn.now)
-        (OfEach (AgreesFor change.now mirror.now.content) (λ content.
+        (OfEach (AgreesFor change.now known.now.content) (λ content.
         Leads change.now content content (applied change.now content))) result }
     ensures open { HasCleanDisk (state S.Store tx.new.conn.now) → IsTrue (state S.Store tx.old.conn.now).in_transaction
         → OnOk result (IsTrue (state S.Store tx.old.conn.now).is_open) }
     ensures survives { Survives (state S.Store tx.old.conn.now) (state S.Store tx.new.conn.now) (λ _. ⊥) }
 {
-    write_people(tx, change, mirror)?;
-    write_area(tx, change, mirror)?;
-    write_trips(tx, change, mirror)
+    write_people(tx, change, known)?;
+    write_area(tx, change, known)?;
+    write_trips(tx, change, known)
 }
 
-/// Makes the change in the tables in one transaction. Of the records that are there `mirror` has those that the change
+/// Makes the change in the tables in one transaction. Of the records that are there `known` has those that the change
 /// takes away, and a plan that it replaces only as it is there.
 pub fn write_change<S: Alter>(
     conn: &mut Connection<S>,
     change: &Change,
-    mirror: &ListKeeper,
+    known: &ListKeeper,
 ) -> Result<(), Error>
     requires settled { conn.old.in_transaction ≡ false }
     requires puts { PutsWellFormed change.now }
     ensures settled { conn.new.in_transaction ≡ false }
-    ensures made { (content : State) → IsWellFormed content → AgreesFor change.now mirror.now.content content
+    ensures made { (content : State) → IsWellFormed content → AgreesFor change.now known.now.content content
         → HasCleanDisk (state S.Store conn.new) → OnOk result (IsMade content (applied change.now content)
         (state S.Store conn.old) (state S.Store conn.new)) }
     ensures undone { HasCleanDisk (state S.Store conn.new)
         → OnErr result (IsUndone (state S.Store conn.old) (state S.Store conn.new)) }
-    ensures survives { (content : State) → IsWellFormed content → AgreesFor change.now mirror.now.content content
+    ensures survives { (content : State) → IsWellFormed content → AgreesFor change.now known.now.content content
         → Survives (state S.Store conn.old) (state S.Store conn.new)
         (LeadsTo content (applied change.now content) (state S.Store conn.old)) }
 {
     let mut tx = conn.transaction();
-    write_tables(&mut tx, change, mirror)?;
+    write_tables(&mut tx, change, known)?;
     tx.commit()
 }

@@ -1,4 +1,4 @@
-ghost use Rattle.std.specs.Prelude.{◌≡◌, ◌<◌, ◌^◌, ◌∷◌, [], drop, take};
+ghost use Rattle.std.specs.Prelude.{◌≡◌, ◌<◌, ◌^◌, ◌∷◌, [], drop, length, take};
 ghost use Rattle.sqlite.specs.Held.{state};
 ghost use Rattle.sqlite.specs.State.{Survives};
 ghost use Rattle.pt_scheduling.specs.Plan.{plan_key};
@@ -21,6 +21,9 @@ const DELETE_LATER_STOPS: &str =
 
 const INSERT_STOP: &str = "INSERT INTO stops (vehicle, day, place, trip, kind) \
     VALUES (?1, ?2, ?3, ?4, ?5)";
+
+const INSERT_TWO_STOPS: &str = "INSERT INTO stops (vehicle, day, place, trip, kind) \
+    VALUES (?1, ?2, ?3, ?4, ?5), (?1, ?2, ?6, ?7, ?8)";
 
 /// Puts the stops of a vehicle on a day, in place of those that it had on the day.
 pub(crate) fn put_plan<S: Alter>(
@@ -102,7 +105,7 @@ fn take_later_stops<S: Alter>(
     Ok(())
 }
 
-/// Adds the rows of the stops from this place on, counted from 0.
+/// Adds the rows of the stops from this place on, counted from 0, two by one statement.
 fn insert_stops<S: Alter>(
     tx: &mut Transaction<'_, S>,
     plan: &PlannedRoute,
@@ -114,13 +117,76 @@ fn insert_stops<S: Alter>(
     ensures survives { Survives (state S.Store tx.old.conn.now) (state S.Store tx.new.conn.now) (λ _. ⊥) }
 {
     let stops = plan.stops.as_slice();
-    for place in first..stops.len() {
-        insert_stop(tx, plan.vehicle, plan.day, place as i64, stops[place])?;
+    let mut place = first;
+    while place < stops.len() {
+        insert_stops_at(tx, plan, place)?;
+        place += 2;
     }
     Ok(())
 }
 
-/// Adds the row of a stop.
+/// Adds the rows of the stop at this place and of the next, if there is one.
+fn insert_stops_at<S: Alter>(
+    tx: &mut Transaction<'_, S>,
+    plan: &PlannedRoute,
+    place: usize,
+) -> Result<(), Error>
+    requires there { place < length plan.now.stops }
+    ensures same_reference { tx.new.conn.ghost_name ≡ tx.old.conn.ghost_name }
+    ensures written { Makes (state S.Store tx.old.conn.now) (state S.Store tx.new.conn.now)
+        (Adds stops_table (stop_rows_from place plan.now.vehicle plan.now.day (take 2 (drop place plan.now.stops))))
+        result }
+    ensures survives { Survives (state S.Store tx.old.conn.now) (state S.Store tx.new.conn.now) (λ _. ⊥) }
+{
+    let stops = plan.stops.as_slice();
+    let stop = stops[place];
+    let next = place + 1;
+    if next == stops.len() {
+        return insert_stop(tx, plan.vehicle, plan.day, place as i64, stop);
+    }
+    insert_two_stops(
+        tx,
+        plan.vehicle,
+        plan.day,
+        place as i64,
+        stop,
+        next as i64,
+        stops[next],
+    )
+}
+
+/// Adds the rows of two stops, each with its place.
+fn insert_two_stops<S: Alter>(
+    tx: &mut Transaction<'_, S>,
+    vehicle: VehicleId,
+    day: Day,
+    place: i64,
+    stop: PlannedStop,
+    next: i64,
+    later: PlannedStop,
+) -> Result<(), Error>
+    ensures same_reference { tx.new.conn.ghost_name ≡ tx.old.conn.ghost_name }
+    ensures written { Makes (state S.Store tx.old.conn.now) (state S.Store tx.new.conn.now)
+        (Adds stops_table (stop_row vehicle day place stop ∷ stop_row vehicle day next later ∷ [])) result }
+    ensures survives { Survives (state S.Store tx.old.conn.now) (state S.Store tx.new.conn.now) (λ _. ⊥) }
+{
+    tx.execute(
+        INSERT_TWO_STOPS,
+        params![
+            vehicle.number(),
+            day.number(),
+            place,
+            stop.trip.number(),
+            stop_number(stop.kind),
+            next,
+            later.trip.number(),
+            stop_number(later.kind)
+        ],
+    )?;
+    Ok(())
+}
+
+/// Adds the row of a stop with its place.
 fn insert_stop<S: Alter>(
     tx: &mut Transaction<'_, S>,
     vehicle: VehicleId,

@@ -7,6 +7,7 @@ ghost use Rattle.pt_tables_rows.specs.Schema.{travel_table};
 ghost use Rattle.pt_tables_rows.specs.Tables.{Makes};
 ghost use Rattle.pt_tables_writing.specs.Grouped.{Adds};
 ghost use Rattle.pt_tables_writing.specs.Writes.{Puts, Takes};
+ghost use Rattle.pt_desk_rules.specs.Ranges.{FitsTravel};
 
 use pt_base::Day;
 use pt_desk_rules::TravelTable;
@@ -24,7 +25,7 @@ pub(crate) fn put_travel<S: Alter>(
 ) -> Result<(), Error>
     ensures same_reference { tx.new.conn.ghost_name ≡ tx.old.conn.ghost_name }
     ensures written { Makes (state S.Store tx.old.conn.now) (state S.Store tx.new.conn.now)
-        (Puts travel_table travel_key (λ _. Unit {0}) travel_rows table.now) result }
+        (Puts travel_table travel_key FitsTravel travel_rows table.now) result }
     ensures survives { Survives (state S.Store tx.old.conn.now) (state S.Store tx.new.conn.now) (λ _. ⊥) }
 {
     take_travel(tx, table)?;
@@ -38,7 +39,7 @@ pub(crate) fn take_travel<S: Alter>(
 ) -> Result<(), Error>
     ensures same_reference { tx.new.conn.ghost_name ≡ tx.old.conn.ghost_name }
     ensures written { Makes (state S.Store tx.old.conn.now) (state S.Store tx.new.conn.now)
-        (Takes travel_table travel_key (λ _. Unit {0}) travel_rows table.now) result }
+        (Takes travel_table travel_key FitsTravel travel_rows table.now) result }
     ensures survives { Survives (state S.Store tx.old.conn.now) (state S.Store tx.new.conn.now) (λ _. ⊥) }
 {
     tx.execute(DELETE_TRAVEL, params![table.from_day().number()])?;

@@ -6,6 +6,7 @@ ghost use Rattle.pt_tables_rows.specs.Rows.{caller_row};
 ghost use Rattle.pt_tables_rows.specs.Schema.{callers_table};
 ghost use Rattle.pt_tables_rows.specs.Tables.{Makes};
 ghost use Rattle.pt_tables_writing.specs.Writes.{Puts, Takes};
+ghost use Rattle.pt_spelling.specs.Ranges.{IsCaller};
 
 use pt_requests::Caller;
 use pt_spelling::{role_number, subject_of};
@@ -24,7 +25,7 @@ pub(crate) fn put_caller<S: Alter>(
 ) -> Result<(), Error>
     ensures same_reference { tx.new.conn.ghost_name ≡ tx.old.conn.ghost_name }
     ensures written { Makes (state S.Store tx.old.conn.now) (state S.Store tx.new.conn.now)
-        (Puts callers_table caller_key (λ _. Unit {0}) (λ x. caller_row x ∷ []) caller.now) result }
+        (Puts callers_table caller_key IsCaller (λ x. caller_row x ∷ []) caller.now) result }
     ensures survives { Survives (state S.Store tx.old.conn.now) (state S.Store tx.new.conn.now) (λ _. ⊥) }
 {
     tx.execute(
@@ -46,7 +47,7 @@ pub(crate) fn take_caller<S: Alter>(
 ) -> Result<(), Error>
     ensures same_reference { tx.new.conn.ghost_name ≡ tx.old.conn.ghost_name }
     ensures written { Makes (state S.Store tx.old.conn.now) (state S.Store tx.new.conn.now)
-        (Takes callers_table caller_key (λ _. Unit {0}) (λ x. caller_row x ∷ []) caller.now) result }
+        (Takes callers_table caller_key IsCaller (λ x. caller_row x ∷ []) caller.now) result }
     ensures survives { Survives (state S.Store tx.old.conn.now) (state S.Store tx.new.conn.now) (λ _. ⊥) }
 {
     tx.execute(TAKE_CALLER, params![caller.id.number()])?;

@@ -6,6 +6,7 @@ ghost use Rattle.pt_tables_rows.specs.Rows.{kept_row};
 ghost use Rattle.pt_tables_rows.specs.Schema.{kept_table};
 ghost use Rattle.pt_tables_rows.specs.Tables.{Makes};
 ghost use Rattle.pt_tables_writing.specs.Writes.{Puts, Takes};
+ghost use Rattle.pt_desk_rules.specs.Ranges.{FitsKept};
 
 use pt_desk_rules::Kept;
 use pt_spelling::spell_reply;
@@ -21,7 +22,7 @@ const TAKE_KEPT: &str = "DELETE FROM kept WHERE caller = ?1";
 pub(crate) fn put_kept<S: Alter>(tx: &mut Transaction<'_, S>, kept: &Kept) -> Result<(), Error>
     ensures same_reference { tx.new.conn.ghost_name ≡ tx.old.conn.ghost_name }
     ensures written { Makes (state S.Store tx.old.conn.now) (state S.Store tx.new.conn.now)
-        (Puts kept_table kept_key (λ _. Unit {0}) (λ x. kept_row x ∷ []) kept.now) result }
+        (Puts kept_table kept_key FitsKept (λ x. kept_row x ∷ []) kept.now) result }
     ensures survives { Survives (state S.Store tx.old.conn.now) (state S.Store tx.new.conn.now) (λ _. ⊥) }
 {
     let reply = spell_reply(&kept.reply);
@@ -41,7 +42,7 @@ pub(crate) fn put_kept<S: Alter>(tx: &mut Transaction<'_, S>, kept: &Kept) -> Re
 pub(crate) fn take_kept<S: Alter>(tx: &mut Transaction<'_, S>, kept: &Kept) -> Result<(), Error>
     ensures same_reference { tx.new.conn.ghost_name ≡ tx.old.conn.ghost_name }
     ensures written { Makes (state S.Store tx.old.conn.now) (state S.Store tx.new.conn.now)
-        (Takes kept_table kept_key (λ _. Unit {0}) (λ x. kept_row x ∷ []) kept.now) result }
+        (Takes kept_table kept_key FitsKept (λ x. kept_row x ∷ []) kept.now) result }
     ensures survives { Survives (state S.Store tx.old.conn.now) (state S.Store tx.new.conn.now) (λ _. ⊥) }
 {
     tx.execute(TAKE_KEPT, params![kept.caller.number()])?;

@@ -6,6 +6,7 @@ ghost use Rattle.pt_tables_rows.specs.Rows.{place_row};
 ghost use Rattle.pt_tables_rows.specs.Schema.{places_table};
 ghost use Rattle.pt_tables_rows.specs.Tables.{Makes};
 ghost use Rattle.pt_tables_writing.specs.Writes.{Puts, Takes};
+ghost use Rattle.pt_desk_rules.specs.Ranges.{FitsPlace};
 
 use pt_base::Place;
 use sqlite::{Alter, Error, Transaction, params};
@@ -19,7 +20,7 @@ const TAKE_PLACE: &str = "DELETE FROM places WHERE id = ?1";
 pub(crate) fn put_place<S: Alter>(tx: &mut Transaction<'_, S>, place: &Place) -> Result<(), Error>
     ensures same_reference { tx.new.conn.ghost_name ≡ tx.old.conn.ghost_name }
     ensures written { Makes (state S.Store tx.old.conn.now) (state S.Store tx.new.conn.now)
-        (Puts places_table place_key (λ _. Unit {0}) (λ x. place_row x ∷ []) place.now) result }
+        (Puts places_table place_key FitsPlace (λ x. place_row x ∷ []) place.now) result }
     ensures survives { Survives (state S.Store tx.old.conn.now) (state S.Store tx.new.conn.now) (λ _. ⊥) }
 {
     tx.execute(
@@ -38,7 +39,7 @@ pub(crate) fn put_place<S: Alter>(tx: &mut Transaction<'_, S>, place: &Place) ->
 pub(crate) fn take_place<S: Alter>(tx: &mut Transaction<'_, S>, place: &Place) -> Result<(), Error>
     ensures same_reference { tx.new.conn.ghost_name ≡ tx.old.conn.ghost_name }
     ensures written { Makes (state S.Store tx.old.conn.now) (state S.Store tx.new.conn.now)
-        (Takes places_table place_key (λ _. Unit {0}) (λ x. place_row x ∷ []) place.now) result }
+        (Takes places_table place_key FitsPlace (λ x. place_row x ∷ []) place.now) result }
     ensures survives { Survives (state S.Store tx.old.conn.now) (state S.Store tx.new.conn.now) (λ _. ⊥) }
 {
     tx.execute(TAKE_PLACE, params![place.id.number()])?;

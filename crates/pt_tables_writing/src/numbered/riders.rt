@@ -6,6 +6,7 @@ ghost use Rattle.pt_tables_rows.specs.Rows.{rider_row};
 ghost use Rattle.pt_tables_rows.specs.Schema.{riders_table};
 ghost use Rattle.pt_tables_rows.specs.Tables.{Makes};
 ghost use Rattle.pt_tables_writing.specs.Writes.{Puts, Takes};
+ghost use Rattle.pt_desk_rules.specs.Ranges.{FitsRider};
 
 use super::columns::kind_number;
 use pt_base::Rider;
@@ -20,7 +21,7 @@ const TAKE_RIDER: &str = "DELETE FROM riders WHERE id = ?1";
 pub(crate) fn put_rider<S: Alter>(tx: &mut Transaction<'_, S>, rider: &Rider) -> Result<(), Error>
     ensures same_reference { tx.new.conn.ghost_name ≡ tx.old.conn.ghost_name }
     ensures written { Makes (state S.Store tx.old.conn.now) (state S.Store tx.new.conn.now)
-        (Puts riders_table rider_key (λ _. Unit {0}) (λ x. rider_row x ∷ []) rider.now) result }
+        (Puts riders_table rider_key FitsRider (λ x. rider_row x ∷ []) rider.now) result }
     ensures survives { Survives (state S.Store tx.old.conn.now) (state S.Store tx.new.conn.now) (λ _. ⊥) }
 {
     tx.execute(
@@ -38,7 +39,7 @@ pub(crate) fn put_rider<S: Alter>(tx: &mut Transaction<'_, S>, rider: &Rider) ->
 pub(crate) fn take_rider<S: Alter>(tx: &mut Transaction<'_, S>, rider: &Rider) -> Result<(), Error>
     ensures same_reference { tx.new.conn.ghost_name ≡ tx.old.conn.ghost_name }
     ensures written { Makes (state S.Store tx.old.conn.now) (state S.Store tx.new.conn.now)
-        (Takes riders_table rider_key (λ _. Unit {0}) (λ x. rider_row x ∷ []) rider.now) result }
+        (Takes riders_table rider_key FitsRider (λ x. rider_row x ∷ []) rider.now) result }
     ensures survives { Survives (state S.Store tx.old.conn.now) (state S.Store tx.new.conn.now) (λ _. ⊥) }
 {
     tx.execute(TAKE_RIDER, params![rider.id.number()])?;

@@ -6,6 +6,7 @@ ghost use Rattle.pt_tables_rows.specs.Rows.{route_row};
 ghost use Rattle.pt_tables_rows.specs.Schema.{fixed_table};
 ghost use Rattle.pt_tables_rows.specs.Tables.{Makes};
 ghost use Rattle.pt_tables_writing.specs.Writes.{Puts, Takes};
+ghost use Rattle.pt_spelling.specs.Ranges.{IsRoute};
 
 use super::columns::points_bytes;
 use pt_corridor::FixedRoute;
@@ -27,7 +28,7 @@ pub(crate) fn put_route<S: Alter>(
 ) -> Result<(), Error>
     ensures same_reference { tx.new.conn.ghost_name ≡ tx.old.conn.ghost_name }
     ensures written { Makes (state S.Store tx.old.conn.now) (state S.Store tx.new.conn.now)
-        (Puts fixed_table route_key (λ _. Unit {0}) (λ x. route_row x ∷ []) route.now) result }
+        (Puts fixed_table route_key IsRoute (λ x. route_row x ∷ []) route.now) result }
     ensures survives { Survives (state S.Store tx.old.conn.now) (state S.Store tx.new.conn.now) (λ _. ⊥) }
 {
     let points = points_bytes(route);
@@ -53,7 +54,7 @@ pub(crate) fn take_route<S: Alter>(
 ) -> Result<(), Error>
     ensures same_reference { tx.new.conn.ghost_name ≡ tx.old.conn.ghost_name }
     ensures written { Makes (state S.Store tx.old.conn.now) (state S.Store tx.new.conn.now)
-        (Takes fixed_table route_key (λ _. Unit {0}) (λ x. route_row x ∷ []) route.now) result }
+        (Takes fixed_table route_key IsRoute (λ x. route_row x ∷ []) route.now) result }
     ensures survives { Survives (state S.Store tx.old.conn.now) (state S.Store tx.new.conn.now) (λ _. ⊥) }
 {
     tx.execute(TAKE_ROUTE, params![route.id().number()])?;

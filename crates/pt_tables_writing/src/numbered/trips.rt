@@ -6,6 +6,7 @@ ghost use Rattle.pt_tables_rows.specs.Rows.{trip_row};
 ghost use Rattle.pt_tables_rows.specs.Schema.{trips_table};
 ghost use Rattle.pt_tables_rows.specs.Tables.{Makes};
 ghost use Rattle.pt_tables_writing.specs.Writes.{Puts, Takes};
+ghost use Rattle.pt_desk_rules.specs.Ranges.{FitsTrip};
 
 use super::columns::{optional_number, status_number};
 use pt_base::Trip;
@@ -24,7 +25,7 @@ const TAKE_TRIP: &str = "DELETE FROM trips WHERE id = ?1";
 pub(crate) fn put_trip<S: Alter>(tx: &mut Transaction<'_, S>, trip: &Trip) -> Result<(), Error>
     ensures same_reference { tx.new.conn.ghost_name ≡ tx.old.conn.ghost_name }
     ensures written { Makes (state S.Store tx.old.conn.now) (state S.Store tx.new.conn.now)
-        (Puts trips_table trip_key (λ _. Unit {0}) (λ x. trip_row x ∷ []) trip.now) result }
+        (Puts trips_table trip_key FitsTrip (λ x. trip_row x ∷ []) trip.now) result }
     ensures survives { Survives (state S.Store tx.old.conn.now) (state S.Store tx.new.conn.now) (λ _. ⊥) }
 {
     tx.execute(
@@ -55,7 +56,7 @@ pub(crate) fn put_trip<S: Alter>(tx: &mut Transaction<'_, S>, trip: &Trip) -> Re
 pub(crate) fn take_trip<S: Alter>(tx: &mut Transaction<'_, S>, trip: &Trip) -> Result<(), Error>
     ensures same_reference { tx.new.conn.ghost_name ≡ tx.old.conn.ghost_name }
     ensures written { Makes (state S.Store tx.old.conn.now) (state S.Store tx.new.conn.now)
-        (Takes trips_table trip_key (λ _. Unit {0}) (λ x. trip_row x ∷ []) trip.now) result }
+        (Takes trips_table trip_key FitsTrip (λ x. trip_row x ∷ []) trip.now) result }
     ensures survives { Survives (state S.Store tx.old.conn.now) (state S.Store tx.new.conn.now) (λ _. ⊥) }
 {
     tx.execute(TAKE_TRIP, params![trip.id.number()])?;

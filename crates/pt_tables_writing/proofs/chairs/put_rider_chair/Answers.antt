@@ -5,10 +5,11 @@ use Rattle.pt_tables_rows.specs.Rows.{number_value, rider_chair_rows, row_if}
 use Rattle.pt_tables_rows.specs.Schema.{rider_chairs_table}
 use Rattle.pt_tables_writing.proofs.ChairWrites.{changes_none}
 use Rattle.pt_tables_writing.proofs.chairs.put_rider_chair.Goals as goal
+use Rattle.pt_desk_rules.specs.Ranges.{FitsRider}
 
 pub returns-then-not-rider-clause-written : goal.returns-then-not-rider-clause-written
 returns-then-not-rider-clause-written g c clean inside =
     let rider = c.args.rider.now in
     let unmarked : rider.wheelchair ≡ false = c.if-not-rider.true in
-    changes_none rider_chairs_table rider_key (λ _. Unit {0}) rider_chair_rows rider (ap (λ s. row_if s (number_value rider.id ∷ [])) unmarked) (state g.S.Store c.args.tx.now.conn.now) (state g.S.Store c.take_rider_chair.new.tx.conn.now)
+    changes_none rider_chairs_table rider_key FitsRider rider_chair_rows rider (ap (λ s. row_if s (number_value rider.id ∷ [])) unmarked) (state g.S.Store c.args.tx.now.conn.now) (state g.S.Store c.take_rider_chair.new.tx.conn.now)
     c.take_rider_chair.result (c.take_rider_chair.ensures.written clean inside)

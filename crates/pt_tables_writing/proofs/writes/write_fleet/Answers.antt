@@ -15,7 +15,7 @@ use Rattle.pt_tables_writing.proofs.writes.write_fleet.Goals as goal
 pub returns-clause-written : goal.returns-clause-written
 returns-clause-written g c =
     let change = c.args.change.now in
-    let known = c.args.mirror.now.content in
+    let known = c.args.known.now.content in
     let s1 = state g.S.Store c.args.tx.now.conn.now in
     let s2 = state g.S.Store c.take_spans.new.tx.conn.now in
     let s3 = state g.S.Store c.write_vehicles.new.tx.conn.now in

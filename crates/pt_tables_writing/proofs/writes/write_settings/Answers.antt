@@ -12,7 +12,7 @@ use Rattle.pt_tables_writing.proofs.writes.write_settings.Goals as goal
 pub returns-clause-written : goal.returns-clause-written
 returns-clause-written g c =
     let change = c.args.change.now in
-    let known = c.args.mirror.now.content in
+    let known = c.args.known.now.content in
     let old = state g.S.Store c.args.tx.now.conn.now in
     let new = state g.S.Store c.write_desk.new.tx.conn.now in
     did_as {X = Unit {0}} old new (λ a b. (p : Policy) (n : ℕ) → Rewrites desk_table (desk_row p n ∷ []) (desk_row c.policy_after-policy.result c.last_trip_after.result ∷ []) a b)

@@ -8,7 +8,7 @@ use Rattle.pt_tables_writing.proofs.writes.write_tables.Goals as goal
 pub returns-clause-written : goal.returns-clause-written
 returns-clause-written g c =
     let change = c.args.change.now in
-    let known = c.args.mirror.now.content in
+    let known = c.args.known.now.content in
     let s1 = state g.S.Store c.args.tx.now.conn.now in
     let s2 = state g.S.Store c.write_people.new.tx.conn.now in
     let s3 = state g.S.Store c.write_area.new.tx.conn.now in
@@ -28,7 +28,7 @@ returns-clause-written g c =
 pub returns-clause-open : goal.returns-clause-open
 returns-clause-open g c clean inside =
     let change = c.args.change.now in
-    let known = c.args.mirror.now.content in
+    let known = c.args.known.now.content in
     let s1 = state g.S.Store c.args.tx.now.conn.now in
     let s2 = state g.S.Store c.write_people.new.tx.conn.now in
     let s3 = state g.S.Store c.write_area.new.tx.conn.now in

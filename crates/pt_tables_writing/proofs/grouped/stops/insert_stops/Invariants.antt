@@ -1,4 +1,4 @@
-use Rattle.std.proofs.Common.{◌≡◌, ◌-◌, IsTrue, Ok, drop, take}
+use Rattle.std.proofs.Common.{◌≡◌, ◌-◌, ◌≤◌, IsTrue, Ok, drop, length, take}
 use Rattle.sqlite.specs.Held.{state}
 use Rattle.sqlite.specs.State.{HasCleanDisk, Survives}
 use Rattle.pt_tables_writing.specs.Grouped.{Adds}
@@ -13,8 +13,12 @@ invariant-loop-place g l =
     let now = state g.S.Store l.tx.conn.now in
     let plan = l.fn.plan in
     record {
+      from : l.fn.first ≤ l.place;
       same : l.tx.conn.ghost_name ≡ l.initial.tx.conn.ghost_name;
       survives : Survives old now (λ _. ⊥);
       written : HasCleanDisk now → IsTrue old.in_transaction
           → ChangesIfOk {X = Unit {0}} old now (Adds stops_table (stop_rows_from l.fn.first plan.vehicle plan.day (take (l.place - l.fn.first) (drop l.fn.first plan.stops)))) (Ok tt);
     }
+
+abbrev pub decreases-loop-place : goal.decreases-loop-place
+decreases-loop-place g l = length l.fn.plan.stops - l.place
