@@ -33,10 +33,10 @@ module _ {A : Type 0} (key : A → ℕ) (row_of : A → Row) (Fits : A → Type 
 module _ {A : Type 0} (key : A → ℕ) (row_of : A → Row) (Fits : A → Type 0) (columns : ℕ) (keeps : Keeps columns key row_of Fits) (home : Table) (text : List ℕ) (params : Row) (passes_row : Row → Bool)
     (asks : AsksFor columns home text params passes_row) (db : Database) (has : db.schema ≡ desk_schema) where
   -- the records in order whose rows are, in some order, those of the table that pass
-  pub has_answer : (xs : List A) → Each Fits xs → IsInOrder key xs → IsPermutation (filter passes_row (map (columns_of home) (db.trees home.tree))) (map row_of xs) → HasAnswer text params row_of db xs
+  pub has_answer : (xs : List A) → Each Fits xs → IsInOrder key xs → IsPermutation (filter passes_row (map (columns_of home) (db.trees home.tree))) (map row_of xs) → HasAnswer text params db (map row_of xs)
   has_answer xs each order are = record {
     schema = has;
-    rows = λ rows h.
+    shown = λ rows h.
         let both = answers_passing desk_schema columns home text params passes_row asks db rows h in
         let there = filter passes_row (map (columns_of home) (db.trees home.tree)) in
         keeps rows both.1 xs each order (IsPermutation-trans (map row_of xs) there rows (IsPermutation-sym there (map row_of xs) are) both.0);
@@ -48,7 +48,7 @@ module _ {A : Type 0} (key : A → ℕ) (row_of : A → Row) (Fits : A → Type 
     filter_each [] each = refl
     filter_each (y ∷ ys) each = ap₂ (λ b l. cond b (y ∷ l) l) (passing y each.0) (filter_each ys each.1)
 
-    pub has_passing : HasAnswer text params row_of db (filter passes xs)
+    pub has_passing : HasAnswer text params db (map row_of (filter passes xs))
     has_passing =
         let there = map (columns_of home) (db.trees home.tree) in
         has_answer (filter passes xs) (Each-filter Fits passes xs each) (IsInOrder-filter key passes xs order)

@@ -17,20 +17,20 @@ use Rattle.pt_records.specs.Keys.{pair_key}
 use Rattle.pt_records.specs.Records.{Each, IsInOrder, is_within, within}
 use Rattle.pt_records.specs.declared.span.Span.{Span}
 use Rattle.pt_records.proofs.OrderLemmas.{Each-weaker}
+use Rattle.pt_records.proofs.TableLemmas.{IsInOrder-filter}
 use Rattle.pt_desk_rules.specs.Ranges.{FitsFiled, FitsKept, FitsRider, FitsTrip}
-use Rattle.pt_tables_rows.specs.Rows.{entry_row, kept_row, number_value, rider_row, row_if, trip_row}
+use Rattle.pt_tables_rows.specs.Rows.{entry_row, kept_row, number_value, rider_chair_rows, rider_row, row_if, trip_chair_rows, trip_row}
 use Rattle.pt_tables_rows.specs.Schema.{desk_schema, entries_table, kept_table, rider_chairs_table, riders_table, trip_chairs_table, trips_table}
 use Rattle.pt_tables_rows.specs.Tables.{AreRows, IsKept, Stands}
 use Rattle.pt_tables_rows.proofs.SameRowsRecords.{number_in, entry-told, kept-told, rider-told, trip-told}
 use Rattle.pt_tables_asking.specs.Asking.{HasAnswer, Rests}
 use Rattle.pt_tables_rows.specs.WellFormed.{IsWellFormed}
-use Rattle.pt_tables_asking.specs.Marks.{FitsMark, HasMarked, mark_if, mark_key, mark_row, marks_of}
-use Rattle.pt_tables_asking.specs.declared.marks.Mark.{Mark}
+use Rattle.pt_tables_asking.specs.Marks.{FitsMark, HasMarks, IsMark, has_row, mark_key, mark_row, marked_in}
 use Rattle.pt_tables_asking.specs.declared.texts.TheConstants.{ENTRIES_BY_RIDER, KEPT_BY_CALLER, RIDER_BY_NUMBER, RIDER_MARKS, TRIPS_BY_DAY, TRIPS_BY_RIDER, TRIPS_FROM_DAY, TRIP_BY_NUMBER, TRIP_MARKS}
 use Rattle.pt_tables_asking.proofs.AnswerLemmas.{by_one, by_two, has_passing}
 use Rattle.pt_tables_asking.proofs.AskedQueries.{AsksFor}
 use Rattle.pt_tables_asking.proofs.InsideLemmas.{still_shown}
-use Rattle.pt_tables_asking.proofs.MarkLemmas.{marks_in_order}
+use Rattle.pt_tables_asking.proofs.MarkLemmas.{has_row-if, in_order_by_rows, mark_rows, marked_are, marks_fit, marks_in_order, marks_of, marks_within}
 use Rattle.pt_tables_asking.proofs.ReadLemmas.{at_params}
 use Rattle.pt_tables_asking.proofs.TextLemmas.{at_least, between, entries_text, has_least, has_number, is_between, kept_text, rider_marks_text, rider_text, same_number, trip_marks_text, trip_text, trips_by_day_text, trips_by_rider_text, trips_from_day_text}
 
@@ -45,30 +45,16 @@ kept_still content old new rests clean held = record {
 
 -- ---- marks
 
-module _ {A : Type 0} (key : A → ℕ) (is_marked : A → Bool) where
-  rows_if : (n : ℕ) (b : Bool) (rows : List Row) (ms : List Mark) → rows ≡ map mark_row ms → row_if b (number_value n ∷ []) ++ rows ≡ map mark_row (mark_if b n ++ ms)
-  rows_if n true rows ms same = ap (λ l. (number_value n ∷ []) ∷ l) same
-  rows_if n false rows ms same = same
-
-  mark_rows : (xs : List A) → flat_map (λ x. row_if (is_marked x) (number_value (key x) ∷ [])) xs ≡ map mark_row (marks_of key is_marked xs)
-  mark_rows [] = refl
-  mark_rows (x ∷ xs) = rows_if (key x) (is_marked x) _ (marks_of key is_marked xs) (mark_rows xs)
-
-  fit_if : (n : ℕ) (b : Bool) (ms : List Mark) → n < 2 ^ 32 → Each FitsMark ms → Each FitsMark (mark_if b n ++ ms)
-  fit_if n true ms low each = (low, each)
-  fit_if n false ms low each = each
-
-  pub marks_fit : (xs : List A) → Each (λ x. key x < 2 ^ 32) xs → Each FitsMark (marks_of key is_marked xs)
-  marks_fit [] each = tt
-  marks_fit (x ∷ xs) each = fit_if (key x) (is_marked x) (marks_of key is_marked xs) each.0 (marks_fit xs each.1)
-
-  pub marks_answer : (home : Table) (text : List ℕ) (asks : (from to : ℕ) → AsksFor 1 home text (number_value from ∷ number_value to ∷ []) (is_between from to)) (db : Database) → db.schema ≡ desk_schema
-      → (xs : List A) → Each (λ x. key x < 2 ^ 32) xs → IsInOrder key xs → AreRows home db.trees (flat_map (λ x. row_if (is_marked x) (number_value (key x) ∷ [])) xs)
-      → (span : Span) → HasAnswer text (number_value span.from ∷ number_value span.to ∷ []) mark_row db (within mark_key span (marks_of key is_marked xs))
-  marks_answer home text asks db has xs each order are span =
-      has_passing mark_key mark_row FitsMark 1 (by_one mark_key mark_row FitsMark (λ m. refl) (λ m. refl)) home text (number_value span.from ∷ number_value span.to ∷ []) (is_between span.from span.to)
-      (asks span.from span.to) db has (λ m. is_within (mark_key m) span) (λ m fits. between m.number span.from span.to) (marks_of key is_marked xs) (marks_fit xs each) (marks_in_order key is_marked xs order)
-      (subst (AreRows home db.trees) (mark_rows xs) are)
+module _ {A : Type 0} (key : A → ℕ) (rows_of : A → List Row) (are : (x : A) → IsMark (key x) (rows_of x)) (home : Table) (text : List ℕ)
+    (asks : (from to : ℕ) → AsksFor 1 home text (number_value from ∷ number_value to ∷ []) (is_between from to)) (db : Database) (has : db.schema ≡ desk_schema) where
+  pub marks_answer : (xs : List A) → Each (λ x. key x < 2 ^ 32) xs → IsInOrder key xs → AreRows home db.trees (flat_map rows_of xs) → HasMarks text key rows_of db xs
+  marks_answer xs each order rows span =
+      let params = number_value span.from ∷ number_value span.to ∷ [] in
+      let marks = marks_of key rows_of are xs in
+      subst (HasAnswer text params db) (ap (map mark_row) (marks_within key rows_of are span xs) ∙ sym (mark_rows key rows_of are (within key span xs)))
+      (has_passing mark_key mark_row FitsMark 1 (by_one mark_key mark_row FitsMark (λ m. refl) (λ m. refl)) home text params (is_between span.from span.to)
+      (asks span.from span.to) db has (λ m. is_within (mark_key m) span) (λ m fits. between m.number span.from span.to) marks (marks_fit key rows_of are xs each)
+      (marks_in_order key rows_of are xs order) (subst (AreRows home db.trees) (mark_rows key rows_of are xs) rows))
 
 -- ---- entries
 
@@ -93,105 +79,120 @@ pub trips_keyed : (x y : Trip) → trip_row x ≡ trip_row y → trip_key x ≡ 
 trips_keyed x y same = ap (number_in 0) same
 
 -- a row and a mark tell them
-pub riders_told : (x y : Rider) → rider_row x ≡ rider_row y → x.wheelchair ≡ y.wheelchair → x ≡ y
-riders_told x y same marks = rider-told x y same (same_mark x.wheelchair y.wheelchair x.id y.id marks (riders_keyed x y same))
+riders_told : (x y : Rider) → rider_row x ≡ rider_row y → record x { wheelchair = has_row (rider_chair_rows y) } ≡ y
+riders_told x y same =
+    rider-told (record x { wheelchair = has_row (rider_chair_rows y) }) y same
+    (same_mark (has_row (rider_chair_rows y)) y.wheelchair x.id y.id (has_row-if y.id y.wheelchair) (riders_keyed x y same))
 
-pub trips_told : (x y : Trip) → trip_row x ≡ trip_row y → x.wheelchair ≡ y.wheelchair → x ≡ y
-trips_told x y same marks = trip-told x y same (same_mark x.wheelchair y.wheelchair x.id y.id marks (trips_keyed x y same))
+trips_told : (x y : Trip) → trip_row x ≡ trip_row y → record x { wheelchair = has_row (trip_chair_rows y) } ≡ y
+trips_told x y same =
+    trip-told (record x { wheelchair = has_row (trip_chair_rows y) }) y same
+    (same_mark (has_row (trip_chair_rows y)) y.wheelchair x.id y.id (has_row-if y.id y.wheelchair) (trips_keyed x y same))
+
+-- those that pass, from their rows and their marks
+module _ (content : State) (readable : IsWellFormed content) where
+  pub riders_rise : (passes : Rider → Bool) (found : List Rider) → map rider_row found ≡ map rider_row (filter passes content.riders) → IsInOrder rider_key found
+  riders_rise passes found same = in_order_by_rows rider_key rider_row riders_keyed found _ same (IsInOrder-filter rider_key passes content.riders readable.riders)
+
+  pub riders_marked : (passes : Rider → Bool) (found : List Rider) → map rider_row found ≡ map rider_row (filter passes content.riders)
+      → map (marked_in rider_key rider_chair_rows (λ r is. record r { wheelchair = is }) content.riders) found ≡ filter passes content.riders
+  riders_marked passes found same =
+      marked_are rider_key rider_row riders_keyed rider_chair_rows (λ r is. record r { wheelchair = is }) riders_told content.riders passes readable.riders found same
+
+  pub trips_rise : (passes : Trip → Bool) (found : List Trip) → map trip_row found ≡ map trip_row (filter passes content.trips) → IsInOrder trip_key found
+  trips_rise passes found same = in_order_by_rows trip_key trip_row trips_keyed found _ same (IsInOrder-filter trip_key passes content.trips readable.trips)
+
+  pub trips_marked : (passes : Trip → Bool) (found : List Trip) → map trip_row found ≡ map trip_row (filter passes content.trips)
+      → map (marked_in trip_key trip_chair_rows (λ t is. record t { wheelchair = is }) content.trips) found ≡ filter passes content.trips
+  trips_marked passes found same =
+      marked_are trip_key trip_row trips_keyed trip_chair_rows (λ t is. record t { wheelchair = is }) trips_told content.trips passes readable.trips found same
 
 -- ---- what the texts ask for
 
 module _ (content : State) (readable : IsWellFormed content) where
-  rider_numbers : Each (λ r. rider_key r < 2 ^ 32) content.riders
+  pub rider_numbers : Each (λ r. rider_key r < 2 ^ 32) content.riders
   rider_numbers = Each-weaker FitsRider (λ r. rider_key r < 2 ^ 32) (λ r fits. fits.1) content.riders readable.ranges.riders
 
-  trip_numbers : Each (λ t. trip_key t < 2 ^ 32) content.trips
+  pub trip_numbers : Each (λ t. trip_key t < 2 ^ 32) content.trips
   trip_numbers = Each-weaker FitsTrip (λ t. trip_key t < 2 ^ 32) (λ t fits. fits.id.1) content.trips readable.ranges.trips
 
-  pub rider_marks_fit : Each FitsMark (marks_of rider_key (λ r. r.wheelchair) content.riders)
-  rider_marks_fit = marks_fit rider_key (λ r. r.wheelchair) content.riders rider_numbers
-
-  pub trip_marks_fit : Each FitsMark (marks_of trip_key (λ t. t.wheelchair) content.trips)
-  trip_marks_fit = marks_fit trip_key (λ t. t.wheelchair) content.trips trip_numbers
-
 module _ (content : State) (readable : IsWellFormed content) (db : Database) (stands : Stands content db) where
-  pub kept_answer : (caller : ℕ) → HasAnswer KEPT_BY_CALLER.now (number_value caller ∷ []) kept_row db (filter (λ kept. kept_key kept == caller) content.kept)
+  pub kept_answer : (caller : ℕ) → HasAnswer KEPT_BY_CALLER.now (number_value caller ∷ []) db (map kept_row (filter (λ kept. kept_key kept == caller) content.kept))
   kept_answer caller =
       has_passing kept_key kept_row FitsKept 1 (by_one kept_key kept_row FitsKept (λ x. refl) (λ x. refl)) kept_table KEPT_BY_CALLER.now (number_value caller ∷ []) (has_number 0 caller) (kept_text caller)
       db stands.schema (λ kept. kept_key kept == caller) (λ kept fits. same_number kept.caller caller) content.kept readable.ranges.kept readable.kept stands.rows.records.kept
 
-  pub rider_answer : (rider : ℕ) → HasAnswer RIDER_BY_NUMBER.now (number_value rider ∷ []) rider_row db (filter (λ r. rider_key r == rider) content.riders)
+  pub rider_answer : (rider : ℕ) → HasAnswer RIDER_BY_NUMBER.now (number_value rider ∷ []) db (map rider_row (filter (λ r. rider_key r == rider) content.riders))
   rider_answer rider =
       has_passing rider_key rider_row FitsRider 1 (by_one rider_key rider_row FitsRider (λ x. refl) (λ x. refl)) riders_table RIDER_BY_NUMBER.now (number_value rider ∷ []) (has_number 0 rider) (rider_text rider)
       db stands.schema (λ r. rider_key r == rider) (λ r fits. same_number r.id rider) content.riders readable.ranges.riders readable.riders stands.rows.records.riders
 
-  pub entries_answer : (rider : ℕ) → HasAnswer ENTRIES_BY_RIDER.now (number_value rider ∷ []) entry_row db (entries_of rider content.entries)
+  pub entries_answer : (rider : ℕ) → HasAnswer ENTRIES_BY_RIDER.now (number_value rider ∷ []) db (map entry_row (entries_of rider content.entries))
   entries_answer rider =
       has_passing entry_key entry_row FitsFiled 2 (by_two entry_key entry_row FitsFiled (λ x fits. record { first = refl; second = refl; second_low = fits.position }) (λ x. refl)) entries_table
       ENTRIES_BY_RIDER.now (number_value rider ∷ []) (has_number 0 rider) (entries_text rider) db stands.schema (λ filed. is_within (entry_key filed) (span_of rider))
       (λ filed fits. same_number filed.rider rider ∙ in_span filed.rider rider filed.position fits.position) content.entries readable.ranges.entries readable.entries stands.rows.records.entries
 
   module _ (text : List ℕ) (params : Row) (passes_row : Row → Bool) (asks : AsksFor 1 trips_table text params passes_row) (passes : Trip → Bool) (passing : (t : Trip) → passes_row (trip_row t) ≡ passes t) where
-    trips_answer : HasAnswer text params trip_row db (filter passes content.trips)
+    trips_answer : HasAnswer text params db (map trip_row (filter passes content.trips))
     trips_answer =
         has_passing trip_key trip_row FitsTrip 1 (by_one trip_key trip_row FitsTrip (λ x. refl) (λ x. refl)) trips_table text params passes_row asks
         db stands.schema passes (λ t fits. passing t) content.trips readable.ranges.trips readable.trips stands.rows.records.trips
 
-  pub trip_answer : (trip : ℕ) → HasAnswer TRIP_BY_NUMBER.now (number_value trip ∷ []) trip_row db (filter (λ t. trip_key t == trip) content.trips)
+  pub trip_answer : (trip : ℕ) → HasAnswer TRIP_BY_NUMBER.now (number_value trip ∷ []) db (map trip_row (filter (λ t. trip_key t == trip) content.trips))
   trip_answer trip = trips_answer TRIP_BY_NUMBER.now (number_value trip ∷ []) (has_number 0 trip) (trip_text trip) (λ t. trip_key t == trip) (λ t. same_number t.id trip)
 
-  pub rider_trips_answer : (rider : ℕ) → HasAnswer TRIPS_BY_RIDER.now (number_value rider ∷ []) trip_row db (trips_of rider content.trips)
+  pub rider_trips_answer : (rider : ℕ) → HasAnswer TRIPS_BY_RIDER.now (number_value rider ∷ []) db (map trip_row (trips_of rider content.trips))
   rider_trips_answer rider = trips_answer TRIPS_BY_RIDER.now (number_value rider ∷ []) (has_number 1 rider) (trips_by_rider_text rider) (λ t. t.rider == rider) (λ t. same_number t.rider rider)
 
-  pub day_trips_answer : (day : ℕ) → HasAnswer TRIPS_BY_DAY.now (number_value day ∷ []) trip_row db (trips_on day content.trips)
+  pub day_trips_answer : (day : ℕ) → HasAnswer TRIPS_BY_DAY.now (number_value day ∷ []) db (map trip_row (trips_on day content.trips))
   day_trips_answer day = trips_answer TRIPS_BY_DAY.now (number_value day ∷ []) (has_number 2 day) (trips_by_day_text day) (λ t. t.wish.day == day) (λ t. same_number t.wish.day day)
 
-  pub later_trips_answer : (day : ℕ) → HasAnswer TRIPS_FROM_DAY.now (number_value day ∷ []) trip_row db (filter (λ t. nat_le day t.wish.day) content.trips)
+  pub later_trips_answer : (day : ℕ) → HasAnswer TRIPS_FROM_DAY.now (number_value day ∷ []) db (map trip_row (filter (λ t. nat_le day t.wish.day) content.trips))
   later_trips_answer day = trips_answer TRIPS_FROM_DAY.now (number_value day ∷ []) (has_least 2 day) (trips_from_day_text day) (λ t. nat_le day t.wish.day) (λ t. at_least t.wish.day day)
 
-  pub rider_marks_answer : (span : Span) → HasAnswer RIDER_MARKS.now (number_value span.from ∷ number_value span.to ∷ []) mark_row db (within mark_key span (marks_of rider_key (λ r. r.wheelchair) content.riders))
-  rider_marks_answer = marks_answer rider_key (λ r. r.wheelchair) rider_chairs_table RIDER_MARKS.now rider_marks_text db stands.schema content.riders (rider_numbers content readable) readable.riders stands.rows.rider_chairs
+  rider_marks_answer : HasMarks RIDER_MARKS.now rider_key rider_chair_rows db content.riders
+  rider_marks_answer =
+      marks_answer rider_key rider_chair_rows (λ r. (r.wheelchair, refl)) rider_chairs_table RIDER_MARKS.now rider_marks_text db stands.schema content.riders
+      (rider_numbers content readable) readable.riders stands.rows.rider_chairs
 
-  pub trip_marks_answer : (span : Span) → HasAnswer TRIP_MARKS.now (number_value span.from ∷ number_value span.to ∷ []) mark_row db (within mark_key span (marks_of trip_key (λ t. t.wheelchair) content.trips))
-  trip_marks_answer = marks_answer trip_key (λ t. t.wheelchair) trip_chairs_table TRIP_MARKS.now trip_marks_text db stands.schema content.trips (trip_numbers content readable) readable.trips stands.rows.trip_chairs
+  trip_marks_answer : HasMarks TRIP_MARKS.now trip_key trip_chair_rows db content.trips
+  trip_marks_answer =
+      marks_answer trip_key trip_chair_rows (λ t. (t.wheelchair, refl)) trip_chairs_table TRIP_MARKS.now trip_marks_text db stands.schema content.trips
+      (trip_numbers content readable) readable.trips stands.rows.trip_chairs
 
 -- ---- the same of a connection that keeps the content, and of parameters that were made on the way
 
 module _ (content : State) (readable : IsWellFormed content) (old : Connected) (held : IsKept content old) where
-  there : {A : Type 0} (text : List ℕ) (params : Row) (row_of : A → Row) (xs : List A) → ((db : Database) → Stands content db → HasAnswer text params row_of db xs)
-      → (given : Row) → given ≡ params → IsTrue old.is_open → HasAnswer text given row_of old.now xs
-  there text params row_of xs answer given same here = at_params text row_of old.now xs given params same (answer old.now (held.stands here))
+  there : (text : List ℕ) (params : Row) (rows : List Row) → ((db : Database) → Stands content db → HasAnswer text params db rows)
+      → (given : Row) → given ≡ params → IsTrue old.is_open → HasAnswer text given old.now rows
+  there text params rows answer given same here = at_params text old.now rows given params same (answer old.now (held.stands here))
 
-  pub kept_there : (caller : ℕ) (given : Row) → given ≡ number_value caller ∷ [] → IsTrue old.is_open → HasAnswer KEPT_BY_CALLER.now given kept_row old.now (filter (λ kept. kept_key kept == caller) content.kept)
-  kept_there caller = there KEPT_BY_CALLER.now _ kept_row _ (λ db stands. kept_answer content readable db stands caller)
+  pub kept_there : (caller : ℕ) (given : Row) → given ≡ number_value caller ∷ [] → IsTrue old.is_open → HasAnswer KEPT_BY_CALLER.now given old.now (map kept_row (filter (λ kept. kept_key kept == caller) content.kept))
+  kept_there caller = there KEPT_BY_CALLER.now _ _ (λ db stands. kept_answer content readable db stands caller)
 
-  pub entries_there : (rider : ℕ) (given : Row) → given ≡ number_value rider ∷ [] → IsTrue old.is_open → HasAnswer ENTRIES_BY_RIDER.now given entry_row old.now (entries_of rider content.entries)
-  entries_there rider = there ENTRIES_BY_RIDER.now _ entry_row _ (λ db stands. entries_answer content readable db stands rider)
+  pub entries_there : (rider : ℕ) (given : Row) → given ≡ number_value rider ∷ [] → IsTrue old.is_open → HasAnswer ENTRIES_BY_RIDER.now given old.now (map entry_row (entries_of rider content.entries))
+  entries_there rider = there ENTRIES_BY_RIDER.now _ _ (λ db stands. entries_answer content readable db stands rider)
 
-  pub trip_there : (trip : ℕ) (given : Row) → given ≡ number_value trip ∷ [] → IsTrue old.is_open → HasAnswer TRIP_BY_NUMBER.now given trip_row old.now (filter (λ t. trip_key t == trip) content.trips)
-  trip_there trip = there TRIP_BY_NUMBER.now _ trip_row _ (λ db stands. trip_answer content readable db stands trip)
+  pub trip_there : (trip : ℕ) (given : Row) → given ≡ number_value trip ∷ [] → IsTrue old.is_open → HasAnswer TRIP_BY_NUMBER.now given old.now (map trip_row (filter (λ t. trip_key t == trip) content.trips))
+  trip_there trip = there TRIP_BY_NUMBER.now _ _ (λ db stands. trip_answer content readable db stands trip)
 
-  pub rider_trips_there : (rider : ℕ) (given : Row) → given ≡ number_value rider ∷ [] → IsTrue old.is_open → HasAnswer TRIPS_BY_RIDER.now given trip_row old.now (trips_of rider content.trips)
-  rider_trips_there rider = there TRIPS_BY_RIDER.now _ trip_row _ (λ db stands. rider_trips_answer content readable db stands rider)
+  pub rider_trips_there : (rider : ℕ) (given : Row) → given ≡ number_value rider ∷ [] → IsTrue old.is_open → HasAnswer TRIPS_BY_RIDER.now given old.now (map trip_row (trips_of rider content.trips))
+  rider_trips_there rider = there TRIPS_BY_RIDER.now _ _ (λ db stands. rider_trips_answer content readable db stands rider)
 
-  pub day_trips_there : (day : ℕ) (given : Row) → given ≡ number_value day ∷ [] → IsTrue old.is_open → HasAnswer TRIPS_BY_DAY.now given trip_row old.now (trips_on day content.trips)
-  day_trips_there day = there TRIPS_BY_DAY.now _ trip_row _ (λ db stands. day_trips_answer content readable db stands day)
+  pub day_trips_there : (day : ℕ) (given : Row) → given ≡ number_value day ∷ [] → IsTrue old.is_open → HasAnswer TRIPS_BY_DAY.now given old.now (map trip_row (trips_on day content.trips))
+  day_trips_there day = there TRIPS_BY_DAY.now _ _ (λ db stands. day_trips_answer content readable db stands day)
 
-  pub later_trips_there : (day : ℕ) (given : Row) → given ≡ number_value day ∷ [] → IsTrue old.is_open → HasAnswer TRIPS_FROM_DAY.now given trip_row old.now (filter (λ t. nat_le day t.wish.day) content.trips)
-  later_trips_there day = there TRIPS_FROM_DAY.now _ trip_row _ (λ db stands. later_trips_answer content readable db stands day)
+  pub later_trips_there : (day : ℕ) (given : Row) → given ≡ number_value day ∷ [] → IsTrue old.is_open → HasAnswer TRIPS_FROM_DAY.now given old.now (map trip_row (filter (λ t. nat_le day t.wish.day) content.trips))
+  later_trips_there day = there TRIPS_FROM_DAY.now _ _ (λ db stands. later_trips_answer content readable db stands day)
 
-  pub riders_marked : (rider : ℕ) (given : Row) → given ≡ number_value rider ∷ [] → IsTrue old.is_open
-      → HasMarked RIDER_BY_NUMBER.now given RIDER_MARKS.now rider_key rider_row (λ r. r.wheelchair) old content.riders (λ r. rider_key r == rider)
-  riders_marked rider given same here = record {
-    committed = held.committed here;
-    records = there RIDER_BY_NUMBER.now (number_value rider ∷ []) rider_row _ (λ db stands. rider_answer content readable db stands rider) given same here;
-    marks_are = rider_marks_answer content readable old.now (held.stands here);
-  }
+  pub rider_there : (rider : ℕ) (given : Row) → given ≡ number_value rider ∷ [] → IsTrue old.is_open → HasAnswer RIDER_BY_NUMBER.now given old.now (map rider_row (filter (λ r. rider_key r == rider) content.riders))
+  rider_there rider = there RIDER_BY_NUMBER.now _ _ (λ db stands. rider_answer content readable db stands rider)
 
-  pub trips_marked : (text : List ℕ) (given : Row) (passes : Trip → Bool) → (IsTrue old.is_open → HasAnswer text given trip_row old.now (filter passes content.trips)) → IsTrue old.is_open
-      → HasMarked text given TRIP_MARKS.now trip_key trip_row (λ t. t.wheelchair) old content.trips passes
-  trips_marked text given passes has here = record {
-    committed = held.committed here;
-    records = has here;
-    marks_are = trip_marks_answer content readable old.now (held.stands here);
-  }
+  -- the marks too, after a read
+  module _ (mid : Connected) (rests : Rests old mid) (clean : HasCleanDisk mid) where
+    pub rider_marks_there : IsTrue mid.is_open → HasMarks RIDER_MARKS.now rider_key rider_chair_rows mid.now content.riders
+    rider_marks_there here = rider_marks_answer content readable mid.now ((kept_still content old mid rests clean held).stands here)
+
+    pub trip_marks_there : IsTrue mid.is_open → HasMarks TRIP_MARKS.now trip_key trip_chair_rows mid.now content.trips
+    trip_marks_there here = trip_marks_answer content readable mid.now ((kept_still content old mid rests clean held).stands here)

@@ -10,5 +10,5 @@ ok_same (Ok found) x y is same = is ∙ same
 ok_same (Err e) x y is same = tt
 
 -- parameters that were made on the way
-pub at_params : {A : Type 0} (text : List ℕ) (row_of : A → Row) (db : Database) (xs : List A) (given params : Row) → given ≡ params → HasAnswer text params row_of db xs → HasAnswer text given row_of db xs
-at_params text row_of db xs given params same has = subst (λ p. HasAnswer text p row_of db xs) (sym same) has
+pub at_params : (text : List ℕ) (db : Database) (rows : List Row) (given params : Row) → given ≡ params → HasAnswer text params db rows → HasAnswer text given db rows
+at_params text db rows given params same has = subst (λ p. HasAnswer text p db rows) (sym same) has

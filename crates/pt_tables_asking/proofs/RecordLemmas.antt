@@ -20,7 +20,7 @@ no_records {A} row_of Fits row none rows i low at xs each same = go xs i each (s
     go (x ∷ xs) zero each low at = none x each.0 (sym at)
     go (x ∷ xs) (suc i) each low at = go xs i each.1 (omega arith) at
 
-first_row : {A B : Type 0} (f : A → B) (x : A) (xs : List A) (y : A) (ys : List A) → map f (x ∷ xs) ≡ map f (y ∷ ys) → f x ≡ f y
+pub first_row : {A B : Type 0} (f : A → B) (x : A) (xs : List A) (y : A) (ys : List A) → map f (x ∷ xs) ≡ map f (y ∷ ys) → f x ≡ f y
 first_row f x xs y ys same = ap (λ l. get_or l 0 (f x)) same
 
 -- records with the same rows are the same, if each has a row of its own

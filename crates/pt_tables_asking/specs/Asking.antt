@@ -27,17 +27,20 @@ AreInOrder columns rows = IsSorted (key_cmp 0 (replicate columns (ascending Bina
 abbrev pub IsAnswer : List ℕ → Row → Database → List Row → Type 0
 IsAnswer text params db rows = Reads (command_in (understood desk_schema text)) db params rows
 
--- the tables are the desk's, and each answer to the text over them is the rows of these records, in their order
-pub record HasAnswer {A : Type 0} (text : List ℕ) (params : Row) (row_of : A → Row) (db : Database) (xs : List A)
-    : Type 0 where
+-- the tables are the desk's, and each answer to the text over them is these rows
+pub record HasAnswer (text : List ℕ) (params : Row) (db : Database) (rows : List Row) : Type 0 where
   pub schema : db.schema ≡ desk_schema
-  pub rows : (rows : List Row) → IsAnswer text params db rows → map row_of xs ≡ rows
+  pub shown : (found : List Row) → IsAnswer text params db found → rows ≡ found
+
+-- where the disk stayed clean, an open connection shows what was committed
+abbrev pub ShowsCommit : Connected → Type 0
+ShowsCommit s = HasCleanDisk s → IsTrue s.is_open → s.now ≡ s.committed
 
 -- A read of the tables commits nothing and leaves no transaction open; what it leaves shows what was committed.
 pub record Rests (old new : Connected) : Type 0 where
   pub settled : new.in_transaction ≡ false
   pub keeps : HasCleanDisk new → KeepsCommit old new
-  pub undone : HasCleanDisk new → IsTrue new.is_open → new.now ≡ new.committed
+  pub undone : ShowsCommit new
   pub survives : Survives old new (λ _. ⊥)
 
 -- an open connection showed the rows, which are an answer to the text if the tables are the desk's

@@ -12,8 +12,8 @@ ghost use Rattle.pt_tables_rows.specs.Schema.{desk_schema};
 ghost use Rattle.pt_tables_asking.specs.Asking.{HasAnswer, IsShown, Rests, TellsEach};
 ghost use Rattle.pt_tables_asking.specs.declared.asking.Unread.TheVariants.{Memory, Row as BadRow, Store as Failed};
 
-use crate::one_row::OneRow;
 use pt_records::{Keyed, Rows};
+use pt_tables_reading::OneRow;
 use sqlite::types::ValueRef;
 use sqlite::{Alter, Connection, Error, ErrorCode, Row};
 use std::alloc::{AllocError, Global};
@@ -96,7 +96,7 @@ fn rows_shown<S: Alter>(
 }
 
 /// The records that the rows tell, in their order; none where a row is that of no record.
-fn records_of<T: OneRow>(alloc: Global, rows: &[Row]) -> Result<Option<Vec<T>>, AllocError>
+fn records_of<T: OneRow>(alloc: Global, rows: &[Row]) -> Result<Option<Vec<T::Record>>, AllocError>
     ensures told { IfOk result (λ found. TellsEach T.row_of T.Fits rows.now (option_map (λ v. v.items) found)) }
 {
     let mut records = Vec::new(alloc);
@@ -109,23 +109,23 @@ fn records_of<T: OneRow>(alloc: Global, rows: &[Row]) -> Result<Option<Vec<T>>, 
     Ok(Some(records))
 }
 
-/// The records whose rows a text asks for, in the order of the rows.
+/// The records whose rows a text asks for of a table, in the order of the rows.
 pub(crate) fn asked<S: Alter, T: OneRow>(
     alloc: Global,
     conn: &mut Connection<S>,
     text: &str,
     params: &[ValueRef<'_>],
-) -> Result<Vec<T>, Unread>
+) -> Result<Vec<T::Record>, Unread>
     requires settled { conn.old.in_transaction ≡ false }
     requires plain { IsPlain (understood desk_schema text.now) }
     requires unlisted { reads_listing desk_schema text.now ≡ false }
-    ensures told { HasCleanDisk (state S.Store conn.new) → (xs : List T)
+    ensures told { HasCleanDisk (state S.Store conn.new) → (xs : List T.Record)
         → (IsTrue (state S.Store conn.old).is_open
-        → HasAnswer text.now (bound params.now) T.row_of (state S.Store conn.old).now xs)
+        → HasAnswer text.now (bound params.now) (state S.Store conn.old).now (map T.row_of xs))
         → IfOk result (λ found. (map T.row_of found.items ≡ map T.row_of xs) × Each T.Fits found.items) }
-    ensures readable { HasCleanDisk (state S.Store conn.new) → (xs : List T) → Each T.Fits xs
+    ensures readable { HasCleanDisk (state S.Store conn.new) → (xs : List T.Record) → Each T.Fits xs
         → (IsTrue (state S.Store conn.old).is_open
-        → HasAnswer text.now (bound params.now) T.row_of (state S.Store conn.old).now xs)
+        → HasAnswer text.now (bound params.now) (state S.Store conn.old).now (map T.row_of xs))
         → result ≢ Err BadRow }
     ensures rests { Rests (state S.Store conn.old) (state S.Store conn.new) }
 {
@@ -133,7 +133,7 @@ pub(crate) fn asked<S: Alter, T: OneRow>(
         Ok(rows) => rows,
         Err(error) => return Err(unshown(&error)),
     };
-    match records_of(alloc, &rows)? {
+    match records_of::<T>(alloc, &rows)? {
         Some(records) => Ok(records),
         None => Err(Unread::Row),
     }

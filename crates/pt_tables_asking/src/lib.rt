@@ -2,7 +2,6 @@
 #![tactic(auto)]
 
 pub use asking::{Unread, are_rising};
-pub use one_row::OneRow;
 pub use reads::{
     entries_by_rider, kept_by_caller, rider_by_number, trip_by_number, trips_by_day,
     trips_by_rider, trips_from_day,
@@ -10,6 +9,5 @@ pub use reads::{
 
 mod asking;
 mod marks;
-mod one_row;
 mod reads;
 mod texts;

@@ -1,28 +1,30 @@
-//! Records of one row whose mark has a row in a second table.
+//! Records whose mark has a row in a second table.
 
 ghost use Rattle.std.specs.Prelude.{◌≡◌, ◌≢◌, ◌-◌, Bool, List, [], ◌∷◌, None, Some, IsTrue, IfOk, IfSome, map, false};
-ghost use Rattle.std.specs.Prelude.{filter, length, slice_get};
+ghost use Rattle.std.specs.Prelude.{length, slice_get};
 ghost use Rattle.sqlite.specs.Given.{IsPlain};
 ghost use Rattle.sqlite.specs.Held.{state};
 ghost use Rattle.sqlite.specs.Listing.{reads_listing, understood};
 ghost use Rattle.sqlite.specs.State.{HasCleanDisk};
-ghost use Rattle.sqlite.specs.Values.{bound};
 ghost use Rattle.pt_records.specs.Records.{Each, IsInOrder};
+ghost use Rattle.pt_spelling.specs.Ranges.{IsWord};
 ghost use Rattle.pt_tables_rows.specs.Rows.{number_value};
 ghost use Rattle.pt_tables_rows.specs.Schema.{desk_schema};
 ghost use Rattle.pt_tables_reading.specs.Reading.{Reads};
-ghost use Rattle.pt_tables_asking.specs.Asking.{HasAnswer, Rests};
-ghost use Rattle.pt_tables_asking.specs.Marks.{AreMarked, AreTold, FitsMark, HasMarked, has_mark, mark_key, mark_row};
-ghost use Rattle.pt_tables_asking.specs.Marks.{marks_of};
+ghost use Rattle.pt_tables_asking.specs.Asking.{HasAnswer, Rests, ShowsCommit};
+ghost use Rattle.pt_tables_asking.specs.Marks.{FitsMark, HasMarks, IsMark, has_mark, mark_key, mark_row};
+ghost use Rattle.pt_tables_asking.specs.Marks.{marked_in};
 ghost use Rattle.pt_tables_asking.specs.declared.asking.Unread.TheVariants.{Row as BadRow};
 
 use crate::asking::{Unread, asked, ordered};
-use crate::one_row::OneRow;
 use pt_base::{Rider, Trip};
 use pt_records::{Key, Keyed, Rows};
+use pt_tables_reading::OneRow;
+use pt_tables_rows::{RiderChairs, TableOf, TripChairs};
 use sqlite::types::ValueRef;
 use sqlite::{Alter, Connection, Row, params};
 use std::alloc::{AllocError, Global};
+use std::marker::PhantomData;
 
 /// How many columns the row of a mark has.
 const COLUMNS: usize = 1;
@@ -41,18 +43,6 @@ impl Keyed for Mark {
     }
 }
 
-impl OneRow for Mark {
-    ghost use Rattle.pt_tables_asking.specs.Marks.{FitsMark, mark_row};
-
-    ghost Fits = { FitsMark };
-
-    ghost row_of = { mark_row };
-
-    fn of_row(_alloc: Global, row: &Row) -> Result<Option<Self>, AllocError> {
-        Ok(mark_of(row))
-    }
-}
-
 /// The mark of a row.
 fn mark_of(row: &Row) -> Option<Mark>
     ensures { Reads mark_row FitsMark row.now result }
@@ -68,62 +58,84 @@ fn mark_of(row: &Row) -> Option<Mark>
     }
 }
 
-/// A record of one row that is marked by a row of a second table, which has its number.
-pub(crate) trait Marked: OneRow + Keyed {
-    /// Whether it is marked.
-    ghost is_marked: { Self → Bool };
+/// A table of marks: a record that is marked has one row in it, its number.
+pub(crate) trait Marking: TableOf {
+    /// A record, marked or not.
+    ghost marked: { Self.Record → Bool → Self.Record };
 
-    /// The number of its mark.
-    fn number(&self) -> u32
-        ensures value { result ≡ Self.key self.now };
+    /// The number of a record's mark.
+    fn number(owner: &Self::Record) -> u32
+        ensures value { result ≡ Self.Record.key owner.now };
 
-    /// This record, marked or not.
-    fn marked(&self, mark: bool) -> Self
-        ensures row { Self.row_of result ≡ Self.row_of self.now }
-        ensures marked { Self.is_marked result ≡ mark };
+    /// Marks a record, or takes its mark away.
+    fn mark(owner: &mut Self::Record, is_marked: bool)
+        ensures value { owner.new ≡ marked owner.old is_marked };
+
+    /// Each row of a record is its mark.
+    ghost marks: { (x : Self.Record) → IsMark (Self.Record.key x) (Self.rows_of x) };
 }
 
-impl Marked for Rider {
-    ghost is_marked = { λ rider. rider.wheelchair };
+impl Marking for RiderChairs {
+    ghost use Rattle.std.specs.Prelude.{refl};
 
-    fn number(&self) -> u32 {
-        self.id.number()
+    ghost marked = { λ rider is_marked. record rider { wheelchair = is_marked } };
+
+    ghost marks = { λ rider. (rider.wheelchair, refl) };
+
+    fn number(rider: &Rider) -> u32 {
+        rider.id.number()
     }
 
-    fn marked(&self, mark: bool) -> Self {
-        Rider {
-            wheelchair: mark,
-            ..*self
-        }
+    fn mark(rider: &mut Rider, is_marked: bool) {
+        rider.wheelchair = is_marked;
     }
 }
 
-impl Marked for Trip {
-    ghost is_marked = { λ trip. trip.wheelchair };
+impl Marking for TripChairs {
+    ghost use Rattle.std.specs.Prelude.{refl};
 
-    fn number(&self) -> u32 {
-        self.id.number()
+    ghost marked = { λ trip is_marked. record trip { wheelchair = is_marked } };
+
+    ghost marks = { λ trip. (trip.wheelchair, refl) };
+
+    fn number(trip: &Trip) -> u32 {
+        trip.id.number()
     }
 
-    fn marked(&self, mark: bool) -> Self {
-        Trip {
-            id: self.id,
-            rider: self.rider,
-            wish: self.wish,
-            wheelchair: mark,
-            fare: self.fare,
-            service: self.service,
-            ride: self.ride,
-            vehicle: self.vehicle,
-            window_from: self.window_from,
-            window_to: self.window_to,
-            status: self.status,
-        }
+    fn mark(trip: &mut Trip, is_marked: bool) {
+        trip.wheelchair = is_marked;
+    }
+}
+
+/// The numbers in a table of marks.
+struct Numbers<M> {
+    table: PhantomData<M>,
+}
+
+impl<M: Marking> TableOf for Numbers<M> {
+    type Record = Mark;
+
+    ghost home = { M.home };
+
+    ghost Fits = { FitsMark };
+
+    ghost rows_of = { λ mark. mark_row mark ∷ [] };
+}
+
+impl<M: Marking> OneRow for Numbers<M> {
+    ghost use Rattle.std.specs.Prelude.{refl};
+
+    ghost row_of = { mark_row };
+
+    ghost one = { λ _. refl };
+
+    fn of_row(_alloc: Global, row: &Row) -> Result<Option<Mark>, AllocError> {
+        Ok(mark_of(row))
     }
 }
 
 /// The marks from a number to another, in their order.
-fn marks_between<S: Alter>(
+fn marks_between<S: Alter, M: Marking>(
     alloc: Global,
     conn: &mut Connection<S>,
     text: &str,
@@ -135,78 +147,67 @@ fn marks_between<S: Alter>(
     requires unlisted { reads_listing desk_schema text.now ≡ false }
     ensures told { HasCleanDisk (state S.Store conn.new) → (marks : List Mark)
         → (IsTrue (state S.Store conn.old).is_open
-        → HasAnswer text.now (number_value from ∷ number_value to ∷ []) mark_row (state S.Store conn.old).now marks)
+        → HasAnswer text.now (number_value from ∷ number_value to ∷ []) (state S.Store conn.old).now
+        (map mark_row marks))
         → IfOk result (λ found. found ≡ marks) }
     ensures readable { HasCleanDisk (state S.Store conn.new) → (marks : List Mark) → Each FitsMark marks
         → IsInOrder mark_key marks → (IsTrue (state S.Store conn.old).is_open
-        → HasAnswer text.now (number_value from ∷ number_value to ∷ []) mark_row (state S.Store conn.old).now marks)
+        → HasAnswer text.now (number_value from ∷ number_value to ∷ []) (state S.Store conn.old).now
+        (map mark_row marks))
         → result ≢ Err BadRow }
     ensures rests { Rests (state S.Store conn.old) (state S.Store conn.new) }
 {
-    let marks = asked(alloc, conn, text, params![from, to])?;
+    let marks = asked::<S, Numbers<M>>(alloc, conn, text, params![from, to])?;
     ordered(marks)
 }
 
 /// The numbers of the first of the records and of the last.
-fn ends<T: Marked>(records: &[T]) -> Option<(u32, u32)>
+fn ends<M: Marking>(records: &[M::Record]) -> Option<(u32, u32)>
     ensures none { result ≡ None → records.now ≡ [] }
-    ensures first { IfSome result (λ ends. slice_get (map T.key records.now) 0 ≡ Some ends.0) }
+    ensures first { IfSome result (λ ends. slice_get (map M.Record.key records.now) 0 ≡ Some ends.0) }
     ensures last { IfSome result (λ ends.
-        slice_get (map T.key records.now) (length records.now - 1) ≡ Some ends.1) }
+        slice_get (map M.Record.key records.now) (length records.now - 1) ≡ Some ends.1) }
 {
     let first = records.first()?;
     let last = records.last()?;
-    Some((first.number(), last.number()))
+    Some((M::number(first), M::number(last)))
 }
 
 /// The records, each marked where one of the marks has its number.
-fn with_marks<T: Marked>(
-    alloc: Global,
-    records: &[T],
-    marks: &Rows<Mark>,
-) -> Result<Vec<T>, AllocError>
-    ensures marked { IfOk result (λ found.
-        AreMarked T.key T.row_of T.is_marked marks.now records.now found.items) }
+fn with_marks<M: Marking>(mut records: Vec<M::Record>, marks: &Rows<Mark>) -> Vec<M::Record>
+    ensures marked { result.items ≡ map (λ x. M.marked x (has_mark marks.now (M.Record.key x))) records.items }
 {
-    let mut found = Vec::new(alloc);
-    for record in records {
-        let mark = marks.find(&record.key()).is_some();
-        found.push(record.marked(mark))?;
+    for owner in records.iter_mut() {
+        let is_marked = marks.find(&owner.key()).is_some();
+        M::mark(owner, is_marked);
     }
-    Ok(found)
+    records
 }
 
-/// The records whose rows a text asks for, in the order of the rows, with their marks.
-pub(crate) fn asked_marked<S: Alter, T: Marked>(
+/// The records, which stand in the order of their keys, with their marks, for which a text asks.
+pub(crate) fn marked<S: Alter, M: Marking>(
     alloc: Global,
     conn: &mut Connection<S>,
     text: &str,
-    params: &[ValueRef<'_>],
-    marks: &str,
-) -> Result<Vec<T>, Unread>
+    records: Vec<M::Record>,
+) -> Result<Vec<M::Record>, Unread>
     requires settled { conn.old.in_transaction ≡ false }
+    requires committed { ShowsCommit (state S.Store conn.old) }
     requires plain { IsPlain (understood desk_schema text.now) }
     requires unlisted { reads_listing desk_schema text.now ≡ false }
-    requires marks_plain { IsPlain (understood desk_schema marks.now) }
-    requires marks_unlisted { reads_listing desk_schema marks.now ≡ false }
-    requires told { AreTold T.key T.row_of T.is_marked }
-    ensures told { HasCleanDisk (state S.Store conn.new) → (all : List T) (passes : T → Bool) → IsInOrder T.key all
-        → (IsTrue (state S.Store conn.old).is_open
-        → HasMarked text.now (bound params.now) marks.now T.key T.row_of T.is_marked (state S.Store conn.old)
-        all passes)
-        → IfOk result (λ found. found.items ≡ filter passes all) }
-    ensures readable { HasCleanDisk (state S.Store conn.new) → (all : List T) (passes : T → Bool) → IsInOrder T.key all
-        → Each T.Fits all → Each FitsMark (marks_of T.key T.is_marked all)
-        → (IsTrue (state S.Store conn.old).is_open
-        → HasMarked text.now (bound params.now) marks.now T.key T.row_of T.is_marked (state S.Store conn.old)
-        all passes)
+    ensures told { HasCleanDisk (state S.Store conn.new) → (all : List M.Record) → IsInOrder M.Record.key all
+        → IsInOrder M.Record.key records.items → (IsTrue (state S.Store conn.old).is_open
+        → HasMarks text.now M.Record.key M.rows_of (state S.Store conn.old).now all)
+        → IfOk result (λ found. found.items ≡ map (marked_in M.Record.key M.rows_of M.marked all) records.items) }
+    ensures readable { HasCleanDisk (state S.Store conn.new) → (all : List M.Record) → IsInOrder M.Record.key all
+        → Each (λ x. IsWord (M.Record.key x)) all → (IsTrue (state S.Store conn.old).is_open
+        → HasMarks text.now M.Record.key M.rows_of (state S.Store conn.old).now all)
         → result ≢ Err BadRow }
     ensures rests { Rests (state S.Store conn.old) (state S.Store conn.new) }
 {
-    let records: Vec<T> = asked(alloc, conn, text, params)?;
-    let Some((first, last)) = ends(&records) else {
+    let Some((first, last)) = ends::<M>(&records) else {
         return Ok(records);
     };
-    let found = marks_between(alloc, conn, marks, first, last)?;
-    Ok(with_marks(alloc, &records, &found)?)
+    let marks = marks_between::<S, M>(alloc, conn, text, first, last)?;
+    Ok(with_marks::<M>(records, &marks))
 }

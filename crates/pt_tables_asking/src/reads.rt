@@ -1,6 +1,6 @@
 //! The reads by which the desk asks its tables in each request.
 
-ghost use Rattle.std.specs.Prelude.{◌≡◌, ◌≢◌, Bool, IsTrue, IfOk, false, filter, nat_le};
+ghost use Rattle.std.specs.Prelude.{◌≡◌, ◌≢◌, Bool, IsTrue, IfOk, false, filter, map, nat_le};
 ghost use Rattle.sqlite.specs.Given.{IsPlain};
 ghost use Rattle.sqlite.specs.Held.{state};
 ghost use Rattle.sqlite.specs.Listing.{reads_listing, understood};
@@ -18,7 +18,7 @@ ghost use Rattle.pt_tables_rows.specs.WellFormed.{IsWellFormed};
 ghost use Rattle.pt_tables_asking.specs.declared.asking.Unread.TheVariants.{Row as BadRow};
 
 use crate::asking::{Unread, asked, first, ordered};
-use crate::marks::asked_marked;
+use crate::marks::marked;
 use crate::texts::{
     ENTRIES_BY_RIDER, KEPT_BY_CALLER, RIDER_BY_NUMBER, RIDER_MARKS, TRIP_BY_NUMBER, TRIP_MARKS,
     TRIPS_BY_DAY, TRIPS_BY_RIDER, TRIPS_FROM_DAY,
@@ -26,6 +26,7 @@ use crate::texts::{
 use pt_base::{CallerId, Day, Rider, RiderId, Trip, TripId};
 use pt_desk_rules::{FiledEntry, Kept};
 use pt_records::Rows;
+use pt_tables_rows::{Entries, KeptWrites, RiderChairs, Riders, TripChairs, Trips};
 use sqlite::types::ValueRef;
 use sqlite::{Alter, Connection, params};
 use std::alloc::Global;
@@ -41,7 +42,7 @@ pub fn kept_by_caller<S: Alter>(
     ensures readable { Decodes (state S.Store conn.old) (state S.Store conn.new) result }
     ensures rests { Rests (state S.Store conn.old) (state S.Store conn.new) }
 {
-    let found = asked(alloc, conn, KEPT_BY_CALLER, params![caller.number()])?;
+    let found = asked::<S, KeptWrites>(alloc, conn, KEPT_BY_CALLER, params![caller.number()])?;
     Ok(first(found))
 }
 
@@ -56,13 +57,8 @@ pub fn rider_by_number<S: Alter>(
     ensures readable { Decodes (state S.Store conn.old) (state S.Store conn.new) result }
     ensures rests { Rests (state S.Store conn.old) (state S.Store conn.new) }
 {
-    let found: Vec<Rider> = asked_marked(
-        alloc,
-        conn,
-        RIDER_BY_NUMBER,
-        params![rider.number()],
-        RIDER_MARKS,
-    )?;
+    let riders = asked::<S, Riders>(alloc, conn, RIDER_BY_NUMBER, params![rider.number()])?;
+    let found = marked::<S, RiderChairs>(alloc, conn, RIDER_MARKS, riders)?;
     Ok(first(found))
 }
 
@@ -77,7 +73,7 @@ pub fn entries_by_rider<S: Alter>(
     ensures readable { Decodes (state S.Store conn.old) (state S.Store conn.new) result }
     ensures rests { Rests (state S.Store conn.old) (state S.Store conn.new) }
 {
-    let found = asked(alloc, conn, ENTRIES_BY_RIDER, params![rider.number()])?;
+    let found = asked::<S, Entries>(alloc, conn, ENTRIES_BY_RIDER, params![rider.number()])?;
     ordered(found)
 }
 
@@ -93,17 +89,18 @@ fn trips_asked<S: Alter>(
     requires unlisted { reads_listing desk_schema text.now ≡ false }
     ensures told { HasCleanDisk (state S.Store conn.new) → (content : State) → IsWellFormed content
         → IsKept content (state S.Store conn.old) → (passes : TripRecord → Bool)
-        → (IsTrue (state S.Store conn.old).is_open → HasAnswer text.now (bound params.now) trip_row
-        (state S.Store conn.old).now (filter passes content.trips))
+        → (IsTrue (state S.Store conn.old).is_open → HasAnswer text.now (bound params.now)
+        (state S.Store conn.old).now (map trip_row (filter passes content.trips)))
         → IfOk result (λ found. found ≡ filter passes content.trips) }
     ensures readable { HasCleanDisk (state S.Store conn.new) → (content : State) → IsWellFormed content
         → IsKept content (state S.Store conn.old) → (passes : TripRecord → Bool)
-        → (IsTrue (state S.Store conn.old).is_open → HasAnswer text.now (bound params.now) trip_row
-        (state S.Store conn.old).now (filter passes content.trips))
+        → (IsTrue (state S.Store conn.old).is_open → HasAnswer text.now (bound params.now)
+        (state S.Store conn.old).now (map trip_row (filter passes content.trips)))
         → result ≢ Err BadRow }
     ensures rests { Rests (state S.Store conn.old) (state S.Store conn.new) }
 {
-    let found = asked_marked(alloc, conn, text, params, TRIP_MARKS)?;
+    let trips = asked::<S, Trips>(alloc, conn, text, params)?;
+    let found = marked::<S, TripChairs>(alloc, conn, TRIP_MARKS, trips)?;
     ordered(found)
 }
 

@@ -1,4 +1,4 @@
-use Rattle.std.proofs.Common.{[], ◌∷◌, sym, subst, rules}
+use Rattle.std.proofs.Common.{[], ◌∷◌, map, sym, subst, rules}
 use Rattle.pt_records.specs.Records.{IsInOrder}
 use Rattle.pt_tables_rows.specs.Rows.{number_value}
 use Rattle.pt_tables_asking.specs.Marks.{mark_key, mark_row}
@@ -8,10 +8,12 @@ use Rattle.pt_tables_asking.proofs.marks.marks_between.Goals as goal
 
 pub returns-clause-told : goal.returns-clause-told
 returns-clause-told g c clean marks has =
-    let told = c.in_ok-marks.ensures.told clean marks (λ here. at_params c.args.text.now mark_row _ marks _ (number_value c.args.from ∷ number_value c.args.to ∷ []) (search rules) (has here)) in
+    let told = c.in_ok-marks.ensures.told clean marks
+    (λ here. at_params c.args.text.now _ (map mark_row marks) _ (number_value c.args.from ∷ number_value c.args.to ∷ []) (search rules) (has here)) in
     ok_same c.ordered.result c.in_ok-marks.marks.items marks c.ordered.ensures.told (same_marks c.in_ok-marks.marks.items marks told.0)
 
 pub returns-clause-readable : goal.returns-clause-readable
 returns-clause-readable g c clean marks each order has =
-    let told = c.in_ok-marks.ensures.told clean marks (λ here. at_params c.args.text.now mark_row _ marks _ (number_value c.args.from ∷ number_value c.args.to ∷ []) (search rules) (has here)) in
+    let told = c.in_ok-marks.ensures.told clean marks
+    (λ here. at_params c.args.text.now _ (map mark_row marks) _ (number_value c.args.from ∷ number_value c.args.to ∷ []) (search rules) (has here)) in
     c.ordered.ensures.readable (subst (IsInOrder mark_key) (sym (same_marks c.in_ok-marks.marks.items marks told.0)) order)

@@ -1,9 +1,7 @@
-use Rattle.std.proofs.Common.{◌≡◌, map, take}
+use Rattle.std.proofs.Common.{◌≡◌}
 use Rattle.pt_tables_asking.specs.Marks.{has_mark}
+use Rattle.pt_tables_asking.proofs.MarkLemmas.{first_changed}
 use Rattle.pt_tables_asking.proofs.marks.with_marks.Given as goal
 
-abbrev pub invariant-loop-record : goal.invariant-loop-record
-invariant-loop-record g l = record {
-  rows : map g.T.OneRow.row_of l.found.items ≡ map g.T.OneRow.row_of (take l.record-index l.records);
-  marks : map g.T.Marked.is_marked l.found.items ≡ map (λ x. has_mark l.marks (g.T.Keyed.key x)) (take l.record-index l.records);
-}
+abbrev pub invariant-loop-owner : goal.invariant-loop-owner
+invariant-loop-owner g l = l.owner-items ≡ first_changed (λ x. g.M.Marking.marked x (has_mark l.marks (g.M.Record.Keyed.key x))) l.owner-index l.initial.owner-items

@@ -1,32 +1,52 @@
-use Rattle.std.proofs.Common.{◌==◌, ap, ◌∙◌, slice_get, rules}
+use Rattle.std.proofs.Common.{◌==◌, Bool, ap, ◌∙◌, slice_get, filter, arith, rules}
 use Rattle.sqlite.specs.Held.{state}
+use Rattle.sqlite.specs.State.{HasCleanDisk}
 use Rattle.sqlite_keyed.proofs.ListLemmas.{slice_get-filter}
+use Rattle.pt_base.specs.declared.rider.Rider.{Rider}
+use Rattle.pt_desk_rules.specs.Ranges.{FitsRider}
 use Rattle.pt_desk_rules.specs.State.{rider_key}
-use Rattle.pt_tables_asking.proofs.ContentLemmas.{rider_marks_fit, riders_keyed, riders_marked, riders_told}
+use Rattle.pt_records.proofs.TableLemmas.{Each-filter}
+use Rattle.pt_tables_asking.proofs.ContentLemmas.{rider_marks_there, rider_numbers, rider_there, riders_marked, riders_rise}
 use Rattle.pt_tables_asking.proofs.TextLemmas.{rider_marks_text, rider_text}
 use Rattle.pt_tables_asking.proofs.reads.rider_by_number.Goals as goal
 
-pub asked_marked-requires : goal.asked_marked-requires
-asked_marked-requires g c =
-    let it = rider_text c.args.rider in
-    let marks = rider_marks_text 0 0 in
+pub asked-requires : goal.asked-requires
+asked-requires g c = let it = rider_text c.args.rider in record { settled = c.requires.settled; plain = it.plain; unlisted = it.unlisted }
+
+pub marked-requires : goal.marked-requires
+marked-requires g c =
+    let it = rider_marks_text 0 0 in
     record {
-      settled = c.requires.settled;
+      settled = c.in_ok-riders.ensures.rests.settled;
+      committed = c.in_ok-riders.ensures.rests.undone;
       plain = it.plain;
       unlisted = it.unlisted;
-      marks_plain = marks.plain;
-      marks_unlisted = marks.unlisted;
-      told = record { keyed = riders_keyed; told = riders_told };
     }
+
+pub returns-in_err-riders-clause-readable : goal.returns-in_err-riders-clause-readable
+returns-in_err-riders-clause-readable g c clean content readable held =
+    let passes : Rider → Bool = λ r. rider_key r == c.args.rider in
+    let never = c.in_err-riders.ensures.readable clean (filter passes content.riders) (Each-filter FitsRider passes content.riders readable.ranges.riders)
+    (rider_there content readable (state g.S.Store c.args.conn.now) held c.args.rider _ (search rules)) in
+    search rules
 
 pub returns-in_err-found-clause-readable : goal.returns-in_err-found-clause-readable
 returns-in_err-found-clause-readable g c clean content readable held =
-    let never = c.in_err-found.ensures.readable clean content.riders (λ r. rider_key r == c.args.rider) readable.riders readable.ranges.riders (rider_marks_fit content readable)
-    (riders_marked content readable (state g.S.Store c.args.conn.now) held c.args.rider _ (search rules)) in
+    let old = state g.S.Store c.args.conn.now in
+    let mid = state g.S.Store c.asked.new.conn in
+    let early : HasCleanDisk mid = omega (arith, clean, c.in_err-found.ensures.rests.survives.clean) in
+    let never = c.in_err-found.ensures.readable clean content.riders readable.riders (rider_numbers content readable)
+    (rider_marks_there content readable old held mid c.in_ok-riders.ensures.rests early) in
     search rules
 
 pub returns-clause-told : goal.returns-clause-told
 returns-clause-told g c clean content readable held =
-    let found = c.in_ok-found.ensures.told clean content.riders (λ r. rider_key r == c.args.rider) readable.riders
-    (riders_marked content readable (state g.S.Store c.args.conn.now) held c.args.rider _ (search rules)) in
-    c.first.ensures.value ∙ ap (λ l. slice_get l 0) found ∙ slice_get-filter (λ r. rider_key r == c.args.rider) content.riders
+    let old = state g.S.Store c.args.conn.now in
+    let mid = state g.S.Store c.asked.new.conn in
+    let passes : Rider → Bool = λ r. rider_key r == c.args.rider in
+    let early : HasCleanDisk mid = omega (arith, clean, c.in_ok-found.ensures.rests.survives.clean) in
+    let rows = c.in_ok-riders.ensures.told early (filter passes content.riders) (rider_there content readable old held c.args.rider _ (search rules)) in
+    let riders = c.in_ok-riders.riders.items in
+    let found = c.in_ok-found.ensures.told clean content.riders readable.riders (riders_rise content readable passes riders rows.0)
+    (rider_marks_there content readable old held mid c.in_ok-riders.ensures.rests early) in
+    c.first.ensures.value ∙ ap (λ l. slice_get l 0) (found ∙ riders_marked content readable passes riders rows.0) ∙ slice_get-filter passes content.riders
