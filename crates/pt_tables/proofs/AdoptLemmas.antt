@@ -11,7 +11,7 @@ use Rattle.pt_tables_rows.specs.Schema.{desk_schema}
 use Rattle.pt_tables_rows.specs.Tables.{HasRows, IsKept, Stands}
 use Rattle.pt_tables_opening.specs.Refused.{AreUnsound, HasOtherTables, ListsOthers, TellsOf}
 use Rattle.pt_tables_opening.specs.Standing.{IsFirstAtFault}
-use Rattle.pt_tables_opening.specs.Told.{HasOtherVersion}
+use Rattle.pt_tables_opening.specs.Agency.{HasOtherVersion}
 use Rattle.pt_tables_opening.specs.declared.open_fault.OpenFault.{OpenFault}
 
 -- after reads of a connection that was opened anew its tables have the content that was read

@@ -14,7 +14,7 @@ use Rattle.pt_tables_opening.specs.declared.open_fault.OpenFault.{OpenFault}
 use Rattle.pt_tables_rows.specs.Rows.{desk_row}
 use Rattle.pt_tables_rows.specs.Schema.{desk_table}
 use Rattle.pt_tables_rows.specs.Tables.{AreRows}
-use Rattle.pt_tables_opening.specs.Told.{IsAgencyOf, HasOtherVersion, IsOtherVersion, TellsNoAgency}
+use Rattle.pt_tables_opening.specs.Agency.{IsAgencyOf, HasOtherVersion, IsOtherVersion, TellsNoAgency}
 
 module _ (trees : Trees) (rows : List Row) (are : AreRows desk_table trees rows) where
   -- one row is all rows

@@ -1,5 +1,5 @@
 -- Records of one row each, and of one or none in a second table, told by the rows of both.
-use Rattle.std.proofs.Common.{◌≡◌, ◌++◌, ◌<◌, ◌≤◌, zero, suc, ℕ, List, [], ◌∷◌, length, map, flat_map, take, drop, get_or, ◌⊎◌, inl, inr, None, Some, Result, Ok, Err, IfOk, IfErr, ◌+◌, refl, sym, ap, ap₂, subst, ◌∙◌, arith}
+use Rattle.std.proofs.Common.{◌≡◌, ◌++◌, ◌<◌, ◌≤◌, zero, suc, ℕ, List, [], ◌∷◌, length, map, flat_map, take, drop, get_or, drop-cons, add-one, ◌⊎◌, inl, inr, None, Some, Result, Ok, Err, IfOk, IfErr, ◌+◌, refl, sym, ap, ap₂, subst, ◌∙◌, arith}
 use Rattle.std.proofs.lemmas.List.{map-append, take_more}
 use Rattle.std.specs.Prelude.{IsPermutation}
 use Rattle.std.specs.List.{AllByRecursion}
@@ -8,9 +8,15 @@ use Rattle.sqlite.specs.Order.{Row}
 use Rattle.sqlite.specs.Table.{Table}
 use Rattle.sqlite.specs.Tree.{Trees}
 use Rattle.pt_records.specs.Records.{Each, Edit, IsInOrder}
-use Rattle.pt_tables_opening.specs.Beside.{AreBeside, KeepsBeside, NoneBeside, TellsBeside}
+use Rattle.pt_tables_opening.specs.Beside.{AreBeside, NoneBeside, TellsBeside}
+use Rattle.pt_tables_opening.specs.Gathered.{KeepsRows}
 use Rattle.pt_tables_rows.specs.Tables.{AreRows, columns_of}
 use Rattle.pt_tables_rows.proofs.SameRowsLists.{in_one_order, rows_above}
+
+-- the records from here on are the next one and those after it
+pub next_from : {A : Type 0} (x : A) (xs : List A) (i : ℕ) → i < length xs → x ≡ get_or xs i x → drop i xs ≡ x ∷ drop (i + 1) xs
+next_from x xs i lt at =
+    drop-cons xs i x lt ∙ ap (λ y. y ∷ drop (suc i) xs) (sym at) ∙ ap (λ n. x ∷ drop n xs) (sym (add-one i))
 
 -- records in order, with the rows of these, have these rows beside them
 pub record Goes {A : Type 0} (key : A → ℕ) (row_of : A → Row) (beside_of : A → List Row) (Fits : A → Type 0) (known : List A) (left : List Row) : Type 0 where
@@ -175,7 +181,7 @@ module _ {A : Type 0} (key : A → ℕ) (row_of : A → Row) (beside_of : A → 
 
   -- where rows in order tell none of these records, no records have the rows of both tables
   unmarked : (home second : Table) (trees : Trees) (known : List A) → IsInOrder key known → (rows : List Row) → AreRows home trees (map row_of known) → AreRows second trees rows
-      → KeepsBeside key beside_of Fits rows → TellsBeside key row_of beside_of Fits known rows None → NoneBeside key home second row_of beside_of Fits trees
+      → KeepsRows key beside_of Fits rows → TellsBeside key row_of beside_of Fits known rows None → NoneBeside key home second row_of beside_of Fits trees
   unmarked home second trees known order rows are beside keeps none xs each also have marked =
       let there = map (columns_of second) (trees second.tree) in
       let theirs = flat_map beside_of xs in
@@ -196,7 +202,7 @@ module _ {A F : Type 0} (key : A → ℕ) (second : Table) (row_of : A → Row) 
 -- and in a refusal
 pub refuses_beside : {A F : Type 0} (key : A → ℕ) (home second : Table) (row_of : A → Row) (beside_of : A → List Row) (Fits : A → Type 0) → AreBeside key row_of beside_of
     → (trees : Trees) (known : List A) → IsInOrder key known → (rows : List Row) (Clean Has : Type 0) → (Clean → Has → AreRows second trees rows)
-    → (Clean → Has → KeepsBeside key beside_of Fits rows) → (memory store unsound : F) (r : Result (Edit A) F)
+    → (Clean → Has → KeepsRows key beside_of Fits rows) → (memory store unsound : F) (r : Result (Edit A) F)
     → IfErr r (λ refused. (refused ≡ memory) ⊎ ((refused ≡ unsound) × TellsBeside key row_of beside_of Fits known rows None))
     → IfErr r (λ refused. (refused ≡ memory) ⊎ ((refused ≡ store)
     ⊎ ((refused ≡ unsound) × (Clean → Has → AreRows home trees (map row_of known) → NoneBeside key home second row_of beside_of Fits trees))))

@@ -1,5 +1,5 @@
 -- A desk that has records of no table, and one that has those of a table more.
-use Rattle.std.proofs.Common.{◌≡◌, ◌++◌, ◌<◌, ℕ, List, [], ◌∷◌, Option, Some, append_assoc, refl, sym, ap, subst, ◌∙◌}
+use Rattle.std.proofs.Common.{◌≡◌, ◌++◌, ◌<◌, ℕ, List, [], ◌∷◌, Option, Some, append_assoc, append-nil, refl, sym, ap, subst, ◌∙◌}
 use Rattle.pt_base.specs.declared.policy.Policy.{Policy}
 use Rattle.pt_desk.specs.LeastState.{IsLeastState}
 use Rattle.pt_desk_rules.specs.Deciding.{no_change}
@@ -11,8 +11,32 @@ use Rattle.pt_records.proofs.RecordLemmas.{put_over, put_past}
 use Rattle.pt_soundness.proofs.PairedLemmas.{Paired}
 use Rattle.pt_soundness.specs.Tables.{all_tables}
 use Rattle.pt_tables_opening.specs.Steps.{HasNoneIn}
-use Rattle.pt_tables_opening.specs.Told.{IsFitting, PutsInOrder, numbers}
-use Rattle.pt_tables_opening.proofs.ToldLemmas.{below, put_none}
+use Rattle.pt_tables_opening.specs.Agency.{numbers}
+use Rattle.pt_tables_opening.specs.Gathered.{IsFitting, PutsInOrder}
+
+-- ---- a table of nothing but what was put
+
+put_last : {A : Type 0} (key : A → ℕ) (new : A) (xs : List A) → Each (λ x. key x < key new) xs → put key new xs ≡ xs ++ new ∷ []
+put_last key new [] low = refl
+put_last key new (x ∷ xs) low = put_past key new x xs low.0 ∙ ap (λ l. x ∷ l) (put_last key new xs low.1)
+
+mid : {A : Type 0} (P : A → Type 0) (done : List A) (x : A) (xs : List A) → Each P (done ++ x ∷ xs) → P x
+mid P [] x xs each = each.0
+mid P (d ∷ done) x xs each = mid P done x xs each.1
+
+below : {A : Type 0} (key : A → ℕ) (done : List A) (x : A) (xs : List A) → IsInOrder key (done ++ x ∷ xs) → Each (λ y. key y < key x) done
+below key [] x xs order = tt
+below key (d ∷ done) x xs order = (mid (λ y. key d < key y) done x xs order.0, below key done x xs order.1)
+
+put_onto : {A : Type 0} (key : A → ℕ) (xs done : List A) → IsInOrder key (done ++ xs) → put_all key xs done ≡ done ++ xs
+put_onto key [] done order = sym (append-nil done)
+put_onto key (x ∷ xs) done order =
+    let joined = append_assoc done (x ∷ []) xs in
+    ap (put_all key xs) (put_last key x done (below key done x xs order))
+    ∙ put_onto key xs (done ++ x ∷ []) (subst (IsInOrder key) (sym joined) order) ∙ joined
+
+put_none : {A : Type 0} (key : A → ℕ) (xs : List A) → IsInOrder key xs → put_all key xs [] ≡ xs
+put_none key xs order = put_onto key xs [] order
 
 -- ---- a table that was empty has what is put
 

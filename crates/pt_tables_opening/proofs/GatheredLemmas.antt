@@ -1,14 +1,14 @@
 -- Records of several rows each, told by the first row of each.
-use Rattle.std.proofs.Common.{◌≡◌, ◌++◌, ◌<◌, ◌≤◌, zero, suc, ℕ, List, [], ◌∷◌, length, length-append, flat_map, take, drop, take-append-drop, append_assoc, append-nil, get_or, slice_index_or, refl, sym, ap, ap₂, subst, ◌∙◌, arith, Result, Ok, Err, IfOk, IfErr, ◌⊎◌, inl, inr}
+use Rattle.std.proofs.Common.{◌≡◌, ◌++◌, ◌<◌, ◌≤◌, zero, suc, ℕ, List, [], ◌∷◌, length, length-append, map, flat_map, take, drop, take-append-drop, append_assoc, append-nil, get_or, slice_index_or, refl, sym, ap, ap₂, subst, ◌∙◌, arith, Result, Ok, Err, IfOk, IfErr, ◌⊎◌, inl, inr}
 use Rattle.std.proofs.lemmas.Grind.{flat_map-append}
 use Rattle.std.proofs.lemmas.List.{take_at, drop_at, get_or_append_left, get_or-append_right}
+use Rattle.std.proofs.lemmas.List.Sorted.{IsPermutation-sym, IsPermutation-trans}
 use Rattle.sqlite.specs.Order.{Row}
 use Rattle.sqlite.specs.Table.{Table}
 use Rattle.sqlite.specs.Tree.{Trees}
 use Rattle.pt_records.specs.Records.{Each, Edit}
-use Rattle.pt_tables_asking.specs.Asking.{AreInOrder}
-use Rattle.pt_tables_opening.specs.Gathered.{BeginsOnce, IsGatheredFrom, IsGatheredTable, GathersNothing, IsUngathered}
-use Rattle.pt_tables_rows.specs.Tables.{AreRows}
+use Rattle.pt_tables_opening.specs.Gathered.{AreRowsOfNone, BeginsOnce, GathersNothing, KeepsOrder}
+use Rattle.pt_tables_rows.specs.Tables.{AreRows, columns_of}
 
 pub each_at : {A : Type 0} (P : A → Type 0) (xs : List A) (k : ℕ) (d : A) → Each P xs → k < length xs → P (get_or xs k d)
 each_at P [] k d each low = absurd (omega arith)
@@ -150,17 +150,29 @@ done_next rows_of puts news x left rows front back end is front_is back_is told 
 
 -- ---- a table
 
-module _ {A F : Type 0} (key : A → ℕ) (home : Table) (rows_of : A → List Row) (Fits : A → Type 0) (trees : Trees) (rows : List Row) where
-  pub are_of_table : AreRows home trees rows → (r : Result (Edit A) F) → IfOk r (IsGatheredFrom key rows_of Fits rows) → IfOk r (IsGatheredTable key home rows_of Fits trees)
-  are_of_table are (Ok edit) h = record { puts = h.puts; rows_are = subst (AreRows home trees) (sym h.rows_are) are; each = h.each }
-  are_of_table are (Err f) h = tt
+pub are_of_table : {A F : Type 0} (home : Table) (rows_of : A → List Row) (trees : Trees) (rows : List Row) → AreRows home trees rows → (r : Result (Edit A) F)
+    → IfOk r (λ edit. flat_map rows_of edit.puts ≡ rows) → IfOk r (λ edit. AreRows home trees (flat_map rows_of edit.puts))
+are_of_table home rows_of trees rows are (Ok edit) same = subst (AreRows home trees) (sym same) are
+are_of_table home rows_of trees rows are (Err f) same = tt
 
-  -- rows that tell nothing are those of a table
-  pub refuses_table : (Clean Has : Type 0) → (Clean → Has → AreRows home trees rows) → (Clean → Has → AreInOrder 3 rows) → (memory store unsound : F) (r : Result (Edit A) F)
+module _ {A : Type 0} (key : A → ℕ) (home : Table) (rows_of : A → List Row) (Fits : A → Type 0) (trees : Trees) (rows : List Row) where
+  -- where rows that keep the order tell nothing, no records have the rows of the table
+  none_told : AreRows home trees rows → KeepsOrder key rows_of Fits rows → GathersNothing key rows_of Fits rows → AreRowsOfNone key home rows_of Fits trees
+  none_told are keeps nothing xs each order have =
+      let there = map (columns_of home) (trees home.tree) in
+      let theirs = flat_map rows_of xs in
+      let same : theirs ≡ rows = keeps.same xs each order (IsPermutation-trans theirs there rows (IsPermutation-sym there theirs have) are) in
+      elim nothing [
+        | inl none ↦ none xs each same
+        | inr other ↦ other.2 (keeps.rising xs other.0.puts each other.1.2 (same ∙ sym other.1.1) order)
+      ]
+
+  -- and so such rows are those of no records
+  pub refuses_table : {F : Type 0} (Clean Has : Type 0) → (Clean → Has → AreRows home trees rows) → (Clean → Has → KeepsOrder key rows_of Fits rows) → (memory store unsound : F) (r : Result (Edit A) F)
       → IfErr r (λ refused. (refused ≡ memory) ⊎ ((refused ≡ unsound) × GathersNothing key rows_of Fits rows))
-      → IfErr r (λ refused. (refused ≡ memory) ⊎ ((refused ≡ store) ⊎ ((refused ≡ unsound) × (Clean → Has → IsUngathered key home rows_of Fits trees))))
-  refuses_table Clean Has are ordered memory store unsound (Ok edit) h = tt
-  refuses_table Clean Has are ordered memory store unsound (Err f) h = elim h [
+      → IfErr r (λ refused. (refused ≡ memory) ⊎ ((refused ≡ store) ⊎ ((refused ≡ unsound) × (Clean → Has → AreRowsOfNone key home rows_of Fits trees))))
+  refuses_table Clean Has are keeps memory store unsound (Ok edit) h = tt
+  refuses_table Clean Has are keeps memory store unsound (Err f) h = elim h [
     | inl same ↦ inl same
-    | inr told ↦ inr (inr (told.0, λ clean has. record { rows = rows; rows_are = are clean has; in_order = ordered clean has; nothing = told.1 }))
+    | inr told ↦ inr (inr (told.0, λ clean has. none_told (are clean has) (keeps clean has) told.1))
   ]

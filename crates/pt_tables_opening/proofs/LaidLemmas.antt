@@ -11,13 +11,17 @@ use Rattle.pt_soundness.specs.declared.unsound_table.UnsoundTable.{UnsoundTable}
 use Rattle.pt_soundness.specs.declared.unsound_table.UnsoundTable.TheVariants as table
 use Rattle.pt_tables_opening.specs.Gathered.{FitsRows}
 use Rattle.pt_tables_opening.specs.Steps.{IsLaidIn}
+use Rattle.pt_tables_opening.proofs.PlanReading.{rows-of-stops}
+use Rattle.pt_tables_rows.specs.Rows.{stop_rows}
+use Rattle.pt_tables_rows.specs.WellFormed.{IsStoredPlan}
 
 -- a route has 100 stops at most
-plans_laid : (plans : List Plan) → Each FitsPlan plans → Each IsRoutePlan plans → Each HasStops plans → Each FitsRows plans
+plans_laid : (plans : List Plan) → Each FitsPlan plans → Each IsRoutePlan plans → Each HasStops plans → Each (FitsRows stop_rows IsStoredPlan) plans
 plans_laid [] fits routes some = tt
 plans_laid (plan ∷ plans) fits routes some =
     let few = routes.0.few in
-    (record { fits = fits.0; some = some.0; few = omega arith }, plans_laid plans fits.1 routes.1 some.1)
+    let long = rows-of-stops 0 plan.vehicle plan.day plan.stops in
+    (((fits.0, some.0), omega (arith, long, few)), plans_laid plans fits.1 routes.1 some.1)
 
 pub laid_in : (s : State) (t : UnsoundTable) → IsSoundIn s t → IsLaidIn s t
 laid_in s table.Desk sound = sound.0
@@ -49,7 +53,7 @@ ranges_laid s table.Vehicles laid = laid.1
 ranges_laid s table.Riders laid = laid.1
 ranges_laid s table.Entries laid = laid.1
 ranges_laid s table.Trips laid = laid.1
-ranges_laid s table.Stops laid = Each-weaker FitsRows FitsPlan (λ plan fits. fits.fits) s.planned laid.1
+ranges_laid s table.Stops laid = Each-weaker (FitsRows stop_rows IsStoredPlan) FitsPlan (λ plan fits. fits.0.0) s.planned laid.1
 ranges_laid s table.Travel laid = laid.1
 ranges_laid s table.RiderChairs laid = tt
 ranges_laid s table.VehicleChairs laid = tt

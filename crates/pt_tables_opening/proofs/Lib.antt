@@ -3,8 +3,8 @@ pub mod BesideLemmas
 pub mod ContentLemmas
 pub mod FirstLemmas
 pub mod GatheredLemmas
+pub mod GroupOrders
 pub mod LaidLemmas
-pub mod NoneLemmas
 pub mod OrderedLemmas
 pub mod PlanReading
 pub mod RestLemmas
@@ -15,4 +15,3 @@ pub mod SchemaLemmas
 pub mod ShownRows
 pub mod StepLemmas
 pub mod TableReads
-pub mod ToldLemmas

@@ -1,7 +1,8 @@
 -- The order of the rows of records that stand in the order of their keys.
-use Rattle.std.proofs.Common.{◌≡◌, ◌*◌, ◌++◌, ◌<◌, ◌≤◌, suc, ℕ, List, [], ◌∷◌, map, flat_map, false, subst, arith, mul-le-mul_right}
+use Rattle.std.proofs.Common.{◌≡◌, ◌*◌, ◌++◌, ◌<◌, ◌≤◌, suc, ℕ, List, [], ◌∷◌, map, flat_map, false, sym, subst, ◌∙◌, arith, mul-le-mul_right}
 use Rattle.std.specs.Prelude.{IsPermutation}
 use Rattle.std.specs.Ordering.{is_lt}
+use Rattle.std.proofs.lemmas.List.Concat.{flat_map_single}
 use Rattle.sqlite.specs.Order.{Row}
 use Rattle.sqlite.specs.Query.{key_cmp}
 use Rattle.pt_records.specs.Records.{Each, IsInOrder}
@@ -9,9 +10,13 @@ use Rattle.pt_records.proofs.OrderLemmas.{Each-weaker}
 use Rattle.pt_tables_asking.specs.Asking.{AreInOrder}
 use Rattle.pt_tables_asking.proofs.AskedQueries.{keys_of}
 use Rattle.pt_tables_asking.proofs.OrderedLemmas.{IsNumbered, keeps_order, row_le, same_order, told_order, triple_key}
-use Rattle.pt_tables_opening.specs.Told.{KeepsOrder}
+use Rattle.pt_tables_opening.specs.Gathered.{KeepsOrder}
 
 -- ---- records of one row each, whose keys their rows tell
+
+-- the rows of such a record
+abbrev pub alone : {A : Type 0} → (A → Row) → A → List Row
+alone row_of x = row_of x ∷ []
 
 module _ (columns : ℕ) (row_key : Row → ℕ) (Is : Row → Type 0) (le : (a b : Row) → Is a → Is b → is_lt (key_cmp 0 (keys_of columns) b a) ≡ false → row_key a ≤ row_key b)
     {A : Type 0} (key : A → ℕ) (row_of : A → Row) (Fits : A → Type 0) (is : (x : A) → Fits x → Is (row_of x)) (keyed : (x : A) → row_key (row_of x) ≡ key x) where
@@ -23,11 +28,14 @@ module _ (columns : ℕ) (row_key : Row → ℕ) (Is : Row → Type 0) (le : (a 
   order_back [] order = tt
   order_back (x ∷ xs) order = (above_back x xs order.0, order_back xs order.1)
 
-  pub keeps_all_order : (rows : List Row) → AreInOrder columns rows → KeepsOrder key row_of Fits rows
-  keeps_all_order rows ordered = record {
-    same = keeps_order columns row_key Is le key row_of Fits is keyed rows ordered;
-    rising = λ xs ys same order. order_back ys (subst (IsInOrder row_key) same (told_order columns row_key Is le key row_of Fits is keyed xs order));
-  }
+  pub keeps_all_order : (rows : List Row) → AreInOrder columns rows → KeepsOrder key (alone row_of) Fits rows
+  keeps_all_order rows ordered =
+      let all = flat_map_single row_of in
+      record {
+        same = λ xs each order alike. all xs ∙ keeps_order columns row_key Is le key row_of Fits is keyed rows ordered xs each order (subst (λ l. IsPermutation l rows) (all xs) alike);
+        rising = λ xs ys each also same order.
+            order_back ys (subst (IsInOrder row_key) (sym (all xs) ∙ same ∙ all ys) (told_order columns row_key Is le key row_of Fits is keyed xs order));
+      }
 
 -- ---- the rows of records in order
 

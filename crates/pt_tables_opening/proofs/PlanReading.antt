@@ -12,10 +12,10 @@ use Rattle.pt_scheduling.specs.declared.planned.PlannedStop.{PlannedStop}
 use Rattle.pt_travel.specs.Chain as travel
 use Rattle.pt_tables_reading.specs.Fitting as fitting
 use Rattle.pt_tables_reading.specs.Fitting.{FitsStopAt, FitsDriveAt}
-use Rattle.pt_tables_opening.specs.Gathered.{BeginsOnce, BeginsPlan, BeginsTravel}
+use Rattle.pt_tables_opening.specs.Gathered.{BeginsOnce, BeginsPlan, BeginsTravel, FitsRows}
 use Rattle.pt_desk_rules.specs.Ranges.{FitsDrive, FitsStop, FitsTravel}
-use Rattle.pt_tables_opening.specs.Gathered.{FitsRows}
 use Rattle.pt_tables_rows.specs.Rows.{stop_row, stop_rows, stop_rows_from, travel_row, travel_rows}
+use Rattle.pt_tables_rows.specs.WellFormed.{IsStoredPlan}
 use Rattle.pt_tables_reading.specs.declared.stops.StopAt.{StopAt}
 use Rattle.pt_tables_opening.proofs.GatheredLemmas.{each_at}
 use Rattle.pt_tables_rows.proofs.SameRowsGroups.{drive_in, drives-back}
@@ -49,13 +49,16 @@ row-of-stop place vehicle day (stop ∷ stops) zero row low = ap (λ n. stop_row
 row-of-stop place vehicle day (stop ∷ stops) (suc k) row low =
     row-of-stop (place + 1) vehicle day stops k row (omega arith) ∙ ap (λ n. stop_row vehicle day (pos n) (get_or stops k nobody)) (omega arith)
 
-rows-of-stops : (place vehicle day : ℕ) (stops : List PlannedStop) → length (stop_rows_from place vehicle day stops) ≡ length stops
+pub rows-of-stops : (place vehicle day : ℕ) (stops : List PlannedStop) → length (stop_rows_from place vehicle day stops) ≡ length stops
 rows-of-stops place vehicle day [] = refl
 rows-of-stops place vehicle day (stop ∷ stops) = ap suc (rows-of-stops (place + 1) vehicle day stops)
 
+pub few_stops : (plan : Plan) → FitsRows stop_rows IsStoredPlan plan → length plan.stops ≤ 2 ^ 32
+few_stops plan fits = subst (λ n. n ≤ 2 ^ 32) (rows-of-stops 0 plan.vehicle plan.day plan.stops) fits.1
+
 -- no stops of a plan have the rows
 abbrev pub NoStops : ℕ → ℕ → List Row → Type 0
-NoStops vehicle day rows = (stops : List PlannedStop) → FitsRows (record { vehicle = vehicle; day = day; stops = stops }) → stop_rows_from 0 vehicle day stops ≡ rows → ⊥
+NoStops vehicle day rows = (stops : List PlannedStop) → FitsRows stop_rows IsStoredPlan (record { vehicle = vehicle; day = day; stops = stops }) → stop_rows_from 0 vehicle day stops ≡ rows → ⊥
 
 -- where no stop of this place has the row there, no stops have the rows
 pub no-stops : (vehicle day : ℕ) (rows : List Row) (k : ℕ) (row : Row) → k < length rows → row ≡ get_or rows k row
@@ -64,10 +67,10 @@ pub no-stops : (vehicle day : ℕ) (rows : List Row) (k : ℕ) (row : Row) → k
 no-stops vehicle day rows k row low at none stops fits same =
     let long : length stops ≡ length rows = sym (rows-of-stops 0 vehicle day stops) ∙ ap length same in
     let inside : k < length stops = omega arith in
-    let few : length stops ≤ 2 ^ 32 = fits.few in
+    let few : length stops ≤ 2 ^ 32 = few_stops (record { vehicle = vehicle; day = day; stops = stops }) fits in
     let stop = get_or stops k nobody in
     let there : get_or rows k row ≡ stop_row vehicle day (pos (0 + k)) stop = ap (λ l. get_or l k row) (sym same) ∙ row-of-stop 0 vehicle day stops k row inside in
-    none stop (record { vehicle = fits.fits.vehicle; day = fits.fits.day; place = omega arith; trip = each_at FitsStop stops k nobody fits.fits.stops inside })
+    none stop (record { vehicle = fits.0.0.vehicle; day = fits.0.0.day; place = omega arith; trip = each_at FitsStop stops k nobody fits.0.0.stops inside })
     (ap (λ n. stop_row vehicle day (pos n) stop) (omega arith) ∙ sym there ∙ sym at)
 
 -- one stop more
@@ -80,14 +83,14 @@ stops-next vehicle day rows k row low at stops news stop told long is before =
     ∙ sym (take_more rows k row low)
 
 -- a plan has a row
-pub no-plan : (rows : List Row) → length rows ≡ 0 → (plan : Plan) → FitsRows plan → stop_rows plan ≡ rows → ⊥
+pub no-plan : (rows : List Row) → length rows ≡ 0 → (plan : Plan) → FitsRows stop_rows IsStoredPlan plan → stop_rows plan ≡ rows → ⊥
 no-plan rows none plan fits same =
     let long : length plan.stops ≡ length rows = sym (rows-of-stops 0 plan.vehicle plan.day plan.stops) ∙ ap length same in
-    let some = fits.some in
+    let some = fits.0.1 in
     omega arith
 
 pub no-first : (rows : List Row) (row : Row) → slice_get rows 0 ≡ Some row → ((at : StopAt) → FitsStopAt at → fitting.stop_row at ≡ row → ⊥)
-    → (plan : Plan) → FitsRows plan → stop_rows plan ≡ rows → ⊥
+    → (plan : Plan) → FitsRows stop_rows IsStoredPlan plan → stop_rows plan ≡ rows → ⊥
 no-first rows row is none plan fits same =
     let first = first-is rows row is in
     no-stops plan.vehicle plan.day rows 0 row first.0 first.1
@@ -96,7 +99,7 @@ no-first rows row is none plan fits same =
 -- the first row tells the vehicle and the day
 pub no-later : (rows : List Row) (row : Row) → slice_get rows 0 ≡ Some row → (at : StopAt) → fitting.stop_row at ≡ row
     → NoStops at.vehicle at.day rows
-    → (plan : Plan) → FitsRows plan → stop_rows plan ≡ rows → ⊥
+    → (plan : Plan) → FitsRows stop_rows IsStoredPlan plan → stop_rows plan ≡ rows → ⊥
 no-later rows row is at told none plan fits same =
     let first = first-is rows row is in
     let long : length plan.stops ≡ length rows = sym (rows-of-stops 0 plan.vehicle plan.day plan.stops) ∙ ap length same in
@@ -112,8 +115,8 @@ later-stops from vehicle day [] some = tt
 later-stops from vehicle day (stop ∷ stops) some =
     (λ begins. let none : from ≡ 0 = cc in omega arith, later-stops (from + 1) vehicle day stops (omega arith))
 
-pub plan-once : (plan : Plan) → FitsRows plan → BeginsOnce BeginsPlan (stop_rows plan)
-plan-once plan fits = go plan.stops fits.some
+pub plan-once : (plan : Plan) → IsStoredPlan plan → BeginsOnce BeginsPlan (stop_rows plan)
+plan-once plan fits = go plan.stops fits.1
   where
     go : (stops : List PlannedStop) → 0 < length stops → BeginsOnce BeginsPlan (stop_rows_from 0 plan.vehicle plan.day stops)
     go [] some = absurd (omega arith)
@@ -127,7 +130,7 @@ row-of-drive from_day [] k row low = absurd (omega arith)
 row-of-drive from_day (drive ∷ drives) zero row low = refl
 row-of-drive from_day (drive ∷ drives) (suc k) row low = row-of-drive from_day drives k row (omega arith)
 
-rows-of-drives : (from_day : ℕ) (drives : List travel.Row) → length (map (travel_row from_day) drives) ≡ length drives
+pub rows-of-drives : (from_day : ℕ) (drives : List travel.Row) → length (map (travel_row from_day) drives) ≡ length drives
 rows-of-drives from_day [] = refl
 rows-of-drives from_day (drive ∷ drives) = ap suc (rows-of-drives from_day drives)
 

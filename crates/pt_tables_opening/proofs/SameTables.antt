@@ -31,6 +31,7 @@ use Rattle.pt_desk_rules.specs.Ranges.{FitsFiled}
 use Rattle.pt_spelling.specs.Ranges.{IsRoute, IsVehicle}
 use Rattle.pt_desk_rules.specs.Ranges.{FitsKept, FitsRider, FitsTrip}
 use Rattle.pt_tables_rows.specs.Rows.{caller_row, kept_row, place_row, route_row, vehicle_row, rider_row, entry_row, trip_row, stop_rows, travel_rows, vehicle_chair_rows, trip_chair_rows}
+use Rattle.pt_tables_rows.specs.WellFormed.{IsStoredPlan}
 use Rattle.pt_tables_opening.proofs.LaidLemmas.{laid_in, ranges_laid}
 use Rattle.pt_tables_rows.proofs.SameRowsLists.{told_by_rows, told_by_row, told_by_any_row, told_beside, in_one_order, one_same}
 use Rattle.pt_tables_rows.proofs.SameRowsRecords.{number_in, known_in, known-value, so_keyed, last_trip-told, caller-told, kept-told, place-told, route-told, vehicle-told, entry-told, trip-told}
@@ -150,7 +151,7 @@ module _ (one other : State) (trees : Trees) where
 
   same_planned : StandsIn one trees table.Stops → IsLaidIn other table.Stops → HasRowsIn other trees table.Stops → one.planned ≡ other.planned
   same_planned it laid rows =
-      told_by_rows plan_key pair_in stop_rows FitsRows (λ x. stops-keyed 0 x.vehicle x.day x.stops) (λ x fits. stops-some x fits.some) (λ x y fits also. plan-told x y fits.some also.some)
+      told_by_rows plan_key pair_in stop_rows (FitsRows stop_rows IsStoredPlan) (λ x. stops-keyed 0 x.vehicle x.day x.stops) (λ x fits. stops-some x fits.0.1) (λ x y fits also. plan-told x y fits.0.1 also.0.1)
       one.planned other.planned (laid_in one table.Stops it.sound).0 laid.0 (laid_in one table.Stops it.sound).1 laid.1 (shared _ _ _ it.rows rows)
 
   same_travel : StandsIn one trees table.Travel → IsLaidIn other table.Travel → HasRowsIn other trees table.Travel → one.travel ≡ other.travel

@@ -21,7 +21,7 @@ use Rattle.pt_tables_opening.specs.Refused.{AreUnsound, SparesOtherVersion, Tell
 use Rattle.pt_tables_opening.specs.Standing.{HasRowsIn, IsFirstAtFault, NoneStandsTo, StandsIn, StandsTo}
 use Rattle.pt_spelling.specs.Ranges.{IsWord}
 use Rattle.pt_tables_opening.specs.Steps.{HasNoneIn, HasRowsTo, IsFaultOf, IsLaidIn, IsReadIn, IsReadTo, OpensTable, OpensTo, ReadsTable}
-use Rattle.pt_tables_opening.specs.Told.{HasOtherVersion, IsAgencyOf}
+use Rattle.pt_tables_opening.specs.Agency.{HasOtherVersion, IsAgencyOf}
 use Rattle.pt_tables_opening.specs.declared.open_fault.OpenFault.{OpenFault}
 use Rattle.pt_tables_opening.proofs.AgencyLemmas.{spares_by_store, spares_none}
 use Rattle.pt_tables_opening.proofs.GatheredLemmas.{each_push}

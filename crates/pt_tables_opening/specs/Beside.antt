@@ -1,11 +1,11 @@
 -- What rows of a second table tell of records that have one row each in their own.
-use Rattle.std.specs.Prelude.{◌≡◌, ◌⊎◌, ℕ, List, [], ◌∷◌, map, flat_map, Option, None, Some, IsPermutation}
+use Rattle.std.specs.Prelude.{◌≡◌, ◌⊎◌, ℕ, List, [], ◌∷◌, map, flat_map, Option, None, Some}
 use Rattle.std.specs.List.{AllByRecursion}
 use Rattle.sqlite.specs.Order.{Row}
 use Rattle.sqlite.specs.Table.{Table}
 use Rattle.sqlite.specs.Tree.{Trees}
 use Rattle.pt_records.specs.Records.{Each, Edit, IsInOrder}
-use Rattle.pt_tables_opening.specs.Told.{PutsInOrder}
+use Rattle.pt_tables_opening.specs.Gathered.{PutsInOrder}
 use Rattle.pt_tables_rows.specs.Tables.{AreRows}
 
 -- this record, with no row beside its own
@@ -21,12 +21,6 @@ pub record AreBeside {A : Type 0} (key : A → ℕ) (row_of : A → Row) (beside
   pub one : (x : A) → (beside_of x ≡ []) ⊎ (row : Row) × (beside_of x ≡ row ∷ [])
   pub keyed : (x : A) → AllByRecursion (λ row. key_in row ≡ key x) (beside_of x)
   pub row_keyed : (x : A) → key_in (row_of x) ≡ key x
-
--- records in the order of their keys that have these rows in some order have them in this one
-abbrev pub KeepsBeside : {A : Type 0} → (A → ℕ) → (A → List Row) → (A → Type 0) → List Row → Type 0
-KeepsBeside {A} key beside_of Fits rows =
-    (xs : List A) → Each Fits xs → IsInOrder key xs → IsPermutation (flat_map beside_of xs) rows
-    → flat_map beside_of xs ≡ rows
 
 -- records with the rows of these that have those rows beside them, or none where no records in order do
 abbrev pub TellsBeside : {A : Type 0} → (A → ℕ) → (A → Row) → (A → List Row) → (A → Type 0) → List A → List Row

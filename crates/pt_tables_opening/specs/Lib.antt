@@ -1,3 +1,4 @@
+pub mod Agency
 pub mod Beside
 pub mod Faults
 pub mod Gathered
@@ -6,4 +7,3 @@ pub mod Plain
 pub mod Refused
 pub mod Standing
 pub mod Steps
-pub mod Told

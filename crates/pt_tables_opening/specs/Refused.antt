@@ -11,7 +11,7 @@ use Rattle.pt_tables_opening.specs.Faults.{rows_refused, tables_refused}
 use Rattle.pt_tables_rows.specs.Schema.{desk_schema}
 use Rattle.pt_tables_rows.specs.Tables.{HasRows}
 use Rattle.pt_tables_opening.specs.Standing.{IsFirstAtFault}
-use Rattle.pt_tables_opening.specs.Told.{HasOtherVersion}
+use Rattle.pt_tables_opening.specs.Agency.{HasOtherVersion}
 use Rattle.pt_tables_opening.specs.declared.open_fault.OpenFault.{OpenFault}
 
 -- no sound state has these rows

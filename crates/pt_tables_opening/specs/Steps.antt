@@ -20,7 +20,9 @@ use Rattle.pt_tables_opening.specs.Refused.{SparesOtherVersion, TellsWhy}
 use Rattle.pt_tables_opening.specs.Standing.{HasRowsIn, NoneStandsTo}
 use Rattle.pt_tables_opening.specs.Gathered.{FitsRows}
 use Rattle.pt_tables_opening.specs.declared.open_fault.OpenFault.{OpenFault}
+use Rattle.pt_tables_rows.specs.Rows.{stop_rows}
 use Rattle.pt_tables_rows.specs.Schema.{desk_schema}
+use Rattle.pt_tables_rows.specs.WellFormed.{IsStoredPlan}
 
 -- its records stand in the order of their keys, and each is such as the types of its fields keep it
 abbrev pub IsLaidIn : State → UnsoundTable → Type 0
@@ -33,7 +35,7 @@ IsLaidIn s table.Vehicles = IsInOrder vehicle_key s.vehicles × Each IsVehicle s
 IsLaidIn s table.Riders = IsInOrder rider_key s.riders × Each FitsRider s.riders
 IsLaidIn s table.Entries = IsInOrder entry_key s.entries × Each FitsFiled s.entries
 IsLaidIn s table.Trips = IsInOrder trip_key s.trips × Each FitsTrip s.trips
-IsLaidIn s table.Stops = IsInOrder plan_key s.planned × Each FitsRows s.planned
+IsLaidIn s table.Stops = IsInOrder plan_key s.planned × Each (FitsRows stop_rows IsStoredPlan) s.planned
 IsLaidIn s table.Travel = IsInOrder travel_key s.travel × Each FitsTravel s.travel
 IsLaidIn s table.RiderChairs = Unit {0}
 IsLaidIn s table.VehicleChairs = Unit {0}

@@ -7,7 +7,7 @@ ghost use Rattle.pt_tables_opening.specs.Opening.{ReadsTables, Rests};
 ghost use Rattle.pt_tables_reading.specs.Reading.{agency_row, FitsAgency};
 ghost use Rattle.pt_tables_opening.specs.Refused.{SparesOtherVersion};
 ghost use Rattle.pt_tables_opening.specs.Standing.{NoneStandsTo};
-ghost use Rattle.pt_tables_opening.specs.Told.{IsAgencyOf, HasOtherVersion, IsOtherVersion, TellsNoAgency};
+ghost use Rattle.pt_tables_opening.specs.Agency.{IsAgencyOf, HasOtherVersion, IsOtherVersion, TellsNoAgency};
 
 use crate::OpenFault;
 use crate::open_fault::fault_of;

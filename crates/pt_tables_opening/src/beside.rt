@@ -1,180 +1,161 @@
-//! Records whose rows stand in two tables: each has one in its own, and one or none in the other.
+//! Records with a row in a table of their own, and one or none in a second table beside it.
 
 ghost use Rattle.std.specs.Prelude.{◌≡◌, ◌⊎◌, ◌≤◌, ◌∷◌, [], List, None, Some, length, take, IfOk, IfErr, map, flat_map};
 ghost use Rattle.sqlite.specs.Order.{Row as StoredRow};
 ghost use Rattle.sqlite.specs.Held.{state};
-ghost use Rattle.sqlite.specs.Table.{Table as StoredTable};
 ghost use Rattle.pt_base.specs.Codes.{memory_refused};
 ghost use Rattle.pt_records.specs.Records.{Each, IsInOrder};
 ghost use Rattle.pt_soundness.specs.Tables.{number_of};
-ghost use Rattle.pt_tables_opening.specs.Beside.{AreBeside, IsAlone, KeepsBeside, NoneBeside, TellsBeside};
+ghost use Rattle.pt_tables_opening.specs.Beside.{AreBeside, IsAlone, NoneBeside, TellsBeside};
 ghost use Rattle.pt_tables_opening.specs.Faults.{fault, store_refused, unsound};
+ghost use Rattle.pt_tables_opening.specs.Gathered.{IsFitting, KeepsRows};
 ghost use Rattle.pt_tables_opening.specs.Opening.{ReadsTables, Rests};
-ghost use Rattle.pt_tables_opening.specs.Told.{IsFitting};
 ghost use Rattle.pt_tables_reading.specs.Reading.{ReadsBeside};
 ghost use Rattle.pt_tables_rows.specs.Tables.{AreRows};
 
 use crate::OpenFault;
 use crate::open_fault::fault_of;
-use crate::records::InTable;
-use crate::table_rows::{rider_chair_rows, trip_chair_rows, vehicle_chair_rows};
+use crate::table_rows::{RIDER_CHAIR_ROWS, TRIP_CHAIR_ROWS, VEHICLE_CHAIR_ROWS, rows_of_table};
 use pt_base::{Rider, Trip, Vehicle};
 use pt_records::Edits;
 use pt_soundness::UnsoundTable;
-use pt_tables_reading::{rider_beside, trip_beside, vehicle_beside};
+use pt_tables_reading::{OneRow, rider_beside, trip_beside, vehicle_beside};
+use pt_tables_rows::{RiderChairs, Riders, TableOf, TripChairs, Trips, VehicleChairs, Vehicles};
 use sqlite::{Alter, Connection, Error, Row};
 use std::alloc::{AllocError, Global};
 
-/// A record that may have a row in a second table too.
-pub(crate) trait Beside: InTable {
-    /// The second table.
-    ghost second: { StoredTable };
+/// A second table, in which a record has one row at most beside that of its own table.
+pub(crate) trait Beside: TableOf {
+    /// The records' own table.
+    type First: OneRow<Record = Self::Record>;
 
-    /// Its rows there, one at most.
-    ghost beside_of: { Self → List StoredRow };
-
-    /// All rows of the second table, in the order of the keys.
-    fn second_rows<S: Alter>(conn: &mut Connection<S>) -> Result<Vec<Row>, Error>
+    /// All rows of the second table, in the order of the keys of the records.
+    fn every_row<S: Alter>(conn: &mut Connection<S>) -> Result<Vec<Row>, Error>
         ensures rows { ReadsTables (state S.Store conn.old) (state S.Store conn.new)
-            (λ trees. IfOk result (λ rows. AreRows second trees rows.items)) }
+            (λ trees. IfOk result (λ rows. AreRows Self.home trees rows.items)) }
         ensures order { ReadsTables (state S.Store conn.old) (state S.Store conn.new)
-            (λ _. IfOk result (λ rows. KeepsBeside Self.key beside_of Self.Fits rows.items)) }
+            (λ _. IfOk result (λ rows. KeepsRows Self.Record.key Self.rows_of Self.Fits rows.items)) }
         ensures rests { Rests (state S.Store conn.old) (state S.Store conn.new) result }
-        ensures beside { AreBeside Self.key Self.row_of beside_of };
+        ensures beside { AreBeside Self.Record.key Self.First.row_of Self.rows_of };
 
-    /// This one with no row there.
-    fn alone(&self) -> Self
-        requires fits { Self.Fits self.now }
-        ensures { IsAlone Self.row_of beside_of Self.Fits self.now result };
+    /// The record with no row there.
+    fn alone(known: &Self::Record) -> Self::Record
+        requires fits { Self.Fits known.now }
+        ensures { IsAlone Self.First.row_of Self.rows_of Self.Fits known.now result };
 
-    /// This one where that is its row there.
-    fn marked(&self, row: &Row) -> Option<Self>
-        requires fits { Self.Fits self.now }
-        ensures { ReadsBeside Self.row_of beside_of Self.Fits self.now row.now result };
+    /// The record where that is its row there.
+    fn marked(known: &Self::Record, row: &Row) -> Option<Self::Record>
+        requires fits { Self.Fits known.now }
+        ensures { ReadsBeside Self.First.row_of Self.rows_of Self.Fits known.now row.now result };
 }
 
-impl Beside for Rider {
-    ghost use Rattle.pt_tables_rows.specs.Rows.{rider_chair_rows};
-    ghost use Rattle.pt_tables_rows.specs.Schema.{rider_chairs_table};
+impl Beside for RiderChairs {
+    type First = Riders;
 
-    ghost second = { rider_chairs_table };
-
-    ghost beside_of = { rider_chair_rows };
-
-    fn second_rows<S: Alter>(conn: &mut Connection<S>) -> Result<Vec<Row>, Error> {
-        rider_chair_rows(conn)
+    fn every_row<S: Alter>(conn: &mut Connection<S>) -> Result<Vec<Row>, Error> {
+        rows_of_table(conn, RIDER_CHAIR_ROWS)
     }
 
-    fn alone(&self) -> Self {
+    fn alone(known: &Rider) -> Rider {
         Rider {
             wheelchair: false,
-            ..*self
+            ..*known
         }
     }
 
-    fn marked(&self, row: &Row) -> Option<Self> {
-        rider_beside(self, row)
+    fn marked(known: &Rider, row: &Row) -> Option<Rider> {
+        rider_beside(known, row)
     }
 }
 
-impl Beside for Vehicle {
-    ghost use Rattle.pt_tables_rows.specs.Rows.{vehicle_chair_rows};
-    ghost use Rattle.pt_tables_rows.specs.Schema.{vehicle_chairs_table};
+impl Beside for VehicleChairs {
+    type First = Vehicles;
 
-    ghost second = { vehicle_chairs_table };
-
-    ghost beside_of = { vehicle_chair_rows };
-
-    fn second_rows<S: Alter>(conn: &mut Connection<S>) -> Result<Vec<Row>, Error> {
-        vehicle_chair_rows(conn)
+    fn every_row<S: Alter>(conn: &mut Connection<S>) -> Result<Vec<Row>, Error> {
+        rows_of_table(conn, VEHICLE_CHAIR_ROWS)
     }
 
-    fn alone(&self) -> Self {
+    fn alone(known: &Vehicle) -> Vehicle {
         Vehicle {
-            id: self.id,
-            from_day: self.from_day,
-            days: self.days,
-            depot: self.depot,
-            capacity: self.capacity,
+            id: known.id,
+            from_day: known.from_day,
+            days: known.days,
+            depot: known.depot,
+            capacity: known.capacity,
             chairs: 0,
-            opens: self.opens,
-            closes: self.closes,
-            duration: self.duration,
+            opens: known.opens,
+            closes: known.closes,
+            duration: known.duration,
         }
     }
 
-    fn marked(&self, row: &Row) -> Option<Self> {
-        vehicle_beside(self, row)
+    fn marked(known: &Vehicle, row: &Row) -> Option<Vehicle> {
+        vehicle_beside(known, row)
     }
 }
 
-impl Beside for Trip {
-    ghost use Rattle.pt_tables_rows.specs.Rows.{trip_chair_rows};
-    ghost use Rattle.pt_tables_rows.specs.Schema.{trip_chairs_table};
+impl Beside for TripChairs {
+    type First = Trips;
 
-    ghost second = { trip_chairs_table };
-
-    ghost beside_of = { trip_chair_rows };
-
-    fn second_rows<S: Alter>(conn: &mut Connection<S>) -> Result<Vec<Row>, Error> {
-        trip_chair_rows(conn)
+    fn every_row<S: Alter>(conn: &mut Connection<S>) -> Result<Vec<Row>, Error> {
+        rows_of_table(conn, TRIP_CHAIR_ROWS)
     }
 
-    fn alone(&self) -> Self {
+    fn alone(known: &Trip) -> Trip {
         Trip {
-            id: self.id,
-            rider: self.rider,
-            wish: self.wish,
+            id: known.id,
+            rider: known.rider,
+            wish: known.wish,
             wheelchair: false,
-            fare: self.fare,
-            service: self.service,
-            ride: self.ride,
-            vehicle: self.vehicle,
-            window_from: self.window_from,
-            window_to: self.window_to,
-            status: self.status,
+            fare: known.fare,
+            service: known.service,
+            ride: known.ride,
+            vehicle: known.vehicle,
+            window_from: known.window_from,
+            window_to: known.window_to,
+            status: known.status,
         }
     }
 
-    fn marked(&self, row: &Row) -> Option<Self> {
-        trip_beside(self, row)
+    fn marked(known: &Trip, row: &Row) -> Option<Trip> {
+        trip_beside(known, row)
     }
 }
 
 /// The record with what the first of the rows tells of it, and how many of them are its own, none or one.
-fn next_of<T: Beside>(known: &T, rows: &[Row]) -> (T, usize)
+fn next_of<T: Beside>(known: &T::Record, rows: &[Row]) -> (T::Record, usize)
     requires fits { T.Fits known.now }
-    ensures same { T.row_of result.0 ≡ T.row_of known.now }
+    ensures same { T.First.row_of result.0 ≡ T.First.row_of known.now }
     ensures fits { T.Fits result.0 }
     ensures within { result.1 ≤ length rows.now }
     ensures few { result.1 ≤ 1 }
-    ensures rows { T.beside_of result.0 ≡ take result.1 rows.now }
-    ensures other { result.1 ≡ 0 → (x : T) (row : StoredRow) (more : List StoredRow) → T.Fits x
-        → T.row_of x ≡ T.row_of known.now → rows.now ≡ row ∷ more → T.beside_of x ≡ row ∷ [] → ⊥ }
+    ensures rows { T.rows_of result.0 ≡ take result.1 rows.now }
+    ensures other { result.1 ≡ 0 → (x : T.Record) (row : StoredRow) (more : List StoredRow) → T.Fits x
+        → T.First.row_of x ≡ T.First.row_of known.now → rows.now ≡ row ∷ more → T.rows_of x ≡ row ∷ [] → ⊥ }
 {
     if let Some(row) = rows.first() {
-        if let Some(marked) = known.marked(row) {
+        if let Some(marked) = T::marked(known, row) {
             return (marked, 1);
         }
     }
-    (known.alone(), 0)
+    (T::alone(known), 0)
 }
 
 /// Records with the rows of these and with those rows beside them, to be put; none where no records in order have them.
 fn merged<T: Beside>(
     alloc: Global,
-    records: &[T],
+    records: &[T::Record],
     rows: &[Row],
-) -> Result<Option<Edits<T>>, AllocError>
-    requires beside { AreBeside T.key T.row_of T.beside_of }
+) -> Result<Option<Edits<T::Record>>, AllocError>
+    requires beside { AreBeside T.Record.key T.First.row_of T.rows_of }
     requires fits { Each T.Fits records.now }
-    requires order { IsInOrder T.key records.now }
-    ensures told { IfOk result (TellsBeside T.key T.row_of T.beside_of T.Fits records.now rows.now) }
+    requires order { IsInOrder T.Record.key records.now }
+    ensures told { IfOk result (TellsBeside T.Record.key T.First.row_of T.rows_of T.Fits records.now rows.now) }
 {
     let mut found = Edits::none(alloc);
     let mut left = rows;
     for known in records {
-        let (next, own) = next_of(known, left);
+        let (next, own) = next_of::<T>(known, left);
         found.put(next)?;
         let (_, later) = left.split_at(own);
         left = later;
@@ -188,20 +169,20 @@ fn merged<T: Beside>(
 /// The same, where code 31 says that no records in order have those rows beside them, and 0 that memory was refused.
 fn merged_table<T: Beside>(
     alloc: Global,
-    records: &[T],
+    records: &[T::Record],
     rows: &[Row],
     table: UnsoundTable,
-) -> Result<Edits<T>, OpenFault>
-    requires beside { AreBeside T.key T.row_of T.beside_of }
+) -> Result<Edits<T::Record>, OpenFault>
+    requires beside { AreBeside T.Record.key T.First.row_of T.rows_of }
     requires fits { Each T.Fits records.now }
-    requires order { IsInOrder T.key records.now }
+    requires order { IsInOrder T.Record.key records.now }
     ensures told { IfOk result (λ edit.
-        TellsBeside T.key T.row_of T.beside_of T.Fits records.now rows.now (Some edit)) }
+        TellsBeside T.Record.key T.First.row_of T.rows_of T.Fits records.now rows.now (Some edit)) }
     ensures faults { IfErr result (λ refused. (refused ≡ fault memory_refused)
         ⊎ ((refused ≡ unsound (number_of table))
-        × TellsBeside T.key T.row_of T.beside_of T.Fits records.now rows.now None)) }
+        × TellsBeside T.Record.key T.First.row_of T.rows_of T.Fits records.now rows.now None)) }
 {
-    match merged(alloc, records, rows) {
+    match merged::<T>(alloc, records, rows) {
         Ok(Some(found)) => Ok(found),
         Ok(None) => Err(OpenFault::unsound(table)),
         Err(_) => Err(OpenFault::MEMORY),
@@ -213,24 +194,24 @@ fn merged_table<T: Beside>(
 pub(crate) fn beside_in<S: Alter, T: Beside>(
     alloc: Global,
     conn: &mut Connection<S>,
-    records: &[T],
+    records: &[T::Record],
     table: UnsoundTable,
-) -> Result<Edits<T>, OpenFault>
+) -> Result<Edits<T::Record>, OpenFault>
     requires fits { Each T.Fits records.now }
-    requires order { IsInOrder T.key records.now }
-    ensures fitting { IfOk result (IsFitting T.key T.Fits) }
-    ensures same { IfOk result (λ edit. map T.row_of edit.puts ≡ map T.row_of records.now) }
+    requires order { IsInOrder T.Record.key records.now }
+    ensures fitting { IfOk result (IsFitting T.Record.key T.Fits) }
+    ensures same { IfOk result (λ edit. map T.First.row_of edit.puts ≡ map T.First.row_of records.now) }
     ensures told { ReadsTables (state S.Store conn.old) (state S.Store conn.new)
-        (λ trees. IfOk result (λ edit. AreRows T.second trees (flat_map T.beside_of edit.puts))) }
+        (λ trees. IfOk result (λ edit. AreRows T.home trees (flat_map T.rows_of edit.puts))) }
     ensures faults { IfErr result (λ refused. (refused ≡ fault memory_refused) ⊎ ((refused ≡ fault store_refused)
         ⊎ ((refused ≡ unsound (number_of table)) × (ReadsTables (state S.Store conn.old) (state S.Store conn.new)
-        (λ trees. AreRows T.home trees (map T.row_of records.now)
-        → NoneBeside T.key T.home T.second T.row_of T.beside_of T.Fits trees))))) }
+        (λ trees. AreRows T.First.home trees (map T.First.row_of records.now)
+        → NoneBeside T.Record.key T.First.home T.home T.First.row_of T.rows_of T.Fits trees))))) }
     ensures rests { Rests (state S.Store conn.old) (state S.Store conn.new) result }
 {
-    let rows = match T::second_rows(conn) {
+    let rows = match T::every_row(conn) {
         Ok(rows) => rows,
         Err(error) => return Err(fault_of(&error)),
     };
-    merged_table(alloc, records, &rows, table)
+    merged_table::<T>(alloc, records, &rows, table)
 }

@@ -9,12 +9,14 @@ ghost use Rattle.std.specs.Prelude.{◌-◌, ◌<◌};
 use crate::OpenFault;
 use crate::beside::beside_in;
 use crate::content::no_change;
-use crate::plans::planned_in;
-use crate::records::table_of;
-use crate::travel::travel_in;
+use crate::gathered::gathered_in;
 use pt_desk::ListKeeper;
 use pt_desk_rules::Change;
 use pt_soundness::UnsoundTable;
+use pt_tables_rows::{
+    Callers, Entries, FixedRoutes, KeptWrites, Places, Plans, RiderChairs, Riders, TravelTables,
+    TripChairs, Trips, VehicleChairs, Vehicles,
+};
 use sqlite::{Alter, Connection};
 use std::alloc::Global;
 
@@ -23,7 +25,7 @@ fn callers_change<S: Alter>(alloc: Global, conn: &mut Connection<S>) -> Result<C
     ensures { (s : State) → IsReadTo 1 s
         → ReadsTable UnsoundTable.Callers (state S.Store conn.old) (state S.Store conn.new) s result }
 {
-    let callers = table_of(alloc, conn, UnsoundTable::Callers)?;
+    let callers = gathered_in::<S, Callers>(alloc, conn, UnsoundTable::Callers)?;
     Ok(Change {
         callers,
         ..no_change(alloc)
@@ -35,7 +37,7 @@ fn kept_change<S: Alter>(alloc: Global, conn: &mut Connection<S>) -> Result<Chan
     ensures { (s : State) → IsReadTo 2 s
         → ReadsTable UnsoundTable.Kept (state S.Store conn.old) (state S.Store conn.new) s result }
 {
-    let kept = table_of(alloc, conn, UnsoundTable::Kept)?;
+    let kept = gathered_in::<S, KeptWrites>(alloc, conn, UnsoundTable::Kept)?;
     Ok(Change {
         kept,
         ..no_change(alloc)
@@ -47,7 +49,7 @@ fn places_change<S: Alter>(alloc: Global, conn: &mut Connection<S>) -> Result<Ch
     ensures { (s : State) → IsReadTo 3 s
         → ReadsTable UnsoundTable.Places (state S.Store conn.old) (state S.Store conn.new) s result }
 {
-    let places = table_of(alloc, conn, UnsoundTable::Places)?;
+    let places = gathered_in::<S, Places>(alloc, conn, UnsoundTable::Places)?;
     Ok(Change {
         places,
         ..no_change(alloc)
@@ -59,7 +61,7 @@ fn routes_change<S: Alter>(alloc: Global, conn: &mut Connection<S>) -> Result<Ch
     ensures { (s : State) → IsReadTo 4 s
         → ReadsTable UnsoundTable.Fixed (state S.Store conn.old) (state S.Store conn.new) s result }
 {
-    let routes = table_of(alloc, conn, UnsoundTable::Fixed)?;
+    let routes = gathered_in::<S, FixedRoutes>(alloc, conn, UnsoundTable::Fixed)?;
     Ok(Change {
         routes,
         ..no_change(alloc)
@@ -71,7 +73,7 @@ fn vehicles_change<S: Alter>(alloc: Global, conn: &mut Connection<S>) -> Result<
     ensures { (s : State) → IsReadTo 5 s
         → ReadsTable UnsoundTable.Vehicles (state S.Store conn.old) (state S.Store conn.new) s result }
 {
-    let vehicles = table_of(alloc, conn, UnsoundTable::Vehicles)?;
+    let vehicles = gathered_in::<S, Vehicles>(alloc, conn, UnsoundTable::Vehicles)?;
     Ok(Change {
         vehicles,
         ..no_change(alloc)
@@ -83,7 +85,7 @@ fn riders_change<S: Alter>(alloc: Global, conn: &mut Connection<S>) -> Result<Ch
     ensures { (s : State) → IsReadTo 6 s
         → ReadsTable UnsoundTable.Riders (state S.Store conn.old) (state S.Store conn.new) s result }
 {
-    let riders = table_of(alloc, conn, UnsoundTable::Riders)?;
+    let riders = gathered_in::<S, Riders>(alloc, conn, UnsoundTable::Riders)?;
     Ok(Change {
         riders,
         ..no_change(alloc)
@@ -95,7 +97,7 @@ fn entries_change<S: Alter>(alloc: Global, conn: &mut Connection<S>) -> Result<C
     ensures { (s : State) → IsReadTo 7 s
         → ReadsTable UnsoundTable.Entries (state S.Store conn.old) (state S.Store conn.new) s result }
 {
-    let entries = table_of(alloc, conn, UnsoundTable::Entries)?;
+    let entries = gathered_in::<S, Entries>(alloc, conn, UnsoundTable::Entries)?;
     Ok(Change {
         entries,
         ..no_change(alloc)
@@ -107,7 +109,7 @@ fn trips_change<S: Alter>(alloc: Global, conn: &mut Connection<S>) -> Result<Cha
     ensures { (s : State) → IsReadTo 8 s
         → ReadsTable UnsoundTable.Trips (state S.Store conn.old) (state S.Store conn.new) s result }
 {
-    let trips = table_of(alloc, conn, UnsoundTable::Trips)?;
+    let trips = gathered_in::<S, Trips>(alloc, conn, UnsoundTable::Trips)?;
     Ok(Change {
         trips,
         ..no_change(alloc)
@@ -119,7 +121,7 @@ fn planned_change<S: Alter>(alloc: Global, conn: &mut Connection<S>) -> Result<C
     ensures { (s : State) → IsReadTo 9 s
         → ReadsTable UnsoundTable.Stops (state S.Store conn.old) (state S.Store conn.new) s result }
 {
-    let planned = planned_in(alloc, conn)?;
+    let planned = gathered_in::<S, Plans>(alloc, conn, UnsoundTable::Stops)?;
     Ok(Change {
         planned,
         ..no_change(alloc)
@@ -131,7 +133,7 @@ fn travel_change<S: Alter>(alloc: Global, conn: &mut Connection<S>) -> Result<Ch
     ensures { (s : State) → IsReadTo 10 s
         → ReadsTable UnsoundTable.Travel (state S.Store conn.old) (state S.Store conn.new) s result }
 {
-    let travel = travel_in(alloc, conn)?;
+    let travel = gathered_in::<S, TravelTables>(alloc, conn, UnsoundTable::Travel)?;
     Ok(Change {
         travel,
         ..no_change(alloc)
@@ -148,7 +150,7 @@ fn rider_chairs_change<S: Alter>(
     ensures { ReadsTable UnsoundTable.RiderChairs (state S.Store conn.old) (state S.Store conn.new)
         keeper.now.content result }
 {
-    let riders = beside_in(
+    let riders = beside_in::<S, RiderChairs>(
         alloc,
         conn,
         keeper.riders_table().as_slice(),
@@ -170,7 +172,7 @@ fn vehicle_chairs_change<S: Alter>(
     ensures { ReadsTable UnsoundTable.VehicleChairs (state S.Store conn.old) (state S.Store conn.new)
         keeper.now.content result }
 {
-    let vehicles = beside_in(
+    let vehicles = beside_in::<S, VehicleChairs>(
         alloc,
         conn,
         keeper.vehicles_table().as_slice(),
@@ -192,7 +194,7 @@ fn trip_chairs_change<S: Alter>(
     ensures { ReadsTable UnsoundTable.TripChairs (state S.Store conn.old) (state S.Store conn.new)
         keeper.now.content result }
 {
-    let trips = beside_in(
+    let trips = beside_in::<S, TripChairs>(
         alloc,
         conn,
         keeper.trips_table().as_slice(),

@@ -1,48 +1,40 @@
-ghost use Rattle.std.specs.Prelude.{◌≡◌, ◌⊎◌, ◌↔◌, ◌<◌, ◌≤◌, ℕ, List, [], IsTrue, IfOk, IfErr, length, slice_index_or};
+//! The records of a table, read from all its rows: each begins with a row that no later one of its own is like.
+
+ghost use Rattle.std.specs.Prelude.{◌≡◌, ◌⊎◌, ◌↔◌, ◌<◌, ◌≤◌, ℕ, [], IsTrue, IfOk, IfErr, flat_map, length};
+ghost use Rattle.std.specs.Prelude.{slice_index_or};
 ghost use Rattle.sqlite.specs.Order.{Row as StoredRow, column};
 ghost use Rattle.sqlite.specs.Held.{state};
-ghost use Rattle.sqlite.specs.Table.{Table as StoredTable};
+ghost use Rattle.pt_base.specs.Codes.{memory_refused};
 ghost use Rattle.pt_soundness.specs.Tables.{number_of};
-ghost use Rattle.pt_tables_asking.specs.Asking.{AreInOrder};
-ghost use Rattle.pt_tables_opening.specs.Gathered.{BeginsOnce, TellsGathered, IsGatheredFrom};
-ghost use Rattle.pt_tables_opening.specs.Gathered.{GathersNothing, IsGatheredTable, IsUngathered};
+ghost use Rattle.pt_tables_opening.specs.Faults.{fault, store_refused, unsound};
+ghost use Rattle.pt_tables_opening.specs.Gathered.{AreRowsOfNone, BeginsOnce, FitsRows, GathersNothing, IsFitting};
+ghost use Rattle.pt_tables_opening.specs.Gathered.{KeepsOrder, TellsGathered};
 ghost use Rattle.pt_tables_opening.specs.Opening.{ReadsTables, Rests};
 ghost use Rattle.pt_tables_reading.specs.Reading.{Reads};
 ghost use Rattle.pt_tables_rows.specs.Rows.{number_value};
 ghost use Rattle.pt_tables_rows.specs.Tables.{AreRows};
-ghost use Rattle.pt_base.specs.Codes.{memory_refused};
-ghost use Rattle.pt_tables_opening.specs.Faults.{fault, store_refused, unsound};
-ghost use Rattle.pt_tables_opening.specs.Told.{IsFitting};
 
 use crate::OpenFault;
 use crate::open_fault::fault_of;
-use pt_records::{Edits, Keyed};
+use pt_records::Edits;
 use pt_soundness::UnsoundTable;
 use pt_tables_asking::are_rising;
+use pt_tables_rows::TableOf;
 use sqlite::types::ValueRef;
 use sqlite::{Alter, Connection, Error, Row};
 use std::alloc::{AllocError, Global};
 
-/// A record that several rows tell.
-pub(crate) trait Gathered: Keyed {
-    /// Its table.
-    ghost home: { StoredTable };
-
-    /// What is true of each such record.
-    ghost Fits: { Self → Type 0 };
-
-    /// Its rows, in their order.
-    ghost rows_of: { Self → List StoredRow };
-
+/// A table whose rows are read back as its records.
+pub(crate) trait Gathered: TableOf {
     /// What is true of a first row.
     ghost Begins: { StoredRow → Type 0 };
 
-    /// All rows of its table, in the order of their first three columns.
+    /// All rows of the table, in the order of the keys of its records.
     fn every_row<S: Alter>(conn: &mut Connection<S>) -> Result<Vec<Row>, Error>
         ensures rows { ReadsTables (state S.Store conn.old) (state S.Store conn.new)
-            (λ trees. IfOk result (λ rows. AreRows home trees rows.items)) }
-        ensures order { ReadsTables (state S.Store conn.old) (state S.Store conn.new)
-            (λ _. IfOk result (λ rows. AreInOrder 3 rows.items)) }
+            (λ trees. IfOk result (λ rows. AreRows Self.home trees rows.items)) }
+        ensures order { ReadsTables (state S.Store conn.old) (state S.Store conn.new) (λ _. IfOk result
+            (λ rows. KeepsOrder Self.Record.key Self.rows_of (FitsRows Self.rows_of Self.Fits) rows.items)) }
         ensures rests { Rests (state S.Store conn.old) (state S.Store conn.new) result };
 
     /// Whether a row is the first one of a record.
@@ -51,9 +43,9 @@ pub(crate) trait Gathered: Keyed {
 
     /// The record that has these rows, or none where no record has them. Of the rows of a record, no later one is such
     /// as the first.
-    fn of_rows(alloc: Global, rows: &[Row]) -> Result<Option<Self>, AllocError>
-        ensures told { IfOk result (Reads rows_of Fits rows.now) }
-        ensures once { (x : Self) → Fits x → BeginsOnce Begins (rows_of x) };
+    fn of_rows(alloc: Global, rows: &[Row]) -> Result<Option<Self::Record>, AllocError>
+        ensures told { IfOk result (Reads Self.rows_of (FitsRows Self.rows_of Self.Fits) rows.now) }
+        ensures once { (x : Self.Record) → Self.Fits x → BeginsOnce Begins (Self.rows_of x) };
 }
 
 /// Whether the number in a column is 0.
@@ -82,11 +74,11 @@ fn group_end<T: Gathered>(rows: &[Row]) -> usize
 }
 
 /// The records whose rows these are, in their order, to be put; none where no records have these rows in this order.
-pub(crate) fn gathered_of<T: Gathered>(
+fn gathered_of<T: Gathered>(
     alloc: Global,
     rows: &[Row],
-) -> Result<Option<Edits<T>>, AllocError>
-    ensures told { IfOk result (TellsGathered T.rows_of T.Fits rows.now) }
+) -> Result<Option<Edits<T::Record>>, AllocError>
+    ensures told { IfOk result (TellsGathered T.rows_of (FitsRows T.rows_of T.Fits) rows.now) }
 {
     let mut records = Edits::none(alloc);
     let mut left = rows;
@@ -107,12 +99,13 @@ fn gathered_table<T: Gathered>(
     alloc: Global,
     rows: &[Row],
     table: UnsoundTable,
-) -> Result<Edits<T>, OpenFault>
-    ensures told { IfOk result (IsGatheredFrom T.key T.rows_of T.Fits rows.now) }
-    ensures faults { IfErr result (λ refused. (refused ≡ fault memory_refused)
-        ⊎ ((refused ≡ unsound (number_of table)) × GathersNothing T.key T.rows_of T.Fits rows.now)) }
+) -> Result<Edits<T::Record>, OpenFault>
+    ensures fitting { IfOk result (IsFitting T.Record.key (FitsRows T.rows_of T.Fits)) }
+    ensures told { IfOk result (λ edit. flat_map T.rows_of edit.puts ≡ rows.now) }
+    ensures faults { IfErr result (λ refused. (refused ≡ fault memory_refused) ⊎ ((refused ≡ unsound (number_of table))
+        × GathersNothing T.Record.key T.rows_of (FitsRows T.rows_of T.Fits) rows.now)) }
 {
-    let Ok(found) = gathered_of(alloc, rows) else {
+    let Ok(found) = gathered_of::<T>(alloc, rows) else {
         return Err(OpenFault::MEMORY);
     };
     let Some(records) = found else {
@@ -124,24 +117,24 @@ fn gathered_table<T: Gathered>(
     Ok(records)
 }
 
-/// The records of a table, to be put, read from all its rows: code 31 where these tell no records in the order of their
-/// keys, 32 where the store refused or failed, and 0 where memory was refused.
+/// The records of a table, to be put, read from all its rows: code 31 where no records in the order of their keys have
+/// them, 32 where the store refused or failed, and 0 where memory was refused.
 pub(crate) fn gathered_in<S: Alter, T: Gathered>(
     alloc: Global,
     conn: &mut Connection<S>,
     table: UnsoundTable,
-) -> Result<Edits<T>, OpenFault>
-    ensures fitting { IfOk result (IsFitting T.key T.Fits) }
+) -> Result<Edits<T::Record>, OpenFault>
+    ensures fitting { IfOk result (IsFitting T.Record.key (FitsRows T.rows_of T.Fits)) }
     ensures told { ReadsTables (state S.Store conn.old) (state S.Store conn.new)
-        (λ trees. IfOk result (IsGatheredTable T.key T.home T.rows_of T.Fits trees)) }
+        (λ trees. IfOk result (λ edit. AreRows T.home trees (flat_map T.rows_of edit.puts))) }
     ensures faults { IfErr result (λ refused. (refused ≡ fault memory_refused) ⊎ ((refused ≡ fault store_refused)
         ⊎ ((refused ≡ unsound (number_of table)) × (ReadsTables (state S.Store conn.old) (state S.Store conn.new)
-        (IsUngathered T.key T.home T.rows_of T.Fits))))) }
+        (AreRowsOfNone T.Record.key T.home T.rows_of (FitsRows T.rows_of T.Fits)))))) }
     ensures rests { Rests (state S.Store conn.old) (state S.Store conn.new) result }
 {
     let rows = match T::every_row(conn) {
         Ok(rows) => rows,
         Err(error) => return Err(fault_of(&error)),
     };
-    gathered_table(alloc, &rows, table)
+    gathered_table::<T>(alloc, &rows, table)
 }

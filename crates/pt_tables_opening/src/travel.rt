@@ -1,28 +1,18 @@
-ghost use Rattle.std.specs.Prelude.{◌≡◌, ◌⊎◌, List, flat_map, map, IfOk, IfErr, MatchOption};
-ghost use Rattle.sqlite.specs.Held.{state};
-ghost use Rattle.pt_base.specs.Codes.{memory_refused};
+ghost use Rattle.std.specs.Prelude.{◌≡◌, List, map, IfOk, MatchOption};
 ghost use Rattle.pt_base.specs.Day.{IsDay};
-ghost use Rattle.pt_desk_rules.specs.State.{travel_key};
+ghost use Rattle.pt_desk_rules.specs.Ranges.{FitsDrive, FitsTravel};
 ghost use Rattle.pt_records.specs.Records.{Each};
 ghost use Rattle.pt_travel.specs.Chain as travel;
-ghost use Rattle.pt_tables_opening.specs.Faults.{fault, store_refused, unsound};
 ghost use Rattle.pt_tables_reading.specs.Fitting.{FitsDriveAt};
-ghost use Rattle.pt_tables_opening.specs.Gathered.{IsGatheredTable};
-ghost use Rattle.pt_desk_rules.specs.Ranges.{FitsDrive, FitsTravel};
-ghost use Rattle.pt_tables_opening.specs.Opening.{ReadsTables, Rests};
 ghost use Rattle.pt_tables_reading.specs.Reading.{Reads};
 ghost use Rattle.pt_tables_rows.specs.Rows.{travel_row, travel_rows};
-ghost use Rattle.pt_tables_rows.specs.Schema.{travel_table};
-ghost use Rattle.pt_tables_opening.specs.Told.{AreRowsOfNone, IsFitting};
 
-use crate::OpenFault;
-use crate::gathered::{Gathered, gathered_in, is_nought};
-use crate::table_rows::travel_rows;
+use crate::gathered::{Gathered, is_nought};
+use crate::table_rows::{TRAVEL_ROWS, rows_of_table};
 use pt_base::Day;
 use pt_desk_rules::TravelTable;
-use pt_records::Edits;
-use pt_soundness::UnsoundTable;
 use pt_tables_reading::drive_of;
+use pt_tables_rows::TravelTables;
 use pt_travel::{Raw, Row as Drive};
 use sqlite::{Alter, Connection, Error, Row};
 use std::alloc::{AllocError, Global};
@@ -89,46 +79,20 @@ fn table_of(alloc: Global, rows: &[Row]) -> Result<Option<TravelTable>, AllocErr
     }
 }
 
-impl Gathered for TravelTable {
+impl Gathered for TravelTables {
     ghost use Rattle.pt_tables_opening.specs.Gathered.{BeginsTravel};
-    ghost use Rattle.pt_desk_rules.specs.Ranges.{FitsTravel};
-    ghost use Rattle.pt_tables_rows.specs.Rows.{travel_rows};
-    ghost use Rattle.pt_tables_rows.specs.Schema.{travel_table};
-
-    ghost home = { travel_table };
-
-    ghost Fits = { FitsTravel };
-
-    ghost rows_of = { travel_rows };
 
     ghost Begins = { BeginsTravel };
 
     fn every_row<S: Alter>(conn: &mut Connection<S>) -> Result<Vec<Row>, Error> {
-        travel_rows(conn)
+        rows_of_table(conn, TRAVEL_ROWS)
     }
 
     fn begins(row: &Row) -> bool {
         is_nought(row, FROM_COLUMN)
     }
 
-    fn of_rows(alloc: Global, rows: &[Row]) -> Result<Option<Self>, AllocError> {
+    fn of_rows(alloc: Global, rows: &[Row]) -> Result<Option<TravelTable>, AllocError> {
         table_of(alloc, rows)
     }
-}
-
-/// The travel tables, to be put, read from all rows of driving times: code 31 where these tell no travel tables in the
-/// order of their days, 32 where the store refused or failed, and 0 where memory was refused.
-pub(crate) fn travel_in<S: Alter>(
-    alloc: Global,
-    conn: &mut Connection<S>,
-) -> Result<Edits<TravelTable>, OpenFault>
-    ensures fitting { IfOk result (IsFitting travel_key FitsTravel) }
-    ensures told { ReadsTables (state S.Store conn.old) (state S.Store conn.new)
-        (λ trees. IfOk result (IsGatheredTable travel_key travel_table travel_rows FitsTravel trees)) }
-    ensures faults { IfErr result (λ refused. (refused ≡ fault memory_refused) ⊎ ((refused ≡ fault store_refused)
-        ⊎ ((refused ≡ unsound 11) × (ReadsTables (state S.Store conn.old) (state S.Store conn.new)
-        (AreRowsOfNone travel_key travel_table (flat_map travel_rows) FitsTravel))))) }
-    ensures rests { Rests (state S.Store conn.old) (state S.Store conn.new) result }
-{
-    gathered_in(alloc, conn, UnsoundTable::Travel)
 }

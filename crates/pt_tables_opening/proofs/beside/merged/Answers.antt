@@ -2,17 +2,16 @@ use Rattle.std.proofs.Common.{◌≡◌, ◌+◌, ◌<◌, ◌++◌, [], map, fl
 use Rattle.std.proofs.lemmas.Bool.Decides.{nat_tests}
 use Rattle.std.proofs.lemmas.List.{drop_all}
 use Rattle.pt_records.specs.Records.{Each, Edit}
-use Rattle.pt_tables_opening.proofs.BesideLemmas.{Goes, goes_on, goes_out, no_rows, order_same, rows_next, whole_take}
+use Rattle.pt_tables_opening.proofs.BesideLemmas.{Goes, goes_on, goes_out, next_from, no_rows, order_same, rows_next, whole_take}
 use Rattle.pt_tables_opening.proofs.GatheredLemmas.{done_next, each_push}
-use Rattle.pt_tables_opening.proofs.ToldLemmas.{next_from}
 use Rattle.pt_tables_opening.proofs.beside.merged.Goals as goal
 
 pub loop-known-preserved : goal.loop-known-preserved
 loop-known-preserved g c =
-    let key = g.T.Keyed.key in
-    let row_of = g.T.OneRow.row_of in
-    let beside_of = g.T.Beside.beside_of in
-    let Fits = g.T.OneRow.Fits in
+    let key = g.T.Record.Keyed.key in
+    let row_of = g.T.First.OneRow.row_of in
+    let beside_of = g.T.TableOf.rows_of in
+    let Fits = g.T.TableOf.Fits in
     let known = c.args.records.now in
     let i = c.loop-known.known-index in
     let x = c.known-item.result in
@@ -38,10 +37,10 @@ loop-known-preserved g c =
 pub returns-then-not-is_empty : goal.returns-then-not-is_empty
 returns-then-not-is_empty g c = record {
   told = λ xs each order same have.
-      let key = g.T.Keyed.key in
-      let row_of = g.T.OneRow.row_of in
-      let beside_of = g.T.Beside.beside_of in
-      let Fits = g.T.OneRow.Fits in
+      let key = g.T.Record.Keyed.key in
+      let row_of = g.T.First.OneRow.row_of in
+      let beside_of = g.T.TableOf.rows_of in
+      let Fits = g.T.TableOf.Fits in
       let known = c.args.records.now in
       let left = c.loop-known.left.now in
       let some : 0 < length left = grind (arith, nat_tests, c.is_empty.ensures, c.if-not-is_empty.true) in
@@ -53,9 +52,9 @@ returns-then-not-is_empty g c = record {
 
 pub returns : goal.returns
 returns g c =
-    let key = g.T.Keyed.key in
-    let row_of = g.T.OneRow.row_of in
-    let beside_of = g.T.Beside.beside_of in
+    let key = g.T.Record.Keyed.key in
+    let row_of = g.T.First.OneRow.row_of in
+    let beside_of = g.T.TableOf.rows_of in
     let known = c.args.records.now in
     let found = c.loop-known.found.puts in
     let none : c.loop-known.left.now ≡ [] = no_rows c.loop-known.left.now (grind (arith, nat_tests, c.is_empty.ensures, c.if-not-is_empty.false)) in
@@ -63,7 +62,7 @@ returns g c =
     let rows = c.loop-known.invariant.rows ∙ ap (map row_of) all in
     record {
       told = (
-        (c.loop-known.invariant.away, order_same key row_of beside_of g.T.OneRow.Fits c.requires.beside found known rows c.requires.order),
+        (c.loop-known.invariant.away, order_same key row_of beside_of g.T.TableOf.Fits c.requires.beside found known rows c.requires.order),
         rows,
         sym (append-nil (flat_map beside_of found)) ∙ ap (λ rs. flat_map beside_of found ++ rs) (sym none) ∙ c.loop-known.invariant.done,
         c.loop-known.invariant.each,

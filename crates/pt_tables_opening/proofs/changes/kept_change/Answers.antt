@@ -11,12 +11,12 @@ returns g c s read =
     let old = state g.S.Store c.args.conn.now in
     let edit = c.in_ok-kept.kept in
     let fits = c.in_ok-kept.ensures.fitting in
-    puts_so table.Kept old (state g.S.Store c.table_of.new.conn) s c.table_of.result edit c.in_ok-kept.was c.table_of.ensures.rests _ (puts_kept edit)
+    puts_so table.Kept old (state g.S.Store c.gathered_in.new.conn) s c.gathered_in.result edit c.in_ok-kept.was c.gathered_in.ensures.rests _ (puts_kept edit)
     (ap (λ (change : Change). record change { kept = edit }) c.no_change.ensures) (kept_read s edit read fits)
-    (λ clean has before. kept_shown s old.now.trees edit read fits (c.in_ok-kept.ensures.told clean has).rows_are before)
+    (λ clean has before. kept_shown s old.now.trees edit read fits (c.in_ok-kept.ensures.told clean has) before)
 
 pub returns-in_err-kept : goal.returns-in_err-kept
 returns-in_err-kept g c s read =
     let old = state g.S.Store c.args.conn.now in
-    fails_so table.Kept old (state g.S.Store c.table_of.new.conn) s c.table_of.result _ c.from_residual.result c.from_residual.ensures.0 c.from_residual.ensures.1 c.table_of.ensures.rests
+    fails_so table.Kept old (state g.S.Store c.gathered_in.new.conn) s c.gathered_in.result _ c.from_residual.result c.from_residual.ensures.0 c.from_residual.ensures.1 c.gathered_in.ensures.rests
     _ (λ before none. kept_none old.now.trees none) c.in_err-kept.ensures.faults

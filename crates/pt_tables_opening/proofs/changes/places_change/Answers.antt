@@ -11,12 +11,12 @@ returns g c s read =
     let old = state g.S.Store c.args.conn.now in
     let edit = c.in_ok-places.places in
     let fits = c.in_ok-places.ensures.fitting in
-    puts_so table.Places old (state g.S.Store c.table_of.new.conn) s c.table_of.result edit c.in_ok-places.was c.table_of.ensures.rests _ (puts_places edit)
+    puts_so table.Places old (state g.S.Store c.gathered_in.new.conn) s c.gathered_in.result edit c.in_ok-places.was c.gathered_in.ensures.rests _ (puts_places edit)
     (ap (λ (change : Change). record change { places = edit }) c.no_change.ensures) (places_read s edit read fits)
-    (λ clean has before. places_shown s old.now.trees edit read fits (c.in_ok-places.ensures.told clean has).rows_are before)
+    (λ clean has before. places_shown s old.now.trees edit read fits (c.in_ok-places.ensures.told clean has) before)
 
 pub returns-in_err-places : goal.returns-in_err-places
 returns-in_err-places g c s read =
     let old = state g.S.Store c.args.conn.now in
-    fails_so table.Places old (state g.S.Store c.table_of.new.conn) s c.table_of.result _ c.from_residual.result c.from_residual.ensures.0 c.from_residual.ensures.1 c.table_of.ensures.rests
+    fails_so table.Places old (state g.S.Store c.gathered_in.new.conn) s c.gathered_in.result _ c.from_residual.result c.from_residual.ensures.0 c.from_residual.ensures.1 c.gathered_in.ensures.rests
     _ (λ before none. places_none old.now.trees none) c.in_err-places.ensures.faults

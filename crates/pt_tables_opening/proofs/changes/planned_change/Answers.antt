@@ -11,12 +11,12 @@ returns g c s read =
     let old = state g.S.Store c.args.conn.now in
     let edit = c.in_ok-planned.planned in
     let fits = c.in_ok-planned.ensures.fitting in
-    puts_so table.Stops old (state g.S.Store c.planned_in.new.conn) s c.planned_in.result edit c.in_ok-planned.was c.planned_in.ensures.rests _ (puts_planned edit)
+    puts_so table.Stops old (state g.S.Store c.gathered_in.new.conn) s c.gathered_in.result edit c.in_ok-planned.was c.gathered_in.ensures.rests _ (puts_planned edit)
     (ap (λ (change : Change). record change { planned = edit }) c.no_change.ensures) (planned_read s edit read fits)
-    (λ clean has before. planned_shown s old.now.trees edit read fits (c.in_ok-planned.ensures.told clean has).rows_are before)
+    (λ clean has before. planned_shown s old.now.trees edit read fits (c.in_ok-planned.ensures.told clean has) before)
 
 pub returns-in_err-planned : goal.returns-in_err-planned
 returns-in_err-planned g c s read =
     let old = state g.S.Store c.args.conn.now in
-    fails_so table.Stops old (state g.S.Store c.planned_in.new.conn) s c.planned_in.result _ c.from_residual.result c.from_residual.ensures.0 c.from_residual.ensures.1 c.planned_in.ensures.rests
+    fails_so table.Stops old (state g.S.Store c.gathered_in.new.conn) s c.gathered_in.result _ c.from_residual.result c.from_residual.ensures.0 c.from_residual.ensures.1 c.gathered_in.ensures.rests
     _ (λ before none. planned_none old.now.trees none) c.in_err-planned.ensures.faults

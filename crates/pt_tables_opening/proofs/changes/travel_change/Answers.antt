@@ -11,12 +11,12 @@ returns g c s read =
     let old = state g.S.Store c.args.conn.now in
     let edit = c.in_ok-travel.travel in
     let fits = c.in_ok-travel.ensures.fitting in
-    puts_so table.Travel old (state g.S.Store c.travel_in.new.conn) s c.travel_in.result edit c.in_ok-travel.was c.travel_in.ensures.rests _ (puts_travel edit)
+    puts_so table.Travel old (state g.S.Store c.gathered_in.new.conn) s c.gathered_in.result edit c.in_ok-travel.was c.gathered_in.ensures.rests _ (puts_travel edit)
     (ap (λ (change : Change). record change { travel = edit }) c.no_change.ensures) (travel_read s edit read fits)
-    (λ clean has before. travel_shown s old.now.trees edit read fits (c.in_ok-travel.ensures.told clean has).rows_are before)
+    (λ clean has before. travel_shown s old.now.trees edit read fits (c.in_ok-travel.ensures.told clean has) before)
 
 pub returns-in_err-travel : goal.returns-in_err-travel
 returns-in_err-travel g c s read =
     let old = state g.S.Store c.args.conn.now in
-    fails_so table.Travel old (state g.S.Store c.travel_in.new.conn) s c.travel_in.result _ c.from_residual.result c.from_residual.ensures.0 c.from_residual.ensures.1 c.travel_in.ensures.rests
+    fails_so table.Travel old (state g.S.Store c.gathered_in.new.conn) s c.gathered_in.result _ c.from_residual.result c.from_residual.ensures.0 c.from_residual.ensures.1 c.gathered_in.ensures.rests
     _ (λ before none. travel_none old.now.trees none) c.in_err-travel.ensures.faults

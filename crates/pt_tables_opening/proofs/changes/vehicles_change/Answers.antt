@@ -11,12 +11,12 @@ returns g c s read =
     let old = state g.S.Store c.args.conn.now in
     let edit = c.in_ok-vehicles.vehicles in
     let fits = c.in_ok-vehicles.ensures.fitting in
-    puts_so table.Vehicles old (state g.S.Store c.table_of.new.conn) s c.table_of.result edit c.in_ok-vehicles.was c.table_of.ensures.rests _ (puts_vehicles edit)
+    puts_so table.Vehicles old (state g.S.Store c.gathered_in.new.conn) s c.gathered_in.result edit c.in_ok-vehicles.was c.gathered_in.ensures.rests _ (puts_vehicles edit)
     (ap (λ (change : Change). record change { vehicles = edit }) c.no_change.ensures) (vehicles_read s edit read fits)
-    (λ clean has before. vehicles_shown s old.now.trees edit read fits (c.in_ok-vehicles.ensures.told clean has).rows_are before)
+    (λ clean has before. vehicles_shown s old.now.trees edit read fits (c.in_ok-vehicles.ensures.told clean has) before)
 
 pub returns-in_err-vehicles : goal.returns-in_err-vehicles
 returns-in_err-vehicles g c s read =
     let old = state g.S.Store c.args.conn.now in
-    fails_so table.Vehicles old (state g.S.Store c.table_of.new.conn) s c.table_of.result _ c.from_residual.result c.from_residual.ensures.0 c.from_residual.ensures.1 c.table_of.ensures.rests
+    fails_so table.Vehicles old (state g.S.Store c.gathered_in.new.conn) s c.gathered_in.result _ c.from_residual.result c.from_residual.ensures.0 c.from_residual.ensures.1 c.gathered_in.ensures.rests
     _ (λ before none. vehicles_none old.now.trees none) c.in_err-vehicles.ensures.faults

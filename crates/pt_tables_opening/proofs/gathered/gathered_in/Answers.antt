@@ -3,7 +3,7 @@ use Rattle.sqlite.specs.Held.{state}
 use Rattle.sqlite.specs.State.{HasCleanDisk}
 use Rattle.pt_base.specs.Codes.{memory_refused}
 use Rattle.pt_tables_opening.specs.Faults.{fault, store_refused, unsound}
-use Rattle.pt_tables_asking.specs.Asking.{AreInOrder}
+use Rattle.pt_tables_opening.specs.Gathered.{FitsRows, KeepsOrder}
 use Rattle.pt_tables_opening.specs.Opening.{Rests}
 use Rattle.pt_tables_rows.specs.Schema.{desk_schema}
 use Rattle.pt_tables_rows.specs.Tables.{AreRows}
@@ -21,16 +21,19 @@ returns-clause-rests g c =
 pub returns-clause-told : goal.returns-clause-told
 returns-clause-told g c clean has =
     let trees = (state g.S.Store c.args.conn.now).now.trees in
-    let home = g.T.Gathered.home in
-    are_of_table g.T.Keyed.key home g.T.Gathered.rows_of g.T.Gathered.Fits trees c.deref.result.now
-    (subst (AreRows home trees) (sym c.deref.ensures.value) (c.in-Ok.ensures.rows clean has)) c.gathered_table.result c.gathered_table.ensures.told
+    let home = g.T.TableOf.home in
+    are_of_table home g.T.TableOf.rows_of trees c.deref.result.now (subst (AreRows home trees) (sym c.deref.ensures.value) (c.in-Ok.ensures.rows clean has))
+    c.gathered_table.result c.gathered_table.ensures.told
 
 pub returns-clause-faults : goal.returns-clause-faults
 returns-clause-faults g c =
     let trees = (state g.S.Store c.args.conn.now).now.trees in
-    let home = g.T.Gathered.home in
-    refuses_table g.T.Keyed.key home g.T.Gathered.rows_of g.T.Gathered.Fits trees c.deref.result.now
+    let home = g.T.TableOf.home in
+    let key = g.T.Record.Keyed.key in
+    let rows_of = g.T.TableOf.rows_of in
+    let Fits = FitsRows rows_of g.T.TableOf.Fits in
+    refuses_table key home rows_of Fits trees c.deref.result.now
     (HasCleanDisk (state g.S.Store c.every_row.new.conn)) ((state g.S.Store c.args.conn.now).now.schema ≡ desk_schema)
     (λ clean has. subst (AreRows home trees) (sym c.deref.ensures.value) (c.in-Ok.ensures.rows clean has))
-    (λ clean has. subst (AreInOrder 3) (sym c.deref.ensures.value) (c.in-Ok.ensures.order clean has))
+    (λ clean has. subst (KeepsOrder key rows_of Fits) (sym c.deref.ensures.value) (c.in-Ok.ensures.order clean has))
     (fault memory_refused) (fault store_refused) (unsound (number_of c.args.table)) c.gathered_table.result c.gathered_table.ensures.faults

@@ -15,5 +15,5 @@ returns-in-None c =
     let rows = c.args.rows.now in
     let at = c.in-Some-stop_of.first in
     let none = where-none c.in_ok-stops.field-0 (NoStops at.vehicle at.day rows)
-    (λ found. (stop_rows_from 0 at.vehicle at.day found.items ≡ rows) × FitStops found.items) c.in_ok-stops.ensures.told c.in-None.is in
+    (λ found. (stop_rows_from 0 at.vehicle at.day found.items ≡ rows) × FitStops at.vehicle at.day found.items) c.in_ok-stops.ensures.told c.in-None.is in
     record { told = no-later rows c.in-Some.row.now (sym c.in-Some.ensures.value) at c.in-Some-stop_of.ensures.0 none }

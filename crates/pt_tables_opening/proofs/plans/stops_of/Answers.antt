@@ -2,7 +2,7 @@ use Rattle.std.proofs.Common.{◌≡◌, ◌+◌, ◌<◌, ◌^◌, ◌∷◌, [
 use Rattle.pt_records.specs.Records.{Each}
 use Rattle.pt_desk_rules.specs.Ranges.{FitsStop}
 use Rattle.pt_tables_opening.proofs.GatheredLemmas.{each_push}
-use Rattle.pt_tables_opening.proofs.PlanReading.{no-stops, stops-next}
+use Rattle.pt_tables_opening.proofs.PlanReading.{no-stops, rows-of-stops, stops-next}
 use Rattle.pt_tables_opening.proofs.plans.stops_of.Goals as goal
 
 pub returns-in_default : goal.returns-in_default
@@ -23,5 +23,5 @@ loop-place-preserved c =
       rows_are = stops-next c.args.vehicle c.args.day c.args.rows.now c.loop-place.place c.index-rows-place.result (omega arith) c.index-rows-place.is stops c.push.new.self.items stop
           told.0 count pushed c.loop-place.invariant.rows_are;
       count = omega (arith, size, count);
-      fit = (omega (arith, size, count, place), subst (Each FitsStop) (sym pushed) (each_push FitsStop stops stop c.loop-place.invariant.fit.1 told.1.trip));
+      fit = (omega (arith, size, count, place, rows-of-stops 0 c.args.vehicle c.args.day c.push.new.self.items), subst (Each FitsStop) (sym pushed) (each_push FitsStop stops stop c.loop-place.invariant.fit.1 told.1.trip));
     }

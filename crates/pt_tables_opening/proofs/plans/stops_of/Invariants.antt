@@ -7,5 +7,5 @@ abbrev pub invariant-loop-place : goal.invariant-loop-place
 invariant-loop-place l = record {
   rows_are : stop_rows_from 0 l.fn.vehicle l.fn.day l.stops.items ≡ take l.place l.rows;
   count : length l.stops.items ≡ l.place;
-  fit : FitStops l.stops.items;
+  fit : FitStops l.fn.vehicle l.fn.day l.stops.items;
 }

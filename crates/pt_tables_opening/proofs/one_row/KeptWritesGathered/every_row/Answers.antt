@@ -1,0 +1,21 @@
+use Rattle.sqlite.specs.Held.{state}
+use Rattle.pt_tables_rows.specs.Schema.{desk_schema, kept_table}
+use Rattle.pt_tables_opening.specs.declared.table_rows.TheConstants.{KEPT_ROWS}
+use Rattle.pt_tables_opening.proofs.RowOrders.{kept_ordered}
+use Rattle.pt_tables_opening.proofs.RowTexts.{kept_rows_text}
+use Rattle.pt_tables_opening.proofs.ShownRows.{shows_all, shows_order}
+use Rattle.pt_tables_opening.proofs.one_row.KeptWritesGathered.every_row.Goals as goal
+
+pub returns-clause-rows : goal.returns-clause-rows
+returns-clause-rows g c clean has =
+    shows_all desk_schema 1 kept_table KEPT_ROWS.now kept_rows_text (state g.S.Store c.args.conn.now) (state g.S.Store c.rows_of_table.new.conn)
+    has c.rows_of_table.result (c.rows_of_table.ensures.shown clean)
+
+pub returns-clause-order : goal.returns-clause-order
+returns-clause-order g c clean has =
+    kept_ordered c.rows_of_table.result
+    (shows_order desk_schema 1 kept_table KEPT_ROWS.now kept_rows_text (state g.S.Store c.args.conn.now) (state g.S.Store c.rows_of_table.new.conn)
+    has c.rows_of_table.result (c.rows_of_table.ensures.shown clean))
+
+pub returns-clause-rests : goal.returns-clause-rests
+returns-clause-rests g c = c.rows_of_table.ensures.rests desk_schema kept_rows_text.plain
