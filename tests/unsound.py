@@ -68,7 +68,7 @@ ROWS = [
     ("a driver of no vehicle", "UPDATE callers SET subject = 9 WHERE id = 6", UNSOUND, "vehicles"),
     ("a rider of no kind", "UPDATE riders SET kind = 2 WHERE id = 9", UNSOUND, "riders"),
     ("a caller of no rider", "UPDATE callers SET subject = 8 WHERE id = 7", UNSOUND, "riders"),
-    ("an entry of no kind", "UPDATE entries SET kind = 11 WHERE place = 1", UNSOUND, "entries"),
+    ("an entry of no kind", "UPDATE entries SET kind = 99 WHERE place = 1", UNSOUND, "entries"),
     ("a gap before an entry", "UPDATE entries SET place = 7 WHERE place = 1", UNSOUND, "entries"),
     ("a trip of no status", "UPDATE trips SET status = 5 WHERE id = 1", UNSOUND, "trips"),
     ("last_trip 0 with trips", "UPDATE desk SET last_trip = 0", UNSOUND, "trips"),

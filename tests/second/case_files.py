@@ -5,7 +5,7 @@ from second import days, riders
 from second.replies import Denied
 
 MOST_ENTRIES = 200
-DAYS_TO_DECIDE, DAYS_TO_APPEAL, DAYS_AFTER_HEARING, DAYS_OF_SUSPENSION = 21, 60, 30, 30
+DAYS_TO_PRESUMPTION, DAYS_TO_APPEAL, DAYS_AFTER_HEARING, DAYS_OF_SUSPENSION = 21, 60, 30, 30
 
 Entry = collections.namedtuple("Entry", "kind day author values")
 
@@ -55,7 +55,7 @@ def is_overdue(file, today):
 
 def standing(file, day, today):
     waits = unanswered(file)
-    if waits is not None and today >= days.plus(file[waits].day, DAYS_TO_DECIDE):
+    if waits is not None and today >= days.plus(file[waits].day, DAYS_TO_PRESUMPTION):
         return "presumed"
     if is_overdue(file, today):
         return "appeal-overdue"
