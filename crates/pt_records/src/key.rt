@@ -41,6 +41,13 @@ impl Key {
         Key { first, second }
     }
 
+    /// Its two numbers; the first of a record with one number is 0.
+    pub fn numbers(&self) -> (u32, u32)
+        ensures value { pair_key result.0 result.1 ≡ self.now }
+    {
+        (self.first, self.second)
+    }
+
     /// How the two keys stand.
     pub fn compare(&self, other: &Key) -> Ordering
         ensures value { result ≡ nat_cmp self.now other.now }
