@@ -35,14 +35,20 @@ pub record Listed : Type 0 where
   pub content : State
   pub room : Room
 
--- What a keeper over a database knows in memory: the settings, and the planned routes. What is kept of writes, riders,
--- entries and trips it asks its tables for.
+-- What a keeper over a database knows in memory: the settings. What is kept of writes, riders, entries, trips and
+-- planned routes it asks its tables for.
 abbrev pub known_of : State → State
-known_of s = record s { kept = []; riders = []; entries = []; trips = [] }
+known_of s = record s { kept = []; riders = []; entries = []; trips = []; planned = [] }
 
 -- a state with the known tables of another
 abbrev pub with_known : State → State → State
-with_known other s = record other { kept = s.kept; riders = s.riders; entries = s.entries; trips = s.trips }
+with_known other s = record other {
+  kept = s.kept;
+  riders = s.riders;
+  entries = s.entries;
+  trips = s.trips;
+  planned = s.planned;
+}
 
 -- there is room for what the change puts into the known tables
 pub record HasKnownRoom (change : Change) (room : Room) : Type 0 where
@@ -51,7 +57,6 @@ pub record HasKnownRoom (change : Change) (room : Room) : Type 0 where
   pub routes : length change.routes.puts ≤ room.routes
   pub vehicles : length change.vehicles.puts ≤ room.vehicles
   pub travel : length change.travel.puts ≤ room.travel
-  pub planned : length change.planned.puts ≤ room.planned
 
 -- there is room for all that the change puts
 pub record HasRoom (change : Change) (room : Room) : Type 0 where

@@ -93,7 +93,7 @@ pub(crate) fn trips_on(alloc: Global, trips: &[Trip], day: Day) -> Result<Rows<T
 }
 
 /// The routes of a day.
-pub fn planned_on(
+pub(crate) fn planned_on(
     alloc: Global,
     plans: &[PlannedRoute],
     day: Day,

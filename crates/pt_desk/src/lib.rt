@@ -3,7 +3,7 @@
 #![tactic(auto)]
 
 pub use answering::answer;
-pub use answers::{file_with, find_caller, is_booked_from, planned_on, table_count_before};
+pub use answers::{file_with, find_caller, is_booked_from, table_count_before};
 pub use keeper::{Keeper, Reply, StoreFault};
 pub use laws::{
     answers_outlive_crashes, refusals_are_told, runs_are_calls, runs_leave_accepted_writes,

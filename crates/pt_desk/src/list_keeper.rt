@@ -137,8 +137,7 @@ impl ListKeeper {
         self.places.reserve(&change.places)?;
         self.routes.reserve(&change.routes)?;
         self.vehicles.reserve(&change.vehicles)?;
-        self.travel.reserve(&change.travel)?;
-        self.planned.reserve(&change.planned)
+        self.travel.reserve(&change.travel)
     }
 
     /// Makes room for all that the change puts. Want of memory leaves the room in some tables, and no record changed.
@@ -150,7 +149,8 @@ impl ListKeeper {
         self.kept.reserve(&change.kept)?;
         self.riders.reserve(&change.riders)?;
         self.entries.reserve(&change.entries)?;
-        self.trips.reserve(&change.trips)
+        self.trips.reserve(&change.trips)?;
+        self.planned.reserve(&change.planned)
     }
 
     /// Makes the change, where there is room for it, and takes no memory.
@@ -183,11 +183,10 @@ impl ListKeeper {
         self.routes.edit(change.routes);
         self.vehicles.edit(change.vehicles);
         self.travel.edit(change.travel);
-        self.planned.edit(change.planned);
         self.last_trip = change.last_trip.or(self.last_trip);
     }
 
-    /// The known tables alone. What is kept of writes, riders, entries and trips are let go.
+    /// The known tables alone. What is kept of writes, riders, entries, trips and planned routes are let go.
     pub fn into_known(self, alloc: Global) -> Self
         ensures content { result.content ≡ known_of self.content }
     {
@@ -202,7 +201,7 @@ impl ListKeeper {
             vehicles: self.vehicles,
             travel: self.travel,
             trips: Table::none(alloc),
-            planned: self.planned,
+            planned: Table::none(alloc),
             last_trip: self.last_trip,
         }
     }
