@@ -11,7 +11,7 @@ pub use one_row::OneRow;
 pub use places::place_of;
 pub use riders::rider_of;
 pub use routes::route_of;
-pub use stops::{StopAt, stop_of};
+pub use stops::{StopAt, Stops, stop_of};
 pub use trips::trip_of;
 pub use vehicles::vehicle_of;
 

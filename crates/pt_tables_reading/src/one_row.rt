@@ -12,6 +12,7 @@ use crate::kept::kept_of;
 use crate::places::place_of;
 use crate::riders::rider_of;
 use crate::routes::route_of;
+use crate::stops::{StopAt, Stops, stop_of};
 use crate::trips::trip_of;
 use crate::vehicles::vehicle_of;
 use pt_base::{Place, Rider, Trip, Vehicle};
@@ -153,5 +154,18 @@ impl OneRow for Trips {
 
     fn of_row(_alloc: Global, row: &Row) -> Result<Option<Trip>, AllocError> {
         Ok(trip_of(row))
+    }
+}
+
+impl OneRow for Stops {
+    ghost use Rattle.std.specs.Prelude.{refl};
+    ghost use Rattle.pt_tables_reading.specs.Fitting.{stop_row};
+
+    ghost row_of = { stop_row };
+
+    ghost one = { λ _. refl };
+
+    fn of_row(_alloc: Global, row: &Row) -> Result<Option<StopAt>, AllocError> {
+        Ok(stop_of(row))
     }
 }

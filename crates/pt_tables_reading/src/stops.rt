@@ -7,7 +7,9 @@ ghost use Rattle.pt_tables_reading.specs.Fitting.{stop_row, FitsStopAt};
 use crate::columns::{day_at, id_at, number_at};
 use pt_base::{Day, VehicleId};
 use pt_feasible::StopKind;
+use pt_records::{Key, Keyed};
 use pt_scheduling::PlannedStop;
+use pt_tables_rows::TableOf;
 use sqlite::Row;
 
 /// How many columns a stop's row has.
@@ -21,6 +23,32 @@ pub struct StopAt {
     /// Its place among the stops of the vehicle on the day, counted from 0.
     pub place: u32,
     pub stop: PlannedStop,
+}
+
+impl Keyed for StopAt {
+    ghost key = { λ at. at.place };
+
+    fn key(&self) -> Key {
+        Key::of(self.place)
+    }
+}
+
+/// The stops that are planned, one by one.
+#[derive(Clone, Copy, Debug)]
+pub struct Stops;
+
+impl TableOf for Stops {
+    ghost use Rattle.std.specs.Prelude.{◌∷◌, []};
+    ghost use Rattle.pt_tables_rows.specs.Schema.{stops_table};
+    ghost use Rattle.pt_tables_reading.specs.Fitting.{FitsStopAt, stop_row};
+
+    type Record = StopAt;
+
+    ghost home = { stops_table };
+
+    ghost Fits = { FitsStopAt };
+
+    ghost rows_of = { λ at. stop_row at ∷ [] };
 }
 
 /// The stop of a row.

@@ -45,13 +45,13 @@ stops-above below from vehicle day [] above = tt
 stops-above below from vehicle day (stop ∷ stops) above =
     (above, stops-above below (from + 1) vehicle day stops (omega arith))
 
-stops-in_order : (from vehicle day : ℕ) (stops : List PlannedStop)
+pub stops-in_order : (from vehicle day : ℕ) (stops : List PlannedStop)
     → IsInOrder (number_in 2) (stop_rows_from from vehicle day stops)
 stops-in_order from vehicle day [] = tt
 stops-in_order from vehicle day (stop ∷ stops) =
     (stops-above from (from + 1) vehicle day stops (omega arith), stops-in_order (from + 1) vehicle day stops)
 
-kind-told : (one other : StopKind) → stop_number one ≡ stop_number other → one ≡ other
+pub kind-told : (one other : StopKind) → stop_number one ≡ stop_number other → one ≡ other
 kind-told Pickup Pickup same = refl
 kind-told Drop Drop same = refl
 kind-told one other same = absurd (omega arith)
