@@ -1,9 +1,11 @@
 pub mod AnswerLemmas
 pub mod AskedQueries
 pub mod ContentLemmas
+pub mod DayLemmas
 pub mod InsideLemmas
 pub mod MarkLemmas
 pub mod OrderedLemmas
 pub mod ReadLemmas
 pub mod RecordLemmas
+pub mod StopLemmas
 pub mod TextLemmas

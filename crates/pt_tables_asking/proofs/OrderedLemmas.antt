@@ -113,6 +113,22 @@ pair_le a b one other h =
     (last_key (one_cmp (column b 1) (column a 1) (number_in 1 b) (number_in 1 a) other.second one.second)) in
     double_le (number_in 0 a) (number_in 1 a) (number_in 0 b) (number_in 1 b) one.second_low other.second_low (ap is_lt (sym same) ∙ h)
 
+-- the first two columns are these numbers, and the third is one
+pub record IsAt (first second : ℕ) (row : Row) : Type 0 where
+  pub first_is : column row 0 ≡ number_value first
+  pub second_is : column row 1 ≡ number_value second
+  pub third : column row 2 ≡ number_value (number_in 2 row)
+
+pub place_le : (m n : ℕ) (a b : Row) → IsAt m n a → IsAt m n b → is_lt (key_cmp 0 (keys_of 3) b a) ≡ false → number_in 2 a ≤ number_in 2 b
+place_le m n a b one other h =
+    let last = nat_cmp (number_in 2 b) (number_in 2 a) in
+    let same : key_cmp 0 (keys_of 3) b a ≡ ordering_then (nat_cmp m m) (ordering_then (nat_cmp n n) last) =
+    then_key (one_cmp (column b 0) (column a 0) m m other.first_is one.first_is)
+    (then_key (one_cmp (column b 1) (column a 1) n n other.second_is one.second_is)
+    (last_key (one_cmp (column b 2) (column a 2) (number_in 2 b) (number_in 2 a) other.third one.third))) in
+    let tied : ordering_then (nat_cmp m m) (ordering_then (nat_cmp n n) last) ≡ last = ap₂ (λ c d. ordering_then c (ordering_then d last)) (cmp-same m m refl) (cmp-same n n refl) in
+    not_last (number_in 2 b) (number_in 2 a) (sym (ap is_lt (same ∙ tied)) ∙ h)
+
 -- ---- keys that rise, or stay
 
 module _ {R : Type 0} (key : R → ℕ) where
@@ -146,7 +162,7 @@ module _ {R : Type 0} (key : R → ℕ) where
   filter_past : (k : ℕ) (x : R) (xs : List R) → (key x ≡ k → ⊥) → filter (has k) (x ∷ xs) ≡ filter (has k) xs
   filter_past k x xs other = let is : has k x ≡ false = grind (arith, nat_tests) in rw is
 
-  one_at_most : (xs : List R) → IsInOrder key xs → (k : ℕ) → length (filter (has k) xs) ≤ 1
+  pub one_at_most : (xs : List R) → IsInOrder key xs → (k : ℕ) → length (filter (has k) xs) ≤ 1
   one_at_most [] order k = omega arith
   one_at_most (x ∷ xs) order k = elim (compared (key x) k) [
     | inl low ↦ rw (filter_past k x xs (λ same. omega arith)) (one_at_most xs order.1 k)

@@ -16,8 +16,8 @@ use Rattle.sqlite_typed.proofs.TestLemmas.{at_ints}
 use Rattle.sqlite_value.specs.Keys.{ascending}
 use Rattle.sqlite_value.specs.declared.keys.Key.{Key}
 use Rattle.pt_tables_rows.specs.Rows.{number_value}
-use Rattle.pt_tables_rows.specs.Schema.{desk_schema, entries_table, kept_table, rider_chairs_table, riders_table, trip_chairs_table, trips_table}
-use Rattle.pt_tables_asking.specs.declared.texts.TheConstants.{ENTRIES_BY_RIDER, KEPT_BY_CALLER, RIDER_BY_NUMBER, RIDER_MARKS, TRIPS_BY_DAY, TRIPS_BY_RIDER, TRIPS_FROM_DAY, TRIP_BY_NUMBER, TRIP_MARKS}
+use Rattle.pt_tables_rows.specs.Schema.{desk_schema, entries_table, kept_table, rider_chairs_table, riders_table, stops_table, trip_chairs_table, trips_table}
+use Rattle.pt_tables_asking.specs.declared.texts.TheConstants.{ENTRIES_BY_RIDER, KEPT_BY_CALLER, RIDER_BY_NUMBER, RIDER_MARKS, STOPS_BY_VEHICLE_AND_DAY, TRIPS_BY_DAY, TRIPS_BY_RIDER, TRIPS_FROM_DAY, TRIP_BY_NUMBER, TRIP_MARKS}
 use Rattle.pt_tables_asking.proofs.AskedQueries.{AsksFor}
 
 -- ---- tests of rows
@@ -29,6 +29,11 @@ has_number at n row = equal Binary (column row at) (number_value n) && true
 -- a column has this number or a greater one
 abbrev pub has_least : ℕ → ℕ → Row → Bool
 has_least at n row = is_true (binary (Compare Ge Binary) (column row at) (number_value n)) && true
+
+-- the first two columns have these numbers
+abbrev pub has_pair : ℕ → ℕ → Row → Bool
+has_pair first second row =
+    equal Binary (column row 0) (number_value first) && (equal Binary (column row 1) (number_value second) && true)
 
 -- the first column has a number from one to the other
 abbrev pub is_between : ℕ → ℕ → Row → Bool
@@ -51,6 +56,9 @@ equal_number a b = at_ints false Eq (pos a) (pos b) ∙ ap is_eq (int_cmp-pos a 
 -- what the tests say of numbers
 pub same_number : (a b : ℕ) → (equal Binary (number_value a) (number_value b) && true) ≡ (a == b)
 same_number a b = and_true _ ∙ equal_number a b
+
+pub same_pair : (a b c d : ℕ) → (equal Binary (number_value a) (number_value c) && (equal Binary (number_value b) (number_value d) && true)) ≡ (a == c && b == d)
+same_pair a b c d = ap₂ (λ p q. p && q) (equal_number a c) (same_number b d)
 
 pub at_least : (a b : ℕ) → (is_true (binary (Compare Ge Binary) (number_value a) (number_value b)) && true) ≡ nat_le b a
 at_least a b = and_true _ ∙ at_ints false Ge (pos a) (pos b)
@@ -232,4 +240,22 @@ trips_from_day_text day = record {
   says = λ r. refl;
   keys = refl;
   heads = λ r. (refl, tt);
+}
+
+-- ---- stops
+
+pub stops_text : (vehicle day : ℕ) → AsksFor 3 stops_table STOPS_BY_VEHICLE_AND_DAY.now (number_value vehicle ∷ number_value day ∷ []) (has_pair vehicle day)
+unfolding understood everything desk_schema
+stops_text vehicle day = record {
+  tests = op2 (Compare Eq Binary) (col 1 1) (col 0 0) ∷ op2 (Compare Eq Binary) (col 1 2) (col 0 1) ∷ [];
+  fields = col 1 1 ∷ col 1 2 ∷ col 1 3 ∷ col 1 4 ∷ col 1 5 ∷ [];
+  order = (col 1 1, ascending Binary) ∷ (col 1 2, ascending Binary) ∷ (col 1 3, ascending Binary) ∷ [];
+  names = codes "vehicle" ∷ codes "day" ∷ codes "place" ∷ codes "trip" ∷ codes "kind" ∷ [];
+  is = refl;
+  plain = (refl, refl);
+  unlisted = refl;
+  shows = λ r. refl;
+  says = λ r. refl;
+  keys = refl;
+  heads = λ r. (refl, (refl, (refl, tt)));
 }

@@ -1,3 +1,4 @@
 pub mod Asking
 pub mod Content
 pub mod Marks
+pub mod Plans

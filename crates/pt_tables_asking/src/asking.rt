@@ -39,15 +39,17 @@ impl From<AllocError> for Unread {
     }
 }
 
-/// Why rows were not shown.
-fn unshown(error: &Error) -> Unread
-    ensures memory { error.now ≡ Error.SqliteFailure ErrorCode.OutOfMemory → result ≡ Memory }
-    ensures store { error.now ≢ Error.SqliteFailure ErrorCode.OutOfMemory → result ≡ Failed }
-    ensures shown { result ≢ BadRow }
-{
-    match error {
-        Error::SqliteFailure(ErrorCode::OutOfMemory) => Unread::Memory,
-        _ => Unread::Store,
+impl Unread {
+    /// What an error of the store comes to.
+    pub fn of(error: &Error) -> Self
+        ensures memory { error.now ≡ Error.SqliteFailure ErrorCode.OutOfMemory → result ≡ Memory }
+        ensures store { error.now ≢ Error.SqliteFailure ErrorCode.OutOfMemory → result ≡ Failed }
+        ensures shown { result ≢ BadRow }
+    {
+        match error {
+            Error::SqliteFailure(ErrorCode::OutOfMemory) => Unread::Memory,
+            _ => Unread::Store,
+        }
     }
 }
 
@@ -131,7 +133,7 @@ pub(crate) fn asked<S: Alter, T: OneRow>(
 {
     let rows = match rows_shown(conn, text, params) {
         Ok(rows) => rows,
-        Err(error) => return Err(unshown(&error)),
+        Err(error) => return Err(Unread::of(&error)),
     };
     match records_of::<T>(alloc, &rows)? {
         Some(records) => Ok(records),

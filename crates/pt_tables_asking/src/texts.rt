@@ -32,3 +32,7 @@ pub(crate) const TRIPS_FROM_DAY: &str =
 
 pub(crate) const TRIP_MARKS: &str =
     "SELECT trip FROM trip_chairs WHERE trip >= ?1 AND trip <= ?2 ORDER BY trip";
+
+pub(crate) const STOPS_BY_VEHICLE_AND_DAY: &str =
+    "SELECT vehicle, day, place, trip, kind FROM stops WHERE vehicle = ?1 AND day = ?2 \
+     ORDER BY vehicle, day, place";
