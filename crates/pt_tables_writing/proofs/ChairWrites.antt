@@ -43,7 +43,6 @@ use Rattle.pt_tables_writing.proofs.NumberedLemmas.{others, put-permutation, row
 use Rattle.pt_tables_writing.proofs.NumberedWrites.{IsNumbered, put_rewrites, rising-without, numbers-without}
 use Rattle.pt_tables_writing.proofs.RecordRows.{rewrites-permuted, takes}
 use Rattle.pt_tables_writing.proofs.RemovalLemmas.{IsRemoval, TakesNumbered, removed}
-use Rattle.pt_tables_writing.proofs.TurnLemmas.{rewrites_self}
 use Rattle.pt_tables_writing.proofs.UpsertLemmas.{HasNumbers, IsUpsert, PutsNumbered, upserted, only_first}
 use Rattle.pt_tables_rows.proofs.WellFormedLemmas.{day-word}
 use Rattle.pt_desk_rules.specs.Ranges.{FitsRider, FitsTrip}
@@ -266,7 +265,3 @@ module _ (version : Vehicle) (old new : State) (count : ℕ) (has : old.now.sche
       takes vehicle_key vehicle_chair_rows vehicle_chairs_table IsVehicle version (has_columns params)
       (λ x fits. so_all _ (not (x.chairs == 0)) (vehicle_row_beside x) (pair-told x.id x.from_day version.id version.from_day (number_value x.chairs ∷ []) (day-word x.from_day fits.from_day) low)) old.now new.now
       (removes DELETE_VEHICLE_CHAIRS.now params vehicle_chairs_table (has_columns params) (vehicle_delete version.id version.from_day) old new count has h)
-
--- no row is added
-pub adds_none : (table : Table) (db : Database) → db.schema ≡ desk_schema → Adds table [] db db
-adds_none table db has before = rewrites_self table before db has

@@ -3,6 +3,7 @@ use Rattle.std.proofs.Common.{◌≡◌, IsTrue, true, false, refl, sym, ap, sub
 use Rattle.sqlite.specs.Held.{Held, state}
 use Rattle.sqlite.specs.State.{State as Connected, KeepsCommit, HasCleanDisk, Survives, Shows}
 use Rattle.sqlite.specs.Store.{Ghosts}
+use Rattle.sqlite.specs.Tree.{Trees}
 use Rattle.sqlite.proofs.Callers.{survives_begin}
 use Rattle.sqlite.proofs.StateLemmas.{survives_then}
 use Rattle.pt_desk_rules.specs.State.{State}
@@ -50,3 +51,10 @@ module _ {S : Type 0} (g : Ghosts S) (old begun last : Held S) (before after : S
       let before_it : HasCleanDisk (state g last) = omega (arith, ends.clean) in
       record { was_open = was_open before_it; rows = λ stands. subst (HasRows after) (sym same) (stand before_it stands).rows })
       from ends
+
+-- whatever is committed, there is no less doubt than before
+pub lasts : {S : Type 0} (g : Ghosts S) (old begun last : Held S) (end : Connected) (P : Trees → Type 0) → begun ≡ record old { in_transaction = true }
+    → Survives (state g begun) (state g last) (λ _. ⊥) → Survives (state g last) end P → Survives (state g old) end (λ _. Unit {0})
+lasts g old begun last end P is survives ends =
+    survives_then (state g old) (state g last) end (λ _. ⊥) P (λ _. Unit {0}) (λ _ db none. tt) (λ _ db any. tt)
+    (survives_begin g old (state g last) (λ _. ⊥) (subst (λ h. Survives (state g h) (state g last) (λ _. ⊥)) is survives)) ends

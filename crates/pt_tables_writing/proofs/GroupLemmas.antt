@@ -123,16 +123,7 @@ planned_step change s m a b order told puts edit all =
     let done = edit all.schema puts order told in
     record { schema = done.schema; parts = planned_turned s m (edited plan_key change.planned s.planned) a b done all.parts }
 
--- the rows of riders, vehicles and trips in their second tables
-abbrev pub Marks-riders : Change → State → Database → Database → Type 0
-Marks-riders change s = EditsTable rider_chairs_table rider_key FitsRider rider_chair_rows change.riders s.riders
-
-abbrev pub Marks-trips : Change → State → Database → Database → Type 0
-Marks-trips change s = EditsTable trip_chairs_table trip_key FitsTrip trip_chair_rows change.trips s.trips
-
-abbrev pub Unmarks-vehicles : Change → State → Database → Database → Type 0
-Unmarks-vehicles change s = TakesSpans vehicle_chairs_table vehicle_key IsVehicle vehicle_chair_rows change.vehicles.away s.vehicles
-
+-- the rows, in their second table, of the vehicles that are put
 abbrev pub Marks-vehicles : Change → Database → Database → Type 0
 Marks-vehicles change = PutsAll vehicle_chairs_table vehicle_key IsVehicle vehicle_chair_rows change.vehicles.puts
 

@@ -20,7 +20,7 @@ use Rattle.pt_tables_rows.specs.Schema.{desk_schema, desk_table, callers_table, 
 use Rattle.pt_tables_rows.specs.WellFormed.{IsStoredPlan}
 use Rattle.pt_desk_rules.specs.Ranges.{FitsFiled, FitsKept, FitsPlace, FitsRider, FitsTravel, FitsTrip}
 use Rattle.pt_spelling.specs.Ranges.{IsCaller, IsRoute, IsVehicle}
-use Rattle.pt_tables_writing.specs.Agreeing.{AgreesFor, KnowsEdited, KnowsTaken, OfEach}
+use Rattle.pt_tables_writing.specs.Agreeing.{AgreesFor, AgreesWith, KnowsEdited, KnowsTaken, OfEach}
 use Rattle.pt_tables_writing.specs.Groups.{Leads, WritesFleet, WritesRiders, WritesTrips, with_people, with_area, with_trips}
 use Rattle.pt_tables_writing.specs.Stored.{EditsTable, TakesSpans}
 use Rattle.pt_tables_writing.specs.Writes.{Rewrites}
@@ -108,12 +108,12 @@ area_known change known a b c d e one two three four there agrees =
     (λ has. one has there.places agrees.places) (λ has. two has there.routes agrees.routes)
     (λ has. three has there agrees) (λ has. four has there.travel agrees.travel)
 
-pub trips_known : (change : Change) (known : State) (a b c d : Database)
+pub trips_known : (change : Change) (known : State) (plans : List Plan) (a b c d : Database)
     → (a.schema ≡ desk_schema → OfEach (AgreesFor change known) (WritesTrips change) a b)
-    → (b.schema ≡ desk_schema → Known-planned change known.planned b c)
+    → (b.schema ≡ desk_schema → Known-planned change plans b c)
     → (c.schema ≡ desk_schema → Known-settings change known c d)
-    → OfEach (AgreesFor change known) (λ content. Leads change content (with_area change (with_people change content))
+    → OfEach (AgreesWith change known plans) (λ content. Leads change content (with_area change (with_people change content))
     (with_trips change (with_area change (with_people change content)))) a d
-trips_known change known a b c d one two three there agrees =
+trips_known change known plans a b c d one two three there agrees =
     trips_lead change there a b c d
-    (λ has. one has there agrees) (λ has. two has there.planned agrees.planned) (λ has. three has there agrees)
+    (λ has. one has there agrees.0) (λ has. two has there.planned agrees.1) (λ has. three has there agrees.0)

@@ -15,7 +15,7 @@ use Rattle.pt_tables_writing.specs.Agreeing.{KnowsEdited, OfEach}
 use Rattle.pt_tables_writing.specs.Stored.{without, without_all, PutsAll, TakesAll, TakesSpans, EditsTable}
 use Rattle.pt_tables_writing.specs.Writes.{Puts, Replaces, Takes, Rewrites}
 use Rattle.pt_tables_writing.proofs.AgreeLemmas.{known_stands}
-use Rattle.pt_tables_writing.proofs.TurnLemmas.{rewrites_then, rewrites_self}
+use Rattle.pt_tables_writing.proofs.TurnLemmas.{rewrites_then}
 
 -- ---- lists
 
@@ -197,9 +197,6 @@ taken_one_by_one {A} key span spans xs =
 -- ---- tables
 
 module _ {A : Type 0} (t : Table) (key : A → ℕ) (Fits : A → Type 0) (rows : A → List Row) where
-  pub puts_none : (a : Database) → a.schema ≡ desk_schema → PutsAll t key Fits rows [] a a
-  puts_none a has fit xs order fits = rewrites_self t (flat_map rows xs) a has
-
   pub puts_next : (done : List A) (new : A) (a b c : Database) → PutsAll t key Fits rows done a b
       → (b.schema ≡ desk_schema → Puts t key Fits rows new b c) → PutsAll t key Fits rows (done ++ new ∷ []) a c
   puts_next done new a b c first next fit xs order fits =
@@ -209,9 +206,6 @@ module _ {A : Type 0} (t : Table) (key : A → ℕ) (Fits : A → Type 0) (rows 
       subst (λ ys. Rewrites t (flat_map rows xs) (flat_map rows ys) a c) (sym (put_all-push key done new xs))
       (rewrites_then t (flat_map rows xs) (flat_map rows (put_all key done xs)) (flat_map rows (put key new (put_all key done xs))) a b c before then)
 
-  pub takes_none : (a : Database) → a.schema ≡ desk_schema → TakesAll t key Fits rows [] a a
-  takes_none a has xs order fits = rewrites_self t (flat_map rows xs) a has
-
   pub takes_next : (done : List A) (gone : A) (a b c : Database) → TakesAll t key Fits rows done a b
       → (b.schema ≡ desk_schema → Takes t key Fits rows gone b c) → TakesAll t key Fits rows (done ++ gone ∷ []) a c
   takes_next done gone a b c first next xs order fits =
@@ -220,9 +214,6 @@ module _ {A : Type 0} (t : Table) (key : A → ℕ) (Fits : A → Type 0) (rows 
       (Each-without_all Fits key done xs fits) in
       subst (λ ys. Rewrites t (flat_map rows xs) (flat_map rows ys) a c) (sym (without_all-push key done gone xs))
       (rewrites_then t (flat_map rows xs) (flat_map rows (without_all key done xs)) (flat_map rows (without key gone (without_all key done xs))) a b c before then)
-
-  pub spans_none : (xs : List A) (a : Database) → a.schema ≡ desk_schema → TakesSpans t key Fits rows [] xs a a
-  spans_none xs a has order fits = rewrites_self t (flat_map rows xs) a has
 
   pub spans_next : (done : List Span) (span : Span) (xs found : List A) → found ≡ within key span xs → (a b c : Database)
       → TakesSpans t key Fits rows done xs a b → (b.schema ≡ desk_schema → TakesAll t key Fits rows found b c)

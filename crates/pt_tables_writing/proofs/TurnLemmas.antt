@@ -70,14 +70,6 @@ stayed_then a b c survives first next clean inside =
     let then = next clean before.1 in
     (keeps_then a b c before.0 then.0, then.1)
 
--- an error after what was done commits nothing either
-pub fails_then : (X : Type 0) (a b c : Connected) (G H : Database → Database → Type 0) (e : Error) → Survives b c (λ _. ⊥)
-    → Stayed a b → Makes {X = X} b c G (Err e) → Makes {X = X} a c H (Err e)
-fails_then X a b c G H e survives first next clean inside =
-    let early : HasCleanDisk b = omega (arith, survives.clean) in
-    let before = first early inside in
-    keeps_then a b c before.0 (next clean before.1)
-
 ends : {X : Type 0} (a b c : Connected) (G H : Database → Database → Type 0) (r : Result X Error)
     → (a.now.schema ≡ desk_schema → (b.now.schema ≡ desk_schema → G b.now c.now) → H a.now c.now) → KeepsCommit a b
     → ChangesIfOk b c G r → ChangesIfOk a c H r

@@ -7,7 +7,7 @@ use Rattle.pt_desk_rules.specs.State.{vehicle_key, travel_key, trip_key}
 use Rattle.pt_desk_rules.specs.declared.change.Change.{Change}
 use Rattle.pt_records.specs.Records.{Each, Edit, record_at, within}
 use Rattle.pt_records.specs.declared.span.Span.{Span}
-use Rattle.pt_scheduling.specs.Plan.{plan_key}
+use Rattle.pt_scheduling.specs.Plan.{Plan, plan_key}
 
 -- within each of these spans of keys, the records that are known are those that are there
 abbrev pub KnowsTaken : {A : Type 0} → (A → ℕ) → List Span → List A → List A → Type 0
@@ -24,8 +24,8 @@ pub record KnowsEdited {A : Type 0} (key : A → ℕ) (edit : Edit A) (known the
   pub taken : KnowsTaken key edit.away known there
   pub replaced : KnowsReplaced key edit.puts known there
 
--- What is known of the content is what is there, wherever the change asks for it: in what it takes away, in the plans
--- in whose place it puts others, and in the policy and the last trip, unless it gives new ones.
+-- What is known of all but the plans is what is there, wherever the change asks for it: in what it takes away, and in
+-- the policy and the last trip, unless it gives new ones.
 pub record AgreesFor (change : Change) (known there : State) : Type 0 where
   pub callers : KnowsTaken caller_key change.callers.away known.callers there.callers
   pub kept : KnowsTaken kept_key change.kept.away known.kept there.kept
@@ -37,8 +37,12 @@ pub record AgreesFor (change : Change) (known there : State) : Type 0 where
   pub vehicles : KnowsTaken vehicle_key change.vehicles.away known.vehicles there.vehicles
   pub travel : KnowsTaken travel_key change.travel.away known.travel there.travel
   pub trips : KnowsTaken trip_key change.trips.away known.trips there.trips
-  pub planned : KnowsEdited plan_key change.planned known.planned there.planned
   pub last_trip : unwrap_or change.last_trip known.last_trip ≡ unwrap_or change.last_trip there.last_trip
+
+-- what is known of the content is what is there, and so are these plans
+abbrev pub AgreesWith : Change → State → List Plan → State → Type 0
+AgreesWith change known plans there =
+    AgreesFor change known there × KnowsEdited plan_key change.planned plans there.planned
 
 -- each that agrees is changed so
 abbrev pub OfEach : {A : Type 0} → (A → Type 0) → (A → Database → Database → Type 0) → Database → Database → Type 0

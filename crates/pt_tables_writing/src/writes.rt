@@ -3,7 +3,7 @@ ghost use Rattle.std.specs.Option.{unwrap_or};
 ghost use Rattle.sqlite.specs.Held.{state};
 ghost use Rattle.sqlite.specs.State.{HasCleanDisk, Survives};
 ghost use Rattle.pt_desk_rules.specs.State.{State, applied};
-ghost use Rattle.pt_tables_writing.specs.Agreeing.{AgreesFor, OfEach};
+ghost use Rattle.pt_tables_writing.specs.Agreeing.{AgreesFor, AgreesWith, OfEach};
 ghost use Rattle.pt_tables_writing.specs.Committing.{IsMade, LeadsTo};
 ghost use Rattle.pt_tables_writing.specs.Groups.{Leads, with_people, with_area, with_trips};
 ghost use Rattle.pt_tables_writing.specs.Groups.{WritesRiders, WritesVehicles, WritesFleet, WritesTrips};
@@ -20,6 +20,8 @@ use crate::stored::{put_each, take_spans, write_edits};
 use pt_base::Policy;
 use pt_desk::ListKeeper;
 use pt_desk_rules::Change;
+use pt_records::Table;
+use pt_scheduling::PlannedRoute;
 use pt_tables_rows::{
     Callers, Entries, FixedRoutes, KeptWrites, Places, RiderChairs, Riders, TravelTables,
     TripChairs, Trips, VehicleChairs, Vehicles,
@@ -173,10 +175,11 @@ fn write_trips<S: Alter>(
     tx: &mut Transaction<'_, S>,
     change: &Change,
     known: &ListKeeper,
+    plans: &Table<PlannedRoute>,
 ) -> Result<(), Error>
     ensures same_reference { tx.new.conn.ghost_name ≡ tx.old.conn.ghost_name }
     ensures written { Makes (state S.Store tx.old.conn.now) (state S.Store tx.new.conn.now)
-        (OfEach (AgreesFor change.now known.now.content) (λ content.
+        (OfEach (AgreesWith change.now known.now.content plans.now.items) (λ content.
         let before = with_area change.now (with_people change.now content) in
         Leads change.now content before (with_trips change.now before))) result }
     ensures open { HasCleanDisk (state S.Store tx.new.conn.now) → IsTrue (state S.Store tx.old.conn.now).in_transaction
@@ -184,7 +187,7 @@ fn write_trips<S: Alter>(
     ensures survives { Survives (state S.Store tx.old.conn.now) (state S.Store tx.new.conn.now) (λ _. ⊥) }
 {
     write_booked(tx, change, known)?;
-    write_plans(tx, &change.planned, known.planned_table())?;
+    write_plans(tx, &change.planned, plans)?;
     write_settings(tx, change, known)
 }
 
@@ -193,10 +196,11 @@ fn write_tables<S: Alter>(
     tx: &mut Transaction<'_, S>,
     change: &Change,
     known: &ListKeeper,
+    plans: &Table<PlannedRoute>,
 ) -> Result<(), Error>
     ensures same_reference { tx.new.conn.ghost_name ≡ tx.old.conn.ghost_name }
     ensures written { Makes (state S.Store tx.old.conn.now) (state S.Store tx.new.conn.now)
-        (OfEach (AgreesFor change.now known.now.content) (λ content.
+        (OfEach (AgreesWith change.now known.now.content plans.now.items) (λ content.
         Leads change.now content content (applied change.now content))) result }
     ensures open { HasCleanDisk (state S.Store tx.new.conn.now) → IsTrue (state S.Store tx.old.conn.now).in_transaction
         → OnOk result (IsTrue (state S.Store tx.old.conn.now).is_open) }
@@ -204,29 +208,32 @@ fn write_tables<S: Alter>(
 {
     write_people(tx, change, known)?;
     write_area(tx, change, known)?;
-    write_trips(tx, change, known)
+    write_trips(tx, change, known, plans)
 }
 
 /// Makes the change in the tables in one transaction. Of the records that are there `known` has those that the change
-/// takes away, and a plan that it replaces only as it is there.
+/// takes away, except plans. `plans` has the plans that it takes away, and one that it replaces only as it is there.
 pub fn write_change<S: Alter>(
     conn: &mut Connection<S>,
     change: &Change,
     known: &ListKeeper,
+    plans: &Table<PlannedRoute>,
 ) -> Result<(), Error>
     requires settled { conn.old.in_transaction ≡ false }
     requires puts { PutsWellFormed change.now }
     ensures settled { conn.new.in_transaction ≡ false }
-    ensures made { (content : State) → IsWellFormed content → AgreesFor change.now known.now.content content
-        → HasCleanDisk (state S.Store conn.new) → OnOk result (IsMade content (applied change.now content)
-        (state S.Store conn.old) (state S.Store conn.new)) }
+    ensures made { (content : State) → IsWellFormed content
+        → AgreesWith change.now known.now.content plans.now.items content → HasCleanDisk (state S.Store conn.new)
+        → OnOk result (IsMade content (applied change.now content) (state S.Store conn.old) (state S.Store conn.new)) }
     ensures undone { HasCleanDisk (state S.Store conn.new)
         → OnErr result (IsUndone (state S.Store conn.old) (state S.Store conn.new)) }
-    ensures survives { (content : State) → IsWellFormed content → AgreesFor change.now known.now.content content
+    ensures survives { (content : State) → IsWellFormed content
+        → AgreesWith change.now known.now.content plans.now.items content
         → Survives (state S.Store conn.old) (state S.Store conn.new)
         (LeadsTo content (applied change.now content) (state S.Store conn.old)) }
+    ensures lasts { Survives (state S.Store conn.old) (state S.Store conn.new) (λ _. Unit {0}) }
 {
     let mut tx = conn.transaction();
-    write_tables(&mut tx, change, known)?;
+    write_tables(&mut tx, change, known, plans)?;
     tx.commit()
 }

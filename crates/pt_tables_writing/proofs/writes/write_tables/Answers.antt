@@ -1,6 +1,6 @@
 use Rattle.sqlite.specs.Held.{state}
 use Rattle.pt_desk_rules.specs.State.{applied}
-use Rattle.pt_tables_writing.specs.Agreeing.{AgreesFor, OfEach}
+use Rattle.pt_tables_writing.specs.Agreeing.{AgreesFor, AgreesWith, OfEach}
 use Rattle.pt_tables_writing.specs.Groups.{Leads, with_people, with_area, with_trips}
 use Rattle.pt_tables_writing.proofs.TurnLemmas.{did_three, open_then, stayed, stayed_then}
 use Rattle.pt_tables_writing.proofs.writes.write_tables.Goals as goal
@@ -9,6 +9,7 @@ pub returns-clause-written : goal.returns-clause-written
 returns-clause-written g c =
     let change = c.args.change.now in
     let known = c.args.known.now.content in
+    let plans = c.args.plans.now.items in
     let s1 = state g.S.Store c.args.tx.now.conn.now in
     let s2 = state g.S.Store c.write_people.new.tx.conn.now in
     let s3 = state g.S.Store c.write_area.new.tx.conn.now in
@@ -16,12 +17,12 @@ returns-clause-written g c =
     did_three {X = Unit {0}} {Y = Unit {0}} {Z = Unit {0}} s1 s2 s3 s4
     (OfEach (AgreesFor change known) (λ content. Leads change content content (with_people change content)))
     (OfEach (AgreesFor change known) (λ content. Leads change content (with_people change content) (with_area change (with_people change content))))
-    (OfEach (AgreesFor change known) (λ content. Leads change content (with_area change (with_people change content)) (with_trips change (with_area change (with_people change content)))))
-    (OfEach (AgreesFor change known) (λ content. Leads change content content (applied change content)))
+    (OfEach (AgreesWith change known plans) (λ content. Leads change content (with_area change (with_people change content)) (with_trips change (with_area change (with_people change content)))))
+    (OfEach (AgreesWith change known plans) (λ content. Leads change content content (applied change content)))
     c.in_ok-write_people.field-0 c.in_ok-write_area.field-0 c.write_trips.result
     (λ one two three there agrees told puts stands.
-    let first = one stands.schema there agrees told puts stands in
-    let second = two first.schema there agrees told puts first in
+    let first = one stands.schema there agrees.0 told puts stands in
+    let second = two first.schema there agrees.0 told puts first in
     three second.schema there agrees told puts second)
     c.in_ok-write_area.ensures.survives c.write_trips.ensures.survives c.in_ok-write_people.ensures.written c.in_ok-write_area.ensures.written c.write_trips.ensures.written
 

@@ -1,7 +1,5 @@
-use Rattle.std.proofs.Common.{Ok, subst}
 use Rattle.sqlite.specs.Held.{state}
-use Rattle.pt_tables_rows.specs.Tables.{Makes}
-use Rattle.pt_tables_writing.specs.Agreeing.{AgreesFor, OfEach}
+use Rattle.pt_tables_writing.specs.Agreeing.{AgreesFor, AgreesWith, OfEach}
 use Rattle.pt_tables_writing.specs.Groups.{Leads, WritesTrips, with_people, with_area, with_trips}
 use Rattle.pt_tables_writing.proofs.KnownLemmas.{Known-planned, Known-settings, trips_known}
 use Rattle.pt_tables_writing.proofs.TurnLemmas.{did_three, open_then, stayed, stayed_then}
@@ -11,18 +9,18 @@ pub returns-clause-written : goal.returns-clause-written
 returns-clause-written g c =
     let change = c.args.change.now in
     let known = c.args.known.now.content in
+    let plans = c.args.plans.now.items in
     let s1 = state g.S.Store c.args.tx.now.conn.now in
     let s2 = state g.S.Store c.write_booked.new.tx.conn.now in
     let s3 = state g.S.Store c.write_plans.new.tx.conn.now in
     let s4 = state g.S.Store c.write_settings.new.tx.conn.now in
-    let one = c.in_ok-write_booked.ensures.written in
-    let two = subst (λ xs. Makes {X = Unit {0}} s2 s3 (Known-planned change xs) (Ok c.in_ok-write_plans.field-0)) c.planned_table.ensures.value c.in_ok-write_plans.ensures.written in
-    did_three {X = Unit {0}} {Y = Unit {0}} {Z = Unit {0}} s1 s2 s3 s4 (OfEach (AgreesFor change known) (WritesTrips change)) (Known-planned change known.planned)
+    did_three {X = Unit {0}} {Y = Unit {0}} {Z = Unit {0}} s1 s2 s3 s4 (OfEach (AgreesFor change known) (WritesTrips change)) (Known-planned change plans)
     (Known-settings change known)
-    (OfEach (AgreesFor change known) (λ content. Leads change content (with_area change (with_people change content)) (with_trips change (with_area change (with_people change content)))))
+    (OfEach (AgreesWith change known plans) (λ content. Leads change content (with_area change (with_people change content)) (with_trips change (with_area change (with_people change content)))))
     c.in_ok-write_booked.field-0 c.in_ok-write_plans.field-0 c.write_settings.result
-    (trips_known change known s1.now s2.now s3.now s4.now)
-    c.in_ok-write_plans.ensures.survives c.write_settings.ensures.survives one two c.write_settings.ensures.written
+    (trips_known change known plans s1.now s2.now s3.now s4.now)
+    c.in_ok-write_plans.ensures.survives c.write_settings.ensures.survives
+    c.in_ok-write_booked.ensures.written c.in_ok-write_plans.ensures.written c.write_settings.ensures.written
 
 pub returns-clause-open : goal.returns-clause-open
 returns-clause-open g c clean inside =
@@ -33,6 +31,6 @@ returns-clause-open g c clean inside =
     let s3 = state g.S.Store c.write_plans.new.tx.conn.now in
     let s4 = state g.S.Store c.write_settings.new.tx.conn.now in
     let one = stayed {X = Unit {0}} s1 s2 (OfEach (AgreesFor change known) (WritesTrips change)) c.in_ok-write_booked.field-0 c.in_ok-write_booked.ensures.written in
-    let two = stayed {X = Unit {0}} s2 s3 (Known-planned change c.planned_table.result.now.items) c.in_ok-write_plans.field-0 c.in_ok-write_plans.ensures.written in
+    let two = stayed {X = Unit {0}} s2 s3 (Known-planned change c.args.plans.now.items) c.in_ok-write_plans.field-0 c.in_ok-write_plans.ensures.written in
     open_then s1 s3 s4 c.write_settings.result c.write_settings.ensures.survives (stayed_then s1 s2 s3 c.in_ok-write_plans.ensures.survives one two)
     c.write_settings.ensures.open clean inside
