@@ -1,4 +1,5 @@
 pub mod AdoptLemmas
+pub mod CarriedLemmas
 pub mod LeastLemmas
 pub mod MigrationLemmas
 pub mod NewLemmas

@@ -4,6 +4,8 @@ ghost use Rattle.std.specs.Prelude.{◌≡◌, false};
 ghost use Rattle.pt_desk.specs.Store.{IsSettled};
 ghost use Rattle.sqlite.specs.Held.{state};
 ghost use Rattle.sqlite.specs.State.{HasCleanDisk};
+ghost use Rattle.pt_records.specs.Records.{Each};
+ghost use Rattle.pt_tables_asking.specs.Plans.{HasVersionAmong};
 ghost use Rattle.pt_tables_rows.specs.WellFormed.{IsWellFormed};
 ghost use Rattle.pt_tables_rows.specs.Tables.{IsKept};
 
@@ -20,6 +22,7 @@ pub(crate) fn keeper_of<S: Alter>(
 ) -> SqlKeeper<S>
     requires settled { conn.in_transaction ≡ false }
     requires readable { IsWellFormed lists.content }
+    requires carried { Each (HasVersionAmong lists.content.vehicles) lists.content.planned }
     requires kept { HasCleanDisk (state S.Store conn) → IsKept lists.content (state S.Store conn) }
     ensures conn { result.conn ≡ conn }
     ensures content { result.content ≡ lists.content }

@@ -1,5 +1,5 @@
 -- What a commit makes of the store over tables.
-use Rattle.std.proofs.Common.{◌≡◌, ◌≤◌, ◌⊎◌, inl, inr, ℕ, Option, Some, None, Result, Ok, Err, false, length, refl, sym, ap, subst, ◌∙◌, arith}
+use Rattle.std.proofs.Common.{◌≡◌, ◌≤◌, ◌⊎◌, inl, inr, ℕ, Option, Some, None, Result, Ok, Err, List, false, length, refl, sym, ap, subst, ◌∙◌, arith}
 use Rattle.sqlite.specs.Held.{Held, state}
 use Rattle.sqlite.specs.State.{State as Connected, HasCleanDisk, Survives}
 use Rattle.sqlite.specs.Store.{Ghosts}
@@ -9,6 +9,9 @@ use Rattle.pt_desk.specs.declared.keeper.StoreFault.{StoreFault}
 use Rattle.pt_desk.specs.declared.keeper.StoreFault.TheVariants.{Memory, Store as failed}
 use Rattle.pt_desk_rules.specs.State.{State, applied}
 use Rattle.pt_desk_rules.specs.declared.change.Change.{Change}
+use Rattle.pt_base.specs.declared.vehicle.Vehicle.{Vehicle}
+use Rattle.pt_records.specs.Records.{Each}
+use Rattle.pt_tables_asking.specs.Plans.{HasVersionAmong}
 use Rattle.pt_tables_rows.specs.WellFormed.{IsWellFormed}
 use Rattle.pt_tables_keeper.proofs.ReadLemmas.{not_lasting}
 use Rattle.pt_tables_keeper.proofs.StepLemmas.{Settles, finds, settles, shut_falls}
@@ -25,14 +28,14 @@ use Rattle.pt_tables_writing.specs.Least.{IsUndone}
 -- ---- what is known
 
 -- the lists of what is known agree with the content, where the change is written
-pub agrees_writable : (change : Change) (lists known content : State) → IsWritable change → lists ≡ known_of known → known ≡ content → AgreesFor change lists content
-agrees_writable change lists known content may are same =
+pub agrees_writable : (change : Change) (vehicles : List Vehicle) (lists known content : State) → IsWritable vehicles change → lists ≡ known_of known → known ≡ content → AgreesFor change lists content
+agrees_writable change vehicles lists known content may are same =
     subst (λ l. AgreesFor change l content) (sym (are ∙ ap known_of same)) (agrees_known change content may.kept may.riders may.entries may.trips)
 
 -- ---- a transaction
 
 module _ {riders : ℕ} (old new : Connected) (before after : State) (f : ℕ) (none : f ≡ 0) (was : AreInStep before riders f old)
-    (survives : Survives old new (LeadsTo before after old)) (readable : IsWellFormed after) (law : Settles new) where
+    (survives : Survives old new (LeadsTo before after old)) (readable : IsWellFormed after) (carried : Each (HasVersionAmong after.vehicles) after.planned) (law : Settles new) where
   early : HasCleanDisk new → HasCleanDisk old
   early clean = let up = survives.clean in omega arith
 
@@ -64,6 +67,7 @@ module _ {riders : ℕ} (old new : Connected) (before after : State) (f : ℕ) (
     most = was.most;
     settled = settled;
     readable = readable;
+    carried = carried;
     kept = λ _ clean. made_kept (made clean) clean;
     counted = λ _ clean. counted (early clean);
   }
@@ -90,6 +94,7 @@ module _ {riders : ℕ} (old new : Connected) (before after : State) (f : ℕ) (
     most = most;
     settled = settled;
     readable = was.readable;
+    carried = was.carried;
     kept = λ _ clean. undone_kept (undone clean) clean;
     counted = λ _ clean. was.counted none (early clean);
   }

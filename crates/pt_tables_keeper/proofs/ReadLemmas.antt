@@ -14,6 +14,7 @@ use Rattle.pt_desk_rules.specs.Planned.{is_booked_from, is_of, is_standing_from}
 use Rattle.pt_desk_rules.specs.State.{State}
 use Rattle.pt_tables_asking.specs.Asking.{Rests}
 use Rattle.pt_tables_asking.specs.Content.{Tells}
+use Rattle.pt_tables_rows.specs.Tables.{IsKept}
 use Rattle.pt_tables_rows.specs.WellFormed.{IsWellFormed}
 use Rattle.pt_tables_asking.specs.declared.asking.Unread.{Unread}
 use Rattle.pt_tables_asking.specs.declared.asking.Unread.TheVariants as unread
@@ -141,15 +142,26 @@ module _ {S X : Type 0} {riders : ℕ} (g : Ghosts S) (conn new : Held S) (failu
   pub step_by : AreInStep content riders after (state g new)
   step_by = step_still (state g conn) (state g new) content failures none was rests law after (counts_most after found r counts)
 
-  goes_by : (told : State → X) → Tells (state g conn) (state g new) told found
+  -- what is said of one content alone
+  goes_so : (told : State → X) → (HasCleanDisk (state g new) → IsKept content (state g conn) → IfOk found (λ x. x ≡ told content))
       → Goes (kept_store (state g conn) content failures) (kept_store (state g new) content after) (told content) None r
-  goes_by told tells =
+  goes_so told tells =
       let early : HasCleanDisk (state g new) → HasCleanDisk (state g conn) = λ clean. let up = rests.survives.clean in omega arith in
       reads_tables (state g conn) (state g new) content failures none was rests law (told content) r after
-      (λ clean x is. counts_told after found r (told content) x counts (tells clean content was.readable (was.kept none (early clean))) is)
+      (λ clean x is. counts_told after found r (told content) x counts (tells clean (was.kept none (early clean))) is)
       (counts_failed after found r counts) (counts_none after found r counts)
 
+  goes_by : (told : State → X) → Tells (state g conn) (state g new) told found
+      → Goes (kept_store (state g conn) content failures) (kept_store (state g new) content after) (told content) None r
+  goes_by told tells = goes_so told (λ clean held. tells clean content was.readable held)
+
   -- the same of the keeper
+  pub reads_so : (now : KeptTables S) (told : State → X) → ◌≡◌ {A = KeptTables S} (record { conn = conn; failures = failures; content = content }) now
+      → (HasCleanDisk (state g new) → IsKept content (state g conn) → IfOk found (λ x. x ≡ told content))
+      → Goes (store_of g now) (kept_store (state g new) content after) (told now.content) None r
+  reads_so now told is tells =
+      subst (λ (k : KeptTables S). Goes (store_of g k) (kept_store (state g new) content after) (told k.content) None r) is (goes_so told tells)
+
   pub reads_by : (now : KeptTables S) (told : State → X) → ◌≡◌ {A = KeptTables S} (record { conn = conn; failures = failures; content = content }) now
       → Tells (state g conn) (state g new) told found → Goes (store_of g now) (kept_store (state g new) content after) (told now.content) None r
   reads_by now told is tells =

@@ -70,6 +70,7 @@ module _ {riders : ℕ} (old new : Connected) (content : State) (f : ℕ) (none 
         most = most;
         settled = rests.settled;
         readable = was.readable;
+        carried = was.carried;
         kept = λ _ clean. still clean;
         counted = λ _ clean. was.counted none (early clean);
       }

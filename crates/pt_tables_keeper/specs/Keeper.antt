@@ -9,6 +9,8 @@ use Rattle.sqlite.specs.Held.{Held, held_code, state}
 use Rattle.sqlite.specs.State.{State as Connected, HasCleanDisk}
 use Rattle.sqlite.specs.Store.{Ghosts}
 use Rattle.sqlite.specs.View.{doubt}
+use Rattle.pt_records.specs.Records.{Each}
+use Rattle.pt_tables_asking.specs.Plans.{HasVersionAmong}
 use Rattle.pt_tables_rows.specs.WellFormed.{IsWellFormed}
 use Rattle.pt_tables_asking.specs.declared.asking.Unread.{Unread}
 use Rattle.pt_tables_asking.specs.declared.asking.Unread.TheVariants.{Memory, Store as failed, Row}
@@ -27,12 +29,13 @@ kept_tables_code {S} store =
     code_by (Held S × (ℕ × State)) (coded× (held_code store) (coded× coded_ℕ state_code))
     (λ k. (k.conn, (k.failures, k.content))) (λ p. record { conn = p.0; failures = p.1.0; content = p.1.1 }) (λ _. refl)
 
--- The content is one that is read back from its rows; and until the store has failed the tables have it, its riders are
--- counted, and no transaction is open.
+-- The content is one that is read back from its rows, and the vehicle of each of its plans is there; and until the store
+-- has failed the tables have it, its riders are counted, and no transaction is open.
 pub record AreInStep (content : State) (riders failures : ℕ) (s : Connected) : Type 0 where
   pub most : failures ≤ 1
   pub settled : s.in_transaction ≡ false
   pub readable : IsWellFormed content
+  pub carried : Each (HasVersionAmong content.vehicles) content.planned
   pub kept : failures ≡ 0 → HasCleanDisk s → IsKept content s
   pub counted : failures ≡ 0 → HasCleanDisk s → riders ≡ length content.riders
 

@@ -1,4 +1,5 @@
 pub mod Coding
 pub mod Keeper
 pub mod Known
+pub mod Plans
 pub mod Writable

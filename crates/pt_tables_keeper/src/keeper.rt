@@ -1,9 +1,12 @@
 ghost use Rattle.std.specs.Prelude.{◌≡◌, ◌<◌, ◌↔◌, IfErr, OnErr, OnOk, false, length};
-ghost use Rattle.pt_desk.specs.Store.{Commits, Reads};
+ghost use Rattle.pt_desk.specs.Store.{Commits, Reads, Refuses};
 ghost use Rattle.pt_desk.specs.declared.keeper.StoreFault.TheVariants.{Memory, Store as Failed};
-ghost use Rattle.pt_desk_rules.specs.State.{applied};
+ghost use Rattle.pt_desk_rules.specs.State.{applied, rider_of};
 ghost use Rattle.sqlite.specs.Held.{state};
 ghost use Rattle.sqlite.specs.State.{HasCleanDisk};
+ghost use Rattle.pt_records.specs.Records.{Each};
+ghost use Rattle.pt_tables_asking.specs.Plans.{HasVersionAmong};
+ghost use Rattle.pt_tables_asking.specs.declared.asking.Unread.TheVariants.{Memory as Wanted};
 ghost use Rattle.pt_tables_rows.specs.WellFormed.{IsWellFormed};
 ghost use Rattle.pt_tables_keeper.specs.Keeper.{Counts, store_of};
 ghost use Rattle.pt_tables_keeper.specs.Writable.{IsWritable};
@@ -11,25 +14,23 @@ ghost use Rattle.pt_tables_rows.specs.Tables.{IsKept};
 
 use crate::known::Known;
 use crate::writable::is_writable;
+use crate::writing::write_over;
 use pt_base::{
     CallerId, Day, Place, PlaceId, Policy, Rider, RiderId, RouteId, Trip, TripId, Vehicle,
     VehicleId,
 };
 use pt_corridor::FixedRoute;
-use pt_desk::{
-    Keeper, StoreFault, file_with, find_caller, is_booked_from, planned_on, table_count_before,
-};
+use pt_desk::{Keeper, StoreFault, file_with, find_caller, is_booked_from, table_count_before};
 use pt_desk_rules::{
     Arrival, Caller, Change, Digest, PlannedRoute, Spelling, TravelTable, has_version, table_on,
 };
 use pt_records::{Key, Rows};
 use pt_rights::CaseFile;
 use pt_tables_asking::{
-    Unread, entries_by_rider, kept_by_caller, rider_by_number, trip_by_number, trips_by_day,
-    trips_by_rider, trips_from_day,
+    Unread, entries_by_rider, kept_by_caller, plan_by_key, plans_by_day, rider_by_number,
+    trip_by_number, trips_by_day, trips_by_rider, trips_from_day,
 };
-use pt_tables_writing::write_change;
-use sqlite::{Alter, Connection, Error, ErrorCode};
+use sqlite::{Alter, Connection};
 use std::alloc::Global;
 use std::marker::Model;
 
@@ -39,8 +40,8 @@ const NEVER_FAILED: u32 = 0;
 /// The failures of a store that has failed.
 const FAILED: u32 = 1;
 
-/// The store over the tables of a desk's database. The settings, the planned routes and the number of riders are in
-/// memory, and all other records are read as they are asked for.
+/// The store over the tables of a desk's database. The settings and the number of riders are in memory, and all other
+/// records are read as they are asked for.
 #[derive(Drop)]
 pub struct SqlKeeper<S: Alter> {
     alloc: Global,
@@ -64,6 +65,22 @@ impl<S: Alter> Model for SqlKeeper<S> {
     ghost invariant = { λ k. AreInStep k.known.content k.rider_count k.failures (state S.Store k.conn) };
 }
 
+/// The fault that what was not read or written is told as; one that is no want of memory is counted.
+fn blame(failures: &mut u32, unread: Unread) -> StoreFault
+    requires { failures.old ≡ 0 }
+    ensures failed { result ≡ Failed → failures.new ≡ 1 }
+    ensures memory { result ≡ Memory → failures.new ≡ 0 }
+    ensures cause { result ≡ Memory ↔ unread ≡ Wanted }
+{
+    match unread {
+        Unread::Memory => StoreFault::Memory,
+        Unread::Store | Unread::Row => {
+            *failures = FAILED;
+            StoreFault::Store
+        }
+    }
+}
+
 /// What a read answers. One that failed for another reason than want of memory is counted.
 fn counted<T>(failures: &mut u32, found: Result<T, Unread>) -> Result<T, StoreFault>
     requires { failures.old ≡ 0 }
@@ -71,26 +88,8 @@ fn counted<T>(failures: &mut u32, found: Result<T, Unread>) -> Result<T, StoreFa
 {
     match found {
         Ok(value) => Ok(value),
-        Err(Unread::Memory) => Err(StoreFault::Memory),
-        Err(Unread::Store | Unread::Row) => {
-            *failures = FAILED;
-            Err(StoreFault::Store)
-        }
+        Err(unread) => Err(blame(failures, unread)),
     }
-}
-
-/// The fault that an error of the store is told as; one that is no want of memory is counted.
-fn blame(failures: &mut u32, error: &Error) -> StoreFault
-    requires { failures.old ≡ 0 }
-    ensures failed { result ≡ Failed → failures.new ≡ 1 }
-    ensures memory { result ≡ Memory → failures.new ≡ 0 }
-    ensures cause { result ≡ Memory ↔ error.now ≡ Error.SqliteFailure ErrorCode.OutOfMemory }
-{
-    if matches!(error, Error::SqliteFailure(ErrorCode::OutOfMemory)) {
-        return StoreFault::Memory;
-    }
-    *failures = FAILED;
-    StoreFault::Store
 }
 
 impl<S: Alter> SqlKeeper<S> {
@@ -98,6 +97,7 @@ impl<S: Alter> SqlKeeper<S> {
     pub fn of(alloc: Global, conn: Connection<S>, known: Known, rider_count: usize) -> SqlKeeper<S>
         requires settled { conn.in_transaction ≡ false }
         requires readable { IsWellFormed known.content }
+        requires carried { Each (HasVersionAmong known.content.vehicles) known.content.planned }
         requires kept { HasCleanDisk (state S.Store conn) → IsKept known.content (state S.Store conn) }
         requires riders { rider_count ≡ length known.content.riders }
         ensures conn { result.conn ≡ conn }
@@ -142,17 +142,29 @@ impl<S: Alter> SqlKeeper<S> {
         Ok(())
     }
 
+    /// The rider of this number, as it is read from the tables.
+    fn read_rider(&mut self, id: RiderId) -> Result<Option<Rider>, StoreFault>
+        ensures reads { Reads (store_of S.Store self.old) (store_of S.Store self.new) (rider_of id) result }
+        ensures refuses { Refuses (store_of S.Store self.old) result }
+        ensures content { self.new.content ≡ self.old.content }
+    {
+        self.serve()?;
+        let found = rider_by_number(self.alloc, &mut self.conn, id);
+        counted(&mut self.failures, found)
+    }
+
     /// How many riders there are after the change: one more where it puts one that is not there.
     fn rider_count_after(&mut self, change: &Change) -> Result<usize, StoreFault>
         requires serves { self.old.failures ≡ 0 }
-        requires writable { IsWritable change.now }
+        requires writable { IsWritable self.old.content.vehicles change.now }
         ensures reads { Reads (store_of S.Store self.old) (store_of S.Store self.new)
             (λ s. length (applied change.now s).riders) result }
+        ensures content { self.new.content ≡ self.old.content }
     {
         let Some(new) = change.riders.puts().first() else {
             return Ok(self.rider_count);
         };
-        match self.rider(new.id)? {
+        match self.read_rider(new.id)? {
             Some(_) => Ok(self.rider_count),
             None => Ok(self.rider_count.saturating_add(1)),
         }
@@ -161,19 +173,19 @@ impl<S: Alter> SqlKeeper<S> {
     /// Makes the change in the tables, and then in memory; so many riders are there after it.
     fn make(&mut self, change: Change, rider_count: usize) -> Result<(), StoreFault>
         requires serves { self.old.failures ≡ 0 }
-        requires writable { IsWritable change }
+        requires writable { IsWritable self.old.content.vehicles change }
         requires counted { HasCleanDisk (state S.Store self.old.conn)
             → rider_count ≡ length (applied change self.old.content).riders }
         ensures commits { Commits (store_of S.Store self.old) (store_of S.Store self.new) (applied change) result }
     {
         self.known.reserve(&change)?;
-        match write_change(&mut self.conn, &change, self.known.lists()) {
+        match write_over(self.alloc, &mut self.conn, &change, self.known.lists()) {
             Ok(()) => {
                 self.known.make(change);
                 self.rider_count = rider_count;
                 Ok(())
             }
-            Err(error) => Err(blame(&mut self.failures, &error)),
+            Err(unread) => Err(blame(&mut self.failures, unread)),
         }
     }
 }
@@ -254,9 +266,7 @@ impl<S: Alter> Keeper for SqlKeeper<S> {
     }
 
     fn rider(&mut self, id: RiderId) -> Result<Option<Rider>, StoreFault> {
-        self.serve()?;
-        let found = rider_by_number(self.alloc, &mut self.conn, id);
-        counted(&mut self.failures, found)
+        self.read_rider(id)
     }
 
     fn rider_count(&mut self) -> Result<usize, StoreFault> {
@@ -324,8 +334,9 @@ impl<S: Alter> Keeper for SqlKeeper<S> {
 
     fn planned_on(&mut self, alloc: Global, day: Day) -> Result<Rows<PlannedRoute>, StoreFault> {
         self.serve()?;
-        let planned = self.known.lists().planned_table();
-        Ok(planned_on(alloc, planned.as_slice(), day)?)
+        let vehicles = self.known.lists().vehicles_table();
+        let found = plans_by_day(alloc, &mut self.conn, vehicles.as_slice(), day);
+        counted(&mut self.failures, found)
     }
 
     fn last_trip(&mut self) -> Result<u32, StoreFault> {
@@ -340,16 +351,15 @@ impl<S: Alter> Keeper for SqlKeeper<S> {
         day: Day,
     ) -> Result<Option<PlannedRoute>, StoreFault> {
         self.serve()?;
-        let planned = self.known.lists().planned_table();
-        match planned.find(&Key::pair(vehicle.number(), day.number())) {
-            Some(route) => Ok(Some(route.copy(alloc)?)),
-            None => Ok(None),
-        }
+        let key = Key::pair(vehicle.number(), day.number());
+        let found = plan_by_key(alloc, &mut self.conn, &key);
+        counted(&mut self.failures, found)
     }
 
     fn commit(&mut self, change: Change) -> Result<(), StoreFault> {
         self.serve()?;
-        if !is_writable(&change) {
+        let vehicles = self.known.lists().vehicles_table();
+        if !is_writable(&change, vehicles.as_slice()) {
             self.failures = FAILED;
             return Err(StoreFault::Store);
         }

@@ -9,11 +9,10 @@ use pt_desk_rules::Change;
 use std::alloc::AllocError;
 use std::marker::Model;
 
-/// The settings and the planned routes of a desk, in memory. All else of the content stands in tables, and only clauses
-/// read it here.
+/// The settings of a desk, in memory. All else of the content stands in tables, and only clauses read it here.
 #[derive(Drop)]
 pub struct Known {
-    /// No write, rider, entry or trip is among them.
+    /// No write, rider, entry, trip or planned route is among them.
     lists: ListKeeper,
     tables: Content,
 }

@@ -8,6 +8,7 @@ use Rattle.pt_tables_opening.specs.Opening.{Rests}
 use Rattle.pt_tables_opening.specs.Refused.{SparesOtherVersion}
 use Rattle.pt_tables_rows.specs.Tables.{HasRows}
 use Rattle.pt_tables.proofs.AdoptLemmas.{adopted, first_committed, handed_back, left_before, others_committed, unsound_committed}
+use Rattle.pt_tables.proofs.CarriedLemmas.{sound_carried}
 use Rattle.pt_tables_rows.proofs.WellFormedLemmas.{sound-well_formed}
 use Rattle.pt_tables.proofs.adopting.adopt.Goals as goal
 
@@ -19,6 +20,7 @@ keeper_of-requires g c =
     record {
       settled = c.content_in.ensures.rests.settled c.in_ok-conn.ensures.settled;
       readable = sound-well_formed c.in-Ok.lists.content c.in-Ok.ensures.sound;
+      carried = sound_carried c.in-Ok.lists.content c.in-Ok.ensures.sound;
       kept = adopted c.in-Ok.lists.content old mid new c.in-Ok.lists (subst (λ r. Rests mid new r) c.in-Ok.is c.content_in.ensures.rests) c.in-Ok.ensures.schema c.in_ok-conn.ensures.opened c.in-Ok.ensures.rows;
     }
 

@@ -9,6 +9,7 @@ use Rattle.pt_tables_writing.specs.Least.{IsLeastDesk, IsNew, IsNewDesk}
 use Rattle.pt_tables_rows.specs.Schema.{no_schema}
 use Rattle.pt_tables_rows.specs.Tables.{IsKept}
 use Rattle.pt_tables.proofs.LeastLemmas.{as_before, committed_least, least_kept, never_in_use, survives_least, untouched}
+use Rattle.pt_tables.proofs.CarriedLemmas.{sound_carried}
 use Rattle.pt_tables_rows.proofs.WellFormedLemmas.{sound-well_formed}
 use Rattle.pt_tables.proofs.creating.create.Goals as goal
 
@@ -18,6 +19,7 @@ keeper_of-requires g c =
     record {
       settled = c.create_new.ensures.settled;
       readable = sound-well_formed c.in-Ok.made.0.content c.in-Ok.ensures.sound;
+      carried = sound_carried c.in-Ok.made.0.content c.in-Ok.ensures.sound;
       kept = λ clean. least_kept c.args.admin_key.now c.in-Ok.made.0.content new c.in-Ok.ensures.least
           (subst₂ (λ p d. (any : State) → IsNew p d any → IsKept any new) c.in-Ok.ensures.policy c.of_key.ensures.value (c.in-Ok-create_new.ensures.made clean));
     }

@@ -14,6 +14,7 @@ returns-clause-settled g c =
       most = omega arith;
       settled = c.requires.settled;
       readable = c.requires.readable;
+      carried = c.requires.carried;
       kept = λ _ clean. c.requires.kept clean;
       counted = λ _ _. refl;
     } in

@@ -1,9 +1,10 @@
-use Rattle.std.proofs.Common.{◌≡◌, Err, Some, length, sym, subst, rules}
+use Rattle.std.proofs.Common.{◌≡◌, Err, Some, length, sym, ap, subst, ◌∙◌, rules}
 use Rattle.pt_desk.specs.Store.{Goes}
-use Rattle.pt_desk_rules.specs.State.{applied}
+use Rattle.pt_desk_rules.specs.State.{State, applied}
 use Rattle.pt_tables_keeper.proofs.CommitLemmas.{commits_then}
 use Rattle.pt_tables_keeper.proofs.ReadLemmas.{goes_not}
-use Rattle.pt_tables_keeper.specs.Keeper.{store_of}
+use Rattle.pt_tables_keeper.specs.Keeper.{KeptTables, store_of}
+use Rattle.pt_tables_keeper.specs.Writable.{IsWritable}
 use Rattle.pt_tables_keeper.proofs.keeper.SqlKeeperKeeper.commit.Goals as goal
 
 pub returns-in_err-rider_count-clause-commits : goal.returns-in_err-rider_count-clause-commits
@@ -20,3 +21,11 @@ pub returns-clause-commits : goal.returns-clause-commits
 returns-clause-commits g c =
     commits_then (store_of g.S.Store c.args.self.now) (store_of g.S.Store c.rider_count_after.new.self) (store_of g.S.Store c.make.new.self)
     c.in_ok-rider_count.rider_count (length (applied c.args.change c.args.self.now.content).riders) c.args.change c.make.result c.in_ok-rider_count.ensures.reads c.make.ensures.commits
+
+pub make-requires-clause-writable : goal.make-requires-clause-writable
+make-requires-clause-writable g c =
+    let known : c.as_slice.result.now ≡ c.self.inside.known.content.vehicles = search rules in
+    let is = c.is_writable.ensures.writable c.if-not-is_writable.false in
+    let same : c.self.inside.known.content.vehicles ≡ c.rider_count_after.new.self.content.vehicles =
+    ap (λ (k : KeptTables _). k.content.vehicles) c.self.view_is ∙ ap (λ (s : State). s.vehicles) (sym c.in_ok-rider_count.ensures.content) in
+    subst (λ vs. IsWritable vs c.args.change) (known ∙ same) is

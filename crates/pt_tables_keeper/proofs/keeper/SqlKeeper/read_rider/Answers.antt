@@ -2,7 +2,7 @@ use Rattle.std.proofs.Common.{◌≡◌, ap, ◌∙◌, arith}
 use Rattle.pt_desk_rules.specs.State.{rider_of}
 use Rattle.pt_tables_keeper.proofs.ReadLemmas.{reads_by, step_by}
 use Rattle.pt_tables_keeper.specs.Keeper.{KeptTables}
-use Rattle.pt_tables_keeper.proofs.keeper.SqlKeeperKeeper.rider.Goals as goal
+use Rattle.pt_tables_keeper.proofs.keeper.SqlKeeper.read_rider.Goals as goal
 
 pub invariant_of-self : goal.invariant_of-self
 invariant_of-self g c =
@@ -18,4 +18,5 @@ returns g c =
           none c.self.invariant c.rider_by_number-found.ensures.rests (λ db here left. g.met.S.Store.settled c.rider_by_number-found.new.conn.store db here left) c.counted.ensures.counts
           c.args.self.now (rider_of c.args.id) c.self.view_is c.rider_by_number-found.ensures.told;
       refuses = λ some. absurd (let zero : c.args.self.now.failures ≡ 0 = c.in_ok-serve.ensures.served in omega arith);
+      content = ap (λ (k : KeptTables _). k.content) c.self.view_is;
     }

@@ -1,0 +1,91 @@
+-- A change that is written after a read.
+use Rattle.std.proofs.Common.{◌≡◌, inl, inr, IsTrue, List, [], sym, subst, ◌∙◌, arith}
+use Rattle.sqlite.specs.State.{State as Connected, HasCleanDisk, Survives}
+use Rattle.sqlite.specs.Tree.{Trees}
+use Rattle.sqlite.proofs.StateLemmas.{survives_then}
+use Rattle.pt_desk_rules.specs.State.{State}
+use Rattle.pt_desk_rules.specs.declared.change.Change.{Change}
+use Rattle.pt_records.specs.Records.{Each}
+use Rattle.pt_scheduling.specs.Plan.{Plan}
+use Rattle.pt_tables_asking.specs.Asking.{Rests, ShowsCommit}
+use Rattle.pt_tables_asking.proofs.InsideLemmas.{still_shown}
+use Rattle.pt_tables_rows.specs.Tables.{Stands}
+use Rattle.pt_tables_rows.specs.WellFormed.{IsWellFormed}
+use Rattle.pt_tables_writing.specs.Agreeing.{AgreesFor, AgreesWith}
+use Rattle.pt_tables_writing.specs.Committing.{IsMade, LeadsTo}
+use Rattle.pt_tables_writing.specs.Least.{IsUndone}
+use Rattle.pt_tables_keeper.specs.Plans.{IsOneKey, keys_of, plans_at}
+use Rattle.pt_tables_keeper.proofs.PlanLemmas.{knows_edited}
+
+-- what was read shows what is committed
+pub undone_by_read : (old new : Connected) → Rests old new → HasCleanDisk new → IsUndone old new
+undone_by_read old new rests clean = record {
+  was_open = λ here. (rests.keeps clean).was_open here;
+  now = λ here. rests.undone clean here ∙ (rests.keeps clean).committed here;
+  committed = λ here. (rests.keeps clean).committed here;
+}
+
+-- and what survives nothing that was committed survives any
+pub survives_read : (old new : Connected) (P : Trees → Type 0) → Survives old new (λ _. ⊥) → Survives old new P
+survives_read old new P survives = record {
+  clean = survives.clean;
+  shield = survives.shield;
+  counts = survives.counts;
+  limit = survives.limit;
+  closes = survives.closes;
+  crash = λ clean db left. elim (survives.crash clean db left) [ inl before ↦ inl before | inr none ↦ absurd none ];
+}
+
+-- the plans of its keys are what the change asks for beside the lists
+pub agrees_over : (change : Change) (known content : State) (plans : List Plan) → IsWellFormed content → Each IsOneKey change.planned.away → AgreesFor change known content
+    → plans ≡ plans_at content.planned (keys_of change.planned) [] → AgreesWith change known plans content
+agrees_over change known content plans well one agrees is = (agrees, knows_edited change.planned content.planned plans well.planned one is)
+
+module _ (old mid new : Connected) (rests : Rests old mid) (lasts : Survives mid new (λ _. Unit {0})) where
+  pub clean_mid : HasCleanDisk new → HasCleanDisk mid
+  clean_mid clean = omega (arith, clean, lasts.clean)
+
+  pub clean_old : HasCleanDisk new → HasCleanDisk old
+  clean_old clean = omega (arith, clean, lasts.clean, rests.survives.clean)
+
+  pub undone_then : HasCleanDisk new → IsUndone mid new → IsUndone old new
+  undone_then clean undone =
+      let keeps = rests.keeps (clean_mid clean) in
+      record {
+        was_open = λ here. keeps.was_open (undone.was_open here);
+        now = λ here. undone.now here ∙ keeps.committed (undone.was_open here);
+        committed = λ here. undone.committed here ∙ keeps.committed (undone.was_open here);
+      }
+
+  module _ (before after : State) (shows : ShowsCommit old) where
+    shown : HasCleanDisk new → IsTrue mid.is_open → mid.now ≡ old.now
+    shown clean here = still_shown old mid rests (clean_mid clean) (λ there. sym (shows (clean_old clean) there)) here
+
+    pub made_then : HasCleanDisk new → IsMade before after mid new → IsMade before after old new
+    made_then clean made = record {
+      was_open = (rests.keeps (clean_mid clean)).was_open made.was_open;
+      is_open = made.is_open;
+      committed = made.committed;
+      stands = λ stands. made.stands (subst (Stands before) (sym (shown clean made.was_open)) stands);
+    }
+
+    leads_then : HasCleanDisk new → (trees : Trees) → LeadsTo before after mid trees → LeadsTo before after old trees
+    leads_then clean trees leads = record {
+      was_open = (rests.keeps (clean_mid clean)).was_open leads.was_open;
+      rows = λ stands. leads.rows (subst (Stands before) (sym (shown clean leads.was_open)) stands);
+    }
+
+    pub survives_over : (HasCleanDisk mid → Survives mid new (LeadsTo before after mid)) → Survives old new (LeadsTo before after old)
+    survives_over given =
+        let whole = survives_then old mid new (λ _. ⊥) (λ _. Unit {0}) (λ _. Unit {0}) (λ _ db none. tt) (λ _ db any. any) rests.survives lasts in
+        record {
+          clean = whole.clean;
+          shield = whole.shield;
+          counts = whole.counts;
+          limit = whole.limit;
+          closes = whole.closes;
+          crash = λ clean db left. elim ((given (clean_mid clean)).crash clean db left) [
+            | inl middle ↦ elim (rests.survives.crash (clean_mid clean) db middle) [ inl before_it ↦ inl before_it | inr none ↦ absurd none ]
+            | inr leads ↦ inr (leads_then clean db leads)
+          ];
+        }

@@ -1,0 +1,53 @@
+//! A change written over the plans that are there.
+
+ghost use Rattle.std.specs.Prelude.{◌≡◌, OnErr, OnOk, false};
+ghost use Rattle.sqlite.specs.Held.{state};
+ghost use Rattle.sqlite.specs.State.{HasCleanDisk, Survives};
+ghost use Rattle.pt_desk_rules.specs.State.{State, applied};
+ghost use Rattle.pt_records.specs.Records.{Each};
+ghost use Rattle.pt_tables_asking.specs.Asking.{ShowsCommit};
+ghost use Rattle.pt_tables_keeper.specs.Plans.{IsOneKey};
+ghost use Rattle.pt_tables_rows.specs.Tables.{IsKept};
+ghost use Rattle.pt_tables_rows.specs.WellFormed.{IsWellFormed, PutsWellFormed};
+ghost use Rattle.pt_tables_writing.specs.Agreeing.{AgreesFor};
+ghost use Rattle.pt_tables_writing.specs.Committing.{IsMade, LeadsTo};
+ghost use Rattle.pt_tables_writing.specs.Least.{IsUndone};
+
+use crate::plans::plans_before;
+use pt_desk::ListKeeper;
+use pt_desk_rules::Change;
+use pt_tables_asking::Unread;
+use pt_tables_writing::write_change;
+use sqlite::{Alter, Connection};
+use std::alloc::Global;
+
+/// Makes the change in the tables in one transaction, over the plans that it finds there. Of all other records that are
+/// there `known` has those that the change takes away.
+pub(crate) fn write_over<S: Alter>(
+    alloc: Global,
+    conn: &mut Connection<S>,
+    change: &Change,
+    known: &ListKeeper,
+) -> Result<(), Unread>
+    requires settled { conn.old.in_transaction ≡ false }
+    requires committed { ShowsCommit (state S.Store conn.old) }
+    requires puts { PutsWellFormed change.now }
+    requires plans { Each IsOneKey change.now.planned.away }
+    ensures settled { conn.new.in_transaction ≡ false }
+    ensures made { (content : State) → IsWellFormed content → AgreesFor change.now known.now.content content
+        → (HasCleanDisk (state S.Store conn.old) → IsKept content (state S.Store conn.old))
+        → HasCleanDisk (state S.Store conn.new) → OnOk result (IsMade content (applied change.now content)
+        (state S.Store conn.old) (state S.Store conn.new)) }
+    ensures undone { HasCleanDisk (state S.Store conn.new)
+        → OnErr result (IsUndone (state S.Store conn.old) (state S.Store conn.new)) }
+    ensures survives { (content : State) → IsWellFormed content → AgreesFor change.now known.now.content content
+        → (HasCleanDisk (state S.Store conn.old) → IsKept content (state S.Store conn.old))
+        → Survives (state S.Store conn.old) (state S.Store conn.new)
+        (LeadsTo content (applied change.now content) (state S.Store conn.old)) }
+{
+    let plans = plans_before(alloc, conn, &change.planned)?;
+    match write_change(conn, change, known, &plans) {
+        Ok(()) => Ok(()),
+        Err(error) => Err(Unread::of(&error)),
+    }
+}
