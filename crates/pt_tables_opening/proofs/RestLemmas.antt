@@ -114,7 +114,3 @@ module _ {X Y E F : Type 0} (old mid : Connected) (x : X) where
         now = λ here same. b.now here (a.0.committed_is ∙ same ∙ sym a.0.now_is) ∙ a.0.now_is;
         committed = λ here. b.committed here ∙ a.0.committed_is;
       }
-
--- reads that failed, told otherwise
-pub rests_failed : {X Y E F : Type 0} (old new : Connected) (e : E) (f : F) → Rests {X = X} old new (Err e) → Rests {X = Y} old new (Err f)
-rests_failed old new e f h = record { settled = h.settled; same = λ clean has. tt; stays = h.stays; survives = h.survives }

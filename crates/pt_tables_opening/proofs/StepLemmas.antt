@@ -11,13 +11,13 @@ use Rattle.pt_desk_rules.specs.Sound.{IsSound}
 use Rattle.pt_desk_rules.specs.State.{State, applied}
 use Rattle.pt_desk_rules.specs.declared.change.Change.{Change}
 use Rattle.pt_records.specs.Records.{Each}
-use Rattle.pt_soundness.specs.Tables.{all_tables, number_of, IsSoundIn}
+use Rattle.pt_soundness.specs.Tables.{all_tables, number_of, table_count, IsSoundIn}
 use Rattle.pt_soundness.specs.declared.unsound_table.UnsoundTable.{UnsoundTable}
 use Rattle.pt_soundness.specs.declared.unsound_table.UnsoundTable.TheVariants as table
 use Rattle.pt_soundness.proofs.TableLemmas.{sound_in, sound_of}
 use Rattle.pt_tables_opening.specs.Faults.{IsRefusal, fault, store_refused, tables_refused, unsound}
 use Rattle.pt_tables_opening.specs.Opening.{Rests}
-use Rattle.pt_tables_opening.specs.Refused.{AreUnsound, SparesOtherVersion, TellsOf, TellsWhy}
+use Rattle.pt_tables_opening.specs.Refused.{AreUnsound, SparesOtherVersion, TellsWhy}
 use Rattle.pt_tables_opening.specs.Standing.{HasRowsIn, IsFirstAtFault, NoneStandsTo, StandsIn, StandsTo}
 use Rattle.pt_spelling.specs.Ranges.{IsWord}
 use Rattle.pt_tables_opening.specs.Steps.{HasNoneIn, HasRowsTo, IsFaultOf, IsLaidIn, IsReadIn, IsReadTo, OpensTable, OpensTo, ReadsTable}
@@ -79,7 +79,7 @@ after_all table.RiderChairs = refl
 after_all table.VehicleChairs = refl
 after_all table.TripChairs = refl
 
-last_table : (t : UnsoundTable) → number_of t ≤ 14
+last_table : (t : UnsoundTable) → number_of t ≤ table_count
 last_table table.Desk = omega arith
 last_table table.Callers = omega arith
 last_table table.Kept = omega arith
@@ -115,7 +115,7 @@ all_stand s trees [] sound rows = tt
 all_stand s trees (t ∷ ts) sound rows = (record { rows = rows.0; sound = sound.0 }, all_stand s trees ts sound.1 rows.1)
 
 -- a sound state with these rows stands in all tables
-stands : (s : State) (trees : Trees) → IsSound s → HasRows s trees → StandsTo 14 s trees
+stands : (s : State) (trees : Trees) → IsSound s → HasRows s trees → StandsTo table_count s trees
 stands s trees sound has = (
   record { rows = has.records.desk; sound = sound_in s sound table.Desk },
   (
@@ -201,20 +201,6 @@ tells_version trees it is version =
       first = λ same. let n : it.code ≡ 31 = same in absurd (omega arith);
     }
 
--- what is told of the rows is told of a database whose schema is the desk's
-pub tells_of : (db : Database) (it : OpenFault) → TellsWhy db.trees it → TellsOf db it
-tells_of db it why = record { tables = λ code. inr (why.version code); rows = why.rows; first = why.first }
-
--- a database with another schema is refused as such
-pub tells_tables : (db : Database) (it : OpenFault) → it ≡ fault tables_refused → (db.schema ≡ desk_schema → ⊥) → TellsOf db it
-tells_tables db it is other =
-    let code : it.code ≡ 30 = ap code_of is in
-    record {
-      tables = λ same. inl other;
-      rows = λ same. let n : it.code ≡ 31 = same in absurd (omega arith);
-      first = λ same. let n : it.code ≡ 31 = same in absurd (omega arith);
-    }
-
 -- ---- one table is read
 
 pub puts_so : {X : Type 0} (t : UnsoundTable) (old new : Connected) (s : State) (r : Result X OpenFault) (x : X) → r ≡ Ok x → Rests old new r → (change made : Change) → change ≡ made
@@ -276,17 +262,6 @@ judged_so t old new s read_as change is h r content sound faults =
               told.1 (sound_there t other (applied change s) old.now.trees others all it.read.laid (it.rows clean has before)),
         ))
       ];
-    }
-
-pub unread_so : (t : UnsoundTable) (old new : Connected) (s : State) (read_as : Result Change OpenFault) (e : OpenFault) → read_as ≡ Err e → ReadsTable t old new s read_as
-    → (out : Result Listed OpenFault) → IsErr out → IsErrAnd out (λ f. f ≡ e) → OpensTable t old new s out
-unread_so t old new s read_as e is h out bad same =
-    let it = subst (ReadsTable t old new s) is h in
-    record {
-      rests = refused {X = Change} old new (Err e) out bad it.rests;
-      read = no_answer (λ keeper. IsReadTo (number_of t) keeper.content) out bad;
-      rows = λ clean has before. no_answer (λ keeper. HasRowsTo (number_of t) keeper.content old.now.trees) out bad;
-      faults = passed_on _ e it.faults out same;
     }
 
 -- ---- one after the other
@@ -410,25 +385,5 @@ agency_opens old new r agency is rests of (Err f) policy trip word none memory =
 
 -- ---- all tables
 
-pub all_rows : (s : State) (trees : Trees) → HasRowsTo 14 s trees → HasRows s trees
-all_rows s trees each = record {
-  records = record {
-    desk = each.0;
-    callers = each.1.0;
-    kept = each.1.1.0;
-    places = each.1.1.1.0;
-    fixed = each.1.1.1.1.0;
-    vehicles = each.1.1.1.1.1.0;
-    riders = each.1.1.1.1.1.1.0;
-    entries = each.1.1.1.1.1.1.1.0;
-    trips = each.1.1.1.1.1.1.1.1.0;
-    stops = each.1.1.1.1.1.1.1.1.1.0;
-    travel = each.1.1.1.1.1.1.1.1.1.1.0;
-  };
-  rider_chairs = each.1.1.1.1.1.1.1.1.1.1.1.0;
-  vehicle_chairs = each.1.1.1.1.1.1.1.1.1.1.1.1.0;
-  trip_chairs = each.1.1.1.1.1.1.1.1.1.1.1.1.1.0;
-}
-
-pub all_sound : (s : State) → IsReadTo 14 s → IsSound s
+pub all_sound : (s : State) → IsReadTo table_count s → IsSound s
 all_sound s read = sound_of s read.sound

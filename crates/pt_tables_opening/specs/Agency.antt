@@ -28,6 +28,6 @@ abbrev pub HasOtherVersion : Trees → Type 0
 HasOtherVersion trees =
     (row : Row) × AreRows desk_table trees (row ∷ []) × (column row 1 ≢ number_value table_version)
 
--- the keys of 32 bits, which the agency's desk has none of before the other tables are read
+-- the keys that are one number of 32 bits: the least state's one caller has one, and is taken away by it
 abbrev pub numbers : Span
 numbers = record { from = 0; to = 4_294_967_295 }

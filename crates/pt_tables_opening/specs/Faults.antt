@@ -1,6 +1,7 @@
 -- Why a database is not opened.
 use Rattle.std.specs.Prelude.{◌≡◌, ◌⊎◌, ◌≤◌, ℕ}
 use Rattle.pt_base.specs.Codes.{memory_refused}
+use Rattle.pt_soundness.specs.Tables.{table_count}
 use Rattle.pt_tables_opening.specs.declared.open_fault.OpenFault.{OpenFault}
 
 -- the store refused, or failed
@@ -29,4 +30,4 @@ IsRefusal refused =
     (refused ≡ fault memory_refused)
     ⊎ ((refused ≡ fault store_refused)
     ⊎ ((refused ≡ fault tables_refused)
-    ⊎ ((table : ℕ) × (1 ≤ table) × (table ≤ 14) × (refused ≡ unsound table))))
+    ⊎ ((table : ℕ) × (1 ≤ table) × (table ≤ table_count) × (refused ≡ unsound table))))

@@ -10,7 +10,7 @@ use Rattle.pt_scheduling.specs.declared.planned.PlannedStop.{PlannedStop}
 use Rattle.pt_tables_rows.specs.Rows.{number_value, stop_rows_from}
 use Rattle.pt_tables_rows.specs.Tables.{AreRows}
 
--- a record that rows tell: it fits, and the place of each of its rows is a number of 32 bits
+-- a record that rows tell: it fits, and has no more rows than numbers of 32 bits can count
 abbrev pub FitsRows : {A : Type 0} → (A → List Row) → (A → Type 0) → A → Type 0
 FitsRows rows_of Fits x = Fits x × (length (rows_of x) ≤ 2 ^ 32)
 
@@ -70,7 +70,7 @@ BeginsEach row = Unit {0}
 abbrev pub BeginsPlan : Row → Type 0
 BeginsPlan row = column row 2 ≡ number_value 0
 
--- what is told of the stops of a plan: the place of each is a number of 32 bits
+-- what is told of the stops of a plan: they have no more rows than numbers of 32 bits can count
 abbrev pub FitStops : ℕ → ℕ → List PlannedStop → Type 0
 FitStops vehicle day stops = (length (stop_rows_from 0 vehicle day stops) ≤ 2 ^ 32) × Each FitsStop stops
 

@@ -4,7 +4,7 @@ ghost use Rattle.sqlite.specs.State.{HasCleanDisk, Survives};
 ghost use Rattle.pt_base.specs.Codes.{memory_refused};
 ghost use Rattle.pt_desk_rules.specs.Sound.{IsSound};
 ghost use Rattle.pt_desk_rules.specs.State.{applied};
-ghost use Rattle.pt_soundness.specs.Tables.{number_of, IsSoundBefore, IsSoundIn};
+ghost use Rattle.pt_soundness.specs.Tables.{number_of, table_count, IsSoundBefore, IsSoundIn};
 ghost use Rattle.pt_tables_opening.specs.Faults.{IsRefusal, fault, unsound};
 ghost use Rattle.pt_tables_opening.specs.Opening.{Rests, Stays};
 ghost use Rattle.pt_tables_opening.specs.Refused.{SparesOtherVersion, TellsOf};
@@ -89,7 +89,7 @@ fn first_table<S: Alter>(alloc: Global, conn: &mut Connection<S>) -> Result<List
 
 /// The desk that the tables tell of, read and judged one after the other.
 fn all_tables<S: Alter>(alloc: Global, conn: &mut Connection<S>) -> Result<ListKeeper, OpenFault>
-    ensures { OpensTo 14 (state S.Store conn.old) (state S.Store conn.new) result }
+    ensures { OpensTo table_count (state S.Store conn.old) (state S.Store conn.new) result }
 {
     let mut keeper = first_table(alloc, conn)?;
     for number in SECOND_TABLE..LAST_TABLE + 1 {

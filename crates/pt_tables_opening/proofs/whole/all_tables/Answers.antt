@@ -2,7 +2,7 @@ use Rattle.std.proofs.Common.{◌≡◌, ◌+◌, ◌-◌, ◌<◌, ℕ, Option,
 use Rattle.sqlite.specs.Held.{state}
 use Rattle.sqlite.specs.State.{State as Connected}
 use Rattle.pt_desk.specs.Listed.{Listed}
-use Rattle.pt_soundness.specs.Tables.{number_of}
+use Rattle.pt_soundness.specs.Tables.{number_of, table_count}
 use Rattle.pt_soundness.specs.declared.unsound_table.UnsoundTable.{UnsoundTable}
 use Rattle.pt_tables_opening.specs.Steps.{IsReadTo, OpensTable, OpensTo}
 use Rattle.pt_tables_opening.specs.declared.open_fault.OpenFault.{OpenFault}
@@ -36,7 +36,7 @@ returns-in_err-keeper-2 g c =
     let is = number_is c.with_number.result c.unwrap-table.result n c.unwrap-table.ensures c.with_number.ensures.value in
     let later : 1 < n = omega (arith, c.loop-number.auto.number) in
     let opened = opens_next c.unwrap-table.result n old mid new c.loop-number.keeper is later c.loop-number.invariant c.with_table.result c.with_table.ensures in
-    ends_so n 14 old new c.in_err-keeper-2.field-0.0 c.from_residual-in_err-keeper-2.result c.from_residual-in_err-keeper-2.ensures.0 c.from_residual-in_err-keeper-2.ensures.1
+    ends_so n table_count old new c.in_err-keeper-2.field-0.0 c.from_residual-in_err-keeper-2.result c.from_residual-in_err-keeper-2.ensures.0 c.from_residual-in_err-keeper-2.ensures.1
     (subst (OpensTo n old new) c.in_err-keeper-2.was opened)
 
 pub loop-number-preserved : goal.loop-number-preserved
@@ -53,5 +53,5 @@ loop-number-preserved g c =
 
 pub returns : goal.returns
 returns g c =
-    let end : c.loop-number.number - 1 ≡ 14 = omega (arith, c.loop-number-test.false, c.loop-number.auto.number-end (omega arith)) in
+    let end : c.loop-number.number - 1 ≡ table_count = omega (arith, c.loop-number-test.false, c.loop-number.auto.number-end (omega arith)) in
     subst (λ (m : ℕ). OpensTo m (state g.S.Store c.args.conn.now) (state g.S.Store c.loop-number.conn) (Ok c.loop-number.keeper)) end c.loop-number.invariant

@@ -1,12 +1,13 @@
 use Rattle.std.proofs.Common.{Result, Ok, Err, IfOk}
 use Rattle.pt_desk.specs.Listed.{Listed}
 use Rattle.pt_desk_rules.specs.Sound.{IsSound}
+use Rattle.pt_soundness.specs.Tables.{table_count}
 use Rattle.pt_tables_opening.specs.Steps.{IsReadTo}
 use Rattle.pt_tables_opening.specs.declared.open_fault.OpenFault.{OpenFault}
 use Rattle.pt_tables_opening.proofs.StepLemmas.{all_sound}
 use Rattle.pt_tables_opening.proofs.whole.content_in.Goals as goal
 
-sound_so : (r : Result Listed OpenFault) → IfOk r (λ keeper. IsReadTo 14 keeper.content) → IfOk r (λ keeper. IsSound keeper.content)
+sound_so : (r : Result Listed OpenFault) → IfOk r (λ keeper. IsReadTo table_count keeper.content) → IfOk r (λ keeper. IsSound keeper.content)
 sound_so (Ok keeper) read = all_sound keeper.content read
 sound_so (Err f) read = tt
 
