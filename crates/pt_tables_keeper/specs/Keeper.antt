@@ -29,8 +29,8 @@ kept_tables_code {S} store =
     code_by (Held S × (ℕ × State)) (coded× (held_code store) (coded× coded_ℕ state_code))
     (λ k. (k.conn, (k.failures, k.content))) (λ p. record { conn = p.0; failures = p.1.0; content = p.1.1 }) (λ _. refl)
 
--- The content is one that is read back from its rows, and the vehicle of each of its plans is there; and until the store
--- has failed the tables have it, its riders are counted, and no transaction is open.
+-- The content is one that is read back from its rows, and the vehicle of each of its plans is there; and until the
+-- store has failed the tables have it, its riders are counted, and no transaction is open.
 pub record AreInStep (content : State) (riders failures : ℕ) (s : Connected) : Type 0 where
   pub most : failures ≤ 1
   pub settled : s.in_transaction ≡ false

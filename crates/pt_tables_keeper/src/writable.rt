@@ -1,5 +1,5 @@
 //! Whether a change is one that a keeper over tables writes.
-ghost use Rattle.std.specs.Prelude.{◌≡◌, ◌∷◌, [], IsTrue, IfSome};
+ghost use Rattle.std.specs.Prelude.{◌≡◌, ◌≢◌, ◌↔◌, ◌∷◌, [], IsTrue, MatchOption, length};
 ghost use Rattle.pt_desk_rules.specs.State.{versions_from};
 ghost use Rattle.pt_records.specs.Records.{Each};
 ghost use Rattle.pt_tables_asking.specs.Plans.{HasVersionAmong};
@@ -17,26 +17,28 @@ const MOST_RIDERS_PUT: usize = 1;
 
 /// Whether two keys are one.
 fn is_same(one: &Key, other: &Key) -> bool
-    ensures value { IsTrue result → one.now ≡ other.now }
+    ensures value { IsTrue result ↔ (one.now ≡ other.now) }
 {
     one.compare(other) == Ordering::Equal
 }
 
+/// Whether the span is one key alone.
+fn is_one_key(span: &Span) -> bool
+    ensures value { IsTrue result ↔ IsOneKey span.now }
+{
+    is_same(&span.from, &span.to)
+}
+
 /// Whether each of the spans is one key alone.
 fn are_one_key(spans: &[Span]) -> bool
-    ensures value { IsTrue result → Each IsOneKey spans.now }
+    ensures value { IsTrue result ↔ Each IsOneKey spans.now }
 {
-    for span in spans {
-        if !is_same(&span.from, &span.to) {
-            return false;
-        }
-    }
-    true
+    spans.iter().all(is_one_key)
 }
 
 /// Whether the span is that of the versions in whose place this one comes.
 fn is_followed_by(span: &Span, version: &Vehicle) -> bool
-    ensures value { IsTrue result → span.now ≡ versions_from version.now.id version.now.from_day }
+    ensures value { IsTrue result ↔ (span.now ≡ versions_from version.now.id version.now.from_day) }
 {
     let (id, day) = (version.id.number(), version.from_day.number());
     is_same(&span.from, &Key::pair(id, day)) && is_same(&span.to, &Key::pair(id, u32::MAX))
@@ -44,7 +46,7 @@ fn is_followed_by(span: &Span, version: &Vehicle) -> bool
 
 /// The only one of these.
 fn only<T>(items: &[T]) -> Option<&T>
-    ensures value { IfSome result (λ item. items.now ≡ item.now ∷ []) }
+    ensures value { MatchOption result (length items.now ≢ 1) (λ item. items.now ≡ item.now ∷ []) }
 {
     if items.len() != 1 {
         return None;
@@ -54,7 +56,7 @@ fn only<T>(items: &[T]) -> Option<&T>
 
 /// Whether vehicles stay as they are, or one version comes in place of those of its vehicle from its day on.
 fn is_fleet_edit(edits: &Edits<Vehicle>) -> bool
-    ensures value { IsTrue result → IsFleetEdit edits.now }
+    ensures value { IsTrue result ↔ IsFleetEdit edits.now }
 {
     let (spans, puts) = (edits.spans(), edits.puts());
     if let (Some(span), Some(version)) = (only(spans), only(puts)) {
@@ -65,20 +67,15 @@ fn is_fleet_edit(edits: &Edits<Vehicle>) -> bool
 
 /// Whether the vehicle of each of the plans is there.
 fn have_vehicles(plans: &[PlannedRoute], vehicles: &[Vehicle]) -> bool
-    ensures value { IsTrue result → Each (HasVersionAmong vehicles.now) plans.now }
+    ensures value { IsTrue result ↔ Each (HasVersionAmong vehicles.now) plans.now }
 {
-    for plan in plans {
-        if !has_version(vehicles, plan.vehicle) {
-            return false;
-        }
-    }
-    true
+    plans.iter().all(|plan| has_version(vehicles, plan.vehicle))
 }
 
 /// Whether the change is one that is written, and then read back as it is asked for. A change that the rules make is
 /// such.
 pub(crate) fn is_writable(change: &Change, vehicles: &[Vehicle]) -> bool
-    ensures writable { IsTrue result → IsWritable vehicles.now change.now }
+    ensures writable { IsTrue result ↔ IsWritable vehicles.now change.now }
 {
     is_told(change)
         && change.kept.spans().is_empty()

@@ -25,7 +25,7 @@ returns-clause-commits g c =
 pub make-requires-clause-writable : goal.make-requires-clause-writable
 make-requires-clause-writable g c =
     let known : c.as_slice.result.now ≡ c.self.inside.known.content.vehicles = search rules in
-    let is = c.is_writable.ensures.writable c.if-not-is_writable.false in
+    let is = c.is_writable.ensures.writable.0 c.if-not-is_writable.false in
     let same : c.self.inside.known.content.vehicles ≡ c.rider_count_after.new.self.content.vehicles =
     ap (λ (k : KeptTables _). k.content.vehicles) c.self.view_is ∙ ap (λ (s : State). s.vehicles) (sym c.in_ok-rider_count.ensures.content) in
     subst (λ vs. IsWritable vs c.args.change) (known ∙ same) is
