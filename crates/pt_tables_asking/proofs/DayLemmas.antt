@@ -2,6 +2,7 @@
 use Rattle.std.proofs.Common.{◌≡◌, ◌++◌, ◌<◌, ◌==◌, ◌&&◌, ◌||◌, ℕ, Bool, true, false, cond, List, [], ◌∷◌, filter, flat_map, refl, sym, ap, ap₂, ◌∙◌, arith}
 use Rattle.std.specs.List.{AllByRecursion, list_any}
 use Rattle.std.specs.Option.{option_to_list}
+use Rattle.std.proofs.lemmas.Bool.{and_parts}
 use Rattle.std.proofs.lemmas.Bool.Decides.{nat_tests}
 use Rattle.sqlite_trees.proofs.ListLemmas.{filter_none}
 use Rattle.pt_base.specs.declared.vehicle.Vehicle.{Vehicle}
@@ -66,11 +67,6 @@ is_first n id day date rest = either (n == id) (id == n) (day == date) rest (tur
     either true false c d same = absurd (cc)
     either false true c d same = absurd (cc)
 
-has_it : (n : ℕ) (a b : Bool) → (a && b) ≡ true → (a ≡ true) × (b ≡ true)
-has_it n true true is = (refl, refl)
-has_it n true false is = absurd (cc)
-has_it n false b is = absurd (cc)
-
 same_number : (a b : ℕ) → (a == b) ≡ true → a ≡ b
 same_number a b is = grind (arith, nat_tests)
 
@@ -84,9 +80,6 @@ above_any n id (m ∷ ids) above is = go (m == id) refl (above_any n id ids abov
     go false so rest is = rest is
 
 module _ (day : ℕ) (low : day < 4_294_967_296) (planned : List Plan) (order : IsInOrder plan_key planned) (fits : Each FitsPlan planned) where
-  first_of : ℕ → Plan → Bool
-  first_of n plan = plan.vehicle == n && plan.day == day
-
   -- the plans of the vehicles with these numbers, which rise
   pub plans_are : (ids : List ℕ) → IsInOrder (λ n. n) ids → plans_of day planned ids ≡ filter (λ plan. plan.day == day && has_id ids plan.vehicle) planned
   plans_are [] rise = sym (filter_none (λ plan. plan.day == day && false) planned (none planned))
@@ -109,8 +102,8 @@ module _ (day : ℕ) (low : day < 4_294_967_296) (planned : List Plan) (order : 
     where
       apart : (x y : Plan) → (x.vehicle == n && x.day == day) ≡ true → (y.day == day && has_id ids y.vehicle) ≡ true → plan_key x < plan_key y
       apart x y one other =
-          let a = has_it 0 (x.vehicle == n) (x.day == day) one in
-          let b = has_it 0 (y.day == day) (has_id ids y.vehicle) other in
+          let a = and_parts _ _ one in
+          let b = and_parts _ _ other in
           let vehicle = same_number x.vehicle n a.0 in
           let date = same_number x.day day a.1 in
           let also = same_number y.day day b.0 in

@@ -30,7 +30,7 @@ use Rattle.pt_tables_rows.specs.WellFormed.{IsWellFormed}
 use Rattle.pt_tables_rows.proofs.SameRowsGroups.{kind-told, stops-in_order}
 use Rattle.pt_tables_rows.proofs.SameRowsRecords.{number_in}
 use Rattle.pt_tables_asking.specs.Asking.{HasAnswer}
-use Rattle.pt_tables_asking.specs.Plans.{HasFewStops, plan_at}
+use Rattle.pt_tables_asking.specs.Plans.{HasFewStops, plan_by_stops}
 use Rattle.pt_tables_asking.specs.declared.texts.TheConstants.{STOPS_BY_VEHICLE_AND_DAY}
 use Rattle.pt_tables_asking.proofs.AskedQueries.{answers_passing}
 use Rattle.pt_tables_asking.proofs.OrderedLemmas.{IsAt, one_at_most, place_le, same_order}
@@ -150,7 +150,7 @@ found_at m n (Some plan) = each_at 0 m n plan.stops
 
 -- ---- the plan
 
-shape : (vehicle day : ℕ) (plan : Plan) (stops : List PlannedStop) → stops ≡ plan.stops → 0 < length stops → plan.vehicle ≡ vehicle → plan.day ≡ day → plan_at (stops_from 0 vehicle day stops) ≡ Some plan
+shape : (vehicle day : ℕ) (plan : Plan) (stops : List PlannedStop) → stops ≡ plan.stops → 0 < length stops → plan.vehicle ≡ vehicle → plan.day ≡ day → plan_by_stops (stops_from 0 vehicle day stops) ≡ Some plan
 shape vehicle day plan [] is some bus date = absurd (omega arith)
 shape vehicle day plan (stop ∷ later) is some bus date =
     let same : map (λ (at : StopAt). at.stop) (stops_from 0 vehicle day (stop ∷ later)) ≡ plan.stops = stops_back 0 vehicle day (stop ∷ later) ∙ is in
@@ -190,15 +190,15 @@ module _ (content : State) (readable : IsWellFormed content) (m n : ℕ) (low : 
   pub stops_there : (old : Connected) → IsKept content old → (given : Row) → given ≡ number_value m ∷ number_value n ∷ [] → IsTrue old.is_open → HasAnswer STOPS_BY_VEHICLE_AND_DAY.now given old.now (map stop_row wanted)
   stops_there old held given same here = at_params STOPS_BY_VEHICLE_AND_DAY.now old.now (map stop_row wanted) given (number_value m ∷ number_value n ∷ []) same (stops_answer old.now (held.stands here))
 
-  told_by : (o : Option Plan) → found ≡ o → plan_at (stops_found m n o) ≡ o
+  told_by : (o : Option Plan) → found ≡ o → plan_by_stops (stops_found m n o) ≡ o
   told_by None is = refl
   told_by (Some plan) is =
       let parts = found_parts plan is in
       shape m n plan plan.stops refl (Each-found HasStops plan_key (pair_key m n) plan content.planned readable.stops is) parts.0 parts.1
 
   -- stops with the rows that are wanted tell the plan
-  pub plan_told : (stops : List StopAt) → map stop_row stops ≡ map stop_row wanted → plan_at stops ≡ found
-  plan_told stops same = ap plan_at (same_stops stops wanted same) ∙ told_by found refl
+  pub plan_told : (stops : List StopAt) → map stop_row stops ≡ map stop_row wanted → plan_by_stops stops ≡ found
+  plan_told stops same = ap plan_by_stops (same_stops stops wanted same) ∙ told_by found refl
 
   fit_by : Each HasFewStops content.planned → (o : Option Plan) → found ≡ o → Each FitsStopAt (stops_found m n o)
   fit_by few None is = tt

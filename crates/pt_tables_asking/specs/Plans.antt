@@ -6,9 +6,9 @@ use Rattle.pt_scheduling.specs.Plan.{Plan}
 use Rattle.pt_tables_reading.specs.declared.stops.StopAt.{StopAt}
 
 -- the plan of these stops, if there are any, by the vehicle and the day of the first
-abbrev pub plan_at : List StopAt → Option Plan
-plan_at [] = None
-plan_at (first ∷ later) =
+abbrev pub plan_by_stops : List StopAt → Option Plan
+plan_by_stops [] = None
+plan_by_stops (first ∷ later) =
     Some (record { vehicle = first.vehicle; day = first.day; stops = map (λ at. at.stop) (first ∷ later) })
 
 -- the place of each of its stops is a number of 32 bits

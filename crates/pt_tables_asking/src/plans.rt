@@ -1,17 +1,16 @@
 //! The routes that are planned, read from their stops.
 
 ghost use Rattle.std.specs.Option.{option_to_list};
-ghost use Rattle.std.specs.Prelude.{◌≡◌, ◌≢◌, ◌<◌, ◌++◌, Err, IfOk, OnOk, false};
+ghost use Rattle.std.specs.Prelude.{◌≡◌, ◌≢◌, ◌++◌, Err, IfOk, OnOk, false};
 ghost use Rattle.sqlite.specs.Held.{state};
 ghost use Rattle.sqlite.specs.State.{HasCleanDisk};
 ghost use Rattle.pt_desk_rules.specs.Planned.{planned_on};
 ghost use Rattle.pt_desk_rules.specs.State.{State};
-ghost use Rattle.pt_records.specs.Keys.{pair_key};
 ghost use Rattle.pt_records.specs.Records.{Each, record_at};
 ghost use Rattle.pt_scheduling.specs.Plan.{plan_key};
 ghost use Rattle.pt_tables_asking.specs.Asking.{Rests, ShowsCommit};
 ghost use Rattle.pt_tables_asking.specs.Content.{Tells};
-ghost use Rattle.pt_tables_asking.specs.Plans.{HasFewStops, HasVersionAmong, plan_at, vehicle_ids};
+ghost use Rattle.pt_tables_asking.specs.Plans.{HasFewStops, HasVersionAmong, plan_by_stops, vehicle_ids};
 ghost use Rattle.pt_tables_asking.specs.declared.asking.Unread.TheVariants.{Row as BadRow};
 ghost use Rattle.pt_tables_rows.specs.Tables.{IsKept};
 ghost use Rattle.pt_tables_rows.specs.WellFormed.{IsWellFormed};
@@ -25,17 +24,9 @@ use pt_tables_reading::{StopAt, Stops};
 use sqlite::{Alter, Connection, params};
 use std::alloc::{AllocError, Global};
 
-/// The numbers of a key.
-fn parts(key: &Key) -> (u32, u32)
-    ensures value { pair_key result.0 result.1 ≡ key.now }
-    ensures low { result.1 < 4_294_967_296 }
-{
-    key.numbers()
-}
-
 /// The route of these stops; none where there is no stop.
 fn route_of(alloc: Global, stops: &[StopAt]) -> Result<Option<PlannedRoute>, AllocError>
-    ensures value { IfOk result (λ route. route ≡ plan_at stops.now) }
+    ensures value { IfOk result (λ route. route ≡ plan_by_stops stops.now) }
 {
     let Some(first) = stops.first() else {
         return Ok(None);
@@ -64,7 +55,7 @@ pub fn plan_by_key<S: Alter>(
         → Each HasFewStops content.planned → IsKept content (state S.Store conn.old) → result ≢ Err BadRow }
     ensures rests { Rests (state S.Store conn.old) (state S.Store conn.new) }
 {
-    let (vehicle, day) = parts(key);
+    let (vehicle, day) = key.numbers();
     let stops = asked::<S, Stops>(alloc, conn, STOPS_BY_VEHICLE_AND_DAY, params![vehicle, day])?;
     Ok(route_of(alloc, &stops)?)
 }

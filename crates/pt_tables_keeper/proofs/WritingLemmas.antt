@@ -41,12 +41,12 @@ pub agrees_over : (change : Change) (known content : State) (plans : List Plan) 
     → plans ≡ plans_at content.planned (keys_of change.planned) [] → AgreesWith change known plans content
 agrees_over change known content plans well one agrees is = (agrees, knows_edited change.planned content.planned plans well.planned one is)
 
-module _ (old mid new : Connected) (rests : Rests old mid) (lasts : Survives mid new (λ _. Unit {0})) where
+module _ (old mid new : Connected) (rests : Rests old mid) (always : Survives mid new (λ _. Unit {0})) where
   pub clean_mid : HasCleanDisk new → HasCleanDisk mid
-  clean_mid clean = omega (arith, clean, lasts.clean)
+  clean_mid clean = omega (arith, clean, always.clean)
 
   pub clean_old : HasCleanDisk new → HasCleanDisk old
-  clean_old clean = omega (arith, clean, lasts.clean, rests.survives.clean)
+  clean_old clean = omega (arith, clean, always.clean, rests.survives.clean)
 
   pub undone_then : HasCleanDisk new → IsUndone mid new → IsUndone old new
   undone_then clean undone =
@@ -77,7 +77,7 @@ module _ (old mid new : Connected) (rests : Rests old mid) (lasts : Survives mid
 
     pub survives_over : (HasCleanDisk mid → Survives mid new (LeadsTo before after mid)) → Survives old new (LeadsTo before after old)
     survives_over given =
-        let whole = survives_then old mid new (λ _. ⊥) (λ _. Unit {0}) (λ _. Unit {0}) (λ _ db none. tt) (λ _ db any. any) rests.survives lasts in
+        let whole = survives_then old mid new (λ _. ⊥) (λ _. Unit {0}) (λ _. Unit {0}) (λ _ db none. tt) (λ _ db any. any) rests.survives always in
         record {
           clean = whole.clean;
           shield = whole.shield;

@@ -52,7 +52,7 @@ module _ {S : Type 0} (g : Ghosts S) (old begun last : Held S) (before after : S
       record { was_open = was_open before_it; rows = λ stands. subst (HasRows after) (sym same) (stand before_it stands).rows })
       from ends
 
--- whatever is committed, there is no less doubt than before
+-- whatever was written, there is no less doubt than before
 pub lasts : {S : Type 0} (g : Ghosts S) (old begun last : Held S) (end : Connected) (P : Trees → Type 0) → begun ≡ record old { in_transaction = true }
     → Survives (state g begun) (state g last) (λ _. ⊥) → Survives (state g last) end P → Survives (state g old) end (λ _. Unit {0})
 lasts g old begun last end P is survives ends =

@@ -231,7 +231,7 @@ pub fn write_change<S: Alter>(
         → AgreesWith change.now known.now.content plans.now.items content
         → Survives (state S.Store conn.old) (state S.Store conn.new)
         (LeadsTo content (applied change.now content) (state S.Store conn.old)) }
-    ensures lasts { Survives (state S.Store conn.old) (state S.Store conn.new) (λ _. Unit {0}) }
+    ensures always { Survives (state S.Store conn.old) (state S.Store conn.new) (λ _. Unit {0}) }
 {
     let mut tx = conn.transaction();
     write_tables(&mut tx, change, known, plans)?;

@@ -1,32 +1,32 @@
-use Rattle.std.proofs.Common.{ap, ◌∙◌, rules}
+use Rattle.std.proofs.Common.{◌<◌, ap, ◌∙◌, rules}
 use Rattle.sqlite.specs.Held.{state}
 use Rattle.pt_records.specs.Records.{record_at}
 use Rattle.pt_scheduling.specs.Plan.{plan_key}
-use Rattle.pt_tables_asking.specs.Plans.{plan_at}
+use Rattle.pt_tables_asking.specs.Plans.{plan_by_stops}
 use Rattle.pt_tables_asking.proofs.StopLemmas.{plan_told, stops_there, wanted, wanted_fit}
 use Rattle.pt_tables_asking.proofs.TextLemmas.{stops_text}
 use Rattle.pt_tables_asking.proofs.plans.plan_by_key.Goals as goal
 
 pub asked-requires-clause-plain : goal.asked-requires-clause-plain
-asked-requires-clause-plain g c = (stops_text c.parts-vehicle.result.0 c.parts-vehicle.result.1).plain
+asked-requires-clause-plain g c = (stops_text c.numbers-vehicle.result.0 c.numbers-vehicle.result.1).plain
 
 pub asked-requires-clause-unlisted : goal.asked-requires-clause-unlisted
-asked-requires-clause-unlisted g c = (stops_text c.parts-vehicle.result.0 c.parts-vehicle.result.1).unlisted
+asked-requires-clause-unlisted g c = (stops_text c.numbers-vehicle.result.0 c.numbers-vehicle.result.1).unlisted
 
 pub returns-in_err-stops-clause-readable : goal.returns-in_err-stops-clause-readable
 returns-in_err-stops-clause-readable g c clean content readable few held =
-    let m = c.parts-vehicle.result.0 in
-    let n = c.parts-vehicle.result.1 in
-    let low = c.parts-vehicle.ensures.low in
+    let m = c.numbers-vehicle.result.0 in
+    let n = c.numbers-vehicle.result.1 in
+    let low : n < 4_294_967_296 = search rules in
     let never = c.in_err-stops.ensures.readable clean (wanted content readable m n low) (wanted_fit content readable m n low few)
     (stops_there content readable m n low (state g.S.Store c.args.conn.now) held _ (search rules)) in
     search rules
 
 pub returns-clause-told : goal.returns-clause-told
 returns-clause-told g c clean content readable held =
-    let m = c.parts-vehicle.result.0 in
-    let n = c.parts-vehicle.result.1 in
-    let low = c.parts-vehicle.ensures.low in
+    let m = c.numbers-vehicle.result.0 in
+    let n = c.numbers-vehicle.result.1 in
+    let low : n < 4_294_967_296 = search rules in
     let rows = c.in_ok-stops.ensures.told clean (wanted content readable m n low) (stops_there content readable m n low (state g.S.Store c.args.conn.now) held _ (search rules)) in
-    c.in_ok-route_of.ensures.value ∙ ap plan_at c.deref.ensures.value ∙ plan_told content readable m n low c.in_ok-stops.stops.items rows.0
-    ∙ ap (λ k. record_at plan_key k content.planned) c.parts-vehicle.ensures.value
+    c.in_ok-route_of.ensures.value ∙ ap plan_by_stops c.deref.ensures.value ∙ plan_told content readable m n low c.in_ok-stops.stops.items rows.0
+    ∙ ap (λ k. record_at plan_key k content.planned) c.numbers-vehicle.ensures.value

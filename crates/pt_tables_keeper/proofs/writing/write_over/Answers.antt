@@ -12,9 +12,9 @@ returns-in-Ok-clause-made g c content well agrees held clean =
     let new = state g.S.Store c.write_change.new.conn in
     let change = c.args.change.now in
     let rests = c.in_ok-plans.ensures.rests in
-    let lasts = c.write_change.ensures.lasts in
-    let plans = c.in_ok-plans.ensures.told (clean_mid old mid new rests lasts clean) content well (held (clean_old old mid new rests lasts clean)) in
-    made_then old mid new rests lasts content (applied change content) c.requires.committed clean
+    let always = c.write_change.ensures.always in
+    let plans = c.in_ok-plans.ensures.told (clean_mid old mid new rests always clean) content well (held (clean_old old mid new rests always clean)) in
+    made_then old mid new rests always content (applied change content) c.requires.committed clean
     (c.in-Ok.ensures.made content well (agrees_over change c.args.known.now.content content c.in_ok-plans.plans.items well c.requires.plans agrees plans) clean)
 
 pub returns-in-Ok-clause-survives : goal.returns-in-Ok-clause-survives
@@ -24,7 +24,7 @@ returns-in-Ok-clause-survives g c content well agrees held =
     let new = state g.S.Store c.write_change.new.conn in
     let change = c.args.change.now in
     let rests = c.in_ok-plans.ensures.rests in
-    survives_over old mid new rests c.write_change.ensures.lasts content (applied change content) c.requires.committed
+    survives_over old mid new rests c.write_change.ensures.always content (applied change content) c.requires.committed
     (λ early.
     let was : HasCleanDisk old = omega (arith, early, rests.survives.clean) in
     c.write_change.ensures.survives content well
@@ -37,7 +37,7 @@ returns-clause-survives g c content well agrees held =
     let new = state g.S.Store c.write_change.new.conn in
     let change = c.args.change.now in
     let rests = c.in_ok-plans.ensures.rests in
-    survives_over old mid new rests c.write_change.ensures.lasts content (applied change content) c.requires.committed
+    survives_over old mid new rests c.write_change.ensures.always content (applied change content) c.requires.committed
     (λ early.
     let was : HasCleanDisk old = omega (arith, early, rests.survives.clean) in
     c.write_change.ensures.survives content well

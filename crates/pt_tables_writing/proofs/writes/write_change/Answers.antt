@@ -31,8 +31,8 @@ returns-clause-made g c before told agrees clean_end =
     c.in_ok-write_tables.ensures.open (state g.S.Store c.commit.new.self.0) (omega (arith, c.commit.ensures.survives.clean)) all.1)
     (c.commit.ensures.ok clean)) clean_end
 
-pub returns-clause-lasts : goal.returns-clause-lasts
-returns-clause-lasts g c =
+pub returns-clause-always : goal.returns-clause-always
+returns-clause-always g c =
     let last = state g.S.Store c.write_tables.new.tx.conn.now in
     let whole = lasts g.S.Store c.args.conn.now c.transaction-tx.result.conn.now c.write_tables.new.tx.conn.now (state g.S.Store c.commit.new.self.0) (λ db. db ≡ last.now.trees)
     c.transaction-tx.ensures.begun c.in_ok-write_tables.ensures.survives c.commit.ensures.survives in
