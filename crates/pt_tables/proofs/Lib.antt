@@ -1,5 +1,4 @@
 pub mod AdoptLemmas
-pub mod CarriedLemmas
 pub mod LeastLemmas
 pub mod MigrationLemmas
 pub mod NewLemmas

@@ -1,7 +1,9 @@
+pub mod CarriedLemmas
 pub mod CommitLemmas
 pub mod PlanLemmas
 pub mod ReadLemmas
 pub mod RiderLemmas
+pub mod RuleLemmas
 pub mod StepLemmas
 pub mod Walks
 pub mod WritingLemmas
