@@ -15,13 +15,12 @@ use Rattle.pt_records.proofs.OrderLemmas.{compared, record_at-past, record_at-he
 use Rattle.pt_records.proofs.RecordLemmas.{put_past, put_over, put_before}
 use Rattle.pt_records.proofs.TableLemmas.{Each-filter}
 use Rattle.pt_tables_writing.specs.Grouped.{Adds}
-use Rattle.pt_tables_rows.specs.Schema.{tables}
-use Rattle.pt_tables_rows.specs.Tables.{Others}
 use Rattle.pt_tables_writing.specs.Writes.{Holds, Rewrites, Puts, Takes}
 use Rattle.pt_tables_writing.proofs.DeleteLemmas.{Removes}
 use Rattle.pt_tables_writing.proofs.TreeLemmas.{turned}
+use Rattle.pt_tables_writing.proofs.TurnLemmas.{rewrites_then}
 
--- ---- rewriting in turn
+-- ---- rewriting
 
 pub holds-permuted : (table : Table) (shown others : List Row) (trees : Trees) → IsPermutation shown others → Holds table shown trees → Holds table others trees
 holds-permuted table shown others trees same holds = record {
@@ -42,22 +41,6 @@ rewrites-from table others before shown old new same it = record {
   schema = it.schema;
   rows = λ holds. it.rows (holds-permuted table others before old.trees same holds);
   others = it.others;
-}
-
-others_then : (table : Table) (a b c : Trees) → Others table a b → Others table b c → Others table a c
-others_then table a b c = go tables
-  where
-    go : (ts : List Table) → AllByRecursion (λ t. t.tree ≢ table.tree → b t.tree ≡ a t.tree) ts
-        → AllByRecursion (λ t. t.tree ≢ table.tree → c t.tree ≡ b t.tree) ts
-        → AllByRecursion (λ t. t.tree ≢ table.tree → c t.tree ≡ a t.tree) ts
-    go [] p q = tt
-    go (t ∷ ts) p q = ((λ apart. q.0 apart ∙ p.0 apart), go ts p.1 q.1)
-
-pub rewrites-then : (table : Table) (first second third : List Row) (old mid new : Database) → Rewrites table first second old mid → Rewrites table second third mid new → Rewrites table first third old new
-rewrites-then table first second third old mid new p q = record {
-  schema = q.schema;
-  rows = λ holds. q.rows (p.rows holds);
-  others = others_then table old.trees mid.trees new.trees p.others q.others;
 }
 
 -- ---- records
@@ -149,7 +132,7 @@ module _ {A : Type 0} (key : A → ℕ) where
     pub puts-after : (table : Table) (Fits : A → Type 0) (new : A) (a b c : Database) → Takes table key Fits rows new a b → Adds table (rows new) b c → Puts table key Fits rows new a c
     puts-after table Fits new a b c taken added xs order fits =
         rewrites-permuted table _ _ _ a c (rows-put new xs order)
-        (rewrites-then table (flat_map rows xs) (flat_map rows (without (key new) xs)) _ a b c (taken xs order fits) (added (flat_map rows (without (key new) xs))))
+        (rewrites_then table (flat_map rows xs) (flat_map rows (without (key new) xs)) _ a b c (taken xs order fits) (added (flat_map rows (without (key new) xs))))
 
     -- a record comes in place of one, whose first rows stay
     pub replaces : (table : Table) (Fits : A → Type 0) (before new : A) (front tail : List Row) (a b c : Database) → rows new ≡ front ++ tail
@@ -162,7 +145,7 @@ module _ {A : Type 0} (key : A → ℕ) where
         let old : IsPermutation (rows before ++ rest) (flat_map rows xs) =
         subst₂ (λ k l. IsPermutation (rows before ++ flat_map rows (without k xs)) (flat_map rows l)) same (put_there (key new) before xs order same there) (rows-put before xs order) in
         let first = left others (others_apart (key new) xs) (Each-filter Fits (λ x. not (key x == key new)) xs fits) in
-        let both = rewrites-then table (rows before ++ rest) (front ++ rest) (tail ++ (front ++ rest)) a b c first (added (front ++ rest)) in
+        let both = rewrites_then table (rows before ++ rest) (front ++ rest) (tail ++ (front ++ rest)) a b c first (added (front ++ rest)) in
         let alike : IsPermutation (tail ++ (front ++ rest)) (rows new ++ rest) = subst (λ l. IsPermutation (tail ++ (front ++ rest)) (l ++ rest)) (sym is) (turned front tail rest) in
         rewrites-from table (flat_map rows xs) (rows before ++ rest) (flat_map rows (put key new xs)) a c (IsPermutation-sym _ _ old)
         (rewrites-permuted table _ (rows new ++ rest) (flat_map rows (put key new xs)) a c (rows-put new xs order) (rewrites-permuted table _ _ (rows new ++ rest) a c alike both))
@@ -171,4 +154,4 @@ module _ {A : Type 0} (key : A → ℕ) where
 pub adds-then : (table : Table) (first second : List Row) (a b c : Database) → Adds table first a b → Adds table second b c → Adds table (first ++ second) a c
 adds-then table first second a b c one other before =
     rewrites-permuted table before (second ++ (first ++ before)) ((first ++ second) ++ before) a c (turned first second before)
-    (rewrites-then table before (first ++ before) (second ++ (first ++ before)) a b c (one before) (other (first ++ before)))
+    (rewrites_then table before (first ++ before) (second ++ (first ++ before)) a b c (one before) (other (first ++ before)))

@@ -3,16 +3,17 @@
 ghost use Rattle.std.specs.Prelude.{◌≡◌, ◌==◌, not, IsTrue};
 ghost use Rattle.sqlite.specs.Held.{state};
 ghost use Rattle.sqlite.specs.State.{Survives};
-ghost use Rattle.pt_desk_rules.specs.State.{rider_key, trip_key, vehicle_key};
+ghost use Rattle.pt_desk_rules.specs.State.{rider_key, trip_key};
 ghost use Rattle.pt_tables_rows.specs.Rows.{rider_chair_rows, trip_chair_rows, vehicle_chair_rows};
 ghost use Rattle.pt_tables_rows.specs.Schema.{rider_chairs_table, trip_chairs_table, vehicle_chairs_table};
 ghost use Rattle.pt_tables_rows.specs.Tables.{Makes};
-ghost use Rattle.pt_spelling.specs.Ranges.{IsVehicle};
 ghost use Rattle.pt_tables_writing.specs.Grouped.{Adds};
-ghost use Rattle.pt_tables_writing.specs.Writes.{Puts, Takes};
+ghost use Rattle.pt_tables_writing.specs.Writes.{Puts};
 ghost use Rattle.pt_desk_rules.specs.Ranges.{FitsRider, FitsTrip};
 
+use crate::stored::Stored;
 use pt_base::{Rider, Trip, Vehicle};
+use pt_tables_rows::{RiderChairs, TripChairs, VehicleChairs};
 use sqlite::{Alter, Error, Transaction, params};
 
 const PUT_RIDER_CHAIR: &str = "INSERT INTO rider_chairs (rider) VALUES (?1) \
@@ -30,20 +31,19 @@ const INSERT_VEHICLE_CHAIRS: &str = "INSERT INTO vehicle_chairs (id, from_day, c
 
 const DELETE_VEHICLE_CHAIRS: &str = "DELETE FROM vehicle_chairs WHERE id = ?1 AND from_day = ?2";
 
-/// Puts the row of a rider in a wheelchair; of another it takes the row away.
-pub(crate) fn put_rider_chair<S: Alter>(
-    tx: &mut Transaction<'_, S>,
-    rider: &Rider,
-) -> Result<(), Error>
-    ensures same_reference { tx.new.conn.ghost_name ≡ tx.old.conn.ghost_name }
-    ensures written { Makes (state S.Store tx.old.conn.now) (state S.Store tx.new.conn.now)
-        (Puts rider_chairs_table rider_key FitsRider rider_chair_rows rider.now) result }
-    ensures survives { Survives (state S.Store tx.old.conn.now) (state S.Store tx.new.conn.now) (λ _. ⊥) }
-{
-    if !rider.wheelchair {
-        return take_rider_chair(tx, rider);
+impl Stored for RiderChairs {
+    /// Puts the row of a rider in a wheelchair; of another it takes the row away.
+    fn put<S: Alter>(tx: &mut Transaction<'_, S>, rider: &Rider) -> Result<(), Error> {
+        if !rider.wheelchair {
+            return Self::take(tx, rider);
+        }
+        add_rider_chair(tx, rider)
     }
-    add_rider_chair(tx, rider)
+
+    fn take<S: Alter>(tx: &mut Transaction<'_, S>, rider: &Rider) -> Result<(), Error> {
+        tx.execute(TAKE_RIDER_CHAIR, params![rider.id.number()])?;
+        Ok(())
+    }
 }
 
 /// Puts the row of a rider in a wheelchair.
@@ -58,34 +58,19 @@ fn add_rider_chair<S: Alter>(tx: &mut Transaction<'_, S>, rider: &Rider) -> Resu
     Ok(())
 }
 
-/// Takes away the row of the rider with the number of this one.
-pub(crate) fn take_rider_chair<S: Alter>(
-    tx: &mut Transaction<'_, S>,
-    rider: &Rider,
-) -> Result<(), Error>
-    ensures same_reference { tx.new.conn.ghost_name ≡ tx.old.conn.ghost_name }
-    ensures written { Makes (state S.Store tx.old.conn.now) (state S.Store tx.new.conn.now)
-        (Takes rider_chairs_table rider_key FitsRider rider_chair_rows rider.now) result }
-    ensures survives { Survives (state S.Store tx.old.conn.now) (state S.Store tx.new.conn.now) (λ _. ⊥) }
-{
-    tx.execute(TAKE_RIDER_CHAIR, params![rider.id.number()])?;
-    Ok(())
-}
-
-/// Puts the row of the trip of a rider in a wheelchair; of another it takes the row away.
-pub(crate) fn put_trip_chair<S: Alter>(
-    tx: &mut Transaction<'_, S>,
-    trip: &Trip,
-) -> Result<(), Error>
-    ensures same_reference { tx.new.conn.ghost_name ≡ tx.old.conn.ghost_name }
-    ensures written { Makes (state S.Store tx.old.conn.now) (state S.Store tx.new.conn.now)
-        (Puts trip_chairs_table trip_key FitsTrip trip_chair_rows trip.now) result }
-    ensures survives { Survives (state S.Store tx.old.conn.now) (state S.Store tx.new.conn.now) (λ _. ⊥) }
-{
-    if !trip.wheelchair {
-        return take_trip_chair(tx, trip);
+impl Stored for TripChairs {
+    /// Puts the row of the trip of a rider in a wheelchair; of another it takes the row away.
+    fn put<S: Alter>(tx: &mut Transaction<'_, S>, trip: &Trip) -> Result<(), Error> {
+        if !trip.wheelchair {
+            return Self::take(tx, trip);
+        }
+        add_trip_chair(tx, trip)
     }
-    add_trip_chair(tx, trip)
+
+    fn take<S: Alter>(tx: &mut Transaction<'_, S>, trip: &Trip) -> Result<(), Error> {
+        tx.execute(TAKE_TRIP_CHAIR, params![trip.id.number()])?;
+        Ok(())
+    }
 }
 
 /// Puts the row of the trip of a rider in a wheelchair.
@@ -100,49 +85,19 @@ fn add_trip_chair<S: Alter>(tx: &mut Transaction<'_, S>, trip: &Trip) -> Result<
     Ok(())
 }
 
-/// Takes away the row of the trip with the number of this one.
-pub(crate) fn take_trip_chair<S: Alter>(
-    tx: &mut Transaction<'_, S>,
-    trip: &Trip,
-) -> Result<(), Error>
-    ensures same_reference { tx.new.conn.ghost_name ≡ tx.old.conn.ghost_name }
-    ensures written { Makes (state S.Store tx.old.conn.now) (state S.Store tx.new.conn.now)
-        (Takes trip_chairs_table trip_key FitsTrip trip_chair_rows trip.now) result }
-    ensures survives { Survives (state S.Store tx.old.conn.now) (state S.Store tx.new.conn.now) (λ _. ⊥) }
-{
-    tx.execute(TAKE_TRIP_CHAIR, params![trip.id.number()])?;
-    Ok(())
-}
+impl Stored for VehicleChairs {
+    fn put<S: Alter>(tx: &mut Transaction<'_, S>, version: &Vehicle) -> Result<(), Error> {
+        Self::take(tx, version)?;
+        insert_vehicle_chairs(tx, version)
+    }
 
-/// Puts the wheelchair places of a vehicle as it is from its day on, in place of what they were from that day on.
-pub(crate) fn put_vehicle_chairs<S: Alter>(
-    tx: &mut Transaction<'_, S>,
-    version: &Vehicle,
-) -> Result<(), Error>
-    ensures same_reference { tx.new.conn.ghost_name ≡ tx.old.conn.ghost_name }
-    ensures written { Makes (state S.Store tx.old.conn.now) (state S.Store tx.new.conn.now)
-        (Puts vehicle_chairs_table vehicle_key IsVehicle vehicle_chair_rows version.now) result }
-    ensures survives { Survives (state S.Store tx.old.conn.now) (state S.Store tx.new.conn.now) (λ _. ⊥) }
-{
-    take_vehicle_chairs(tx, version)?;
-    insert_vehicle_chairs(tx, version)
-}
-
-/// Takes away the wheelchair places of the vehicle as it is from that day on.
-pub(crate) fn take_vehicle_chairs<S: Alter>(
-    tx: &mut Transaction<'_, S>,
-    version: &Vehicle,
-) -> Result<(), Error>
-    ensures same_reference { tx.new.conn.ghost_name ≡ tx.old.conn.ghost_name }
-    ensures written { Makes (state S.Store tx.old.conn.now) (state S.Store tx.new.conn.now)
-        (Takes vehicle_chairs_table vehicle_key IsVehicle vehicle_chair_rows version.now) result }
-    ensures survives { Survives (state S.Store tx.old.conn.now) (state S.Store tx.new.conn.now) (λ _. ⊥) }
-{
-    tx.execute(
-        DELETE_VEHICLE_CHAIRS,
-        params![version.id.number(), version.from_day.number()],
-    )?;
-    Ok(())
+    fn take<S: Alter>(tx: &mut Transaction<'_, S>, version: &Vehicle) -> Result<(), Error> {
+        tx.execute(
+            DELETE_VEHICLE_CHAIRS,
+            params![version.id.number(), version.from_day.number()],
+        )?;
+        Ok(())
+    }
 }
 
 /// Adds the row of the wheelchair places of a vehicle that has some.

@@ -12,6 +12,5 @@ mod grouped;
 mod numbered;
 mod plans;
 mod stored;
-mod tables;
 mod told;
 mod writes;

@@ -1,19 +1,18 @@
 ghost use Rattle.std.specs.Prelude.{◌≡◌, ◌∷◌, []};
 ghost use Rattle.sqlite.specs.Held.{state};
 ghost use Rattle.sqlite.specs.State.{Survives};
-ghost use Rattle.pt_desk_rules.specs.State.{entry_key};
 ghost use Rattle.pt_tables_writing.specs.Grouped.{Adds};
 ghost use Rattle.pt_tables_rows.specs.Rows.{entry_row};
 ghost use Rattle.pt_tables_rows.specs.Schema.{entries_table};
 ghost use Rattle.pt_tables_rows.specs.Tables.{Makes};
-ghost use Rattle.pt_desk_rules.specs.Ranges.{FitsFiled};
-ghost use Rattle.pt_tables_writing.specs.Writes.{Puts, Takes};
 
 use crate::grouped::entry_texts::{
     AsText, Optional, entry_conditions, entry_words, first_number, second_number,
 };
+use crate::stored::Stored;
 use pt_desk_rules::FiledEntry;
 use pt_spelling::entry_number;
+use pt_tables_rows::Entries;
 use sqlite::{Alter, Error, Transaction, params};
 
 const DELETE_ENTRY: &str = "DELETE FROM entries WHERE rider = ?1 AND place = ?2";
@@ -21,32 +20,16 @@ const DELETE_ENTRY: &str = "DELETE FROM entries WHERE rider = ?1 AND place = ?2"
 const INSERT_ENTRY: &str = "INSERT INTO entries (rider, place, kind, day, author, a, b, \
     conditions, words) VALUES (?1, ?2, ?3, ?4, ?5, ?6, ?7, ?8, ?9)";
 
-/// Puts an entry of a rider's case file, in place of what stood at its position.
-pub(crate) fn put_entry<S: Alter>(
-    tx: &mut Transaction<'_, S>,
-    filed: &FiledEntry,
-) -> Result<(), Error>
-    ensures same_reference { tx.new.conn.ghost_name ≡ tx.old.conn.ghost_name }
-    ensures written { Makes (state S.Store tx.old.conn.now) (state S.Store tx.new.conn.now)
-        (Puts entries_table entry_key FitsFiled (λ e. entry_row e ∷ []) filed.now) result }
-    ensures survives { Survives (state S.Store tx.old.conn.now) (state S.Store tx.new.conn.now) (λ _. ⊥) }
-{
-    take_entry(tx, filed)?;
-    insert_entry(tx, filed)
-}
+impl Stored for Entries {
+    fn put<S: Alter>(tx: &mut Transaction<'_, S>, filed: &FiledEntry) -> Result<(), Error> {
+        Self::take(tx, filed)?;
+        insert_entry(tx, filed)
+    }
 
-/// Takes away the entry at that position of that rider's case file.
-pub(crate) fn take_entry<S: Alter>(
-    tx: &mut Transaction<'_, S>,
-    filed: &FiledEntry,
-) -> Result<(), Error>
-    ensures same_reference { tx.new.conn.ghost_name ≡ tx.old.conn.ghost_name }
-    ensures written { Makes (state S.Store tx.old.conn.now) (state S.Store tx.new.conn.now)
-        (Takes entries_table entry_key FitsFiled (λ e. entry_row e ∷ []) filed.now) result }
-    ensures survives { Survives (state S.Store tx.old.conn.now) (state S.Store tx.new.conn.now) (λ _. ⊥) }
-{
-    tx.execute(DELETE_ENTRY, params![filed.rider.number(), filed.position])?;
-    Ok(())
+    fn take<S: Alter>(tx: &mut Transaction<'_, S>, filed: &FiledEntry) -> Result<(), Error> {
+        tx.execute(DELETE_ENTRY, params![filed.rider.number(), filed.position])?;
+        Ok(())
+    }
 }
 
 /// Adds the row of an entry.

@@ -7,11 +7,13 @@ ghost use Rattle.pt_tables_rows.specs.Schema.{stops_table};
 ghost use Rattle.pt_tables_rows.specs.Tables.{Makes};
 ghost use Rattle.pt_tables_rows.specs.WellFormed.{IsStoredPlan};
 ghost use Rattle.pt_tables_writing.specs.Grouped.{Adds, KeepsStops};
-ghost use Rattle.pt_tables_writing.specs.Writes.{Puts, Replaces, Takes};
+ghost use Rattle.pt_tables_writing.specs.Writes.{Replaces};
 
+use crate::stored::Stored;
 use pt_base::{Day, VehicleId};
 use pt_feasible::StopKind;
 use pt_scheduling::{PlannedRoute, PlannedStop};
+use pt_tables_rows::Plans;
 use sqlite::{Alter, Error, Transaction, params};
 
 const DELETE_STOPS: &str = "DELETE FROM stops WHERE vehicle = ?1 AND day = ?2";
@@ -25,18 +27,19 @@ const INSERT_STOP: &str = "INSERT INTO stops (vehicle, day, place, trip, kind) \
 const INSERT_TWO_STOPS: &str = "INSERT INTO stops (vehicle, day, place, trip, kind) \
     VALUES (?1, ?2, ?3, ?4, ?5), (?1, ?2, ?6, ?7, ?8)";
 
-/// Puts the stops of a vehicle on a day, in place of those that it had on the day.
-pub(crate) fn put_plan<S: Alter>(
-    tx: &mut Transaction<'_, S>,
-    plan: &PlannedRoute,
-) -> Result<(), Error>
-    ensures same_reference { tx.new.conn.ghost_name ≡ tx.old.conn.ghost_name }
-    ensures written { Makes (state S.Store tx.old.conn.now) (state S.Store tx.new.conn.now)
-        (Puts stops_table plan_key IsStoredPlan stop_rows plan.now) result }
-    ensures survives { Survives (state S.Store tx.old.conn.now) (state S.Store tx.new.conn.now) (λ _. ⊥) }
-{
-    take_plan(tx, plan)?;
-    insert_stops(tx, plan, 0)
+impl Stored for Plans {
+    fn put<S: Alter>(tx: &mut Transaction<'_, S>, plan: &PlannedRoute) -> Result<(), Error> {
+        Self::take(tx, plan)?;
+        insert_stops(tx, plan, 0)
+    }
+
+    fn take<S: Alter>(tx: &mut Transaction<'_, S>, plan: &PlannedRoute) -> Result<(), Error> {
+        tx.execute(
+            DELETE_STOPS,
+            params![plan.vehicle.number(), plan.day.number()],
+        )?;
+        Ok(())
+    }
 }
 
 /// Puts the stops of a vehicle on a day in place of those before. The rows of the stops that both begin with stay.
@@ -67,23 +70,6 @@ fn shared_stops(one: &[PlannedStop], other: &[PlannedStop]) -> usize
         }
     }
     both
-}
-
-/// Takes away the stops of a vehicle on a day.
-pub(crate) fn take_plan<S: Alter>(
-    tx: &mut Transaction<'_, S>,
-    plan: &PlannedRoute,
-) -> Result<(), Error>
-    ensures same_reference { tx.new.conn.ghost_name ≡ tx.old.conn.ghost_name }
-    ensures written { Makes (state S.Store tx.old.conn.now) (state S.Store tx.new.conn.now)
-        (Takes stops_table plan_key IsStoredPlan stop_rows plan.now) result }
-    ensures survives { Survives (state S.Store tx.old.conn.now) (state S.Store tx.new.conn.now) (λ _. ⊥) }
-{
-    tx.execute(
-        DELETE_STOPS,
-        params![plan.vehicle.number(), plan.day.number()],
-    )?;
-    Ok(())
 }
 
 /// Takes away the stops of a vehicle on a day from this place on.

@@ -1,16 +1,15 @@
 ghost use Rattle.std.specs.Prelude.{◌≡◌, map, ◌∷◌, []};
 ghost use Rattle.sqlite.specs.Held.{state};
 ghost use Rattle.sqlite.specs.State.{Survives};
-ghost use Rattle.pt_desk_rules.specs.State.{travel_key};
 ghost use Rattle.pt_tables_rows.specs.Rows.{travel_row, travel_rows};
 ghost use Rattle.pt_tables_rows.specs.Schema.{travel_table};
 ghost use Rattle.pt_tables_rows.specs.Tables.{Makes};
 ghost use Rattle.pt_tables_writing.specs.Grouped.{Adds};
-ghost use Rattle.pt_tables_writing.specs.Writes.{Puts, Takes};
-ghost use Rattle.pt_desk_rules.specs.Ranges.{FitsTravel};
 
+use crate::stored::Stored;
 use pt_base::Day;
 use pt_desk_rules::TravelTable;
+use pt_tables_rows::TravelTables;
 use pt_travel::Row;
 use sqlite::{Alter, Error, Transaction, params};
 
@@ -18,32 +17,16 @@ const DELETE_TRAVEL: &str = "DELETE FROM travel WHERE from_day = ?1";
 
 const INSERT_TRAVEL: &str = "INSERT INTO travel (from_day, a, b, minutes) VALUES (?1, ?2, ?3, ?4)";
 
-/// Puts a travel table, in place of the one of its day.
-pub(crate) fn put_travel<S: Alter>(
-    tx: &mut Transaction<'_, S>,
-    table: &TravelTable,
-) -> Result<(), Error>
-    ensures same_reference { tx.new.conn.ghost_name ≡ tx.old.conn.ghost_name }
-    ensures written { Makes (state S.Store tx.old.conn.now) (state S.Store tx.new.conn.now)
-        (Puts travel_table travel_key FitsTravel travel_rows table.now) result }
-    ensures survives { Survives (state S.Store tx.old.conn.now) (state S.Store tx.new.conn.now) (λ _. ⊥) }
-{
-    take_travel(tx, table)?;
-    insert_travel(tx, table)
-}
+impl Stored for TravelTables {
+    fn put<S: Alter>(tx: &mut Transaction<'_, S>, table: &TravelTable) -> Result<(), Error> {
+        Self::take(tx, table)?;
+        insert_travel(tx, table)
+    }
 
-/// Takes away the travel table of that day.
-pub(crate) fn take_travel<S: Alter>(
-    tx: &mut Transaction<'_, S>,
-    table: &TravelTable,
-) -> Result<(), Error>
-    ensures same_reference { tx.new.conn.ghost_name ≡ tx.old.conn.ghost_name }
-    ensures written { Makes (state S.Store tx.old.conn.now) (state S.Store tx.new.conn.now)
-        (Takes travel_table travel_key FitsTravel travel_rows table.now) result }
-    ensures survives { Survives (state S.Store tx.old.conn.now) (state S.Store tx.new.conn.now) (λ _. ⊥) }
-{
-    tx.execute(DELETE_TRAVEL, params![table.from_day().number()])?;
-    Ok(())
+    fn take<S: Alter>(tx: &mut Transaction<'_, S>, table: &TravelTable) -> Result<(), Error> {
+        tx.execute(DELETE_TRAVEL, params![table.from_day().number()])?;
+        Ok(())
+    }
 }
 
 /// Adds the rows of a travel table, first the one of noughts, which tells of a table that has none.

@@ -1,16 +1,15 @@
 ghost use Rattle.std.specs.Prelude.{◌≡◌, [], ◌∷◌};
 ghost use Rattle.sqlite.specs.Held.{state};
 ghost use Rattle.sqlite.specs.State.{Survives};
-ghost use Rattle.pt_desk_rules.specs.State.{vehicle_key};
 ghost use Rattle.pt_tables_rows.specs.Rows.{vehicle_row};
 ghost use Rattle.pt_tables_rows.specs.Schema.{vehicles_table};
 ghost use Rattle.pt_tables_rows.specs.Tables.{Makes};
-ghost use Rattle.pt_spelling.specs.Ranges.{IsVehicle};
 ghost use Rattle.pt_tables_writing.specs.Grouped.{Adds};
-ghost use Rattle.pt_tables_writing.specs.Writes.{Puts, Takes};
 
+use crate::stored::Stored;
 use pt_base::Vehicle;
 use pt_spelling::days_byte;
+use pt_tables_rows::Vehicles;
 use sqlite::{Alter, Error, Transaction, params};
 
 const DELETE_VEHICLE: &str = "DELETE FROM vehicles WHERE id = ?1 AND from_day = ?2";
@@ -18,35 +17,19 @@ const DELETE_VEHICLE: &str = "DELETE FROM vehicles WHERE id = ?1 AND from_day = 
 const INSERT_VEHICLE: &str = "INSERT INTO vehicles (id, from_day, days, depot, capacity, opens, \
     closes, duration) VALUES (?1, ?2, ?3, ?4, ?5, ?6, ?7, ?8)";
 
-/// Puts a vehicle as it is from its day on, in place of what it was from that day on.
-pub(crate) fn put_vehicle<S: Alter>(
-    tx: &mut Transaction<'_, S>,
-    version: &Vehicle,
-) -> Result<(), Error>
-    ensures same_reference { tx.new.conn.ghost_name ≡ tx.old.conn.ghost_name }
-    ensures written { Makes (state S.Store tx.old.conn.now) (state S.Store tx.new.conn.now)
-        (Puts vehicles_table vehicle_key IsVehicle (λ v. vehicle_row v ∷ []) version.now) result }
-    ensures survives { Survives (state S.Store tx.old.conn.now) (state S.Store tx.new.conn.now) (λ _. ⊥) }
-{
-    take_vehicle(tx, version)?;
-    insert_vehicle(tx, version)
-}
+impl Stored for Vehicles {
+    fn put<S: Alter>(tx: &mut Transaction<'_, S>, version: &Vehicle) -> Result<(), Error> {
+        Self::take(tx, version)?;
+        insert_vehicle(tx, version)
+    }
 
-/// Takes away the vehicle as it is from that day on.
-pub(crate) fn take_vehicle<S: Alter>(
-    tx: &mut Transaction<'_, S>,
-    version: &Vehicle,
-) -> Result<(), Error>
-    ensures same_reference { tx.new.conn.ghost_name ≡ tx.old.conn.ghost_name }
-    ensures written { Makes (state S.Store tx.old.conn.now) (state S.Store tx.new.conn.now)
-        (Takes vehicles_table vehicle_key IsVehicle (λ v. vehicle_row v ∷ []) version.now) result }
-    ensures survives { Survives (state S.Store tx.old.conn.now) (state S.Store tx.new.conn.now) (λ _. ⊥) }
-{
-    tx.execute(
-        DELETE_VEHICLE,
-        params![version.id.number(), version.from_day.number()],
-    )?;
-    Ok(())
+    fn take<S: Alter>(tx: &mut Transaction<'_, S>, version: &Vehicle) -> Result<(), Error> {
+        tx.execute(
+            DELETE_VEHICLE,
+            params![version.id.number(), version.from_day.number()],
+        )?;
+        Ok(())
+    }
 }
 
 /// Adds the row of a vehicle as it is from its day on.

@@ -1,16 +1,11 @@
-use Rattle.std.proofs.Common.{[], ◌∷◌, Ok, rules}
+use Rattle.std.proofs.Common.{rules}
 use Rattle.sqlite.specs.Held.{state}
-use Rattle.sqlite.specs.State.{Executes}
-use Rattle.pt_tables_rows.specs.Rows.{number_value}
-use Rattle.pt_tables_writing.specs.declared.chairs.TheConstants.{PUT_RIDER_CHAIR}
-use Rattle.pt_tables_rows.proofs.StateLemmas.{keeps_shown}
+use Rattle.pt_tables_writing.proofs.ChangeLemmas.{did_run}
 use Rattle.pt_tables_writing.proofs.ChairWrites.{puts_rider_chair}
 use Rattle.pt_tables_writing.proofs.chairs.add_rider_chair.Goals as goal
 
 pub returns-clause-written : goal.returns-clause-written
-returns-clause-written g c clean inside =
+returns-clause-written g c =
     let old = state g.S.Store c.args.tx.now.conn.now in
     let new = state g.S.Store c.execute.new.self.conn.now in
-    let ran = c.in_ok-execute.ensures.runs clean inside in
-    let run : Executes PUT_RIDER_CHAIR.now (number_value c.args.rider.now.id ∷ []) old new (Ok c.in_ok-execute.field-0) = search rules in
-    (keeps_shown old new ran.1, ran.1.mode, λ has. puts_rider_chair c.args.rider.now old new c.in_ok-execute.field-0 has c.requires.marked run)
+    did_run old new c.in_ok-execute.ensures.runs (λ run has. puts_rider_chair c.args.rider.now old new c.in_ok-execute.field-0 has c.requires.marked (search rules))

@@ -1,17 +1,12 @@
-use Rattle.std.proofs.Common.{Ok, rules}
+use Rattle.std.proofs.Common.{rules}
 use Rattle.std.proofs.Math.Facts.{to_z-of_z}
 use Rattle.sqlite.specs.Held.{state}
-use Rattle.sqlite.specs.State.{Executes}
-use Rattle.pt_tables_rows.specs.Rows.{stop_row}
-use Rattle.pt_tables_writing.specs.declared.grouped.stops.TheConstants.{INSERT_STOP}
-use Rattle.pt_tables_rows.proofs.StateLemmas.{keeps_shown}
+use Rattle.pt_tables_writing.proofs.ChangeLemmas.{did_run}
 use Rattle.pt_tables_writing.proofs.StopRows.{stop-added}
 use Rattle.pt_tables_writing.proofs.grouped.stops.insert_stop.Goals as goal
 
 pub returns-clause-written : goal.returns-clause-written
-returns-clause-written g c clean inside =
+returns-clause-written g c =
     let old = state g.S.Store c.args.tx.now.conn.now in
     let new = state g.S.Store c.execute.new.self.conn.now in
-    let ran = c.in_ok-execute.ensures.runs clean inside in
-    let run : Executes INSERT_STOP.now (stop_row c.args.vehicle c.args.day c.args.place c.args.stop) old new (Ok c.in_ok-execute.field-0) = search (rules, to_z-of_z c.ranges.place) in
-    (keeps_shown old new ran.1, ran.1.mode, λ has. stop-added c.args.vehicle c.args.day c.args.place c.args.stop old new c.in_ok-execute.field-0 has run)
+    did_run old new c.in_ok-execute.ensures.runs (λ run has. stop-added c.args.vehicle c.args.day c.args.place c.args.stop old new c.in_ok-execute.field-0 has (search (rules, to_z-of_z c.ranges.place)))

@@ -1,15 +1,13 @@
 use Rattle.std.proofs.Common.{refl, ◌≡◌, ◌≤◌, ◌-◌, ◌∙◌, Ok, length, drop, take, length-drop, subst, sym, ap, arith, ◌++◌}
 use Rattle.std.proofs.lemmas.List.{take_all}
 use Rattle.sqlite.specs.Held.{state}
-use Rattle.sqlite.specs.State.{HasCleanDisk}
-use Rattle.sqlite.proofs.StateLemmas.{survives_then}
 use Rattle.pt_tables_writing.specs.Grouped.{Adds}
 use Rattle.pt_tables_rows.specs.Rows.{stop_rows_from}
 use Rattle.pt_tables_rows.specs.Schema.{stops_table}
-use Rattle.pt_tables_rows.specs.Tables.{ChangesIfOk}
-use Rattle.pt_tables_writing.proofs.ChangeLemmas.{changes-added}
+use Rattle.pt_tables_rows.specs.Tables.{Makes}
+use Rattle.pt_tables_writing.proofs.ChangeLemmas.{did_added}
 use Rattle.pt_tables_writing.proofs.StopRows.{stops-more}
-use Rattle.pt_tables_writing.proofs.TurnLemmas.{rewrites_self, survives-self}
+use Rattle.pt_tables_writing.proofs.TurnLemmas.{rewrites_self, survive_both, survives-self}
 use Rattle.pt_tables_writing.specs.Writes.{Rewrites}
 use Rattle.pt_tables_rows.proofs.StateLemmas.{keeps_self}
 use Rattle.pt_tables_writing.proofs.grouped.stops.insert_stops.Goals as goal
@@ -45,17 +43,15 @@ loop-place-preserved g c =
     record {
       from = omega (arith, low);
       same = c.in_ok-insert_stops_at.ensures.same_reference ∙ c.loop-place.invariant.same;
-      survives = survives_then old mid new (λ _. ⊥) (λ _. ⊥) (λ _. ⊥) (λ _ db no_db. no_db) (λ _ db no_db. no_db) c.loop-place.invariant.survives c.in_ok-insert_stops_at.ensures.survives;
-      written = λ clean inside.
-          let early : HasCleanDisk mid = omega (arith, c.in_ok-insert_stops_at.ensures.survives.clean) in
-          subst (λ rows. ChangesIfOk {X = Unit {0}} old new (Adds stops_table rows) (Ok tt)) (stops-more first at plan.vehicle plan.day plan.stops low)
-          (changes-added {X = Unit {0}} {Y = Unit {0}} stops_table (stop_rows_from first plan.vehicle plan.day (take (at - first) (drop first plan.stops)))
-          (stop_rows_from at plan.vehicle plan.day (take 2 (drop at plan.stops))) old mid new tt (Ok tt) (c.loop-place.invariant.written early inside)
-          (λ still. c.in_ok-insert_stops_at.ensures.written clean still));
+      survives = survive_both old mid new c.loop-place.invariant.survives c.in_ok-insert_stops_at.ensures.survives;
+      written = subst (λ rows. Makes {X = Unit {0}} old new (Adds stops_table rows) (Ok tt)) (stops-more first at plan.vehicle plan.day plan.stops low)
+          (did_added {X = Unit {0}} {Y = Unit {0}} stops_table (stop_rows_from first plan.vehicle plan.day (take (at - first) (drop first plan.stops)))
+          (stop_rows_from at plan.vehicle plan.day (take 2 (drop at plan.stops))) old mid new tt (Ok tt)
+          c.in_ok-insert_stops_at.ensures.survives c.loop-place.invariant.written c.in_ok-insert_stops_at.ensures.written);
     }
 
 pub returns-clause-written : goal.returns-clause-written
-returns-clause-written g c clean inside =
+returns-clause-written g c =
     let old = state g.S.Store c.args.tx.now.conn.now in
     let now = state g.S.Store c.loop-place.tx.conn.now in
     let first = c.args.first in
@@ -63,4 +59,4 @@ returns-clause-written g c clean inside =
     let rest = drop first plan.stops in
     let listed : c.as_slice-stops.result.now ≡ plan.stops = c.as_slice-stops.ensures.value ∙ ap (λ p. p.stops) c.plan.view_is in
     let all = take_all (c.loop-place.place - first) rest (omega (arith, length-drop first plan.stops, ap length listed, c.loop-place-test.false)) in
-    subst (λ stops. ChangesIfOk {X = Unit {0}} old now (Adds stops_table (stop_rows_from first plan.vehicle plan.day stops)) (Ok tt)) all (c.loop-place.invariant.written clean inside)
+    subst (λ stops. Makes {X = Unit {0}} old now (Adds stops_table (stop_rows_from first plan.vehicle plan.day stops)) (Ok tt)) all c.loop-place.invariant.written

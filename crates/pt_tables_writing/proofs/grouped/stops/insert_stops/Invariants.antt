@@ -1,10 +1,10 @@
-use Rattle.std.proofs.Common.{◌≡◌, ◌-◌, ◌≤◌, IsTrue, Ok, drop, length, take}
+use Rattle.std.proofs.Common.{◌≡◌, ◌-◌, ◌≤◌, Ok, drop, length, take}
 use Rattle.sqlite.specs.Held.{state}
-use Rattle.sqlite.specs.State.{HasCleanDisk, Survives}
+use Rattle.sqlite.specs.State.{Survives}
 use Rattle.pt_tables_writing.specs.Grouped.{Adds}
 use Rattle.pt_tables_rows.specs.Rows.{stop_rows_from}
 use Rattle.pt_tables_rows.specs.Schema.{stops_table}
-use Rattle.pt_tables_rows.specs.Tables.{ChangesIfOk}
+use Rattle.pt_tables_rows.specs.Tables.{Makes}
 use Rattle.pt_tables_writing.proofs.grouped.stops.insert_stops.Given as goal
 
 abbrev pub invariant-loop-place : goal.invariant-loop-place
@@ -16,8 +16,7 @@ invariant-loop-place g l =
       from : l.fn.first ≤ l.place;
       same : l.tx.conn.ghost_name ≡ l.initial.tx.conn.ghost_name;
       survives : Survives old now (λ _. ⊥);
-      written : HasCleanDisk now → IsTrue old.in_transaction
-          → ChangesIfOk {X = Unit {0}} old now (Adds stops_table (stop_rows_from l.fn.first plan.vehicle plan.day (take (l.place - l.fn.first) (drop l.fn.first plan.stops)))) (Ok tt);
+      written : Makes {X = Unit {0}} old now (Adds stops_table (stop_rows_from l.fn.first plan.vehicle plan.day (take (l.place - l.fn.first) (drop l.fn.first plan.stops)))) (Ok tt);
     }
 
 abbrev pub decreases-loop-place : goal.decreases-loop-place

@@ -1,15 +1,14 @@
-use Rattle.std.proofs.Common.{◌≡◌, ◌∙◌, Ok, map, take, subst, arith}
+use Rattle.std.proofs.Common.{◌≡◌, ◌∙◌, [], ◌∷◌, Ok, map, take, subst}
 use Rattle.std.proofs.lemmas.List.{take_all}
 use Rattle.sqlite.specs.Held.{state}
-use Rattle.sqlite.specs.State.{HasCleanDisk}
-use Rattle.sqlite.proofs.StateLemmas.{survives_then}
 use Rattle.pt_travel.specs.Chain as travel
 use Rattle.pt_tables_writing.specs.Grouped.{Adds}
 use Rattle.pt_tables_rows.specs.Rows.{travel_row}
 use Rattle.pt_tables_rows.specs.Schema.{travel_table}
-use Rattle.pt_tables_rows.specs.Tables.{ChangesIfOk}
-use Rattle.pt_tables_writing.proofs.ChangeLemmas.{changes-more}
+use Rattle.pt_tables_rows.specs.Tables.{Makes}
+use Rattle.pt_tables_writing.proofs.ChangeLemmas.{did_added}
 use Rattle.pt_tables_writing.proofs.TravelRows.{drives-more}
+use Rattle.pt_tables_writing.proofs.TurnLemmas.{survive_both}
 use Rattle.pt_tables_writing.proofs.grouped.travel.insert_drives.Goals as goal
 
 pub loop-row-preserved : goal.loop-row-preserved
@@ -24,17 +23,15 @@ loop-row-preserved g c =
     let same : drive ≡ c.row-item.result = λ i. (c.number.ensures.value i, c.number-in-loop-row.ensures.value i, c.from.ensures i) in
     record {
       same = c.in_ok-insert_drive.ensures.same_reference ∙ c.loop-row.invariant.same;
-      survives = survives_then old mid new (λ _. ⊥) (λ _. ⊥) (λ _. ⊥) (λ _ db no_db. no_db) (λ _ db no_db. no_db) c.loop-row.invariant.survives c.in_ok-insert_drive.ensures.survives;
-      written = λ clean inside.
-          let early : HasCleanDisk mid = omega (arith, c.in_ok-insert_drive.ensures.survives.clean) in
-          changes-more travel_table (map (travel_row day) (take at drives)) _ (travel_row day drive) old mid new c.in_ok-insert_drive.field-0
-          (drives-more at day drives c.row-item.result drive c.loop-row-test.true c.row-item.is same)
-          (c.loop-row.invariant.written early inside) (λ still. c.in_ok-insert_drive.ensures.written clean still);
+      survives = survive_both old mid new c.loop-row.invariant.survives c.in_ok-insert_drive.ensures.survives;
+      written = subst (λ rows. Makes {X = Unit {0}} old new (Adds travel_table rows) (Ok tt)) (drives-more at day drives c.row-item.result drive c.loop-row-test.true c.row-item.is same)
+          (did_added {X = Unit {0}} {Y = Unit {0}} travel_table (map (travel_row day) (take at drives)) (travel_row day drive ∷ []) old mid new tt (Ok tt)
+          c.in_ok-insert_drive.ensures.survives c.loop-row.invariant.written c.in_ok-insert_drive.ensures.written);
     }
 
 pub returns-clause-written : goal.returns-clause-written
-returns-clause-written g c clean inside =
+returns-clause-written g c =
     let old = state g.S.Store c.args.tx.now.conn.now in
     let now = state g.S.Store c.loop-row.tx.conn.now in
-    subst (λ drives. ChangesIfOk {X = Unit {0}} old now (Adds travel_table (map (travel_row c.args.from_day) drives)) (Ok tt))
-    (take_all c.loop-row.row-index c.args.rows.now c.loop-row-test.false) (c.loop-row.invariant.written clean inside)
+    subst (λ drives. Makes {X = Unit {0}} old now (Adds travel_table (map (travel_row c.args.from_day) drives)) (Ok tt))
+    (take_all c.loop-row.row-index c.args.rows.now c.loop-row-test.false) c.loop-row.invariant.written

@@ -1,10 +1,10 @@
-use Rattle.std.proofs.Common.{◌≡◌, IsTrue, Ok, map, take}
+use Rattle.std.proofs.Common.{◌≡◌, Ok, map, take}
 use Rattle.sqlite.specs.Held.{state}
-use Rattle.sqlite.specs.State.{HasCleanDisk, Survives}
+use Rattle.sqlite.specs.State.{Survives}
 use Rattle.pt_tables_writing.specs.Grouped.{Adds}
 use Rattle.pt_tables_rows.specs.Rows.{travel_row}
 use Rattle.pt_tables_rows.specs.Schema.{travel_table}
-use Rattle.pt_tables_rows.specs.Tables.{ChangesIfOk}
+use Rattle.pt_tables_rows.specs.Tables.{Makes}
 use Rattle.pt_tables_writing.proofs.grouped.travel.insert_drives.Given as goal
 
 abbrev pub invariant-loop-row : goal.invariant-loop-row
@@ -14,6 +14,5 @@ invariant-loop-row g l =
     record {
       same : l.tx.conn.ghost_name ≡ l.initial.tx.conn.ghost_name;
       survives : Survives old now (λ _. ⊥);
-      written : HasCleanDisk now → IsTrue old.in_transaction
-          → ChangesIfOk {X = Unit {0}} old now (Adds travel_table (map (travel_row l.fn.from_day) (take l.row-index l.fn.rows))) (Ok tt);
+      written : Makes {X = Unit {0}} old now (Adds travel_table (map (travel_row l.fn.from_day) (take l.row-index l.fn.rows))) (Ok tt);
     }

@@ -1,21 +1,18 @@
 use Rattle.sqlite.specs.Held.{state}
 use Rattle.pt_tables_writing.proofs.RaiseWrites.{raised_sound, raises, schema_stays}
-use Rattle.pt_tables_rows.proofs.StateLemmas.{keeps_shown}
+use Rattle.pt_tables_writing.proofs.ChangeLemmas.{did_run}
 use Rattle.pt_tables_writing.proofs.numbered.desk.raise_version.Goals as goal
 
 pub returns-clause-raised : goal.returns-clause-raised
-returns-clause-raised g c clean inside =
+returns-clause-raised g c =
     let old = state g.S.Store c.args.tx.now.conn.now in
     let new = state g.S.Store c.execute.new.self.conn.now in
-    let ran = c.in_ok-execute.ensures.runs clean inside in
-    let run = rw (c.params-to_sql.ensures, c.params-to_sql-2.ensures) at ran.0 in (
-      keeps_shown old new ran.1,
-      ran.1.mode,
-      λ has. record {
-        schema = schema_stays old new c.in_ok-execute.field-0 has run;
-        rows = λ p n. raises p n old new c.in_ok-execute.field-0 has run;
-      },
-    )
+    did_run old new c.in_ok-execute.ensures.runs (λ ran has.
+    let run = rw (c.params-to_sql.ensures, c.params-to_sql-2.ensures) at ran in
+    record {
+      schema = schema_stays old new c.in_ok-execute.field-0 has run;
+      rows = λ p n. raises p n old new c.in_ok-execute.field-0 has run;
+    })
 
 pub returns-clause-open : goal.returns-clause-open
 returns-clause-open g c clean inside = let ran = c.in_ok-execute.ensures.runs clean inside in ran.1.was_open
