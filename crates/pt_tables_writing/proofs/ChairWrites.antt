@@ -1,9 +1,7 @@
 -- What the statements mean that put rows beside those of records, one at most for each.
-use Rattle.std.proofs.Common.{◌≡◌, ℕ, ◌<◌, ◌^◌, ◌==◌, pos, Bool, true, false, not, cond, List, [], ◌∷◌, ◌++◌, map, filter, flat_map, IsTrue, Result, Ok, Err, refl, sym, ap, ap₂, subst, ◌∙◌}
+use Rattle.std.proofs.Common.{◌≡◌, ℕ, ◌<◌, ◌^◌, ◌==◌, pos, Bool, true, false, not, List, [], ◌∷◌, ◌++◌, flat_map, IsTrue, Result, Ok, Err, refl, sym, ap, subst}
 use Rattle.std.specs.Prelude.{IsPermutation}
 use Rattle.std.specs.List.{AllByRecursion}
-use Rattle.std.proofs.lemmas.List.Elements.{filter-append}
-use Rattle.std.proofs.lemmas.List.Sorted.{IsPermutation-sym}
 use Rattle.sqlite.specs.Cast.{cast_row}
 use Rattle.sqlite.specs.Collation.TheVariants.{Binary}
 use Rattle.sqlite.specs.Edit.{with_rowid}
@@ -15,9 +13,7 @@ use Rattle.sqlite.specs.Rowids.TheVariants.{Chosen}
 use Rattle.sqlite.specs.State.{State, Executes}
 use Rattle.sqlite.specs.Table.{Table}
 use Rattle.sqlite.specs.Term.{lit, col, op2}
-use Rattle.sqlite.specs.Tree.{rowid, has_rowid, without_rowid, IsTable}
-use Rattle.sqlite.specs.declared.types.Value.TheVariants.{Null, Int}
-use Rattle.sqlite_keyed.proofs.ListLemmas.{IsPermutation-flat_map}
+use Rattle.sqlite.specs.declared.types.Value.TheVariants.{Null}
 use Rattle.sqlite_sql.specs.declared.ops.BinaryOp.TheVariants.{Compare}
 use Rattle.sqlite_sql.specs.declared.ops.CompareOp.TheVariants.{Eq}
 use Rattle.sqlite_tied.specs.Compute.{everything}
@@ -26,10 +22,10 @@ use Rattle.pt_base.specs.declared.rider.Rider.{Rider}
 use Rattle.pt_base.specs.declared.trip.Trip.{Trip}
 use Rattle.pt_base.specs.declared.vehicle.Vehicle.{Vehicle}
 use Rattle.pt_desk_rules.specs.State.{rider_key, trip_key, vehicle_key}
-use Rattle.pt_records.specs.Records.{IsInOrder, put}
+use Rattle.pt_records.specs.Records.{put}
 use Rattle.pt_tables_rows.specs.Rows.{number_value, row_if, rider_chair_rows, trip_chair_rows, vehicle_chair_rows}
 use Rattle.pt_tables_rows.specs.Schema.{desk_schema, rider_chairs_table, trip_chairs_table, vehicle_chairs_table}
-use Rattle.pt_tables_rows.specs.Tables.{ChangesIfOk, columns_of}
+use Rattle.pt_tables_rows.specs.Tables.{ChangesIfOk}
 use Rattle.pt_spelling.specs.Ranges.{IsVehicle}
 use Rattle.pt_tables_writing.specs.Grouped.{Adds}
 use Rattle.pt_tables_writing.specs.Writes.{Puts, Takes}
@@ -39,79 +35,20 @@ use Rattle.pt_tables_writing.proofs.CastLemmas.{cast_null, cast_int}
 use Rattle.pt_tables_writing.proofs.DeleteLemmas.{IsDelete, has_columns, removes}
 use Rattle.pt_tables_writing.proofs.InsertLemmas.{IsInsert}
 use Rattle.pt_tables_writing.proofs.KeyLemmas.{pair-told}
-use Rattle.pt_tables_writing.proofs.NumberedLemmas.{others, put-permutation, row_test, without_shown}
-use Rattle.pt_tables_writing.proofs.NumberedWrites.{IsNumbered, put_rewrites, rising-without, numbers-without}
-use Rattle.pt_tables_writing.proofs.RecordRows.{rewrites-permuted, takes}
-use Rattle.pt_tables_writing.proofs.RemovalLemmas.{IsRemoval, TakesNumbered, removed}
-use Rattle.pt_tables_writing.proofs.UpsertLemmas.{HasNumbers, IsUpsert, PutsNumbered, upserted, only_first}
+use Rattle.pt_tables_writing.proofs.NumberedLemmas.{others}
+use Rattle.pt_tables_writing.proofs.NumberedWrites.{puts_so, takes_so}
+use Rattle.pt_tables_writing.proofs.RecordRows.{rewrites-permuted, rows-put, takes}
+use Rattle.pt_tables_writing.proofs.RemovalLemmas.{IsRemoval, removed}
+use Rattle.pt_tables_writing.proofs.UpsertLemmas.{IsUpsert, upserted, only_first}
 use Rattle.pt_tables_rows.proofs.WellFormedLemmas.{day-word}
 use Rattle.pt_desk_rules.specs.Ranges.{FitsRider, FitsTrip}
-
-nothing : {A : Type 0} (b : Bool) → ◌≡◌ {A = List A} (cond b [] []) []
-nothing true = refl
-nothing false = refl
-
--- ---- records whose number is the key of their row, where they have one
-
-module _ {A : Type 0} (table : Table) (numbered : IsNumbered table) (key : A → ℕ) (Fits : A → Type 0) (so : A → Bool) (row : A → Row) (keyed : (x : A) → rowid (row x) ≡ Int (pos (key x))) where
-  abbrev rows_of : A → List Row
-  rows_of x = row_if (so x) (row x)
-
-  one_without : (k : ℕ) (s : Bool) (r : Row) → without_rowid (pos k) (row_if s r) ≡ cond (not (has_rowid (pos k) r)) (row_if s r) []
-  one_without k true r = refl
-  one_without k false r = sym (nothing (not (has_rowid (pos k) r)))
-
-  kept : (x : A) (xs : List A) (b : Bool) → cond (not b) (rows_of x) [] ++ flat_map rows_of xs ≡ flat_map rows_of (cond (not b) (x ∷ xs) xs)
-  kept x xs true = refl
-  kept x xs false = refl
-
-  -- the rows without the number are those of the records without it
-  without_so : (gone : A) (xs : List A) → without_rowid (pos (key gone)) (flat_map rows_of xs) ≡ flat_map rows_of (others key gone xs)
-  without_so gone [] = refl
-  without_so gone (x ∷ xs) =
-      let k = key gone in
-      filter-append (λ r. not (has_rowid (pos k) r)) (rows_of x) (flat_map rows_of xs)
-      ∙ ap₂ ◌++◌ (one_without k (so x) (row x)) (without_so gone xs)
-      ∙ ap (λ b. cond (not b) (rows_of x) [] ++ flat_map rows_of (others key gone xs)) (row_test key row keyed k x)
-      ∙ kept x (others key gone xs) (key x == k)
-
-  all_put : (new : A) (xs : List A) → IsInOrder key xs → IsPermutation (rows_of new ++ flat_map rows_of (others key new xs)) (flat_map rows_of (put key new xs))
-  all_put new xs order = IsPermutation-sym _ _ (IsPermutation-flat_map rows_of _ _ (put-permutation key new xs order))
-
-  -- its row is put
-  puts_so : (new : A) (stored : Row) → IsTrue (so new) → columns_of table stored ≡ row new → (old_db new_db : Database) → PutsNumbered table (pos (key new)) stored old_db new_db
-      → Puts table key Fits rows_of new old_db new_db
-  puts_so new stored marked shows old_db new_db puts xs order fits =
-      let id_is : rowid stored ≡ Int (pos (key new)) = sym (numbered stored) ∙ ap rowid shows ∙ keyed new in
-      let own : rows_of new ≡ row new ∷ [] = ap (λ s. row_if s (row new)) marked in
-      put_rewrites table numbered (pos (key new)) stored (row new) (flat_map rows_of xs) (flat_map rows_of (put key new xs)) old_db new_db id_is shows
-      (subst (λ rs. IsPermutation (row new ∷ rs) (flat_map rows_of (put key new xs))) (sym (without_so new xs))
-      (subst (λ rs. IsPermutation (rs ++ flat_map rows_of (others key new xs)) (flat_map rows_of (put key new xs))) own (all_put new xs order))) puts
-
-  -- the row of a record with its key is taken away
-  takes_so : (gone : A) (old_db new_db : Database) → TakesNumbered table (pos (key gone)) old_db new_db → Takes table key Fits rows_of gone old_db new_db
-  takes_so gone old_db new_db took xs order fits = record {
-    schema = took.schema;
-    rows = λ holds.
-        let id = pos (key gone) in
-        let tree = old_db.trees table.tree in
-        let is : new_db.trees table.tree ≡ without_rowid id tree = took.rows holds.rising holds.whole in
-        let left = subst (IsPermutation (map (columns_of table) (without_rowid id tree))) (without_so gone xs) (without_shown table numbered id tree (flat_map rows_of xs) holds.rows) in
-        record {
-          rows = subst (λ rs. IsPermutation (map (columns_of table) rs) (flat_map rows_of (filter (λ x. not (key x == key gone)) xs))) (sym is) left;
-          rising = subst IsTable (sym is) (rising-without id tree holds.rising);
-          whole = subst HasNumbers (sym is) (numbers-without id tree holds.whole);
-        };
-    others = took.others;
-  }
 
 -- a record with no row is put where that of one with its key is taken away
 pub puts_none : {A : Type 0} (table : Table) (key : A → ℕ) (Fits : A → Type 0) (rows_of : A → List Row) (new : A) → rows_of new ≡ [] → (old_db new_db : Database)
     → Takes table key Fits rows_of new old_db new_db → Puts table key Fits rows_of new old_db new_db
 puts_none table key Fits rows_of new none old_db new_db took xs order fits =
-    let all : IsPermutation (rows_of new ++ flat_map rows_of (others key new xs)) (flat_map rows_of (put key new xs)) = IsPermutation-sym _ _ (IsPermutation-flat_map rows_of _ _ (put-permutation key new xs order)) in
     rewrites-permuted table (flat_map rows_of xs) (flat_map rows_of (others key new xs)) (flat_map rows_of (put key new xs)) old_db new_db
-    (subst (λ rs. IsPermutation (rs ++ flat_map rows_of (others key new xs)) (flat_map rows_of (put key new xs))) none all) (took xs order fits)
+    (subst (λ rs. IsPermutation (rs ++ flat_map rows_of (others key new xs)) (flat_map rows_of (put key new xs))) none (rows-put key rows_of new xs order)) (took xs order fits)
 
 pub changes_none : {A X : Type 0} (table : Table) (key : A → ℕ) (Fits : A → Type 0) (rows_of : A → List Row) (new : A) → rows_of new ≡ [] → (old_state new_state : State) (r : Result X Error)
     → ChangesIfOk old_state new_state (Takes table key Fits rows_of new) r → ChangesIfOk old_state new_state (Puts table key Fits rows_of new) r

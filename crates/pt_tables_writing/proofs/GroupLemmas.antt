@@ -1,25 +1,95 @@
--- What edits of some tables, one after the other, make of all.
-use Rattle.std.proofs.Common.{◌≡◌, ℕ, [], ◌∷◌}
+-- What edits of some tables, by lists that agree with what is there, make of all, one after the other.
+use Rattle.std.proofs.Common.{◌≡◌, ℕ, ◌+◌, List, [], ◌∷◌, ◌++◌, take, drop, not, true, refl}
+use Rattle.std.specs.Prelude.{◌==◌}
+use Rattle.std.specs.List.{list_all}
 use Rattle.std.specs.Option.{unwrap_or}
 use Rattle.sqlite.specs.Effect.{Database}
+use Rattle.sqlite.specs.Order.{Row}
+use Rattle.sqlite.specs.Table.{Table}
 use Rattle.pt_base.specs.declared.policy.Policy.{Policy}
 use Rattle.pt_desk_rules.specs.State.{State, caller_key, kept_key, place_key, route_key, rider_key, entry_key, vehicle_key, travel_key, trip_key}
 use Rattle.pt_desk_rules.specs.declared.change.Change.{Change}
-use Rattle.pt_records.specs.Records.{Each, IsInOrder, edited, put_all, take_all}
+use Rattle.pt_records.specs.Records.{Edit, edited, take_all}
 use Rattle.pt_records.proofs.TableLemmas.{IsInOrder-take_all}
 use Rattle.pt_tables_writing.proofs.StoredLemmas.{Each-take_all}
-use Rattle.pt_scheduling.specs.Plan.{plan_key}
+use Rattle.pt_scheduling.specs.Plan.{plan_key, Plan}
 use Rattle.pt_tables_writing.specs.Groups.{Leads, WritesFleet, WritesRiders, WritesTrips, with_people, with_area, with_trips}
-use Rattle.pt_tables_rows.specs.Rows.{desk_row, caller_row, kept_row, place_row, route_row, vehicle_row, rider_row, entry_row, trip_row, stop_rows, travel_rows, rider_chair_rows, vehicle_chair_rows, trip_chair_rows}
-use Rattle.pt_tables_rows.specs.Schema.{desk_schema, desk_table, callers_table, kept_table, places_table, fixed_table, vehicles_table, riders_table, entries_table, trips_table, stops_table, travel_table, rider_chairs_table, vehicle_chairs_table, trip_chairs_table}
+use Rattle.pt_tables_rows.specs.Rows.{desk_row, caller_row, kept_row, place_row, route_row, entry_row, stop_rows, travel_rows, vehicle_chair_rows, vehicle_row, rider_row, trip_row, rider_chair_rows, trip_chair_rows}
+use Rattle.pt_tables_rows.specs.Schema.{desk_schema, desk_table, callers_table, kept_table, places_table, fixed_table, entries_table, stops_table, travel_table, vehicle_chairs_table, vehicles_table, riders_table, trips_table, rider_chairs_table, trip_chairs_table}
 use Rattle.pt_tables_writing.specs.Stored.{EditsTable, PutsAll, TakesSpans}
 use Rattle.pt_tables_rows.specs.Tables.{Stands}
 use Rattle.pt_tables_rows.specs.WellFormed.{IsStoredPlan}
-use Rattle.pt_desk_rules.specs.Ranges.{FitsFiled, FitsKept, FitsPlace, FitsRider, FitsTravel, FitsTrip}
+use Rattle.pt_desk_rules.specs.Ranges.{FitsFiled, FitsKept, FitsPlace, FitsTravel, FitsRider, FitsTrip}
 use Rattle.pt_spelling.specs.Ranges.{IsCaller, IsRoute, IsVehicle}
 use Rattle.pt_tables_writing.specs.Writes.{Rewrites}
-use Rattle.pt_tables_writing.proofs.PartsLemmas.{HoldAll, Marks, marks_of, parts, parted, whole, rider_chairs_turned, vehicle_chairs_turned, trip_chairs_turned, desk_turned, callers_turned, kept_turned, places_turned, routes_turned, vehicles_turned, riders_turned, entries_turned, trips_turned, planned_turned, travel_turned}
+use Rattle.pt_tables_writing.proofs.PartsLemmas.{HoldAll, Marks, marks_of, parts, parted, turned_at, whole}
 use Rattle.pt_tables_rows.proofs.WellFormedLemmas.{stored-plans}
+use Rattle.pt_base.specs.declared.place.Place.{Place}
+use Rattle.pt_base.specs.declared.rider.Rider.{Rider}
+use Rattle.pt_base.specs.declared.trip.Trip.{Trip}
+use Rattle.pt_base.specs.declared.vehicle.Vehicle.{Vehicle}
+use Rattle.pt_corridor.specs.Route.{Route}
+use Rattle.pt_desk_rules.specs.Travel.{DatedTable}
+use Rattle.pt_desk_rules.specs.declared.change.FiledEntry.{FiledEntry}
+use Rattle.pt_desk_rules.specs.declared.kept.Kept.{Kept}
+use Rattle.pt_requests.specs.declared.caller.Caller.{Caller}
+use Rattle.pt_tables_writing.specs.Agreeing.{AgreesFor, AgreesWith, KnowsEdited, KnowsTaken, OfEach}
+
+-- the edit of a table, where these records of it are known
+abbrev pub Known : {A : Type 0} → Table → (A → ℕ) → (A → Type 0) → (A → List Row) → Edit A → List A → Database → Database → Type 0
+Known table key Fits rows edit known = OfEach (KnowsTaken key edit.away known) (EditsTable table key Fits rows edit)
+
+abbrev pub Known-callers : Change → List Caller → Database → Database → Type 0
+Known-callers change = Known callers_table caller_key IsCaller (λ x. caller_row x ∷ []) change.callers
+
+abbrev pub Known-kept : Change → List Kept → Database → Database → Type 0
+Known-kept change = Known kept_table kept_key FitsKept (λ x. kept_row x ∷ []) change.kept
+
+abbrev pub Known-riders : Change → List Rider → Database → Database → Type 0
+Known-riders change = Known riders_table rider_key FitsRider (λ x. rider_row x ∷ []) change.riders
+
+abbrev pub Known-entries : Change → List FiledEntry → Database → Database → Type 0
+Known-entries change = Known entries_table entry_key FitsFiled (λ x. entry_row x ∷ []) change.entries
+
+abbrev pub Known-places : Change → List Place → Database → Database → Type 0
+Known-places change = Known places_table place_key FitsPlace (λ x. place_row x ∷ []) change.places
+
+abbrev pub Known-routes : Change → List Route → Database → Database → Type 0
+Known-routes change = Known fixed_table route_key IsRoute (λ x. route_row x ∷ []) change.routes
+
+abbrev pub Known-vehicles : Change → List Vehicle → Database → Database → Type 0
+Known-vehicles change = Known vehicles_table vehicle_key IsVehicle (λ x. vehicle_row x ∷ []) change.vehicles
+
+abbrev pub Known-travel : Change → List DatedTable → Database → Database → Type 0
+Known-travel change = Known travel_table travel_key FitsTravel travel_rows change.travel
+
+abbrev pub Known-trips : Change → List Trip → Database → Database → Type 0
+Known-trips change = Known trips_table trip_key FitsTrip (λ x. trip_row x ∷ []) change.trips
+
+abbrev pub Known-planned : Change → List Plan → Database → Database → Type 0
+Known-planned change known =
+    OfEach (KnowsEdited plan_key change.planned known) (EditsTable stops_table plan_key IsStoredPlan stop_rows change.planned)
+
+-- the same of second tables
+abbrev pub Marked-riders : Change → List Rider → Database → Database → Type 0
+Marked-riders change = Known rider_chairs_table rider_key FitsRider rider_chair_rows change.riders
+
+abbrev pub Marked-trips : Change → List Trip → Database → Database → Type 0
+Marked-trips change = Known trip_chairs_table trip_key FitsTrip trip_chair_rows change.trips
+
+abbrev pub Unmarked-vehicles : Change → List Vehicle → Database → Database → Type 0
+Unmarked-vehicles change known =
+    OfEach (KnowsTaken vehicle_key change.vehicles.away known) (TakesSpans vehicle_chairs_table vehicle_key IsVehicle vehicle_chair_rows change.vehicles.away)
+
+-- the rows, in their second table, of the vehicles that are put
+abbrev pub Marks-vehicles : Change → Database → Database → Type 0
+Marks-vehicles change = PutsAll vehicle_chairs_table vehicle_key IsVehicle vehicle_chair_rows change.vehicles.puts
+
+-- the agency's row, as the change leaves it
+abbrev pub Known-settings : Change → State → Database → Database → Type 0
+Known-settings change known =
+    OfEach (AgreesFor change known) (λ content old new. (p : Policy) (n : ℕ) →
+    Rewrites desk_table (desk_row p n ∷ []) (desk_row (unwrap_or change.policy content.policy) (unwrap_or change.last_trip content.last_trip) ∷ []) old new)
 
 -- the tables are there, each with its rows
 pub record Are (s : State) (m : Marks) (db : Database) : Type 0 where
@@ -32,192 +102,82 @@ are s db stands = record { schema = stands.schema; parts = parted s db stands }
 stand : (s : State) (db : Database) → Are s (marks_of s) db → Stands s db
 stand s db all = whole s db all.schema all.parts
 
--- the edit of a table, where the records of that table are those of the content
-abbrev pub Edits-callers : Change → State → Database → Database → Type 0
-Edits-callers change s = EditsTable callers_table caller_key IsCaller (λ x. caller_row x ∷ []) change.callers s.callers
+-- one table is rewritten, and all are those of another content
+step : (place : ℕ) (new : State) (n : Marks) (a b : Database) {s : State} {m : Marks} {t : Table} {before after : List Row} → Are s m a → (a.schema ≡ desk_schema → Rewrites t before after a b)
+    → parts s m ≡ take place (parts s m) ++ record { table = t; rows = before } ∷ drop (place + 1) (parts s m)
+    → take place (parts s m) ++ record { table = t; rows = after } ∷ drop (place + 1) (parts s m) ≡ parts new n
+    → list_all (λ p. not (p.table.tree == t.tree)) (take place (parts s m)) ≡ true
+    → list_all (λ p. not (p.table.tree == t.tree)) (drop (place + 1) (parts s m)) ≡ true
+    → Are new n b
+step place new n a b {s = s} {m = m} {t = t} {before = before} {after = after} all rewrite old_parts new_parts apart apart_back =
+    let done = rewrite all.schema in
+    record { schema = done.schema; parts = turned_at place s new m n t before after a b done all.parts old_parts new_parts apart apart_back }
 
-abbrev pub Edits-kept : Change → State → Database → Database → Type 0
-Edits-kept change s = EditsTable kept_table kept_key FitsKept (λ x. kept_row x ∷ []) change.kept s.kept
-
-abbrev pub Edits-riders : Change → State → Database → Database → Type 0
-Edits-riders change s = EditsTable riders_table rider_key FitsRider (λ x. rider_row x ∷ []) change.riders s.riders
-
-abbrev pub Edits-entries : Change → State → Database → Database → Type 0
-Edits-entries change s = EditsTable entries_table entry_key FitsFiled (λ x. entry_row x ∷ []) change.entries s.entries
-
-abbrev pub Edits-places : Change → State → Database → Database → Type 0
-Edits-places change s = EditsTable places_table place_key FitsPlace (λ x. place_row x ∷ []) change.places s.places
-
-abbrev pub Edits-routes : Change → State → Database → Database → Type 0
-Edits-routes change s = EditsTable fixed_table route_key IsRoute (λ x. route_row x ∷ []) change.routes s.routes
-
-abbrev pub Edits-vehicles : Change → State → Database → Database → Type 0
-Edits-vehicles change s = EditsTable vehicles_table vehicle_key IsVehicle (λ x. vehicle_row x ∷ []) change.vehicles s.vehicles
-
-abbrev pub Edits-travel : Change → State → Database → Database → Type 0
-Edits-travel change s = EditsTable travel_table travel_key FitsTravel travel_rows change.travel s.travel
-
-abbrev pub Edits-trips : Change → State → Database → Database → Type 0
-Edits-trips change s = EditsTable trips_table trip_key FitsTrip (λ x. trip_row x ∷ []) change.trips s.trips
-
-abbrev pub Edits-planned : Change → State → Database → Database → Type 0
-Edits-planned change s = EditsTable stops_table plan_key IsStoredPlan stop_rows change.planned s.planned
-
-callers_step : (change : Change) (s : State) (m : Marks) (a b : Database) → IsInOrder caller_key s.callers → Each IsCaller s.callers → Each IsCaller change.callers.puts
-    → (a.schema ≡ desk_schema → Edits-callers change s a b) → Are s m a → Are (record s { callers = edited caller_key change.callers s.callers }) m b
-callers_step change s m a b order told puts edit all =
-    let done = edit all.schema puts order told in
-    record { schema = done.schema; parts = callers_turned s m (edited caller_key change.callers s.callers) a b done all.parts }
-
-kept_step : (change : Change) (s : State) (m : Marks) (a b : Database) → IsInOrder kept_key s.kept → Each FitsKept s.kept → Each FitsKept change.kept.puts
-    → (a.schema ≡ desk_schema → Edits-kept change s a b) → Are s m a → Are (record s { kept = edited kept_key change.kept s.kept }) m b
-kept_step change s m a b order told puts edit all =
-    let done = edit all.schema puts order told in
-    record { schema = done.schema; parts = kept_turned s m (edited kept_key change.kept s.kept) a b done all.parts }
-
-riders_step : (change : Change) (s : State) (m : Marks) (a b : Database) → IsInOrder rider_key s.riders → Each FitsRider s.riders → Each FitsRider change.riders.puts
-    → (a.schema ≡ desk_schema → Edits-riders change s a b) → Are s m a → Are (record s { riders = edited rider_key change.riders s.riders }) m b
-riders_step change s m a b order told puts edit all =
-    let done = edit all.schema puts order told in
-    record { schema = done.schema; parts = riders_turned s m (edited rider_key change.riders s.riders) a b done all.parts }
-
-entries_step : (change : Change) (s : State) (m : Marks) (a b : Database) → IsInOrder entry_key s.entries → Each FitsFiled s.entries → Each FitsFiled change.entries.puts
-    → (a.schema ≡ desk_schema → Edits-entries change s a b) → Are s m a → Are (record s { entries = edited entry_key change.entries s.entries }) m b
-entries_step change s m a b order told puts edit all =
-    let done = edit all.schema puts order told in
-    record { schema = done.schema; parts = entries_turned s m (edited entry_key change.entries s.entries) a b done all.parts }
-
-places_step : (change : Change) (s : State) (m : Marks) (a b : Database) → IsInOrder place_key s.places → Each FitsPlace s.places → Each FitsPlace change.places.puts
-    → (a.schema ≡ desk_schema → Edits-places change s a b) → Are s m a → Are (record s { places = edited place_key change.places s.places }) m b
-places_step change s m a b order told puts edit all =
-    let done = edit all.schema puts order told in
-    record { schema = done.schema; parts = places_turned s m (edited place_key change.places s.places) a b done all.parts }
-
-routes_step : (change : Change) (s : State) (m : Marks) (a b : Database) → IsInOrder route_key s.routes → Each IsRoute s.routes → Each IsRoute change.routes.puts
-    → (a.schema ≡ desk_schema → Edits-routes change s a b) → Are s m a → Are (record s { routes = edited route_key change.routes s.routes }) m b
-routes_step change s m a b order told puts edit all =
-    let done = edit all.schema puts order told in
-    record { schema = done.schema; parts = routes_turned s m (edited route_key change.routes s.routes) a b done all.parts }
-
-vehicles_step : (change : Change) (s : State) (m : Marks) (a b : Database) → IsInOrder vehicle_key s.vehicles → Each IsVehicle s.vehicles → Each IsVehicle change.vehicles.puts
-    → (a.schema ≡ desk_schema → Edits-vehicles change s a b) → Are s m a → Are (record s { vehicles = edited vehicle_key change.vehicles s.vehicles }) m b
-vehicles_step change s m a b order told puts edit all =
-    let done = edit all.schema puts order told in
-    record { schema = done.schema; parts = vehicles_turned s m (edited vehicle_key change.vehicles s.vehicles) a b done all.parts }
-
-travel_step : (change : Change) (s : State) (m : Marks) (a b : Database) → IsInOrder travel_key s.travel → Each FitsTravel s.travel → Each FitsTravel change.travel.puts
-    → (a.schema ≡ desk_schema → Edits-travel change s a b) → Are s m a → Are (record s { travel = edited travel_key change.travel s.travel }) m b
-travel_step change s m a b order told puts edit all =
-    let done = edit all.schema puts order told in
-    record { schema = done.schema; parts = travel_turned s m (edited travel_key change.travel s.travel) a b done all.parts }
-
-trips_step : (change : Change) (s : State) (m : Marks) (a b : Database) → IsInOrder trip_key s.trips → Each FitsTrip s.trips → Each FitsTrip change.trips.puts
-    → (a.schema ≡ desk_schema → Edits-trips change s a b) → Are s m a → Are (record s { trips = edited trip_key change.trips s.trips }) m b
-trips_step change s m a b order told puts edit all =
-    let done = edit all.schema puts order told in
-    record { schema = done.schema; parts = trips_turned s m (edited trip_key change.trips s.trips) a b done all.parts }
-
-planned_step : (change : Change) (s : State) (m : Marks) (a b : Database) → IsInOrder plan_key s.planned → Each IsStoredPlan s.planned → Each IsStoredPlan change.planned.puts
-    → (a.schema ≡ desk_schema → Edits-planned change s a b) → Are s m a → Are (record s { planned = edited plan_key change.planned s.planned }) m b
-planned_step change s m a b order told puts edit all =
-    let done = edit all.schema puts order told in
-    record { schema = done.schema; parts = planned_turned s m (edited plan_key change.planned s.planned) a b done all.parts }
-
--- the rows, in their second table, of the vehicles that are put
-abbrev pub Marks-vehicles : Change → Database → Database → Type 0
-Marks-vehicles change = PutsAll vehicle_chairs_table vehicle_key IsVehicle vehicle_chair_rows change.vehicles.puts
-
-rider_marks_step : (change : Change) (s : State) (m : Marks) (a b : Database) → IsInOrder rider_key m.riders → Each FitsRider m.riders → Each FitsRider change.riders.puts
-    → (a.schema ≡ desk_schema → EditsTable rider_chairs_table rider_key FitsRider rider_chair_rows change.riders m.riders a b) → Are s m a
-    → Are s (record m { riders = edited rider_key change.riders m.riders }) b
-rider_marks_step change s m a b order told puts edit all =
-    let done = edit all.schema puts order told in
-    record { schema = done.schema; parts = rider_chairs_turned s m (edited rider_key change.riders m.riders) a b done all.parts }
-
-trip_marks_step : (change : Change) (s : State) (m : Marks) (a b : Database) → IsInOrder trip_key m.trips → Each FitsTrip m.trips → Each FitsTrip change.trips.puts
-    → (a.schema ≡ desk_schema → EditsTable trip_chairs_table trip_key FitsTrip trip_chair_rows change.trips m.trips a b) → Are s m a
-    → Are s (record m { trips = edited trip_key change.trips m.trips }) b
-trip_marks_step change s m a b order told puts edit all =
-    let done = edit all.schema puts order told in
-    record { schema = done.schema; parts = trip_chairs_turned s m (edited trip_key change.trips m.trips) a b done all.parts }
-
-unmarks_step : (change : Change) (s : State) (m : Marks) (a b : Database) → IsInOrder vehicle_key m.vehicles → Each IsVehicle m.vehicles
-    → (a.schema ≡ desk_schema → TakesSpans vehicle_chairs_table vehicle_key IsVehicle vehicle_chair_rows change.vehicles.away m.vehicles a b) → Are s m a
-    → Are s (record m { vehicles = take_all vehicle_key change.vehicles.away m.vehicles }) b
-unmarks_step change s m a b order told takes all =
-    let done = takes all.schema order told in
-    record { schema = done.schema; parts = vehicle_chairs_turned s m (take_all vehicle_key change.vehicles.away m.vehicles) a b done all.parts }
-
-vehicle_marks_step : (change : Change) (s : State) (m : Marks) (a b : Database) → IsInOrder vehicle_key m.vehicles → Each IsVehicle m.vehicles → Each IsVehicle change.vehicles.puts
-    → (a.schema ≡ desk_schema → Marks-vehicles change a b) → Are s m a → Are s (record m { vehicles = put_all vehicle_key change.vehicles.puts m.vehicles }) b
-vehicle_marks_step change s m a b order told puts puts_all all =
-    let done = puts_all all.schema puts m.vehicles order told in
-    record { schema = done.schema; parts = vehicle_chairs_turned s m (put_all vehicle_key change.vehicles.puts m.vehicles) a b done all.parts }
-
-pub people_lead : (change : Change) (content : State) (a b c d e : Database)
-    → (a.schema ≡ desk_schema → Edits-callers change content a b)
-    → (b.schema ≡ desk_schema → Edits-kept change content b c)
-    → (c.schema ≡ desk_schema → WritesRiders change content c d)
-    → (d.schema ≡ desk_schema → Edits-entries change content d e)
-    → Leads change content content (with_people change content) a e
-people_lead change content a b c d e one two three four told puts stands =
-    let s = content in
+pub people_lead : (change : Change) (known : State) (a b c d e : Database)
+    → (a.schema ≡ desk_schema → Known-callers change known.callers a b)
+    → (b.schema ≡ desk_schema → Known-kept change known.kept b c)
+    → (c.schema ≡ desk_schema → OfEach (AgreesFor change known) (WritesRiders change) c d)
+    → (d.schema ≡ desk_schema → Known-entries change known.entries d e)
+    → OfEach (AgreesFor change known) (λ content. Leads change content content (with_people change content)) a e
+people_lead change known a b c d e one two three four content agrees told puts stands =
     let m = marks_of content in
-    let all_1 = callers_step change s m a b told.callers told.ranges.callers puts.ranges.callers one (are s a stands) in
-    let s1 : State = record s { callers = edited caller_key change.callers s.callers } in
-    let all_2 = kept_step change s1 m b c told.kept told.ranges.kept puts.ranges.kept two all_1 in
-    let s2 : State = record s1 { kept = edited kept_key change.kept s1.kept } in
-    let both = three all_2.schema in
-    let all_3 = riders_step change s2 m c both.0 told.riders told.ranges.riders puts.ranges.riders (λ _. both.1) all_2 in
-    let s3 : State = record s2 { riders = edited rider_key change.riders s2.riders } in
-    let all_4 = rider_marks_step change s3 m both.0 d told.riders told.ranges.riders puts.ranges.riders both.2 all_3 in
+    let s1 : State = record content { callers = edited caller_key change.callers content.callers } in
+    let all_1 = step 1 s1 m a b (are content a stands) (λ has. one has content.callers agrees.callers puts.ranges.callers told.callers told.ranges.callers) refl refl refl refl in
+    let s2 : State = record s1 { kept = edited kept_key change.kept content.kept } in
+    let all_2 = step 2 s2 m b c all_1 (λ has. two has content.kept agrees.kept puts.ranges.kept told.kept told.ranges.kept) refl refl refl refl in
+    let both = three all_2.schema content agrees in
+    let s3 : State = record s2 { riders = edited rider_key change.riders content.riders } in
+    let all_3 = step 6 s3 m c both.0 all_2 (λ _. both.1 puts.ranges.riders told.riders told.ranges.riders) refl refl refl refl in
     let n : Marks = record m { riders = edited rider_key change.riders m.riders } in
-    let all_5 = entries_step change s3 n d e told.entries told.ranges.entries puts.ranges.entries four all_4 in
-    stand (with_people change s) e all_5
+    let all_4 = step 11 s3 n both.0 d all_3 (λ has. both.2 has puts.ranges.riders told.riders told.ranges.riders) refl refl refl refl in
+    let s4 : State = record s3 { entries = edited entry_key change.entries content.entries } in
+    let all_5 = step 7 s4 n d e all_4 (λ has. four has content.entries agrees.entries puts.ranges.entries told.entries told.ranges.entries) refl refl refl refl in
+    stand (with_people change content) e all_5
 
-pub area_leads : (change : Change) (content : State) (a b c d e : Database)
-    → (a.schema ≡ desk_schema → Edits-places change content a b)
-    → (b.schema ≡ desk_schema → Edits-routes change content b c)
-    → (c.schema ≡ desk_schema → WritesFleet change content c d)
-    → (d.schema ≡ desk_schema → Edits-travel change content d e)
-    → Leads change content (with_people change content) (with_area change (with_people change content)) a e
-area_leads change content a b c d e one two three four told puts stands =
+pub area_leads : (change : Change) (known : State) (a b c d e : Database)
+    → (a.schema ≡ desk_schema → Known-places change known.places a b)
+    → (b.schema ≡ desk_schema → Known-routes change known.routes b c)
+    → (c.schema ≡ desk_schema → OfEach (AgreesFor change known) (WritesFleet change) c d)
+    → (d.schema ≡ desk_schema → Known-travel change known.travel d e)
+    → OfEach (AgreesFor change known) (λ content. Leads change content (with_people change content) (with_area change (with_people change content))) a e
+area_leads change known a b c d e one two three four content agrees told puts stands =
     let s = with_people change content in
     let m = marks_of s in
-    let all_1 = places_step change s m a b told.places told.ranges.places puts.ranges.places one (are s a stands) in
     let s1 : State = record s { places = edited place_key change.places s.places } in
-    let all_2 = routes_step change s1 m b c told.routes told.ranges.routes puts.ranges.routes two all_1 in
-    let s2 : State = record s1 { routes = edited route_key change.routes s1.routes } in
-    let first = three all_2.schema in
-    let all_3 = unmarks_step change s2 m c first.0 told.vehicles told.ranges.vehicles (λ _. first.1) all_2 in
+    let all_1 = step 3 s1 m a b (are s a stands) (λ has. one has content.places agrees.places puts.ranges.places told.places told.ranges.places) refl refl refl refl in
+    let s2 : State = record s1 { routes = edited route_key change.routes s.routes } in
+    let all_2 = step 4 s2 m b c all_1 (λ has. two has content.routes agrees.routes puts.ranges.routes told.routes told.ranges.routes) refl refl refl refl in
+    let first = three all_2.schema content agrees in
     let left : Marks = record m { vehicles = take_all vehicle_key change.vehicles.away m.vehicles } in
+    let all_3 = step 12 s2 left c first.0 all_2 (λ _. first.1 told.vehicles told.ranges.vehicles) refl refl refl refl in
     let rest = first.2 all_3.schema in
-    let all_4 = vehicles_step change s2 left first.0 rest.0 told.vehicles told.ranges.vehicles puts.ranges.vehicles (λ _. rest.1) all_3 in
-    let s3 : State = record s2 { vehicles = edited vehicle_key change.vehicles s2.vehicles } in
-    let all_5 = vehicle_marks_step change s3 left rest.0 d (IsInOrder-take_all vehicle_key change.vehicles.away m.vehicles told.vehicles)
-    (Each-take_all IsVehicle vehicle_key change.vehicles.away m.vehicles told.ranges.vehicles) puts.ranges.vehicles rest.2 all_4 in
+    let s3 : State = record s2 { vehicles = edited vehicle_key change.vehicles s.vehicles } in
+    let all_4 = step 5 s3 left first.0 rest.0 all_3 (λ _. rest.1 puts.ranges.vehicles told.vehicles told.ranges.vehicles) refl refl refl refl in
     let n : Marks = record m { vehicles = edited vehicle_key change.vehicles m.vehicles } in
-    let all_6 = travel_step change s3 n d e told.travel told.ranges.travel puts.ranges.travel four all_5 in
+    let all_5 = step 12 s3 n rest.0 d all_4
+    (λ has. rest.2 has puts.ranges.vehicles left.vehicles (IsInOrder-take_all vehicle_key change.vehicles.away m.vehicles told.vehicles)
+    (Each-take_all IsVehicle vehicle_key change.vehicles.away m.vehicles told.ranges.vehicles)) refl refl refl refl in
+    let s4 : State = record s3 { travel = edited travel_key change.travel s.travel } in
+    let all_6 = step 10 s4 n d e all_5 (λ has. four has content.travel agrees.travel puts.ranges.travel told.travel told.ranges.travel) refl refl refl refl in
     stand (with_area change s) e all_6
 
-pub trips_lead : (change : Change) (content : State) (a b c d : Database)
-    → (a.schema ≡ desk_schema → WritesTrips change content a b)
-    → (b.schema ≡ desk_schema → Edits-planned change content b c)
-    → (c.schema ≡ desk_schema → (p : Policy) (n : ℕ) → Rewrites desk_table (desk_row p n ∷ [])
-    (desk_row (unwrap_or change.policy content.policy) (unwrap_or change.last_trip content.last_trip) ∷ []) c d)
-    → Leads change content (with_area change (with_people change content)) (with_trips change (with_area change (with_people change content))) a d
-trips_lead change content a b c d one two three told puts stands =
+pub trips_lead : (change : Change) (known : State) (plans : List Plan) (a b c d : Database)
+    → (a.schema ≡ desk_schema → OfEach (AgreesFor change known) (WritesTrips change) a b)
+    → (b.schema ≡ desk_schema → Known-planned change plans b c)
+    → (c.schema ≡ desk_schema → Known-settings change known c d)
+    → OfEach (AgreesWith change known plans) (λ content. Leads change content (with_area change (with_people change content))
+    (with_trips change (with_area change (with_people change content)))) a d
+trips_lead change known plans a b c d one two three content agrees told puts stands =
     let s = with_area change (with_people change content) in
     let m = marks_of s in
-    let both = one stands.schema in
-    let all_1 = trips_step change s m a both.0 told.trips told.ranges.trips puts.ranges.trips (λ _. both.1) (are s a stands) in
+    let both = one stands.schema content agrees.0 in
     let s1 : State = record s { trips = edited trip_key change.trips s.trips } in
-    let all_2 = trip_marks_step change s1 m both.0 b told.trips told.ranges.trips puts.ranges.trips both.2 all_1 in
+    let all_1 = step 8 s1 m a both.0 (are s a stands) (λ _. both.1 puts.ranges.trips told.trips told.ranges.trips) refl refl refl refl in
     let n : Marks = record m { trips = edited trip_key change.trips m.trips } in
-    let all_3 = planned_step change s1 n b c told.planned (stored-plans s1.planned told.ranges.planned told.stops) (stored-plans change.planned.puts puts.ranges.planned puts.stops) two all_2 in
-    let s2 : State = record s1 { planned = edited plan_key change.planned s1.planned } in
-    let done = three all_3.schema content.policy content.last_trip in
-    stand (with_trips change s) d (record {
-      schema = done.schema;
-      parts = desk_turned s2 n (unwrap_or change.policy content.policy) (unwrap_or change.last_trip content.last_trip) c d done all_3.parts;
-    })
+    let all_2 = step 13 s1 n both.0 b all_1 (λ has. both.2 has puts.ranges.trips told.trips told.ranges.trips) refl refl refl refl in
+    let s2 : State = record s1 { planned = edited plan_key change.planned s.planned } in
+    let all_3 = step 9 s2 n b c all_2
+    (λ has. two has content.planned agrees.1 (stored-plans change.planned.puts puts.ranges.planned puts.stops) told.planned (stored-plans s.planned told.ranges.planned told.stops)) refl refl refl refl in
+    let s3 : State = with_trips change s in
+    let all_4 = step 0 s3 n c d all_3 (λ has. three has content agrees.0 content.policy content.last_trip) refl refl refl refl in
+    stand s3 d all_4

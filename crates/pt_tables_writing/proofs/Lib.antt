@@ -14,7 +14,6 @@ pub mod GroupLemmas
 pub mod InsertLemmas
 pub mod KeptWrites
 pub mod KeyLemmas
-pub mod KnownLemmas
 pub mod NumberedLemmas
 pub mod NumberedWrites
 pub mod PartsLemmas

@@ -1,11 +1,11 @@
 -- The rows of a table whose rowids are the numbers of its records, with one put or taken away, in any order.
-use Rattle.std.proofs.Common.{◌≡◌, ◌⊎◌, inl, inr, ℕ, ℤ, pos, ◌<◌, ◌==◌, List, [], ◌∷◌, map, filter, flat_map, not, Bool, true, false, cond, refl, sym, ap, subst, ◌∙◌, Less, Equal, Greater, int_cmp, arith, true≢false}
+use Rattle.std.proofs.Common.{◌≡◌, ◌⊎◌, inl, inr, ℕ, ℤ, pos, ◌<◌, ◌==◌, List, [], ◌∷◌, map, filter, not, Bool, true, false, cond, refl, sym, ap, subst, ◌∙◌, Less, Equal, Greater, int_cmp, arith, true≢false}
 use Rattle.std.specs.Prelude.{IsPermutation}
 use Rattle.std.specs.Ordering.{match_ordering, nat_cmp, is_eq, is_lt}
 use Rattle.std.specs.declared.cmp.Ordering.{Ordering}
 use Rattle.std.specs.List.{AllByRecursion}
 use Rattle.std.proofs.lemmas.Bool.Decides.{nat_tests}
-use Rattle.std.proofs.lemmas.List.Sorted.{IsPermutation-refl, IsPermutation-sym, IsPermutation-trans, IsPermutation-cons, IsPermutation-middle, IsPermutation-map}
+use Rattle.std.proofs.lemmas.List.Sorted.{IsPermutation-refl, IsPermutation-trans, IsPermutation-cons, IsPermutation-middle, IsPermutation-map}
 use Rattle.sqlite.specs.declared.types.Value.TheVariants.{Int}
 use Rattle.sqlite.specs.Order.{Row, value_cmp}
 use Rattle.sqlite.specs.Table.{Table}
@@ -13,7 +13,7 @@ use Rattle.sqlite.specs.Tree.{rowid, has_rowid, put_row, without_rowid, IsTable}
 use Rattle.sqlite_rules.specs.Lists.{Has}
 use Rattle.sqlite_trees.proofs.TreeLemmas.{later_rowids}
 use Rattle.sqlite_value.proofs.OrderLemmas.{value_cmp-Int}
-use Rattle.sqlite_keyed.proofs.ListLemmas.{all_weaker, filter_all, filter_none, filter-map, filter-filter, filter_same, IsPermutation-filter, IsPermutation-flat_map}
+use Rattle.sqlite_keyed.proofs.ListLemmas.{all_weaker, filter_all, filter_none, filter-map, filter-filter, filter_same, IsPermutation-filter}
 use Rattle.pt_records.specs.Records.{Each, IsInOrder, put}
 use Rattle.pt_records.proofs.OrderLemmas.{Each-weaker, compared}
 use Rattle.pt_records.proofs.RecordLemmas.{put_past, put_over, put_before}
@@ -134,22 +134,3 @@ is_eq_cmp a b = grind (arith, nat_tests)
 module _ {A : Type 0} (key : A → ℕ) (row : A → Row) (keyed : (x : A) → rowid (row x) ≡ Int (pos (key x))) where
   pub row_test : (k : ℕ) (x : A) → has_rowid (pos k) (row x) ≡ (key x == k)
   row_test k x = ap (λ v. is_eq (value_cmp v (Int (pos k)))) (keyed x) ∙ ap is_eq (value_cmp-Int (pos (key x)) (pos k) ∙ int_cmp-pos (key x) k) ∙ is_eq_cmp (key x) k
-
-  -- the rows without the number are the rows of the records without it
-  pub without_rows : (gone : A) (xs : List A) → without_rowid (pos (key gone)) (flat_map (λ x. row x ∷ []) xs) ≡ flat_map (λ x. row x ∷ []) (others key gone xs)
-  without_rows gone [] = refl
-  without_rows gone (x ∷ xs) =
-      let rest = without_rowid (pos (key gone)) (flat_map (λ y. row y ∷ []) xs) in
-      ap (λ b. cond (not b) (row x ∷ rest) rest) (row_test (key gone) x) ∙ go (key x == key gone) (without_rows gone xs)
-    where
-      go : (b : Bool) → without_rowid (pos (key gone)) (flat_map (λ y. row y ∷ []) xs) ≡ flat_map (λ y. row y ∷ []) (others key gone xs)
-          → cond (not b) (row x ∷ without_rowid (pos (key gone)) (flat_map (λ y. row y ∷ []) xs)) (without_rowid (pos (key gone)) (flat_map (λ y. row y ∷ []) xs))
-          ≡ flat_map (λ y. row y ∷ []) (cond (not b) (x ∷ others key gone xs) (others key gone xs))
-      go true more = more
-      go false more = ap (λ rs. row x ∷ rs) more
-
-  -- and with its own row first, those of the records with it put in
-  pub put_rows : (new : A) (xs : List A) → IsInOrder key xs → IsPermutation (row new ∷ without_rowid (pos (key new)) (flat_map (λ x. row x ∷ []) xs)) (flat_map (λ x. row x ∷ []) (put key new xs))
-  put_rows new xs order =
-      subst (λ rs. IsPermutation (row new ∷ rs) (flat_map (λ x. row x ∷ []) (put key new xs))) (sym (without_rows new xs))
-      (IsPermutation-sym _ _ (IsPermutation-flat_map (λ x. row x ∷ []) _ _ (put-permutation key new xs order)))

@@ -1,22 +1,23 @@
 -- From the rows of a table to the records that have them.
-use Rattle.std.proofs.Common.{◌≡◌, ◌≢◌, inl, inr, ℕ, ◌<◌, ◌≤◌, ◌==◌, List, [], ◌∷◌, ◌++◌, filter, flat_map, not, Bool, true, false, cond, Some, refl, sym, ap, ap₂, subst, subst₂, ◌∙◌, arith, append_assoc}
+use Rattle.std.proofs.Common.{◌≡◌, ◌≢◌, inl, inr, ℕ, ◌<◌, ◌≤◌, ◌==◌, List, [], ◌∷◌, ◌++◌, filter, flat_map, not, Bool, true, false, cond, Some, refl, sym, ap, ap₂, subst, subst₂, ◌∙◌, arith}
 use Rattle.std.specs.Prelude.{IsPermutation}
 use Rattle.std.specs.List.{AllByRecursion}
 use Rattle.std.proofs.lemmas.Bool.Decides.{nat_tests}
 use Rattle.std.proofs.lemmas.List.Elements.{filter-append}
-use Rattle.std.proofs.lemmas.List.Sorted.{IsPermutation-refl, IsPermutation-sym, IsPermutation-trans, IsPermutation-append_left, IsPermutation-append_right, IsPermutation-append_comm}
+use Rattle.std.proofs.lemmas.List.Sorted.{IsPermutation-sym, IsPermutation-trans}
 use Rattle.sqlite.specs.Effect.{Database}
 use Rattle.sqlite.specs.Order.{Row}
 use Rattle.sqlite.specs.Table.{Table}
 use Rattle.sqlite.specs.Tree.{Trees}
-use Rattle.sqlite_keyed.proofs.ListLemmas.{all_weaker, filter_all, filter_none, IsPermutation-same}
+use Rattle.sqlite_keyed.proofs.ListLemmas.{all_weaker, filter_all, filter_none, IsPermutation-flat_map}
 use Rattle.pt_records.specs.Records.{Each, IsInOrder, put, record_at}
 use Rattle.pt_records.proofs.OrderLemmas.{compared, record_at-past, record_at-here, record_at-above}
-use Rattle.pt_records.proofs.RecordLemmas.{put_past, put_over, put_before}
+use Rattle.pt_records.proofs.RecordLemmas.{put_past, put_over}
 use Rattle.pt_records.proofs.TableLemmas.{Each-filter}
 use Rattle.pt_tables_writing.specs.Grouped.{Adds}
 use Rattle.pt_tables_writing.specs.Writes.{Holds, Rewrites, Puts, Takes}
 use Rattle.pt_tables_writing.proofs.DeleteLemmas.{Removes}
+use Rattle.pt_tables_writing.proofs.NumberedLemmas.{put-permutation}
 use Rattle.pt_tables_writing.proofs.TreeLemmas.{turned}
 use Rattle.pt_tables_writing.proofs.TurnLemmas.{rewrites_then}
 
@@ -48,20 +49,10 @@ rewrites-from table others before shown old new same it = record {
 same_test : (a b : ℕ) → a ≡ b → not (a == b) ≡ false
 same_test a b same = grind (arith, nat_tests)
 
-below_test : (a b : ℕ) → a < b → not (a == b) ≡ true
-below_test a b below = grind (arith, nat_tests)
-
-above_test : (a b : ℕ) → b < a → not (a == b) ≡ true
-above_test a b above = grind (arith, nat_tests)
-
 module _ {A : Type 0} (key : A → ℕ) where
   -- the records without those of this key
   abbrev pub without : ℕ → List A → List A
   without k xs = filter (λ x. not (key x == k)) xs
-
-  none_there : (k : ℕ) (xs : List A) → Each (λ x. k < key x) xs → without k xs ≡ xs
-  none_there k [] above = refl
-  none_there k (x ∷ xs) above = ap (λ b. cond b (x ∷ without k xs) (without k xs)) (above_test (key x) k above.0) ∙ ap (λ l. x ∷ l) (none_there k xs above.1)
 
   far_above : (k l : ℕ) (xs : List A) → k ≤ l → Each (λ x. l < key x) xs → Each (λ x. k < key x) xs
   far_above k l [] le above = tt
@@ -92,25 +83,7 @@ module _ {A : Type 0} (key : A → ℕ) where
   module _ (rows : A → List Row) where
     -- the rows of a record that is put, and of the others
     pub rows-put : (new : A) (xs : List A) → IsInOrder key xs → IsPermutation (rows new ++ flat_map rows (without (key new) xs)) (flat_map rows (put key new xs))
-    rows-put new [] order = IsPermutation-refl _
-    rows-put new (x ∷ xs) order = elim (compared (key x) (key new)) [
-      | inl less ↦
-          let later = rows-put new xs order.1 in
-          let kept : without (key new) (x ∷ xs) ≡ x ∷ without (key new) xs = ap (λ b. cond b (x ∷ without (key new) xs) (without (key new) xs)) (below_test (key x) (key new) less) in
-          let swapped : IsPermutation (rows new ++ (rows x ++ flat_map rows (without (key new) xs))) (rows x ++ (rows new ++ flat_map rows (without (key new) xs))) = exchanged (rows new) (rows x) (flat_map rows (without (key new) xs)) in
-          subst₂ IsPermutation (ap (λ l. rows new ++ flat_map rows l) (sym kept)) (ap (flat_map rows) (sym (put_past key new x xs less)))
-          (IsPermutation-trans _ _ _ swapped (IsPermutation-append_right (rows x) _ _ later))
-      | inr (inl same) ↦
-          let gone : without (key new) (x ∷ xs) ≡ xs =
-          ap (λ b. cond b (x ∷ without (key new) xs) (without (key new) xs)) (same_test (key x) (key new) same) ∙ none_there (key new) xs (far_above (key new) (key x) xs (omega (arith, same)) order.0) in
-          IsPermutation-same _ _ (ap (λ l. rows new ++ flat_map rows l) gone ∙ ap (flat_map rows) (sym (put_over key new x xs same)))
-      | inr (inr more) ↦
-          let all = none_there (key new) (x ∷ xs) (more, far_above (key new) (key x) xs (omega (arith, more)) order.0) in
-          IsPermutation-same _ _ (ap (λ l. rows new ++ flat_map rows l) all ∙ ap (flat_map rows) (sym (put_before key new x xs more)))
-    ]
-      where
-        exchanged : (a b c : List Row) → IsPermutation (a ++ (b ++ c)) (b ++ (a ++ c))
-        exchanged a b c = subst₂ IsPermutation (append_assoc a b c) (append_assoc b a c) (IsPermutation-append_left c (a ++ b) (b ++ a) (IsPermutation-append_comm a b))
+    rows-put new xs order = IsPermutation-sym _ _ (IsPermutation-flat_map rows _ _ (put-permutation key new xs order))
 
     -- the rows of the others are those that do not pass
     pub rows-without : (Fits : A → Type 0) (k : ℕ) (passes : Row → Bool) → ((x : A) → Fits x → AllByRecursion (λ r. passes r ≡ (key x == k)) (rows x)) → (xs : List A) → Each Fits xs

@@ -3,7 +3,7 @@ use Rattle.sqlite.specs.Held.{state}
 use Rattle.pt_tables_rows.specs.Tables.{Makes}
 use Rattle.pt_tables_writing.specs.Agreeing.{AgreesFor, OfEach}
 use Rattle.pt_tables_writing.specs.Groups.{Leads, WritesFleet, with_people, with_area}
-use Rattle.pt_tables_writing.proofs.KnownLemmas.{Known-places, Known-routes, Known-travel, area_known}
+use Rattle.pt_tables_writing.proofs.GroupLemmas.{Known-places, Known-routes, Known-travel, area_leads}
 use Rattle.pt_tables_writing.proofs.TurnLemmas.{did_four}
 use Rattle.pt_tables_writing.proofs.writes.write_area.Goals as goal
 
@@ -24,5 +24,5 @@ returns-clause-written g c =
     (OfEach (AgreesFor change known) (WritesFleet change)) (Known-travel change known.travel)
     (OfEach (AgreesFor change known) (λ content. Leads change content (with_people change content) (with_area change (with_people change content))))
     c.in_ok-write_edits.field-0 c.in_ok-write_edits-2.field-0 c.in_ok-write_fleet.field-0 c.write_edits-3.result
-    (area_known change known s1.now s2.now s3.now s4.now s5.now)
+    (area_leads change known s1.now s2.now s3.now s4.now s5.now)
     c.in_ok-write_edits-2.ensures.survives c.in_ok-write_fleet.ensures.survives c.write_edits-3.ensures.survives one two three four

@@ -8,7 +8,7 @@ use Rattle.pt_spelling.specs.Ranges.{IsVehicle}
 use Rattle.pt_tables_writing.specs.Agreeing.{AgreesFor, KnowsTaken, OfEach}
 use Rattle.pt_tables_writing.specs.Groups.{WritesFleet, WritesVehicles}
 use Rattle.pt_tables_writing.specs.Stored.{TakesSpans}
-use Rattle.pt_tables_writing.proofs.KnownLemmas.{Unmarked-vehicles}
+use Rattle.pt_tables_writing.proofs.GroupLemmas.{Unmarked-vehicles}
 use Rattle.pt_tables_writing.proofs.TurnLemmas.{did_then}
 use Rattle.pt_tables_writing.proofs.writes.write_fleet.Goals as goal
 

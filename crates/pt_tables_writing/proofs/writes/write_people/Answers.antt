@@ -3,7 +3,7 @@ use Rattle.sqlite.specs.Held.{state}
 use Rattle.pt_tables_rows.specs.Tables.{Makes}
 use Rattle.pt_tables_writing.specs.Agreeing.{AgreesFor, OfEach}
 use Rattle.pt_tables_writing.specs.Groups.{Leads, WritesRiders, with_people}
-use Rattle.pt_tables_writing.proofs.KnownLemmas.{Known-callers, Known-kept, Known-entries, people_known}
+use Rattle.pt_tables_writing.proofs.GroupLemmas.{Known-callers, Known-kept, Known-entries, people_lead}
 use Rattle.pt_tables_writing.proofs.TurnLemmas.{did_four}
 use Rattle.pt_tables_writing.proofs.writes.write_people.Goals as goal
 
@@ -24,5 +24,5 @@ returns-clause-written g c =
     (OfEach (AgreesFor change known) (WritesRiders change)) (Known-entries change known.entries)
     (OfEach (AgreesFor change known) (λ content. Leads change content content (with_people change content)))
     c.in_ok-write_edits.field-0 c.in_ok-write_edits-2.field-0 c.in_ok-write_riders.field-0 c.write_edits-3.result
-    (people_known change known s1.now s2.now s3.now s4.now s5.now)
+    (people_lead change known s1.now s2.now s3.now s4.now s5.now)
     c.in_ok-write_edits-2.ensures.survives c.in_ok-write_riders.ensures.survives c.write_edits-3.ensures.survives one two three four

@@ -5,7 +5,7 @@ use Rattle.pt_base.specs.declared.policy.Policy.{Policy}
 use Rattle.pt_tables_rows.specs.Rows.{desk_row}
 use Rattle.pt_tables_rows.specs.Schema.{desk_table}
 use Rattle.pt_tables_writing.specs.Writes.{Rewrites}
-use Rattle.pt_tables_writing.proofs.KnownLemmas.{Known-settings}
+use Rattle.pt_tables_writing.proofs.GroupLemmas.{Known-settings}
 use Rattle.pt_tables_writing.proofs.TurnLemmas.{did_as}
 use Rattle.pt_tables_writing.proofs.writes.write_settings.Goals as goal
 

@@ -1,7 +1,7 @@
 use Rattle.sqlite.specs.Held.{state}
 use Rattle.pt_tables_writing.specs.Agreeing.{AgreesFor, AgreesWith, OfEach}
 use Rattle.pt_tables_writing.specs.Groups.{Leads, WritesTrips, with_people, with_area, with_trips}
-use Rattle.pt_tables_writing.proofs.KnownLemmas.{Known-planned, Known-settings, trips_known}
+use Rattle.pt_tables_writing.proofs.GroupLemmas.{Known-planned, Known-settings, trips_lead}
 use Rattle.pt_tables_writing.proofs.TurnLemmas.{did_three, open_then, stayed, stayed_then}
 use Rattle.pt_tables_writing.proofs.writes.write_trips.Goals as goal
 
@@ -18,7 +18,7 @@ returns-clause-written g c =
     (Known-settings change known)
     (OfEach (AgreesWith change known plans) (λ content. Leads change content (with_area change (with_people change content)) (with_trips change (with_area change (with_people change content)))))
     c.in_ok-write_booked.field-0 c.in_ok-write_plans.field-0 c.write_settings.result
-    (trips_known change known plans s1.now s2.now s3.now s4.now)
+    (trips_lead change known plans s1.now s2.now s3.now s4.now)
     c.in_ok-write_plans.ensures.survives c.write_settings.ensures.survives
     c.in_ok-write_booked.ensures.written c.in_ok-write_plans.ensures.written c.write_settings.ensures.written
 

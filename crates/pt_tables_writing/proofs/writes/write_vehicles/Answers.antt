@@ -8,8 +8,7 @@ use Rattle.pt_spelling.specs.Ranges.{IsVehicle}
 use Rattle.pt_tables_writing.specs.Agreeing.{AgreesFor, OfEach}
 use Rattle.pt_tables_writing.specs.Groups.{WritesVehicles}
 use Rattle.pt_tables_writing.specs.Stored.{PutsAll}
-use Rattle.pt_tables_writing.proofs.GroupLemmas.{Marks-vehicles}
-use Rattle.pt_tables_writing.proofs.KnownLemmas.{Known-vehicles}
+use Rattle.pt_tables_writing.proofs.GroupLemmas.{Marks-vehicles, Known-vehicles}
 use Rattle.pt_tables_writing.proofs.TurnLemmas.{did_then}
 use Rattle.pt_tables_writing.proofs.writes.write_vehicles.Goals as goal
 
