@@ -1,6 +1,7 @@
 -- What statements make that run, one alone or in turn.
-use Rattle.std.proofs.Common.{◌≡◌, ℕ, true, IsTrue, List, [], ◌++◌, Result, Ok}
+use Rattle.std.proofs.Common.{◌≡◌, ℕ, true, IsTrue, List, [], ◌++◌, Result, Ok, sym, subst}
 use Rattle.sqlite.specs.declared.error.Error.{Error}
+use Rattle.sqlite.specs.Effect.{Database}
 use Rattle.sqlite.specs.State.{State, HasCleanDisk, KeepsCommit, Shows, Survives}
 use Rattle.sqlite.specs.Order.{Row}
 use Rattle.sqlite.specs.Table.{Table}
@@ -33,3 +34,22 @@ pub did_added : {X Y : Type 0} (table : Table) (first second : List Row) (a b c 
 did_added table first second a b c x r =
     did_then a b c (Adds table first) (Adds table second) (Adds table (first ++ second)) x r
     (λ has one more. adds-then table first second a.now b.now c.now one (more (one []).schema))
+
+-- all these rows are added, once those that are left are
+abbrev pub AddsBut : Table → List Row → List Row → Database → Database → Type 0
+AddsBut table left all old new = (new.schema ≡ desk_schema) × ((last : Database) → Adds table left new last → Adds table all old last)
+
+-- some of those that are left are added
+pub did_fewer : {X Y : Type 0} (table : Table) (left some later all : List Row) (a b c : State) (x : X) (r : Result Y Error) → left ≡ some ++ later → Survives b c (λ _. ⊥)
+    → Makes a b (AddsBut table left all) (Ok x) → Makes b c (Adds table some) r → Makes a c (AddsBut table later all) r
+did_fewer table left some later all a b c x r is =
+    did_then a b c (AddsBut table left all) (Adds table some) (AddsBut table later all) x r
+    (λ has but more.
+    let added = more but.0 in
+    ((added []).schema, λ last rest. but.1 last (subst (λ rows. Adds table rows b.now last) (sym is) (adds-then table some later b.now c.now last added rest))))
+
+-- all that are left are added
+pub did_rest : {X Y : Type 0} (table : Table) (left all : List Row) (a b c : State) (x : X) (r : Result Y Error) → Survives b c (λ _. ⊥)
+    → Makes a b (AddsBut table left all) (Ok x) → Makes b c (Adds table left) r → Makes a c (Adds table all) r
+did_rest table left all a b c x r =
+    did_then a b c (AddsBut table left all) (Adds table left) (Adds table all) x r (λ has but more. but.1 c.now (more but.0))

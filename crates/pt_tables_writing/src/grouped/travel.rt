@@ -17,6 +17,9 @@ const DELETE_TRAVEL: &str = "DELETE FROM travel WHERE from_day = ?1";
 
 const INSERT_TRAVEL: &str = "INSERT INTO travel (from_day, a, b, minutes) VALUES (?1, ?2, ?3, ?4)";
 
+const INSERT_FOUR_DRIVES: &str = "INSERT INTO travel (from_day, a, b, minutes) VALUES \
+    (?1, ?2, ?3, ?4), (?1, ?5, ?6, ?7), (?1, ?8, ?9, ?10), (?1, ?11, ?12, ?13)";
+
 impl Stored for TravelTables {
     fn put<S: Alter>(tx: &mut Transaction<'_, S>, table: &TravelTable) -> Result<(), Error> {
         Self::take(tx, table)?;
@@ -40,8 +43,62 @@ fn insert_travel<S: Alter>(tx: &mut Transaction<'_, S>, table: &TravelTable) -> 
     insert_drives(tx, table.from_day(), table.rows())
 }
 
-/// Adds rows of a travel table.
+/// Adds rows of a travel table, four by one statement while there are four.
 fn insert_drives<S: Alter>(
+    tx: &mut Transaction<'_, S>,
+    from_day: Day,
+    rows: &[Row],
+) -> Result<(), Error>
+    ensures same_reference { tx.new.conn.ghost_name ≡ tx.old.conn.ghost_name }
+    ensures written { Makes (state S.Store tx.old.conn.now) (state S.Store tx.new.conn.now)
+        (Adds travel_table (map (travel_row from_day) rows.now)) result }
+    ensures survives { Survives (state S.Store tx.old.conn.now) (state S.Store tx.new.conn.now) (λ _. ⊥) }
+{
+    let mut left = rows;
+    while let [first, second, third, fourth, later @ ..] = left {
+        insert_four_drives(tx, from_day, *first, *second, *third, *fourth)?;
+        left = later;
+    }
+    insert_each_drive(tx, from_day, left)
+}
+
+/// Adds four rows of a travel table.
+fn insert_four_drives<S: Alter>(
+    tx: &mut Transaction<'_, S>,
+    from_day: Day,
+    first: Row,
+    second: Row,
+    third: Row,
+    fourth: Row,
+) -> Result<(), Error>
+    ensures same_reference { tx.new.conn.ghost_name ≡ tx.old.conn.ghost_name }
+    ensures written { Makes (state S.Store tx.old.conn.now) (state S.Store tx.new.conn.now)
+        (Adds travel_table (map (travel_row from_day) (first ∷ second ∷ third ∷ fourth ∷ []))) result }
+    ensures survives { Survives (state S.Store tx.old.conn.now) (state S.Store tx.new.conn.now) (λ _. ⊥) }
+{
+    tx.execute(
+        INSERT_FOUR_DRIVES,
+        params![
+            from_day.number(),
+            first.0.number(),
+            first.1.number(),
+            u32::from(first.2),
+            second.0.number(),
+            second.1.number(),
+            u32::from(second.2),
+            third.0.number(),
+            third.1.number(),
+            u32::from(third.2),
+            fourth.0.number(),
+            fourth.1.number(),
+            u32::from(fourth.2)
+        ],
+    )?;
+    Ok(())
+}
+
+/// Adds rows of a travel table, one by one.
+fn insert_each_drive<S: Alter>(
     tx: &mut Transaction<'_, S>,
     from_day: Day,
     rows: &[Row],

@@ -1,37 +1,39 @@
-use Rattle.std.proofs.Common.{◌≡◌, ◌∙◌, [], ◌∷◌, Ok, map, take, subst}
-use Rattle.std.proofs.lemmas.List.{take_all}
+use Rattle.std.proofs.Common.{◌∙◌, [], ◌∷◌, Ok, drop, length, map, refl, take, ap, ◌-◌}
 use Rattle.sqlite.specs.Held.{state}
-use Rattle.pt_travel.specs.Chain as travel
-use Rattle.pt_tables_writing.specs.Grouped.{Adds}
 use Rattle.pt_tables_rows.specs.Rows.{travel_row}
 use Rattle.pt_tables_rows.specs.Schema.{travel_table}
-use Rattle.pt_tables_rows.specs.Tables.{Makes}
-use Rattle.pt_tables_writing.proofs.ChangeLemmas.{did_added}
-use Rattle.pt_tables_writing.proofs.TravelRows.{drives-more}
-use Rattle.pt_tables_writing.proofs.TurnLemmas.{survive_both}
+use Rattle.pt_tables_rows.proofs.StateLemmas.{keeps_self}
+use Rattle.pt_tables_writing.proofs.ChangeLemmas.{did_fewer, did_rest}
+use Rattle.pt_tables_writing.proofs.TravelRows.{four_and_rest}
+use Rattle.pt_tables_writing.proofs.TurnLemmas.{survive_both, survives-self}
 use Rattle.pt_tables_writing.proofs.grouped.travel.insert_drives.Goals as goal
 
-pub loop-row-preserved : goal.loop-row-preserved
-loop-row-preserved g c =
+pub loop-left-init : goal.loop-left-init
+loop-left-init g c =
+    let a = state g.S.Store c.args.tx.now.conn.now in
+    record { same = refl; survives = survives-self a; written = λ clean inside. (keeps_self a, inside, λ has. (has, λ last rest. rest)) }
+
+pub loop-left-preserved : goal.loop-left-preserved
+loop-left-preserved g c =
     let old = state g.S.Store c.args.tx.now.conn.now in
-    let mid = state g.S.Store c.loop-row.tx.conn.now in
-    let new = state g.S.Store c.insert_drive.new.tx.conn.now in
-    let at = c.loop-row.row-index in
-    let drives = c.args.rows.now in
-    let day = c.args.from_day in
-    let drive : travel.Row = (c.number.result, c.number-in-loop-row.result, c.from.result) in
-    let same : drive ≡ c.row-item.result = λ i. (c.number.ensures.value i, c.number-in-loop-row.ensures.value i, c.from.ensures i) in
+    let mid = state g.S.Store c.loop-left.tx.conn.now in
+    let new = state g.S.Store c.insert_four_drives.new.tx.conn.now in
+    let row = travel_row c.args.from_day in
+    let left = c.loop-left.left.now in
+    let four = c.first-item.result ∷ c.second-item.result ∷ c.third-item.result ∷ c.fourth-item.result ∷ [] in
+    let parts = four_and_rest left _ _ _ _ c.in-len4-up.len_at_least c.first-item.is c.second-item.is c.third-item.is c.fourth-item.is in
     record {
-      same = c.in_ok-insert_drive.ensures.same_reference ∙ c.loop-row.invariant.same;
-      survives = survive_both old mid new c.loop-row.invariant.survives c.in_ok-insert_drive.ensures.survives;
-      written = subst (λ rows. Makes {X = Unit {0}} old new (Adds travel_table rows) (Ok tt)) (drives-more at day drives c.row-item.result drive c.loop-row-test.true c.row-item.is same)
-          (did_added {X = Unit {0}} {Y = Unit {0}} travel_table (map (travel_row day) (take at drives)) (travel_row day drive ∷ []) old mid new tt (Ok tt)
-          c.in_ok-insert_drive.ensures.survives c.loop-row.invariant.written c.in_ok-insert_drive.ensures.written);
+      same = c.in_ok-insert_four_drives.ensures.same_reference ∙ c.loop-left.invariant.same;
+      survives = survive_both old mid new c.loop-left.invariant.survives c.in_ok-insert_four_drives.ensures.survives;
+      written = did_fewer {X = Unit {0}} {Y = Unit {0}} travel_table (map row left) (map row four) (map row (take (length left - 4) (drop 4 left))) (map row c.args.rows.now)
+          old mid new tt (Ok tt) (ap (map row) parts) c.in_ok-insert_four_drives.ensures.survives c.loop-left.invariant.written c.in_ok-insert_four_drives.ensures.written;
     }
 
 pub returns-clause-written : goal.returns-clause-written
 returns-clause-written g c =
     let old = state g.S.Store c.args.tx.now.conn.now in
-    let now = state g.S.Store c.loop-row.tx.conn.now in
-    subst (λ drives. Makes {X = Unit {0}} old now (Adds travel_table (map (travel_row c.args.from_day) drives)) (Ok tt))
-    (take_all c.loop-row.row-index c.args.rows.now c.loop-row-test.false) c.loop-row.invariant.written
+    let mid = state g.S.Store c.loop-left.tx.conn.now in
+    let new = state g.S.Store c.insert_each_drive.new.tx.conn.now in
+    let row = travel_row c.args.from_day in
+    did_rest {X = Unit {0}} {Y = Unit {0}} travel_table (map row c.loop-left.left.now) (map row c.args.rows.now) old mid new tt c.insert_each_drive.result
+    c.insert_each_drive.ensures.survives c.loop-left.invariant.written c.insert_each_drive.ensures.written
