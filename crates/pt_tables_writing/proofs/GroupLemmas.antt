@@ -13,7 +13,7 @@ use Rattle.pt_records.specs.Records.{Edit, edited, take_all}
 use Rattle.pt_records.proofs.TableLemmas.{IsInOrder-take_all}
 use Rattle.pt_tables_writing.proofs.StoredLemmas.{Each-take_all}
 use Rattle.pt_scheduling.specs.Plan.{plan_key, Plan}
-use Rattle.pt_tables_writing.specs.Groups.{Leads, WritesFleet, WritesRiders, WritesTrips, with_people, with_area, with_trips}
+use Rattle.pt_tables_writing.specs.Groups.{Leads, Then, WritesFleet, WritesRiders, WritesTrips, with_people, with_area, with_trips}
 use Rattle.pt_tables_rows.specs.Rows.{desk_row, caller_row, kept_row, place_row, route_row, entry_row, stop_rows, travel_rows, vehicle_chair_rows, vehicle_row, rider_row, trip_row, rider_chair_rows, trip_chair_rows}
 use Rattle.pt_tables_rows.specs.Schema.{desk_schema, desk_table, callers_table, kept_table, places_table, fixed_table, entries_table, stops_table, travel_table, vehicle_chairs_table, vehicles_table, riders_table, trips_table, rider_chairs_table, trip_chairs_table}
 use Rattle.pt_tables_writing.specs.Stored.{EditsTable, PutsAll, TakesSpans}
@@ -113,71 +113,70 @@ step place new n a b {s = s} {m = m} {t = t} {before = before} {after = after} a
     let done = rewrite all.schema in
     record { schema = done.schema; parts = turned_at place s new m n t before after a b done all.parts old_parts new_parts apart apart_back }
 
-pub people_lead : (change : Change) (known : State) (a b c d e : Database)
-    → (a.schema ≡ desk_schema → Known-callers change known.callers a b)
-    → (b.schema ≡ desk_schema → Known-kept change known.kept b c)
-    → (c.schema ≡ desk_schema → OfEach (AgreesFor change known) (WritesRiders change) c d)
-    → (d.schema ≡ desk_schema → Known-entries change known.entries d e)
+pub people_lead : (change : Change) (known : State) (a e : Database)
+    → Then (Then (Then (Known-callers change known.callers) (Known-kept change known.kept)) (OfEach (AgreesFor change known) (WritesRiders change)))
+    (Known-entries change known.entries) a e
     → OfEach (AgreesFor change known) (λ content. Leads change content content (with_people change content)) a e
-people_lead change known a b c d e one two three four content agrees told puts stands =
+people_lead change known a e four content agrees told puts stands =
+    let three = four.1 in
+    let two = three.1 in
     let m = marks_of content in
     let s1 : State = record content { callers = edited caller_key change.callers content.callers } in
-    let all_1 = step 1 s1 m a b (are content a stands) (λ has. one has content.callers agrees.callers puts.ranges.callers told.callers told.ranges.callers) refl refl refl refl in
+    let all_1 = step 1 s1 m a two.0 (are content a stands) (λ _. two.1 content.callers agrees.callers puts.ranges.callers told.callers told.ranges.callers) refl refl refl refl in
     let s2 : State = record s1 { kept = edited kept_key change.kept content.kept } in
-    let all_2 = step 2 s2 m b c all_1 (λ has. two has content.kept agrees.kept puts.ranges.kept told.kept told.ranges.kept) refl refl refl refl in
-    let both = three all_2.schema content agrees in
+    let all_2 = step 2 s2 m two.0 three.0 all_1 (λ has. two.2 has content.kept agrees.kept puts.ranges.kept told.kept told.ranges.kept) refl refl refl refl in
+    let both = three.2 all_2.schema content agrees in
     let s3 : State = record s2 { riders = edited rider_key change.riders content.riders } in
-    let all_3 = step 6 s3 m c both.0 all_2 (λ _. both.1 puts.ranges.riders told.riders told.ranges.riders) refl refl refl refl in
+    let all_3 = step 6 s3 m three.0 both.0 all_2 (λ _. both.1 puts.ranges.riders told.riders told.ranges.riders) refl refl refl refl in
     let n : Marks = record m { riders = edited rider_key change.riders m.riders } in
-    let all_4 = step 11 s3 n both.0 d all_3 (λ has. both.2 has puts.ranges.riders told.riders told.ranges.riders) refl refl refl refl in
+    let all_4 = step 11 s3 n both.0 four.0 all_3 (λ has. both.2 has puts.ranges.riders told.riders told.ranges.riders) refl refl refl refl in
     let s4 : State = record s3 { entries = edited entry_key change.entries content.entries } in
-    let all_5 = step 7 s4 n d e all_4 (λ has. four has content.entries agrees.entries puts.ranges.entries told.entries told.ranges.entries) refl refl refl refl in
+    let all_5 = step 7 s4 n four.0 e all_4 (λ has. four.2 has content.entries agrees.entries puts.ranges.entries told.entries told.ranges.entries) refl refl refl refl in
     stand (with_people change content) e all_5
 
-pub area_leads : (change : Change) (known : State) (a b c d e : Database)
-    → (a.schema ≡ desk_schema → Known-places change known.places a b)
-    → (b.schema ≡ desk_schema → Known-routes change known.routes b c)
-    → (c.schema ≡ desk_schema → OfEach (AgreesFor change known) (WritesFleet change) c d)
-    → (d.schema ≡ desk_schema → Known-travel change known.travel d e)
+pub area_leads : (change : Change) (known : State) (a e : Database)
+    → Then (Then (Then (Known-places change known.places) (Known-routes change known.routes)) (OfEach (AgreesFor change known) (WritesFleet change)))
+    (Known-travel change known.travel) a e
     → OfEach (AgreesFor change known) (λ content. Leads change content (with_people change content) (with_area change (with_people change content))) a e
-area_leads change known a b c d e one two three four content agrees told puts stands =
+area_leads change known a e four content agrees told puts stands =
+    let three = four.1 in
+    let two = three.1 in
     let s = with_people change content in
     let m = marks_of s in
     let s1 : State = record s { places = edited place_key change.places s.places } in
-    let all_1 = step 3 s1 m a b (are s a stands) (λ has. one has content.places agrees.places puts.ranges.places told.places told.ranges.places) refl refl refl refl in
+    let all_1 = step 3 s1 m a two.0 (are s a stands) (λ _. two.1 content.places agrees.places puts.ranges.places told.places told.ranges.places) refl refl refl refl in
     let s2 : State = record s1 { routes = edited route_key change.routes s.routes } in
-    let all_2 = step 4 s2 m b c all_1 (λ has. two has content.routes agrees.routes puts.ranges.routes told.routes told.ranges.routes) refl refl refl refl in
-    let first = three all_2.schema content agrees in
+    let all_2 = step 4 s2 m two.0 three.0 all_1 (λ has. two.2 has content.routes agrees.routes puts.ranges.routes told.routes told.ranges.routes) refl refl refl refl in
+    let first = three.2 all_2.schema content agrees in
     let left : Marks = record m { vehicles = take_all vehicle_key change.vehicles.away m.vehicles } in
-    let all_3 = step 12 s2 left c first.0 all_2 (λ _. first.1 told.vehicles told.ranges.vehicles) refl refl refl refl in
+    let all_3 = step 12 s2 left three.0 first.0 all_2 (λ _. first.1 told.vehicles told.ranges.vehicles) refl refl refl refl in
     let rest = first.2 all_3.schema in
     let s3 : State = record s2 { vehicles = edited vehicle_key change.vehicles s.vehicles } in
     let all_4 = step 5 s3 left first.0 rest.0 all_3 (λ _. rest.1 puts.ranges.vehicles told.vehicles told.ranges.vehicles) refl refl refl refl in
     let n : Marks = record m { vehicles = edited vehicle_key change.vehicles m.vehicles } in
-    let all_5 = step 12 s3 n rest.0 d all_4
+    let all_5 = step 12 s3 n rest.0 four.0 all_4
     (λ has. rest.2 has puts.ranges.vehicles left.vehicles (IsInOrder-take_all vehicle_key change.vehicles.away m.vehicles told.vehicles)
     (Each-take_all IsVehicle vehicle_key change.vehicles.away m.vehicles told.ranges.vehicles)) refl refl refl refl in
     let s4 : State = record s3 { travel = edited travel_key change.travel s.travel } in
-    let all_6 = step 10 s4 n d e all_5 (λ has. four has content.travel agrees.travel puts.ranges.travel told.travel told.ranges.travel) refl refl refl refl in
+    let all_6 = step 10 s4 n four.0 e all_5 (λ has. four.2 has content.travel agrees.travel puts.ranges.travel told.travel told.ranges.travel) refl refl refl refl in
     stand (with_area change s) e all_6
 
-pub trips_lead : (change : Change) (known : State) (plans : List Plan) (a b c d : Database)
-    → (a.schema ≡ desk_schema → OfEach (AgreesFor change known) (WritesTrips change) a b)
-    → (b.schema ≡ desk_schema → Known-planned change plans b c)
-    → (c.schema ≡ desk_schema → Known-settings change known c d)
+pub trips_lead : (change : Change) (known : State) (plans : List Plan) (a d : Database)
+    → Then (Then (OfEach (AgreesFor change known) (WritesTrips change)) (Known-planned change plans)) (Known-settings change known) a d
     → OfEach (AgreesWith change known plans) (λ content. Leads change content (with_area change (with_people change content))
     (with_trips change (with_area change (with_people change content)))) a d
-trips_lead change known plans a b c d one two three content agrees told puts stands =
+trips_lead change known plans a d three content agrees told puts stands =
+    let two = three.1 in
     let s = with_area change (with_people change content) in
     let m = marks_of s in
-    let both = one stands.schema content agrees.0 in
+    let both = two.1 content agrees.0 in
     let s1 : State = record s { trips = edited trip_key change.trips s.trips } in
     let all_1 = step 8 s1 m a both.0 (are s a stands) (λ _. both.1 puts.ranges.trips told.trips told.ranges.trips) refl refl refl refl in
     let n : Marks = record m { trips = edited trip_key change.trips m.trips } in
-    let all_2 = step 13 s1 n both.0 b all_1 (λ has. both.2 has puts.ranges.trips told.trips told.ranges.trips) refl refl refl refl in
+    let all_2 = step 13 s1 n both.0 two.0 all_1 (λ has. both.2 has puts.ranges.trips told.trips told.ranges.trips) refl refl refl refl in
     let s2 : State = record s1 { planned = edited plan_key change.planned s.planned } in
-    let all_3 = step 9 s2 n b c all_2
-    (λ has. two has content.planned agrees.1 (stored-plans change.planned.puts puts.ranges.planned puts.stops) told.planned (stored-plans s.planned told.ranges.planned told.stops)) refl refl refl refl in
+    let all_3 = step 9 s2 n two.0 three.0 all_2
+    (λ has. two.2 has content.planned agrees.1 (stored-plans change.planned.puts puts.ranges.planned puts.stops) told.planned (stored-plans s.planned told.ranges.planned told.stops)) refl refl refl refl in
     let s3 : State = with_trips change s in
-    let all_4 = step 0 s3 n c d all_3 (λ has. three has content agrees.0 content.policy content.last_trip) refl refl refl refl in
+    let all_4 = step 0 s3 n three.0 d all_3 (λ has. three.2 has content agrees.0 content.policy content.last_trip) refl refl refl refl in
     stand s3 d all_4

@@ -11,6 +11,7 @@ use Rattle.sqlite_trees.proofs.ListLemmas.{all_both}
 use Rattle.sqlite.proofs.StateLemmas.{survives_then}
 use Rattle.pt_tables_rows.specs.Schema.{desk_schema, tables}
 use Rattle.pt_tables_rows.specs.Tables.{ChangesIfOk, Others, Makes}
+use Rattle.pt_tables_writing.specs.Groups.{Then}
 use Rattle.pt_tables_writing.specs.Writes.{Rewrites}
 use Rattle.pt_tables_rows.proofs.PartLemmas.{on_ok}
 use Rattle.pt_tables_rows.proofs.StateLemmas.{keeps_then}
@@ -56,6 +57,11 @@ did_then a b c F G H x r join survives first next clean inside =
     let before = first early inside in
     both_do a b c F G H x r join before (next clean before.1)
 
+-- and so any number of them
+pub did_next : {X Y : Type 0} (a b c : Connected) (F G : Database → Database → Type 0) (x : X) (r : Result Y Error) → Survives b c (λ _. ⊥)
+    → Makes a b F (Ok x) → Makes b c G r → Makes a c (Then F G) r
+did_next a b c F G x r = did_then a b c F G (Then F G) x r (λ has first next. (b.now, first, next))
+
 -- what was done commits nothing, and leaves the transaction open
 abbrev pub Stayed : Connected → Connected → Type 0
 Stayed a b = HasCleanDisk b → IsTrue a.in_transaction → KeepsCommit a b × IsTrue b.in_transaction
@@ -69,52 +75,6 @@ stayed_then a b c survives first next clean inside =
     let before = first early inside in
     let then = next clean before.1 in
     (keeps_then a b c before.0 then.0, then.1)
-
-ends : {X : Type 0} (a b c : Connected) (G H : Database → Database → Type 0) (r : Result X Error)
-    → (a.now.schema ≡ desk_schema → (b.now.schema ≡ desk_schema → G b.now c.now) → H a.now c.now) → KeepsCommit a b
-    → ChangesIfOk b c G r → ChangesIfOk a c H r
-ends a b c G H (Ok x) join kept next = (keeps_then a b c kept next.0, next.1, λ has. join has next.2)
-ends a b c G H (Err e) join kept next = keeps_then a b c kept next
-
--- the last of several statements
-pub did_last : {X : Type 0} (a b c : Connected) (G H : Database → Database → Type 0) (r : Result X Error) → Survives b c (λ _. ⊥)
-    → Stayed a b
-    → (HasCleanDisk b → IsTrue a.in_transaction → a.now.schema ≡ desk_schema → (b.now.schema ≡ desk_schema → G b.now c.now) → H a.now c.now)
-    → Makes b c G r → Makes a c H r
-did_last a b c G H r survives first join next clean inside =
-    let early : HasCleanDisk b = omega (arith, survives.clean) in
-    let before = first early inside in
-    ends a b c G H r (join early inside) before.0 (next clean before.1)
-
--- three statements in turn
-pub did_three : {X Y Z : Type 0} (a b c d : Connected) (F G K H : Database → Database → Type 0) (x : X) (y : Y) (r : Result Z Error)
-    → ((a.now.schema ≡ desk_schema → F a.now b.now) → (b.now.schema ≡ desk_schema → G b.now c.now)
-    → (c.now.schema ≡ desk_schema → K c.now d.now) → H a.now d.now)
-    → Survives b c (λ _. ⊥) → Survives c d (λ _. ⊥) → Makes a b F (Ok x) → Makes b c G (Ok y) → Makes c d K r → Makes a d H r
-did_three a b c d F G K H x y r join early late one two three =
-    did_last a c d K H r late (stayed_then a b c early (stayed a b F x one) (stayed b c G y two))
-    (λ clean inside has next.
-    let clean_b : HasCleanDisk b = omega (arith, early.clean) in
-    let first = one clean_b inside in
-    let second = two clean first.1 in
-    join first.2 second.2 next) three
-
--- and four
-pub did_four : {X Y Z W : Type 0} (a b c d e : Connected) (F G K L H : Database → Database → Type 0) (x : X) (y : Y) (z : Z) (r : Result W Error)
-    → ((a.now.schema ≡ desk_schema → F a.now b.now) → (b.now.schema ≡ desk_schema → G b.now c.now)
-    → (c.now.schema ≡ desk_schema → K c.now d.now) → (d.now.schema ≡ desk_schema → L d.now e.now) → H a.now e.now)
-    → Survives b c (λ _. ⊥) → Survives c d (λ _. ⊥) → Survives d e (λ _. ⊥)
-    → Makes a b F (Ok x) → Makes b c G (Ok y) → Makes c d K (Ok z) → Makes d e L r → Makes a e H r
-did_four a b c d e F G K L H x y z r join early late last one two three four =
-    did_last a d e L H r last
-    (stayed_then a c d late (stayed_then a b c early (stayed a b F x one) (stayed b c G y two)) (stayed c d K z three))
-    (λ clean inside has next.
-    let clean_c : HasCleanDisk c = omega (arith, late.clean) in
-    let clean_b : HasCleanDisk b = omega (arith, early.clean) in
-    let first = one clean_b inside in
-    let second = two clean_c first.1 in
-    let third = three clean second.1 in
-    join first.2 second.2 third.2 next) four
 
 -- the connection was open, where the last of several statements finds it so
 pub open_then : {X : Type 0} (a b c : Connected) (r : Result X Error) → Survives b c (λ _. ⊥) → Stayed a b

@@ -2,9 +2,9 @@ use Rattle.std.proofs.Common.{Ok, subst}
 use Rattle.sqlite.specs.Held.{state}
 use Rattle.pt_tables_rows.specs.Tables.{Makes}
 use Rattle.pt_tables_writing.specs.Agreeing.{AgreesFor, OfEach}
-use Rattle.pt_tables_writing.specs.Groups.{Leads, WritesFleet, with_people, with_area}
+use Rattle.pt_tables_writing.specs.Groups.{Leads, Then, WritesFleet, with_people, with_area}
 use Rattle.pt_tables_writing.proofs.GroupLemmas.{Known-places, Known-routes, Known-travel, area_leads}
-use Rattle.pt_tables_writing.proofs.TurnLemmas.{did_four}
+use Rattle.pt_tables_writing.proofs.TurnLemmas.{did_as, did_next}
 use Rattle.pt_tables_writing.proofs.writes.write_area.Goals as goal
 
 pub returns-clause-written : goal.returns-clause-written
@@ -18,11 +18,13 @@ returns-clause-written g c =
     let s5 = state g.S.Store c.write_edits-3.new.tx.conn.now in
     let one = subst (λ xs. Makes {X = Unit {0}} s1 s2 (Known-places change xs) (Ok c.in_ok-write_edits.field-0)) c.places_table.ensures.value c.in_ok-write_edits.ensures.written in
     let two = subst (λ xs. Makes {X = Unit {0}} s2 s3 (Known-routes change xs) (Ok c.in_ok-write_edits-2.field-0)) c.routes_table.ensures.value c.in_ok-write_edits-2.ensures.written in
-    let three = c.in_ok-write_fleet.ensures.written in
     let four = subst (λ xs. Makes {X = Unit {0}} s4 s5 (Known-travel change xs) c.write_edits-3.result) c.travel_table.ensures.value c.write_edits-3.ensures.written in
-    did_four {X = Unit {0}} {Y = Unit {0}} {Z = Unit {0}} {W = Unit {0}} s1 s2 s3 s4 s5 (Known-places change known.places) (Known-routes change known.routes)
-    (OfEach (AgreesFor change known) (WritesFleet change)) (Known-travel change known.travel)
-    (OfEach (AgreesFor change known) (λ content. Leads change content (with_people change content) (with_area change (with_people change content))))
-    c.in_ok-write_edits.field-0 c.in_ok-write_edits-2.field-0 c.in_ok-write_fleet.field-0 c.write_edits-3.result
-    (area_leads change known s1.now s2.now s3.now s4.now s5.now)
-    c.in_ok-write_edits-2.ensures.survives c.in_ok-write_fleet.ensures.survives c.write_edits-3.ensures.survives one two three four
+    let F = Known-places change known.places in
+    let G = Known-routes change known.routes in
+    let K = OfEach (AgreesFor change known) (WritesFleet change) in
+    let L = Known-travel change known.travel in
+    did_as {X = Unit {0}} s1 s5 (Then (Then (Then F G) K) L) (OfEach (AgreesFor change known) (λ content. Leads change content (with_people change content) (with_area change (with_people change content)))) c.write_edits-3.result
+    (area_leads change known s1.now s5.now)
+    (did_next {X = Unit {0}} {Y = Unit {0}} s1 s4 s5 (Then (Then F G) K) L tt c.write_edits-3.result c.write_edits-3.ensures.survives
+    (did_next {X = Unit {0}} {Y = Unit {0}} s1 s3 s4 (Then F G) K tt (Ok tt) c.in_ok-write_fleet.ensures.survives
+    (did_next {X = Unit {0}} {Y = Unit {0}} s1 s2 s3 F G tt (Ok tt) c.in_ok-write_edits-2.ensures.survives one two) c.in_ok-write_fleet.ensures.written) four)

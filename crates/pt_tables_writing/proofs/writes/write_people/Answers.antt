@@ -2,9 +2,9 @@ use Rattle.std.proofs.Common.{Ok, subst}
 use Rattle.sqlite.specs.Held.{state}
 use Rattle.pt_tables_rows.specs.Tables.{Makes}
 use Rattle.pt_tables_writing.specs.Agreeing.{AgreesFor, OfEach}
-use Rattle.pt_tables_writing.specs.Groups.{Leads, WritesRiders, with_people}
+use Rattle.pt_tables_writing.specs.Groups.{Leads, Then, WritesRiders, with_people}
 use Rattle.pt_tables_writing.proofs.GroupLemmas.{Known-callers, Known-kept, Known-entries, people_lead}
-use Rattle.pt_tables_writing.proofs.TurnLemmas.{did_four}
+use Rattle.pt_tables_writing.proofs.TurnLemmas.{did_as, did_next}
 use Rattle.pt_tables_writing.proofs.writes.write_people.Goals as goal
 
 pub returns-clause-written : goal.returns-clause-written
@@ -18,11 +18,13 @@ returns-clause-written g c =
     let s5 = state g.S.Store c.write_edits-3.new.tx.conn.now in
     let one = subst (λ xs. Makes {X = Unit {0}} s1 s2 (Known-callers change xs) (Ok c.in_ok-write_edits.field-0)) c.callers_table.ensures.value c.in_ok-write_edits.ensures.written in
     let two = subst (λ xs. Makes {X = Unit {0}} s2 s3 (Known-kept change xs) (Ok c.in_ok-write_edits-2.field-0)) c.kept_table.ensures.value c.in_ok-write_edits-2.ensures.written in
-    let three = c.in_ok-write_riders.ensures.written in
     let four = subst (λ xs. Makes {X = Unit {0}} s4 s5 (Known-entries change xs) c.write_edits-3.result) c.entries_table.ensures.value c.write_edits-3.ensures.written in
-    did_four {X = Unit {0}} {Y = Unit {0}} {Z = Unit {0}} {W = Unit {0}} s1 s2 s3 s4 s5 (Known-callers change known.callers) (Known-kept change known.kept)
-    (OfEach (AgreesFor change known) (WritesRiders change)) (Known-entries change known.entries)
-    (OfEach (AgreesFor change known) (λ content. Leads change content content (with_people change content)))
-    c.in_ok-write_edits.field-0 c.in_ok-write_edits-2.field-0 c.in_ok-write_riders.field-0 c.write_edits-3.result
-    (people_lead change known s1.now s2.now s3.now s4.now s5.now)
-    c.in_ok-write_edits-2.ensures.survives c.in_ok-write_riders.ensures.survives c.write_edits-3.ensures.survives one two three four
+    let F = Known-callers change known.callers in
+    let G = Known-kept change known.kept in
+    let K = OfEach (AgreesFor change known) (WritesRiders change) in
+    let L = Known-entries change known.entries in
+    did_as {X = Unit {0}} s1 s5 (Then (Then (Then F G) K) L) (OfEach (AgreesFor change known) (λ content. Leads change content content (with_people change content))) c.write_edits-3.result
+    (people_lead change known s1.now s5.now)
+    (did_next {X = Unit {0}} {Y = Unit {0}} s1 s4 s5 (Then (Then F G) K) L tt c.write_edits-3.result c.write_edits-3.ensures.survives
+    (did_next {X = Unit {0}} {Y = Unit {0}} s1 s3 s4 (Then F G) K tt (Ok tt) c.in_ok-write_riders.ensures.survives
+    (did_next {X = Unit {0}} {Y = Unit {0}} s1 s2 s3 F G tt (Ok tt) c.in_ok-write_edits-2.ensures.survives one two) c.in_ok-write_riders.ensures.written) four)

@@ -1,8 +1,9 @@
+use Rattle.std.proofs.Common.{Ok}
 use Rattle.sqlite.specs.Held.{state}
 use Rattle.pt_desk_rules.specs.State.{applied}
 use Rattle.pt_tables_writing.specs.Agreeing.{AgreesFor, AgreesWith, OfEach}
-use Rattle.pt_tables_writing.specs.Groups.{Leads, with_people, with_area, with_trips}
-use Rattle.pt_tables_writing.proofs.TurnLemmas.{did_three, open_then, stayed, stayed_then}
+use Rattle.pt_tables_writing.specs.Groups.{Leads, Then, with_people, with_area, with_trips}
+use Rattle.pt_tables_writing.proofs.TurnLemmas.{did_as, did_next, open_then, stayed, stayed_then}
 use Rattle.pt_tables_writing.proofs.writes.write_tables.Goals as goal
 
 pub returns-clause-written : goal.returns-clause-written
@@ -14,17 +15,18 @@ returns-clause-written g c =
     let s2 = state g.S.Store c.write_people.new.tx.conn.now in
     let s3 = state g.S.Store c.write_area.new.tx.conn.now in
     let s4 = state g.S.Store c.write_trips.new.tx.conn.now in
-    did_three {X = Unit {0}} {Y = Unit {0}} {Z = Unit {0}} s1 s2 s3 s4
-    (OfEach (AgreesFor change known) (λ content. Leads change content content (with_people change content)))
-    (OfEach (AgreesFor change known) (λ content. Leads change content (with_people change content) (with_area change (with_people change content))))
-    (OfEach (AgreesWith change known plans) (λ content. Leads change content (with_area change (with_people change content)) (with_trips change (with_area change (with_people change content)))))
-    (OfEach (AgreesWith change known plans) (λ content. Leads change content content (applied change content)))
-    c.in_ok-write_people.field-0 c.in_ok-write_area.field-0 c.write_trips.result
-    (λ one two three there agrees told puts stands.
-    let first = one stands.schema there agrees.0 told puts stands in
-    let second = two first.schema there agrees.0 told puts first in
-    three second.schema there agrees told puts second)
-    c.in_ok-write_area.ensures.survives c.write_trips.ensures.survives c.in_ok-write_people.ensures.written c.in_ok-write_area.ensures.written c.write_trips.ensures.written
+    let F = OfEach (AgreesFor change known) (λ content. Leads change content content (with_people change content)) in
+    let G = OfEach (AgreesFor change known) (λ content. Leads change content (with_people change content) (with_area change (with_people change content))) in
+    let K = OfEach (AgreesWith change known plans) (λ content. Leads change content (with_area change (with_people change content)) (with_trips change (with_area change (with_people change content)))) in
+    did_as {X = Unit {0}} s1 s4 (Then (Then F G) K) (OfEach (AgreesWith change known plans) (λ content. Leads change content content (applied change content))) c.write_trips.result
+    (λ three there agrees told puts stands.
+    let two = three.1 in
+    let first = two.1 there agrees.0 told puts stands in
+    let second = two.2 first.schema there agrees.0 told puts first in
+    three.2 second.schema there agrees told puts second)
+    (did_next {X = Unit {0}} {Y = Unit {0}} s1 s3 s4 (Then F G) K tt c.write_trips.result c.write_trips.ensures.survives
+    (did_next {X = Unit {0}} {Y = Unit {0}} s1 s2 s3 F G tt (Ok tt) c.in_ok-write_area.ensures.survives c.in_ok-write_people.ensures.written c.in_ok-write_area.ensures.written)
+    c.write_trips.ensures.written)
 
 pub returns-clause-open : goal.returns-clause-open
 returns-clause-open g c clean inside =
