@@ -1,88 +1,44 @@
 -- The schemas of both versions are such as are compared field by field.
-use Rattle.std.proofs.Common.{◌≡◌, ◌↔◌, ◌++◌, List, [], ◌∷◌, Bool, IsTrue, refl, sym, subst, rules}
+use Rattle.std.proofs.Common.{◌≡◌, ◌↔◌, List, [], ◌∷◌, map, drop, get_or, Bool, IsTrue, refl, sym, ap, subst}
 use Rattle.std.specs.List.{AllByRecursion}
 use Rattle.sqlite.specs.Schema.{Schema}
 use Rattle.sqlite.specs.Table.{Table}
-use Rattle.pt_tables_opening.specs.Plain.{IsPlainTable, IsPlainSchema}
-use Rattle.pt_tables_rows.specs.Schema.{desk_schema, first_schema, first_tables, chairs_tables, rider_chairs_table, vehicle_chairs_table, trip_chairs_table, desk_table, callers_table, kept_table, places_table, fixed_table, vehicles_table, riders_table, entries_table, trips_table, stops_table, travel_table}
+use Rattle.sqlite.specs.declared.types.Value.TheVariants.{Null}
+use Rattle.sqlite_schema.specs.declared.schema.Column.{Column}
+use Rattle.pt_tables_opening.specs.Plain.{IsPlainColumn, IsPlainTable, IsPlainSchema, no_stamps}
+use Rattle.pt_tables_rows.specs.Schema.{desk_schema, first_schema, first_tables, tables}
 
-desk_plain : IsPlainTable desk_table
-desk_plain = record { columns = search rules; checks = refl; stamps = refl }
+-- with no default
+abbrev bare_column : Column → Column
+bare_column column = record column { default = Null }
 
-callers_plain : IsPlainTable callers_table
-callers_plain = record { columns = search rules; checks = refl; stamps = refl }
+-- with no default and no CHECK
+abbrev bare_table : Table → Table
+bare_table table = record table { columns = map bare_column table.columns; checks = []; stamps = no_stamps }
 
-kept_plain : IsPlainTable kept_table
-kept_plain = record { columns = search rules; checks = refl; stamps = refl }
+plain_columns : (columns : List Column) → map bare_column columns ≡ columns → AllByRecursion IsPlainColumn columns
+plain_columns [] same = tt
+plain_columns (column ∷ columns) same = (sym (ap (λ (l : List Column). (get_or l 0 column).default) same), plain_columns columns (ap (drop 1) same))
 
-places_plain : IsPlainTable places_table
-places_plain = record { columns = search rules; checks = refl; stamps = refl }
+plain_table : (table : Table) → bare_table table ≡ table → IsPlainTable table
+plain_table table same = record {
+  columns = plain_columns table.columns (ap (λ (t : Table). t.columns) same);
+  checks = sym (ap (λ (t : Table). t.checks) same);
+  stamps = sym (ap (λ (t : Table). t.stamps) same);
+}
 
-fixed_plain : IsPlainTable fixed_table
-fixed_plain = record { columns = search rules; checks = refl; stamps = refl }
-
-vehicles_plain : IsPlainTable vehicles_table
-vehicles_plain = record { columns = search rules; checks = refl; stamps = refl }
-
-riders_plain : IsPlainTable riders_table
-riders_plain = record { columns = search rules; checks = refl; stamps = refl }
-
-entries_plain : IsPlainTable entries_table
-entries_plain = record { columns = search rules; checks = refl; stamps = refl }
-
-trips_plain : IsPlainTable trips_table
-trips_plain = record { columns = search rules; checks = refl; stamps = refl }
-
-stops_plain : IsPlainTable stops_table
-stops_plain = record { columns = search rules; checks = refl; stamps = refl }
-
-travel_plain : IsPlainTable travel_table
-travel_plain = record { columns = search rules; checks = refl; stamps = refl }
-
-rider_chairs_plain : IsPlainTable rider_chairs_table
-rider_chairs_plain = record { columns = search rules; checks = refl; stamps = refl }
-
-vehicle_chairs_plain : IsPlainTable vehicle_chairs_table
-vehicle_chairs_plain = record { columns = search rules; checks = refl; stamps = refl }
-
-trip_chairs_plain : IsPlainTable trip_chairs_table
-trip_chairs_plain = record { columns = search rules; checks = refl; stamps = refl }
-
-first_tables_plain : AllByRecursion IsPlainTable first_tables
-first_tables_plain = (
-  desk_plain,
-  (
-    callers_plain,
-    (
-      kept_plain,
-      (
-        places_plain,
-        (
-          fixed_plain,
-          (
-            vehicles_plain,
-            (riders_plain, (entries_plain, (trips_plain, (stops_plain, (travel_plain, tt))))),
-          ),
-        ),
-      ),
-    ),
-  ),
-)
-
-chairs_tables_plain : AllByRecursion IsPlainTable chairs_tables
-chairs_tables_plain = (rider_chairs_plain, (vehicle_chairs_plain, (trip_chairs_plain, tt)))
-
-all_plain : (ones others : List Table) → AllByRecursion IsPlainTable ones → AllByRecursion IsPlainTable others → AllByRecursion IsPlainTable (ones ++ others)
-all_plain [] others plain also = also
-all_plain (one ∷ ones) others plain also = (plain.0, all_plain ones others plain.1 also)
+-- tables that are the same without are plain
+plain_tables : (ts : List Table) → map bare_table ts ≡ ts → AllByRecursion IsPlainTable ts
+plain_tables [] same = tt
+plain_tables (t ∷ ts) same = (plain_table t (ap (λ (l : List Table). get_or l 0 t) same), plain_tables ts (ap (drop 1) same))
 
 pub desk_schema_plain : IsPlainSchema desk_schema
 unfolding desk_schema
-desk_schema_plain = record { tables = all_plain first_tables chairs_tables first_tables_plain chairs_tables_plain; views = refl }
+desk_schema_plain = record { tables = plain_tables tables refl; views = refl }
 
 pub first_schema_plain : IsPlainSchema first_schema
 unfolding first_schema
-first_schema_plain = record { tables = first_tables_plain; views = refl }
+first_schema_plain = record { tables = plain_tables first_tables refl; views = refl }
 
 -- a schema that was made as a plain one
 module _ (made plain : Schema) (is : made ≡ plain) where
