@@ -6,8 +6,7 @@ use Rattle.sqlite.specs.Tree.{Trees}
 use Rattle.sqlite.proofs.Callers.{one_permutation}
 use Rattle.pt_base.specs.declared.policy.Policy.{Policy}
 use Rattle.pt_tables_reading.specs.Reading.{agency_row, FitsAgency}
-use Rattle.pt_base.specs.Codes.{memory_refused}
-use Rattle.pt_tables_opening.specs.Faults.{fault, store_refused, tables_refused, unsound}
+use Rattle.pt_tables_opening.specs.Faults.{fault, tables_refused, unsound}
 use Rattle.pt_tables_opening.specs.Refused.{SparesOtherVersion}
 use Rattle.pt_tables_opening.specs.Standing.{NoneStandsTo}
 use Rattle.pt_tables_opening.specs.declared.open_fault.OpenFault.{OpenFault}
@@ -60,10 +59,6 @@ this_version trees policy last_trip are other =
 -- where the version is this one, any refusal may come
 pub spares_none : (trees : Trees) (policy : Policy) (last_trip : ℕ) → AreRows desk_table trees (desk_row policy last_trip ∷ []) → (it : OpenFault) → SparesOtherVersion trees it
 spares_none trees policy last_trip are it = λ other code. this_version trees policy last_trip are other
-
-pub spares_by_store : (trees : Trees) (it : OpenFault) → (it ≡ fault memory_refused) ⊎ (it ≡ fault store_refused) → SparesOtherVersion trees it
-spares_by_store trees it (inl memory) = λ other code. let n : it.code ≡ 0 = ap code_of memory in let m : it.code ≡ 31 = code in absurd (omega arith)
-spares_by_store trees it (inr store) = λ other code. let n : it.code ≡ 32 = ap code_of store in let m : it.code ≡ 31 = code in absurd (omega arith)
 
 pub spares_by_tables : (trees : Trees) (it : OpenFault) → it ≡ fault tables_refused → SparesOtherVersion trees it
 spares_by_tables trees it is = λ other code. let n : it.code ≡ 30 = ap code_of is in let m : it.code ≡ 31 = code in absurd (omega arith)

@@ -1,17 +1,8 @@
--- A desk that has records of no table, and one that has those of a table more.
-use Rattle.std.proofs.Common.{◌≡◌, ◌++◌, ◌<◌, ℕ, List, [], ◌∷◌, Option, Some, append_assoc, append-nil, refl, sym, ap, subst, ◌∙◌}
-use Rattle.pt_base.specs.declared.policy.Policy.{Policy}
-use Rattle.pt_desk.specs.LeastState.{IsLeastState}
-use Rattle.pt_desk_rules.specs.Deciding.{no_change}
-use Rattle.pt_desk_rules.specs.State.{State, applied, caller_key}
-use Rattle.pt_desk_rules.specs.declared.change.Change.{Change}
+-- A table that had no records has what is put, and one whose records are put anew has the new ones.
+use Rattle.std.proofs.Common.{◌≡◌, ◌++◌, ◌<◌, ℕ, List, [], ◌∷◌, append_assoc, append-nil, refl, sym, ap, subst, ◌∙◌}
 use Rattle.pt_records.specs.Records.{Each, Edit, IsInOrder, edited, put, put_all, take_all}
-use Rattle.pt_records.specs.declared.span.Span.{Span}
 use Rattle.pt_records.proofs.RecordLemmas.{put_over, put_past}
 use Rattle.pt_soundness.proofs.PairedLemmas.{Paired}
-use Rattle.pt_soundness.specs.Tables.{all_tables}
-use Rattle.pt_tables_opening.specs.Steps.{HasNoneIn}
-use Rattle.pt_tables_opening.specs.Agency.{numbers}
 use Rattle.pt_tables_opening.specs.Gathered.{IsFitting, PutsInOrder}
 
 -- ---- a table of nothing but what was put
@@ -20,7 +11,7 @@ put_last : {A : Type 0} (key : A → ℕ) (new : A) (xs : List A) → Each (λ x
 put_last key new [] low = refl
 put_last key new (x ∷ xs) low = put_past key new x xs low.0 ∙ ap (λ l. x ∷ l) (put_last key new xs low.1)
 
-mid : {A : Type 0} (P : A → Type 0) (done : List A) (x : A) (xs : List A) → Each P (done ++ x ∷ xs) → P x
+pub mid : {A : Type 0} (P : A → Type 0) (done : List A) (x : A) (xs : List A) → Each P (done ++ x ∷ xs) → P x
 mid P [] x xs each = each.0
 mid P (d ∷ done) x xs each = mid P done x xs each.1
 
@@ -69,55 +60,3 @@ put_again key (new ∷ news) (x ∷ xs) done same order =
 
 pub anew : {A : Type 0} (key : A → ℕ) (edit : Edit A) (xs : List A) → PutsInOrder key edit → Paired (λ new x. key x ≡ key new) edit.puts xs → edited key edit xs ≡ edit.puts
 anew key edit xs puts same = ap (λ l. put_all key edit.puts (take_all key l xs)) puts.0 ∙ put_again key edit.puts xs [] same puts.1
-
--- ---- a desk with no records
-
--- all callers are gone
-abbrev pub agency_change : Policy → Option ℕ → Change
-agency_change policy last = record no_change { policy = Some policy; last_trip = last }
-
-abbrev pub with_all_gone : Span → Change → Change
-with_all_gone span change = record change { callers = record { away = change.callers.away ++ span ∷ []; puts = change.callers.puts } }
-
-pub none_left : (policy : Policy) (last : Option ℕ) (key : List ℕ) (least : State) → IsLeastState key least
-    → Each (HasNoneIn (applied (with_all_gone numbers (agency_change policy last)) least)) all_tables
-none_left policy last key least is = (
-  tt,
-  (
-    ap (take_all caller_key (numbers ∷ [])) is.callers,
-    (
-      is.kept,
-      (
-        is.places,
-        (
-          is.routes,
-          (
-            is.vehicles,
-            (
-              is.riders,
-              (
-                is.entries,
-                (
-                  is.trips,
-                  (
-                    is.planned,
-                    (
-                      is.travel,
-                      (
-                        tt,
-                        (
-                          tt,
-                          (tt, tt),
-                        ),
-                      ),
-                    ),
-                  ),
-                ),
-              ),
-            ),
-          ),
-        ),
-      ),
-    ),
-  ),
-)

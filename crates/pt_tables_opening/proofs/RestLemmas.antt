@@ -1,5 +1,5 @@
 -- What reads of the tables leave, one after the other.
-use Rattle.std.proofs.Common.{◌≡◌, ◌≢◌, inl, inr, ℕ, List, false, Result, Ok, Err, IfOk, IfErr, Vec, Option, Some, None, sym, ap, subst, ◌∙◌, arith}
+use Rattle.std.proofs.Common.{◌≡◌, ◌≢◌, inl, inr, ℕ, List, false, Result, Ok, Err, IfOk, IfErr, IsErr, Vec, Option, Some, None, sym, ap, subst, ◌∙◌, arith}
 use Rattle.std.specs.declared.alloc.Global.{Global}
 use Rattle.sqlite.specs.Effect.{Database}
 use Rattle.sqlite.specs.Given.{IsPlain}
@@ -114,3 +114,15 @@ module _ {X Y E F : Type 0} (old mid : Connected) (x : X) where
         now = λ here same. b.now here (a.0.committed_is ∙ same ∙ sym a.0.now_is) ∙ a.0.now_is;
         committed = λ here. b.committed here ∙ a.0.committed_is;
       }
+
+-- reads that answered, and then no more
+pub last : {X Y E F : Type 0} (old new : Connected) (r : Result X E) (x : X) → r ≡ Ok x → Rests old new r → (s : Result Y F) → Rests old new s
+last old new r x is h s = rests_so old new x (subst (Rests old new) is h) s
+
+-- a read that failed, told as it is told
+pub refused : {X Y E F : Type 0} (old new : Connected) (r : Result X E) (s : Result Y F) → IsErr s → Rests old new r → Rests old new s
+refused {X} {Y} {E} {F} old new r s bad h = record { settled = h.settled; same = λ clean has. none s bad; stays = h.stays; survives = h.survives }
+  where
+    none : (s : Result Y F) → IsErr s → IfOk s (λ _. IsUnchanged old new)
+    none (Ok y) bad = absurd (cc)
+    none (Err e) bad = tt

@@ -25,14 +25,15 @@ use Rattle.pt_soundness.proofs.PairedLemmas.{Paired, paired_by}
 use Rattle.pt_spelling.proofs.FieldLemmas.{days-same}
 use Rattle.pt_tables_opening.specs.Gathered.{FitsRows}
 use Rattle.pt_desk_rules.specs.Ranges.{FitsTravel}
-use Rattle.pt_tables_opening.specs.Standing.{HasRowsIn, StandsIn, StandsTo}
-use Rattle.pt_tables_opening.specs.Steps.{IsLaidIn, HasRowsTo}
+use Rattle.pt_tables_opening.specs.Standing.{StandsIn, StandsTo}
+use Rattle.pt_tables_opening.specs.Steps.{HasRowsTo}
+use Rattle.pt_tables_opening.specs.Tables.{HasRowsIn, IsLaidIn}
 use Rattle.pt_desk_rules.specs.Ranges.{FitsFiled}
 use Rattle.pt_spelling.specs.Ranges.{IsRoute, IsVehicle}
 use Rattle.pt_desk_rules.specs.Ranges.{FitsKept, FitsRider, FitsTrip}
 use Rattle.pt_tables_rows.specs.Rows.{caller_row, kept_row, place_row, route_row, vehicle_row, rider_row, entry_row, trip_row, stop_rows, travel_rows, vehicle_chair_rows, trip_chair_rows}
 use Rattle.pt_tables_rows.specs.WellFormed.{IsStoredPlan}
-use Rattle.pt_tables_opening.proofs.LaidLemmas.{laid_in, ranges_laid}
+use Rattle.pt_tables_opening.proofs.TableCases.{laid_in, ranges_laid}
 use Rattle.pt_tables_rows.proofs.SameRowsLists.{told_by_rows, told_by_row, told_by_any_row, told_beside, in_one_order, one_same}
 use Rattle.pt_tables_rows.proofs.SameRowsRecords.{number_in, known_in, known-value, so_keyed, last_trip-told, caller-told, kept-told, place-told, route-told, vehicle-told, entry-told, trip-told}
 use Rattle.pt_tables_rows.proofs.SameRowsGroups.{stops-keyed, stops-some, plan-told, drives-keyed, table-told}

@@ -2,6 +2,7 @@
 use Rattle.std.proofs.Common.{◌≡◌, ℕ, List, [], ◌∷◌, map, filter, Bool, true, Result, Ok, Err, IfOk, Vec, refl, ap, subst}
 use Rattle.std.specs.Prelude.{IsPermutation}
 use Rattle.std.specs.declared.alloc.Global.{Global}
+use Rattle.sqlite.specs.Effect.{Database, Reads}
 use Rattle.sqlite.specs.Listing.{understood}
 use Rattle.sqlite.specs.Order.{Row}
 use Rattle.sqlite.specs.Schema.{Schema}
@@ -12,6 +13,7 @@ use Rattle.sqlite.proofs.Callers.{reads_as}
 use Rattle.pt_tables_asking.specs.Asking.{AreInOrder, command_in}
 use Rattle.pt_tables_asking.proofs.AskedQueries.{AsksForIn, answers_passing}
 use Rattle.pt_tables_asking.proofs.InsideLemmas.{same_command}
+use Rattle.pt_tables_opening.specs.Opening.{AsksForAll}
 use Rattle.pt_tables_rows.specs.Schema.{desk_schema}
 use Rattle.pt_tables_rows.specs.Tables.{AreRows, columns_of}
 
@@ -31,18 +33,30 @@ all_there : (rows : List Row) → filter any_row rows ≡ rows
 all_there [] = refl
 all_there (row ∷ rows) = ap (λ l. row ∷ l) (all_there rows)
 
-module _ (schema : Schema) (columns : ℕ) (table : Table) (text : List ℕ) (asks : AsksAllIn schema columns table text) (old new : Connected) (has : old.now.schema ≡ schema) where
-  answered : (rows : List Row) → Shown text [] old new rows → IsPermutation (filter any_row (map (columns_of table) (old.now.trees table.tree))) rows × AreInOrder columns rows
-  answered rows shown =
-      answers_passing schema columns table text [] any_row asks old.now rows
-      (reads_as text [] old new schema has (command_in (understood schema text)) (same_command (understood schema text)) asks.plain asks.unlisted rows shown)
+module _ (schema : Schema) (columns : ℕ) (table : Table) (text : List ℕ) (asks : AsksAllIn schema columns table text) where
+  -- the rows answered are those of the table, in order
+  answered : (db : Database) (rows : List Row) → Reads (command_in (understood schema text)) db [] rows → AreRows table db.trees rows × AreInOrder columns rows
+  answered db rows read =
+      let told = answers_passing schema columns table text [] any_row asks db rows read in
+      (subst (λ l. IsPermutation l rows) (all_there (map (columns_of table) (db.trees table.tree))) told.0, told.1)
 
-  -- the rows shown are those of the table
-  pub shows_all : (r : Result (Vec Row Global) Error) → IfOk r (λ rows. Shown text [] old new rows.items) → IfOk r (λ rows. AreRows table old.now.trees rows.items)
-  shows_all (Ok rows) shown = subst (λ l. IsPermutation l rows.items) (all_there (map (columns_of table) (old.now.trees table.tree))) (answered rows.items shown).0
-  shows_all (Err e) shown = tt
+  -- and so are those shown
+  pub shows_all : (old new : Connected) → old.now.schema ≡ schema → (r : Result (Vec Row Global) Error) → IfOk r (λ rows. Shown text [] old new rows.items) → IfOk r (λ rows. AreRows table old.now.trees rows.items)
+  shows_all old new has (Ok rows) shown =
+      (answered old.now rows.items (reads_as text [] old new schema has (command_in (understood schema text)) (same_command (understood schema text)) asks.plain asks.unlisted rows.items shown)).0
+  shows_all old new has (Err e) shown = tt
 
-  -- and they are in order
-  pub shows_order : (r : Result (Vec Row Global) Error) → IfOk r (λ rows. Shown text [] old new rows.items) → IfOk r (λ rows. AreInOrder columns rows.items)
-  shows_order (Ok rows) shown = (answered rows.items shown).1
-  shows_order (Err e) shown = tt
+-- a text that asks for all rows in the order of columns asks for them in each order that this one gives
+pub asks_for_all : (columns : ℕ) (table : Table) (text : List ℕ) (Ordered : List Row → Type 0) → AsksAll columns table text → ((rows : List Row) → AreInOrder columns rows → Ordered rows)
+    → AsksForAll text table Ordered
+asks_for_all columns table text Ordered asks ordered = record {
+  plain = asks.plain;
+  unlisted = asks.unlisted;
+  answer = λ db rows read. let told = answered desk_schema columns table text asks db rows read in (told.0, ordered rows told.1);
+}
+
+-- what is shown where it was asked for
+pub shows_asked : {text : List ℕ} {table : Table} {Ordered : List Row → Type 0} → AsksForAll text table Ordered → (old new : Connected) → old.now.schema ≡ desk_schema → (rows : List Row) → Shown text [] old new rows
+    → AreRows table old.now.trees rows × Ordered rows
+shows_asked {text} asked old new has rows shown =
+    asked.answer old.now rows (reads_as text [] old new desk_schema has (command_in (understood desk_schema text)) (same_command (understood desk_schema text)) asked.plain asked.unlisted rows shown)

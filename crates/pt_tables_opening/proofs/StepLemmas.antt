@@ -1,16 +1,15 @@
 -- Reads of the tables one after the other, each judged before the next.
-use Rattle.std.proofs.Common.{◌≡◌, ◌-◌, ◌<◌, ◌≤◌, ◌↔◌, ◌++◌, ◌⊎◌, inl, inr, ℕ, zero, suc, Option, None, Some, IsSome, IfSome, List, [], ◌∷◌, take, Result, Ok, Err, IfOk, IfErr, IsErr, IsErrAnd, refl, sym, ap, subst, subst₂, arith}
-use Rattle.std.specs.Option.{unwrap_or}
+use Rattle.std.proofs.Common.{◌≡◌, ◌-◌, ◌<◌, ◌⊎◌, inl, inr, ℕ, zero, suc, List, take, Result, Ok, Err, IfOk, IfErr, IsErr, IsErrAnd, sym, ap, subst, arith}
 use Rattle.sqlite.specs.Effect.{Database}
-use Rattle.sqlite.specs.State.{State as Connected, HasCleanDisk, IsUnchanged}
+use Rattle.sqlite.specs.State.{State as Connected, HasCleanDisk}
 use Rattle.sqlite.specs.Tree.{Trees}
 use Rattle.pt_base.specs.Codes.{memory_refused}
-use Rattle.pt_base.specs.declared.policy.Policy.{Policy}
 use Rattle.pt_desk.specs.Listed.{Listed}
 use Rattle.pt_desk_rules.specs.Sound.{IsSound}
 use Rattle.pt_desk_rules.specs.State.{State, applied}
 use Rattle.pt_desk_rules.specs.declared.change.Change.{Change}
 use Rattle.pt_records.specs.Records.{Each}
+use Rattle.pt_records.proofs.OrderLemmas.{Each-both}
 use Rattle.pt_soundness.specs.Tables.{all_tables, number_of, table_count, IsSoundIn}
 use Rattle.pt_soundness.specs.declared.unsound_table.UnsoundTable.{UnsoundTable}
 use Rattle.pt_soundness.specs.declared.unsound_table.UnsoundTable.TheVariants as table
@@ -18,37 +17,16 @@ use Rattle.pt_soundness.proofs.TableLemmas.{sound_in, sound_of}
 use Rattle.pt_tables_opening.specs.Faults.{IsRefusal, fault, store_refused, tables_refused, unsound}
 use Rattle.pt_tables_opening.specs.Opening.{Rests}
 use Rattle.pt_tables_opening.specs.Refused.{AreUnsound, SparesOtherVersion, TellsWhy}
-use Rattle.pt_tables_opening.specs.Standing.{HasRowsIn, IsFirstAtFault, NoneStandsTo, StandsIn, StandsTo}
-use Rattle.pt_spelling.specs.Ranges.{IsWord}
-use Rattle.pt_tables_opening.specs.Steps.{HasNoneIn, HasRowsTo, IsFaultOf, IsLaidIn, IsReadIn, IsReadTo, OpensTable, OpensTo, ReadsTable}
-use Rattle.pt_tables_opening.specs.Agency.{HasOtherVersion, IsAgencyOf}
+use Rattle.pt_tables_opening.specs.Standing.{IsFirstAtFault, NoneStandsTo, StandsIn}
+use Rattle.pt_tables_opening.specs.Steps.{HasRowsTo, IsFaultOf, IsReadIn, IsReadTo, OpensTable, OpensTo, ReadsTable}
+use Rattle.pt_tables_opening.specs.Tables.{HasRowsIn, IsLaidIn}
+use Rattle.pt_tables_opening.specs.Agency.{HasOtherVersion}
 use Rattle.pt_tables_opening.specs.declared.open_fault.OpenFault.{OpenFault}
-use Rattle.pt_tables_opening.proofs.AgencyLemmas.{spares_by_store, spares_none}
-use Rattle.pt_tables_opening.proofs.GatheredLemmas.{each_push}
-use Rattle.pt_tables_opening.proofs.RestLemmas.{rests_so, rests_then}
-use Rattle.pt_tables_opening.proofs.LaidLemmas.{each_laid}
+use Rattle.pt_tables_opening.proofs.AgencyLemmas.{spares_none}
+use Rattle.pt_tables_opening.proofs.RestLemmas.{last, refused, rests_so, rests_then}
 use Rattle.pt_tables_opening.proofs.SameTables.{sound_there}
-use Rattle.pt_tables_rows.specs.Rows.{desk_row}
-use Rattle.pt_tables_rows.specs.Schema.{desk_schema, desk_table}
-use Rattle.pt_tables_rows.specs.Tables.{AreRows, HasRows}
-
--- reads that answered, and then no more
-pub last : {X Y E F : Type 0} (old new : Connected) (r : Result X E) (x : X) → r ≡ Ok x → Rests old new r → (s : Result Y F) → Rests old new s
-last old new r x is h s = rests_so old new x (subst (Rests old new) is h) s
-
--- a read that failed, told as it is told
-pub refused : {X Y E F : Type 0} (old new : Connected) (r : Result X E) (s : Result Y F) → IsErr s → Rests old new r → Rests old new s
-refused {X} {Y} {E} {F} old new r s bad h = record { settled = h.settled; same = λ clean has. none s bad; stays = h.stays; survives = h.survives }
-  where
-    none : (s : Result Y F) → IsErr s → IfOk s (λ _. IsUnchanged old new)
-    none (Ok y) bad = absurd (cc)
-    none (Err e) bad = tt
-
--- the number of a trip, where there was none
-pub last_is : (o : Option ℕ) (n : ℕ) → (IsSome o ↔ (1 ≤ n)) → IfSome o (λ id. id ≡ n) → unwrap_or o 0 ≡ n
-last_is (Some id) n some is = is
-last_is None zero some is = refl
-last_is None (suc n) some is = absurd (let no : IsSome {T = ℕ} None = some.1 (omega arith) in cc)
+use Rattle.pt_tables_opening.proofs.TableCases.{and_in, each_laid, each_table, last_table, rows_in}
+use Rattle.pt_tables_rows.specs.Schema.{desk_schema}
 
 -- a refusal that is passed on
 pub passed_on : {X F : Type 0} (P : F → Type 0) (e : F) → P e → (r : Result X F) → IsErrAnd r (λ f. f ≡ e) → IfErr r P
@@ -62,104 +40,17 @@ no_answer P (Err f) bad = tt
 
 -- ---- the tables in their order
 
--- a table stands after all before it
-pub after_all : (t : UnsoundTable) → take (number_of t) all_tables ≡ take (number_of t - 1) all_tables ++ t ∷ []
-after_all table.Desk = refl
-after_all table.Callers = refl
-after_all table.Kept = refl
-after_all table.Places = refl
-after_all table.Fixed = refl
-after_all table.Vehicles = refl
-after_all table.Riders = refl
-after_all table.Entries = refl
-after_all table.Trips = refl
-after_all table.Stops = refl
-after_all table.Travel = refl
-after_all table.RiderChairs = refl
-after_all table.VehicleChairs = refl
-after_all table.TripChairs = refl
-
-last_table : (t : UnsoundTable) → number_of t ≤ table_count
-last_table table.Desk = omega arith
-last_table table.Callers = omega arith
-last_table table.Kept = omega arith
-last_table table.Places = omega arith
-last_table table.Fixed = omega arith
-last_table table.Vehicles = omega arith
-last_table table.Riders = omega arith
-last_table table.Entries = omega arith
-last_table table.Trips = omega arith
-last_table table.Stops = omega arith
-last_table table.Travel = omega arith
-last_table table.RiderChairs = omega arith
-last_table table.VehicleChairs = omega arith
-last_table table.TripChairs = omega arith
-
-each_first : {A : Type 0} (P : A → Type 0) (n : ℕ) (xs : List A) → Each P xs → Each P (take n xs)
-each_first P zero [] each = tt
-each_first P zero (x ∷ xs) each = tt
-each_first P (suc n) [] each = tt
-each_first P (suc n) (x ∷ xs) each = (each.0, each_first P n xs each.1)
-
 -- the agency's table is the first
 agency_first : (P : UnsoundTable → Type 0) (n : ℕ) → 0 < n → Each P (take n all_tables) → P table.Desk
 agency_first P zero some each = absurd (omega arith)
 agency_first P (suc n) some each = each.0
 
--- what holds before a table and in it
-and_in : (P : UnsoundTable → Type 0) (t : UnsoundTable) → Each P (take (number_of t - 1) all_tables) → P t → Each P (take (number_of t) all_tables)
-and_in P t before here = subst (Each P) (sym (after_all t)) (each_push P (take (number_of t - 1) all_tables) t before here)
-
 all_stand : (s : State) (trees : Trees) (ts : List UnsoundTable) → Each (IsSoundIn s) ts → Each (HasRowsIn s trees) ts → Each (StandsIn s trees) ts
-all_stand s trees [] sound rows = tt
-all_stand s trees (t ∷ ts) sound rows = (record { rows = rows.0; sound = sound.0 }, all_stand s trees ts sound.1 rows.1)
-
--- a sound state with these rows stands in all tables
-stands : (s : State) (trees : Trees) → IsSound s → HasRows s trees → StandsTo table_count s trees
-stands s trees sound has = (
-  record { rows = has.records.desk; sound = sound_in s sound table.Desk },
-  (
-    record { rows = has.records.callers; sound = sound_in s sound table.Callers },
-    (
-      record { rows = has.records.kept; sound = sound_in s sound table.Kept },
-      (
-        record { rows = has.records.places; sound = sound_in s sound table.Places },
-        (
-          record { rows = has.records.fixed; sound = sound_in s sound table.Fixed },
-          (
-            record { rows = has.records.vehicles; sound = sound_in s sound table.Vehicles },
-            (
-              record { rows = has.records.riders; sound = sound_in s sound table.Riders },
-              (
-                record { rows = has.records.entries; sound = sound_in s sound table.Entries },
-                (
-                  record { rows = has.records.trips; sound = sound_in s sound table.Trips },
-                  (
-                    record { rows = has.records.stops; sound = sound_in s sound table.Stops },
-                    (
-                      record { rows = has.records.travel; sound = sound_in s sound table.Travel },
-                      (
-                        record { rows = has.rider_chairs; sound = sound_in s sound table.RiderChairs },
-                        (
-                          record { rows = has.vehicle_chairs; sound = sound_in s sound table.VehicleChairs },
-                          (record { rows = has.trip_chairs; sound = sound_in s sound table.TripChairs }, tt),
-                        ),
-                      ),
-                    ),
-                  ),
-                ),
-              ),
-            ),
-          ),
-        ),
-      ),
-    ),
-  ),
-)
+all_stand s trees = Each-both (IsSoundIn s) (HasRowsIn s trees) (StandsIn s trees) (λ t sound rows. record { rows = rows; sound = sound })
 
 -- rows that no content stands for are those of no sound state
 none_sound : (n : ℕ) (trees : Trees) → NoneStandsTo n trees → AreUnsound trees
-none_sound n trees none = λ s sound has. none s (each_first (StandsIn s trees) n all_tables (stands s trees sound has))
+none_sound n trees none = λ s sound has. none s (each_table (StandsIn s trees) (λ t. record { rows = rows_in s trees has t; sound = sound_in s sound t }) (take n all_tables))
 
 -- ---- what a refusal tells
 
@@ -280,9 +171,10 @@ module _ (t : UnsoundTable) (old mid new : Connected) (keeper : Listed) (later :
   first_then r k clean has none =
       let same = same_then clean r k has in
       let before = before_then clean r k has in
+      let s = keeper.content in
       record {
-        none = subst (λ (db : Database). db.schema ≡ desk_schema → HasRowsTo (number_of t - 1) keeper.content db.trees → NoneStandsTo (number_of t) db.trees) same (none clean) has before;
-        before = λ _. (keeper.content, all_stand keeper.content old.now.trees (take (number_of t - 1) all_tables) h.read.sound before);
+        none = subst (λ (db : Database). db.schema ≡ desk_schema → HasRowsTo (number_of t - 1) s db.trees → NoneStandsTo (number_of t) db.trees) same (none clean) has before;
+        before = λ _. (s, all_stand s old.now.trees (take (number_of t - 1) all_tables) h.read.sound before);
       }
 
   pub opens_then : (r : Result Listed OpenFault) → OpensTable t mid new keeper.content r → OpensTo (number_of t) old new r
@@ -360,27 +252,6 @@ agency_fails old new r e rests faults version out bad same = record {
   faults = passed_on _ e (agency_refusal old new e faults) out same;
   why = λ clean has. passed_on _ e (agency_tells old new e faults clean has) out same;
   version = λ clean has. passed_on _ e (version clean has) out same;
-}
-
-pub agency_opens : (old new : Connected) (r : Result (Policy × ℕ) OpenFault) (agency : Policy × ℕ) → r ≡ Ok agency → Rests old new r
-    → (HasCleanDisk new → old.now.schema ≡ desk_schema → IsAgencyOf old.now.trees agency) → (out : Result Listed OpenFault) → IfOk out (λ keeper. keeper.content.policy ≡ agency.0)
-    → IfOk out (λ keeper. keeper.content.last_trip ≡ agency.1) → IfOk out (λ keeper. IsWord keeper.content.last_trip) → IfOk out (λ keeper. Each (HasNoneIn keeper.content) all_tables)
-    → IfErr out (λ it. it ≡ fault memory_refused) → OpensTo 1 old new out
-agency_opens old new r agency is rests of (Ok keeper) policy trip word none memory = record {
-  rests = last old new r agency is rests (Ok keeper);
-  read = record { sound = ((word, tt), tt); later = none.1 };
-  rows = λ clean has. (subst₂ (λ (p : Policy) (n : ℕ). AreRows desk_table old.now.trees (desk_row p n ∷ [])) (sym policy) (sym trip) (of clean has).row_is, tt);
-  faults = tt;
-  why = λ clean has. tt;
-  version = λ clean has. tt;
-}
-agency_opens old new r agency is rests of (Err f) policy trip word none memory = record {
-  rests = last old new r agency is rests (Err f);
-  read = tt;
-  rows = λ clean has. tt;
-  faults = inl memory;
-  why = λ clean has. tells_nothing old.now.trees f (inl memory);
-  version = λ clean has. spares_by_store old.now.trees f (inl memory);
 }
 
 -- ---- all tables

@@ -1,7 +1,8 @@
 -- What each table's rows make of a desk that has the tables before it.
-use Rattle.std.proofs.Common.{◌≡◌, ℕ, List, [], ◌∷◌, take, map, flat_map, refl, sym, ap, subst, arith}
+use Rattle.std.proofs.Common.{◌≡◌, ◌-◌, ◌≤◌, ℕ, List, [], ◌∷◌, take, map, flat_map, Result, Ok, IsErr, IsErrAnd, refl, sym, ap, subst, arith}
 use Rattle.std.proofs.lemmas.List.Concat.{flat_map_single}
 use Rattle.sqlite.specs.Order.{Row}
+use Rattle.sqlite.specs.State.{State as Connected}
 use Rattle.sqlite.specs.Table.{Table}
 use Rattle.sqlite.specs.Tree.{Trees}
 use Rattle.pt_base.specs.declared.place.Place.{Place}
@@ -20,21 +21,25 @@ use Rattle.pt_records.specs.Records.{Each, Edit, IsInOrder, edited}
 use Rattle.pt_requests.specs.declared.caller.Caller.{Caller}
 use Rattle.pt_scheduling.specs.Plan.{Plan, plan_key}
 use Rattle.pt_records.proofs.OrderLemmas.{Each-weaker}
-use Rattle.pt_soundness.specs.Tables.{all_tables}
+use Rattle.pt_soundness.specs.Tables.{all_tables, number_of, IsSoundIn}
+use Rattle.pt_soundness.specs.declared.unsound_table.UnsoundTable.{UnsoundTable}
 use Rattle.pt_soundness.specs.declared.unsound_table.UnsoundTable.TheVariants as table
 use Rattle.pt_soundness.proofs.AlikeLemmas.{alike_entries, alike_plans, alike_riders, alike_tables, alike_trips, alike_vehicles, AlikeRider, AlikeTrip, AlikeVehicle}
 use Rattle.pt_soundness.proofs.PairedLemmas.{Paired, paired_by}
 use Rattle.pt_tables_opening.specs.Beside.{NoneBeside}
 use Rattle.pt_tables_opening.specs.Gathered.{AreRowsOfNone, FitsRows, IsFitting}
 use Rattle.pt_desk_rules.specs.Ranges.{FitsTravel}
-use Rattle.pt_tables_opening.specs.Standing.{HasRowsIn, NoneStandsTo}
-use Rattle.pt_tables_opening.specs.Steps.{HasRowsTo, IsReadIn, IsReadTo}
+use Rattle.pt_tables_opening.specs.Opening.{ReadsTables, Rests}
+use Rattle.pt_tables_opening.specs.Standing.{NoneStandsTo, StandsIn}
+use Rattle.pt_tables_opening.specs.Steps.{HasRowsTo, IsFaultOf, IsReadIn, IsReadTo, ReadsTable}
+use Rattle.pt_tables_opening.specs.Tables.{HasRowsIn, IsLaidIn}
+use Rattle.pt_tables_opening.specs.declared.open_fault.OpenFault.{OpenFault}
 use Rattle.pt_tables_opening.proofs.ContentLemmas.{anew, laid_put, rows_put}
-use Rattle.pt_tables_opening.proofs.GatheredLemmas.{each_push}
 use Rattle.pt_tables_opening.proofs.GroupOrders.{drives_few}
-use Rattle.pt_tables_opening.proofs.LaidLemmas.{laid_in}
 use Rattle.pt_tables_opening.proofs.OrderedLemmas.{alone}
 use Rattle.pt_tables_opening.proofs.SameTables.{riders_alike, trips_alike, vehicles_alike}
+use Rattle.pt_tables_opening.proofs.StepLemmas.{fails_so, puts_so}
+use Rattle.pt_tables_opening.proofs.TableCases.{and_in, each_upto, here_in, laid_in}
 use Rattle.pt_desk_rules.specs.Ranges.{FitsFiled}
 use Rattle.pt_spelling.specs.Ranges.{IsRoute, IsVehicle, IsCaller}
 use Rattle.pt_desk_rules.specs.Ranges.{FitsKept, FitsPlace, FitsRider, FitsTrip}
@@ -44,242 +49,145 @@ use Rattle.pt_tables_rows.specs.Tables.{AreRows}
 use Rattle.pt_tables_rows.specs.WellFormed.{IsStoredPlan}
 use Rattle.pt_tables_rows.proofs.SameRowsRecords.{number_in}
 
--- ---- records that are read fit
+-- ---- records that are put where there were none
 
-laid_rows : {A : Type 0} (key : A → ℕ) (rows_of : A → List Row) (Fits : A → Type 0) (edit : Edit A) (xs : List A) → xs ≡ [] → IsFitting key (FitsRows rows_of Fits) edit
-    → IsInOrder key (edited key edit xs) × Each Fits (edited key edit xs)
-laid_rows key rows_of Fits edit xs none fits =
-    laid_put key Fits edit xs none (record { puts = fits.puts; each = Each-weaker (FitsRows rows_of Fits) Fits (λ x fit. fit.0) edit.puts fits.each })
+-- What the change that puts records makes of a desk that has the tables before this one, and what it tells where no records have its rows.
+pub record ReadsSo {A : Type 0} (t : UnsoundTable) (key : A → ℕ) (home : Table) (rows_of : A → List Row) (Fits : A → Type 0) (puts : Edit A → Change) : Type 0 where
+  pub read : (s : State) (edit : Edit A) → IsReadTo (number_of t - 1) s → IsFitting key Fits edit → IsReadIn t (applied (puts edit) s)
+  pub shown : (s : State) (trees : Trees) (edit : Edit A) → IsReadTo (number_of t - 1) s → IsFitting key Fits edit → AreRows home trees (flat_map rows_of edit.puts)
+      → HasRowsTo (number_of t - 1) s trees → HasRowsTo (number_of t) (applied (puts edit) s) trees
+  pub none : (trees : Trees) → AreRowsOfNone key home rows_of Fits trees → NoneStandsTo (number_of t) trees
 
-single_rows : {A : Type 0} (home : Table) (row_of : A → Row) (trees : Trees) (xs : List A) → AreRows home trees (flat_map (alone row_of) xs) → AreRows home trees (map row_of xs)
-single_rows home row_of trees xs are = subst (AreRows home trees) (flat_map_single row_of xs) are
+-- these are the records of the table in a content, which has them in this order and fitting so, and this change puts them
+module _ {A : Type 0} (t : UnsoundTable) (key : A → ℕ) (home : Table) (rows_of : A → List Row) (listed : List A → List Row) (same : (xs : List A) → flat_map rows_of xs ≡ listed xs)
+    (Fits FitsRead : A → Type 0) (weaker : (x : A) → FitsRead x → Fits x) (stronger : (x : A) → Fits x → FitsRead x) (records : State → List A) (puts : Edit A → Change)
+    (empty : (s : State) → IsReadTo (number_of t - 1) s → records s ≡ [])
+    (read_in : (s : State) (edit : Edit A) → IsReadTo (number_of t - 1) s → IsInOrder key (edited key edit (records s)) × Each Fits (edited key edit (records s)) → IsReadIn t (applied (puts edit) s))
+    (rows_before : (s : State) (edit : Edit A) (trees : Trees) → HasRowsTo (number_of t - 1) s trees → HasRowsTo (number_of t - 1) (applied (puts edit) s) trees)
+    (rows_here : (s : State) (edit : Edit A) (trees : Trees) → AreRows home trees (listed (edited key edit (records s))) → HasRowsIn (applied (puts edit) s) trees t)
+    (laid_so : (s : State) → IsLaidIn s t → IsInOrder key (records s) × Each Fits (records s))
+    (rows_so : (s : State) (trees : Trees) → HasRowsIn s trees t → AreRows home trees (listed (records s))) where
+  reads_so : ReadsSo t key home rows_of FitsRead puts
+  reads_so = record {
+    read = λ s edit read fits.
+        read_in s edit read
+        (laid_put key Fits edit (records s) (empty s read) (record { puts = fits.puts; each = Each-weaker FitsRead Fits weaker edit.puts fits.each }));
+    shown = λ s trees edit read fits are before.
+        and_in (HasRowsIn (applied (puts edit) s) trees) t (rows_before s edit trees before)
+        (rows_here s edit trees
+        (rows_put key (λ xs. AreRows home trees (listed xs)) edit (records s) (empty s read) fits.puts (subst (AreRows home trees) (same edit.puts) are)));
+    none = λ trees none s stands.
+        let here = here_in (StandsIn s trees) t stands in
+        let laid = laid_so s (laid_in s t here.sound) in
+        none (records s) (Each-weaker Fits FitsRead stronger (records s) laid.1) laid.0 (subst (AreRows home trees) (sym (same (records s))) (rows_so s trees here.rows));
+  }
 
-single_none : {A : Type 0} (key : A → ℕ) (home : Table) (row_of : A → Row) (Fits : A → Type 0) (trees : Trees) → AreRowsOfNone key home (alone row_of) (FitsRows (alone row_of) Fits) trees
-    → (xs : List A) → Each Fits xs → IsInOrder key xs → AreRows home trees (map row_of xs) → ⊥
-single_none key home row_of Fits trees none xs each order are =
-    none xs (Each-weaker Fits (FitsRows (alone row_of) Fits) (λ x fits. (fits, omega arith)) xs each) order (subst (AreRows home trees) (sym (flat_map_single row_of xs)) are)
-
--- ---- tables that had no records
+one_fits : {A : Type 0} (row_of : A → Row) (Fits : A → Type 0) (x : A) → Fits x → FitsRows (alone row_of) Fits x
+one_fits row_of Fits x fits = (fits, omega arith)
 
 abbrev pub puts_callers : Edit Caller → Change
 puts_callers edit = record no_change { callers = edit }
 
-pub callers_read : (s : State) (edit : Edit Caller) → IsReadTo 1 s → IsFitting caller_key (FitsRows (alone caller_row) IsCaller) edit → IsReadIn table.Callers (applied (puts_callers edit) s)
-callers_read s edit read fits = record {
-  laid = laid_rows caller_key (alone caller_row) IsCaller edit s.callers read.later.0 fits;
-  sound = read.sound;
-  later = read.later.1;
-}
-
-pub callers_shown : (s : State) (trees : Trees) (edit : Edit Caller) → IsReadTo 1 s → IsFitting caller_key (FitsRows (alone caller_row) IsCaller) edit → AreRows callers_table trees (flat_map (alone caller_row) edit.puts) → HasRowsTo 1 s trees
-    → HasRowsTo 2 (applied (puts_callers edit) s) trees
-callers_shown s trees edit read fits are before =
-    each_push (HasRowsIn (applied (puts_callers edit) s) trees) (take 1 all_tables) table.Callers before
-    (rows_put caller_key (λ xs. AreRows callers_table trees (map caller_row xs)) edit s.callers read.later.0 fits.puts (single_rows callers_table caller_row trees edit.puts are))
-
-pub callers_none : (trees : Trees) → AreRowsOfNone caller_key callers_table (alone caller_row) (FitsRows (alone caller_row) IsCaller) trees → NoneStandsTo 2 trees
-callers_none trees none s stands =
-    let it = stands.1.0 in
-    let laid = laid_in s table.Callers it.sound in
-    single_none caller_key callers_table caller_row IsCaller trees none s.callers laid.1 laid.0 it.rows
+pub callers_reads : ReadsSo table.Callers caller_key callers_table (alone caller_row) (FitsRows (alone caller_row) IsCaller) puts_callers
+callers_reads =
+    reads_so table.Callers caller_key callers_table (alone caller_row) (map caller_row) (flat_map_single caller_row) IsCaller (FitsRows (alone caller_row) IsCaller) (λ x fits. fits.0) (one_fits caller_row IsCaller) (λ s. s.callers) puts_callers
+    (λ s read. read.later.0) (λ s edit read laid. record { laid = laid; sound = read.sound; later = read.later.1 }) (λ s edit trees rows. rows) (λ s edit trees rows. rows)
+    (λ s laid. laid) (λ s trees rows. rows)
 
 abbrev pub puts_kept : Edit Kept → Change
 puts_kept edit = record no_change { kept = edit }
 
-pub kept_read : (s : State) (edit : Edit Kept) → IsReadTo 2 s → IsFitting kept_key (FitsRows (alone kept_row) FitsKept) edit → IsReadIn table.Kept (applied (puts_kept edit) s)
-kept_read s edit read fits = record {
-  laid = laid_rows kept_key (alone kept_row) FitsKept edit s.kept read.later.0 fits;
-  sound = read.sound;
-  later = read.later.1;
-}
-
-pub kept_shown : (s : State) (trees : Trees) (edit : Edit Kept) → IsReadTo 2 s → IsFitting kept_key (FitsRows (alone kept_row) FitsKept) edit → AreRows kept_table trees (flat_map (alone kept_row) edit.puts) → HasRowsTo 2 s trees
-    → HasRowsTo 3 (applied (puts_kept edit) s) trees
-kept_shown s trees edit read fits are before =
-    each_push (HasRowsIn (applied (puts_kept edit) s) trees) (take 2 all_tables) table.Kept before
-    (rows_put kept_key (λ xs. AreRows kept_table trees (map kept_row xs)) edit s.kept read.later.0 fits.puts (single_rows kept_table kept_row trees edit.puts are))
-
-pub kept_none : (trees : Trees) → AreRowsOfNone kept_key kept_table (alone kept_row) (FitsRows (alone kept_row) FitsKept) trees → NoneStandsTo 3 trees
-kept_none trees none s stands =
-    let it = stands.1.1.0 in
-    let laid = laid_in s table.Kept it.sound in
-    single_none kept_key kept_table kept_row FitsKept trees none s.kept laid.1 laid.0 it.rows
+pub kept_reads : ReadsSo table.Kept kept_key kept_table (alone kept_row) (FitsRows (alone kept_row) FitsKept) puts_kept
+kept_reads =
+    reads_so table.Kept kept_key kept_table (alone kept_row) (map kept_row) (flat_map_single kept_row) FitsKept (FitsRows (alone kept_row) FitsKept) (λ x fits. fits.0) (one_fits kept_row FitsKept) (λ s. s.kept) puts_kept
+    (λ s read. read.later.0) (λ s edit read laid. record { laid = laid; sound = read.sound; later = read.later.1 }) (λ s edit trees rows. rows) (λ s edit trees rows. rows)
+    (λ s laid. laid) (λ s trees rows. rows)
 
 abbrev pub puts_places : Edit Place → Change
 puts_places edit = record no_change { places = edit }
 
-pub places_read : (s : State) (edit : Edit Place) → IsReadTo 3 s → IsFitting place_key (FitsRows (alone place_row) FitsPlace) edit → IsReadIn table.Places (applied (puts_places edit) s)
-places_read s edit read fits = record {
-  laid = laid_rows place_key (alone place_row) FitsPlace edit s.places read.later.0 fits;
-  sound = read.sound;
-  later = read.later.1;
-}
-
-pub places_shown : (s : State) (trees : Trees) (edit : Edit Place) → IsReadTo 3 s → IsFitting place_key (FitsRows (alone place_row) FitsPlace) edit → AreRows places_table trees (flat_map (alone place_row) edit.puts) → HasRowsTo 3 s trees
-    → HasRowsTo 4 (applied (puts_places edit) s) trees
-places_shown s trees edit read fits are before =
-    each_push (HasRowsIn (applied (puts_places edit) s) trees) (take 3 all_tables) table.Places before
-    (rows_put place_key (λ xs. AreRows places_table trees (map place_row xs)) edit s.places read.later.0 fits.puts (single_rows places_table place_row trees edit.puts are))
-
-pub places_none : (trees : Trees) → AreRowsOfNone place_key places_table (alone place_row) (FitsRows (alone place_row) FitsPlace) trees → NoneStandsTo 4 trees
-places_none trees none s stands =
-    let it = stands.1.1.1.0 in
-    let laid = laid_in s table.Places it.sound in
-    single_none place_key places_table place_row FitsPlace trees none s.places laid.1 laid.0 it.rows
+pub places_reads : ReadsSo table.Places place_key places_table (alone place_row) (FitsRows (alone place_row) FitsPlace) puts_places
+places_reads =
+    reads_so table.Places place_key places_table (alone place_row) (map place_row) (flat_map_single place_row) FitsPlace (FitsRows (alone place_row) FitsPlace) (λ x fits. fits.0) (one_fits place_row FitsPlace) (λ s. s.places) puts_places
+    (λ s read. read.later.0) (λ s edit read laid. record { laid = laid; sound = read.sound; later = read.later.1 }) (λ s edit trees rows. rows) (λ s edit trees rows. rows)
+    (λ s laid. laid) (λ s trees rows. rows)
 
 abbrev pub puts_routes : Edit Route → Change
 puts_routes edit = record no_change { routes = edit }
 
-pub routes_read : (s : State) (edit : Edit Route) → IsReadTo 4 s → IsFitting route_key (FitsRows (alone route_row) IsRoute) edit → IsReadIn table.Fixed (applied (puts_routes edit) s)
-routes_read s edit read fits = record {
-  laid = laid_rows route_key (alone route_row) IsRoute edit s.routes read.later.0 fits;
-  sound = read.sound;
-  later = read.later.1;
-}
-
-pub routes_shown : (s : State) (trees : Trees) (edit : Edit Route) → IsReadTo 4 s → IsFitting route_key (FitsRows (alone route_row) IsRoute) edit → AreRows fixed_table trees (flat_map (alone route_row) edit.puts) → HasRowsTo 4 s trees
-    → HasRowsTo 5 (applied (puts_routes edit) s) trees
-routes_shown s trees edit read fits are before =
-    each_push (HasRowsIn (applied (puts_routes edit) s) trees) (take 4 all_tables) table.Fixed before
-    (rows_put route_key (λ xs. AreRows fixed_table trees (map route_row xs)) edit s.routes read.later.0 fits.puts (single_rows fixed_table route_row trees edit.puts are))
-
-pub routes_none : (trees : Trees) → AreRowsOfNone route_key fixed_table (alone route_row) (FitsRows (alone route_row) IsRoute) trees → NoneStandsTo 5 trees
-routes_none trees none s stands =
-    let it = stands.1.1.1.1.0 in
-    let laid = laid_in s table.Fixed it.sound in
-    single_none route_key fixed_table route_row IsRoute trees none s.routes laid.1 laid.0 it.rows
+pub routes_reads : ReadsSo table.Fixed route_key fixed_table (alone route_row) (FitsRows (alone route_row) IsRoute) puts_routes
+routes_reads =
+    reads_so table.Fixed route_key fixed_table (alone route_row) (map route_row) (flat_map_single route_row) IsRoute (FitsRows (alone route_row) IsRoute) (λ x fits. fits.0) (one_fits route_row IsRoute) (λ s. s.routes) puts_routes
+    (λ s read. read.later.0) (λ s edit read laid. record { laid = laid; sound = read.sound; later = read.later.1 }) (λ s edit trees rows. rows) (λ s edit trees rows. rows)
+    (λ s laid. laid) (λ s trees rows. rows)
 
 abbrev pub puts_vehicles : Edit Vehicle → Change
 puts_vehicles edit = record no_change { vehicles = edit }
 
-pub vehicles_read : (s : State) (edit : Edit Vehicle) → IsReadTo 5 s → IsFitting vehicle_key (FitsRows (alone vehicle_row) IsVehicle) edit → IsReadIn table.Vehicles (applied (puts_vehicles edit) s)
-vehicles_read s edit read fits = record {
-  laid = laid_rows vehicle_key (alone vehicle_row) IsVehicle edit s.vehicles read.later.0 fits;
-  sound = read.sound;
-  later = read.later.1;
-}
-
-pub vehicles_shown : (s : State) (trees : Trees) (edit : Edit Vehicle) → IsReadTo 5 s → IsFitting vehicle_key (FitsRows (alone vehicle_row) IsVehicle) edit → AreRows vehicles_table trees (flat_map (alone vehicle_row) edit.puts) → HasRowsTo 5 s trees
-    → HasRowsTo 6 (applied (puts_vehicles edit) s) trees
-vehicles_shown s trees edit read fits are before =
-    each_push (HasRowsIn (applied (puts_vehicles edit) s) trees) (take 5 all_tables) table.Vehicles before
-    (rows_put vehicle_key (λ xs. AreRows vehicles_table trees (map vehicle_row xs)) edit s.vehicles read.later.0 fits.puts (single_rows vehicles_table vehicle_row trees edit.puts are))
-
-pub vehicles_none : (trees : Trees) → AreRowsOfNone vehicle_key vehicles_table (alone vehicle_row) (FitsRows (alone vehicle_row) IsVehicle) trees → NoneStandsTo 6 trees
-vehicles_none trees none s stands =
-    let it = stands.1.1.1.1.1.0 in
-    let laid = laid_in s table.Vehicles it.sound in
-    single_none vehicle_key vehicles_table vehicle_row IsVehicle trees none s.vehicles laid.1 laid.0 it.rows
+pub vehicles_reads : ReadsSo table.Vehicles vehicle_key vehicles_table (alone vehicle_row) (FitsRows (alone vehicle_row) IsVehicle) puts_vehicles
+vehicles_reads =
+    reads_so table.Vehicles vehicle_key vehicles_table (alone vehicle_row) (map vehicle_row) (flat_map_single vehicle_row) IsVehicle (FitsRows (alone vehicle_row) IsVehicle) (λ x fits. fits.0) (one_fits vehicle_row IsVehicle) (λ s. s.vehicles) puts_vehicles
+    (λ s read. read.later.0) (λ s edit read laid. record { laid = laid; sound = read.sound; later = read.later.1 }) (λ s edit trees rows. rows) (λ s edit trees rows. rows)
+    (λ s laid. laid) (λ s trees rows. rows)
 
 abbrev pub puts_riders : Edit Rider → Change
 puts_riders edit = record no_change { riders = edit }
 
-pub riders_read : (s : State) (edit : Edit Rider) → IsReadTo 6 s → IsFitting rider_key (FitsRows (alone rider_row) FitsRider) edit → IsReadIn table.Riders (applied (puts_riders edit) s)
-riders_read s edit read fits = record {
-  laid = laid_rows rider_key (alone rider_row) FitsRider edit s.riders read.later.0 fits;
-  sound = read.sound;
-  later = read.later.1;
-}
-
-pub riders_shown : (s : State) (trees : Trees) (edit : Edit Rider) → IsReadTo 6 s → IsFitting rider_key (FitsRows (alone rider_row) FitsRider) edit → AreRows riders_table trees (flat_map (alone rider_row) edit.puts) → HasRowsTo 6 s trees
-    → HasRowsTo 7 (applied (puts_riders edit) s) trees
-riders_shown s trees edit read fits are before =
-    each_push (HasRowsIn (applied (puts_riders edit) s) trees) (take 6 all_tables) table.Riders before
-    (rows_put rider_key (λ xs. AreRows riders_table trees (map rider_row xs)) edit s.riders read.later.0 fits.puts (single_rows riders_table rider_row trees edit.puts are))
-
-pub riders_none : (trees : Trees) → AreRowsOfNone rider_key riders_table (alone rider_row) (FitsRows (alone rider_row) FitsRider) trees → NoneStandsTo 7 trees
-riders_none trees none s stands =
-    let it = stands.1.1.1.1.1.1.0 in
-    let laid = laid_in s table.Riders it.sound in
-    single_none rider_key riders_table rider_row FitsRider trees none s.riders laid.1 laid.0 it.rows
+pub riders_reads : ReadsSo table.Riders rider_key riders_table (alone rider_row) (FitsRows (alone rider_row) FitsRider) puts_riders
+riders_reads =
+    reads_so table.Riders rider_key riders_table (alone rider_row) (map rider_row) (flat_map_single rider_row) FitsRider (FitsRows (alone rider_row) FitsRider) (λ x fits. fits.0) (one_fits rider_row FitsRider) (λ s. s.riders) puts_riders
+    (λ s read. read.later.0) (λ s edit read laid. record { laid = laid; sound = read.sound; later = read.later.1 }) (λ s edit trees rows. rows) (λ s edit trees rows. rows)
+    (λ s laid. laid) (λ s trees rows. rows)
 
 abbrev pub puts_entries : Edit FiledEntry → Change
 puts_entries edit = record no_change { entries = edit }
 
-pub entries_read : (s : State) (edit : Edit FiledEntry) → IsReadTo 7 s → IsFitting entry_key (FitsRows (alone entry_row) FitsFiled) edit → IsReadIn table.Entries (applied (puts_entries edit) s)
-entries_read s edit read fits = record {
-  laid = laid_rows entry_key (alone entry_row) FitsFiled edit s.entries read.later.0 fits;
-  sound = read.sound;
-  later = read.later.1;
-}
-
-pub entries_shown : (s : State) (trees : Trees) (edit : Edit FiledEntry) → IsReadTo 7 s → IsFitting entry_key (FitsRows (alone entry_row) FitsFiled) edit → AreRows entries_table trees (flat_map (alone entry_row) edit.puts) → HasRowsTo 7 s trees
-    → HasRowsTo 8 (applied (puts_entries edit) s) trees
-entries_shown s trees edit read fits are before =
-    each_push (HasRowsIn (applied (puts_entries edit) s) trees) (take 7 all_tables) table.Entries before
-    (rows_put entry_key (λ xs. AreRows entries_table trees (map entry_row xs)) edit s.entries read.later.0 fits.puts (single_rows entries_table entry_row trees edit.puts are))
-
-pub entries_none : (trees : Trees) → AreRowsOfNone entry_key entries_table (alone entry_row) (FitsRows (alone entry_row) FitsFiled) trees → NoneStandsTo 8 trees
-entries_none trees none s stands =
-    let it = stands.1.1.1.1.1.1.1.0 in
-    let laid = laid_in s table.Entries it.sound in
-    single_none entry_key entries_table entry_row FitsFiled trees none s.entries laid.1 laid.0 it.rows
+pub entries_reads : ReadsSo table.Entries entry_key entries_table (alone entry_row) (FitsRows (alone entry_row) FitsFiled) puts_entries
+entries_reads =
+    reads_so table.Entries entry_key entries_table (alone entry_row) (map entry_row) (flat_map_single entry_row) FitsFiled (FitsRows (alone entry_row) FitsFiled) (λ x fits. fits.0) (one_fits entry_row FitsFiled) (λ s. s.entries) puts_entries
+    (λ s read. read.later.0) (λ s edit read laid. record { laid = laid; sound = read.sound; later = read.later.1 }) (λ s edit trees rows. rows) (λ s edit trees rows. rows)
+    (λ s laid. laid) (λ s trees rows. rows)
 
 abbrev pub puts_trips : Edit Trip → Change
 puts_trips edit = record no_change { trips = edit }
 
-pub trips_read : (s : State) (edit : Edit Trip) → IsReadTo 8 s → IsFitting trip_key (FitsRows (alone trip_row) FitsTrip) edit → IsReadIn table.Trips (applied (puts_trips edit) s)
-trips_read s edit read fits = record {
-  laid = laid_rows trip_key (alone trip_row) FitsTrip edit s.trips read.later.0 fits;
-  sound = read.sound;
-  later = read.later.1;
-}
-
-pub trips_shown : (s : State) (trees : Trees) (edit : Edit Trip) → IsReadTo 8 s → IsFitting trip_key (FitsRows (alone trip_row) FitsTrip) edit → AreRows trips_table trees (flat_map (alone trip_row) edit.puts) → HasRowsTo 8 s trees
-    → HasRowsTo 9 (applied (puts_trips edit) s) trees
-trips_shown s trees edit read fits are before =
-    each_push (HasRowsIn (applied (puts_trips edit) s) trees) (take 8 all_tables) table.Trips before
-    (rows_put trip_key (λ xs. AreRows trips_table trees (map trip_row xs)) edit s.trips read.later.0 fits.puts (single_rows trips_table trip_row trees edit.puts are))
-
-pub trips_none : (trees : Trees) → AreRowsOfNone trip_key trips_table (alone trip_row) (FitsRows (alone trip_row) FitsTrip) trees → NoneStandsTo 9 trees
-trips_none trees none s stands =
-    let it = stands.1.1.1.1.1.1.1.1.0 in
-    let laid = laid_in s table.Trips it.sound in
-    single_none trip_key trips_table trip_row FitsTrip trees none s.trips laid.1 laid.0 it.rows
+pub trips_reads : ReadsSo table.Trips trip_key trips_table (alone trip_row) (FitsRows (alone trip_row) FitsTrip) puts_trips
+trips_reads =
+    reads_so table.Trips trip_key trips_table (alone trip_row) (map trip_row) (flat_map_single trip_row) FitsTrip (FitsRows (alone trip_row) FitsTrip) (λ x fits. fits.0) (one_fits trip_row FitsTrip) (λ s. s.trips) puts_trips
+    (λ s read. read.later.0) (λ s edit read laid. record { laid = laid; sound = read.sound; later = read.later.1 }) (λ s edit trees rows. rows) (λ s edit trees rows. rows)
+    (λ s laid. laid) (λ s trees rows. rows)
 
 abbrev pub puts_planned : Edit Plan → Change
 puts_planned edit = record no_change { planned = edit }
 
-pub planned_read : (s : State) (edit : Edit Plan) → IsReadTo 9 s → IsFitting plan_key (FitsRows stop_rows IsStoredPlan) edit → IsReadIn table.Stops (applied (puts_planned edit) s)
-planned_read s edit read fits = record {
-  laid = laid_put plan_key (FitsRows stop_rows IsStoredPlan) edit s.planned read.later.0 fits;
-  sound = read.sound;
-  later = read.later.1;
-}
-
-pub planned_shown : (s : State) (trees : Trees) (edit : Edit Plan) → IsReadTo 9 s → IsFitting plan_key (FitsRows stop_rows IsStoredPlan) edit → AreRows stops_table trees (flat_map stop_rows edit.puts) → HasRowsTo 9 s trees
-    → HasRowsTo 10 (applied (puts_planned edit) s) trees
-planned_shown s trees edit read fits are before =
-    each_push (HasRowsIn (applied (puts_planned edit) s) trees) (take 9 all_tables) table.Stops before
-    (rows_put plan_key (λ xs. AreRows stops_table trees (flat_map stop_rows xs)) edit s.planned read.later.0 fits.puts are)
-
-pub planned_none : (trees : Trees) → AreRowsOfNone plan_key stops_table stop_rows (FitsRows stop_rows IsStoredPlan) trees → NoneStandsTo 10 trees
-planned_none trees none s stands =
-    let it = stands.1.1.1.1.1.1.1.1.1.0 in
-    let laid = laid_in s table.Stops it.sound in
-    none s.planned laid.1 laid.0 it.rows
+pub planned_reads : ReadsSo table.Stops plan_key stops_table stop_rows (FitsRows stop_rows IsStoredPlan) puts_planned
+planned_reads =
+    reads_so table.Stops plan_key stops_table stop_rows (flat_map stop_rows) (λ xs. refl) (FitsRows stop_rows IsStoredPlan) (FitsRows stop_rows IsStoredPlan) (λ x fits. fits) (λ x fits. fits) (λ s. s.planned) puts_planned
+    (λ s read. read.later.0) (λ s edit read laid. record { laid = laid; sound = read.sound; later = read.later.1 }) (λ s edit trees rows. rows) (λ s edit trees rows. rows)
+    (λ s laid. laid) (λ s trees rows. rows)
 
 abbrev pub puts_travel : Edit DatedTable → Change
 puts_travel edit = record no_change { travel = edit }
 
-pub travel_read : (s : State) (edit : Edit DatedTable) → IsReadTo 10 s → IsFitting travel_key (FitsRows travel_rows FitsTravel) edit → IsReadIn table.Travel (applied (puts_travel edit) s)
-travel_read s edit read fits = record {
-  laid = laid_rows travel_key travel_rows FitsTravel edit s.travel read.later.0 fits;
-  sound = read.sound;
-  later = read.later.1;
-}
+pub travel_reads : ReadsSo table.Travel travel_key travel_table travel_rows (FitsRows travel_rows FitsTravel) puts_travel
+travel_reads =
+    reads_so table.Travel travel_key travel_table travel_rows (flat_map travel_rows) (λ xs. refl) FitsTravel (FitsRows travel_rows FitsTravel) (λ x fits. fits.0) drives_few (λ s. s.travel) puts_travel
+    (λ s read. read.later.0) (λ s edit read laid. record { laid = laid; sound = read.sound; later = read.later.1 }) (λ s edit trees rows. rows) (λ s edit trees rows. rows)
+    (λ s laid. laid) (λ s trees rows. rows)
 
-pub travel_shown : (s : State) (trees : Trees) (edit : Edit DatedTable) → IsReadTo 10 s → IsFitting travel_key (FitsRows travel_rows FitsTravel) edit → AreRows travel_table trees (flat_map travel_rows edit.puts) → HasRowsTo 10 s trees
-    → HasRowsTo 11 (applied (puts_travel edit) s) trees
-travel_shown s trees edit read fits are before =
-    each_push (HasRowsIn (applied (puts_travel edit) s) trees) (take 10 all_tables) table.Travel before
-    (rows_put travel_key (λ xs. AreRows travel_table trees (flat_map travel_rows xs)) edit s.travel read.later.0 fits.puts are)
+module _ {A : Type 0} {t : UnsoundTable} {key : A → ℕ} {home : Table} {rows_of : A → List Row} {Fits : A → Type 0} {puts : Edit A → Change} (reads : ReadsSo t key home rows_of Fits puts)
+    (old new : Connected) (s : State) (r : Result (Edit A) OpenFault) (rests : Rests old new r) where
+  -- the change of a read that answered
+  pub puts_read : IsReadTo (number_of t - 1) s → (edit : Edit A) → r ≡ Ok edit → IsFitting key Fits edit → ReadsTables old new (λ trees. AreRows home trees (flat_map rows_of edit.puts))
+      → (change : Change) → change ≡ puts edit → ReadsTable t old new s (Ok change)
+  puts_read read edit is fits told change same =
+      puts_so t old new s r edit is rests change (puts edit) same (reads.read s edit read fits) (λ clean has before. reads.shown s old.now.trees edit read fits (told clean has) before)
 
-pub travel_none : (trees : Trees) → AreRowsOfNone travel_key travel_table travel_rows (FitsRows travel_rows FitsTravel) trees → NoneStandsTo 11 trees
-travel_none trees none s stands =
-    let it = stands.1.1.1.1.1.1.1.1.1.1.0 in
-    let laid = laid_in s table.Travel it.sound in
-    none s.travel (Each-weaker FitsTravel (FitsRows travel_rows FitsTravel) drives_few s.travel laid.1) laid.0 it.rows
+  -- the refusal of one that did not
+  pub none_read : (e : OpenFault) (out : Result Change OpenFault) → IsErr out → IsErrAnd out (λ f. f ≡ e) → IsFaultOf t (ReadsTables old new (AreRowsOfNone key home rows_of Fits)) e
+      → ReadsTable t old new s out
+  none_read e out bad is faults =
+      fails_so t old new s r e out bad is rests (AreRowsOfNone key home rows_of Fits old.now.trees) (λ before none. reads.none old.now.trees none) faults
 
 -- ---- records that are marked
 
@@ -314,42 +222,24 @@ same_trips (x ∷ xs) = (
   same_trips xs,
 )
 
-rider_chairs_on : (s : State) (xs : List Rider) → IsReadTo 11 s → IsInOrder rider_key xs → Each FitsRider xs → map rider_row xs ≡ map rider_row s.riders → IsReadIn table.RiderChairs (record s { riders = xs })
-rider_chairs_on s xs read order each same =
+-- what is sound of riders is sound of others with their rows
+riders_sound : (s : State) (xs : List Rider) → Each FitsRider xs → Paired AlikeRider s.riders xs → (t : UnsoundTable) → IsSoundIn s t → IsSoundIn (record s { riders = xs }) t
+riders_sound s xs each alike table.Riders sound = (each, alike_riders s.riders xs alike s.callers sound.1)
+riders_sound s xs each alike table.Entries sound = (sound.0, alike_entries s.riders xs alike s.callers s.entries sound.1)
+riders_sound s xs each alike table.Trips sound = (sound.0, alike_trips s.trips s.trips (same_trips s.trips) s.places s.riders xs s.last_trip alike sound.1)
+riders_sound s xs each alike _ sound = sound
+
+riders_rows : (s : State) (xs : List Rider) (trees : Trees) → map rider_row xs ≡ map rider_row s.riders → (t : UnsoundTable) → number_of t ≤ 11 → HasRowsIn s trees t → HasRowsIn (record s { riders = xs }) trees t
+riders_rows s xs trees same table.Riders low rows = subst (AreRows riders_table trees) (sym same) rows
+riders_rows s xs trees same table.RiderChairs low rows = absurd (omega arith)
+riders_rows s xs trees same _ low rows = rows
+
+rider_chairs_on : (s : State) (xs : List Rider) → IsReadTo 11 s → Each FitsRider xs → map rider_row xs ≡ map rider_row s.riders → IsReadIn table.RiderChairs (record s { riders = xs })
+rider_chairs_on s xs read each same =
     let alike = riders_alike s.riders xs read.sound.1.1.1.1.1.1.0.0 each (sym same) in
     record {
       laid = tt;
-      sound = (
-        read.sound.0,
-        (
-          read.sound.1.0,
-          (
-            read.sound.1.1.0,
-            (
-              read.sound.1.1.1.0,
-              (
-                read.sound.1.1.1.1.0,
-                (
-                  read.sound.1.1.1.1.1.0,
-                  (
-                    (each, alike_riders s.riders xs alike s.callers read.sound.1.1.1.1.1.1.0.1),
-                    (
-                      (read.sound.1.1.1.1.1.1.1.0.0, alike_entries s.riders xs alike s.callers s.entries read.sound.1.1.1.1.1.1.1.0.1),
-                      (
-                        (read.sound.1.1.1.1.1.1.1.1.0.0, alike_trips s.trips s.trips (same_trips s.trips) s.places s.riders xs s.last_trip alike read.sound.1.1.1.1.1.1.1.1.0.1),
-                        (
-                          read.sound.1.1.1.1.1.1.1.1.1.0,
-                          (read.sound.1.1.1.1.1.1.1.1.1.1.0, tt),
-                        ),
-                      ),
-                    ),
-                  ),
-                ),
-              ),
-            ),
-          ),
-        ),
-      );
+      sound = Each-weaker (IsSoundIn s) (IsSoundIn (record s { riders = xs })) (riders_sound s xs each alike) (take 11 all_tables) read.sound;
       later = read.later.1;
     }
 
@@ -361,45 +251,14 @@ riders_anew s edit read fits same = anew rider_key edit s.riders fits.puts (ride
 
 pub rider_chairs_read : (s : State) (edit : Edit Rider) → IsReadTo 11 s → IsFitting rider_key FitsRider edit → map rider_row edit.puts ≡ map rider_row s.riders → IsReadIn table.RiderChairs (applied (puts_riders edit) s)
 rider_chairs_read s edit read fits same =
-    subst (λ (xs : List Rider). IsReadIn table.RiderChairs (record s { riders = xs })) (sym (riders_anew s edit read fits same)) (rider_chairs_on s edit.puts read fits.puts.1 fits.each same)
+    subst (λ (xs : List Rider). IsReadIn table.RiderChairs (record s { riders = xs })) (sym (riders_anew s edit read fits same)) (rider_chairs_on s edit.puts read fits.each same)
 
 pub rider_chairs_shown : (s : State) (trees : Trees) (edit : Edit Rider) → IsReadTo 11 s → IsFitting rider_key FitsRider edit → map rider_row edit.puts ≡ map rider_row s.riders
     → AreRows rider_chairs_table trees (flat_map rider_chair_rows edit.puts) → HasRowsTo 11 s trees → HasRowsTo 12 (applied (puts_riders edit) s) trees
 rider_chairs_shown s trees edit read fits same are before =
-    subst (λ (xs : List Rider). HasRowsTo 12 (record s { riders = xs }) trees) (sym (riders_anew s edit read fits same)) (
-      before.0,
-      (
-        before.1.0,
-        (
-          before.1.1.0,
-          (
-            before.1.1.1.0,
-            (
-              before.1.1.1.1.0,
-              (
-                before.1.1.1.1.1.0,
-                (
-                  subst (AreRows riders_table trees) (sym same) before.1.1.1.1.1.1.0,
-                  (
-                    before.1.1.1.1.1.1.1.0,
-                    (
-                      before.1.1.1.1.1.1.1.1.0,
-                      (
-                        before.1.1.1.1.1.1.1.1.1.0,
-                        (
-                          before.1.1.1.1.1.1.1.1.1.1.0,
-                          (are, tt),
-                        ),
-                      ),
-                    ),
-                  ),
-                ),
-              ),
-            ),
-          ),
-        ),
-      ),
-    )
+    subst (λ (xs : List Rider). HasRowsTo 12 (record s { riders = xs }) trees) (sym (riders_anew s edit read fits same))
+    (and_in (HasRowsIn (record s { riders = edit.puts }) trees) table.RiderChairs
+    (each_upto (HasRowsIn s trees) (HasRowsIn (record s { riders = edit.puts }) trees) 11 (riders_rows s edit.puts trees same) before) are)
 
 pub rider_chairs_none : (trees : Trees) → NoneBeside rider_key riders_table rider_chairs_table rider_row rider_chair_rows FitsRider trees → NoneStandsTo 12 trees
 rider_chairs_none trees none s stands =
@@ -407,45 +266,24 @@ rider_chairs_none trees none s stands =
     let laid = laid_in s table.Riders it.sound in
     none s.riders laid.1 laid.0 it.rows stands.1.1.1.1.1.1.1.1.1.1.1.0.rows
 
-vehicle_chairs_on : (s : State) (xs : List Vehicle) → IsReadTo 12 s → IsInOrder vehicle_key xs → Each IsVehicle xs → map vehicle_row xs ≡ map vehicle_row s.vehicles → IsReadIn table.VehicleChairs (record s { vehicles = xs })
-vehicle_chairs_on s xs read order each same =
+vehicles_sound : (s : State) (xs : List Vehicle) → Each IsVehicle xs → Paired AlikeVehicle s.vehicles xs → (t : UnsoundTable) → number_of t ≤ 12 → IsSoundIn s t → IsSoundIn (record s { vehicles = xs }) t
+vehicles_sound s xs each alike table.Vehicles low sound = (each, alike_vehicles s.callers s.places s.vehicles xs alike sound.1)
+vehicles_sound s xs each alike table.Travel low sound = (sound.0, alike_tables s.trips s.trips (same_trips s.trips) s.places s.vehicles xs s.planned s.travel alike sound.1)
+vehicles_sound s xs each alike table.TripChairs low sound = absurd (omega arith)
+vehicles_sound s xs each alike _ low sound = sound
+
+vehicles_rows : (s : State) (xs : List Vehicle) (trees : Trees) → map vehicle_row xs ≡ map vehicle_row s.vehicles → (t : UnsoundTable) → number_of t ≤ 12 → HasRowsIn s trees t
+    → HasRowsIn (record s { vehicles = xs }) trees t
+vehicles_rows s xs trees same table.Vehicles low rows = subst (AreRows vehicles_table trees) (sym same) rows
+vehicles_rows s xs trees same table.VehicleChairs low rows = absurd (omega arith)
+vehicles_rows s xs trees same _ low rows = rows
+
+vehicle_chairs_on : (s : State) (xs : List Vehicle) → IsReadTo 12 s → Each IsVehicle xs → map vehicle_row xs ≡ map vehicle_row s.vehicles → IsReadIn table.VehicleChairs (record s { vehicles = xs })
+vehicle_chairs_on s xs read each same =
     let alike = vehicles_alike s.vehicles xs read.sound.1.1.1.1.1.0.0 each (sym same) in
     record {
       laid = tt;
-      sound = (
-        read.sound.0,
-        (
-          read.sound.1.0,
-          (
-            read.sound.1.1.0,
-            (
-              read.sound.1.1.1.0,
-              (
-                read.sound.1.1.1.1.0,
-                (
-                  (each, alike_vehicles s.callers s.places s.vehicles xs alike read.sound.1.1.1.1.1.0.1),
-                  (
-                    read.sound.1.1.1.1.1.1.0,
-                    (
-                      read.sound.1.1.1.1.1.1.1.0,
-                      (
-                        read.sound.1.1.1.1.1.1.1.1.0,
-                        (
-                          read.sound.1.1.1.1.1.1.1.1.1.0,
-                          (
-                            (read.sound.1.1.1.1.1.1.1.1.1.1.0.0, alike_tables s.trips s.trips (same_trips s.trips) s.places s.vehicles xs s.planned s.travel alike read.sound.1.1.1.1.1.1.1.1.1.1.0.1),
-                            (read.sound.1.1.1.1.1.1.1.1.1.1.1.0, tt),
-                          ),
-                        ),
-                      ),
-                    ),
-                  ),
-                ),
-              ),
-            ),
-          ),
-        ),
-      );
+      sound = each_upto (IsSoundIn s) (IsSoundIn (record s { vehicles = xs })) 12 (vehicles_sound s xs each alike) read.sound;
       later = read.later.1;
     }
 
@@ -457,48 +295,14 @@ vehicles_anew s edit read fits same = anew vehicle_key edit s.vehicles fits.puts
 
 pub vehicle_chairs_read : (s : State) (edit : Edit Vehicle) → IsReadTo 12 s → IsFitting vehicle_key IsVehicle edit → map vehicle_row edit.puts ≡ map vehicle_row s.vehicles → IsReadIn table.VehicleChairs (applied (puts_vehicles edit) s)
 vehicle_chairs_read s edit read fits same =
-    subst (λ (xs : List Vehicle). IsReadIn table.VehicleChairs (record s { vehicles = xs })) (sym (vehicles_anew s edit read fits same)) (vehicle_chairs_on s edit.puts read fits.puts.1 fits.each same)
+    subst (λ (xs : List Vehicle). IsReadIn table.VehicleChairs (record s { vehicles = xs })) (sym (vehicles_anew s edit read fits same)) (vehicle_chairs_on s edit.puts read fits.each same)
 
 pub vehicle_chairs_shown : (s : State) (trees : Trees) (edit : Edit Vehicle) → IsReadTo 12 s → IsFitting vehicle_key IsVehicle edit → map vehicle_row edit.puts ≡ map vehicle_row s.vehicles
     → AreRows vehicle_chairs_table trees (flat_map vehicle_chair_rows edit.puts) → HasRowsTo 12 s trees → HasRowsTo 13 (applied (puts_vehicles edit) s) trees
 vehicle_chairs_shown s trees edit read fits same are before =
-    subst (λ (xs : List Vehicle). HasRowsTo 13 (record s { vehicles = xs }) trees) (sym (vehicles_anew s edit read fits same)) (
-      before.0,
-      (
-        before.1.0,
-        (
-          before.1.1.0,
-          (
-            before.1.1.1.0,
-            (
-              before.1.1.1.1.0,
-              (
-                subst (AreRows vehicles_table trees) (sym same) before.1.1.1.1.1.0,
-                (
-                  before.1.1.1.1.1.1.0,
-                  (
-                    before.1.1.1.1.1.1.1.0,
-                    (
-                      before.1.1.1.1.1.1.1.1.0,
-                      (
-                        before.1.1.1.1.1.1.1.1.1.0,
-                        (
-                          before.1.1.1.1.1.1.1.1.1.1.0,
-                          (
-                            before.1.1.1.1.1.1.1.1.1.1.1.0,
-                            (are, tt),
-                          ),
-                        ),
-                      ),
-                    ),
-                  ),
-                ),
-              ),
-            ),
-          ),
-        ),
-      ),
-    )
+    subst (λ (xs : List Vehicle). HasRowsTo 13 (record s { vehicles = xs }) trees) (sym (vehicles_anew s edit read fits same))
+    (and_in (HasRowsIn (record s { vehicles = edit.puts }) trees) table.VehicleChairs
+    (each_upto (HasRowsIn s trees) (HasRowsIn (record s { vehicles = edit.puts }) trees) 12 (vehicles_rows s edit.puts trees same) before) are)
 
 pub vehicle_chairs_none : (trees : Trees) → NoneBeside vehicle_key vehicles_table vehicle_chairs_table vehicle_row vehicle_chair_rows IsVehicle trees → NoneStandsTo 13 trees
 vehicle_chairs_none trees none s stands =
@@ -506,48 +310,24 @@ vehicle_chairs_none trees none s stands =
     let laid = laid_in s table.Vehicles it.sound in
     none s.vehicles laid.1 laid.0 it.rows stands.1.1.1.1.1.1.1.1.1.1.1.1.0.rows
 
-trip_chairs_on : (s : State) (xs : List Trip) → IsReadTo 13 s → IsInOrder trip_key xs → Each FitsTrip xs → map trip_row xs ≡ map trip_row s.trips → IsReadIn table.TripChairs (record s { trips = xs })
-trip_chairs_on s xs read order each same =
+trips_sound : (s : State) (xs : List Trip) → Each FitsTrip xs → Paired AlikeTrip s.trips xs → (t : UnsoundTable) → number_of t ≤ 13 → IsSoundIn s t → IsSoundIn (record s { trips = xs }) t
+trips_sound s xs each alike table.Trips low sound = (each, alike_trips s.trips xs alike s.places s.riders s.riders s.last_trip (same_riders s.riders) sound.1)
+trips_sound s xs each alike table.Stops low sound = (sound.0, alike_plans s.trips xs alike s.planned sound.1)
+trips_sound s xs each alike table.Travel low sound = (sound.0, alike_tables s.trips xs alike s.places s.vehicles s.vehicles s.planned s.travel (same_vehicles s.vehicles) sound.1)
+trips_sound s xs each alike table.TripChairs low sound = absurd (omega arith)
+trips_sound s xs each alike _ low sound = sound
+
+trips_rows : (s : State) (xs : List Trip) (trees : Trees) → map trip_row xs ≡ map trip_row s.trips → (t : UnsoundTable) → number_of t ≤ 13 → HasRowsIn s trees t → HasRowsIn (record s { trips = xs }) trees t
+trips_rows s xs trees same table.Trips low rows = subst (AreRows trips_table trees) (sym same) rows
+trips_rows s xs trees same table.TripChairs low rows = absurd (omega arith)
+trips_rows s xs trees same _ low rows = rows
+
+trip_chairs_on : (s : State) (xs : List Trip) → IsReadTo 13 s → Each FitsTrip xs → map trip_row xs ≡ map trip_row s.trips → IsReadIn table.TripChairs (record s { trips = xs })
+trip_chairs_on s xs read each same =
     let alike = trips_alike s.trips xs read.sound.1.1.1.1.1.1.1.1.0.0 each (sym same) in
     record {
       laid = tt;
-      sound = (
-        read.sound.0,
-        (
-          read.sound.1.0,
-          (
-            read.sound.1.1.0,
-            (
-              read.sound.1.1.1.0,
-              (
-                read.sound.1.1.1.1.0,
-                (
-                  read.sound.1.1.1.1.1.0,
-                  (
-                    read.sound.1.1.1.1.1.1.0,
-                    (
-                      read.sound.1.1.1.1.1.1.1.0,
-                      (
-                        (each, alike_trips s.trips xs alike s.places s.riders s.riders s.last_trip (same_riders s.riders) read.sound.1.1.1.1.1.1.1.1.0.1),
-                        (
-                          (read.sound.1.1.1.1.1.1.1.1.1.0.0, alike_plans s.trips xs alike s.planned read.sound.1.1.1.1.1.1.1.1.1.0.1),
-                          (
-                            (read.sound.1.1.1.1.1.1.1.1.1.1.0.0, alike_tables s.trips xs alike s.places s.vehicles s.vehicles s.planned s.travel (same_vehicles s.vehicles) read.sound.1.1.1.1.1.1.1.1.1.1.0.1),
-                            (
-                              read.sound.1.1.1.1.1.1.1.1.1.1.1.0,
-                              (read.sound.1.1.1.1.1.1.1.1.1.1.1.1.0, tt),
-                            ),
-                          ),
-                        ),
-                      ),
-                    ),
-                  ),
-                ),
-              ),
-            ),
-          ),
-        ),
-      );
+      sound = each_upto (IsSoundIn s) (IsSoundIn (record s { trips = xs })) 13 (trips_sound s xs each alike) read.sound;
       later = read.later.1;
     }
 
@@ -559,51 +339,14 @@ trips_anew s edit read fits same = anew trip_key edit s.trips fits.puts (trip_ke
 
 pub trip_chairs_read : (s : State) (edit : Edit Trip) → IsReadTo 13 s → IsFitting trip_key FitsTrip edit → map trip_row edit.puts ≡ map trip_row s.trips → IsReadIn table.TripChairs (applied (puts_trips edit) s)
 trip_chairs_read s edit read fits same =
-    subst (λ (xs : List Trip). IsReadIn table.TripChairs (record s { trips = xs })) (sym (trips_anew s edit read fits same)) (trip_chairs_on s edit.puts read fits.puts.1 fits.each same)
+    subst (λ (xs : List Trip). IsReadIn table.TripChairs (record s { trips = xs })) (sym (trips_anew s edit read fits same)) (trip_chairs_on s edit.puts read fits.each same)
 
 pub trip_chairs_shown : (s : State) (trees : Trees) (edit : Edit Trip) → IsReadTo 13 s → IsFitting trip_key FitsTrip edit → map trip_row edit.puts ≡ map trip_row s.trips
     → AreRows trip_chairs_table trees (flat_map trip_chair_rows edit.puts) → HasRowsTo 13 s trees → HasRowsTo 14 (applied (puts_trips edit) s) trees
 trip_chairs_shown s trees edit read fits same are before =
-    subst (λ (xs : List Trip). HasRowsTo 14 (record s { trips = xs }) trees) (sym (trips_anew s edit read fits same)) (
-      before.0,
-      (
-        before.1.0,
-        (
-          before.1.1.0,
-          (
-            before.1.1.1.0,
-            (
-              before.1.1.1.1.0,
-              (
-                before.1.1.1.1.1.0,
-                (
-                  before.1.1.1.1.1.1.0,
-                  (
-                    before.1.1.1.1.1.1.1.0,
-                    (
-                      subst (AreRows trips_table trees) (sym same) before.1.1.1.1.1.1.1.1.0,
-                      (
-                        before.1.1.1.1.1.1.1.1.1.0,
-                        (
-                          before.1.1.1.1.1.1.1.1.1.1.0,
-                          (
-                            before.1.1.1.1.1.1.1.1.1.1.1.0,
-                            (
-                              before.1.1.1.1.1.1.1.1.1.1.1.1.0,
-                              (are, tt),
-                            ),
-                          ),
-                        ),
-                      ),
-                    ),
-                  ),
-                ),
-              ),
-            ),
-          ),
-        ),
-      ),
-    )
+    subst (λ (xs : List Trip). HasRowsTo 14 (record s { trips = xs }) trees) (sym (trips_anew s edit read fits same))
+    (and_in (HasRowsIn (record s { trips = edit.puts }) trees) table.TripChairs
+    (each_upto (HasRowsIn s trees) (HasRowsIn (record s { trips = edit.puts }) trees) 13 (trips_rows s edit.puts trees same) before) are)
 
 pub trip_chairs_none : (trees : Trees) → NoneBeside trip_key trips_table trip_chairs_table trip_row trip_chair_rows FitsTrip trees → NoneStandsTo 14 trees
 trip_chairs_none trees none s stands =

@@ -7,3 +7,4 @@ pub mod Plain
 pub mod Refused
 pub mod Standing
 pub mod Steps
+pub mod Tables

@@ -1,13 +1,17 @@
--- What reads of the tables leave of a connection to them.
-use Rattle.std.specs.Prelude.{◌≡◌, ◌≢◌, false, IsTrue, Result, IfOk, [], ◌∷◌}
+-- What reads of the tables tell, and what they leave of a connection to them.
+use Rattle.std.specs.Prelude.{◌≡◌, ◌≢◌, ℕ, List, [], ◌∷◌, false, IsTrue, Result, IfOk}
 use Rattle.std.specs.List.{AllByRecursion}
 use Rattle.sqlite.specs.Effect.{Database}
+use Rattle.sqlite.specs.Given.{IsPlain}
+use Rattle.sqlite.specs.Listing.{understood, reads_listing}
 use Rattle.sqlite.specs.Order.{Row, column}
 use Rattle.sqlite.specs.Schema.{Schema}
 use Rattle.sqlite.specs.State.{State as Connected, HasCleanDisk, IsUnchanged, Survives}
+use Rattle.sqlite.specs.Table.{Table}
 use Rattle.sqlite.specs.Tree.{Trees}
 use Rattle.sqlite_catalog.specs.Listing.{Lists}
 use Rattle.sqlite_trees.specs.Objects.{catalog_tree}
+use Rattle.pt_tables_asking.specs.Asking.{IsAnswer}
 use Rattle.pt_tables_rows.specs.Rows.{first_version, number_value}
 use Rattle.pt_tables_rows.specs.Schema.{desk_schema, desk_table, first_schema, tables}
 use Rattle.pt_tables_rows.specs.Tables.{AreRows, HaveRowids}
@@ -33,6 +37,12 @@ Rests old new result = RestsOn desk_schema old new result
 -- reads of the desk's tables tell this of the rows that were there, where the disk stayed clean
 abbrev pub ReadsTables : Connected → Connected → (Trees → Type 0) → Type 0
 ReadsTables old new Told = HasCleanDisk new → old.now.schema ≡ desk_schema → Told old.now.trees
+
+-- the text asks the desk's tables for all rows of this one, and they are answered in such an order
+pub record AsksForAll (text : List ℕ) (table : Table) (Ordered : List Row → Type 0) : Type 0 where
+  pub plain : IsPlain (understood desk_schema text)
+  pub unlisted : reads_listing desk_schema text ≡ false
+  pub answer : (db : Database) (rows : List Row) → IsAnswer text [] db rows → AreRows table db.trees rows × Ordered rows
 
 -- a new connection to what the other had committed
 pub record IsReopened (old new : Connected) : Type 0 where

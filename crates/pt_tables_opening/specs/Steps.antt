@@ -1,62 +1,21 @@
 -- What an opening does, table after table: it reads the rows of one, and judges it before it reads the next.
-use Rattle.std.specs.Prelude.{◌≡◌, ◌⊎◌, ℕ, ◌-◌, [], take, drop, Result, IfOk, IfErr}
+use Rattle.std.specs.Prelude.{◌≡◌, ◌⊎◌, ℕ, ◌-◌, take, drop, Result, IfOk, IfErr}
 use Rattle.sqlite.specs.State.{State as Connected, HasCleanDisk}
 use Rattle.sqlite.specs.Tree.{Trees}
 use Rattle.pt_base.specs.Codes.{memory_refused}
 use Rattle.pt_desk.specs.Listed.{Listed}
-use Rattle.pt_desk_rules.specs.Ranges.{FitsFiled, FitsKept, FitsPlace, FitsRider, FitsTravel, FitsTrip}
-use Rattle.pt_desk_rules.specs.State.{State, applied, caller_key, kept_key, place_key, route_key, rider_key, entry_key}
-use Rattle.pt_desk_rules.specs.State.{vehicle_key, travel_key, trip_key}
+use Rattle.pt_desk_rules.specs.State.{State, applied}
 use Rattle.pt_desk_rules.specs.declared.change.Change.{Change}
-use Rattle.pt_records.specs.Records.{Each, IsInOrder}
-use Rattle.pt_scheduling.specs.Plan.{plan_key}
+use Rattle.pt_records.specs.Records.{Each}
 use Rattle.pt_soundness.specs.Tables.{all_tables, number_of, IsSoundBefore, IsSoundTo}
 use Rattle.pt_soundness.specs.declared.unsound_table.UnsoundTable.{UnsoundTable}
-use Rattle.pt_soundness.specs.declared.unsound_table.UnsoundTable.TheVariants as table
-use Rattle.pt_spelling.specs.Ranges.{IsCaller, IsRoute, IsVehicle, IsWord}
 use Rattle.pt_tables_opening.specs.Faults.{IsRefusal, fault, store_refused, unsound}
 use Rattle.pt_tables_opening.specs.Opening.{Rests}
 use Rattle.pt_tables_opening.specs.Refused.{SparesOtherVersion, TellsWhy}
-use Rattle.pt_tables_opening.specs.Standing.{HasRowsIn, NoneStandsTo}
-use Rattle.pt_tables_opening.specs.Gathered.{FitsRows}
+use Rattle.pt_tables_opening.specs.Standing.{NoneStandsTo}
+use Rattle.pt_tables_opening.specs.Tables.{HasNoneIn, HasRowsIn, IsLaidIn}
 use Rattle.pt_tables_opening.specs.declared.open_fault.OpenFault.{OpenFault}
-use Rattle.pt_tables_rows.specs.Rows.{stop_rows}
 use Rattle.pt_tables_rows.specs.Schema.{desk_schema}
-use Rattle.pt_tables_rows.specs.WellFormed.{IsStoredPlan}
-
--- its records stand in the order of their keys, and each is such as the types of its fields keep it
-abbrev pub IsLaidIn : State → UnsoundTable → Type 0
-IsLaidIn s table.Desk = IsWord s.last_trip
-IsLaidIn s table.Callers = IsInOrder caller_key s.callers × Each IsCaller s.callers
-IsLaidIn s table.Kept = IsInOrder kept_key s.kept × Each FitsKept s.kept
-IsLaidIn s table.Places = IsInOrder place_key s.places × Each FitsPlace s.places
-IsLaidIn s table.Fixed = IsInOrder route_key s.routes × Each IsRoute s.routes
-IsLaidIn s table.Vehicles = IsInOrder vehicle_key s.vehicles × Each IsVehicle s.vehicles
-IsLaidIn s table.Riders = IsInOrder rider_key s.riders × Each FitsRider s.riders
-IsLaidIn s table.Entries = IsInOrder entry_key s.entries × Each FitsFiled s.entries
-IsLaidIn s table.Trips = IsInOrder trip_key s.trips × Each FitsTrip s.trips
-IsLaidIn s table.Stops = IsInOrder plan_key s.planned × Each (FitsRows stop_rows IsStoredPlan) s.planned
-IsLaidIn s table.Travel = IsInOrder travel_key s.travel × Each FitsTravel s.travel
-IsLaidIn s table.RiderChairs = Unit {0}
-IsLaidIn s table.VehicleChairs = Unit {0}
-IsLaidIn s table.TripChairs = Unit {0}
-
--- no record of this table was read yet
-abbrev pub HasNoneIn : State → UnsoundTable → Type 0
-HasNoneIn s table.Desk = Unit {0}
-HasNoneIn s table.Callers = s.callers ≡ []
-HasNoneIn s table.Kept = s.kept ≡ []
-HasNoneIn s table.Places = s.places ≡ []
-HasNoneIn s table.Fixed = s.routes ≡ []
-HasNoneIn s table.Vehicles = s.vehicles ≡ []
-HasNoneIn s table.Riders = s.riders ≡ []
-HasNoneIn s table.Entries = s.entries ≡ []
-HasNoneIn s table.Trips = s.trips ≡ []
-HasNoneIn s table.Stops = s.planned ≡ []
-HasNoneIn s table.Travel = s.travel ≡ []
-HasNoneIn s table.RiderChairs = Unit {0}
-HasNoneIn s table.VehicleChairs = Unit {0}
-HasNoneIn s table.TripChairs = Unit {0}
 
 -- the first so many tables were read and found sound, and no other
 pub record IsReadTo (number : ℕ) (s : State) : Type 0 where

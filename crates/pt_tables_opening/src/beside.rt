@@ -9,34 +9,25 @@ ghost use Rattle.pt_soundness.specs.Tables.{number_of};
 ghost use Rattle.pt_tables_opening.specs.Beside.{AreBeside, IsAlone, NoneBeside, TellsBeside};
 ghost use Rattle.pt_tables_opening.specs.Faults.{fault, store_refused, unsound};
 ghost use Rattle.pt_tables_opening.specs.Gathered.{IsFitting, KeepsRows};
-ghost use Rattle.pt_tables_opening.specs.Opening.{ReadsTables, Rests};
+ghost use Rattle.pt_tables_opening.specs.Opening.{AsksForAll, ReadsTables, Rests};
 ghost use Rattle.pt_tables_reading.specs.Reading.{ReadsBeside};
 ghost use Rattle.pt_tables_rows.specs.Tables.{AreRows};
 
 use crate::OpenFault;
 use crate::open_fault::fault_of;
-use crate::table_rows::{RIDER_CHAIR_ROWS, TRIP_CHAIR_ROWS, VEHICLE_CHAIR_ROWS, rows_of_table};
+use crate::table_rows::rows_of_table;
 use pt_base::{Rider, Trip, Vehicle};
 use pt_records::Edits;
 use pt_soundness::UnsoundTable;
 use pt_tables_reading::{OneRow, rider_beside, trip_beside, vehicle_beside};
 use pt_tables_rows::{RiderChairs, Riders, TableOf, TripChairs, Trips, VehicleChairs, Vehicles};
-use sqlite::{Alter, Connection, Error, Row};
+use sqlite::{Alter, Connection, Row};
 use std::alloc::{AllocError, Global};
 
 /// A second table, in which a record has one row at most beside that of its own table.
 pub(crate) trait Beside: TableOf {
     /// The records' own table.
     type First: OneRow<Record = Self::Record>;
-
-    /// All rows of the second table, in the order of the keys of the records.
-    fn every_row<S: Alter>(conn: &mut Connection<S>) -> Result<Vec<Row>, Error>
-        ensures rows { ReadsTables (state S.Store conn.old) (state S.Store conn.new)
-            (λ trees. IfOk result (λ rows. AreRows Self.home trees rows.items)) }
-        ensures order { ReadsTables (state S.Store conn.old) (state S.Store conn.new)
-            (λ _. IfOk result (λ rows. KeepsRows Self.Record.key Self.rows_of Self.Fits rows.items)) }
-        ensures rests { Rests (state S.Store conn.old) (state S.Store conn.new) result }
-        ensures beside { AreBeside Self.Record.key Self.First.row_of Self.rows_of };
 
     /// The record with no row there.
     fn alone(known: &Self::Record) -> Self::Record
@@ -52,10 +43,6 @@ pub(crate) trait Beside: TableOf {
 impl Beside for RiderChairs {
     type First = Riders;
 
-    fn every_row<S: Alter>(conn: &mut Connection<S>) -> Result<Vec<Row>, Error> {
-        rows_of_table(conn, RIDER_CHAIR_ROWS)
-    }
-
     fn alone(known: &Rider) -> Rider {
         Rider {
             wheelchair: false,
@@ -70,10 +57,6 @@ impl Beside for RiderChairs {
 
 impl Beside for VehicleChairs {
     type First = Vehicles;
-
-    fn every_row<S: Alter>(conn: &mut Connection<S>) -> Result<Vec<Row>, Error> {
-        rows_of_table(conn, VEHICLE_CHAIR_ROWS)
-    }
 
     fn alone(known: &Vehicle) -> Vehicle {
         Vehicle {
@@ -96,10 +79,6 @@ impl Beside for VehicleChairs {
 
 impl Beside for TripChairs {
     type First = Trips;
-
-    fn every_row<S: Alter>(conn: &mut Connection<S>) -> Result<Vec<Row>, Error> {
-        rows_of_table(conn, TRIP_CHAIR_ROWS)
-    }
 
     fn alone(known: &Trip) -> Trip {
         Trip {
@@ -189,14 +168,18 @@ fn merged_table<T: Beside>(
     }
 }
 
-/// The records with what the second table's rows tell of them: code 31 with the number of that table where no records
-/// in order have both tables' rows, 32 where the store refused or failed, and 0 where memory was refused.
+/// The records with what all rows of the second table tell of them, for which the text asks: code 31 with the number of
+/// that table where no records in order have both tables' rows, 32 where the store refused or failed, and 0 where
+/// memory was refused.
 pub(crate) fn beside_in<S: Alter, T: Beside>(
     alloc: Global,
     conn: &mut Connection<S>,
     records: &[T::Record],
+    text: &str,
     table: UnsoundTable,
 ) -> Result<Edits<T::Record>, OpenFault>
+    requires asked { AsksForAll text.now T.home (KeepsRows T.Record.key T.rows_of T.Fits) }
+    requires beside { AreBeside T.Record.key T.First.row_of T.rows_of }
     requires fits { Each T.Fits records.now }
     requires order { IsInOrder T.Record.key records.now }
     ensures fitting { IfOk result (IsFitting T.Record.key T.Fits) }
@@ -209,7 +192,7 @@ pub(crate) fn beside_in<S: Alter, T: Beside>(
         → NoneBeside T.Record.key T.First.home T.home T.First.row_of T.rows_of T.Fits trees))))) }
     ensures rests { Rests (state S.Store conn.old) (state S.Store conn.new) result }
 {
-    let rows = match T::every_row(conn) {
+    let rows = match rows_of_table(conn, text) {
         Ok(rows) => rows,
         Err(error) => return Err(fault_of(&error)),
     };

@@ -10,6 +10,7 @@ use crate::OpenFault;
 use crate::beside::beside_in;
 use crate::content::no_change;
 use crate::gathered::gathered_in;
+use crate::one_row::RowByRow;
 use pt_desk::ListKeeper;
 use pt_desk_rules::Change;
 use pt_soundness::UnsoundTable;
@@ -20,125 +21,176 @@ use pt_tables_rows::{
 use sqlite::{Alter, Connection};
 use std::alloc::Global;
 
+const CALLER_ROWS: &str = "SELECT id, role, subject, digest FROM callers ORDER BY id";
+
 /// The callers, to be put.
 fn callers_change<S: Alter>(alloc: Global, conn: &mut Connection<S>) -> Result<Change, OpenFault>
     ensures { (s : State) → IsReadTo 1 s
         → ReadsTable UnsoundTable.Callers (state S.Store conn.old) (state S.Store conn.new) s result }
 {
-    let callers = gathered_in::<S, Callers>(alloc, conn, UnsoundTable::Callers)?;
+    let callers = gathered_in::<S, RowByRow<Callers>>(
+        alloc,
+        conn,
+        CALLER_ROWS,
+        UnsoundTable::Callers,
+    )?;
     Ok(Change {
         callers,
         ..no_change(alloc)
     })
 }
 
+const KEPT_ROWS: &str = "SELECT caller, number, request, reply FROM kept ORDER BY caller";
+
 /// What callers were last told, to be put.
 fn kept_change<S: Alter>(alloc: Global, conn: &mut Connection<S>) -> Result<Change, OpenFault>
     ensures { (s : State) → IsReadTo 2 s
         → ReadsTable UnsoundTable.Kept (state S.Store conn.old) (state S.Store conn.new) s result }
 {
-    let kept = gathered_in::<S, KeptWrites>(alloc, conn, UnsoundTable::Kept)?;
+    let kept = gathered_in::<S, RowByRow<KeptWrites>>(alloc, conn, KEPT_ROWS, UnsoundTable::Kept)?;
     Ok(Change {
         kept,
         ..no_change(alloc)
     })
 }
 
+const PLACE_ROWS: &str = "SELECT id, x, y, core FROM places ORDER BY id";
+
 /// The places, to be put.
 fn places_change<S: Alter>(alloc: Global, conn: &mut Connection<S>) -> Result<Change, OpenFault>
     ensures { (s : State) → IsReadTo 3 s
         → ReadsTable UnsoundTable.Places (state S.Store conn.old) (state S.Store conn.new) s result }
 {
-    let places = gathered_in::<S, Places>(alloc, conn, UnsoundTable::Places)?;
+    let places = gathered_in::<S, RowByRow<Places>>(alloc, conn, PLACE_ROWS, UnsoundTable::Places)?;
     Ok(Change {
         places,
         ..no_change(alloc)
     })
 }
 
+const ROUTE_ROWS: &str =
+    "SELECT id, width, points, accessible, days, first_min, last_min FROM fixed ORDER BY \
+    id";
+
 /// The fixed routes, to be put.
 fn routes_change<S: Alter>(alloc: Global, conn: &mut Connection<S>) -> Result<Change, OpenFault>
     ensures { (s : State) → IsReadTo 4 s
         → ReadsTable UnsoundTable.Fixed (state S.Store conn.old) (state S.Store conn.new) s result }
 {
-    let routes = gathered_in::<S, FixedRoutes>(alloc, conn, UnsoundTable::Fixed)?;
+    let routes = gathered_in::<S, RowByRow<FixedRoutes>>(
+        alloc,
+        conn,
+        ROUTE_ROWS,
+        UnsoundTable::Fixed,
+    )?;
     Ok(Change {
         routes,
         ..no_change(alloc)
     })
 }
 
+const VEHICLE_ROWS: &str =
+    "SELECT id, from_day, days, depot, capacity, opens, closes, duration FROM vehicles \
+    ORDER BY id, from_day";
+
 /// The vehicles, with no wheelchair places yet, to be put.
 fn vehicles_change<S: Alter>(alloc: Global, conn: &mut Connection<S>) -> Result<Change, OpenFault>
     ensures { (s : State) → IsReadTo 5 s
         → ReadsTable UnsoundTable.Vehicles (state S.Store conn.old) (state S.Store conn.new) s result }
 {
-    let vehicles = gathered_in::<S, Vehicles>(alloc, conn, UnsoundTable::Vehicles)?;
+    let vehicles = gathered_in::<S, RowByRow<Vehicles>>(
+        alloc,
+        conn,
+        VEHICLE_ROWS,
+        UnsoundTable::Vehicles,
+    )?;
     Ok(Change {
         vehicles,
         ..no_change(alloc)
     })
 }
 
+const RIDER_ROWS: &str = "SELECT id, kind, attendant FROM riders ORDER BY id";
+
 /// The riders, in no wheelchairs yet, to be put.
 fn riders_change<S: Alter>(alloc: Global, conn: &mut Connection<S>) -> Result<Change, OpenFault>
     ensures { (s : State) → IsReadTo 6 s
         → ReadsTable UnsoundTable.Riders (state S.Store conn.old) (state S.Store conn.new) s result }
 {
-    let riders = gathered_in::<S, Riders>(alloc, conn, UnsoundTable::Riders)?;
+    let riders = gathered_in::<S, RowByRow<Riders>>(alloc, conn, RIDER_ROWS, UnsoundTable::Riders)?;
     Ok(Change {
         riders,
         ..no_change(alloc)
     })
 }
 
+const ENTRY_ROWS: &str =
+    "SELECT rider, place, kind, day, author, a, b, conditions, words FROM entries ORDER \
+    BY rider, place";
+
 /// What was entered on riders, to be put.
 fn entries_change<S: Alter>(alloc: Global, conn: &mut Connection<S>) -> Result<Change, OpenFault>
     ensures { (s : State) → IsReadTo 7 s
         → ReadsTable UnsoundTable.Entries (state S.Store conn.old) (state S.Store conn.new) s result }
 {
-    let entries = gathered_in::<S, Entries>(alloc, conn, UnsoundTable::Entries)?;
+    let entries = gathered_in::<S, RowByRow<Entries>>(
+        alloc,
+        conn,
+        ENTRY_ROWS,
+        UnsoundTable::Entries,
+    )?;
     Ok(Change {
         entries,
         ..no_change(alloc)
     })
 }
 
+const TRIP_ROWS: &str =
+    "SELECT id, rider, day, wish, origin, goal, latest, attendant, companions, fare, \
+    service, ride, vehicle, window_from, window_to, status FROM trips ORDER BY id";
+
 /// The trips, in no wheelchairs yet, to be put.
 fn trips_change<S: Alter>(alloc: Global, conn: &mut Connection<S>) -> Result<Change, OpenFault>
     ensures { (s : State) → IsReadTo 8 s
         → ReadsTable UnsoundTable.Trips (state S.Store conn.old) (state S.Store conn.new) s result }
 {
-    let trips = gathered_in::<S, Trips>(alloc, conn, UnsoundTable::Trips)?;
+    let trips = gathered_in::<S, RowByRow<Trips>>(alloc, conn, TRIP_ROWS, UnsoundTable::Trips)?;
     Ok(Change {
         trips,
         ..no_change(alloc)
     })
 }
 
+const STOP_ROWS: &str =
+    "SELECT vehicle, day, place, trip, kind FROM stops ORDER BY vehicle, day, place";
+
 /// The planned routes, to be put.
 fn planned_change<S: Alter>(alloc: Global, conn: &mut Connection<S>) -> Result<Change, OpenFault>
     ensures { (s : State) → IsReadTo 9 s
         → ReadsTable UnsoundTable.Stops (state S.Store conn.old) (state S.Store conn.new) s result }
 {
-    let planned = gathered_in::<S, Plans>(alloc, conn, UnsoundTable::Stops)?;
+    let planned = gathered_in::<S, Plans>(alloc, conn, STOP_ROWS, UnsoundTable::Stops)?;
     Ok(Change {
         planned,
         ..no_change(alloc)
     })
 }
 
+const TRAVEL_ROWS: &str = "SELECT from_day, a, b, minutes FROM travel ORDER BY from_day, a, b";
+
 /// The travel tables, to be put.
 fn travel_change<S: Alter>(alloc: Global, conn: &mut Connection<S>) -> Result<Change, OpenFault>
     ensures { (s : State) → IsReadTo 10 s
         → ReadsTable UnsoundTable.Travel (state S.Store conn.old) (state S.Store conn.new) s result }
 {
-    let travel = gathered_in::<S, TravelTables>(alloc, conn, UnsoundTable::Travel)?;
+    let travel = gathered_in::<S, TravelTables>(alloc, conn, TRAVEL_ROWS, UnsoundTable::Travel)?;
     Ok(Change {
         travel,
         ..no_change(alloc)
     })
 }
+
+const RIDER_CHAIR_ROWS: &str = "SELECT rider FROM rider_chairs ORDER BY rider";
 
 /// The riders, some of them in wheelchairs, to be put.
 fn rider_chairs_change<S: Alter>(
@@ -154,6 +206,7 @@ fn rider_chairs_change<S: Alter>(
         alloc,
         conn,
         keeper.riders_table().as_slice(),
+        RIDER_CHAIR_ROWS,
         UnsoundTable::RiderChairs,
     )?;
     Ok(Change {
@@ -161,6 +214,9 @@ fn rider_chairs_change<S: Alter>(
         ..no_change(alloc)
     })
 }
+
+const VEHICLE_CHAIR_ROWS: &str =
+    "SELECT id, from_day, chairs FROM vehicle_chairs ORDER BY id, from_day";
 
 /// The vehicles with their wheelchair places, to be put.
 fn vehicle_chairs_change<S: Alter>(
@@ -176,6 +232,7 @@ fn vehicle_chairs_change<S: Alter>(
         alloc,
         conn,
         keeper.vehicles_table().as_slice(),
+        VEHICLE_CHAIR_ROWS,
         UnsoundTable::VehicleChairs,
     )?;
     Ok(Change {
@@ -183,6 +240,8 @@ fn vehicle_chairs_change<S: Alter>(
         ..no_change(alloc)
     })
 }
+
+const TRIP_CHAIR_ROWS: &str = "SELECT trip FROM trip_chairs ORDER BY trip";
 
 /// The trips, some of them in wheelchairs, to be put.
 fn trip_chairs_change<S: Alter>(
@@ -198,6 +257,7 @@ fn trip_chairs_change<S: Alter>(
         alloc,
         conn,
         keeper.trips_table().as_slice(),
+        TRIP_CHAIR_ROWS,
         UnsoundTable::TripChairs,
     )?;
     Ok(Change {

@@ -5,7 +5,7 @@ ghost use Rattle.pt_records.specs.Records.{Each};
 ghost use Rattle.pt_soundness.specs.Tables.{all_tables};
 ghost use Rattle.pt_spelling.specs.Ranges.{IsWord};
 ghost use Rattle.pt_tables_opening.specs.Faults.{fault};
-ghost use Rattle.pt_tables_opening.specs.Steps.{HasNoneIn};
+ghost use Rattle.pt_tables_opening.specs.Tables.{HasNoneIn};
 ghost use Rattle.pt_tables_opening.specs.Agency.{numbers};
 
 use crate::OpenFault;

@@ -9,33 +9,26 @@ ghost use Rattle.pt_soundness.specs.Tables.{number_of};
 ghost use Rattle.pt_tables_opening.specs.Faults.{fault, store_refused, unsound};
 ghost use Rattle.pt_tables_opening.specs.Gathered.{AreRowsOfNone, BeginsOnce, FitsRows, GathersNothing, IsFitting};
 ghost use Rattle.pt_tables_opening.specs.Gathered.{KeepsOrder, TellsGathered};
-ghost use Rattle.pt_tables_opening.specs.Opening.{ReadsTables, Rests};
+ghost use Rattle.pt_tables_opening.specs.Opening.{AsksForAll, ReadsTables, Rests};
 ghost use Rattle.pt_tables_reading.specs.Reading.{Reads};
 ghost use Rattle.pt_tables_rows.specs.Rows.{number_value};
 ghost use Rattle.pt_tables_rows.specs.Tables.{AreRows};
 
 use crate::OpenFault;
 use crate::open_fault::fault_of;
+use crate::table_rows::rows_of_table;
 use pt_records::Edits;
 use pt_soundness::UnsoundTable;
 use pt_tables_asking::are_rising;
 use pt_tables_rows::TableOf;
 use sqlite::types::ValueRef;
-use sqlite::{Alter, Connection, Error, Row};
+use sqlite::{Alter, Connection, Row};
 use std::alloc::{AllocError, Global};
 
 /// A table whose rows are read back as its records.
 pub(crate) trait Gathered: TableOf {
     /// What is true of a first row.
     ghost Begins: { StoredRow → Type 0 };
-
-    /// All rows of the table, in the order of the keys of its records.
-    fn every_row<S: Alter>(conn: &mut Connection<S>) -> Result<Vec<Row>, Error>
-        ensures rows { ReadsTables (state S.Store conn.old) (state S.Store conn.new)
-            (λ trees. IfOk result (λ rows. AreRows Self.home trees rows.items)) }
-        ensures order { ReadsTables (state S.Store conn.old) (state S.Store conn.new) (λ _. IfOk result
-            (λ rows. KeepsOrder Self.Record.key Self.rows_of (FitsRows Self.rows_of Self.Fits) rows.items)) }
-        ensures rests { Rests (state S.Store conn.old) (state S.Store conn.new) result };
 
     /// Whether a row is the first one of a record.
     fn begins(row: &Row) -> bool
@@ -117,13 +110,15 @@ fn gathered_table<T: Gathered>(
     Ok(records)
 }
 
-/// The records of a table, to be put, read from all its rows: code 31 where no records in the order of their keys have
-/// them, 32 where the store refused or failed, and 0 where memory was refused.
+/// The records of a table, to be put, read from all its rows, for which the text asks: code 31 where no records in the
+/// order of their keys have them, 32 where the store refused or failed, and 0 where memory was refused.
 pub(crate) fn gathered_in<S: Alter, T: Gathered>(
     alloc: Global,
     conn: &mut Connection<S>,
+    text: &str,
     table: UnsoundTable,
 ) -> Result<Edits<T::Record>, OpenFault>
+    requires asked { AsksForAll text.now T.home (KeepsOrder T.Record.key T.rows_of (FitsRows T.rows_of T.Fits)) }
     ensures fitting { IfOk result (IsFitting T.Record.key (FitsRows T.rows_of T.Fits)) }
     ensures told { ReadsTables (state S.Store conn.old) (state S.Store conn.new)
         (λ trees. IfOk result (λ edit. AreRows T.home trees (flat_map T.rows_of edit.puts))) }
@@ -132,7 +127,7 @@ pub(crate) fn gathered_in<S: Alter, T: Gathered>(
         (AreRowsOfNone T.Record.key T.home T.rows_of (FitsRows T.rows_of T.Fits)))))) }
     ensures rests { Rests (state S.Store conn.old) (state S.Store conn.new) result }
 {
-    let rows = match T::every_row(conn) {
+    let rows = match rows_of_table(conn, text) {
         Ok(rows) => rows,
         Err(error) => return Err(fault_of(&error)),
     };

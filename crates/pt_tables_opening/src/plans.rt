@@ -7,13 +7,12 @@ ghost use Rattle.pt_tables_rows.specs.Rows.{stop_row, stop_rows, stop_rows_from}
 ghost use Rattle.pt_tables_rows.specs.WellFormed.{IsStoredPlan};
 
 use crate::gathered::{Gathered, is_nought};
-use crate::table_rows::{STOP_ROWS, rows_of_table};
 use pt_base::{Day, VehicleId};
 use pt_desk_rules::PlannedRoute;
 use pt_scheduling::PlannedStop;
 use pt_tables_reading::stop_of;
 use pt_tables_rows::Plans;
-use sqlite::{Alter, Connection, Error, Row};
+use sqlite::Row;
 use std::alloc::{AllocError, Global};
 
 /// The column of a stop's row that has its place among the stops.
@@ -78,10 +77,6 @@ impl Gathered for Plans {
     ghost use Rattle.pt_tables_opening.specs.Gathered.{BeginsPlan};
 
     ghost Begins = { BeginsPlan };
-
-    fn every_row<S: Alter>(conn: &mut Connection<S>) -> Result<Vec<Row>, Error> {
-        rows_of_table(conn, STOP_ROWS)
-    }
 
     fn begins(row: &Row) -> bool {
         is_nought(row, PLACE_COLUMN)

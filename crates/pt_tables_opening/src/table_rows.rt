@@ -1,4 +1,4 @@
-//! The rows of the tables, as texts ask for them.
+//! The rows of a table, as a text asks for them.
 
 ghost use Rattle.std.specs.Prelude.{◌≡◌, [], IfOk};
 ghost use Rattle.sqlite.specs.Given.{IsPlain};
@@ -15,44 +15,6 @@ use sqlite::{Alter, Connection, Error, Row};
 const DESK_ROWS: &str =
     "SELECT id, version, base, transfer, fare, service, extra_ride, min_missed, percent, \
     span_days, last_trip FROM desk ORDER BY id";
-
-pub(crate) const CALLER_ROWS: &str = "SELECT id, role, subject, digest FROM callers ORDER BY id";
-
-pub(crate) const KEPT_ROWS: &str =
-    "SELECT caller, number, request, reply FROM kept ORDER BY caller";
-
-pub(crate) const PLACE_ROWS: &str = "SELECT id, x, y, core FROM places ORDER BY id";
-
-pub(crate) const ROUTE_ROWS: &str =
-    "SELECT id, width, points, accessible, days, first_min, last_min FROM fixed ORDER BY \
-    id";
-
-pub(crate) const VEHICLE_ROWS: &str =
-    "SELECT id, from_day, days, depot, capacity, opens, closes, duration FROM vehicles \
-    ORDER BY id, from_day";
-
-pub(crate) const RIDER_ROWS: &str = "SELECT id, kind, attendant FROM riders ORDER BY id";
-
-pub(crate) const ENTRY_ROWS: &str =
-    "SELECT rider, place, kind, day, author, a, b, conditions, words FROM entries ORDER \
-    BY rider, place";
-
-pub(crate) const TRIP_ROWS: &str =
-    "SELECT id, rider, day, wish, origin, goal, latest, attendant, companions, fare, \
-    service, ride, vehicle, window_from, window_to, status FROM trips ORDER BY id";
-
-pub(crate) const STOP_ROWS: &str =
-    "SELECT vehicle, day, place, trip, kind FROM stops ORDER BY vehicle, day, place";
-
-pub(crate) const TRAVEL_ROWS: &str =
-    "SELECT from_day, a, b, minutes FROM travel ORDER BY from_day, a, b";
-
-pub(crate) const RIDER_CHAIR_ROWS: &str = "SELECT rider FROM rider_chairs ORDER BY rider";
-
-pub(crate) const VEHICLE_CHAIR_ROWS: &str =
-    "SELECT id, from_day, chairs FROM vehicle_chairs ORDER BY id, from_day";
-
-pub(crate) const TRIP_CHAIR_ROWS: &str = "SELECT trip FROM trip_chairs ORDER BY trip";
 
 /// All rows that a text asks for.
 pub(crate) fn rows_of_table<S: Alter>(

@@ -8,13 +8,12 @@ ghost use Rattle.pt_tables_reading.specs.Reading.{Reads};
 ghost use Rattle.pt_tables_rows.specs.Rows.{travel_row, travel_rows};
 
 use crate::gathered::{Gathered, is_nought};
-use crate::table_rows::{TRAVEL_ROWS, rows_of_table};
 use pt_base::Day;
 use pt_desk_rules::TravelTable;
 use pt_tables_reading::drive_of;
 use pt_tables_rows::TravelTables;
 use pt_travel::{Raw, Row as Drive};
-use sqlite::{Alter, Connection, Error, Row};
+use sqlite::Row;
 use std::alloc::{AllocError, Global};
 
 /// The column that has the place from which a drive begins.
@@ -83,10 +82,6 @@ impl Gathered for TravelTables {
     ghost use Rattle.pt_tables_opening.specs.Gathered.{BeginsTravel};
 
     ghost Begins = { BeginsTravel };
-
-    fn every_row<S: Alter>(conn: &mut Connection<S>) -> Result<Vec<Row>, Error> {
-        rows_of_table(conn, TRAVEL_ROWS)
-    }
 
     fn begins(row: &Row) -> bool {
         is_nought(row, FROM_COLUMN)

@@ -8,7 +8,8 @@ ghost use Rattle.pt_soundness.specs.Tables.{number_of, table_count, IsSoundBefor
 ghost use Rattle.pt_tables_opening.specs.Faults.{IsRefusal, fault, unsound};
 ghost use Rattle.pt_tables_opening.specs.Opening.{Rests, Stays};
 ghost use Rattle.pt_tables_opening.specs.Refused.{SparesOtherVersion, TellsOf};
-ghost use Rattle.pt_tables_opening.specs.Steps.{IsLaidIn, IsReadTo, OpensTable, OpensTo};
+ghost use Rattle.pt_tables_opening.specs.Steps.{IsReadTo, OpensTable, OpensTo};
+ghost use Rattle.pt_tables_opening.specs.Tables.{IsLaidIn};
 ghost use Rattle.pt_tables_rows.specs.Schema.{desk_schema};
 ghost use Rattle.pt_tables_rows.specs.Tables.{HasRows};
 
@@ -25,9 +26,6 @@ use std::alloc::Global;
 
 /// The number of the first table after the agency's.
 const SECOND_TABLE: u32 = 2;
-
-/// The number of the last table.
-const LAST_TABLE: u32 = 14;
 
 /// The rows of this table are those of no sound state.
 fn at_fault(table: UnsoundTable) -> OpenFault
@@ -92,9 +90,10 @@ fn all_tables<S: Alter>(alloc: Global, conn: &mut Connection<S>) -> Result<ListK
     ensures { OpensTo table_count (state S.Store conn.old) (state S.Store conn.new) result }
 {
     let mut keeper = first_table(alloc, conn)?;
-    for number in SECOND_TABLE..LAST_TABLE + 1 {
-        let table = UnsoundTable::with_number(number).unwrap();
+    let mut number = SECOND_TABLE;
+    while let Some(table) = UnsoundTable::with_number(number) {
         keeper = with_table(alloc, conn, keeper, table)?;
+        number += 1;
     }
     Ok(keeper)
 }

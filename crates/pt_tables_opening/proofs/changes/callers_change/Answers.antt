@@ -1,22 +1,19 @@
 use Rattle.std.proofs.Common.{ap}
 use Rattle.sqlite.specs.Held.{state}
 use Rattle.pt_desk_rules.specs.declared.change.Change.{Change}
-use Rattle.pt_soundness.specs.declared.unsound_table.UnsoundTable.TheVariants as table
-use Rattle.pt_tables_opening.proofs.StepLemmas.{fails_so, puts_so}
-use Rattle.pt_tables_opening.proofs.TableReads.{callers_none, callers_read, callers_shown, puts_callers}
+use Rattle.pt_tables_opening.proofs.AskedRows.{callers_asked}
+use Rattle.pt_tables_opening.proofs.TableReads.{none_read, puts_read, callers_reads}
 use Rattle.pt_tables_opening.proofs.changes.callers_change.Goals as goal
+
+pub gathered_in-requires : goal.gathered_in-requires
+gathered_in-requires g c = record { asked = callers_asked }
 
 pub returns : goal.returns
 returns g c s read =
-    let old = state g.S.Store c.args.conn.now in
-    let edit = c.in_ok-callers.callers in
-    let fits = c.in_ok-callers.ensures.fitting in
-    puts_so table.Callers old (state g.S.Store c.gathered_in.new.conn) s c.gathered_in.result edit c.in_ok-callers.was c.gathered_in.ensures.rests _ (puts_callers edit)
-    (ap (λ (change : Change). record change { callers = edit }) c.no_change.ensures) (callers_read s edit read fits)
-    (λ clean has before. callers_shown s old.now.trees edit read fits (c.in_ok-callers.ensures.told clean has) before)
+    puts_read callers_reads (state g.S.Store c.args.conn.now) (state g.S.Store c.gathered_in.new.conn) s c.gathered_in.result c.gathered_in.ensures.rests read c.in_ok-callers.callers c.in_ok-callers.was
+    c.in_ok-callers.ensures.fitting c.in_ok-callers.ensures.told _ (ap (λ (change : Change). record change { callers = c.in_ok-callers.callers }) c.no_change.ensures)
 
 pub returns-in_err-callers : goal.returns-in_err-callers
 returns-in_err-callers g c s read =
-    let old = state g.S.Store c.args.conn.now in
-    fails_so table.Callers old (state g.S.Store c.gathered_in.new.conn) s c.gathered_in.result _ c.from_residual.result c.from_residual.ensures.0 c.from_residual.ensures.1 c.gathered_in.ensures.rests
-    _ (λ before none. callers_none old.now.trees none) c.in_err-callers.ensures.faults
+    none_read callers_reads (state g.S.Store c.args.conn.now) (state g.S.Store c.gathered_in.new.conn) s c.gathered_in.result c.gathered_in.ensures.rests _ c.from_residual.result
+    c.from_residual.ensures.0 c.from_residual.ensures.1 c.in_err-callers.ensures.faults

@@ -1,22 +1,19 @@
 use Rattle.std.proofs.Common.{ap}
 use Rattle.sqlite.specs.Held.{state}
 use Rattle.pt_desk_rules.specs.declared.change.Change.{Change}
-use Rattle.pt_soundness.specs.declared.unsound_table.UnsoundTable.TheVariants as table
-use Rattle.pt_tables_opening.proofs.StepLemmas.{fails_so, puts_so}
-use Rattle.pt_tables_opening.proofs.TableReads.{entries_none, entries_read, entries_shown, puts_entries}
+use Rattle.pt_tables_opening.proofs.AskedRows.{entries_asked}
+use Rattle.pt_tables_opening.proofs.TableReads.{none_read, puts_read, entries_reads}
 use Rattle.pt_tables_opening.proofs.changes.entries_change.Goals as goal
+
+pub gathered_in-requires : goal.gathered_in-requires
+gathered_in-requires g c = record { asked = entries_asked }
 
 pub returns : goal.returns
 returns g c s read =
-    let old = state g.S.Store c.args.conn.now in
-    let edit = c.in_ok-entries.entries in
-    let fits = c.in_ok-entries.ensures.fitting in
-    puts_so table.Entries old (state g.S.Store c.gathered_in.new.conn) s c.gathered_in.result edit c.in_ok-entries.was c.gathered_in.ensures.rests _ (puts_entries edit)
-    (ap (λ (change : Change). record change { entries = edit }) c.no_change.ensures) (entries_read s edit read fits)
-    (λ clean has before. entries_shown s old.now.trees edit read fits (c.in_ok-entries.ensures.told clean has) before)
+    puts_read entries_reads (state g.S.Store c.args.conn.now) (state g.S.Store c.gathered_in.new.conn) s c.gathered_in.result c.gathered_in.ensures.rests read c.in_ok-entries.entries c.in_ok-entries.was
+    c.in_ok-entries.ensures.fitting c.in_ok-entries.ensures.told _ (ap (λ (change : Change). record change { entries = c.in_ok-entries.entries }) c.no_change.ensures)
 
 pub returns-in_err-entries : goal.returns-in_err-entries
 returns-in_err-entries g c s read =
-    let old = state g.S.Store c.args.conn.now in
-    fails_so table.Entries old (state g.S.Store c.gathered_in.new.conn) s c.gathered_in.result _ c.from_residual.result c.from_residual.ensures.0 c.from_residual.ensures.1 c.gathered_in.ensures.rests
-    _ (λ before none. entries_none old.now.trees none) c.in_err-entries.ensures.faults
+    none_read entries_reads (state g.S.Store c.args.conn.now) (state g.S.Store c.gathered_in.new.conn) s c.gathered_in.result c.gathered_in.ensures.rests _ c.from_residual.result
+    c.from_residual.ensures.0 c.from_residual.ensures.1 c.in_err-entries.ensures.faults

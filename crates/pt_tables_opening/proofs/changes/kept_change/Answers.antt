@@ -1,22 +1,19 @@
 use Rattle.std.proofs.Common.{ap}
 use Rattle.sqlite.specs.Held.{state}
 use Rattle.pt_desk_rules.specs.declared.change.Change.{Change}
-use Rattle.pt_soundness.specs.declared.unsound_table.UnsoundTable.TheVariants as table
-use Rattle.pt_tables_opening.proofs.StepLemmas.{fails_so, puts_so}
-use Rattle.pt_tables_opening.proofs.TableReads.{kept_none, kept_read, kept_shown, puts_kept}
+use Rattle.pt_tables_opening.proofs.AskedRows.{kept_asked}
+use Rattle.pt_tables_opening.proofs.TableReads.{none_read, puts_read, kept_reads}
 use Rattle.pt_tables_opening.proofs.changes.kept_change.Goals as goal
+
+pub gathered_in-requires : goal.gathered_in-requires
+gathered_in-requires g c = record { asked = kept_asked }
 
 pub returns : goal.returns
 returns g c s read =
-    let old = state g.S.Store c.args.conn.now in
-    let edit = c.in_ok-kept.kept in
-    let fits = c.in_ok-kept.ensures.fitting in
-    puts_so table.Kept old (state g.S.Store c.gathered_in.new.conn) s c.gathered_in.result edit c.in_ok-kept.was c.gathered_in.ensures.rests _ (puts_kept edit)
-    (ap (λ (change : Change). record change { kept = edit }) c.no_change.ensures) (kept_read s edit read fits)
-    (λ clean has before. kept_shown s old.now.trees edit read fits (c.in_ok-kept.ensures.told clean has) before)
+    puts_read kept_reads (state g.S.Store c.args.conn.now) (state g.S.Store c.gathered_in.new.conn) s c.gathered_in.result c.gathered_in.ensures.rests read c.in_ok-kept.kept c.in_ok-kept.was
+    c.in_ok-kept.ensures.fitting c.in_ok-kept.ensures.told _ (ap (λ (change : Change). record change { kept = c.in_ok-kept.kept }) c.no_change.ensures)
 
 pub returns-in_err-kept : goal.returns-in_err-kept
 returns-in_err-kept g c s read =
-    let old = state g.S.Store c.args.conn.now in
-    fails_so table.Kept old (state g.S.Store c.gathered_in.new.conn) s c.gathered_in.result _ c.from_residual.result c.from_residual.ensures.0 c.from_residual.ensures.1 c.gathered_in.ensures.rests
-    _ (λ before none. kept_none old.now.trees none) c.in_err-kept.ensures.faults
+    none_read kept_reads (state g.S.Store c.args.conn.now) (state g.S.Store c.gathered_in.new.conn) s c.gathered_in.result c.gathered_in.ensures.rests _ c.from_residual.result
+    c.from_residual.ensures.0 c.from_residual.ensures.1 c.in_err-kept.ensures.faults

@@ -1,22 +1,19 @@
 use Rattle.std.proofs.Common.{ap}
 use Rattle.sqlite.specs.Held.{state}
 use Rattle.pt_desk_rules.specs.declared.change.Change.{Change}
-use Rattle.pt_soundness.specs.declared.unsound_table.UnsoundTable.TheVariants as table
-use Rattle.pt_tables_opening.proofs.StepLemmas.{fails_so, puts_so}
-use Rattle.pt_tables_opening.proofs.TableReads.{places_none, places_read, places_shown, puts_places}
+use Rattle.pt_tables_opening.proofs.AskedRows.{places_asked}
+use Rattle.pt_tables_opening.proofs.TableReads.{none_read, puts_read, places_reads}
 use Rattle.pt_tables_opening.proofs.changes.places_change.Goals as goal
+
+pub gathered_in-requires : goal.gathered_in-requires
+gathered_in-requires g c = record { asked = places_asked }
 
 pub returns : goal.returns
 returns g c s read =
-    let old = state g.S.Store c.args.conn.now in
-    let edit = c.in_ok-places.places in
-    let fits = c.in_ok-places.ensures.fitting in
-    puts_so table.Places old (state g.S.Store c.gathered_in.new.conn) s c.gathered_in.result edit c.in_ok-places.was c.gathered_in.ensures.rests _ (puts_places edit)
-    (ap (λ (change : Change). record change { places = edit }) c.no_change.ensures) (places_read s edit read fits)
-    (λ clean has before. places_shown s old.now.trees edit read fits (c.in_ok-places.ensures.told clean has) before)
+    puts_read places_reads (state g.S.Store c.args.conn.now) (state g.S.Store c.gathered_in.new.conn) s c.gathered_in.result c.gathered_in.ensures.rests read c.in_ok-places.places c.in_ok-places.was
+    c.in_ok-places.ensures.fitting c.in_ok-places.ensures.told _ (ap (λ (change : Change). record change { places = c.in_ok-places.places }) c.no_change.ensures)
 
 pub returns-in_err-places : goal.returns-in_err-places
 returns-in_err-places g c s read =
-    let old = state g.S.Store c.args.conn.now in
-    fails_so table.Places old (state g.S.Store c.gathered_in.new.conn) s c.gathered_in.result _ c.from_residual.result c.from_residual.ensures.0 c.from_residual.ensures.1 c.gathered_in.ensures.rests
-    _ (λ before none. places_none old.now.trees none) c.in_err-places.ensures.faults
+    none_read places_reads (state g.S.Store c.args.conn.now) (state g.S.Store c.gathered_in.new.conn) s c.gathered_in.result c.gathered_in.ensures.rests _ c.from_residual.result
+    c.from_residual.ensures.0 c.from_residual.ensures.1 c.in_err-places.ensures.faults

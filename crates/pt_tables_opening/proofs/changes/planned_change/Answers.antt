@@ -1,22 +1,19 @@
 use Rattle.std.proofs.Common.{ap}
 use Rattle.sqlite.specs.Held.{state}
 use Rattle.pt_desk_rules.specs.declared.change.Change.{Change}
-use Rattle.pt_soundness.specs.declared.unsound_table.UnsoundTable.TheVariants as table
-use Rattle.pt_tables_opening.proofs.StepLemmas.{fails_so, puts_so}
-use Rattle.pt_tables_opening.proofs.TableReads.{planned_none, planned_read, planned_shown, puts_planned}
+use Rattle.pt_tables_opening.proofs.AskedRows.{planned_asked}
+use Rattle.pt_tables_opening.proofs.TableReads.{none_read, puts_read, planned_reads}
 use Rattle.pt_tables_opening.proofs.changes.planned_change.Goals as goal
+
+pub gathered_in-requires : goal.gathered_in-requires
+gathered_in-requires g c = record { asked = planned_asked }
 
 pub returns : goal.returns
 returns g c s read =
-    let old = state g.S.Store c.args.conn.now in
-    let edit = c.in_ok-planned.planned in
-    let fits = c.in_ok-planned.ensures.fitting in
-    puts_so table.Stops old (state g.S.Store c.gathered_in.new.conn) s c.gathered_in.result edit c.in_ok-planned.was c.gathered_in.ensures.rests _ (puts_planned edit)
-    (ap (λ (change : Change). record change { planned = edit }) c.no_change.ensures) (planned_read s edit read fits)
-    (λ clean has before. planned_shown s old.now.trees edit read fits (c.in_ok-planned.ensures.told clean has) before)
+    puts_read planned_reads (state g.S.Store c.args.conn.now) (state g.S.Store c.gathered_in.new.conn) s c.gathered_in.result c.gathered_in.ensures.rests read c.in_ok-planned.planned c.in_ok-planned.was
+    c.in_ok-planned.ensures.fitting c.in_ok-planned.ensures.told _ (ap (λ (change : Change). record change { planned = c.in_ok-planned.planned }) c.no_change.ensures)
 
 pub returns-in_err-planned : goal.returns-in_err-planned
 returns-in_err-planned g c s read =
-    let old = state g.S.Store c.args.conn.now in
-    fails_so table.Stops old (state g.S.Store c.gathered_in.new.conn) s c.gathered_in.result _ c.from_residual.result c.from_residual.ensures.0 c.from_residual.ensures.1 c.gathered_in.ensures.rests
-    _ (λ before none. planned_none old.now.trees none) c.in_err-planned.ensures.faults
+    none_read planned_reads (state g.S.Store c.args.conn.now) (state g.S.Store c.gathered_in.new.conn) s c.gathered_in.result c.gathered_in.ensures.rests _ c.from_residual.result
+    c.from_residual.ensures.0 c.from_residual.ensures.1 c.in_err-planned.ensures.faults

@@ -3,12 +3,19 @@ use Rattle.sqlite.specs.Held.{state}
 use Rattle.pt_base.specs.declared.rider.Rider.{Rider}
 use Rattle.pt_desk_rules.specs.declared.change.Change.{Change}
 use Rattle.pt_soundness.specs.declared.unsound_table.UnsoundTable.TheVariants as table
+use Rattle.pt_tables_opening.proofs.AskedRows.{rider_chairs_asked, riders_beside}
 use Rattle.pt_tables_opening.proofs.StepLemmas.{fails_so, puts_so}
 use Rattle.pt_tables_opening.proofs.TableReads.{puts_riders, rider_chairs_none, rider_chairs_read, rider_chairs_shown}
 use Rattle.pt_tables_rows.specs.Rows.{rider_row}
 use Rattle.pt_tables_rows.specs.Schema.{riders_table}
 use Rattle.pt_tables_rows.specs.Tables.{AreRows}
 use Rattle.pt_tables_opening.proofs.changes.rider_chairs_change.Goals as goal
+
+pub beside_in-requires-clause-asked : goal.beside_in-requires-clause-asked
+beside_in-requires-clause-asked g c = rider_chairs_asked
+
+pub beside_in-requires-clause-beside : goal.beside_in-requires-clause-beside
+beside_in-requires-clause-beside g c = riders_beside
 
 pub returns : goal.returns
 returns g c =

@@ -1,22 +1,19 @@
 use Rattle.std.proofs.Common.{ap}
 use Rattle.sqlite.specs.Held.{state}
 use Rattle.pt_desk_rules.specs.declared.change.Change.{Change}
-use Rattle.pt_soundness.specs.declared.unsound_table.UnsoundTable.TheVariants as table
-use Rattle.pt_tables_opening.proofs.StepLemmas.{fails_so, puts_so}
-use Rattle.pt_tables_opening.proofs.TableReads.{riders_none, riders_read, riders_shown, puts_riders}
+use Rattle.pt_tables_opening.proofs.AskedRows.{riders_asked}
+use Rattle.pt_tables_opening.proofs.TableReads.{none_read, puts_read, riders_reads}
 use Rattle.pt_tables_opening.proofs.changes.riders_change.Goals as goal
+
+pub gathered_in-requires : goal.gathered_in-requires
+gathered_in-requires g c = record { asked = riders_asked }
 
 pub returns : goal.returns
 returns g c s read =
-    let old = state g.S.Store c.args.conn.now in
-    let edit = c.in_ok-riders.riders in
-    let fits = c.in_ok-riders.ensures.fitting in
-    puts_so table.Riders old (state g.S.Store c.gathered_in.new.conn) s c.gathered_in.result edit c.in_ok-riders.was c.gathered_in.ensures.rests _ (puts_riders edit)
-    (ap (λ (change : Change). record change { riders = edit }) c.no_change.ensures) (riders_read s edit read fits)
-    (λ clean has before. riders_shown s old.now.trees edit read fits (c.in_ok-riders.ensures.told clean has) before)
+    puts_read riders_reads (state g.S.Store c.args.conn.now) (state g.S.Store c.gathered_in.new.conn) s c.gathered_in.result c.gathered_in.ensures.rests read c.in_ok-riders.riders c.in_ok-riders.was
+    c.in_ok-riders.ensures.fitting c.in_ok-riders.ensures.told _ (ap (λ (change : Change). record change { riders = c.in_ok-riders.riders }) c.no_change.ensures)
 
 pub returns-in_err-riders : goal.returns-in_err-riders
 returns-in_err-riders g c s read =
-    let old = state g.S.Store c.args.conn.now in
-    fails_so table.Riders old (state g.S.Store c.gathered_in.new.conn) s c.gathered_in.result _ c.from_residual.result c.from_residual.ensures.0 c.from_residual.ensures.1 c.gathered_in.ensures.rests
-    _ (λ before none. riders_none old.now.trees none) c.in_err-riders.ensures.faults
+    none_read riders_reads (state g.S.Store c.args.conn.now) (state g.S.Store c.gathered_in.new.conn) s c.gathered_in.result c.gathered_in.ensures.rests _ c.from_residual.result
+    c.from_residual.ensures.0 c.from_residual.ensures.1 c.in_err-riders.ensures.faults

@@ -1,22 +1,19 @@
 use Rattle.std.proofs.Common.{ap}
 use Rattle.sqlite.specs.Held.{state}
 use Rattle.pt_desk_rules.specs.declared.change.Change.{Change}
-use Rattle.pt_soundness.specs.declared.unsound_table.UnsoundTable.TheVariants as table
-use Rattle.pt_tables_opening.proofs.StepLemmas.{fails_so, puts_so}
-use Rattle.pt_tables_opening.proofs.TableReads.{travel_none, travel_read, travel_shown, puts_travel}
+use Rattle.pt_tables_opening.proofs.AskedRows.{travel_asked}
+use Rattle.pt_tables_opening.proofs.TableReads.{none_read, puts_read, travel_reads}
 use Rattle.pt_tables_opening.proofs.changes.travel_change.Goals as goal
+
+pub gathered_in-requires : goal.gathered_in-requires
+gathered_in-requires g c = record { asked = travel_asked }
 
 pub returns : goal.returns
 returns g c s read =
-    let old = state g.S.Store c.args.conn.now in
-    let edit = c.in_ok-travel.travel in
-    let fits = c.in_ok-travel.ensures.fitting in
-    puts_so table.Travel old (state g.S.Store c.gathered_in.new.conn) s c.gathered_in.result edit c.in_ok-travel.was c.gathered_in.ensures.rests _ (puts_travel edit)
-    (ap (λ (change : Change). record change { travel = edit }) c.no_change.ensures) (travel_read s edit read fits)
-    (λ clean has before. travel_shown s old.now.trees edit read fits (c.in_ok-travel.ensures.told clean has) before)
+    puts_read travel_reads (state g.S.Store c.args.conn.now) (state g.S.Store c.gathered_in.new.conn) s c.gathered_in.result c.gathered_in.ensures.rests read c.in_ok-travel.travel c.in_ok-travel.was
+    c.in_ok-travel.ensures.fitting c.in_ok-travel.ensures.told _ (ap (λ (change : Change). record change { travel = c.in_ok-travel.travel }) c.no_change.ensures)
 
 pub returns-in_err-travel : goal.returns-in_err-travel
 returns-in_err-travel g c s read =
-    let old = state g.S.Store c.args.conn.now in
-    fails_so table.Travel old (state g.S.Store c.gathered_in.new.conn) s c.gathered_in.result _ c.from_residual.result c.from_residual.ensures.0 c.from_residual.ensures.1 c.gathered_in.ensures.rests
-    _ (λ before none. travel_none old.now.trees none) c.in_err-travel.ensures.faults
+    none_read travel_reads (state g.S.Store c.args.conn.now) (state g.S.Store c.gathered_in.new.conn) s c.gathered_in.result c.gathered_in.ensures.rests _ c.from_residual.result
+    c.from_residual.ensures.0 c.from_residual.ensures.1 c.in_err-travel.ensures.faults

@@ -3,12 +3,19 @@ use Rattle.sqlite.specs.Held.{state}
 use Rattle.pt_base.specs.declared.trip.Trip.{Trip}
 use Rattle.pt_desk_rules.specs.declared.change.Change.{Change}
 use Rattle.pt_soundness.specs.declared.unsound_table.UnsoundTable.TheVariants as table
+use Rattle.pt_tables_opening.proofs.AskedRows.{trip_chairs_asked, trips_beside}
 use Rattle.pt_tables_opening.proofs.StepLemmas.{fails_so, puts_so}
 use Rattle.pt_tables_opening.proofs.TableReads.{puts_trips, trip_chairs_none, trip_chairs_read, trip_chairs_shown}
 use Rattle.pt_tables_rows.specs.Rows.{trip_row}
 use Rattle.pt_tables_rows.specs.Schema.{trips_table}
 use Rattle.pt_tables_rows.specs.Tables.{AreRows}
 use Rattle.pt_tables_opening.proofs.changes.trip_chairs_change.Goals as goal
+
+pub beside_in-requires-clause-asked : goal.beside_in-requires-clause-asked
+beside_in-requires-clause-asked g c = trip_chairs_asked
+
+pub beside_in-requires-clause-beside : goal.beside_in-requires-clause-beside
+beside_in-requires-clause-beside g c = trips_beside
 
 pub returns : goal.returns
 returns g c =

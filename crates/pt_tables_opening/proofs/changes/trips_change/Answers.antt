@@ -1,22 +1,19 @@
 use Rattle.std.proofs.Common.{ap}
 use Rattle.sqlite.specs.Held.{state}
 use Rattle.pt_desk_rules.specs.declared.change.Change.{Change}
-use Rattle.pt_soundness.specs.declared.unsound_table.UnsoundTable.TheVariants as table
-use Rattle.pt_tables_opening.proofs.StepLemmas.{fails_so, puts_so}
-use Rattle.pt_tables_opening.proofs.TableReads.{trips_none, trips_read, trips_shown, puts_trips}
+use Rattle.pt_tables_opening.proofs.AskedRows.{trips_asked}
+use Rattle.pt_tables_opening.proofs.TableReads.{none_read, puts_read, trips_reads}
 use Rattle.pt_tables_opening.proofs.changes.trips_change.Goals as goal
+
+pub gathered_in-requires : goal.gathered_in-requires
+gathered_in-requires g c = record { asked = trips_asked }
 
 pub returns : goal.returns
 returns g c s read =
-    let old = state g.S.Store c.args.conn.now in
-    let edit = c.in_ok-trips.trips in
-    let fits = c.in_ok-trips.ensures.fitting in
-    puts_so table.Trips old (state g.S.Store c.gathered_in.new.conn) s c.gathered_in.result edit c.in_ok-trips.was c.gathered_in.ensures.rests _ (puts_trips edit)
-    (ap (λ (change : Change). record change { trips = edit }) c.no_change.ensures) (trips_read s edit read fits)
-    (λ clean has before. trips_shown s old.now.trees edit read fits (c.in_ok-trips.ensures.told clean has) before)
+    puts_read trips_reads (state g.S.Store c.args.conn.now) (state g.S.Store c.gathered_in.new.conn) s c.gathered_in.result c.gathered_in.ensures.rests read c.in_ok-trips.trips c.in_ok-trips.was
+    c.in_ok-trips.ensures.fitting c.in_ok-trips.ensures.told _ (ap (λ (change : Change). record change { trips = c.in_ok-trips.trips }) c.no_change.ensures)
 
 pub returns-in_err-trips : goal.returns-in_err-trips
 returns-in_err-trips g c s read =
-    let old = state g.S.Store c.args.conn.now in
-    fails_so table.Trips old (state g.S.Store c.gathered_in.new.conn) s c.gathered_in.result _ c.from_residual.result c.from_residual.ensures.0 c.from_residual.ensures.1 c.gathered_in.ensures.rests
-    _ (λ before none. trips_none old.now.trees none) c.in_err-trips.ensures.faults
+    none_read trips_reads (state g.S.Store c.args.conn.now) (state g.S.Store c.gathered_in.new.conn) s c.gathered_in.result c.gathered_in.ensures.rests _ c.from_residual.result
+    c.from_residual.ensures.0 c.from_residual.ensures.1 c.in_err-trips.ensures.faults

@@ -3,12 +3,19 @@ use Rattle.sqlite.specs.Held.{state}
 use Rattle.pt_base.specs.declared.vehicle.Vehicle.{Vehicle}
 use Rattle.pt_desk_rules.specs.declared.change.Change.{Change}
 use Rattle.pt_soundness.specs.declared.unsound_table.UnsoundTable.TheVariants as table
+use Rattle.pt_tables_opening.proofs.AskedRows.{vehicle_chairs_asked, vehicles_beside}
 use Rattle.pt_tables_opening.proofs.StepLemmas.{fails_so, puts_so}
 use Rattle.pt_tables_opening.proofs.TableReads.{puts_vehicles, vehicle_chairs_none, vehicle_chairs_read, vehicle_chairs_shown}
 use Rattle.pt_tables_rows.specs.Rows.{vehicle_row}
 use Rattle.pt_tables_rows.specs.Schema.{vehicles_table}
 use Rattle.pt_tables_rows.specs.Tables.{AreRows}
 use Rattle.pt_tables_opening.proofs.changes.vehicle_chairs_change.Goals as goal
+
+pub beside_in-requires-clause-asked : goal.beside_in-requires-clause-asked
+beside_in-requires-clause-asked g c = vehicle_chairs_asked
+
+pub beside_in-requires-clause-beside : goal.beside_in-requires-clause-beside
+beside_in-requires-clause-beside g c = vehicles_beside
 
 pub returns : goal.returns
 returns g c =

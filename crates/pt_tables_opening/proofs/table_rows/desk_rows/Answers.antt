@@ -1,7 +1,7 @@
 use Rattle.sqlite.specs.Held.{state}
 use Rattle.pt_tables_rows.specs.Schema.{desk_schema, desk_table, first_schema}
 use Rattle.pt_tables_opening.specs.declared.table_rows.TheConstants.{DESK_ROWS}
-use Rattle.pt_tables_opening.proofs.RowTexts.{desk_rows_text, first_rows_text}
+use Rattle.pt_tables_opening.proofs.AskedRows.{desk_rows_text, first_rows_text}
 use Rattle.pt_tables_opening.proofs.ShownRows.{shows_all}
 use Rattle.pt_tables_opening.proofs.table_rows.desk_rows.Goals as goal
 

@@ -1,7 +1,7 @@
 use Rattle.std.proofs.Common.{◌∙◌, ap, subst, sym}
 use Rattle.pt_desk_rules.specs.State.{State, applied}
-use Rattle.pt_tables_opening.specs.Steps.{IsLaidIn}
-use Rattle.pt_tables_opening.proofs.LaidLemmas.{ranges_laid}
+use Rattle.pt_tables_opening.specs.Tables.{IsLaidIn}
+use Rattle.pt_tables_opening.proofs.TableCases.{ranges_laid}
 use Rattle.pt_tables_opening.proofs.whole.judged.Goals as goal
 
 -- the records were read from rows
