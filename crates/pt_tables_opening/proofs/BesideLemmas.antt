@@ -11,7 +11,8 @@ use Rattle.pt_records.specs.Records.{Each, Edit, IsInOrder}
 use Rattle.pt_tables_opening.specs.Beside.{AreBeside, NoneBeside, TellsBeside}
 use Rattle.pt_tables_opening.specs.Gathered.{KeepsRows}
 use Rattle.pt_tables_rows.specs.Tables.{AreRows, columns_of}
-use Rattle.pt_tables_rows.proofs.SameRowsLists.{in_one_order, rows_above}
+use Rattle.pt_tables_opening.proofs.OrderedLemmas.{same_rows}
+use Rattle.pt_tables_rows.proofs.SameRowsLists.{rows_above}
 
 -- the records from here on are the next one and those after it
 pub next_from : {A : Type 0} (x : A) (xs : List A) (i : ℕ) → i < length xs → x ≡ get_or xs i x → drop i xs ≡ x ∷ drop (i + 1) xs
@@ -133,21 +134,11 @@ module _ {A : Type 0} (key : A → ℕ) (row_of : A → Row) (beside_of : A → 
         order_same xs ys (ap (drop 1) same) order.1,
       )
 
-  -- their rows are in the order of their keys
-  rows_above_all : (k : ℕ) (xs : List A) → Each (λ x. k < key x) xs → Each (λ row. k < key_in row) (map row_of xs)
-  rows_above_all k [] above = tt
-  rows_above_all k (x ∷ xs) above = (let high = above.0 in omega (arith, laws.row_keyed x), rows_above_all k xs above.1)
-
-  rows_in_order : (xs : List A) → IsInOrder key xs → IsInOrder key_in (map row_of xs)
-  rows_in_order [] order = tt
-  rows_in_order (x ∷ xs) order = (subst (λ k. Each (λ row. k < key_in row) (map row_of xs)) (sym (laws.row_keyed x)) (rows_above_all (key x) xs order.0), rows_in_order xs order.1)
-
   -- records in order that have the rows of a table have them in one order
-  same_rows : (home : Table) (trees : Trees) (xs ys : List A) → IsInOrder key xs → IsInOrder key ys → AreRows home trees (map row_of xs) → AreRows home trees (map row_of ys) → map row_of xs ≡ map row_of ys
-  same_rows home trees xs ys one other ones others =
+  same_table : (home : Table) (trees : Trees) (xs ys : List A) → IsInOrder key xs → IsInOrder key ys → AreRows home trees (map row_of xs) → AreRows home trees (map row_of ys) → map row_of xs ≡ map row_of ys
+  same_table home trees xs ys one other ones others =
       let there = map (columns_of home) (trees home.tree) in
-      in_one_order key_in (map row_of xs) (map row_of ys) (rows_in_order xs one) (rows_in_order ys other)
-      (IsPermutation-trans (map row_of xs) there (map row_of ys) (IsPermutation-sym there (map row_of xs) ones) others)
+      same_rows key key_in row_of laws.row_keyed xs ys one other (IsPermutation-trans (map row_of xs) there (map row_of ys) (IsPermutation-sym there (map row_of xs) ones) others)
 
   -- the rows beside those of records in order are in order too
   beside_above : (k : ℕ) (xs : List A) → Each (λ x. k < key x) xs → Each (λ row. k < key_in row) (flat_map beside_of xs)
@@ -186,7 +177,7 @@ module _ {A : Type 0} (key : A → ℕ) (row_of : A → Row) (beside_of : A → 
       let there = map (columns_of second) (trees second.tree) in
       let theirs = flat_map beside_of xs in
       let alike : IsPermutation theirs rows = IsPermutation-trans theirs there rows (IsPermutation-sym there theirs marked) beside in
-      none xs each also (same_rows home trees xs known also order have are) (keeps xs each also alike)
+      none xs each also (same_table home trees xs known also order have are) (keeps xs each also alike)
 
 -- what is told of records that are put
 module _ {A F : Type 0} (key : A → ℕ) (second : Table) (row_of : A → Row) (beside_of : A → List Row) (Fits : A → Type 0) (trees : Trees) (known : List A) (rows : List Row) where

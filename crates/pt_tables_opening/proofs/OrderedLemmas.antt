@@ -11,6 +11,7 @@ use Rattle.pt_tables_asking.specs.Asking.{AreInOrder}
 use Rattle.pt_tables_asking.proofs.AskedQueries.{keys_of}
 use Rattle.pt_tables_asking.proofs.OrderedLemmas.{IsNumbered, keeps_order, row_le, same_order, told_order, triple_key}
 use Rattle.pt_tables_opening.specs.Gathered.{KeepsOrder}
+use Rattle.pt_tables_rows.proofs.SameRowsLists.{in_one_order}
 
 -- ---- records of one row each, whose keys their rows tell
 
@@ -36,6 +37,19 @@ module _ (columns : ℕ) (row_key : Row → ℕ) (Is : Row → Type 0) (le : (a 
         rising = λ xs ys each also same order.
             order_back ys (subst (IsInOrder row_key) (sym (all xs) ∙ same ∙ all ys) (told_order columns row_key Is le key row_of Fits is keyed xs order));
       }
+
+-- records in order have their rows in one order
+module _ {A : Type 0} (key : A → ℕ) (key_in : Row → ℕ) (row_of : A → Row) (keyed : (x : A) → key_in (row_of x) ≡ key x) where
+  rows_above : (k : ℕ) (xs : List A) → Each (λ x. k < key x) xs → Each (λ row. k < key_in row) (map row_of xs)
+  rows_above k [] above = tt
+  rows_above k (x ∷ xs) above = (subst (λ n. k < n) (sym (keyed x)) above.0, rows_above k xs above.1)
+
+  rows_in_order : (xs : List A) → IsInOrder key xs → IsInOrder key_in (map row_of xs)
+  rows_in_order [] order = tt
+  rows_in_order (x ∷ xs) order = (subst (λ k. Each (λ row. k < key_in row) (map row_of xs)) (sym (keyed x)) (rows_above (key x) xs order.0), rows_in_order xs order.1)
+
+  pub same_rows : (xs ys : List A) → IsInOrder key xs → IsInOrder key ys → IsPermutation (map row_of xs) (map row_of ys) → map row_of xs ≡ map row_of ys
+  same_rows xs ys one other same = in_one_order key_in (map row_of xs) (map row_of ys) (rows_in_order xs one) (rows_in_order ys other) same
 
 -- ---- the rows of records in order
 

@@ -33,8 +33,9 @@ use Rattle.pt_spelling.specs.Ranges.{IsRoute, IsVehicle}
 use Rattle.pt_desk_rules.specs.Ranges.{FitsKept, FitsRider, FitsTrip}
 use Rattle.pt_tables_rows.specs.Rows.{caller_row, kept_row, place_row, route_row, vehicle_row, rider_row, entry_row, trip_row, stop_rows, travel_rows, vehicle_chair_rows, trip_chair_rows}
 use Rattle.pt_tables_rows.specs.WellFormed.{IsStoredPlan}
+use Rattle.pt_tables_opening.proofs.OrderedLemmas.{same_rows}
 use Rattle.pt_tables_opening.proofs.TableCases.{laid_in, ranges_laid}
-use Rattle.pt_tables_rows.proofs.SameRowsLists.{told_by_rows, told_by_row, told_by_any_row, told_beside, in_one_order, one_same}
+use Rattle.pt_tables_rows.proofs.SameRowsLists.{told_by_rows, told_by_row, told_by_any_row, told_beside, one_same}
 use Rattle.pt_tables_rows.proofs.SameRowsRecords.{number_in, known_in, known-value, so_keyed, last_trip-told, caller-told, kept-told, place-told, route-told, vehicle-told, entry-told, trip-told}
 use Rattle.pt_tables_rows.proofs.SameRowsGroups.{stops-keyed, stops-some, plan-told, drives-keyed, table-told}
 
@@ -91,19 +92,6 @@ vehicles_alike xs ys ones others same = paired_by AlikeVehicle IsVehicle vehicle
 
 pub trips_alike : (xs ys : List Trip) → Each FitsTrip xs → Each FitsTrip ys → map trip_row xs ≡ map trip_row ys → Paired AlikeTrip xs ys
 trips_alike xs ys ones others same = paired_by AlikeTrip FitsTrip trip_row (λ x y fits also. trip_alike x y) xs ys ones others same
-
--- records in order have their rows in one order
-module _ {A : Type 0} (key : A → ℕ) (key_in : Row → ℕ) (row : A → Row) (keyed : (x : A) → key_in (row x) ≡ key x) where
-  above_all : (k : ℕ) (xs : List A) → Each (λ x. k < key x) xs → Each (λ r. k < key_in r) (map row xs)
-  above_all k [] above = tt
-  above_all k (x ∷ xs) above = (subst (λ n. k < n) (sym (keyed x)) above.0, above_all k xs above.1)
-
-  rows_in_order : (xs : List A) → IsInOrder key xs → IsInOrder key_in (map row xs)
-  rows_in_order [] order = tt
-  rows_in_order (x ∷ xs) order = (subst (λ k. Each (λ r. k < key_in r) (map row xs)) (sym (keyed x)) (above_all (key x) xs order.0), rows_in_order xs order.1)
-
-  same_rows : (xs ys : List A) → IsInOrder key xs → IsInOrder key ys → IsPermutation (map row xs) (map row ys) → map row xs ≡ map row ys
-  same_rows xs ys one other same = in_one_order key_in (map row xs) (map row ys) (rows_in_order xs one) (rows_in_order ys other) same
 
 -- ---- tables
 

@@ -13,76 +13,57 @@ read_to : (t u : UnsoundTable) (s : State) → t ≡ u → IsReadTo (number_of t
 read_to t u s is read = subst (λ (v : UnsoundTable). IsReadTo (number_of v - 1) s) is read
 
 -- the change of the table that this one is
-change_of : (t u : UnsoundTable) (old new : Connected) (s : State) (r : Result Change OpenFault) → t ≡ u → ReadsTable u old new s r → ReadsTable t old new s r
-change_of t u old new s r is reads = subst (λ (v : UnsoundTable). ReadsTable v old new s r) (sym is) reads
+change_of : (t u : UnsoundTable) (old new : Connected) (s : State) (r : Result Change OpenFault) → t ≡ u → IsReadTo (number_of t - 1) s → (IsReadTo (number_of u - 1) s → ReadsTable u old new s r)
+    → ReadsTable t old new s r
+change_of t u old new s r is read reads = subst (λ (v : UnsoundTable). ReadsTable v old new s r) (sym is) (reads (read_to t u s is read))
 
 pub returns-in-Desk : goal.returns-in-Desk
 returns-in-Desk g c = let late = subst (λ (t : UnsoundTable). 1 < number_of t) c.in-Desk.is c.requires.later in absurd (omega arith)
 
 pub returns-in-Callers : goal.returns-in-Callers
-returns-in-Callers g c =
-    let s = c.args.keeper.now.content in
-    change_of c.args.table table.Callers _ _ s _ c.in-Callers.is (c.callers_change.ensures s (read_to c.args.table table.Callers s c.in-Callers.is c.requires.before))
+returns-in-Callers g c = change_of c.args.table table.Callers _ _ c.args.keeper.now.content _ c.in-Callers.is c.requires.before (c.callers_change.ensures c.args.keeper.now.content)
 
 pub returns-in-Kept : goal.returns-in-Kept
-returns-in-Kept g c =
-    let s = c.args.keeper.now.content in
-    change_of c.args.table table.Kept _ _ s _ c.in-Kept.is (c.kept_change.ensures s (read_to c.args.table table.Kept s c.in-Kept.is c.requires.before))
+returns-in-Kept g c = change_of c.args.table table.Kept _ _ c.args.keeper.now.content _ c.in-Kept.is c.requires.before (c.kept_change.ensures c.args.keeper.now.content)
 
 pub returns-in-Places : goal.returns-in-Places
-returns-in-Places g c =
-    let s = c.args.keeper.now.content in
-    change_of c.args.table table.Places _ _ s _ c.in-Places.is (c.places_change.ensures s (read_to c.args.table table.Places s c.in-Places.is c.requires.before))
+returns-in-Places g c = change_of c.args.table table.Places _ _ c.args.keeper.now.content _ c.in-Places.is c.requires.before (c.places_change.ensures c.args.keeper.now.content)
 
 pub returns-in-Fixed : goal.returns-in-Fixed
-returns-in-Fixed g c =
-    let s = c.args.keeper.now.content in
-    change_of c.args.table table.Fixed _ _ s _ c.in-Fixed.is (c.routes_change.ensures s (read_to c.args.table table.Fixed s c.in-Fixed.is c.requires.before))
+returns-in-Fixed g c = change_of c.args.table table.Fixed _ _ c.args.keeper.now.content _ c.in-Fixed.is c.requires.before (c.routes_change.ensures c.args.keeper.now.content)
 
 pub returns-in-Vehicles : goal.returns-in-Vehicles
-returns-in-Vehicles g c =
-    let s = c.args.keeper.now.content in
-    change_of c.args.table table.Vehicles _ _ s _ c.in-Vehicles.is (c.vehicles_change.ensures s (read_to c.args.table table.Vehicles s c.in-Vehicles.is c.requires.before))
+returns-in-Vehicles g c = change_of c.args.table table.Vehicles _ _ c.args.keeper.now.content _ c.in-Vehicles.is c.requires.before (c.vehicles_change.ensures c.args.keeper.now.content)
 
 pub returns-in-Riders : goal.returns-in-Riders
-returns-in-Riders g c =
-    let s = c.args.keeper.now.content in
-    change_of c.args.table table.Riders _ _ s _ c.in-Riders.is (c.riders_change.ensures s (read_to c.args.table table.Riders s c.in-Riders.is c.requires.before))
+returns-in-Riders g c = change_of c.args.table table.Riders _ _ c.args.keeper.now.content _ c.in-Riders.is c.requires.before (c.riders_change.ensures c.args.keeper.now.content)
 
 pub returns-in-Entries : goal.returns-in-Entries
-returns-in-Entries g c =
-    let s = c.args.keeper.now.content in
-    change_of c.args.table table.Entries _ _ s _ c.in-Entries.is (c.entries_change.ensures s (read_to c.args.table table.Entries s c.in-Entries.is c.requires.before))
+returns-in-Entries g c = change_of c.args.table table.Entries _ _ c.args.keeper.now.content _ c.in-Entries.is c.requires.before (c.entries_change.ensures c.args.keeper.now.content)
 
 pub returns-in-Trips : goal.returns-in-Trips
-returns-in-Trips g c =
-    let s = c.args.keeper.now.content in
-    change_of c.args.table table.Trips _ _ s _ c.in-Trips.is (c.trips_change.ensures s (read_to c.args.table table.Trips s c.in-Trips.is c.requires.before))
+returns-in-Trips g c = change_of c.args.table table.Trips _ _ c.args.keeper.now.content _ c.in-Trips.is c.requires.before (c.trips_change.ensures c.args.keeper.now.content)
 
 pub returns-in-Stops : goal.returns-in-Stops
-returns-in-Stops g c =
-    let s = c.args.keeper.now.content in
-    change_of c.args.table table.Stops _ _ s _ c.in-Stops.is (c.planned_change.ensures s (read_to c.args.table table.Stops s c.in-Stops.is c.requires.before))
+returns-in-Stops g c = change_of c.args.table table.Stops _ _ c.args.keeper.now.content _ c.in-Stops.is c.requires.before (c.planned_change.ensures c.args.keeper.now.content)
 
 pub returns-in-Travel : goal.returns-in-Travel
-returns-in-Travel g c =
-    let s = c.args.keeper.now.content in
-    change_of c.args.table table.Travel _ _ s _ c.in-Travel.is (c.travel_change.ensures s (read_to c.args.table table.Travel s c.in-Travel.is c.requires.before))
+returns-in-Travel g c = change_of c.args.table table.Travel _ _ c.args.keeper.now.content _ c.in-Travel.is c.requires.before (c.travel_change.ensures c.args.keeper.now.content)
 
 pub rider_chairs_change-requires : goal.rider_chairs_change-requires
 rider_chairs_change-requires g c = record { before = read_to c.args.table table.RiderChairs c.args.keeper.now.content c.in-RiderChairs.is c.requires.before }
 
 pub returns-in-RiderChairs : goal.returns-in-RiderChairs
-returns-in-RiderChairs g c = change_of c.args.table table.RiderChairs _ _ c.args.keeper.now.content _ c.in-RiderChairs.is c.rider_chairs_change.ensures
+returns-in-RiderChairs g c = change_of c.args.table table.RiderChairs _ _ c.args.keeper.now.content _ c.in-RiderChairs.is c.requires.before (λ read. c.rider_chairs_change.ensures)
 
 pub vehicle_chairs_change-requires : goal.vehicle_chairs_change-requires
 vehicle_chairs_change-requires g c = record { before = read_to c.args.table table.VehicleChairs c.args.keeper.now.content c.in-VehicleChairs.is c.requires.before }
 
 pub returns-in-VehicleChairs : goal.returns-in-VehicleChairs
-returns-in-VehicleChairs g c = change_of c.args.table table.VehicleChairs _ _ c.args.keeper.now.content _ c.in-VehicleChairs.is c.vehicle_chairs_change.ensures
+returns-in-VehicleChairs g c = change_of c.args.table table.VehicleChairs _ _ c.args.keeper.now.content _ c.in-VehicleChairs.is c.requires.before (λ read. c.vehicle_chairs_change.ensures)
 
 pub trip_chairs_change-requires : goal.trip_chairs_change-requires
 trip_chairs_change-requires g c = record { before = read_to c.args.table table.TripChairs c.args.keeper.now.content c.in-TripChairs.is c.requires.before }
 
 pub returns-in-TripChairs : goal.returns-in-TripChairs
-returns-in-TripChairs g c = change_of c.args.table table.TripChairs _ _ c.args.keeper.now.content _ c.in-TripChairs.is c.trip_chairs_change.ensures
+returns-in-TripChairs g c = change_of c.args.table table.TripChairs _ _ c.args.keeper.now.content _ c.in-TripChairs.is c.requires.before (λ read. c.trip_chairs_change.ensures)
