@@ -1,5 +1,5 @@
 -- Answers by the outcomes that the rules allow.
-use Rattle.std.proofs.Common.{◌≡◌, ◌∙◌, ◌<◌, ◌≤◌, inl, inr, ℕ, Option, None, Result, Ok, Err, IfOk, OnOk, arith, ap, refl, sym, subst}
+use Rattle.std.proofs.Common.{◌≡◌, ◌∙◌, ◌<◌, ◌≤◌, inl, inr, Option, None, Result, Ok, Err, IfOk, OnOk, arith, ap, refl, sym, subst}
 use Rattle.std.specs.Result.{IsErrAnd}
 use Rattle.pt_desk_rules.specs.State.{State}
 use Rattle.pt_desk_rules.specs.Step.{state_after}

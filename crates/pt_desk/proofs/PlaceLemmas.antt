@@ -1,5 +1,5 @@
 -- The numbers of places rise.
-use Rattle.std.proofs.Common.{◌≡◌, ℕ, ◌+◌, ◌<◌, zero, suc, List, [], ◌∷◌, length, map, arith, add-one}
+use Rattle.std.proofs.Common.{ℕ, ◌<◌, zero, suc, List, [], ◌∷◌, length, map, arith, add-one}
 use Rattle.std.specs.Prelude.{slice_index}
 use Rattle.std.specs.List.Sorted.{IsStrictlyIncreasing}
 use Rattle.pt_records.specs.Records.{IsInOrder}

@@ -1,5 +1,5 @@
 -- Reads in turn, and what is made of what they tell.
-use Rattle.std.proofs.Common.{◌≡◌, ℕ, Option, None, Result, Ok, Err, refl, sym, subst, ap, ◌∙◌}
+use Rattle.std.proofs.Common.{◌≡◌, None, Result, Ok, Err, refl, sym, subst, ap, ◌∙◌}
 use Rattle.std.specs.Result.{IsErrAnd}
 use Rattle.pt_desk_rules.specs.State.{State}
 use Rattle.pt_desk.specs.Store.{Store, Goes, Reads, Tells}

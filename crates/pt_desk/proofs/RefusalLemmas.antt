@@ -13,11 +13,10 @@ use Rattle.pt_desk_rules.specs.Booking.{AreTimes}
 use Rattle.pt_desk_rules.specs.Facts.{wish_facts}
 use Rattle.pt_desk_rules.specs.Refusal.{Refusal}
 use Rattle.pt_desk_rules.specs.State.{State}
-use Rattle.pt_desk_rules.specs.Step.{sender, IsOutcome, IsOutcomeBy}
+use Rattle.pt_desk_rules.specs.Step.{sender, IsOutcomeBy}
 use Rattle.pt_desk_rules.specs.declared.explaining.Inquiry.{Inquiry}
 use Rattle.pt_desk_rules.specs.declared.explaining.Inquiry.TheVariants as inquiry
 use Rattle.pt_requests.specs.declared.caller.Caller.{Caller}
-use Rattle.pt_requests.specs.declared.request.Answer.{Answer}
 use Rattle.pt_requests.specs.declared.request.Answer.TheVariants as answer
 use Rattle.pt_requests.specs.declared.request.Request.TheVariants as request
 

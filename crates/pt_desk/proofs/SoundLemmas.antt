@@ -1,5 +1,5 @@
 -- An answer leaves a sound state so.
-use Rattle.std.proofs.Common.{◌≡◌, ◌<◌, ◌⊎◌, ℕ, List, Option, None, Result, Ok, Err, arith, refl, sym, subst, inl, inr}
+use Rattle.std.proofs.Common.{◌≡◌, ◌⊎◌, ℕ, List, Option, None, Result, Ok, Err, arith, refl, sym, subst, inl, inr}
 use Rattle.pt_base.specs.declared.moment.Moment.{Moment}
 use Rattle.pt_desk_rules.specs.State.{State}
 use Rattle.pt_desk_rules.specs.Step.{state_after, IsOutcome}

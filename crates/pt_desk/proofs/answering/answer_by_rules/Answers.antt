@@ -1,14 +1,11 @@
-use Rattle.std.proofs.Common.{◌≡◌, ◌∙◌, refl, sym, ap, subst, Ok, Err, Some, None, Option, true, false, ℕ, List}
+use Rattle.std.proofs.Common.{◌∙◌, refl, sym, ap, subst, Some, None, ℕ, List}
 use Rattle.pt_requests.specs.declared.request.Request.{Request}
-use Rattle.pt_base.specs.declared.rule.Rule.TheVariants.{Key, Number}
-use Rattle.pt_desk_rules.specs.Deciding.{IsDecision}
-use Rattle.pt_desk_rules.specs.State.{State, kept_of, caller_with}
-use Rattle.pt_desk_rules.specs.Step.{sent_with, told_of, left_of, IsExplainOutcome, IsReadOutcome, IsDecidedOutcome, IsWriteOutcome, IsOutcomeBy, IsOutcome}
-use Rattle.pt_requests.specs.declared.request.Answer.{Answer}
+use Rattle.pt_base.specs.declared.rule.Rule.TheVariants.{Key}
+use Rattle.pt_desk_rules.specs.State.{caller_with}
+use Rattle.pt_desk_rules.specs.Step.{IsExplainOutcome, IsReadOutcome, IsWriteOutcome, IsOutcomeBy, IsOutcome}
 use Rattle.pt_requests.specs.declared.request.Answer.TheVariants.{Done, Denied}
 use Rattle.pt_desk.specs.Store.{Answers}
-use Rattle.pt_desk.specs.declared.keeper.StoreFault.TheVariants.{Memory}
-use Rattle.pt_desk.proofs.AnswerLemmas.{read_then, read_told, read_fault, read_memory, goes_by, handed}
+use Rattle.pt_desk.proofs.AnswerLemmas.{read_then, read_told, read_fault, handed}
 use Rattle.pt_desk.proofs.answering.answer_by_rules.Goals as goal
 
 pub returns-in_err-me : goal.returns-in_err-me

@@ -1,4 +1,4 @@
-use Rattle.std.proofs.Common.{◌≡◌, ◌∙◌, refl, subst, Option}
+use Rattle.std.proofs.Common.{◌≡◌, refl, subst, Option}
 use Rattle.pt_desk_rules.specs.Deciding.{IsDecision}
 use Rattle.pt_desk_rules.specs.State.{State}
 use Rattle.pt_desk_rules.specs.Step.{sent_with, told_of, left_of, IsDecidedOutcome}

@@ -1,13 +1,10 @@
-use Rattle.std.proofs.Common.{◌≡◌, ◌∙◌, refl, sym, ap, subst, Ok, Err, None, Option, true, false}
-use Rattle.pt_base.specs.declared.rule.Rule.TheVariants.{Key, Number}
-use Rattle.pt_desk_rules.specs.Deciding.{IsDecision, IsTold}
-use Rattle.pt_desk_rules.specs.State.{State, kept_of, caller_with}
-use Rattle.pt_desk_rules.specs.Step.{sent_with, told_of, left_of, IsReadOutcome, IsDecidedOutcome, IsWriteOutcome, IsOutcomeBy, IsOutcome}
-use Rattle.pt_requests.specs.declared.request.Answer.{Answer}
-use Rattle.pt_requests.specs.declared.request.Answer.TheVariants.{Done, Denied}
+use Rattle.std.proofs.Common.{refl, subst}
+use Rattle.pt_desk_rules.specs.Deciding.{IsTold}
+use Rattle.pt_desk_rules.specs.Step.{IsReadOutcome}
+use Rattle.pt_requests.specs.declared.request.Answer.TheVariants.{Done}
 use Rattle.pt_desk.specs.Store.{Answers}
 use Rattle.pt_desk.specs.declared.keeper.StoreFault.TheVariants.{Memory}
-use Rattle.pt_desk.proofs.AnswerLemmas.{read_then, read_told, read_fault, read_memory, goes_by, handed}
+use Rattle.pt_desk.proofs.AnswerLemmas.{read_told, read_fault, read_memory, handed}
 use Rattle.pt_desk.proofs.answering.answer_read.Goals as goal
 
 pub returns-in_err-facts : goal.returns-in_err-facts

@@ -1,10 +1,8 @@
-use Rattle.std.proofs.Common.{◌≡◌, ◌∙◌, sym, ap, subst, refl, None, Option, List, ℕ}
+use Rattle.std.proofs.Common.{◌∙◌, sym, ap, subst, refl, None, List, ℕ}
 use Rattle.pt_base.specs.declared.rule.Rule.TheVariants.{Number}
-use Rattle.pt_spelling.specs.Replies.{answer_of}
-use Rattle.pt_spelling.specs.Requests.{spelling}
 use Rattle.pt_desk_rules.specs.Arrival.{arrival_of}
-use Rattle.pt_desk_rules.specs.State.{State, kept_of}
-use Rattle.pt_desk_rules.specs.Step.{arrival_in, IsDecidedOutcome, IsOutcomeAs, IsWriteOutcome}
+use Rattle.pt_desk_rules.specs.State.{kept_of}
+use Rattle.pt_desk_rules.specs.Step.{IsDecidedOutcome, IsOutcomeAs, IsWriteOutcome}
 use Rattle.pt_desk_rules.specs.declared.kept.Arrival.{Arrival}
 use Rattle.pt_desk_rules.specs.declared.kept.Arrival.TheVariants.{Repeated, Stale}
 use Rattle.pt_requests.specs.declared.request.Answer.TheVariants.{Done, Denied}

@@ -1,5 +1,5 @@
 use Rattle.std.proofs.Common.{◌≡◌, ◌+◌, ◌<◌, ◌∷◌, suc, length, drop, drop-cons, add-one, sym, ap, ◌∙◌, arith}
-use Rattle.pt_desk.proofs.FileLemmas.{filled, filled-more, filled-whole}
+use Rattle.pt_desk.proofs.FileLemmas.{filled, filled-more}
 use Rattle.pt_desk.proofs.answers.file_with.Goals as goal
 
 pub loop-filed-preserved : goal.loop-filed-preserved

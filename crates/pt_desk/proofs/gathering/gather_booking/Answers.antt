@@ -1,8 +1,6 @@
-use Rattle.std.specs.Prelude.{is_some, length, Option, Some, None}
-use Rattle.pt_desk_rules.specs.Facts.{no_facts, has_subject, agency_facts, booking_facts, day_of, wish_facts, plan_for}
-use Rattle.pt_desk_rules.specs.Planned.{is_booked_from, planned_on, trips_of, trips_on}
-use Rattle.pt_desk_rules.specs.State.{State, caller_of, caller_with, file_of, place_of, plan_of, rider_of, route_of, tables_before}
-use Rattle.pt_desk_rules.specs.Travel.{table_on}
+use Rattle.pt_desk_rules.specs.Facts.{day_of, plan_for}
+use Rattle.pt_desk_rules.specs.Planned.{trips_of}
+use Rattle.pt_desk_rules.specs.State.{State}
 use Rattle.pt_desk.proofs.ReadLemmas.{reads_pair, reads_map, fault_handed}
 use Rattle.pt_desk.proofs.gathering.gather_booking.Goals as goal
 
@@ -31,4 +29,20 @@ returns-in_err-routes g c = record {
       fault_handed _ _ _ _ _ _ _ _ _ c.from_residual-in_err-routes.ensures.1
       (reads_pair _ _ _ (λ (s : State). s.last_trip) (λ (s : State). (day_of c.args.day s, (trips_of c.args.rider s.trips, plan_for c.args.old.now s))) _ _ c.in_ok-last_trip.ensures.reads (reads_pair _ _ _ (λ (s : State). day_of c.args.day s) (λ (s : State). (trips_of c.args.rider s.trips, plan_for c.args.old.now s)) _ _ c.in_ok-day.ensures.reads (reads_pair _ _ _ (λ (s : State). trips_of c.args.rider s.trips) (λ (s : State). plan_for c.args.old.now s) _ _ c.in_ok-trips.ensures.reads c.in_ok-plan.ensures.reads)))
       c.in_err-routes.ensures.reads;
+}
+
+pub returns-in_err-trips : goal.returns-in_err-trips
+returns-in_err-trips g c = record {
+  reads =
+      fault_handed _ _ _ _ _ _ _ _ _ c.from_residual-in_err-trips.ensures.1
+      (reads_pair _ _ _ (λ (s : State). s.last_trip) (λ (s : State). day_of c.args.day s) _ _ c.in_ok-last_trip.ensures.reads c.in_ok-day.ensures.reads)
+      c.in_err-trips.ensures.reads;
+}
+
+pub returns-in_err-day : goal.returns-in_err-day
+returns-in_err-day g c = record {
+  reads =
+      fault_handed _ _ _ _ _ _ _ _ _ c.from_residual-in_err-day.ensures.1
+      c.in_ok-last_trip.ensures.reads
+      c.in_err-day.ensures.reads;
 }

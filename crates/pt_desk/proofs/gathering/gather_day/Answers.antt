@@ -1,7 +1,5 @@
-use Rattle.std.specs.Prelude.{is_some, length, Option, Some, None}
-use Rattle.pt_desk_rules.specs.Facts.{no_facts, has_subject, agency_facts, booking_facts, day_of, wish_facts, plan_for}
-use Rattle.pt_desk_rules.specs.Planned.{is_booked_from, planned_on, trips_of, trips_on}
-use Rattle.pt_desk_rules.specs.State.{State, caller_of, caller_with, file_of, place_of, plan_of, rider_of, route_of, tables_before}
+use Rattle.pt_desk_rules.specs.Planned.{planned_on, trips_on}
+use Rattle.pt_desk_rules.specs.State.{State}
 use Rattle.pt_desk_rules.specs.Travel.{table_on}
 use Rattle.pt_desk.proofs.ReadLemmas.{reads_pair, reads_map, fault_handed}
 use Rattle.pt_desk.proofs.gathering.gather_day.Goals as goal
@@ -21,4 +19,12 @@ returns-in_err-plans g c = record {
       fault_handed _ _ _ _ _ _ _ _ _ c.from_residual-in_err-plans.ensures.1
       (reads_pair _ _ _ (λ (s : State). table_on c.args.day s.travel) (λ (s : State). trips_on c.args.day s.trips) _ _ c.in_ok-travel.ensures.reads c.in_ok-trips.ensures.reads)
       c.in_err-plans.ensures.reads;
+}
+
+pub returns-in_err-trips : goal.returns-in_err-trips
+returns-in_err-trips g c = record {
+  reads =
+      fault_handed _ _ _ _ _ _ _ _ _ c.from_residual-in_err-trips.ensures.1
+      c.in_ok-travel.ensures.reads
+      c.in_err-trips.ensures.reads;
 }

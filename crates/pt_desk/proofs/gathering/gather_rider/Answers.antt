@@ -1,9 +1,7 @@
-use Rattle.std.specs.Prelude.{is_some, length, Option, Some, None}
-use Rattle.pt_desk_rules.specs.Facts.{no_facts, has_subject, agency_facts, booking_facts, day_of, wish_facts}
-use Rattle.pt_desk_rules.specs.Planned.{is_booked_from, planned_on, trips_of, trips_on}
-use Rattle.pt_desk_rules.specs.State.{State, caller_of, caller_with, file_of, place_of, plan_of, rider_of, route_of, tables_before}
-use Rattle.pt_desk_rules.specs.Travel.{table_on}
-use Rattle.pt_desk.proofs.ReadLemmas.{reads_pair, reads_map}
+use Rattle.std.specs.Prelude.{length}
+use Rattle.pt_desk_rules.specs.Facts.{no_facts}
+use Rattle.pt_desk_rules.specs.State.{State, rider_of}
+use Rattle.pt_desk.proofs.ReadLemmas.{reads_pair, reads_map, fault_handed}
 use Rattle.pt_desk.proofs.gathering.gather_rider.Goals as goal
 
 pub returns : goal.returns
@@ -13,4 +11,20 @@ returns g c = record {
       (reads_pair _ _ _ (λ (s : State). rider_of c.args.new.now.id s) (λ (s : State). (length s.riders, no_facts s.policy)) _ _ c.in_ok-rider.ensures.reads
       (reads_pair _ _ _ (λ (s : State). length s.riders) (λ (s : State). no_facts s.policy) _ _ c.in_ok-rider_count.ensures.reads
       c.in_ok-gather_policy.ensures.reads)));
+}
+
+pub returns-in_err-gather_policy : goal.returns-in_err-gather_policy
+returns-in_err-gather_policy g c = record {
+  reads =
+      fault_handed _ _ _ _ _ _ _ _ _ c.from_residual-in_err-gather_policy.ensures.1
+      (reads_pair _ _ _ (λ (s : State). rider_of c.args.new.now.id s) (λ (s : State). length s.riders) _ _ c.in_ok-rider.ensures.reads c.in_ok-rider_count.ensures.reads)
+      c.in_err-gather_policy.ensures.reads;
+}
+
+pub returns-in_err-rider_count : goal.returns-in_err-rider_count
+returns-in_err-rider_count g c = record {
+  reads =
+      fault_handed _ _ _ _ _ _ _ _ _ c.from_residual-in_err-rider_count.ensures.1
+      c.in_ok-rider.ensures.reads
+      c.in_err-rider_count.ensures.reads;
 }

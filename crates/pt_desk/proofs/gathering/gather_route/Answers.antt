@@ -1,10 +1,8 @@
 use Rattle.std.proofs.Common.{sym}
-use Rattle.std.specs.Prelude.{is_some, length, Option, Some, None}
-use Rattle.pt_desk_rules.specs.Facts.{no_facts, has_subject, agency_facts, booking_facts, day_of, wish_facts, plan_for}
-use Rattle.pt_desk_rules.specs.Planned.{is_booked_from, planned_on, trips_of, trips_on}
-use Rattle.pt_desk_rules.specs.State.{State, caller_of, caller_with, file_of, place_of, plan_of, rider_of, route_of, tables_before}
-use Rattle.pt_desk_rules.specs.Travel.{table_on}
-use Rattle.pt_desk.proofs.ReadLemmas.{reads_pair, reads_map}
+use Rattle.std.specs.Prelude.{is_some, length}
+use Rattle.pt_desk_rules.specs.Facts.{no_facts}
+use Rattle.pt_desk_rules.specs.State.{State, route_of}
+use Rattle.pt_desk.proofs.ReadLemmas.{reads_pair, reads_map, fault_handed}
 use Rattle.pt_desk.proofs.gathering.gather_route.Goals as goal
 
 pub returns : goal.returns
@@ -14,4 +12,20 @@ returns g c = record {
       (reads_pair _ _ _ (λ (s : State). is_some (route_of c.id.result s)) (λ (s : State). (length s.routes, no_facts s.policy)) _ _ c.in_ok-has_route.ensures.reads
       (reads_pair _ _ _ (λ (s : State). length s.routes) (λ (s : State). no_facts s.policy) _ _ c.in_ok-route_count.ensures.reads
       c.in_ok-gather_policy.ensures.reads)));
+}
+
+pub returns-in_err-gather_policy : goal.returns-in_err-gather_policy
+returns-in_err-gather_policy g c = record {
+  reads =
+      fault_handed _ _ _ _ _ _ _ _ _ c.from_residual-in_err-gather_policy.ensures.1
+      (reads_pair _ _ _ (λ (s : State). is_some (route_of c.id.result s)) (λ (s : State). length s.routes) _ _ c.in_ok-has_route.ensures.reads c.in_ok-route_count.ensures.reads)
+      c.in_err-gather_policy.ensures.reads;
+}
+
+pub returns-in_err-route_count : goal.returns-in_err-route_count
+returns-in_err-route_count g c = record {
+  reads =
+      fault_handed _ _ _ _ _ _ _ _ _ c.from_residual-in_err-route_count.ensures.1
+      c.in_ok-has_route.ensures.reads
+      c.in_err-route_count.ensures.reads;
 }

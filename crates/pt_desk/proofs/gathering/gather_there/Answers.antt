@@ -1,8 +1,6 @@
-use Rattle.std.specs.Prelude.{is_some, length, Option, Some, None}
-use Rattle.pt_desk_rules.specs.Facts.{no_facts, has_subject, agency_facts, booking_facts, day_of, wish_facts, plan_for}
-use Rattle.pt_desk_rules.specs.Planned.{is_booked_from, planned_on, trips_of, trips_on}
-use Rattle.pt_desk_rules.specs.State.{State, caller_of, caller_with, file_of, place_of, plan_of, rider_of, route_of, tables_before}
-use Rattle.pt_desk_rules.specs.Travel.{table_on}
+use Rattle.std.specs.Prelude.{Some}
+use Rattle.pt_desk_rules.specs.Facts.{no_facts, plan_for}
+use Rattle.pt_desk_rules.specs.State.{State, rider_of}
 use Rattle.pt_desk_rules.specs.Facts.{no_booking}
 use Rattle.pt_desk.proofs.ReadLemmas.{reads_pair, reads_map}
 use Rattle.pt_desk.proofs.gathering.gather_there.Goals as goal

@@ -1,9 +1,8 @@
-use Rattle.std.specs.Prelude.{is_some, length, Option, Some, None}
-use Rattle.pt_desk_rules.specs.Facts.{no_facts, has_subject, agency_facts, booking_facts, day_of, wish_facts}
-use Rattle.pt_desk_rules.specs.Planned.{is_booked_from, planned_on, trips_of, trips_on}
-use Rattle.pt_desk_rules.specs.State.{State, caller_of, caller_with, file_of, place_of, plan_of, rider_of, route_of, tables_before}
-use Rattle.pt_desk_rules.specs.Travel.{table_on}
-use Rattle.pt_desk.proofs.ReadLemmas.{reads_pair, reads_map}
+use Rattle.std.specs.Prelude.{length, None}
+use Rattle.pt_desk_rules.specs.Facts.{no_facts}
+use Rattle.pt_desk_rules.specs.Planned.{is_booked_from}
+use Rattle.pt_desk_rules.specs.State.{State, tables_before}
+use Rattle.pt_desk.proofs.ReadLemmas.{reads_pair, reads_map, fault_handed}
 use Rattle.pt_desk.proofs.gathering.gather_travel.Goals as goal
 
 pub returns : goal.returns
@@ -14,4 +13,28 @@ returns g c = record {
       (reads_pair _ _ _ (λ (s : State). length (tables_before c.args.day s.travel)) (λ (s : State). (is_booked_from None c.args.day s.trips, no_facts s.policy)) _ _ c.in_ok-table_count_before.ensures.reads
       (reads_pair _ _ _ (λ (s : State). is_booked_from None c.args.day s.trips) (λ (s : State). no_facts s.policy) _ _ c.in_ok-is_booked_from.ensures.reads
       c.in_ok-gather_policy.ensures.reads))));
+}
+
+pub returns-in_err-gather_policy : goal.returns-in_err-gather_policy
+returns-in_err-gather_policy g c = record {
+  reads =
+      fault_handed _ _ _ _ _ _ _ _ _ c.from_residual-in_err-gather_policy.ensures.1
+      (reads_pair _ _ _ (λ (s : State). s.places) (λ (s : State). (length (tables_before c.args.day s.travel), is_booked_from None c.args.day s.trips)) _ _ c.in_ok-places.ensures.reads (reads_pair _ _ _ (λ (s : State). length (tables_before c.args.day s.travel)) (λ (s : State). is_booked_from None c.args.day s.trips) _ _ c.in_ok-table_count_before.ensures.reads c.in_ok-is_booked_from.ensures.reads))
+      c.in_err-gather_policy.ensures.reads;
+}
+
+pub returns-in_err-is_booked_from : goal.returns-in_err-is_booked_from
+returns-in_err-is_booked_from g c = record {
+  reads =
+      fault_handed _ _ _ _ _ _ _ _ _ c.from_residual-in_err-is_booked_from.ensures.1
+      (reads_pair _ _ _ (λ (s : State). s.places) (λ (s : State). length (tables_before c.args.day s.travel)) _ _ c.in_ok-places.ensures.reads c.in_ok-table_count_before.ensures.reads)
+      c.in_err-is_booked_from.ensures.reads;
+}
+
+pub returns-in_err-table_count_before : goal.returns-in_err-table_count_before
+returns-in_err-table_count_before g c = record {
+  reads =
+      fault_handed _ _ _ _ _ _ _ _ _ c.from_residual-in_err-table_count_before.ensures.1
+      c.in_ok-places.ensures.reads
+      c.in_err-table_count_before.ensures.reads;
 }

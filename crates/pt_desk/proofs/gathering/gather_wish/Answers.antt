@@ -1,8 +1,5 @@
-use Rattle.std.specs.Prelude.{is_some, length, Option, Some, None}
-use Rattle.pt_desk_rules.specs.Facts.{no_facts, has_subject, agency_facts, booking_facts, day_of, wish_facts, plan_for}
-use Rattle.pt_desk_rules.specs.Planned.{is_booked_from, planned_on, trips_of, trips_on}
-use Rattle.pt_desk_rules.specs.State.{State, caller_of, caller_with, file_of, place_of, plan_of, rider_of, route_of, tables_before}
-use Rattle.pt_desk_rules.specs.Travel.{table_on}
+use Rattle.pt_desk_rules.specs.Facts.{agency_facts, booking_facts}
+use Rattle.pt_desk_rules.specs.State.{State, file_of, rider_of}
 use Rattle.pt_desk.proofs.ReadLemmas.{reads_pair, reads_map, fault_handed}
 use Rattle.pt_desk.proofs.gathering.gather_wish.Goals as goal
 
@@ -21,4 +18,12 @@ returns-in_err-gather_agency g c = record {
       fault_handed _ _ _ _ _ _ _ _ _ c.from_residual-in_err-gather_agency.ensures.1
       (reads_pair _ _ _ (λ (s : State). booking_facts c.args.rider c.args.wish.now.day c.args.old.now s) (λ (s : State). (rider_of c.args.rider s, file_of c.args.rider s)) _ _ c.in_ok-booking.ensures.reads c.in_ok-rider.ensures.reads)
       c.in_err-gather_agency.ensures.reads;
+}
+
+pub returns-in_err-rider : goal.returns-in_err-rider
+returns-in_err-rider g c = record {
+  reads =
+      fault_handed _ _ _ _ _ _ _ _ _ c.from_residual-in_err-rider.ensures.1
+      c.in_ok-booking.ensures.reads
+      c.in_err-rider.ensures.reads;
 }

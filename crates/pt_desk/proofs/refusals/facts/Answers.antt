@@ -1,4 +1,4 @@
-use Rattle.std.proofs.Common.{◌≡◌, ℕ, Option, Some, None, arith}
+use Rattle.std.proofs.Common.{◌≡◌, arith}
 use Rattle.pt_base.specs.declared.rule.Rule.TheVariants.{Key}
 use Rattle.pt_desk.proofs.AnswerLemmas.{changes_nothing, shut_out}
 use Rattle.pt_desk.proofs.RefusalLemmas.{found_by, inquiry_commits_nothing}

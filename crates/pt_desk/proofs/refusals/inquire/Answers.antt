@@ -1,4 +1,4 @@
-use Rattle.std.proofs.Common.{refl, subst, None, Some}
+use Rattle.std.proofs.Common.{refl, subst, Some}
 use Rattle.pt_base.specs.declared.rule.Rule.TheVariants.{Key}
 use Rattle.pt_desk.proofs.AnswerLemmas.{handed, read_fault, read_memory, read_told}
 use Rattle.pt_desk.proofs.refusals.inquire.Goals as goal
