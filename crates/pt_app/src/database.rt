@@ -6,21 +6,18 @@ ghost use Rattle.pt_base.specs.Codes.{memory_refused};
 ghost use Rattle.pt_base.specs.Fault.{fault};
 ghost use Rattle.pt_desk_rules.specs.Sound.{IsSound};
 
-use pt_audit::read_log;
+use crate::task::{Task, do_task};
 use pt_base::fault::MEMORY;
 use pt_base::{Day, Fault, RiderId, Wish};
-use pt_commands::{
-    Outcome, STORE_REFUSED, ask, audit_refusal, explain_refusal, fault_of, print_done,
-};
-use pt_desk::{Keeper, Read, Request, Write, place_ids};
-use pt_serve::{Port, moment_at, serve};
+use pt_commands::{Outcome, STORE_REFUSED, print_done};
+use pt_desk::Read;
+use pt_serve::moment_at;
 use pt_tables::{OpenFault, SqlKeeper, adopt, create, migrate};
-use pt_travel::Raw;
-use sqlite::{Connection, Error, ErrorCode};
+use sqlite::{Alter, Connection, Error, ErrorCode};
 use sqlite_std_file::File;
 use sqlite_store::FileStore;
 use std::alloc::Global;
-use std::io::{BufWriter, ErrorKind};
+use std::io::ErrorKind;
 use std::{fs, io};
 
 /// A file that is not there, or cannot be read.
@@ -29,8 +26,16 @@ const NO_SUCH_FILE: u16 = 5;
 /// A file to be made that is there already.
 const FILE_EXISTS: u16 = 7;
 
-/// The desk's records in the tables of a database in a file.
-type FileKeeper = SqlKeeper<FileStore<File>>;
+/// What is done with the database in a file.
+#[derive(Drop)]
+enum Work<'a> {
+    /// It becomes that of a desk whose admin has this key.
+    Make { key: &'a str },
+    /// It becomes one of this version.
+    Migrate,
+    /// It is opened, and its desk does this.
+    Open(Task<'a>),
+}
 
 /// The fault where a database is not opened; the row is the number of the table at fault.
 fn fault_of_opening(refused: OpenFault) -> Fault
@@ -90,41 +95,75 @@ fn connected(rt: &HostRuntime, file: &str) -> Result<Connection<FileStore<File>>
     }
 }
 
-/// Makes a file, which must not exist, with the tables of a desk whose admin has this key.
-pub(crate) fn init(rt: &HostRuntime, file: &str, key: &str) -> Result<Outcome, Fault> {
-    if let Err(error) = fs::File::create_new(rt, file) {
-        return Err(fault_of_making(&error));
-    }
-    let conn = connected(rt, file)?;
-    match create(rt.alloc(), conn, key.as_bytes()) {
+/// Makes the database that of a desk whose admin has this key.
+fn made<S: Alter + Drop>(alloc: Global, conn: Connection<S>, key: &str) -> Result<Outcome, Fault> {
+    match create(alloc, conn, key.as_bytes()) {
         Ok(_) => Ok(Outcome::Done),
         Err((_, refused)) => Err(fault_of_opening(refused)),
     }
 }
 
-/// Makes the tables of the first version in a file those of this one, and prints `done`.
-pub(crate) fn migrate_file(rt: &HostRuntime, file: &str) -> Result<Outcome, Fault> {
-    if let Err(error) = fs::open(rt, file) {
-        return Err(fault_of_reading(&error));
-    }
-    let mut conn = connected(rt, file)?;
+/// Makes the tables of the first version those of this one, and prints `done`.
+fn migrated<S: Alter + Drop>(rt: &HostRuntime, conn: Connection<S>) -> Result<Outcome, Fault> {
+    let mut conn = conn;
     match migrate(rt.alloc(), &mut conn) {
         Ok(()) => print_done(rt.alloc(), &mut rt.stdout()),
         Err(refused) => Err(fault_of_opening(refused)),
     }
 }
 
-/// The desk in the database of a file.
-fn adopt_file(rt: &HostRuntime, file: &str) -> Result<FileKeeper, Fault>
+/// The desk in the database.
+fn adopted<S: Alter + Drop>(alloc: Global, conn: Connection<S>) -> Result<SqlKeeper<S>, Fault>
     ensures sound { IfOk result (λ keeper. IsSound keeper.content) }
 {
-    if let Err(error) = fs::open(rt, file) {
-        return Err(fault_of_reading(&error));
-    }
-    match adopt(rt.alloc(), connected(rt, file)?) {
+    match adopt(alloc, conn) {
         Ok(keeper) => Ok(keeper),
         Err(refusal) => Err(fault_of_refusal(refusal)),
     }
+}
+
+/// Does this with the database of a connection.
+///
+/// Whatever its store is: so what is done is proved once, and for a file in one place alone (`over_file`).
+fn do_work<S: Alter + Drop>(
+    rt: &HostRuntime,
+    conn: Connection<S>,
+    work: Work<'_>,
+) -> Result<Outcome, Fault> {
+    match work {
+        Work::Make { key } => made(rt.alloc(), conn, key),
+        Work::Migrate => migrated(rt, conn),
+        Work::Open(task) => {
+            let mut keeper = adopted(rt.alloc(), conn)?;
+            do_task(rt, &mut keeper, task)
+        }
+    }
+}
+
+/// Does this with the database in a file.
+fn over_file(rt: &HostRuntime, file: &str, work: Work<'_>) -> Result<Outcome, Fault> {
+    do_work(rt, connected(rt, file)?, work)
+}
+
+/// The same of a file that should be there.
+fn over_known_file(rt: &HostRuntime, file: &str, work: Work<'_>) -> Result<Outcome, Fault> {
+    if let Err(error) = fs::open(rt, file) {
+        return Err(fault_of_reading(&error));
+    }
+    over_file(rt, file, work)
+}
+
+/// Makes a file, which must not exist, with the tables of a desk whose admin has this key.
+pub(crate) fn init(rt: &HostRuntime, file: &str, key: &str) -> Result<Outcome, Fault> {
+    if let Err(error) = fs::File::create_new(rt, file) {
+        return Err(fault_of_making(&error));
+    }
+    over_file(rt, file, Work::Make { key })
+}
+
+/// Makes the tables of the first version in a file those of this one, and prints `done`.
+pub(crate) fn migrate_file(rt: &HostRuntime, file: &str) -> Result<Outcome, Fault> {
+    over_known_file(rt, file, Work::Migrate)
 }
 
 /// Answers so many connections on a port of 127.0.0.1, one after the other, by the clocks of a zone.
@@ -136,10 +175,7 @@ pub(crate) fn serve_file(
     count: u32,
 ) -> Result<Outcome, Fault> {
     moment_at(rt, zone)?;
-    let mut keeper = adopt_file(rt, file)?;
-    let mut port = Port::open(rt, port, count)?;
-    serve(rt, rt.alloc(), &mut keeper, zone, &mut port)?;
-    Ok(Outcome::Done)
+    over_known_file(rt, file, Work::Open(Task::Serve { zone, port, count }))
 }
 
 /// Asks the desk in a file for a text, and prints it.
@@ -151,16 +187,7 @@ pub(crate) fn print_read(
     read: Read,
 ) -> Result<Outcome, Fault> {
     let now = moment_at(rt, zone)?;
-    let mut keeper = adopt_file(rt, file)?;
-    ask(
-        rt.alloc(),
-        &mut keeper,
-        now,
-        key.as_bytes(),
-        0,
-        &Request::Read(read),
-        &mut rt.stdout(),
-    )
+    over_known_file(rt, file, Work::Open(Task::Read { now, key, read }))
 }
 
 /// The bytes of a file that should be there.
@@ -170,14 +197,6 @@ fn read_file(rt: &HostRuntime, path: &str) -> Result<Vec<u8>, Fault>
     match fs::read(rt, path) {
         Ok(bytes) => Ok(bytes),
         Err(error) => Err(fault_of_reading(&error)),
-    }
-}
-
-/// Reads a travel table for the places of a desk.
-fn times_for<K: Keeper>(alloc: Global, keeper: &mut K, text: &[u8]) -> Result<Raw, Fault> {
-    match place_ids(alloc, keeper) {
-        Ok(places) => Raw::read(alloc, text, places.as_slice()),
-        Err(failed) => Err(fault_of(failed)),
     }
 }
 
@@ -192,19 +211,15 @@ pub(crate) fn put_times(
 ) -> Result<Outcome, Fault> {
     let now = moment_at(rt, zone)?;
     let text = read_file(rt, csv)?;
-    let mut keeper = adopt_file(rt, file)?;
-    let rows = times_for(rt.alloc(), &mut keeper, text.as_slice())?;
     let (key, number) = caller;
-    let request = Request::Write(Write::Travel { day, rows });
-    ask(
-        rt.alloc(),
-        &mut keeper,
+    let task = Task::Travel {
         now,
-        key.as_bytes(),
+        key,
         number,
-        &request,
-        &mut rt.stdout(),
-    )
+        day,
+        text,
+    };
+    over_known_file(rt, file, Work::Open(task))
 }
 
 /// Prints the log of a refusal from the desk in a file, with few writes.
@@ -217,19 +232,13 @@ pub(crate) fn print_refusal(
     wish: &Wish,
 ) -> Result<Outcome, Fault> {
     let now = moment_at(rt, zone)?;
-    let mut keeper = adopt_file(rt, file)?;
-    let Ok(mut out) = BufWriter::new(rt.alloc(), rt.stdout()) else {
-        return Err(Fault::of(MEMORY));
-    };
-    explain_refusal(
-        rt.alloc(),
-        &mut keeper,
+    let task = Task::Explain {
         now,
-        key.as_bytes(),
+        key,
         rider,
         wish,
-        &mut out,
-    )
+    };
+    over_known_file(rt, file, Work::Open(task))
 }
 
 /// Prints whether the log in a file shows, of the desk in another, that no vehicle can take the trip.
@@ -244,16 +253,12 @@ pub(crate) fn print_verdict(
 ) -> Result<Outcome, Fault> {
     let now = moment_at(rt, zone)?;
     let text = read_file(rt, log)?;
-    let mut keeper = adopt_file(rt, file)?;
-    let log = read_log(rt.alloc(), text.as_slice())?;
-    audit_refusal(
-        rt.alloc(),
-        &mut keeper,
+    let task = Task::Audit {
         now,
-        key.as_bytes(),
+        key,
         rider,
         wish,
-        &log,
-        &mut rt.stdout(),
-    )
+        text,
+    };
+    over_known_file(rt, file, Work::Open(task))
 }

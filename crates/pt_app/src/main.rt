@@ -14,6 +14,7 @@ use std::process::ExitCode;
 use std::{env, io};
 
 mod database;
+mod task;
 
 /// The words that the program was started with, its own name first.
 ///
