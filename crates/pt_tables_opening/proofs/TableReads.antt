@@ -264,7 +264,7 @@ pub rider_chairs_none : (trees : Trees) → NoneBeside rider_key riders_table ri
 rider_chairs_none trees none s stands =
     let it = stands.1.1.1.1.1.1.0 in
     let laid = laid_in s table.Riders it.sound in
-    none s.riders laid.1 laid.0 it.rows stands.1.1.1.1.1.1.1.1.1.1.1.0.rows
+    none s.riders laid.1 laid.0 it.rows (here_in (StandsIn s trees) table.RiderChairs stands).rows
 
 vehicles_sound : (s : State) (xs : List Vehicle) → Each IsVehicle xs → Paired AlikeVehicle s.vehicles xs → (t : UnsoundTable) → number_of t ≤ 12 → IsSoundIn s t → IsSoundIn (record s { vehicles = xs }) t
 vehicles_sound s xs each alike table.Vehicles low sound = (each, alike_vehicles s.callers s.places s.vehicles xs alike sound.1)
@@ -308,7 +308,7 @@ pub vehicle_chairs_none : (trees : Trees) → NoneBeside vehicle_key vehicles_ta
 vehicle_chairs_none trees none s stands =
     let it = stands.1.1.1.1.1.0 in
     let laid = laid_in s table.Vehicles it.sound in
-    none s.vehicles laid.1 laid.0 it.rows stands.1.1.1.1.1.1.1.1.1.1.1.1.0.rows
+    none s.vehicles laid.1 laid.0 it.rows (here_in (StandsIn s trees) table.VehicleChairs stands).rows
 
 trips_sound : (s : State) (xs : List Trip) → Each FitsTrip xs → Paired AlikeTrip s.trips xs → (t : UnsoundTable) → number_of t ≤ 13 → IsSoundIn s t → IsSoundIn (record s { trips = xs }) t
 trips_sound s xs each alike table.Trips low sound = (each, alike_trips s.trips xs alike s.places s.riders s.riders s.last_trip (same_riders s.riders) sound.1)
@@ -352,4 +352,4 @@ pub trip_chairs_none : (trees : Trees) → NoneBeside trip_key trips_table trip_
 trip_chairs_none trees none s stands =
     let it = stands.1.1.1.1.1.1.1.1.0 in
     let laid = laid_in s table.Trips it.sound in
-    none s.trips laid.1 laid.0 it.rows stands.1.1.1.1.1.1.1.1.1.1.1.1.1.0.rows
+    none s.trips laid.1 laid.0 it.rows (here_in (StandsIn s trees) table.TripChairs stands).rows
