@@ -96,7 +96,11 @@ fn connected(rt: &HostRuntime, file: &str) -> Result<Connection<FileStore<File>>
 }
 
 /// Makes the database that of a desk whose admin has this key.
-fn made<S: Alter + Drop>(alloc: Global, conn: Connection<S>, key: &str) -> Result<Outcome, Fault> {
+fn make_desk<S: Alter + Drop>(
+    alloc: Global,
+    conn: Connection<S>,
+    key: &str,
+) -> Result<Outcome, Fault> {
     match create(alloc, conn, key.as_bytes()) {
         Ok(_) => Ok(Outcome::Done),
         Err((_, refused)) => Err(fault_of_opening(refused)),
@@ -104,7 +108,7 @@ fn made<S: Alter + Drop>(alloc: Global, conn: Connection<S>, key: &str) -> Resul
 }
 
 /// Makes the tables of the first version those of this one, and prints `done`.
-fn migrated<S: Alter + Drop>(rt: &HostRuntime, conn: Connection<S>) -> Result<Outcome, Fault> {
+fn migrate_desk<S: Alter + Drop>(rt: &HostRuntime, conn: Connection<S>) -> Result<Outcome, Fault> {
     let mut conn = conn;
     match migrate(rt.alloc(), &mut conn) {
         Ok(()) => print_done(rt.alloc(), &mut rt.stdout()),
@@ -113,7 +117,7 @@ fn migrated<S: Alter + Drop>(rt: &HostRuntime, conn: Connection<S>) -> Result<Ou
 }
 
 /// The desk in the database.
-fn adopted<S: Alter + Drop>(alloc: Global, conn: Connection<S>) -> Result<SqlKeeper<S>, Fault>
+fn adopt_desk<S: Alter + Drop>(alloc: Global, conn: Connection<S>) -> Result<SqlKeeper<S>, Fault>
     ensures sound { IfOk result (λ keeper. IsSound keeper.content) }
 {
     match adopt(alloc, conn) {
@@ -131,10 +135,10 @@ fn do_work<S: Alter + Drop>(
     work: Work<'_>,
 ) -> Result<Outcome, Fault> {
     match work {
-        Work::Make { key } => made(rt.alloc(), conn, key),
-        Work::Migrate => migrated(rt, conn),
+        Work::Make { key } => make_desk(rt.alloc(), conn, key),
+        Work::Migrate => migrate_desk(rt, conn),
         Work::Open(task) => {
-            let mut keeper = adopted(rt.alloc(), conn)?;
+            let mut keeper = adopt_desk(rt.alloc(), conn)?;
             do_task(rt, &mut keeper, task)
         }
     }
