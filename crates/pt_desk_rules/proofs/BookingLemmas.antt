@@ -1,5 +1,5 @@
 -- What comes of a wish.
-use Rattle.std.proofs.Common.{◌≡◌, ℕ, List, Option, Some, Result, Ok, Err, IfOk, subst, sym, refl, ap, ◌∙◌, ◌∷◌, ◌++◌, []}
+use Rattle.std.proofs.Common.{◌≡◌, ℕ, List, Option, Some, Result, Ok, Err, IfOk, subst, sym, refl, ap, ◌∙◌}
 use Rattle.pt_records.specs.Records.{Edit}
 use Rattle.pt_base.specs.declared.rule.Rule.{Rule}
 use Rattle.pt_base.specs.declared.trip.Trip.{Trip}
@@ -16,6 +16,7 @@ use Rattle.pt_travel.specs.Chain.{Row}
 use Rattle.pt_desk_rules.specs.Booking.{AreTimes, IsAnswered, IsBooking, IsRequestBy, IsScheduledBy, routes_for, rows_of}
 use Rattle.pt_desk_rules.specs.Fleet.{on_duty}
 use Rattle.pt_desk_rules.specs.Deciding.{booked, changed, no_change, IsChangeDecided}
+use Rattle.pt_desk_rules.specs.State.{puts_one}
 use Rattle.pt_desk_rules.specs.Trips.{moves_to, IsConfirmation}
 use Rattle.pt_desk_rules.specs.declared.change.Change.{Change}
 use Rattle.pt_desk_rules.specs.declared.deciding.Decision.{Decision}
@@ -82,13 +83,13 @@ pub of_trip : (found : Option Trip) (old : Trip) (today : ℕ) (wish : Wish) (fa
 of_trip found old today wish facts decided is booking = subst (λ f. IsChangeDecided f wish today facts decided) (sym is) booking
 
 -- the change of a trip that is booked
-pub booked_made : (ch : Change) (trips : Edit Trip) (planned : Edit Plan) (trip : Trip) (plan : Plan) → ch ≡ no_change
-    → trips ≡ record { away = ch.trips.away; puts = ch.trips.puts ++ trip ∷ [] } → planned ≡ record { away = ch.planned.away; puts = ch.planned.puts ++ plan ∷ [] }
-    → record ch { trips = trips; planned = planned; last_trip = Some trip.id } ≡ booked trip plan
-booked_made ch trips planned trip plan is trips_are planned_are = rw (planned_are, trips_are, is) refl
+pub booked_made : (none : Change) (trips : Edit Trip) (planned : Edit Plan) (trip : Trip) (plan : Plan) → none ≡ no_change
+    → trips ≡ puts_one trip → planned ≡ puts_one plan
+    → record none { trips = trips; planned = planned; last_trip = Some trip.id } ≡ booked trip plan
+booked_made none trips planned trip plan is trips_are planned_are = rw (planned_are, trips_are, is) refl
 
 -- and of one that is changed
-pub changed_made : (ch : Change) (trips : Edit Trip) (planned : Edit Plan) (old : Trip) (left : Option Plan) (trip : Trip) (plan : Plan) → ch ≡ no_change
-    → trips ≡ record { away = ch.trips.away; puts = ch.trips.puts ++ trip ∷ [] } → planned ≡ moves_to old left plan
-    → record ch { trips = trips; planned = planned } ≡ changed old left trip plan
-changed_made ch trips planned old left trip plan is trips_are planned_are = rw (planned_are, trips_are, is) refl
+pub changed_made : (none : Change) (trips : Edit Trip) (planned : Edit Plan) (old : Trip) (left : Option Plan) (trip : Trip)
+    (plan : Plan) → none ≡ no_change → trips ≡ puts_one trip → planned ≡ moves_to old left plan
+    → record none { trips = trips; planned = planned } ≡ changed old left trip plan
+changed_made none trips planned old left trip plan is trips_are planned_are = rw (planned_are, trips_are, is) refl

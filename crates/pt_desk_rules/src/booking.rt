@@ -156,10 +156,14 @@ pub(crate) fn decide_booking(
     match answer_wish(alloc, facts, number, &None, today, wish)? {
         Scheduled::Denied(rule) => Ok(Decision::Denied(rule)),
         Scheduled::Booked { trip, plan } => {
-            let mut change = Change::none(alloc);
-            change.trips.put(trip)?;
-            change.planned.put(plan)?;
-            change.last_trip = Some(trip.id);
+            let planned = one(alloc, plan)?;
+            let trips = one(alloc, trip)?;
+            let change = Change {
+                trips,
+                planned,
+                last_trip: Some(trip.id),
+                ..Change::none(alloc)
+            };
             Ok(confirmed(&trip, change))
         }
     }
@@ -181,9 +185,13 @@ pub(crate) fn decide_change(
     match answer_wish(alloc, facts, old.id, &Some(old.id), today, wish)? {
         Scheduled::Denied(rule) => Ok(Decision::Denied(rule)),
         Scheduled::Booked { trip, plan } => {
-            let mut change = Change::none(alloc);
-            change.trips.put(trip)?;
-            change.planned = moving(alloc, &old, &facts.booking.plan, plan)?;
+            let planned = moving(alloc, &old, &facts.booking.plan, plan)?;
+            let trips = one(alloc, trip)?;
+            let change = Change {
+                trips,
+                planned,
+                ..Change::none(alloc)
+            };
             Ok(confirmed(&trip, change))
         }
     }

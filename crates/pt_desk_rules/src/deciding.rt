@@ -213,13 +213,10 @@ fn with_kept(
 {
     match made {
         Decision::Denied(rule) => Ok(Decision::Denied(rule)),
-        Decision::Accepted { answer, change } => {
+        Decision::Accepted { answer, mut change } => {
             let reply = KeptReply::of(&answer).unwrap_or(KeptReply::Done);
-            let kept = one(alloc, sent.kept(me, reply))?;
-            Ok(Decision::Accepted {
-                answer,
-                change: Change { kept, ..change },
-            })
+            change.kept = one(alloc, sent.kept(me, reply))?;
+            Ok(Decision::Accepted { answer, change })
         }
     }
 }

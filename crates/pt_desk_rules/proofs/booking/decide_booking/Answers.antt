@@ -8,9 +8,9 @@ returns-in-Denied c =
     denied booked (c.args.facts.now.booking.last_trip + 1) c.unwrap-number.result None c.args.today c.args.wish.now c.args.facts.now c.in_ok-rule.field-0
     c.in-Denied.rule (rw c.unwrap-number.ensures at c.of.ensures.value) c.in-Denied.is c.in_ok-rule.ensures
 
-pub returns-in_ok-put-in-Booked-2 : goal.returns-in_ok-put-in-Booked-2
-returns-in_ok-put-in-Booked-2 c =
+pub returns-in_ok-trips-in-Booked : goal.returns-in_ok-trips-in-Booked
+returns-in_ok-trips-in-Booked c =
     confirmed booked (c.args.facts.now.booking.last_trip + 1) c.unwrap-number.result None c.args.today c.args.wish.now c.args.facts.now c.in_ok-rule.field-0 c.in-Booked.trip c.in-Booked.plan
     _ c.confirmed.result (rw c.unwrap-number.ensures at c.of.ensures.value) c.in-Booked.is c.in_ok-rule.ensures c.confirmed.ensures
-    (booked_made c.none-change.result c.put.new.self c.put-in-Booked.new.self c.in-Booked.trip c.in-Booked.plan
-    c.none-change.ensures.value c.in_ok-put-in-Booked.ensures.value c.in_ok-put-in-Booked-2.ensures.value)
+    (booked_made c.none.result c.in_ok-trips-in-Booked.trips c.in_ok-planned-in-Booked.planned c.in-Booked.trip c.in-Booked.plan
+    c.none.ensures.value c.in_ok-trips-in-Booked.ensures c.in_ok-planned-in-Booked.ensures)

@@ -10,12 +10,12 @@ returns-in-Denied c =
     of_trip facts.booking.trip old c.args.today c.args.wish.now facts _ c.unwrap-old.ensures
     (denied (changed old facts.booking.plan) old.id old.id (Some old.id) c.args.today c.args.wish.now facts c.in_ok-rule.field-0 c.in-Denied.rule refl c.in-Denied.is c.in_ok-rule.ensures)
 
-pub returns-in_ok-change-in-Booked : goal.returns-in_ok-change-in-Booked
-returns-in_ok-change-in-Booked c =
+pub returns-in_ok-trips-in-Booked : goal.returns-in_ok-trips-in-Booked
+returns-in_ok-trips-in-Booked c =
     let facts = c.args.facts.now in
     let old = c.unwrap-old.result in
     of_trip facts.booking.trip old c.args.today c.args.wish.now facts c.confirmed.result c.unwrap-old.ensures
     (confirmed (changed old facts.booking.plan) old.id old.id (Some old.id) c.args.today c.args.wish.now facts c.in_ok-rule.field-0 c.in-Booked.trip c.in-Booked.plan
     _ c.confirmed.result refl c.in-Booked.is c.in_ok-rule.ensures c.confirmed.ensures
-    (changed_made c.none-change.result c.put.new.self c.in_ok-change-in-Booked.field-0 old facts.booking.plan c.in-Booked.trip c.in-Booked.plan
-    c.none-change.ensures.value c.in_ok-put-in-Booked.ensures.value c.in_ok-change-in-Booked.ensures.value))
+    (changed_made c.none.result c.in_ok-trips-in-Booked.trips c.in_ok-planned-in-Booked.planned old facts.booking.plan c.in-Booked.trip c.in-Booked.plan
+    c.none.ensures.value c.in_ok-trips-in-Booked.ensures c.in_ok-planned-in-Booked.ensures.value))
