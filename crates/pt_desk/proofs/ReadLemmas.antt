@@ -29,6 +29,15 @@ reads_pair {X} {Y} a b c f g x y first next =
     reads_then a b c x (f a.content) (both x (g b.content)) (both (f a.content) (g a.content)) None None (Ok (both x y)) first (reads_map b c (g b.content) y (both x) next)
     (λ _ is same. (ap (λ z. both z (g b.content)) is ∙ ap (λ (s : State). both (f a.content) (g s)) same, refl))
 
+-- a read, and then one that looks at what the first told
+pub reads_by : {X Y : Type 0} (a b c : Store) (f : State → X) (g : X → State → Y) (x : X) (y : Y) → Reads a b f (Ok x) → Reads b c (g x) (Ok y)
+    → Reads {X = X × Y} a c (λ s. (f s, g (f s) s)) (Ok (x, y))
+reads_by {X} {Y} a b c f g x y first next =
+    let both : X → Y → X × Y = λ p q. (p, q) in
+    reads_then a b c x (f a.content) (both x (g x b.content)) (both (f a.content) (g (f a.content) a.content)) None None (Ok (both x y)) first
+    (reads_map b c (g x b.content) y (both x) next)
+    (λ _ is same. (ap (λ p. both p (g p b.content)) is ∙ ap (λ (s : State). both (f a.content) (g (f a.content) s)) same, refl))
+
 same_fault : {X Y : Type 0} (e : StoreFault) → ◌≡◌ {A = Result Y StoreFault} (Err e) (Err failed) → ◌≡◌ {A = Result X StoreFault} (Err e) (Err failed)
 same_fault e same = let is : e ≡ failed = cc in cc
 

@@ -2,6 +2,7 @@ ghost use Rattle.std.specs.Prelude.{◌≡◌, [], Some, None};
 ghost use Rattle.pt_desk_rules.specs.Facts.{no_facts, facts_of, read_facts_of, has_subject};
 ghost use Rattle.pt_desk_rules.specs.Facts.{agency_facts, booking_facts, plan_for, day_of, wish_facts};
 ghost use Rattle.pt_desk_rules.specs.Facts.{change_facts, cancel_facts, tallies_for, tour_facts, trip_facts};
+ghost use Rattle.pt_desk_rules.specs.Facts.{trips_counted_for};
 ghost use Rattle.pt_requests.specs.declared.request.Read.TheVariants.{Export, Letter, Standing, Trips};
 ghost use Rattle.pt_desk_rules.specs.State.{rider_of, file_of, trip_of};
 ghost use Rattle.pt_requests.specs.declared.request.Write.TheVariants.{Enter, PutCaller, PutPlace, PutRoute};
@@ -9,11 +10,12 @@ ghost use Rattle.pt_requests.specs.declared.request.Write.TheVariants.{PutRider,
 ghost use Rattle.pt_desk.specs.Store.{Store, Reads};
 
 use crate::{Keeper, StoreFault};
-use pt_base::{Day, Place, Rider, RiderId, Trip, TripId, Vehicle, Wish};
+use pt_base::{Day, Place, Residence, Rider, RiderId, Trip, TripId, Vehicle, Wish};
 use pt_corridor::FixedRoute;
 use pt_desk_rules::{
     BookingFacts, Caller, DayFacts, PlannedRoute, Read, ReadFacts, Role, Tallies, Write, WriteFacts,
 };
+use pt_records::Rows;
 use pt_rights::{CaseFile, Entry};
 use std::alloc::Global;
 
@@ -104,6 +106,24 @@ fn rider_with_file<K: Keeper>(
         (λ s. (rider_of rider s, file_of rider s)) result }
 {
     Ok((keeper.rider(rider)?, keeper.case_file(alloc, rider)?))
+}
+
+/// The trips by which the days of this rider, if there is one, are counted: those of a visitor, and none of a resident.
+fn gather_counted<K: Keeper>(
+    alloc: Global,
+    keeper: &mut K,
+    found: &Option<Rider>,
+) -> Result<Rows<Trip>, StoreFault>
+    ensures reads { Reads (K.store keeper.old) (K.store keeper.new)
+        (λ s. trips_counted_for found.now s.trips) result }
+{
+    match found {
+        Some(rider) => match rider.kind {
+            Residence::Visitor => keeper.trips_of(alloc, rider.id),
+            Residence::Resident => Ok(Rows::none(alloc)),
+        },
+        None => Ok(Rows::none(alloc)),
+    }
 }
 
 /// The outcomes that an entry looks at.
@@ -211,19 +231,19 @@ fn gather_plan<K: Keeper>(
     }
 }
 
-/// What a wish for this day looks at, where it stands for a trip that is there, if any.
+/// What the wish of this rider for a day looks at, where it stands for a trip that is there, if any.
 fn gather_booking<K: Keeper>(
     alloc: Global,
     keeper: &mut K,
-    rider: RiderId,
+    found: &Option<Rider>,
     day: Day,
     old: &Option<Trip>,
 ) -> Result<BookingFacts, StoreFault>
-    ensures reads { Reads (K.store keeper.old) (K.store keeper.new) (booking_facts rider day old.now) result }
+    ensures reads { Reads (K.store keeper.old) (K.store keeper.new) (booking_facts found.now day old.now) result }
 {
     let last_trip = keeper.last_trip()?;
     let day = gather_day(alloc, keeper, day)?;
-    let trips = keeper.trips_of(alloc, rider)?;
+    let trips = gather_counted(alloc, keeper, found)?;
     let plan = gather_plan(alloc, keeper, old)?;
     let routes = keeper.routes(alloc)?;
     Ok(BookingFacts {
@@ -246,8 +266,8 @@ pub(crate) fn gather_wish<K: Keeper>(
 ) -> Result<WriteFacts, StoreFault>
     ensures reads { Reads (K.store keeper.old) (K.store keeper.new) (wish_facts rider wish.now old.now) result }
 {
-    let booking = gather_booking(alloc, keeper, rider, wish.day, old)?;
     let (rider, file) = rider_with_file(alloc, keeper, rider)?;
+    let booking = gather_booking(alloc, keeper, &rider, wish.day, old)?;
     Ok(WriteFacts {
         rider,
         file,
@@ -359,8 +379,8 @@ fn gather_standing<K: Keeper>(
 ) -> Result<ReadFacts, StoreFault>
     ensures reads { Reads (K.store keeper.old) (K.store keeper.new) (read_facts_of (Standing rider 0)) result }
 {
-    let trips = keeper.trips_of(alloc, rider)?;
     let (rider, file) = rider_with_file(alloc, keeper, rider)?;
+    let trips = gather_counted(alloc, keeper, &rider)?;
     Ok(ReadFacts {
         rider,
         file,

@@ -1,6 +1,8 @@
 -- What the rules look at.
 use Rattle.std.specs.Prelude.{ℕ, Bool, true, false, List, [], length, Option, Some, None, is_some}
 use Rattle.pt_base.specs.declared.policy.Policy.{Policy}
+use Rattle.pt_base.specs.declared.rider.Residence.{Residence}
+use Rattle.pt_base.specs.declared.rider.Residence.TheVariants.{Resident, Visitor}
 use Rattle.pt_base.specs.declared.rider.Rider.{Rider}
 use Rattle.pt_base.specs.declared.trip.Trip.{Trip}
 use Rattle.pt_base.specs.declared.trip.Wish.{Wish}
@@ -80,14 +82,24 @@ abbrev pub plan_for : Option Trip → State → Option Plan
 plan_for None s = None
 plan_for (Some trip) s = plan_of trip.vehicle trip.wish.day s
 
--- what a rider's wish for a day looks at, where it stands for this trip, if any
-abbrev pub booking_facts : ℕ → ℕ → Option Trip → State → BookingFacts
+-- a visitor's days of use are those of the visitor's trips (37.127(e)); of a resident no days are counted
+abbrev pub counted_trips : Residence → List Trip → List Trip
+counted_trips Visitor trips = trips
+counted_trips Resident trips = []
+
+-- the trips by which the days of this rider, if there is one, are counted
+abbrev pub trips_counted_for : Option Rider → List Trip → List Trip
+trips_counted_for None trips = []
+trips_counted_for (Some rider) trips = counted_trips rider.kind (trips_of rider.id trips)
+
+-- what the wish of this rider for a day looks at, where it stands for this trip, if any
+abbrev pub booking_facts : Option Rider → ℕ → Option Trip → State → BookingFacts
 booking_facts rider day old s = record {
   trip = old;
   plan = plan_for old s;
   routes = s.routes;
   last_trip = s.last_trip;
-  trips = trips_of rider s.trips;
+  trips = trips_counted_for rider s.trips;
   day = day_of day s;
 }
 
@@ -95,7 +107,7 @@ abbrev pub wish_facts : ℕ → Wish → Option Trip → State → WriteFacts
 wish_facts rider wish old s = record (agency_facts s) {
   rider = rider_of rider s;
   file = file_of rider s;
-  booking = booking_facts rider wish.day old s;
+  booking = booking_facts (rider_of rider s) wish.day old s;
 }
 
 -- what the change of a trip looks at, if it is there
@@ -164,8 +176,11 @@ tour_facts day s = record no_read_facts { vehicles = s.vehicles; day = day_of da
 
 -- and on what a read's rules look at
 abbrev pub read_facts_of : Read → State → ReadFacts
-read_facts_of (read.Standing rider day) s =
-    record no_read_facts { rider = rider_of rider s; file = file_of rider s; trips = trips_of rider s.trips }
+read_facts_of (read.Standing rider day) s = record no_read_facts {
+  rider = rider_of rider s;
+  file = file_of rider s;
+  trips = trips_counted_for (rider_of rider s) s.trips;
+}
 read_facts_of (read.Trips rider) s =
     record no_read_facts { rider = rider_of rider s; trips = trips_of rider s.trips }
 read_facts_of (read.Letter rider position) s =

@@ -57,7 +57,7 @@ pub struct BookingFacts {
     pub routes: Rows<FixedRoute>,
     /// The number that was last given to a trip; 0 before the first.
     pub last_trip: u32,
-    /// The trips of the rider of whom the write speaks.
+    /// The trips of the rider of whom the write speaks, if that is a visitor, whose days of use they count.
     pub trips: Rows<Trip>,
     /// What is planned for the day that is wished for.
     pub day: DayFacts,
@@ -138,7 +138,7 @@ pub struct ReadFacts {
     pub rider: Option<Rider>,
     /// That rider's case file.
     pub file: CaseFile,
-    /// The trips of which it speaks, by rising number.
+    /// The trips of which it speaks, by rising number; of a standing those that count a visitor's days of use.
     pub trips: Rows<Trip>,
     /// All vehicles with their versions.
     pub vehicles: Rows<Vehicle>,
