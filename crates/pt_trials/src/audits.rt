@@ -1,180 +1,129 @@
 //! Logs of refusals that are right, wrong, and out of form, as examples.
-use crate::four_places::{A, AWAY, B, asked, empty, seated, vehicle};
-use crate::times::Plain;
-use pt_audit::{End, Line, Log, Raise, check, read_log};
+use crate::asking::is_right;
+use crate::four_places::Place::{A, Away, B};
+use crate::four_places::{asked, empty, seated, vehicle};
+use pt_audit::{End, Line, Raise, read_log};
 use pt_base::Fault;
-use pt_insertion::{Asked, Duty, are_without};
+use pt_insertion::{Asked, Duty};
+use std::alloc::Global;
+use std::process::Abort;
 use std::test::Fail;
 
-/// Whether the log is right, where it may be checked.
-fn is_right(log: &Log, duties: &[Duty<'_>], asked: &Asked) -> Result<bool, Fail> {
-    if !are_without(duties, asked.trip) {
-        return Err(Fail::new("not to be checked"));
-    }
-    Ok(check(log, duties, asked, &Plain))
-}
-
-/// Closing, capacity, persons, goal, whether the vehicle is on duty, lines, whether they are right.
-const LOGS: [(u32, u16, u16, u32, bool, &str, bool); 25] = [
+/// Where the vehicle would be back at 574, and closes before.
+const TOO_LATE: [(&str, bool); 18] = [
     (
-        490,
-        4,
-        1,
-        B,
-        true,
         "CASE 1 0 0\nF 0 480\nA 1 500\nA 2 532\nA 3 574\nW 3\n",
         true,
     ),
-    (490, 4, 1, B, true, "", false),
+    ("", false),
     (
-        490,
-        4,
-        1,
-        B,
-        true,
         "CASE 1 0 0\nF 0 480\nA 1 500\nA 2 533\nA 3 574\nW 3\n",
         false,
     ),
     (
-        490,
-        4,
-        1,
-        B,
-        true,
         "CASE 1 0 0\nA 1 20\nF 0 480\nA 1 500\nA 2 532\nA 3 574\nW 3\n",
         true,
     ),
     (
-        490,
-        4,
-        1,
-        B,
-        true,
         "CASE 1 0 0\nA 1 500\nF 0 480\nA 2 532\nA 3 574\nW 3\n",
         false,
     ),
+    ("CASE 1 0 0\nF 0 480\nA 1 480\nA 3 491\nW 3\n", false),
     (
-        490,
-        4,
-        1,
-        B,
-        true,
-        "CASE 1 0 0\nF 0 480\nA 1 480\nA 3 491\nW 3\n",
-        false,
-    ),
-    (
-        490,
-        4,
-        1,
-        B,
-        true,
         "CASE 1 0 0\nF 0 480\nA 1 500\nA 2 532\nA 3 574\nW 2\n",
         false,
     ),
     (
-        490,
-        4,
-        1,
-        B,
-        true,
         "CASE 1 0 0\nF 0 480\nA 1 500\nA 2 532\nA 3 490\nW 3\n",
         false,
     ),
     (
-        490,
-        4,
-        1,
-        B,
-        true,
         "CASE 1 0 0\nA 0 0\nF 0 480\nA 1 500\nA 2 532\nA 3 574\nW 3\n",
         false,
     ),
     (
-        490,
-        4,
-        1,
-        B,
-        true,
         "CASE 1 0 0\nF 4 0\nF 0 480\nA 1 500\nA 2 532\nA 3 574\nW 3\n",
         false,
     ),
     (
-        490,
-        4,
-        1,
-        B,
-        true,
         "CASE 2 0 0\nF 0 480\nA 1 500\nA 2 532\nA 3 574\nW 3\n",
         false,
     ),
-    (490, 4, 1, B, true, "NODIRECT\n", false),
-    (490, 4, 1, B, true, "CASE 1 0 0\nS\n", false),
-    (490, 4, 1, B, true, "CASE 1 0 0\nM 1\n", false),
-    (490, 4, 1, B, true, "CASE 1 0 0\nL 1\n", false),
+    ("NODIRECT\n", false),
+    ("CASE 1 0 0\nS\n", false),
+    ("CASE 1 0 0\nM 1\n", false),
+    ("CASE 1 0 0\nL 1\n", false),
     (
-        490,
-        4,
-        1,
-        B,
-        true,
         "CASE 1 0 0\nF 0 480\nA 1 500\nA 2 532\nP 1 480\nA 3 574\nT 0 94\nW 3\n",
         true,
     ),
     (
-        490,
-        4,
-        1,
-        B,
-        true,
         "CASE 1 0 0\nF 0 480\nA 1 500\nA 2 532\nP 1 481\nA 3 574\nW 3\n",
         false,
     ),
     (
-        490,
-        4,
-        1,
-        B,
-        true,
         "CASE 1 0 0\nF 0 480\nA 1 500\nA 2 532\nA 3 574\nT 0 95\nW 3\n",
         false,
     ),
-    (490, 4, 1, AWAY, true, "NODIRECT\n", true),
-    (490, 4, 1, AWAY, true, "CASE 1 0 0\nM 1\n", true),
-    (490, 4, 1, B, false, "", true),
-    (1020, 1, 2, B, true, "CASE 1 0 0\nL 1\n", true),
-    (1020, 1, 1, B, true, "CASE 1 0 0\nL 1\n", false),
+];
+
+/// Where there is no way to the goal.
+const NO_WAY: [(&str, bool); 2] = [("NODIRECT\n", true), ("CASE 1 0 0\nM 1\n", true)];
+
+/// Where no vehicle is on duty.
+const OFF_DUTY: [(&str, bool); 1] = [("", true)];
+
+/// Where two persons want the one seat.
+const TOO_MANY: [(&str, bool); 1] = [("CASE 1 0 0\nL 1\n", true)];
+
+/// Where one person can have the one seat.
+const ONE_SEAT: [(&str, bool); 1] = [("CASE 1 0 0\nL 1\n", false)];
+
+/// Where the trip is possible.
+const POSSIBLE: [(&str, bool); 2] = [
     (
-        1020,
-        4,
-        1,
-        B,
-        true,
         "CASE 1 0 0\nF 0 480\nA 1 500\nA 2 532\nA 3 574\nW 3\n",
         false,
     ),
-    (1020, 4, 1, B, true, "", false),
+    ("", false),
 ];
+
+/// Checks logs of the trip's refusal.
+fn check_logs(
+    rt: &impl Abort,
+    alloc: Global,
+    duties: &[Duty<'_>],
+    asked: &Asked,
+    logs: &[(&str, bool)],
+) -> Result<(), Fail> {
+    for (lines, right) in logs {
+        let text = format!(in alloc; "AUDIT 1\n{lines}DONE\n")?;
+        let log = read_log(alloc, text.as_bytes())?;
+        assert_eq!(rt; is_right(&log, duties, asked)?, *right, "{lines}");
+    }
+    Ok(())
+}
 
 #[test]
 fn checks_logs(rt: HostRuntime) -> Result<(), Fail> {
-    let route = empty(rt.alloc())?;
-    for (closes, capacity, persons, goal, on_duty, lines, right) in LOGS {
-        let text = format!(in rt.alloc(); "AUDIT 1\n{lines}DONE\n")?;
-        let log = read_log(rt.alloc(), text.as_bytes())?;
-        let vehicle = vehicle(capacity, closes)?;
-        let duty = [Duty {
+    let to_b = asked(1, (A, B), (480, 600), seated(1));
+    let two_to_b = asked(1, (A, B), (480, 600), seated(2));
+    let away = asked(1, (A, Away), (480, 600), seated(1));
+    let route = empty(rt.alloc());
+    for (vehicle, asked, logs) in [
+        (vehicle(4, 490), to_b, TOO_LATE.as_slice()),
+        (vehicle(4, 490), away, NO_WAY.as_slice()),
+        (vehicle(1, 1020), two_to_b, TOO_MANY.as_slice()),
+        (vehicle(1, 1020), to_b, ONE_SEAT.as_slice()),
+        (vehicle(4, 1020), to_b, POSSIBLE.as_slice()),
+    ] {
+        let duties = [Duty {
             vehicle: &vehicle,
             route: &route,
         }];
-        let trip = asked(1, (A, goal), (480, 600), seated(persons))?;
-        let found = if on_duty {
-            is_right(&log, &duty, &trip)?
-        } else {
-            is_right(&log, &[], &trip)?
-        };
-        assert_eq!(rt; found, right, "{lines}");
+        check_logs(&rt, rt.alloc(), &duties, &asked, logs)?;
     }
-    Ok(())
+    check_logs(&rt, rt.alloc(), &[], &to_b, &OFF_DUTY)
 }
 
 #[test]

@@ -1,9 +1,10 @@
 //! Admission, standing and suspension of random case files, by `pt_rights` and by the rules read entry by entry.
 
 use crate::dice::Dice;
+use crate::numbers::day;
 use pt_base::{CallerId, Day, Policy, Residence, Rider, RiderId, Rule};
 use pt_rights::{CaseFile, Condition, Conditions, Entry, Grant, Outcome, Reasons, Standing, Tally};
-use std::alloc::Global;
+use std::alloc::{AllocError, Global};
 use std::test::Fail;
 
 const SEED: u64 = 37_125;
@@ -18,7 +19,7 @@ const ANSWERS: usize = 35;
 
 const FIRST_DAY: u32 = 20_000;
 
-#[derive(Clone, Copy, Debug, PartialEq, Eq)]
+#[derive(Clone, Copy, PartialEq, Eq)]
 enum Kind {
     Complete,
     Grant,
@@ -33,30 +34,49 @@ enum Kind {
     Suspend,
 }
 
+impl Kind {
+    /// What is counted where an entry of the kind is admitted.
+    fn name(self) -> &'static str {
+        match self {
+            Kind::Complete => "complete",
+            Kind::Grant => "grant",
+            Kind::Refuse => "refuse",
+            Kind::Appeal => "appeal",
+            Kind::Heard => "heard",
+            Kind::AppealGranted => "appeal granted",
+            Kind::AppealDenied => "appeal denied",
+            Kind::Overturn => "overturn",
+            Kind::Notice => "notice",
+            Kind::NoticeHeard => "notice heard",
+            Kind::Suspend => "suspend",
+        }
+    }
+}
+
 /// The kinds that decide an appeal.
 const DECISIONS: [Kind; 3] = [Kind::AppealGranted, Kind::AppealDenied, Kind::Overturn];
 
-/// What an orderly file may have in turn, beside what is counted where it is admitted.
-const STORY: [(Kind, &str); 14] = [
-    (Kind::Complete, "complete"),
-    (Kind::Refuse, "refuse"),
-    (Kind::Appeal, "appeal"),
-    (Kind::Heard, "heard"),
-    (Kind::AppealGranted, "appeal granted"),
-    (Kind::AppealDenied, "appeal denied"),
-    (Kind::Notice, "notice"),
-    (Kind::NoticeHeard, "notice heard"),
-    (Kind::Suspend, "suspend"),
-    (Kind::Appeal, "appeal"),
-    (Kind::Heard, "heard"),
-    (Kind::Overturn, "overturn"),
-    (Kind::Complete, "complete"),
-    (Kind::Grant, "grant"),
+/// What an orderly file may have in turn.
+const STORY: [Kind; 14] = [
+    Kind::Complete,
+    Kind::Refuse,
+    Kind::Appeal,
+    Kind::Heard,
+    Kind::AppealGranted,
+    Kind::AppealDenied,
+    Kind::Notice,
+    Kind::NoticeHeard,
+    Kind::Suspend,
+    Kind::Appeal,
+    Kind::Heard,
+    Kind::Overturn,
+    Kind::Complete,
+    Kind::Grant,
 ];
 
 /// An entry in plain numbers: `against` is an appeal's place, `starts` a suspension's first day, `until` its last day
 /// or a grant's.
-#[derive(Clone, Copy, Debug, PartialEq, Eq)]
+#[derive(Clone, Copy)]
 struct Plain {
     pub kind: Kind,
     pub day: u32,
@@ -118,14 +138,20 @@ fn plain_standing(file: &[Plain], today: u32, day: u32) -> (&'static str, u32) {
     }
 }
 
+/// The first decision of an appeal after the place.
+fn decision_after(file: &[Plain], place: usize) -> Option<Kind> {
+    let mut later = file.iter().skip(place);
+    let decision = later.find(|entry| DECISIONS.contains(&entry.kind))?;
+    Some(decision.kind)
+}
+
 /// Whether a suspension has effect, by the first decision after an appeal against it.
 fn effect(file: &[Plain], suspension: usize) -> &'static str {
     for (place, entry) in file.iter().enumerate() {
         if entry.kind == Kind::Appeal && usize::from(entry.against) == suspension {
-            let mut later = file.iter().skip(place);
-            match later.find(|later| DECISIONS.contains(&later.kind)) {
+            match decision_after(file, place) {
                 None => return "appealed",
-                Some(decision) if decision.kind == Kind::Overturn => return "overturned",
+                Some(Kind::Overturn) => return "overturned",
                 Some(_) => {}
             }
         }
@@ -271,41 +297,46 @@ fn random_entry(dice: &mut Dice, file: &[Plain], kind: Kind) -> Plain {
     }
 }
 
-fn day(number: u32) -> Result<Day, Fail> {
-    Ok(Day::of(number).ok_or("a day")?)
+fn reasons(alloc: Global) -> Result<Reasons, Fail> {
+    let bytes = Vec::from_slice(alloc, b"in short")?;
+    Ok(Reasons::of(bytes).ok_or("reasons")?)
+}
+
+fn grant(until: u32) -> Grant {
+    Grant {
+        until: day(until),
+        conditions: Conditions::of(&[Condition::Always]).unwrap(),
+    }
 }
 
 /// The entry that the plain numbers tell.
 fn told(alloc: Global, plain: Plain) -> Result<Entry, Fail> {
-    let reasons = Reasons::of(Vec::from_slice(alloc, b"in short")?).ok_or("reasons")?;
-    let (starts, until) = (day(plain.starts)?, day(plain.until)?);
-    let conditions = Conditions::of(&[Condition::Always]).ok_or("conditions")?;
-    let grant = Grant { until, conditions };
-    let against = plain.against;
     Ok(match plain.kind {
         Kind::Complete => Entry::Complete,
-        Kind::Grant => Entry::Grant(grant),
-        Kind::Refuse => Entry::Refuse(reasons),
-        Kind::Appeal => Entry::Appeal { against },
+        Kind::Grant => Entry::Grant(grant(plain.until)),
+        Kind::Refuse => Entry::Refuse(reasons(alloc)?),
+        Kind::Appeal => Entry::Appeal {
+            against: plain.against,
+        },
         Kind::Heard => Entry::Heard,
-        Kind::AppealGranted => Entry::AppealGranted(grant),
-        Kind::AppealDenied => Entry::AppealDenied(reasons),
+        Kind::AppealGranted => Entry::AppealGranted(grant(plain.until)),
+        Kind::AppealDenied => Entry::AppealDenied(reasons(alloc)?),
         Kind::Overturn => Entry::Overturn,
-        Kind::Notice => Entry::Notice(reasons),
+        Kind::Notice => Entry::Notice(reasons(alloc)?),
         Kind::NoticeHeard => Entry::NoticeHeard,
         Kind::Suspend => Entry::Suspend {
-            starts,
-            ends: until,
-            reasons,
+            starts: day(plain.starts),
+            ends: day(plain.until),
+            reasons: reasons(alloc)?,
         },
     })
 }
 
 /// Up to thirty trips of the rider.
-fn random_tallies(alloc: Global, dice: &mut Dice) -> Result<Vec<Tally>, Fail> {
+fn random_tallies(alloc: Global, dice: &mut Dice) -> Result<Vec<Tally>, AllocError> {
     let mut tallies = Vec::new(alloc);
     for _ in 0..dice.throw(30) {
-        let day = day(FIRST_DAY + dice.throw(90))?;
+        let day = day(FIRST_DAY + dice.throw(90));
         let outcome = match dice.throw(3) {
             0 => Outcome::Ridden,
             1 => Outcome::MissedRider,
@@ -319,11 +350,14 @@ fn random_tallies(alloc: Global, dice: &mut Dice) -> Result<Vec<Tally>, Fail> {
 /// How often each answer came.
 type Seen = Vec<(&'static str, u32)>;
 
-fn count(seen: &mut Seen, answer: &'static str) -> Result<(), Fail> {
-    match seen.iter_mut().find(|(known, _)| *known == answer) {
-        Some((_, times)) => *times = times.saturating_add(1),
-        None => seen.push((answer, 1))?,
+fn count(seen: &mut Seen, answer: &'static str) -> Result<(), AllocError> {
+    for (known, times) in seen.iter_mut() {
+        if *known == answer {
+            *times = times.saturating_add(1);
+            return Ok(());
+        }
     }
+    seen.push((answer, 1))?;
     Ok(())
 }
 
@@ -338,14 +372,14 @@ struct Trial {
 }
 
 impl Trial {
-    fn random(alloc: Global, dice: &mut Dice) -> Result<Self, Fail> {
+    fn random(alloc: Global, dice: &mut Dice) -> Result<Self, AllocError> {
         let kind = match dice.throw(16) {
             0 => Residence::Visitor,
             _ => Residence::Resident,
         };
         Ok(Trial {
             rider: Rider {
-                id: RiderId::of(7).ok_or("a rider")?,
+                id: RiderId::of(7).unwrap(),
                 kind,
                 attendant: dice.throw(2) == 0,
                 wheelchair: dice.throw(2) == 0,
@@ -390,32 +424,34 @@ impl Trial {
 
     /// Enters an entry, admitted or not; whether both ways judge it alike.
     fn enter(&mut self, alloc: Global, plain: Plain, seen: &mut Seen) -> Result<bool, Fail> {
-        let denial = self.denial(plain);
-        let name = STORY.iter().find(|(kind, _)| *kind == plain.kind);
-        let admitted = name.map_or("", |(_, name)| name);
-        count(seen, denial.map_or(admitted, |(_, why)| why))?;
-        let entry = told(alloc, plain)?;
-        let today = day(plain.day)?;
+        let (wanted, answer) = match self.denial(plain) {
+            Some((rule, why)) => (Some(rule), why),
+            None => (None, plain.kind.name()),
+        };
+        count(seen, answer)?;
+        self.plain.push(plain)?;
         let author = CallerId::of(plain.author).ok_or("a caller")?;
+        let entry = told(alloc, plain)?;
+        let today = day(plain.day);
         let (rider, tallies, policy) = (&self.rider, &self.tallies, &self.policy);
-        let file = &self.file;
-        let rule = file.admits(rider, &entry, today, author, tallies, policy);
+        let rule = self
+            .file
+            .admits(rider, &entry, today, author, tallies, policy);
         if self.file.is_full() {
             return Err(Fail::new("a full file"));
         }
         self.file.push(entry, today, author)?;
-        self.plain.push(plain)?;
-        Ok(rule == denial.map(|(rule, _)| rule))
+        Ok(rule == wanted)
     }
 
     /// Whether both ways give the same standing and suspension.
-    fn agree(&self, today: u32, trip: u32, seen: &mut Seen) -> Result<bool, Fail> {
+    fn agree(&self, today: u32, trip: u32, seen: &mut Seen) -> Result<bool, AllocError> {
         let plain = plain_standing(&self.plain, today, trip);
         let suspension = plain_suspension(&self.plain, trip);
         count(seen, plain.0)?;
         count(seen, suspension)?;
-        let trip = day(trip)?;
-        let standing = match self.file.standing(day(today)?, trip) {
+        let trip = day(trip);
+        let standing = match self.file.standing(day(today), trip) {
             Standing::Presumed => ("presumed", 0),
             Standing::AppealOverdue => ("overdue", 0),
             Standing::Granted(grant) => ("granted", grant.until.number()),
@@ -437,7 +473,7 @@ fn random_case_files_follow_the_rules_entry_by_entry(rt: HostRuntime) -> Result<
                 0 => dice.throw(14),
                 _ => number + step,
             };
-            let kind = STORY[next as usize % 14].0;
+            let kind = STORY[next as usize % 14];
             let entry = random_entry(&mut dice, &trial.plain, kind);
             let same = trial.enter(alloc, entry, &mut seen)?;
             let today = random_day(&mut dice, &trial.plain);

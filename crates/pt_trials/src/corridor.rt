@@ -76,9 +76,17 @@ fn searched(trial: Trial) -> bool {
 
 fn decided(alloc: Global, trial: Trial) -> Result<bool, Fail> {
     let points = vec![in alloc; trial.start, trial.end]?;
-    let id = RouteId::of(1).ok_or("id")?;
-    let first = Minute::of(0).ok_or("first")?;
-    let route = FixedRoute::new(id, 3_960, points, false, Weekdays::all(), first, first)?;
+    let id = RouteId::of(1).unwrap();
+    let midnight = Minute::of(0).unwrap();
+    let route = FixedRoute::new(
+        id,
+        3_960,
+        points,
+        false,
+        Weekdays::all(),
+        midnight,
+        midnight,
+    )?;
     Ok(within(&route, trial.point, trial.feet))
 }
 

@@ -1,43 +1,56 @@
-//! Random vehicles, routes and trips.
+//! Random places, vehicles, trips and routes.
+ghost use Rattle.std.specs.Prelude.{◌≤◌};
+
 use crate::dice::Dice;
+use crate::numbers::minute;
 use pt_base::{Day, Load, Minute, PlaceId, TripId, Vehicle, VehicleId, Weekdays};
-use pt_feasible::Route;
+use pt_feasible::{Route, Stop};
 use pt_insertion::Asked;
-use std::alloc::Global;
+use std::alloc::{AllocError, Global};
 use std::test::Fail;
 
-const DEPOT: u32 = 20_020;
-
-fn minute(number: u32) -> Result<Minute, Fail> {
-    Ok(Minute::of(number.min(1439)).ok_or("minute")?)
+/// What random routes are like.
+#[derive(Clone, Copy)]
+pub struct Shape {
+    /// The most trips of a route.
+    pub trips: u32,
+    /// How many minutes lie between two pickups.
+    pub apart: u32,
+    /// How many places the plain has on a side; on a small one many drives take no time, and many places tie.
+    pub side: u32,
+    /// One place in so many is of another plain.
+    pub away: u32,
 }
 
-/// A place of a plain of 40 by 40, and one time in 100 of another plain.
-fn place(dice: &mut Dice) -> Result<PlaceId, Fail> {
-    let away = if dice.throw(100) == 0 { 1_000_000 } else { 0 };
-    let number = away + 1_001 * (1 + dice.throw(40)) + dice.throw(40);
-    Ok(PlaceId::of(number).ok_or("place")?)
+/// A place of a plain with so many places on a side, and one time in `away` of another plain.
+pub fn place(dice: &mut Dice, side: u32, away: u32) -> PlaceId {
+    let plain = if dice.throw(away.max(1)) == 0 {
+        1_000_000
+    } else {
+        0
+    };
+    let side = side.clamp(1, 40);
+    let number = plain + 1_001 * (1 + dice.throw(side)) + dice.throw(side);
+    PlaceId::of(number).unwrap()
 }
 
 /// A vehicle on duty.
-pub fn vehicle(dice: &mut Dice, id: u32) -> Result<Vehicle, Fail> {
-    let open = 300 + dice.throw(100);
-    let opens = minute(open)?;
-    let closes = minute(open + 300 + dice.throw(500))?;
-    if closes < opens {
-        return Err(Fail::new("closed before it opens"));
-    }
-    Ok(Vehicle {
-        id: VehicleId::of(id).ok_or("id")?,
-        from_day: Day::of(20_000).ok_or("day")?,
+pub fn vehicle(dice: &mut Dice, id: u32) -> Vehicle
+    requires { 1 ≤ id }
+{
+    let opens = 300 + dice.throw(100);
+    let closes = opens + 300 + dice.throw(500);
+    Vehicle {
+        id: VehicleId::of(id).unwrap(),
+        from_day: Day::of(20_000).unwrap(),
         days: Weekdays::all(),
-        depot: PlaceId::of(DEPOT).ok_or("depot")?,
+        depot: PlaceId::of(20_020).unwrap(),
         capacity: 3,
         chairs: dice.throw(3) as u16,
-        opens,
-        closes,
+        opens: Minute::of(opens).unwrap(),
+        closes: Minute::of(closes).unwrap(),
         duration: (250 + dice.throw(500)) as u16,
-    })
+    }
 }
 
 /// A rider alone or with another person, one time in three in a wheelchair.
@@ -56,31 +69,35 @@ pub fn party(dice: &mut Dice) -> Load {
 }
 
 /// A trip with its pickup at about the minute `about`.
-pub fn asked(dice: &mut Dice, trip: u32, about: u32) -> Result<Asked, Fail> {
+pub fn asked(dice: &mut Dice, shape: Shape, trip: u32, about: u32) -> Asked
+    requires { 1 ≤ trip }
+{
     let lo = about.min(1_000) + dice.throw(60);
-    Ok(Asked {
-        trip: TripId::of(trip).ok_or("trip")?,
-        origin: place(dice)?,
-        goal: place(dice)?,
-        lo: minute(lo)?,
-        hi: minute(lo + 30 + dice.throw(120))?,
-        latest: minute(lo + 150 + dice.throw(400))?,
+    Asked {
+        trip: TripId::of(trip).unwrap(),
+        origin: place(dice, shape.side, shape.away),
+        goal: place(dice, shape.side, shape.away),
+        lo: minute(lo),
+        hi: minute(lo + 30 + dice.throw(120)),
+        latest: minute(lo + 150 + dice.throw(400)),
         service: dice.throw(4) as u16,
         ride: (30 + dice.throw(90)) as u16,
         load: party(dice),
-    })
+    }
 }
 
-/// Up to four trips, one after the other or one within the other.
-pub fn route(alloc: Global, dice: &mut Dice, first: u32) -> Result<Route, Fail> {
+/// The stops of some trips, one after the other or one within the other.
+fn stops(alloc: Global, dice: &mut Dice, shape: Shape, first: u32) -> Result<Vec<Stop>, AllocError>
+    requires { 1 ≤ first }
+{
     let mut stops = Vec::new(alloc);
     let mut riding: Option<Asked> = None;
     let mut about = 330;
-    let last = first.saturating_add(dice.throw(5));
-    for trip in first..last {
-        let next = asked(dice, trip, about)?;
+    let trips = dice.throw(shape.trips.min(29) + 1);
+    for trip in first..first.saturating_add(trips) {
+        let next = asked(dice, shape, trip, about);
         stops.push(next.pickup_stop())?;
-        about = about.saturating_add(60).min(900);
+        about = about.saturating_add(shape.apart).min(900);
         if let Some(other) = riding {
             stops.push(other.drop_stop())?;
         }
@@ -93,5 +110,13 @@ pub fn route(alloc: Global, dice: &mut Dice, first: u32) -> Result<Route, Fail> 
     if let Some(other) = riding {
         stops.push(other.drop_stop())?;
     }
+    Ok(stops)
+}
+
+/// A route of some trips, the first of them with this number.
+pub fn route(alloc: Global, dice: &mut Dice, shape: Shape, first: u32) -> Result<Route, Fail>
+    requires { 1 ≤ first }
+{
+    let stops = stops(alloc, dice, shape, first)?;
     Ok(Route::of(stops).ok_or("not in pairs")?)
 }

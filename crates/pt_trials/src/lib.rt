@@ -4,6 +4,8 @@
 #![tactic(auto)]
 
 #[cfg(test)]
+mod asking;
+#[cfg(test)]
 mod audits;
 #[cfg(test)]
 mod case_files;
@@ -19,6 +21,8 @@ mod insertion;
 mod instances;
 #[cfg(test)]
 mod logs;
+#[cfg(test)]
+mod numbers;
 #[cfg(test)]
 mod places;
 #[cfg(test)]

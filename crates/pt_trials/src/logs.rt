@@ -1,17 +1,28 @@
+//! Random logs of refusals, as they are written and with a line changed, by `check` and by the plain evaluation.
+ghost use Rattle.std.specs.Prelude.{◌≤◌, length};
+
+use crate::asking::is_right;
 use crate::dice::Dice;
-use crate::instances::{asked, route, vehicle};
+use crate::instances::{Shape, asked, route, vehicle};
 use crate::plain;
 use crate::times::Plain;
-use pt_audit::{End, Line, Log, Raise, check, read_log};
+use pt_audit::{End, Line, Log, Raise, read_log};
 use pt_insertion::{Asked, Duty, are_rising, are_without, best};
 use pt_insertion_log::explain;
-use std::alloc::Global;
+use std::alloc::{AllocError, Global};
 use std::test::Fail;
 
 const SEED: u64 = 20_261_122;
 
 /// How many refusals are looked at.
 const REFUSALS: u32 = 300;
+
+const SHAPE: Shape = Shape {
+    trips: 4,
+    apart: 60,
+    side: 40,
+    away: 100,
+};
 
 /// A log of the refusal; `None` where the trip has a place.
 fn refusal(alloc: Global, duties: &[Duty<'_>], asked: &Asked) -> Result<Option<Log>, Fail> {
@@ -30,11 +41,8 @@ fn refusal(alloc: Global, duties: &[Duty<'_>], asked: &Asked) -> Result<Option<L
 
 /// Whether `check` says what the plain evaluation says.
 fn agrees(alloc: Global, log: &Log, duties: &[Duty<'_>], asked: &Asked) -> Result<bool, Fail> {
-    if !are_without(duties, asked.trip) {
-        return Err(Fail::new("not to be checked"));
-    }
     let right = plain::is_right(alloc, log.lines.as_slice(), duties, asked)?;
-    Ok(check(log, duties, asked, &Plain) == right)
+    Ok(is_right(log, duties, asked)? == right)
 }
 
 /// The line with its last number one higher.
@@ -53,38 +61,49 @@ fn higher(line: Line) -> Line {
     }
 }
 
-/// The log without one line, or with its last number one higher.
-fn changed(alloc: Global, log: &Log, place: usize, leave_out: bool) -> Result<Log, Fail> {
-    let mut lines = Vec::new(alloc);
-    for (k, line) in log.lines.as_slice().iter().enumerate() {
-        if k != place {
-            lines.push(*line)?;
-        } else if !leave_out {
-            lines.push(higher(*line))?;
-        }
+/// The log without the line at a place.
+fn shortened(alloc: Global, log: &Log, place: usize) -> Result<Log, AllocError> {
+    let mut lines = Vec::from_slice(alloc, log.lines.as_slice())?;
+    if place < lines.len() {
+        lines.remove(place);
     }
     Ok(Log { lines })
 }
 
-/// The log with its first two cases exchanged.
-fn exchanged(alloc: Global, log: &Log) -> Result<Log, Fail> {
-    let mut first = Vec::new(alloc);
-    let mut second = Vec::new(alloc);
-    let mut later = Vec::new(alloc);
-    let mut cases = 0u32;
-    for line in log.lines.as_slice() {
-        if let Line::Case(..) = line {
-            cases = cases.saturating_add(1);
-        }
-        match cases {
-            0 | 1 => first.push(*line)?,
-            2 => second.push(*line)?,
-            _ => later.push(*line)?,
+/// The log with the last number of the line at a place one higher.
+fn raised(alloc: Global, log: &Log, place: usize) -> Result<Log, AllocError> {
+    let mut lines = Vec::from_slice(alloc, log.lines.as_slice())?;
+    if let Some(line) = lines.get_mut(place) {
+        *line = higher(*line);
+    }
+    Ok(Log { lines })
+}
+
+/// Where the second case begins; the end where there is none.
+fn second_case(lines: &[Line]) -> usize
+    ensures { result ≤ length lines.now }
+{
+    let mut is_first_past = false;
+    for k in 0..lines.len() {
+        if let Line::Case(..) = lines[k] {
+            if is_first_past {
+                return k;
+            }
+            is_first_past = true;
         }
     }
-    second.extend_from_slice(&first)?;
-    second.extend_from_slice(&later)?;
-    Ok(Log { lines: second })
+    lines.len()
+}
+
+/// The log with its first two cases exchanged.
+fn exchanged(alloc: Global, log: &Log) -> Result<Log, AllocError> {
+    let lines = log.lines.as_slice();
+    let (first, others) = lines.split_at(second_case(lines));
+    let (second, later) = others.split_at(second_case(others));
+    let mut lines = Vec::from_slice(alloc, second)?;
+    lines.extend_from_slice(first)?;
+    lines.extend_from_slice(later)?;
+    Ok(Log { lines })
 }
 
 /// Whether the log is right, and changed ones are judged as the plain evaluation judges them.
@@ -95,48 +114,50 @@ fn holds(
     duties: &[Duty<'_>],
     asked: &Asked,
 ) -> Result<bool, Fail> {
-    if !are_without(duties, asked.trip) {
-        return Err(Fail::new("not to be checked"));
-    }
-    let place = dice.throw(1_000) as usize % (log.lines.len().max(1));
+    let place = dice.throw(1_000) as usize % log.lines.len().max(1);
     Ok(
-        check(log, duties, asked, &Plain)
+        is_right(log, duties, asked)?
             && agrees(alloc, log, duties, asked)?
-            && agrees(alloc, &changed(alloc, log, place, true)?, duties, asked)?
-            && agrees(alloc, &changed(alloc, log, place, false)?, duties, asked)?
+            && agrees(alloc, &shortened(alloc, log, place)?, duties, asked)?
+            && agrees(alloc, &raised(alloc, log, place)?, duties, asked)?
             && agrees(alloc, &exchanged(alloc, log)?, duties, asked)?,
     )
 }
 
+/// Whether a random trip is refused in two random routes and, if it is, whether logs of that hold.
+fn try_refusal(alloc: Global, dice: &mut Dice) -> Result<Option<bool>, Fail> {
+    let (one, other) = (vehicle(dice, 1), vehicle(dice, 2));
+    let first = route(alloc, dice, SHAPE, 1)?;
+    let second = route(alloc, dice, SHAPE, 11)?;
+    let duties = [
+        Duty {
+            vehicle: &one,
+            route: &first,
+        },
+        Duty {
+            vehicle: &other,
+            route: &second,
+        },
+    ];
+    let about = 200 + dice.throw(900);
+    let trip = asked(dice, SHAPE, 99, about);
+    match refusal(alloc, &duties, &trip)? {
+        Some(log) => Ok(Some(holds(alloc, dice, &log, &duties, &trip)?)),
+        None => Ok(None),
+    }
+}
+
 #[test]
 fn logs_are_right_and_wrong_as_they_should(rt: HostRuntime) -> Result<(), Fail> {
-    let alloc = rt.alloc();
     let mut dice = Dice { state: SEED };
     let mut refusals = 0u32;
     for _ in 0..5_000 {
         if refusals == REFUSALS {
             break;
         }
-        let (one, other) = (vehicle(&mut dice, 1)?, vehicle(&mut dice, 2)?);
-        let (first, second) = (route(alloc, &mut dice, 1)?, route(alloc, &mut dice, 11)?);
-        let duties = [
-            Duty {
-                vehicle: &one,
-                route: &first,
-            },
-            Duty {
-                vehicle: &other,
-                route: &second,
-            },
-        ];
-        let about = 200 + dice.throw(900);
-        let trip = asked(&mut dice, 99, about)?;
-        if let Some(log) = refusal(alloc, &duties, &trip)? {
+        if let Some(holds) = try_refusal(rt.alloc(), &mut dice)? {
             refusals = refusals.saturating_add(1);
-            assert!(rt;
-                holds(alloc, &mut dice, &log, &duties, &trip)?,
-                "in refusal {refusals}"
-            );
+            assert!(rt; holds, "in refusal {refusals}");
         }
     }
     assert_eq!(rt; refusals, REFUSALS);

@@ -1,21 +1,15 @@
 //! The best places of trips in small routes, as examples.
-ghost use Rattle.std.specs.Prelude.{IsTrue};
+ghost use Rattle.std.specs.Prelude.{◌≤◌, IsTrue};
 
-use crate::four_places::{A, AWAY, B, C, DEPOT, asked, empty, seated, vehicle};
-use crate::times::Plain;
-use pt_base::Load;
+use crate::asking::choose;
+use crate::four_places::Place::{A, Away, B, C, Depot};
+use crate::four_places::{asked, empty, seated, vehicle};
+use pt_base::{Load, Vehicle};
 use pt_feasible::{MAX_STOPS, Route, Stops};
-use pt_insertion::{Asked, Chosen, Duty, RouteEdits, are_rising, are_without, best};
+use pt_insertion::{Asked, Chosen, Duty, RouteEdits};
 use std::alloc::Global;
+use std::process::Abort;
 use std::test::Fail;
-
-/// The best place, where it may be asked for.
-fn choose(duties: &[Duty<'_>], asked: &Asked) -> Result<Option<Chosen>, Fail> {
-    if !are_rising(duties) || !are_without(duties, asked.trip) {
-        return Err(Fail::new("not to be asked"));
-    }
-    Ok(best(duties, asked, &Plain))
-}
 
 /// The route with the trip at the chosen place, where it may be put there.
 fn insert(alloc: Global, route: &Route, asked: &Asked, chosen: &Chosen) -> Result<Route, Fail> {
@@ -29,89 +23,82 @@ fn insert(alloc: Global, route: &Route, asked: &Asked, chosen: &Chosen) -> Resul
     Ok(route.inserted(alloc, asked, chosen)?)
 }
 
-/// The route with the trip from A to B and its promised window.
-fn a_to_b(alloc: Global) -> Result<Route, Fail> {
-    let promised = asked(1, (A, B), (485, 515), seated(1))?;
-    let stops = vec![in alloc; promised.pickup_stop(), promised.drop_stop()]?;
+/// The route with one trip.
+fn route_of(alloc: Global, trip: &Asked) -> Result<Route, Fail> {
+    let stops = vec![in alloc; trip.pickup_stop(), trip.drop_stop()]?;
     Ok(Route::of(stops).ok_or("no route")?)
+}
+
+/// The best place of a trip that has one.
+fn place_of(duties: &[Duty<'_>], asked: &Asked) -> Result<Chosen, Fail> {
+    Ok(choose(duties, asked)?.ok_or("no place")?)
 }
 
 #[test]
 fn takes_an_empty_route(rt: HostRuntime) -> Result<(), Fail> {
-    let vehicle = vehicle(4, 1020)?;
-    let route = empty(rt.alloc())?;
-    let wished = asked(1, (A, B), (480, 600), seated(1))?;
-    let chosen = choose(
-        &[Duty {
-            vehicle: &vehicle,
-            route: &route,
-        }],
-        &wished,
-    )?
-    .ok_or("none")?;
+    let vehicle = vehicle(4, 1020);
+    let route = empty(rt.alloc());
+    let duties = [Duty {
+        vehicle: &vehicle,
+        route: &route,
+    }];
+    let chosen = place_of(&duties, &asked(1, (A, B), (480, 600), seated(1)))?;
     assert_eq!(rt;
         (chosen.vehicle.number(), chosen.i, chosen.j, chosen.added),
         (1, 0, 0, 90)
     );
     assert_eq!(rt; chosen.schedule.as_slice(), [480, 500, 532, 574].as_slice());
 
-    let promised = asked(1, (A, B), (485, 515), seated(1))?;
-    let route = insert(rt.alloc(), &route, &promised, &chosen)?;
+    let promised = asked(1, (A, B), (485, 515), seated(1));
+    let longer = insert(rt.alloc(), &route, &promised, &chosen)?;
+    assert_goes(&rt, &longer, &promised);
+    Ok(())
+}
+
+/// Asserts that the route has the stops of the trip, and no other.
+fn assert_goes(rt: &impl Abort, route: &Route, trip: &Asked) {
     assert_eq!(rt; route.len(), 2);
-    if route.len() == 2 {
-        assert_eq!(rt; route.stop(0), promised.pickup_stop());
-        assert_eq!(rt; route.stop(1), promised.drop_stop());
+    assert_eq!(rt; route.stop(0), trip.pickup_stop());
+    assert_eq!(rt; route.stop(1), trip.drop_stop());
+}
+
+#[test]
+fn takes_the_place_with_the_least_added_driving(rt: HostRuntime) -> Result<(), Fail> {
+    let vehicle = vehicle(4, 1020);
+    let route = route_of(rt.alloc(), &asked(1, (A, B), (485, 515), seated(1)))?;
+    let duties = [Duty {
+        vehicle: &vehicle,
+        route: &route,
+    }];
+    for (window, place, times) in [
+        ((535, 655), (1, 1, 5), [480, 512, 535, 562, 564, 606]),
+        ((560, 680), (2, 2, 50), [480, 500, 532, 560, 587, 629]),
+    ] {
+        let chosen = place_of(&duties, &asked(2, (C, B), window, seated(1)))?;
+        assert_eq!(rt; (chosen.i, chosen.j, chosen.added), place);
+        assert_eq!(rt; chosen.schedule.as_slice(), times.as_slice());
     }
     Ok(())
 }
 
 #[test]
-fn takes_the_place_with_the_least_added_driving(rt: HostRuntime) -> Result<(), Fail> {
-    let vehicle = vehicle(4, 1020)?;
-    let route = a_to_b(rt.alloc())?;
-    let duties = [Duty {
-        vehicle: &vehicle,
-        route: &route,
-    }];
-    let within = choose(&duties, &asked(2, (C, B), (535, 655), seated(1))?)?.ok_or("within")?;
-    assert_eq!(rt; (within.i, within.j, within.added), (1, 1, 5));
-    assert_eq!(rt;
-        within.schedule.as_slice(),
-        [480, 512, 535, 562, 564, 606].as_slice()
-    );
-    let after = choose(&duties, &asked(2, (C, B), (560, 680), seated(1))?)?.ok_or("after")?;
-    assert_eq!(rt; (after.i, after.j, after.added), (2, 2, 50));
-    assert_eq!(rt;
-        after.schedule.as_slice(),
-        [480, 500, 532, 560, 587, 629].as_slice()
-    );
-    Ok(())
-}
-
-#[test]
 fn takes_nobody_where_nothing_is_possible(rt: HostRuntime) -> Result<(), Fail> {
-    let one_seat = vehicle(1, 1020)?;
-    let route = empty(rt.alloc())?;
+    let one_seat = vehicle(1, 1020);
+    let route = empty(rt.alloc());
     let duties = [Duty {
         vehicle: &one_seat,
         route: &route,
     }];
-    assert_eq!(rt;
-        choose(&duties, &asked(1, (A, B), (480, 600), seated(1))?)?.is_some(),
-        true
-    );
-    assert_eq!(rt;
-        choose(&duties, &asked(1, (A, B), (480, 600), seated(2))?)?.is_none(),
-        true
-    );
-    assert_eq!(rt;
-        choose(&duties, &asked(1, (A, AWAY), (480, 600), seated(1))?)?.is_none(),
-        true
-    );
-    assert_eq!(rt;
-        choose(&[], &asked(1, (A, B), (480, 600), seated(1))?)?.is_none(),
-        true
-    );
+    for (goal, persons, is_possible) in [(B, 1, true), (B, 2, false), (Away, 1, false)] {
+        let wished = asked(1, (A, goal), (480, 600), seated(persons));
+        assert_eq!(rt;
+            choose(&duties, &wished)?.is_some(),
+            is_possible,
+            "{persons} persons"
+        );
+    }
+    let wished = asked(1, (A, B), (480, 600), seated(1));
+    assert_eq!(rt; choose(&[], &wished)?.is_some(), false);
     Ok(())
 }
 
@@ -124,13 +111,13 @@ const WHEELCHAIR: Load = Load {
 /// Where a vehicle with this many wheelchair places, in which one rider in a wheelchair goes from A to B, takes a
 /// second one from C to B: the places of the stops, what they add, and when the pickup begins.
 fn second_wheelchair(route: &Route, chairs: u16) -> Result<Option<(usize, usize, u32, u16)>, Fail> {
-    let mut vehicle = vehicle(4, 1020)?;
+    let mut vehicle = vehicle(4, 1020);
     vehicle.chairs = chairs.min(10);
     let duties = [Duty {
         vehicle: &vehicle,
         route,
     }];
-    let second = asked(2, (C, B), (535, 655), WHEELCHAIR)?;
+    let second = asked(2, (C, B), (535, 655), WHEELCHAIR);
     Ok(choose(&duties, &second)?.map(|chosen| {
         let times = chosen.schedule.as_slice();
         let begins = times.get(chosen.i.saturating_add(1)).copied();
@@ -140,37 +127,38 @@ fn second_wheelchair(route: &Route, chairs: u16) -> Result<Option<(usize, usize,
 
 #[test]
 fn takes_as_many_wheelchairs_as_it_has_places_for(rt: HostRuntime) -> Result<(), Fail> {
-    let promised = asked(1, (A, B), (485, 515), WHEELCHAIR)?;
-    let stops = vec![in rt.alloc(); promised.pickup_stop(), promised.drop_stop()]?;
-    let route = Route::of(stops).ok_or("no route")?;
-    for (chairs, taken) in [
-        (0, None),
-        (1, Some((2, 2, 50, 559))),
-        (2, Some((1, 1, 5, 535))),
-    ] {
-        assert_eq!(rt;
-            second_wheelchair(&route, chairs)?,
-            taken,
-            "with {chairs} wheelchair places"
-        );
-    }
+    let route = route_of(rt.alloc(), &asked(1, (A, B), (485, 515), WHEELCHAIR))?;
+    assert_eq!(rt; second_wheelchair(&route, 0)?, None);
+    assert_eq!(rt; second_wheelchair(&route, 1)?, Some((2, 2, 50, 559)));
+    assert_eq!(rt; second_wheelchair(&route, 2)?, Some((1, 1, 5, 535)));
     Ok(())
+}
+
+/// The route with one more trip, which stays at the depot, where it has a place.
+fn with_stay(
+    alloc: Global,
+    vehicle: &Vehicle,
+    route: &Route,
+    trip: u32,
+) -> Result<Option<Route>, Fail>
+    requires { 1 ≤ trip }
+{
+    let mut wished = asked(trip, (Depot, Depot), (540, 660), seated(1));
+    wished.service = 0;
+    wished.ride = 0;
+    match choose(&[Duty { vehicle, route }], &wished)? {
+        Some(chosen) => Ok(Some(insert(alloc, route, &wished, &chosen)?)),
+        None => Ok(None),
+    }
 }
 
 #[test]
 fn takes_fifty_trips_and_no_more(rt: HostRuntime) -> Result<(), Fail> {
-    let vehicle = vehicle(30, 1020)?;
-    let mut route = empty(rt.alloc())?;
+    let vehicle = vehicle(30, 1020);
+    let mut route = empty(rt.alloc());
     for trip in 1..52 {
-        let mut wished = asked(trip, (DEPOT, DEPOT), (540, 660), seated(1))?;
-        wished.service = 0;
-        wished.ride = 0;
-        let duties = [Duty {
-            vehicle: &vehicle,
-            route: &route,
-        }];
-        match choose(&duties, &wished)? {
-            Some(chosen) => route = insert(rt.alloc(), &route, &wished, &chosen)?,
+        match with_stay(rt.alloc(), &vehicle, &route, trip)? {
+            Some(longer) => route = longer,
             None => assert_eq!(rt; trip, 51),
         }
     }

@@ -2,11 +2,10 @@
 use crate::times::Plain;
 use pt_audit::{End, Line, Raise, Visit};
 use pt_base::Vehicle;
-use pt_feasible::{MAX_STOPS, Stop, StopKind, Stops};
+use pt_feasible::{MAX_STOPS, Route, Stop, StopKind, Stops};
 use pt_insertion::{Asked, Duty};
 use pt_travel::Times;
-use std::alloc::Global;
-use std::test::Fail;
+use std::alloc::{AllocError, Global};
 
 /// Whether the lines are a right log.
 pub fn is_right(
@@ -14,53 +13,60 @@ pub fn is_right(
     lines: &[Line],
     duties: &[Duty<'_>],
     asked: &Asked,
-) -> Result<bool, Fail> {
+) -> Result<bool, AllocError> {
     if let [Line::NoDirect] = lines {
         return Ok(Plain.minutes(asked.origin, asked.goal).is_none());
     }
     let mut at = 0;
     for duty in duties {
-        for i in 0..duty.route.len().min(MAX_STOPS) + 1 {
-            for j in i..duty.route.len().min(MAX_STOPS) + 1 {
-                let id = duty.vehicle.id.number();
-                if lines.get(at) != Some(&Line::Case(id, i as u32, j as u32)) {
-                    return Ok(false);
-                }
-                let stops = stops_with(alloc, duty, asked, i, j)?;
-                match case_end(alloc, lines, at, duty.vehicle, &stops)? {
-                    Some(end) => at = end,
-                    None => return Ok(false),
-                }
-            }
+        match duty_end(alloc, lines, at, duty, asked)? {
+            Some(end) => at = end,
+            None => return Ok(false),
         }
     }
     Ok(at == lines.len())
 }
 
-/// The route's stops with the trip put in.
-fn stops_with(
+/// Where the cases of a vehicle end whose first line is at `begin`, if they are right.
+fn duty_end(
     alloc: Global,
+    lines: &[Line],
+    begin: usize,
     duty: &Duty<'_>,
+    asked: &Asked,
+) -> Result<Option<usize>, AllocError> {
+    let mut at = begin;
+    let id = duty.vehicle.id.number();
+    let last = duty.route.len().min(MAX_STOPS);
+    for i in 0..last + 1 {
+        for j in i..last + 1 {
+            if lines.get(at) != Some(&Line::Case(id, i as u32, j as u32)) {
+                return Ok(None);
+            }
+            let stops = stops_with(alloc, duty.route, asked, i, j)?;
+            match case_end(alloc, lines, at.saturating_add(1), duty.vehicle, &stops)? {
+                Some(end) => at = end,
+                None => return Ok(None),
+            }
+        }
+    }
+    Ok(Some(at))
+}
+
+/// The route's stops with the trip put in.
+pub fn stops_with(
+    alloc: Global,
+    route: &Route,
     asked: &Asked,
     i: usize,
     j: usize,
-) -> Result<Vec<Stop>, Fail> {
+) -> Result<Vec<Stop>, AllocError> {
     let mut stops = Vec::new(alloc);
-    for k in 0..duty.route.len() {
-        if k == i {
-            stops.push(asked.pickup_stop())?;
-        }
-        if k == j {
-            stops.push(asked.drop_stop())?;
-        }
-        stops.push(duty.route.stop(k))?;
+    for k in 0..route.len() {
+        stops.push(route.stop(k))?;
     }
-    if i == duty.route.len() {
-        stops.push(asked.pickup_stop())?;
-    }
-    if j == duty.route.len() {
-        stops.push(asked.drop_stop())?;
-    }
+    stops.insert(j.min(stops.len()), asked.drop_stop())?;
+    stops.insert(i.min(stops.len()), asked.pickup_stop())?;
     Ok(stops)
 }
 
@@ -75,7 +81,7 @@ fn depot_visit(vehicle: &Vehicle) -> Visit {
 }
 
 /// Depot, stops, depot.
-fn visits_of(alloc: Global, vehicle: &Vehicle, stops: &[Stop]) -> Result<Vec<Visit>, Fail> {
+fn visits_of(alloc: Global, vehicle: &Vehicle, stops: &[Stop]) -> Result<Vec<Visit>, AllocError> {
     let mut visits = Vec::new(alloc);
     visits.push(depot_visit(vehicle))?;
     for stop in stops {
@@ -90,39 +96,50 @@ fn visits_of(alloc: Global, vehicle: &Vehicle, stops: &[Stop]) -> Result<Vec<Vis
     Ok(visits)
 }
 
-/// Where the case ends whose first line is at `at`, if it is right.
+/// A vehicle's route with the trip put in.
+#[derive(Clone, Copy)]
+struct Tour<'a> {
+    pub vehicle: &'a Vehicle,
+    pub stops: &'a [Stop],
+    pub visits: &'a [Visit],
+}
+
+/// Where the case ends whose steps begin at `begin`, if it is right.
 fn case_end(
     alloc: Global,
     lines: &[Line],
-    at: usize,
+    begin: usize,
     vehicle: &Vehicle,
     stops: &[Stop],
-) -> Result<Option<usize>, Fail> {
+) -> Result<Option<usize>, AllocError> {
     let visits = visits_of(alloc, vehicle, stops)?;
-    let mut bounds = Vec::new(alloc);
-    for _ in 0..visits.len() {
-        bounds.push(0u64)?;
-    }
-    for place in at.saturating_add(1)..lines.len() {
+    let mut bounds = vec![in alloc; 0u64; visits.len()]?;
+    let tour = Tour {
+        vehicle,
+        stops,
+        visits: &visits,
+    };
+    Ok(steps_end(lines, begin, tour, &mut bounds))
+}
+
+/// Where the steps that begin at `begin` come to an end, if they are right.
+fn steps_end(lines: &[Line], begin: usize, tour: Tour<'_>, bounds: &mut Vec<u64>) -> Option<usize> {
+    for place in begin..lines.len() {
         match lines[place] {
             Line::Raise(raise) => {
-                if !raises(vehicle, stops, &visits, &bounds, raise) {
-                    return Ok(None);
+                if !raises(tour, bounds, raise) {
+                    return None;
                 }
                 let (k, minute) = target(raise);
-                if k < bounds.len() {
-                    bounds[k] = bounds[k].max(minute);
+                if let Some(bound) = bounds.get_mut(k) {
+                    *bound = (*bound).max(minute);
                 }
             }
-            Line::End(end) => {
-                let right = ends(vehicle, stops, &visits, &bounds, end);
-                return Ok(right.then_some(place + 1));
-            }
-            Line::NoDirect => return Ok(None),
-            Line::Case(..) => return Ok(None),
+            Line::End(end) => return ends(tour, bounds, end).then_some(place + 1),
+            Line::NoDirect | Line::Case(..) => return None,
         }
     }
-    Ok(None)
+    None
 }
 
 /// The visit that is raised, and to which minute.
@@ -140,80 +157,75 @@ fn bound_at(bounds: &[u64], k: usize) -> u64 {
 }
 
 /// Whether a raise is right.
-fn raises(
-    vehicle: &Vehicle,
-    stops: &[Stop],
-    visits: &[Visit],
-    bounds: &[u64],
-    raise: Raise,
-) -> bool {
-    let (k, minute) = target(raise);
+fn raises(tour: Tour<'_>, bounds: &[u64], raise: Raise) -> bool {
     match raise {
-        Raise::Window(..) => match visits.get(k) {
-            Some(visit) => minute <= u64::from(visit.lo.number()),
+        Raise::Window(k, minute) => match tour.visits.get(k as usize) {
+            Some(visit) => minute <= visit.lo.number(),
             None => false,
         },
-        Raise::Drive(..) => {
-            if k == 0 || k >= visits.len() {
-                return false;
-            }
-            let (this, next) = (visits[k - 1], visits[k]);
-            match Plain.minutes(this.place, next.place) {
-                Some(drive) => {
-                    let leaves = bound_at(bounds, k - 1).saturating_add(u64::from(this.service));
-                    minute <= leaves.saturating_add(u64::from(drive))
-                }
-                None => false,
-            }
-        }
-        Raise::Ride(..) => {
-            if k == 0 || k > stops.len() || stops[k - 1].kind != StopKind::Pickup {
-                return false;
-            }
-            let pickup = stops[k - 1];
-            let mut latest = None;
-            for j in k..stops.len() {
-                if stops[j].trip == pickup.trip {
-                    latest = Some(bound_at(bounds, j.saturating_add(1)));
-                }
-            }
-            let taken = u64::from(pickup.service).saturating_add(u64::from(pickup.ride));
-            match latest {
-                Some(bound) => minute.saturating_add(taken) <= bound,
-                None => false,
-            }
-        }
-        Raise::Duration(_) => {
+        Raise::Drive(k, minute) => match arrival(tour, bounds, k as usize) {
+            Some(arrival) => u64::from(minute) <= arrival,
+            None => false,
+        },
+        Raise::Ride(k, minute) => is_ride(tour.stops, bounds, k as usize, u64::from(minute)),
+        Raise::Duration(minute) => {
             let last = bounds.last().copied().unwrap_or(0);
-            minute.saturating_add(u64::from(vehicle.duration)) <= last
+            u64::from(minute).saturating_add(u64::from(tour.vehicle.duration)) <= last
         }
     }
 }
 
+/// When the vehicle comes to a visit from the one before; `None` where none is before, or no way.
+fn arrival(tour: Tour<'_>, bounds: &[u64], k: usize) -> Option<u64> {
+    if k == 0 || k >= tour.visits.len() {
+        return None;
+    }
+    let (this, next) = (tour.visits[k - 1], tour.visits[k]);
+    let drive = Plain.minutes(this.place, next.place)?;
+    let leaves = bound_at(bounds, k - 1).saturating_add(u64::from(this.service));
+    Some(leaves.saturating_add(u64::from(drive)))
+}
+
+/// Whether visit `k` is a pickup that is not before a minute, by the bound of its drop.
+fn is_ride(stops: &[Stop], bounds: &[u64], k: usize, minute: u64) -> bool {
+    if k == 0 || k > stops.len() || stops[k - 1].kind != StopKind::Pickup {
+        return false;
+    }
+    let pickup = stops[k - 1];
+    let mut latest = None;
+    for j in k..stops.len() {
+        if stops[j].trip == pickup.trip {
+            latest = Some(bound_at(bounds, j.saturating_add(1)));
+        }
+    }
+    let taken = u64::from(pickup.service).saturating_add(u64::from(pickup.ride));
+    match latest {
+        Some(bound) => minute.saturating_add(taken) <= bound,
+        None => false,
+    }
+}
+
 /// Whether an end is right.
-fn ends(vehicle: &Vehicle, stops: &[Stop], visits: &[Visit], bounds: &[u64], end: End) -> bool {
+fn ends(tour: Tour<'_>, bounds: &[u64], end: End) -> bool {
     match end {
-        End::Late(k) => match visits.get(k as usize) {
+        End::Late(k) => match tour.visits.get(k as usize) {
             Some(visit) => u64::from(visit.hi.number()) < bound_at(bounds, k as usize),
             None => false,
         },
         End::Overloaded(k) => {
-            let (seats, chairs) = aboard(stops, k as usize);
-            let too_many = i64::from(vehicle.capacity) < seats
-                || i64::from(vehicle.chairs) < chairs;
-            k as usize <= stops.len() && too_many
+            let (seats, chairs) = aboard(tour.stops, k as usize);
+            let too_many = i64::from(tour.vehicle.capacity) < seats
+                || i64::from(tour.vehicle.chairs) < chairs;
+            k as usize <= tour.stops.len() && too_many
         }
         End::NoWay(k) => {
-            let (this, next) = (
-                visits.get(k as usize),
-                visits.get((k as usize).saturating_add(1)),
-            );
-            match (this, next) {
+            let k = k as usize;
+            match (tour.visits.get(k), tour.visits.get(k.saturating_add(1))) {
                 (Some(this), Some(next)) => Plain.minutes(this.place, next.place).is_none(),
                 _ => false,
             }
         }
-        End::TooLong => stops.len() > MAX_STOPS,
+        End::TooLong => tour.stops.len() > MAX_STOPS,
     }
 }
 

@@ -1,87 +1,76 @@
 //! The least service times of random routes, by `settle` and by plain repeated raising.
 use crate::dice::Dice;
+use crate::instances::place;
+use crate::numbers::minute;
 use crate::times::Plain;
 use pt_base::{Day, Load, Minute, PlaceId, TripId, Vehicle, VehicleId, Weekdays};
-use pt_feasible::{Route, Stop, StopKind, settle};
+use pt_feasible::{Route, Schedule, Stop, StopKind, settle};
 use pt_travel::Times;
-use std::alloc::Global;
+use std::alloc::{AllocError, Global};
 use std::test::Fail;
 
 const SEED: u64 = 20_250_314;
 
 const CASES: u32 = 500;
 
-pub(crate) fn minute(number: u32) -> Result<Minute, Fail> {
-    Ok(Minute::of(number.min(1439)).ok_or("minute")?)
-}
-
-/// A place of a plain of 40 by 40, and one time in 400 of another plain.
-fn place(dice: &mut Dice) -> Result<PlaceId, Fail> {
-    let away = if dice.throw(400) == 0 { 1_000_000 } else { 0 };
-    let number = away + 1_001 * (1 + dice.throw(40)) + dice.throw(40);
-    Ok(PlaceId::of(number).ok_or("place")?)
-}
-
-fn vehicle(dice: &mut Dice) -> Result<Vehicle, Fail> {
-    let opens = minute(300 + dice.throw(100))?;
-    let closes = minute(600 + dice.throw(600))?;
-    if closes < opens {
-        return Err(Fail::new("closed before it opens"));
-    }
-    Ok(Vehicle {
-        id: VehicleId::of(1).ok_or("id")?,
-        from_day: Day::of(20_000).ok_or("day")?,
+fn vehicle(dice: &mut Dice) -> Vehicle {
+    let opens = 300 + dice.throw(100);
+    let closes = 600 + dice.throw(600);
+    Vehicle {
+        id: VehicleId::of(1).unwrap(),
+        from_day: Day::of(20_000).unwrap(),
         days: Weekdays::all(),
-        depot: PlaceId::of(1_001).ok_or("depot")?,
+        depot: PlaceId::of(1_001).unwrap(),
         capacity: 4,
         chairs: 0,
-        opens,
-        closes,
+        opens: Minute::of(opens).unwrap(),
+        closes: Minute::of(closes).unwrap(),
         duration: (200 + dice.throw(600)) as u16,
-    })
+    }
 }
 
 /// A stop of the trip whose window lies about the minute `about`.
-fn stop(dice: &mut Dice, trip: u32, kind: StopKind, about: u32) -> Result<Stop, Fail> {
+fn stop(dice: &mut Dice, trip: TripId, kind: StopKind, about: u32) -> Stop {
     let lo = about.min(1_000) + dice.throw(60);
     let (lo, hi) = match kind {
         StopKind::Pickup => (lo, lo + 30 + dice.throw(200)),
         StopKind::Drop => (0, lo + 90 + dice.throw(300)),
     };
-    Ok(Stop {
-        trip: TripId::of(trip).ok_or("trip")?,
+    Stop {
+        trip,
         kind,
-        place: place(dice)?,
-        lo: minute(lo)?,
-        hi: minute(hi)?,
-        service: (trip % 4) as u16,
+        place: place(dice, 40, 400),
+        lo: minute(lo),
+        hi: minute(hi),
+        service: (trip.number() % 4) as u16,
         load: Load {
             seats: 1,
             chairs: 0,
         },
-        ride: (40 + trip % 10 * 17) as u16,
-    })
+        ride: (40 + trip.number() % 10 * 17) as u16,
+    }
 }
 
 /// Up to ten trips in a random order of their stops.
-fn stops(alloc: Global, dice: &mut Dice) -> Result<Vec<Stop>, Fail> {
+fn stops(alloc: Global, dice: &mut Dice) -> Result<Vec<Stop>, AllocError> {
     let mut stops = Vec::new(alloc);
     let mut riding = Vec::new(alloc);
     let trips = dice.throw(11);
     let mut about = 330;
-    for trip in 1..trips + 1 {
-        stops.push(stop(dice, trip, StopKind::Pickup, about)?)?;
+    for number in 1..trips + 1 {
+        let trip = TripId::of(number).unwrap();
+        stops.push(stop(dice, trip, StopKind::Pickup, about))?;
         riding.push(trip)?;
         about = about.saturating_add(25).min(1_000);
         if dice.throw(3) > 0 {
             if let Some(done) = riding.pop() {
-                stops.push(stop(dice, done, StopKind::Drop, about)?)?;
+                stops.push(stop(dice, done, StopKind::Drop, about))?;
                 about = about.saturating_add(25).min(1_000);
             }
         }
     }
     for done in riding.iter() {
-        stops.push(stop(dice, *done, StopKind::Drop, about)?)?;
+        stops.push(stop(dice, *done, StopKind::Drop, about))?;
         about = about.saturating_add(25).min(1_000);
     }
     Ok(stops)
@@ -90,7 +79,7 @@ fn stops(alloc: Global, dice: &mut Dice) -> Result<Vec<Stop>, Fail> {
 /// One visit of the second way: the minutes of the drive to it, where there is a way; from when to when; how long.
 #[derive(Clone, Copy)]
 struct Visit {
-    pub drive: Option<u32>,
+    pub drive: Option<u16>,
     pub lo: u32,
     pub hi: u32,
     pub service: u32,
@@ -106,20 +95,20 @@ struct Ride {
 
 fn depot(vehicle: &Vehicle, last: PlaceId) -> Visit {
     Visit {
-        drive: Plain.minutes(last, vehicle.depot).map(u32::from),
+        drive: Plain.minutes(last, vehicle.depot),
         lo: vehicle.opens.number(),
         hi: vehicle.closes.number(),
         service: 0,
     }
 }
 
-fn visits(alloc: Global, stops: &[Stop], vehicle: &Vehicle) -> Result<Vec<Visit>, Fail> {
+fn visits(alloc: Global, stops: &[Stop], vehicle: &Vehicle) -> Result<Vec<Visit>, AllocError> {
     let mut visits = Vec::new(alloc);
     visits.push(depot(vehicle, vehicle.depot))?;
     let mut last = vehicle.depot;
     for stop in stops {
         visits.push(Visit {
-            drive: Plain.minutes(last, stop.place).map(u32::from),
+            drive: Plain.minutes(last, stop.place),
             lo: stop.lo.number(),
             hi: stop.hi.number(),
             service: u32::from(stop.service),
@@ -130,7 +119,7 @@ fn visits(alloc: Global, stops: &[Stop], vehicle: &Vehicle) -> Result<Vec<Visit>
     Ok(visits)
 }
 
-fn rides(alloc: Global, stops: &[Stop]) -> Result<Vec<Ride>, Fail> {
+fn rides(alloc: Global, stops: &[Stop]) -> Result<Vec<Ride>, AllocError> {
     let mut rides = Vec::new(alloc);
     for i in 0..stops.len() {
         for j in i..stops.len() {
@@ -169,7 +158,7 @@ fn raise_by_drives(bounds: &mut Vec<u32>, visits: &[Visit]) -> Option<bool> {
         let this = visits[k - 1];
         let next = bound(bounds, k - 1)
             .saturating_add(this.service)
-            .saturating_add(visits[k].drive?);
+            .saturating_add(u32::from(visits[k].drive?));
         raised |= raise(bounds, k, next);
     }
     Some(raised)
@@ -186,55 +175,69 @@ fn raise_by_rides(bounds: &mut Vec<u32>, rides: &[Ride], duration: u32) -> bool 
     raised | raise(bounds, 0, back.saturating_sub(duration))
 }
 
-/// The least times by raising all bounds again and again, each in any order that comes.
+/// Raises all bounds again and again, each in any order that comes; whether they come to rest, each within its window.
+fn come_to_rest(bounds: &mut Vec<u32>, visits: &[Visit], rides: &[Ride], duration: u32) -> bool {
+    for _ in 0..100_000 {
+        let Some(driven) = raise_by_drives(bounds, visits) else {
+            return false;
+        };
+        let ridden = raise_by_rides(bounds, rides, duration);
+        for (visit, bound) in visits.iter().zip(bounds.iter()) {
+            if visit.hi < *bound {
+                return false;
+            }
+        }
+        if !driven && !ridden {
+            return true;
+        }
+    }
+    false
+}
+
+/// The least times, where some fit.
 fn least_times(
     alloc: Global,
     visits: &[Visit],
     rides: &[Ride],
     duration: u32,
-) -> Result<Option<Vec<u32>>, Fail> {
+) -> Result<Option<Vec<u32>>, AllocError> {
     let mut bounds = Vec::new(alloc);
-    for visit in visits.iter() {
+    for visit in visits {
         bounds.push(visit.lo)?;
     }
-    for _ in 0..100_000 {
-        let Some(driven) = raise_by_drives(&mut bounds, visits) else {
-            return Ok(None);
-        };
-        let ridden = raise_by_rides(&mut bounds, rides, duration);
-        for (visit, bound) in visits.iter().zip(bounds.iter()) {
-            if visit.hi < *bound {
-                return Ok(None);
-            }
-        }
-        if !driven && !ridden {
-            return Ok(Some(bounds));
-        }
-    }
-    Ok(None)
+    let fits = come_to_rest(&mut bounds, visits, rides, duration);
+    Ok(if fits { Some(bounds) } else { None })
 }
 
-fn second_way(alloc: Global, stops: &[Stop], vehicle: &Vehicle) -> Result<Option<Vec<u32>>, Fail> {
+fn second_way(
+    alloc: Global,
+    stops: &[Stop],
+    vehicle: &Vehicle,
+) -> Result<Option<Vec<u32>>, AllocError> {
     let visits = visits(alloc, stops, vehicle)?;
     let rides = rides(alloc, stops)?;
     least_times(alloc, &visits, &rides, u32::from(vehicle.duration))
 }
 
+/// Whether the times are those of the schedule.
+fn same(schedule: &Schedule, times: &[u32]) -> bool {
+    let mut pairs = schedule.as_slice().iter().zip(times.iter());
+    schedule.len() == times.len() && pairs.all(|(a, b)| u32::from(*a) == *b)
+}
+
 /// Whether both ways agree, and whether there are times that fit.
 fn compare(alloc: Global, dice: &mut Dice) -> Result<(bool, bool), Fail> {
-    let vehicle = vehicle(dice)?;
+    let vehicle = vehicle(dice);
     let stops = stops(alloc, dice)?;
     let second = second_way(alloc, &stops, &vehicle)?;
     let route = Route::of(stops).ok_or("not in pairs")?;
-    match (settle(&route, &Plain, &vehicle), second) {
-        (Some(schedule), Some(times)) => {
-            let same = schedule.len() == times.len();
-            let mut pairs = schedule.as_slice().iter().zip(times.iter());
-            Ok((same && pairs.all(|(a, b)| u32::from(*a) == *b), true))
-        }
-        (None, None) => Ok((true, false)),
-        _ => Ok((false, false)),
-    }
+    let schedule = settle(&route, &Plain, &vehicle);
+    let agree = match (&schedule, &second) {
+        (Some(schedule), Some(times)) => same(schedule, times),
+        (None, None) => true,
+        _ => false,
+    };
+    Ok((agree, schedule.is_some()))
 }
 
 #[test]
@@ -242,8 +245,8 @@ fn settles_as_the_second_way_does(rt: HostRuntime) -> Result<(), Fail> {
     let mut dice = Dice { state: SEED };
     let mut fitting = 0;
     for case in 0..CASES {
-        let (same, fits) = compare(rt.alloc(), &mut dice)?;
-        assert_eq!(rt; same, true, "seed {SEED}, case {case}");
+        let (agree, fits) = compare(rt.alloc(), &mut dice)?;
+        assert_eq!(rt; agree, true, "seed {SEED}, case {case}");
         if fits && fitting < CASES {
             fitting += 1;
         }

@@ -21,12 +21,24 @@ fn rows(alloc: Global, given: &[(u32, u32, u16)]) -> Result<Vec<Row>, AllocError
 // The places 1, 2 and so on.
 fn places(alloc: Global, count: u32) -> Result<Vec<PlaceId>, AllocError> {
     let mut places = Vec::new(alloc);
-    for number in 0..count {
-        if let Some(place) = PlaceId::of(number.saturating_add(1)) {
-            places.push(place)?;
-        }
+    for number in 1..count.saturating_add(1) {
+        places.push(PlaceId::of(number).unwrap())?;
     }
     Ok(places)
+}
+
+// A row from each of the places 1, 2 and so on to itself.
+fn stays(alloc: Global, count: u32) -> Result<Vec<Row>, AllocError> {
+    let mut rows = Vec::new(alloc);
+    for number in 1..count.saturating_add(1) {
+        let place = PlaceId::of(number).unwrap();
+        rows.push((place, place, 1))?;
+    }
+    Ok(rows)
+}
+
+fn is_table(rows: Vec<Row>) -> bool {
+    Raw::of(rows).is_some()
 }
 
 // The driving time by a table of these rows.
@@ -36,14 +48,13 @@ fn time(
     from: u32,
     to: u32,
 ) -> Result<Option<u16>, Fault> {
-    let Some(raw) = Raw::of(rows(alloc, given)?) else {
-        return Ok(None);
-    };
-    let closed = Closed::of(alloc, &raw)?;
     let (Some(from), Some(to)) = (PlaceId::of(from), PlaceId::of(to)) else {
         return Ok(None);
     };
-    Ok(closed.minutes(from, to))
+    let Some(raw) = Raw::of(rows(alloc, given)?) else {
+        return Ok(None);
+    };
+    Ok(Closed::of(alloc, &raw)?.minutes(from, to))
 }
 
 #[test]
@@ -83,31 +94,22 @@ fn the_time_is_that_of_the_least_chain(rt: HostRuntime) -> Result<(), Fail> {
 
 #[test]
 fn rows_rise_and_lie_within_a_day(rt: HostRuntime) -> Result<(), Fail> {
-    for (first, second, is_table) in [
-        ((1, 2, 10), (1, 2, 10), false),
-        ((2, 1, 10), (1, 2, 10), false),
-        ((1, 2, 10), (2, 1, 1440), false),
-        ((1, 2, 10), (2, 1, 1439), true),
+    for (given, expected) in [
+        ([(1, 2, 10), (1, 2, 10)], false),
+        ([(2, 1, 10), (1, 2, 10)], false),
+        ([(1, 2, 10), (2, 1, 1440)], false),
+        ([(1, 2, 10), (2, 1, 1439)], true),
     ] {
-        let raw = Raw::of(rows(rt.alloc(), &[first, second])?);
-        assert_eq!(rt; raw.is_some(), is_table, "{first:?} {second:?}");
+        let rows = rows(rt.alloc(), &given)?;
+        assert_eq!(rt; is_table(rows), expected, "{given:?}");
     }
     Ok(())
 }
 
 #[test]
 fn rows_name_at_most_100_places(rt: HostRuntime) -> Result<(), Fail> {
-    let alloc = rt.alloc();
-    let mut hundred = Vec::new(alloc);
-    for place in places(alloc, 100)? {
-        hundred.push((place, place, 1))?;
-    }
-    let mut more = rows(alloc, &[])?;
-    for place in places(alloc, 101)? {
-        more.push((place, place, 1))?;
-    }
-    assert_eq!(rt; Raw::of(hundred).is_some(), true);
-    assert_eq!(rt; Raw::of(more).is_some(), false);
+    assert_eq!(rt; is_table(stays(rt.alloc(), 100)?), true);
+    assert_eq!(rt; is_table(stays(rt.alloc(), 101)?), false);
     Ok(())
 }
 

@@ -15,14 +15,15 @@ const FAR: u32 = 1_000_000;
 // A table in order: each pair of places has a row by one chance in three.
 fn table(alloc: Global, dice: &mut Dice) -> Result<Vec<Row>, AllocError> {
     let mut rows = Vec::new(alloc);
-    for from in 1..=PLACES {
-        for to in 1..=PLACES {
-            if dice.throw(3) > 0 {
-                continue;
-            }
-            let minutes = dice.throw(700) as u16;
-            if let (Some(from), Some(to)) = (PlaceId::of(from), PlaceId::of(to)) {
-                rows.push((from, to, minutes))?;
+    for from in 1..PLACES + 1 {
+        for to in 1..PLACES + 1 {
+            if dice.throw(3) == 0 {
+                let minutes = dice.throw(700) as u16;
+                rows.push((
+                    PlaceId::of(from).unwrap(),
+                    PlaceId::of(to).unwrap(),
+                    minutes,
+                ))?;
             }
         }
     }
@@ -47,29 +48,31 @@ fn least_from(rows: &[Row], start: u32) -> [u32; 16] {
 }
 
 // The first pair of places at which the two ways differ.
+fn first_difference(raw: &Raw, closed: &Closed) -> Option<(u32, u32)> {
+    for from in 1..PLACES + 1 {
+        let least = least_from(raw.rows(), from);
+        for to in 1..PLACES + 1 {
+            let total = least[(to % 16) as usize];
+            let expected = if total <= 1439 {
+                Some(total as u16)
+            } else {
+                None
+            };
+            let answered = closed.minutes(PlaceId::of(from).unwrap(), PlaceId::of(to).unwrap());
+            if answered != expected {
+                return Some((from, to));
+            }
+        }
+    }
+    None
+}
+
 fn difference(alloc: Global, rows: Vec<Row>) -> Result<Option<(u32, u32)>, Fault> {
     let Some(raw) = Raw::of(rows) else {
         return Ok(Some((0, 0)));
     };
     let closed = Closed::of(alloc, &raw)?;
-    for from in 1..=PLACES {
-        let least = least_from(raw.rows(), from);
-        for to in 1..=PLACES {
-            let (Some(a), Some(b)) = (PlaceId::of(from), PlaceId::of(to)) else {
-                continue;
-            };
-            let total = least[(to % 16) as usize];
-            let expected = if total <= 1439 { Some(total) } else { None };
-            let answered = match closed.minutes(a, b) {
-                Some(minutes) => Some(u32::from(minutes)),
-                None => None,
-            };
-            if answered != expected {
-                return Ok(Some((from, to)));
-            }
-        }
-    }
-    Ok(None)
+    Ok(first_difference(&raw, &closed))
 }
 
 #[test]

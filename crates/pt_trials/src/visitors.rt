@@ -3,14 +3,18 @@ ghost use Rattle.std.specs.Prelude.{◌≡◌, true};
 ghost use Rattle.std.specs.List.Sorted.{IsStrictlyIncreasing};
 
 use crate::dice::Dice;
+use crate::numbers::day;
 use pt_base::Day;
 use pt_visitors::visitor_may;
-use std::alloc::Global;
+use std::alloc::{AllocError, Global};
 use std::test::Fail;
 
 const SEED: u64 = 49;
 
 const SETS: u32 = 1_000;
+
+/// 2025-01-01.
+const FIRST_DAY: u32 = 20_089;
 
 fn are_rising(uses: &[Day]) -> bool
     ensures { result ≡ true → IsStrictlyIncreasing uses.now }
@@ -57,12 +61,12 @@ fn may_by_chain(uses: &[Day], day: Day) -> bool {
 }
 
 /// Sixty days of use, each one to thirty days after the one before.
-fn random_uses(alloc: Global, dice: &mut Dice) -> Result<Vec<Day>, Fail> {
+fn random_uses(alloc: Global, dice: &mut Dice) -> Result<Vec<Day>, AllocError> {
     let mut uses = Vec::new(alloc);
-    let mut last = Day::parse("2025-01-01")?;
+    let mut last = FIRST_DAY;
     for _ in 0..60 {
-        last = last.plus((dice.throw(30) + 1) as u16).ok_or("a day")?;
-        uses.push(last)?;
+        last = last.saturating_add(1 + dice.throw(30));
+        uses.push(day(last))?;
     }
     Ok(uses)
 }
@@ -73,11 +77,8 @@ fn random_days_agree_with_the_chain(rt: HostRuntime) -> Result<(), Fail> {
     let mut allowed = 0u32;
     for set in 0..SETS {
         let uses = random_uses(rt.alloc(), &mut dice)?;
-        let day = Day::parse("2025-01-01")?;
-        let day = day.plus(dice.throw(1_000) as u16).ok_or("a day")?;
-        if !are_rising(&uses) {
-            return Err(Fail::new("uses that do not rise"));
-        }
+        let day = day(FIRST_DAY + dice.throw(1_000));
+        assert!(rt; are_rising(&uses), "set {set}");
         let may = visitor_may(&uses, day);
         assert_eq!(rt; may, may_by_chain(&uses, day), "set {set}");
         if may {

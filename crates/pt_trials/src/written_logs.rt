@@ -1,5 +1,6 @@
 //! Logs of refusals as they are written, as examples.
-use crate::four_places::{A, AWAY, B, asked, empty, seated, vehicle};
+use crate::four_places::Place::{A, Away, B};
+use crate::four_places::{asked, empty, seated, vehicle};
 use crate::times::Plain;
 use pt_base::Fault;
 use pt_base::fault::WRITE_FAILED;
@@ -25,28 +26,24 @@ fn refuse<W: Write>(
 
 #[test]
 fn explains_refusals(rt: HostRuntime) -> Result<(), Fail> {
-    // closing, capacity, goal, lines
-    let rows: [(u32, u16, u32, &str); 3] = [
+    let to_b = asked(1, (A, B), (480, 600), seated(2));
+    let away = asked(1, (A, Away), (480, 600), seated(2));
+    let route = empty(rt.alloc());
+    for (vehicle, asked, text) in [
         (
-            490,
-            4,
-            B,
-            "CASE 1 0 0\nF 0 480\nA 1 500\nA 2 532\nA 3 574\nW 3\n",
+            vehicle(4, 490),
+            to_b,
+            "AUDIT 1\nCASE 1 0 0\nF 0 480\nA 1 500\nA 2 532\nA 3 574\nW 3\nDONE\n",
         ),
-        (1020, 1, B, "CASE 1 0 0\nL 1\n"),
-        (1020, 4, AWAY, "NODIRECT\n"),
-    ];
-    let route = empty(rt.alloc())?;
-    for (closes, capacity, goal, lines) in rows {
-        let vehicle = vehicle(capacity, closes)?;
+        (vehicle(1, 1020), to_b, "AUDIT 1\nCASE 1 0 0\nL 1\nDONE\n"),
+        (vehicle(4, 1020), away, "AUDIT 1\nNODIRECT\nDONE\n"),
+    ] {
         let duties = [Duty {
             vehicle: &vehicle,
             route: &route,
         }];
-        let asked = asked(1, (A, goal), (480, 600), seated(2))?;
         let mut out = Vec::new(rt.alloc());
         refuse(&duties, &asked, &mut out)??;
-        let text = format!(in rt.alloc(); "AUDIT 1\n{lines}DONE\n")?;
         assert_eq!(rt; out.as_slice(), text.as_bytes());
     }
     Ok(())
@@ -68,7 +65,7 @@ impl Write for Full {
 
 #[test]
 fn tells_a_write_that_failed(rt: HostRuntime) -> Result<(), Fail> {
-    let fault = refuse(&[], &asked(1, (A, B), (480, 600), seated(2))?, &mut Full)?;
+    let fault = refuse(&[], &asked(1, (A, B), (480, 600), seated(2)), &mut Full)?;
     assert_eq!(rt; fault, Err(Fault::of(WRITE_FAILED)));
     Ok(())
 }
