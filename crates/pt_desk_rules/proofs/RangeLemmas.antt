@@ -1,7 +1,7 @@
 -- Records keep to their ranges: in a sound state, and after a change whose puts do.
 use Rattle.std.proofs.Common.{◌≡◌, ℕ, not, List, [], ◌∷◌, ◌++◌, Option, None, Some, sym, subst}
 use Rattle.std.specs.Option.{unwrap_or}
-use Rattle.std.specs.Prelude.{IfSome, filter}
+use Rattle.std.specs.Prelude.{IfSome}
 use Rattle.pt_records.specs.Records.{Each, Edit, edited, is_within, put, put_all, take_all, take_away}
 use Rattle.pt_records.specs.declared.span.Span.{Span}
 use Rattle.pt_records.proofs.OrderLemmas.{Each-put, Each-weaker}

@@ -592,7 +592,7 @@ pub change_trip : (found : Option Trip) (wish : Wish) (s : State) → (change_fa
 change_trip None wish s = refl
 change_trip (Some trip) wish s = refl
 
-cancel_trip : (found : Option Trip) (s : State) → (cancel_facts found s).booking.trip ≡ found
+pub cancel_trip : (found : Option Trip) (s : State) → (cancel_facts found s).booking.trip ≡ found
 cancel_trip None s = refl
 cancel_trip (Some trip) s = refl
 

@@ -10,6 +10,7 @@ use Rattle.pt_base.specs.declared.trip.Wish.{Wish}
 use Rattle.pt_base.specs.declared.moment.Moment.{Moment}
 use Rattle.pt_requests.specs.declared.sheets.DaySheet.{DaySheet}
 use Rattle.pt_requests.specs.declared.sheets.VehicleSheet.{VehicleSheet}
+use Rattle.pt_records.specs.Records.{Edit}
 use Rattle.pt_rights.specs.Rules.{first_failing}
 use Rattle.pt_rights.specs.Standing.{standing_of}
 use Rattle.pt_rights.specs.Suspension.{is_suspended}
@@ -51,11 +52,15 @@ abbrev pub kept_by : ℕ → Sent → KeptReply → Kept
 kept_by caller sent reply =
     record { caller = caller; number = sent.number; request = sent.request; reply = reply }
 
+-- what is put of the write once it is told this
+abbrev pub kept_of : ℕ → Sent → Answer → Edit Kept
+kept_of caller sent told = puts_one (kept_by caller sent (unwrap_or (reply_of told) reply.Done))
+
 -- the decision with what is kept of the write: an accepted one is kept with what it is told
 abbrev pub with_kept : ℕ → Sent → Decision → Decision
 with_kept caller sent (Denied first) = Denied first
 with_kept caller sent (Accepted told change) =
-    Accepted told (record change { kept = puts_one (kept_by caller sent (unwrap_or (reply_of told) reply.Done)) })
+    Accepted told (record change { kept = kept_of caller sent told })
 
 abbrev pub no_change : Change
 no_change = record {

@@ -40,7 +40,7 @@ pub struct Change {
 
 impl Change {
     /// No change.
-    pub(crate) fn none(alloc: Global) -> Self
+    pub fn none(alloc: Global) -> Self
         ensures value { result ≡ no_change }
     {
         Change {

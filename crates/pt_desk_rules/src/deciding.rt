@@ -1,6 +1,6 @@
 ghost use Rattle.std.specs.Prelude.{◌≡◌, Some, IfOk};
 ghost use Rattle.pt_base.specs.Day.{IsDay};
-ghost use Rattle.pt_desk_rules.specs.Deciding.{no_change, with_kept, IsReady, IsDecidedBy, IsDecision, PutsInRangeIf};
+ghost use Rattle.pt_desk_rules.specs.Deciding.{kept_of, no_change, with_kept, IsReady, IsDecidedBy, IsDecision, PutsInRangeIf};
 ghost use Rattle.pt_desk_rules.specs.declared.deciding.Decision.TheVariants.{Accepted};
 ghost use Rattle.pt_requests.specs.declared.request.Answer.TheVariants.{Done};
 ghost use Rattle.pt_requests.specs.declared.request.Write.TheVariants.{Enter};
@@ -11,11 +11,12 @@ use crate::change::{one, replacing};
 use crate::outcomes::decide_outcome;
 use crate::ranges::puts_in_range;
 use crate::{
-    Answer, Caller, Change, FiledEntry, KeptReply, Sent, TravelTable, Write, WriteFacts, denial,
+    Answer, Caller, Change, FiledEntry, Kept, KeptReply, Sent, TravelTable, Write, WriteFacts,
+    denial,
 };
 use pt_base::{CallerId, Day, Moment, Place, Policy, Rider, RiderId, Rule, Vehicle};
 use pt_corridor::FixedRoute;
-use pt_records::{Key, Span};
+use pt_records::{Edits, Key, Span};
 use pt_rights::{Entered, Entry};
 use pt_travel::Raw;
 use std::alloc::{AllocError, Global};
@@ -202,6 +203,19 @@ fn decide_by(
     }
 }
 
+/// What is kept of the write once it is told this.
+fn kept_of(
+    alloc: Global,
+    answer: &Answer,
+    me: CallerId,
+    sent: Sent,
+) -> Result<Edits<Kept>, AllocError>
+    ensures { IfOk result (λ kept. kept ≡ kept_of me sent answer.now) }
+{
+    let reply = KeptReply::of(answer).unwrap_or(KeptReply::Done);
+    one(alloc, sent.kept(me, reply))
+}
+
 /// The decision with what is kept of the write, if it is accepted.
 fn with_kept(
     alloc: Global,
@@ -213,10 +227,12 @@ fn with_kept(
 {
     match made {
         Decision::Denied(rule) => Ok(Decision::Denied(rule)),
-        Decision::Accepted { answer, mut change } => {
-            let reply = KeptReply::of(&answer).unwrap_or(KeptReply::Done);
-            change.kept = one(alloc, sent.kept(me, reply))?;
-            Ok(Decision::Accepted { answer, change })
+        Decision::Accepted { answer, change } => {
+            let kept = kept_of(alloc, &answer, me, sent)?;
+            Ok(Decision::Accepted {
+                answer,
+                change: Change { kept, ..change },
+            })
         }
     }
 }
