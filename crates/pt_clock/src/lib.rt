@@ -4,5 +4,3 @@
 pub use local_time::{moment_of, now_in};
 
 mod local_time;
-#[cfg(test)]
-mod tests;

@@ -5,11 +5,5 @@ pub use exchanging::{answer_bytes, exchange};
 pub use reading::bytes_spell_one_message;
 
 mod exchanging;
-#[cfg(test)]
-mod faults_tests;
-#[cfg(test)]
-mod memory_tests;
 mod reading;
 mod received;
-#[cfg(test)]
-mod tests;

@@ -6,5 +6,3 @@ pub use inbox::{Inbox, LONGEST_BODY, MOST_READS};
 
 mod head;
 mod inbox;
-#[cfg(test)]
-mod tests;

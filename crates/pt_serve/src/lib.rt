@@ -10,5 +10,3 @@ mod bounded;
 mod connection;
 mod listening;
 mod serving;
-#[cfg(test)]
-mod tests;

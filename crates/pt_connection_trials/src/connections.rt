@@ -1,7 +1,9 @@
-use crate::{Waits, answer_in_time, serve_one};
+//! Connections within bounds on time.
+use crate::requests::{DONE, PUT_CLERK, eight_in_the_morning, has_clerk};
+use pt_base::Fault;
 use pt_base::fault::{READ_FAILED, WRITE_FAILED};
-use pt_base::{CallerId, Day, Fault, Minute, Moment};
-use pt_desk::{Keeper, ListKeeper};
+use pt_desk::ListKeeper;
+use pt_serve::{Waits, answer_in_time, serve_one};
 use std::alloc::Global;
 use std::cell::{Cell, RefCell};
 use std::io;
@@ -10,31 +12,6 @@ use std::net::{Ipv4Addr, TcpListener, TcpStream};
 use std::process::Abort;
 use std::test::Fail;
 use std::time::{Clock, Duration};
-
-/// The admin `abc` puts the clerk `hello`.
-const PUT_CLERK: &str =
-    "POST /callers HTTP/1.1\r\nDesk-Key: abc\r\nDesk-Number: 1\r\nContent-Length: 111\r\n\r\n\
-    {\"id\":2,\"role\":\"clerk\",\"subject\":0,\
-    \"digest\":\"2cf24dba5fb0a30e26e83b2ac5b9e29e1b161e5c1fa7425e73043362938b9824\"}";
-
-/// The reply to a write that is done.
-const DONE: &str =
-    "HTTP/1.1 200 OK\r\nContent-Type: application/json\r\nContent-Length: 13\r\nConnection: close\r\n\r\n\
-    {\"done\":true}";
-
-fn eight_in_the_morning(rt: &impl Abort) -> Moment {
-    let day = Day::parse("2025-02-17").expect(rt, "a day");
-    Moment {
-        day,
-        minute: Minute::of(480).unwrap(),
-    }
-}
-
-/// Whether the clerk has been put.
-fn has_clerk(rt: &impl Abort, keeper: &mut ListKeeper) -> bool {
-    let clerk = keeper.caller(CallerId::of(2).unwrap());
-    clerk.expect(rt, "callers").is_some()
-}
 
 /// What a stream is asked to do. Waits are in seconds.
 #[derive(Clone, Copy, Debug, PartialEq, Eq)]
@@ -244,19 +221,28 @@ fn each_read_and_each_write_is_told_how_long_it_may_wait(rt: HostRuntime) {
     }
 }
 
+/// What comes of the one request of a connection to a new desk, and whether it has the clerk then.
+fn served<R: Abort + Clock>(
+    rt: &R,
+    alloc: Global,
+    stream: &TcpStream,
+) -> (Result<(), Fault>, bool) {
+    let mut keeper = ListKeeper::new(alloc, b"abc").expect(rt, "memory");
+    let told = serve_one(rt, alloc, &mut keeper, eight_in_the_morning(rt), stream);
+    (told, has_clerk(rt, &mut keeper))
+}
+
 #[test]
 fn a_client_gets_the_whole_reply(rt: HostRuntime) -> Result<(), Fail> {
     let listener = TcpListener::bind(&rt, (Ipv4Addr::LOCALHOST, 0))?;
     let mut client = TcpStream::connect(&rt, listener.local_addr()?)?;
     client.write_all(PUT_CLERK.as_bytes())?;
     let (stream, _peer) = listener.accept()?;
-    let mut keeper = ListKeeper::new(rt.alloc(), b"abc").expect(&rt, "memory");
-    let now = eight_in_the_morning(&rt);
-    let told = serve_one(&rt, rt.alloc(), &mut keeper, now, &stream);
+    let (told, is_put) = served(&rt, rt.alloc(), &stream);
     drop(stream);
     let mut reply = Vec::new(rt.alloc());
     client.read_to_end(&mut reply)?;
     assert_eq!(rt; (told, reply.as_slice()), (Ok(()), DONE.as_bytes()));
-    assert!(rt; has_clerk(&rt, &mut keeper));
+    assert!(rt; is_put);
     Ok(())
 }

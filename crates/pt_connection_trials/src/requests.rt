@@ -1,6 +1,6 @@
-use pt_base::{Day, Minute, Moment};
-use std::io;
-use std::io::{ErrorKind, Read};
+//! A few requests, and what is told of them.
+use pt_base::{CallerId, Day, Minute, Moment};
+use pt_desk::{Keeper, ListKeeper};
 use std::process::Abort;
 
 /// The admin `abc` puts the clerk `hello`.
@@ -20,27 +20,6 @@ pub(crate) const COMPLETE: &str =
 pub(crate) const STANDING: &str =
     "GET /riders/7/standing/2025-03-14 HTTP/1.1\r\nDesk-Key: hello\r\nContent-Length: 0\r\n\r\n";
 
-/// Gives its bytes in pieces of one size, and then ends or fails.
-#[derive(Drop)]
-pub(crate) struct Pieces<'b> {
-    pub rest: &'b [u8],
-    pub size: usize,
-    pub fails: bool,
-}
-
-impl Read for Pieces<'_> {
-    fn read(&mut self, buf: &mut [u8]) -> io::Result<usize> {
-        let count = self.size.min(buf.len()).min(self.rest.len());
-        if count == 0 && self.fails {
-            return Err(ErrorKind::ConnectionReset.into());
-        }
-        let (piece, rest) = self.rest.split_at(count);
-        buf[..count].copy_from_slice(piece);
-        self.rest = rest;
-        Ok(count)
-    }
-}
-
 /// The reply to a write that is done.
 pub(crate) const DONE: &str =
     "HTTP/1.1 200 OK\r\nContent-Type: application/json\r\nContent-Length: 13\r\nConnection: close\r\n\r\n\
@@ -52,4 +31,10 @@ pub(crate) fn eight_in_the_morning(rt: &impl Abort) -> Moment {
         day,
         minute: Minute::of(480).unwrap(),
     }
+}
+
+/// Whether the clerk has been put.
+pub(crate) fn has_clerk(rt: &impl Abort, keeper: &mut ListKeeper) -> bool {
+    let clerk = keeper.caller(CallerId::of(2).unwrap());
+    clerk.expect(rt, "callers").is_some()
 }

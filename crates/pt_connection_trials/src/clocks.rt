@@ -1,7 +1,8 @@
-use crate::{moment_of, now_in};
+//! What the clocks of zones show.
 use jiff::Timestamp;
 use pt_base::fault::{DATE_OUT_OF_RANGE, NO_SUCH_ZONE};
 use pt_base::{Day, Fault, Minute, Moment};
+use pt_clock::{moment_of, now_in};
 use std::test::Fail;
 
 const EASTERN: &str = "EST5EDT,M3.2.0,M11.1.0";

@@ -1,10 +1,11 @@
-use crate::answer_bytes;
-use crate::tests::{COMPLETE, PUT_CLERK, PUT_RIDER, STANDING, eight_in_the_morning};
+//! Memory that is refused while a request is answered.
+use crate::requests::{COMPLETE, PUT_CLERK, PUT_RIDER, STANDING, eight_in_the_morning};
 use arrayvec::ArrayVec;
 use pt_base::fault::MEMORY;
 use pt_base::{CallerId, Fault, Moment, TripId};
 use pt_desk::{Keeper, ListKeeper, Write};
 use pt_desk_rules::Arrival;
+use pt_http::answer_bytes;
 use pt_http_inbox::Inbox;
 use pt_spelling::spell;
 use std::alloc::{AllocError, Global};

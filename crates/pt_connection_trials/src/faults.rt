@@ -1,13 +1,35 @@
-use crate::answer_bytes;
-use crate::tests::{DONE, PUT_CLERK, Pieces, eight_in_the_morning};
+//! Readers and writers that fail at each byte.
+use crate::requests::{DONE, PUT_CLERK, eight_in_the_morning, has_clerk};
+use pt_base::Fault;
 use pt_base::fault::{READ_FAILED, WRITE_FAILED};
-use pt_base::{CallerId, Fault};
-use pt_desk::{Keeper, ListKeeper};
+use pt_desk::ListKeeper;
+use pt_http::answer_bytes;
 use pt_http_inbox::Inbox;
 use std::alloc::Global;
 use std::io;
 use std::io::{ErrorKind, Read, Write};
 use std::process::Abort;
+
+/// Gives its bytes in pieces of one size, and then ends or fails.
+#[derive(Drop)]
+struct Pieces<'b> {
+    rest: &'b [u8],
+    size: usize,
+    fails: bool,
+}
+
+impl Read for Pieces<'_> {
+    fn read(&mut self, buf: &mut [u8]) -> io::Result<usize> {
+        let count = self.size.min(buf.len()).min(self.rest.len());
+        if count == 0 && self.fails {
+            return Err(ErrorKind::ConnectionReset.into());
+        }
+        let (piece, rest) = self.rest.split_at(count);
+        buf[..count].copy_from_slice(piece);
+        self.rest = rest;
+        Ok(count)
+    }
+}
 
 /// Takes so many bytes and then fails, or fails to see them off.
 #[derive(Drop)]
@@ -34,12 +56,6 @@ impl Write for Narrow {
         }
         Ok(())
     }
-}
-
-/// Whether the clerk has been put.
-fn has_clerk(rt: &impl Abort, keeper: &mut ListKeeper) -> bool {
-    let clerk = keeper.caller(CallerId::of(2).unwrap());
-    clerk.expect(rt, "callers").is_some()
 }
 
 /// What is told of one request from a reader, answered to a writer.

@@ -1,6 +1,7 @@
-use crate::{Inbox, MOST_READS};
+//! Readers that give a byte a read, are interrupted, and fail.
 use pt_base::Fault;
 use pt_base::fault::READ_FAILED;
+use pt_http_inbox::{Inbox, MOST_READS};
 use std::alloc::{AllocError, Global};
 use std::collections::VecDeque;
 use std::io;
