@@ -31,7 +31,7 @@ use Rattle.pt_desk_rules.specs.Sound.{DrivesIn, HasDepot, HasFiledRider, HasPlac
 use Rattle.pt_desk_rules.specs.State.{rider_key, trip_key, vehicle_key}
 use Rattle.pt_desk_rules.specs.Travel.{DatedTable, table_on}
 use Rattle.pt_desk_rules.specs.declared.change.FiledEntry.{FiledEntry}
-use Rattle.pt_soundness.specs.Unsound.{AreSoundEntries, AreSoundPlans, AreSoundRiders, AreSoundTables, AreSoundTrips, AreSoundVehicles, HasDriven, HasRider, has_driven, has_rider}
+use Rattle.pt_soundness.specs.Tables.{AreSoundEntries, AreSoundPlans, AreSoundRiders, AreSoundTables, AreSoundTrips, AreSoundVehicles, HasDriven, HasRider, has_driven, has_rider}
 use Rattle.pt_soundness.proofs.PairedLemmas.{BothOrNone, Paired, any_paired, at_paired, each_paired, filter_paired, found_paired, length_paired, order_paired, other_there, some_paired, there_paired}
 
 abbrev pub AlikeRider : Rider → Rider → Type 0

@@ -12,7 +12,7 @@ use Rattle.pt_desk_rules.specs.Sound.{AreNumberedFrom, IsSoundFile}
 use Rattle.pt_desk_rules.specs.State.{entry_key, entries_of, span_of}
 use Rattle.pt_desk_rules.specs.declared.change.FiledEntry.{FiledEntry}
 use Rattle.pt_soundness.specs.Files.{next_position, IsAt}
-use Rattle.pt_soundness.specs.Unsound.{AreSoundFiles}
+use Rattle.pt_soundness.specs.Tables.{AreSoundFiles}
 use Rattle.pt_soundness.proofs.EachLemmas.{next_from}
 
 abbrev pub AreFiledFrom : ℕ → ℕ → List FiledEntry → Type 0

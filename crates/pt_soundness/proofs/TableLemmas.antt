@@ -1,5 +1,5 @@
 -- A state is sound where each of its tables is.
-use Rattle.std.proofs.Common.{IsTrue, List, refl}
+use Rattle.std.proofs.Common.{ℕ, zero, suc, ◌≤◌, IsTrue, List, [], ◌∷◌, take, refl, arith}
 use Rattle.pt_base.specs.declared.rider.Rider.{Rider}
 use Rattle.pt_base.specs.declared.vehicle.Vehicle.{Vehicle}
 use Rattle.pt_records.specs.Records.{Each}
@@ -10,8 +10,7 @@ use Rattle.pt_desk_rules.specs.Facts.{has_subject}
 use Rattle.pt_desk_rules.specs.Sound.{HasFirstDay, HasSubject, IsSound}
 use Rattle.pt_desk_rules.specs.State.{State}
 use Rattle.pt_scheduling.specs.Plan.{IsRoutePlan}
-use Rattle.pt_soundness.specs.Unsound.{has_driven, has_rider, HasDriven, HasRider}
-use Rattle.pt_soundness.specs.Tables.{IsSoundIn, IsSoundTo, KeepsLinesIn, KeepsRangesIn}
+use Rattle.pt_soundness.specs.Tables.{has_driven, has_rider, HasDriven, HasRider, IsSoundIn, IsSoundTo, KeepsLinesIn, KeepsRangesIn, all_tables, table_count}
 use Rattle.pt_spelling.specs.Ranges.{IsVehicle}
 use Rattle.pt_desk_rules.specs.Ranges.{KeepsRanges}
 use Rattle.pt_soundness.specs.declared.unsound_table.UnsoundTable.{UnsoundTable}
@@ -109,50 +108,15 @@ lines_in s sound table.TripChairs = sound.planned_load
 pub sound_in : (s : State) → IsSound s → (t : UnsoundTable) → IsSoundIn s t
 sound_in s sound t = (ranges_in s sound.ranges t, lines_in s sound t)
 
--- and the first so many tables of a sound state are
-pub sound_to : (s : State) → IsSound s → IsSoundTo 14 s
-sound_to s sound = (
-  sound_in s sound table.Desk,
-  (
-    sound_in s sound table.Callers,
-    (
-      sound_in s sound table.Kept,
-      (
-        sound_in s sound table.Places,
-        (
-          sound_in s sound table.Fixed,
-          (
-            sound_in s sound table.Vehicles,
-            (
-              sound_in s sound table.Riders,
-              (
-                sound_in s sound table.Entries,
-                (
-                  sound_in s sound table.Trips,
-                  (
-                    sound_in s sound table.Stops,
-                    (
-                      sound_in s sound table.Travel,
-                      (
-                        sound_in s sound table.RiderChairs,
-                        (
-                          sound_in s sound table.VehicleChairs,
-                          (sound_in s sound table.TripChairs, tt),
-                        ),
-                      ),
-                    ),
-                  ),
-                ),
-              ),
-            ),
-          ),
-        ),
-      ),
-    ),
-  ),
-)
+-- what holds of each table holds of these
+pub each_table : (P : UnsoundTable → Type 0) → ((t : UnsoundTable) → P t) → (ts : List UnsoundTable) → Each P ts
+each_table P all [] = tt
+each_table P all (t ∷ ts) = (all t, each_table P all ts)
 
-pub sound_of : (s : State) → IsSoundTo 14 s → IsSound s
+pub sound_to : (s : State) → IsSound s → IsSoundTo table_count s
+sound_to s sound = each_table (IsSoundIn s) (sound_in s sound) all_tables
+
+pub sound_of : (s : State) → IsSoundTo table_count s → IsSound s
 sound_of s each =
     let desk : IsSoundIn s table.Desk = each.0 in
     let callers : IsSoundIn s table.Callers = each.1.0 in
@@ -224,32 +188,13 @@ days_to s each = let vehicles : IsSoundIn s table.Vehicles = each.1.1.1.1.1.0 in
 pub routes_to : (s : State) → IsSoundTo 10 s → Each IsRoutePlan s.planned
 routes_to s each = let plans : IsSoundIn s table.Stops = each.1.1.1.1.1.1.1.1.1.0 in plans.1.routes
 
+-- what holds of the first so many holds of fewer
+fewer : {A : Type 0} (P : A → Type 0) (m n : ℕ) (xs : List A) → m ≤ n → Each P (take n xs) → Each P (take m xs)
+fewer P zero n [] le each = tt
+fewer P zero n (x ∷ xs) le each = tt
+fewer P (suc m) n [] le each = tt
+fewer P (suc m) zero (x ∷ xs) le each = absurd (omega arith)
+fewer P (suc m) (suc n) (x ∷ xs) le each = (each.0, fewer P m n xs (omega arith) each.1)
+
 pub first_ten : (s : State) → IsSoundTo 13 s → IsSoundTo 10 s
-first_ten s each = (
-  each.0,
-  (
-    each.1.0,
-    (
-      each.1.1.0,
-      (
-        each.1.1.1.0,
-        (
-          each.1.1.1.1.0,
-          (
-            each.1.1.1.1.1.0,
-            (
-              each.1.1.1.1.1.1.0,
-              (
-                each.1.1.1.1.1.1.1.0,
-                (
-                  each.1.1.1.1.1.1.1.1.0,
-                  (each.1.1.1.1.1.1.1.1.1.0, tt),
-                ),
-              ),
-            ),
-          ),
-        ),
-      ),
-    ),
-  ),
-)
+first_ten s each = fewer (IsSoundIn s) 10 13 all_tables (omega arith) each

@@ -1,4 +1,3 @@
-pub mod Unsound
 pub mod Files
 pub mod Pairs
 pub mod Tables

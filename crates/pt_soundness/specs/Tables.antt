@@ -1,14 +1,105 @@
--- The tables of the database, and what a sound state keeps in each.
-use Rattle.std.specs.Prelude.{ℕ, ◌-◌, List, [], ◌∷◌, take}
+-- The tables of the database, and what a sound state keeps in each: beside the ranges of its records each line stands with
+-- the greatest of the tables that it speaks of.
+use Rattle.std.specs.Prelude.{ℕ, Bool, true, IsTrue, List, is_some, ◌-◌, [], ◌∷◌, take}
+use Rattle.pt_base.specs.declared.place.Place.{Place}
+use Rattle.pt_base.specs.declared.rider.Rider.{Rider}
+use Rattle.pt_base.specs.declared.trip.Trip.{Trip}
+use Rattle.pt_base.specs.declared.vehicle.Vehicle.{Vehicle}
+use Rattle.pt_corridor.specs.Route.{Route}
+use Rattle.pt_records.specs.Records.{Each, IsInOrder, IsTable, record_at}
+use Rattle.pt_requests.specs.declared.caller.Caller.{Caller}
+use Rattle.pt_requests.specs.declared.caller.Role.{Role}
+use Rattle.pt_requests.specs.declared.caller.Role.TheVariants as role
+use Rattle.pt_scheduling.specs.Plan.{Plan, plan_key, IsRoutePlan}
+use Rattle.pt_desk_rules.specs.Fleet.{has_version}
+use Rattle.pt_desk_rules.specs.Limits.{most_callers, most_places, most_routes, most_riders, most_tables}
+use Rattle.pt_desk_rules.specs.Sound.{HasOneHolder, IsKeptWrite, IsOfCaller, HasFiledRider, HasAuthor, IsSoundFile}
+use Rattle.pt_desk_rules.specs.Sound.{HasDepot, IsFleet, IsOfPlaces, IsNumberedTo, IsOfRider, HasPlaces}
+use Rattle.pt_desk_rules.specs.Sound.{HasStandingTrips, HasStops, DrivesIn, LoadsFitIn, IsPlanned}
+use Rattle.pt_desk_rules.specs.State.{caller_key, kept_key, place_key, route_key, rider_key, entry_key, vehicle_key}
+use Rattle.pt_desk_rules.specs.State.{travel_key, trip_key, entries_of, State}
+use Rattle.pt_desk_rules.specs.Travel.{DatedTable}
+use Rattle.pt_desk_rules.specs.declared.kept.Kept.{Kept}
+use Rattle.pt_desk_rules.specs.declared.change.FiledEntry.{FiledEntry}
 use Rattle.pt_desk_rules.specs.Ranges.{FitsFiled, FitsKept, FitsPlace, FitsPlan, FitsRider, FitsTravel, FitsTrip}
-use Rattle.pt_desk_rules.specs.State.{State}
-use Rattle.pt_records.specs.Records.{Each}
 use Rattle.pt_spelling.specs.Ranges.{IsCaller, IsRoute, IsVehicle, IsWord}
-use Rattle.pt_soundness.specs.Unsound.{AreSoundCallers, AreSoundKept, AreSoundPlaces, AreSoundRoutes, AreSoundVehicles}
-use Rattle.pt_soundness.specs.Unsound.{AreSoundRiders, AreSoundEntries, AreSoundTrips, AreSoundPlans, AreSoundTables}
-use Rattle.pt_soundness.specs.Unsound.{AreSoundLoads}
 use Rattle.pt_soundness.specs.declared.unsound_table.UnsoundTable.{UnsoundTable}
 use Rattle.pt_soundness.specs.declared.unsound_table.UnsoundTable.TheVariants as table
+
+-- the vehicle is there of which a role speaks, if it speaks of one
+abbrev pub has_driven : Role → List Vehicle → Bool
+has_driven (role.Driver vehicle) vehicles = has_version vehicle vehicles
+has_driven _ vehicles = true
+
+-- and so is the rider
+abbrev pub has_rider : Role → List Rider → Bool
+has_rider (role.Rider rider) riders = is_some (record_at rider_key rider riders)
+has_rider _ riders = true
+
+abbrev pub HasDriven : List Vehicle → Caller → Type 0
+HasDriven vehicles caller = IsTrue (has_driven caller.role vehicles)
+
+abbrev pub HasRider : List Rider → Caller → Type 0
+HasRider riders caller = IsTrue (has_rider caller.role riders)
+
+pub record AreSoundCallers (callers : List Caller) : Type 0 where
+  pub table : IsTable caller_key most_callers callers
+  pub one_holder_each : Each (HasOneHolder callers) callers
+
+pub record AreSoundKept (callers : List Caller) (kept : List Kept) : Type 0 where
+  pub in_order : IsInOrder kept_key kept
+  pub of_callers : Each (IsOfCaller callers) kept
+  pub writes : Each IsKeptWrite kept
+
+abbrev pub AreSoundPlaces : List Place → Type 0
+AreSoundPlaces places = IsTable place_key most_places places
+
+abbrev pub AreSoundRoutes : List Route → Type 0
+AreSoundRoutes routes = IsTable route_key most_routes routes
+
+pub record AreSoundVehicles (callers : List Caller) (places : List Place) (vehicles : List Vehicle) : Type 0 where
+  pub in_order : IsInOrder vehicle_key vehicles
+  pub depots_there : Each (HasDepot places) vehicles
+  pub fleet : IsFleet vehicles
+  pub driven_there : Each (HasDriven vehicles) callers
+
+pub record AreSoundRiders (callers : List Caller) (riders : List Rider) : Type 0 where
+  pub table : IsTable rider_key most_riders riders
+  pub riders_there : Each (HasRider riders) callers
+
+-- each rider's file is sound
+abbrev pub AreSoundFiles : List FiledEntry → Type 0
+AreSoundFiles entries = (rider : ℕ) → IsSoundFile (entries_of rider entries)
+
+pub record AreSoundEntries (callers : List Caller) (riders : List Rider) (entries : List FiledEntry) : Type 0 where
+  pub in_order : IsInOrder entry_key entries
+  pub of_riders : Each (HasFiledRider riders) entries
+  pub authors_there : Each (HasAuthor callers) entries
+  pub files : AreSoundFiles entries
+
+pub record AreSoundTrips (places : List Place) (riders : List Rider) (last : ℕ) (trips : List Trip) : Type 0 where
+  pub in_order : IsInOrder trip_key trips
+  pub numbered : Each (IsNumberedTo last) trips
+  pub of_riders : Each (IsOfRider riders) trips
+  pub places_there : Each (HasPlaces places) trips
+
+pub record AreSoundPlans (trips : List Trip) (plans : List Plan) : Type 0 where
+  pub in_order : IsInOrder plan_key plans
+  pub routes : Each IsRoutePlan plans
+  pub trips_stand : Each (HasStandingTrips trips) plans
+  pub have_stops : Each HasStops plans
+  pub standing_planned : Each (IsPlanned plans) trips
+
+-- the travel tables, and that by their times the vehicles can drive what is planned for them
+pub record AreSoundTables (places : List Place) (vehicles : List Vehicle) (trips : List Trip) (plans : List Plan)
+    (travel : List DatedTable) : Type 0 where
+  pub table : IsTable travel_key most_tables travel
+  pub of_places : Each (IsOfPlaces places) travel
+  pub drive : Each (DrivesIn vehicles travel trips) plans
+
+-- what takes the last tables too, the wheelchair places and who takes them: that the vehicles have room for all aboard
+abbrev pub AreSoundLoads : List Vehicle → List Trip → List Plan → Type 0
+AreSoundLoads vehicles trips plans = Each (LoadsFitIn vehicles trips) plans
 
 abbrev pub table_count : ℕ
 table_count = 14

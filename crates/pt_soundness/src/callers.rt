@@ -1,7 +1,7 @@
 ghost use Rattle.std.specs.Prelude.{◌≡◌, ◌↔◌, IsTrue};
 ghost use Rattle.pt_records.specs.Records.{Each};
 ghost use Rattle.pt_desk_rules.specs.Sound.{HasOneHolder};
-ghost use Rattle.pt_soundness.specs.Unsound.{AreSoundCallers};
+ghost use Rattle.pt_soundness.specs.Tables.{AreSoundCallers};
 
 use pt_desk_rules::{Caller, MOST_CALLERS};
 use pt_records::Table;

@@ -1,7 +1,7 @@
 ghost use Rattle.std.specs.Prelude.{◌↔◌, IsTrue};
 ghost use Rattle.pt_desk_rules.specs.Sound.{HasAuthor, HasFiledRider};
 ghost use Rattle.pt_records.specs.Records.{Each};
-ghost use Rattle.pt_soundness.specs.Unsound.{AreSoundEntries};
+ghost use Rattle.pt_soundness.specs.Tables.{AreSoundEntries};
 
 use crate::files::are_sound_files;
 use pt_base::Rider;

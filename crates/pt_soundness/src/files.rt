@@ -2,7 +2,7 @@ ghost use Rattle.std.specs.Prelude.{◌≡◌, ◌↔◌, IsTrue};
 ghost use Rattle.pt_desk_rules.specs.State.{entry_key};
 ghost use Rattle.pt_records.specs.Records.{IsInOrder};
 ghost use Rattle.pt_soundness.specs.Files.{next_position, IsAt};
-ghost use Rattle.pt_soundness.specs.Unsound.{AreSoundFiles};
+ghost use Rattle.pt_soundness.specs.Tables.{AreSoundFiles};
 
 use pt_desk_rules::FiledEntry;
 use pt_rights::MOST_ENTRIES;

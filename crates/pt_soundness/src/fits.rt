@@ -7,7 +7,7 @@ ghost use Rattle.pt_desk_rules.specs.Travel.{table_on};
 ghost use Rattle.pt_feasible.specs.Route.{stops_of};
 ghost use Rattle.pt_records.specs.Records.{Each};
 ghost use Rattle.pt_scheduling.specs.Plan.{stops_among, IsPlannedRoute, IsRoutePlan};
-ghost use Rattle.pt_soundness.specs.Unsound.{AreSoundTables};
+ghost use Rattle.pt_soundness.specs.Tables.{AreSoundTables};
 
 use crate::travel::are_of_places;
 use crate::vehicles::versions_of;

@@ -1,7 +1,7 @@
 ghost use Rattle.std.specs.Prelude.{◌↔◌, IfOk, IsTrue};
 ghost use Rattle.pt_records.specs.Records.{Each};
 ghost use Rattle.pt_desk_rules.specs.Sound.{IsKeptWrite, IsOfCaller};
-ghost use Rattle.pt_soundness.specs.Unsound.{AreSoundKept};
+ghost use Rattle.pt_soundness.specs.Tables.{AreSoundKept};
 
 use pt_desk_rules::{Caller, Kept};
 use pt_records::{Key, Table};

@@ -5,7 +5,7 @@ ghost use Rattle.pt_feasible.specs.Loads.{LoadsFit};
 ghost use Rattle.pt_feasible.specs.Route.{stops_of};
 ghost use Rattle.pt_records.specs.Records.{Each};
 ghost use Rattle.pt_scheduling.specs.Plan.{stops_among, IsPlannedRoute, IsRoutePlan};
-ghost use Rattle.pt_soundness.specs.Unsound.{AreSoundLoads};
+ghost use Rattle.pt_soundness.specs.Tables.{AreSoundLoads};
 
 use crate::fits::route_of;
 use crate::vehicles::versions_of;

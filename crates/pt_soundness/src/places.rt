@@ -1,6 +1,6 @@
 ghost use Rattle.std.specs.Prelude.{◌↔◌, IsTrue};
 ghost use Rattle.pt_records.specs.Records.{Each};
-ghost use Rattle.pt_soundness.specs.Unsound.{AreSoundPlaces, AreSoundRoutes, AreSoundRiders, HasRider};
+ghost use Rattle.pt_soundness.specs.Tables.{AreSoundPlaces, AreSoundRoutes, AreSoundRiders, HasRider};
 
 use pt_base::{Place, Rider};
 use pt_corridor::FixedRoute;

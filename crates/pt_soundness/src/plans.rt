@@ -5,7 +5,7 @@ ghost use Rattle.pt_records.specs.Keys.{pair_key};
 ghost use Rattle.pt_records.specs.Records.{Each};
 ghost use Rattle.pt_scheduling.specs.Plan.{plan_key};
 ghost use Rattle.pt_desk_rules.specs.Sound.{HasStandingTrips, IsPlanned, StandsIn};
-ghost use Rattle.pt_soundness.specs.Unsound.{AreSoundPlans};
+ghost use Rattle.pt_soundness.specs.Tables.{AreSoundPlans};
 
 use crate::pairs::are_route_plans;
 use pt_base::{Trip, TripId};

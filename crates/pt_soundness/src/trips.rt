@@ -1,7 +1,7 @@
 ghost use Rattle.std.specs.Prelude.{◌↔◌, IsTrue};
 ghost use Rattle.pt_records.specs.Records.{Each};
 ghost use Rattle.pt_desk_rules.specs.Sound.{HasPlaces, IsNumberedTo, IsOfRider};
-ghost use Rattle.pt_soundness.specs.Unsound.{AreSoundTrips};
+ghost use Rattle.pt_soundness.specs.Tables.{AreSoundTrips};
 
 use pt_base::{Place, Rider, Trip};
 use pt_records::{Key, Table};

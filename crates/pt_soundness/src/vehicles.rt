@@ -4,7 +4,7 @@ ghost use Rattle.pt_desk_rules.specs.Fleet.{has_version, vehicle_count, versions
 ghost use Rattle.pt_desk_rules.specs.Limits.{most_versions};
 ghost use Rattle.pt_desk_rules.specs.Sound.{HasDepot, HasFirstDay, IsFleet};
 ghost use Rattle.pt_desk_rules.specs.State.{vehicle_key, versions_from};
-ghost use Rattle.pt_soundness.specs.Unsound.{AreSoundVehicles, HasDriven};
+ghost use Rattle.pt_soundness.specs.Tables.{AreSoundVehicles, HasDriven};
 
 use pt_base::{Place, Vehicle, VehicleId};
 use pt_desk_rules::{Caller, MOST_VEHICLES, MOST_VERSIONS, Role};
