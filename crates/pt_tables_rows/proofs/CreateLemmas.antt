@@ -1,5 +1,5 @@
 -- What the statements that make the tables do, one after the other.
-use Rattle.std.proofs.Common.{◌≡◌, ◌<◌, ◌+◌, ◌-◌, ℕ, zero, suc, List, [], ◌∷◌, ◌++◌, false, None, Some, Ok, refl, sym, ap, subst, ◌∙◌, arith, slice_get, slice_index_or, fold, map, take}
+use Rattle.std.proofs.Common.{◌≡◌, ◌<◌, ◌+◌, ◌-◌, ℕ, zero, suc, List, [], ◌∷◌, ◌++◌, false, None, Some, Ok, refl, sym, ap, subst, ◌∙◌, arith, slice_get, slice_index_or, fold, map, take, length}
 use Rattle.std.specs.List.{AllByRecursion}
 use Rattle.sqlite.specs.Command.TheVariants.{CreateTable, CreateIndex}
 use Rattle.sqlite.specs.Table.{Table}
@@ -12,22 +12,28 @@ use Rattle.sqlite.specs.Effect.{Database}
 use Rattle.sqlite.specs.Listing.{understood}
 use Rattle.sqlite.specs.State.{State, Writes, Executes, mode_of}
 use Rattle.sqlite.proofs.Callers.{IsPlain, command_of, statement_of, runs_as}
+use Rattle.sqlite_keyed.proofs.ListLemmas.{all-append}
 use Rattle.sqlite_schema.specs.declared.schema.Index.{Index}
 use Rattle.sqlite_tied.specs.Compute.{everything}
 use Rattle.pt_tables_rows.specs.Schema.{desk_schema, first_schema, no_schema, first_tables, chairs_tables, desk_table, trips_table, rider_chairs_table, trip_indexes, trips_rider, trips_day}
 use Rattle.pt_tables_rows.specs.declared.schema.TheConstants.{FIRST_TABLES, ADDITIONS}
 use Rattle.pt_tables_rows.specs.Tables.{AddsChairs, IsBlank, IsFirstBlank}
 use Rattle.pt_tables_rows.proofs.PartLemmas.{went, same_value}
+use Rattle.pt_tables_rows.proofs.SameRowsLists.{all_back, all_front}
 
 -- the statements that make the tables of the first version
 abbrev pub statements_of_tables : List (List ℕ)
 statements_of_tables = map (λ statement. statement.now) FIRST_TABLES
 
+-- how many they are
+abbrev pub first_count : ℕ
+first_count = length first_tables
+
 -- the schema after so many of the statements
 abbrev pub schema_after : ℕ → Schema
 schema_after n = fold created no_schema (take n first_tables)
 
-whole : schema_after 11 ≡ first_schema
+whole : schema_after first_count ≡ first_schema
 unfolding first_schema everything
 whole = refl
 
@@ -95,10 +101,6 @@ pub record IsMade (n : ℕ) (db : Database) : Type 0 where
   pub schema : db.schema ≡ schema_after n
   pub rows : AllByRecursion (λ t. db.trees t.tree ≡ []) (schema_after n).tables
 
-all_last : {A : Type 0} (P : A → Type 0) (xs : List A) (x : A) → AllByRecursion P xs → P x → AllByRecursion P (xs ++ x ∷ [])
-all_last P [] x all one = (one, tt)
-all_last P (y ∷ ys) x all one = (all.0, all_last P ys x all.1 one)
-
 still_empty : (ts : List Table) (old new : Trees) → KeepsRows ts old new → AllByRecursion (λ t. old t.tree ≡ []) ts → AllByRecursion (λ t. new t.tree ≡ []) ts
 still_empty [] old new keeps empty = tt
 still_empty (t ∷ ts) old new keeps empty = (keeps.0 ∙ empty.0, still_empty ts old new keeps.1 empty.1)
@@ -126,7 +128,7 @@ module _ (schema : Schema) (text : List ℕ) (table : Table) (step : Step schema
 abbrev Next : ℕ → Type 0
 Next n = created (schema_after n) (as_read (slice_index_or first_tables n desk_table)) ≡ schema_after (n + 1)
 
-next : (n : ℕ) → n < 11 → StepAt n × Next n
+next : (n : ℕ) → n < first_count → StepAt n × Next n
 unfolding everything
 next zero low = (step_0, refl)
 next (suc zero) low = (step_1, refl)
@@ -141,13 +143,13 @@ next (suc (suc (suc (suc (suc (suc (suc (suc (suc zero))))))))) low = (step_9, r
 next (suc (suc (suc (suc (suc (suc (suc (suc (suc (suc zero)))))))))) low = (step_10, refl)
 next (suc (suc (suc (suc (suc (suc (suc (suc (suc (suc (suc n))))))))))) low = absurd (omega arith)
 
-pub makes_next : (n : ℕ) → n < 11 → (old new : State) (count : ℕ) → IsMade n old.now → Executes (slice_index_or statements_of_tables n []) [] old new (Ok count) → IsMade (n + 1) new.now
+pub makes_next : (n : ℕ) → n < first_count → (old new : State) (count : ℕ) → IsMade n old.now → Executes (slice_index_or statements_of_tables n []) [] old new (Ok count) → IsMade (n + 1) new.now
 makes_next n low old new count made h =
     let schema = schema_after n in
     let table = slice_index_or first_tables n desk_table in
     let it = creates schema (slice_index_or statements_of_tables n []) table (next n low).0 old new count made.schema h in
     let rows : AllByRecursion (λ t. new.now.trees t.tree ≡ []) (created schema (as_read table)).tables =
-    all_last (λ t. new.now.trees t.tree ≡ []) schema.tables (record table { tree = next_tree schema }) (still_empty schema.tables old.now.trees new.now.trees it.1 made.rows) it.2 in
+    all-append (λ t. new.now.trees t.tree ≡ []) schema.tables (record table { tree = next_tree schema } ∷ []) (still_empty schema.tables old.now.trees new.now.trees it.1 made.rows) (it.2, tt) in
     record {
       schema = it.0 ∙ (next n low).1;
       rows = subst (λ (s : Schema). AllByRecursion (λ t. new.now.trees t.tree ≡ []) s.tables) (next n low).1 rows;
@@ -156,7 +158,7 @@ makes_next n low old new count made h =
 pub begins : (db : Database) → db.schema ≡ no_schema → IsMade 0 db
 begins db is = record { schema = is; rows = tt }
 
-pub ends : (db : Database) → IsMade 11 db → IsFirstBlank db
+pub ends : (db : Database) → IsMade first_count db → IsFirstBlank db
 unfolding first_schema
 ends db made = record { schema = made.schema ∙ whole; rows = made.rows }
 
@@ -166,12 +168,16 @@ ends db made = record { schema = made.schema ∙ whole; rows = made.rows }
 abbrev pub statements_of_others : List (List ℕ)
 statements_of_others = map (λ statement. statement.now) ADDITIONS
 
+-- how many they are
+abbrev pub other_count : ℕ
+other_count = length statements_of_others
+
 abbrev statement_at : ℕ → List ℕ
 statement_at n = slice_index_or statements_of_others n []
 
 -- the schema after so many of the statements
 abbrev pub added_after : ℕ → Schema
-added_after n = fold (λ schema index. indexed schema trips_table index) (fold created first_schema (take n chairs_tables)) (take (n - 3) trip_indexes)
+added_after n = fold (λ schema index. indexed schema trips_table index) (fold created first_schema (take n chairs_tables)) (take (n - length chairs_tables) trip_indexes)
 
 -- the table that the statement at this place makes
 abbrev chairs_table : ℕ → Table
@@ -242,7 +248,7 @@ index_4 : IndexStep 4 trips_day
 unfolding understood first_schema everything
 index_4 = record { is = refl; whole = refl; plain = (refl, refl); on = refl; defined = refl; next = refl; there = refl; all = refl }
 
-whole_added : added_after 5 ≡ desk_schema
+whole_added : added_after other_count ≡ desk_schema
 unfolding first_schema desk_schema everything
 whole_added = refl
 
@@ -276,14 +282,6 @@ pub record IsAdded (n : ℕ) (old db : Database) : Type 0 where
   pub kept : AllByRecursion (λ t. db.trees t.tree ≡ old.trees t.tree) first_tables
   pub empty : AllByRecursion (λ t. db.trees t.tree ≡ []) (take n chairs_tables)
 
-front : {A : Type 0} (P : A → Type 0) (xs ys : List A) → AllByRecursion P (xs ++ ys) → AllByRecursion P xs
-front P [] ys all = tt
-front P (x ∷ xs) ys all = (all.0, front P xs ys all.1)
-
-back : {A : Type 0} (P : A → Type 0) (xs ys : List A) → AllByRecursion P (xs ++ ys) → AllByRecursion P ys
-back P [] ys all = all
-back P (x ∷ xs) ys all = back P xs ys all.1
-
 still_same : (ts : List Table) (old mid new : Trees) → AllByRecursion (Same mid new) ts → AllByRecursion (Same old mid) ts → AllByRecursion (Same old new) ts
 still_same [] old mid new later early = tt
 still_same (t ∷ ts) old mid new later early = (later.0 ∙ early.0, still_same ts old mid new later.1 early.1)
@@ -300,10 +298,10 @@ module _ (base : Database) (old new : State) (count : ℕ) where
       let none : new.now.trees (chairs_table n).tree ≡ [] = subst (λ tree. new.now.trees tree ≡ []) s.tree it.2 in
       record {
         schema = it.0 ∙ s.next;
-        kept = still_same first_tables base.trees old.now.trees new.now.trees (front (Same old.now.trees new.now.trees) first_tables (take n chairs_tables) keeps) added.kept;
+        kept = still_same first_tables base.trees old.now.trees new.now.trees (all_front (Same old.now.trees new.now.trees) first_tables (take n chairs_tables) keeps) added.kept;
         empty = subst (AllByRecursion (Empty new.now.trees)) s.more
-            (all_last (Empty new.now.trees) (take n chairs_tables) (chairs_table n)
-            (still_empty (take n chairs_tables) old.now.trees new.now.trees (back (Same old.now.trees new.now.trees) first_tables (take n chairs_tables) keeps) added.empty) none);
+            (all-append (Empty new.now.trees) (take n chairs_tables) (chairs_table n ∷ [])
+            (still_empty (take n chairs_tables) old.now.trees new.now.trees (all_back (Same old.now.trees new.now.trees) first_tables (take n chairs_tables) keeps) added.empty) (none, tt));
       }
 
   adds_index : (n : ℕ) (index : Index) → IndexStep n index → IsAdded n base old.now → Executes (statement_at n) [] old new (Ok count) → IsAdded (n + 1) base new.now
@@ -311,12 +309,12 @@ module _ (base : Database) (old new : State) (count : ℕ) where
       let it = indexes n index s old new count added.schema h in
       record {
         schema = it.0;
-        kept = still_same first_tables base.trees old.now.trees new.now.trees (front (Same old.now.trees new.now.trees) first_tables (take n chairs_tables) it.1) added.kept;
+        kept = still_same first_tables base.trees old.now.trees new.now.trees (all_front (Same old.now.trees new.now.trees) first_tables (take n chairs_tables) it.1) added.kept;
         empty = subst (AllByRecursion (Empty new.now.trees)) s.all
-            (still_empty (take n chairs_tables) old.now.trees new.now.trees (back (Same old.now.trees new.now.trees) first_tables (take n chairs_tables) it.1) added.empty);
+            (still_empty (take n chairs_tables) old.now.trees new.now.trees (all_back (Same old.now.trees new.now.trees) first_tables (take n chairs_tables) it.1) added.empty);
       }
 
-  pub adds_next : (n : ℕ) → n < 5 → IsAdded n base old.now → Executes (statement_at n) [] old new (Ok count) → IsAdded (n + 1) base new.now
+  pub adds_next : (n : ℕ) → n < other_count → IsAdded n base old.now → Executes (statement_at n) [] old new (Ok count) → IsAdded (n + 1) base new.now
   adds_next zero low = adds_table 0 chairs_0
   adds_next (suc zero) low = adds_table 1 chairs_1
   adds_next (suc (suc zero)) low = adds_table 2 chairs_2
@@ -327,7 +325,7 @@ module _ (base : Database) (old new : State) (count : ℕ) where
 pub adding_begins : (db : Database) → db.schema ≡ first_schema → IsAdded 0 db db
 adding_begins db is = record { schema = is; kept = all_same first_tables db.trees; empty = tt }
 
-pub adding_ends : (old db : Database) → IsAdded 5 old db → AddsChairs old db
+pub adding_ends : (old db : Database) → IsAdded other_count old db → AddsChairs old db
 adding_ends old db added = record {
   schema = added.schema ∙ whole_added;
   kept = added.kept;
@@ -338,13 +336,9 @@ adding_ends old db added = record {
 
 -- ---- all tables
 
-join : {A : Type 0} (P : A → Type 0) (xs ys : List A) → AllByRecursion P xs → AllByRecursion P ys → AllByRecursion P (xs ++ ys)
-join P [] ys early later = later
-join P (x ∷ xs) ys early later = (early.0, join P xs ys early.1 later)
-
 pub blank_then : (old new : Database) → IsFirstBlank old → AddsChairs old new → IsBlank new
 blank_then old new blank adds = record {
   schema = adds.schema;
-  rows = join (Empty new.trees) first_tables chairs_tables (still_empty first_tables old.trees new.trees adds.kept blank.rows)
+  rows = all-append (Empty new.trees) first_tables chairs_tables (still_empty first_tables old.trees new.trees adds.kept blank.rows)
       (adds.rider_chairs, (adds.vehicle_chairs, (adds.trip_chairs, tt)));
 }

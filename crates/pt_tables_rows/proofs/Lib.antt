@@ -1,3 +1,4 @@
+pub mod ColumnLemmas
 pub mod CreateLemmas
 pub mod NumberQueries
 pub mod PartLemmas
@@ -5,7 +6,5 @@ pub mod SameRows
 pub mod SameRowsBytes
 pub mod SameRowsGroups
 pub mod SameRowsLists
-pub mod SameRowsRecords
 pub mod StateLemmas
 pub mod StopLemmas
-pub mod WellFormedLemmas

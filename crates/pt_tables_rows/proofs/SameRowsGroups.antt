@@ -19,7 +19,7 @@ use Rattle.pt_travel.specs.Table.{ComesBefore, Rises}
 use Rattle.pt_tables_rows.specs.Rows.{stop_number, stop_rows_from, stop_rows, travel_row, travel_rows}
 use Rattle.pt_desk_rules.specs.Travel.{DatedTable}
 use Rattle.pt_tables_rows.proofs.SameRowsLists.{in_one_order, same_rest, steps-in_order}
-use Rattle.pt_tables_rows.proofs.SameRowsRecords.{number_in}
+use Rattle.pt_tables_rows.proofs.ColumnLemmas.{number_in}
 
 -- ---- plans
 

@@ -33,9 +33,13 @@ one_of : {R : Type 0} (P : Type 0) (Q : R → Type 0) (rows : List R) → 0 < le
 one_of P Q [] some all give = absurd (omega arith)
 one_of P Q (r ∷ rows) some all give = give r all.0
 
-all_front : {R : Type 0} (P : R → Type 0) (xs ys : List R) → AllByRecursion P (xs ++ ys) → AllByRecursion P xs
+pub all_front : {R : Type 0} (P : R → Type 0) (xs ys : List R) → AllByRecursion P (xs ++ ys) → AllByRecursion P xs
 all_front P [] ys all = tt
 all_front P (x ∷ xs) ys all = (all.0, all_front P xs ys all.1)
+
+pub all_back : {R : Type 0} (P : R → Type 0) (xs ys : List R) → AllByRecursion P (xs ++ ys) → AllByRecursion P ys
+all_back P [] ys all = all
+all_back P (x ∷ xs) ys all = all_back P xs ys all.1
 
 module _ {A R : Type 0} (key : A → ℕ) (key_in : R → ℕ) (rows : A → List R)
     (keyed : (x : A) → AllByRecursion (λ r. key_in r ≡ key x) (rows x)) where

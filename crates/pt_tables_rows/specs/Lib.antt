@@ -2,4 +2,3 @@ pub mod Opens
 pub mod Rows
 pub mod Schema
 pub mod Tables
-pub mod WellFormed

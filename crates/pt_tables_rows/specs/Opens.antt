@@ -2,8 +2,7 @@
 use Rattle.std.specs.Prelude.{◌≡◌, Option, None, Some}
 use Rattle.sqlite.specs.Tree.{Trees}
 use Rattle.pt_desk_rules.specs.State.{State}
-use Rattle.pt_tables_rows.specs.Tables.{HasRows}
-use Rattle.pt_tables_rows.specs.WellFormed.{IsWellFormed}
+use Rattle.pt_tables_rows.specs.Tables.{HasRows, IsWellFormed}
 
 -- what an opening finds in these trees: the content that has their rows, and None where none has
 abbrev pub Opens : Trees → Option State → Type 0

@@ -1,6 +1,8 @@
--- The tables of a database, and the content that they stand for.
-use Rattle.std.specs.Prelude.{◌≡◌, ◌≢◌, ℕ, false, List, [], ◌∷◌, drop, map, flat_map, IsTrue, IsPermutation}
-use Rattle.std.specs.Prelude.{Result, Ok, Err}
+-- The tables of a database, the content that they stand for, and the contents that their rows tell apart: the records of
+-- each table stand in the order of their keys and keep to their ranges, and no plan is without stops, of which no row
+-- would tell.
+use Rattle.std.specs.Prelude.{◌≡◌, ◌≢◌, ℕ, false, List, [], ◌∷◌, drop, map, flat_map, IsTrue, IsPermutation, Result, Ok}
+use Rattle.std.specs.Prelude.{Err}
 use Rattle.std.specs.List.{AllByRecursion}
 use Rattle.sqlite.specs.declared.error.Error.{Error}
 use Rattle.sqlite.specs.Effect.{Database}
@@ -10,12 +12,16 @@ use Rattle.sqlite.specs.State.{State as Connected, HasCleanDisk, KeepsCommit}
 use Rattle.sqlite.specs.Table.{Table}
 use Rattle.sqlite.specs.Tree.{Trees, IsTable, rowid}
 use Rattle.sqlite.specs.View.{is_int}
-use Rattle.pt_desk_rules.specs.State.{State}
-use Rattle.pt_records.specs.Records.{Each}
+use Rattle.pt_desk_rules.specs.Ranges.{FitsPlan, KeepsRanges, PutsInRange}
+use Rattle.pt_desk_rules.specs.Sound.{HasStops}
+use Rattle.pt_desk_rules.specs.State.{State, caller_key, kept_key, place_key, route_key, rider_key, entry_key}
+use Rattle.pt_desk_rules.specs.State.{vehicle_key, travel_key, trip_key}
+use Rattle.pt_desk_rules.specs.declared.change.Change.{Change}
+use Rattle.pt_records.specs.Records.{Each, IsInOrder}
+use Rattle.pt_scheduling.specs.Plan.{Plan, plan_key}
 use Rattle.pt_tables_rows.specs.Rows.{versioned_row, first_version, table_version, caller_row, kept_row, place_row}
-use Rattle.pt_tables_rows.specs.Rows.{route_row, vehicle_row, rider_row}
-use Rattle.pt_tables_rows.specs.Rows.{entry_row, trip_row, stop_rows, travel_rows, rider_chair_rows, vehicle_chair_rows}
-use Rattle.pt_tables_rows.specs.Rows.{trip_chair_rows}
+use Rattle.pt_tables_rows.specs.Rows.{route_row, vehicle_row, rider_row, entry_row, trip_row, stop_rows, travel_rows}
+use Rattle.pt_tables_rows.specs.Rows.{rider_chair_rows, vehicle_chair_rows, trip_chair_rows}
 use Rattle.pt_tables_rows.specs.Schema.{desk_schema, tables, desk_table, callers_table, kept_table, places_table}
 use Rattle.pt_tables_rows.specs.Schema.{fixed_table, vehicles_table, riders_table, entries_table, trips_table}
 use Rattle.pt_tables_rows.specs.Schema.{stops_table, travel_table, first_tables, first_schema, rider_chairs_table}
@@ -127,3 +133,28 @@ abbrev pub LeadsIfOk : {X : Type 0} → Connected → Connected → (Database �
     → Result X Error → Type 0
 LeadsIfOk old new From To (Ok x) = KeepsCommit old new × IsTrue new.in_transaction × (From old.now → To new.now)
 LeadsIfOk old new From To (Err e) = KeepsCommit old new
+
+-- ---- the contents that rows tell apart
+
+-- a plan that rows tell
+abbrev pub IsStoredPlan : Plan → Type 0
+IsStoredPlan plan = FitsPlan plan × HasStops plan
+
+pub record IsWellFormed (s : State) : Type 0 where
+  pub callers : IsInOrder caller_key s.callers
+  pub kept : IsInOrder kept_key s.kept
+  pub places : IsInOrder place_key s.places
+  pub routes : IsInOrder route_key s.routes
+  pub riders : IsInOrder rider_key s.riders
+  pub entries : IsInOrder entry_key s.entries
+  pub vehicles : IsInOrder vehicle_key s.vehicles
+  pub travel : IsInOrder travel_key s.travel
+  pub trips : IsInOrder trip_key s.trips
+  pub planned : IsInOrder plan_key s.planned
+  pub stops : Each HasStops s.planned
+  pub ranges : KeepsRanges s
+
+-- each record that the change puts is one that rows tell
+pub record PutsWellFormed (change : Change) : Type 0 where
+  pub stops : Each HasStops change.planned.puts
+  pub ranges : PutsInRange change

@@ -202,7 +202,7 @@ pub struct Plans;
 impl TableOf for Plans {
     ghost use Rattle.pt_tables_rows.specs.Rows.{stop_rows};
     ghost use Rattle.pt_tables_rows.specs.Schema.{stops_table};
-    ghost use Rattle.pt_tables_rows.specs.WellFormed.{IsStoredPlan};
+    ghost use Rattle.pt_tables_rows.specs.Tables.{IsStoredPlan};
 
     type Record = PlannedRoute;
 

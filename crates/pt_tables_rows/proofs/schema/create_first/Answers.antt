@@ -3,7 +3,7 @@ use Rattle.std.proofs.lemmas.List.{get_or-map, length-map}
 use Rattle.sqlite.specs.Held.{state}
 use Rattle.sqlite.specs.State.{HasCleanDisk, Executes}
 use Rattle.sqlite.proofs.StateLemmas.{survives_then}
-use Rattle.pt_tables_rows.proofs.CreateLemmas.{IsMade, makes_next, ends}
+use Rattle.pt_tables_rows.proofs.CreateLemmas.{first_count, IsMade, makes_next, ends}
 use Rattle.pt_tables_rows.proofs.StateLemmas.{keeps_then, keeps_shown}
 use Rattle.pt_tables_rows.proofs.schema.create_first.Goals as goal
 
@@ -14,7 +14,7 @@ loop-statement-preserved g c =
     let new = state g.S.Store c.execute.new.self.conn.now in
     let n = c.loop-statement.statement-index in
     let given : List (Bor (List ℕ)) = c.args.statements.now in
-    let eleven : length given ≡ 11 = sym (length-map given (λ (t : Bor (List ℕ)). t.now)) ∙ ap length c.requires.all in
+    let all : length given ≡ first_count = sym (length-map given (λ (t : Bor (List ℕ)). t.now)) ∙ ap length c.requires.all in
     let low : n < length given = c.loop-statement-test.true in
     record {
       same = c.in_ok-execute.ensures.same_reference ∙ c.loop-statement.invariant.same;
@@ -37,5 +37,5 @@ returns-clause-made g c clean inside =
     let now = state g.S.Store c.loop-statement.tx.conn.now in
     let kept = c.loop-statement.invariant.keeps clean inside in
     let given : List (Bor (List ℕ)) = c.args.statements.now in
-    let eleven : length given ≡ 11 = sym (length-map given (λ (t : Bor (List ℕ)). t.now)) ∙ ap length c.requires.all in
+    let all : length given ≡ first_count = sym (length-map given (λ (t : Bor (List ℕ)). t.now)) ∙ ap length c.requires.all in
     (kept.0, kept.1, λ none. ends now.now (subst (λ n. IsMade n now.now) (omega (arith, c.loop-statement-test.false, c.loop-statement.auto.statement-index-end)) (c.loop-statement.invariant.made clean inside none)))
