@@ -7,9 +7,12 @@ ghost use Rattle.pt_tables_reading.specs.Reading.{Reads, FitsDigest};
 ghost use Rattle.pt_spelling.specs.Ranges.{IsCaller, IsRole};
 
 use crate::columns::{bytes_at, id_at, number_at};
+use crate::one_row::OneRow;
 use pt_base::{RiderId, VehicleId};
 use pt_requests::{Caller, Digest, Role};
+use pt_tables_rows::Callers;
 use sqlite::Row;
+use std::alloc::{AllocError, Global};
 
 /// How many columns a caller's row has.
 const COLUMNS: usize = 4;
@@ -53,4 +56,17 @@ fn digest_at(row: &Row, at: usize) -> Option<Digest>
     let bytes = bytes_at(row, at)?;
     let bytes: [u8; 32] = bytes.try_into().ok()?;
     Some(Digest::of(bytes))
+}
+
+impl OneRow for Callers {
+    ghost use Rattle.std.specs.Prelude.{refl};
+    ghost use Rattle.pt_tables_rows.specs.Rows.{caller_row};
+
+    ghost row_of = { caller_row };
+
+    ghost one = { λ _. refl };
+
+    fn of_row(_alloc: Global, row: &Row) -> Result<Option<Caller>, AllocError> {
+        Ok(caller_of(row))
+    }
 }

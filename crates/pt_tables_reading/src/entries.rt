@@ -15,9 +15,11 @@ ghost use Rattle.pt_desk_rules.specs.Ranges.{FitsFiled};
 
 use crate::columns::{day_at, id_at, integer_at, number_at, text_at};
 use crate::conditions::conditions_in;
+use crate::one_row::OneRow;
 use pt_base::Day;
 use pt_desk_rules::FiledEntry;
 use pt_rights::{Conditions, Entered, Entry, Grant, Reasons};
+use pt_tables_rows::Entries;
 use sqlite::Row;
 use std::alloc::{AllocError, Global};
 
@@ -223,4 +225,17 @@ fn filed_entry(row: &Row, entry: Entry) -> Option<FiledEntry>
             author: id_at(row, 4)?,
         },
     })
+}
+
+impl OneRow for Entries {
+    ghost use Rattle.std.specs.Prelude.{refl};
+    ghost use Rattle.pt_tables_rows.specs.Rows.{entry_row};
+
+    ghost row_of = { entry_row };
+
+    ghost one = { λ _. refl };
+
+    fn of_row(alloc: Global, row: &Row) -> Result<Option<FiledEntry>, AllocError> {
+        entry_of(alloc, row)
+    }
 }

@@ -1,3 +1,4 @@
+ghost use Rattle.std.specs.Prelude.{IfOk};
 ghost use Rattle.std.specs.Option.{option_map};
 ghost use Rattle.sqlite.specs.declared.types.Value.TheVariants.{Blob};
 ghost use Rattle.sqlite.specs.Order.{column};
@@ -7,9 +8,13 @@ ghost use Rattle.pt_tables_reading.specs.Reading.{Reads, kept_record};
 ghost use Rattle.pt_desk_rules.specs.Ranges.{FitsKept};
 
 use crate::columns::{bytes_at, id_at, number_at};
+use crate::one_row::OneRow;
 use pt_base::CallerId;
-use pt_spelling::{KeptReply, read_reply};
+use pt_desk_rules::Kept;
+use pt_spelling::{KeptReply, Spelling, read_reply};
+use pt_tables_rows::KeptWrites;
 use sqlite::Row;
+use std::alloc::{AllocError, Global};
 
 /// How many columns the row of a caller's last write has.
 const COLUMNS: usize = 4;
@@ -44,4 +49,32 @@ fn reply_at(row: &Row, at: usize) -> Option<KeptReply>
 {
     let bytes = bytes_at(row, at)?;
     read_reply(bytes)
+}
+
+/// What a row tells of a caller's last accepted write, its request copied.
+fn copied_kept(alloc: Global, row: &Row) -> Result<Option<Kept>, AllocError>
+    ensures told { IfOk result (Reads kept_row FitsKept row.now) }
+{
+    let Some(kept) = kept_of(row) else {
+        return Ok(None);
+    };
+    let request = Vec::from_slice(alloc, kept.request)?;
+    Ok(Some(Kept {
+        caller: kept.caller,
+        number: kept.number,
+        request: Spelling::of(request),
+        reply: kept.reply,
+    }))
+}
+
+impl OneRow for KeptWrites {
+    ghost use Rattle.std.specs.Prelude.{refl};
+
+    ghost row_of = { kept_row };
+
+    ghost one = { λ _. refl };
+
+    fn of_row(alloc: Global, row: &Row) -> Result<Option<Kept>, AllocError> {
+        copied_kept(alloc, row)
+    }
 }

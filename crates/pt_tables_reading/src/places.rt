@@ -6,8 +6,11 @@ ghost use Rattle.pt_tables_reading.specs.Reading.{Reads};
 ghost use Rattle.pt_desk_rules.specs.Ranges.{FitsPlace};
 
 use crate::columns::{id_at, signed_at, truth_at};
+use crate::one_row::OneRow;
 use pt_base::{Place, Point};
+use pt_tables_rows::Places;
 use sqlite::Row;
+use std::alloc::{AllocError, Global};
 
 /// How many columns a place's row has.
 const COLUMNS: usize = 4;
@@ -40,4 +43,17 @@ fn coordinate_at(row: &Row, at: usize) -> Option<i32>
         return None;
     }
     Some(number)
+}
+
+impl OneRow for Places {
+    ghost use Rattle.std.specs.Prelude.{refl};
+    ghost use Rattle.pt_tables_rows.specs.Rows.{place_row};
+
+    ghost row_of = { place_row };
+
+    ghost one = { λ _. refl };
+
+    fn of_row(_alloc: Global, row: &Row) -> Result<Option<Place>, AllocError> {
+        Ok(place_of(row))
+    }
 }

@@ -7,10 +7,12 @@ ghost use Rattle.pt_tables_reading.specs.Reading.{Reads};
 ghost use Rattle.pt_spelling.specs.Ranges.{IsRoute};
 
 use crate::columns::{bytes_at, id_at, minute_at, number_at, truth_at};
+use crate::one_row::OneRow;
 use crate::points::{are_points, points_from};
 use crate::weekdays::days_at;
 use pt_base::Point;
 use pt_corridor::FixedRoute;
+use pt_tables_rows::FixedRoutes;
 use sqlite::Row;
 use std::alloc::{AllocError, Global};
 
@@ -48,5 +50,18 @@ fn route_along(row: &Row, points: Vec<Point>) -> Option<FixedRoute>
     match FixedRoute::new(id, width, points, accessible, days, first, last) {
         Ok(route) => Some(route),
         Err(_) => None,
+    }
+}
+
+impl OneRow for FixedRoutes {
+    ghost use Rattle.std.specs.Prelude.{refl};
+    ghost use Rattle.pt_tables_rows.specs.Rows.{route_row};
+
+    ghost row_of = { route_row };
+
+    ghost one = { λ _. refl };
+
+    fn of_row(alloc: Global, row: &Row) -> Result<Option<FixedRoute>, AllocError> {
+        route_of(alloc, row)
     }
 }

@@ -5,12 +5,14 @@ ghost use Rattle.pt_tables_reading.specs.Reading.{Reads};
 ghost use Rattle.pt_tables_reading.specs.Fitting.{stop_row, FitsStopAt};
 
 use crate::columns::{day_at, id_at, number_at};
+use crate::one_row::OneRow;
 use pt_base::{Day, VehicleId};
 use pt_feasible::StopKind;
 use pt_records::{Key, Keyed};
 use pt_scheduling::PlannedStop;
 use pt_tables_rows::TableOf;
 use sqlite::Row;
+use std::alloc::{AllocError, Global};
 
 /// How many columns a stop's row has.
 const COLUMNS: usize = 5;
@@ -77,5 +79,18 @@ fn stop_kind_at(row: &Row, at: usize) -> Option<StopKind>
         0 => Some(StopKind::Pickup),
         1 => Some(StopKind::Drop),
         _ => None,
+    }
+}
+
+impl OneRow for Stops {
+    ghost use Rattle.std.specs.Prelude.{refl};
+    ghost use Rattle.pt_tables_reading.specs.Fitting.{stop_row};
+
+    ghost row_of = { stop_row };
+
+    ghost one = { λ _. refl };
+
+    fn of_row(_alloc: Global, row: &Row) -> Result<Option<StopAt>, AllocError> {
+        Ok(stop_of(row))
     }
 }

@@ -5,8 +5,11 @@ ghost use Rattle.pt_desk_rules.specs.Ranges.{FitsTrip};
 use crate::columns::{
     day_at, id_at, minute_at, number_in, optional_minute_at, status_at, truth_at,
 };
+use crate::one_row::OneRow;
 use pt_base::{Trip, Wish};
+use pt_tables_rows::Trips;
 use sqlite::Row;
+use std::alloc::{AllocError, Global};
 
 /// How many columns a trip's row has.
 const COLUMNS: usize = 16;
@@ -40,4 +43,17 @@ pub fn trip_of(row: &Row) -> Option<Trip>
         window_to: minute_at(row, 14)?,
         status: status_at(row, 15)?,
     })
+}
+
+impl OneRow for Trips {
+    ghost use Rattle.std.specs.Prelude.{refl};
+    ghost use Rattle.pt_tables_rows.specs.Rows.{trip_row};
+
+    ghost row_of = { trip_row };
+
+    ghost one = { λ _. refl };
+
+    fn of_row(_alloc: Global, row: &Row) -> Result<Option<Trip>, AllocError> {
+        Ok(trip_of(row))
+    }
 }

@@ -4,9 +4,12 @@ ghost use Rattle.pt_tables_reading.specs.Reading.{Reads};
 ghost use Rattle.pt_spelling.specs.Ranges.{IsVehicle};
 
 use crate::columns::{day_at, id_at, minute_at, number_in};
+use crate::one_row::OneRow;
 use crate::weekdays::days_at;
 use pt_base::Vehicle;
+use pt_tables_rows::Vehicles;
 use sqlite::Row;
+use std::alloc::{AllocError, Global};
 
 /// How many columns a vehicle's row has.
 const COLUMNS: usize = 8;
@@ -34,4 +37,17 @@ pub fn vehicle_of(row: &Row) -> Option<Vehicle>
         closes,
         duration: number_in(row, 7, 1, 1_439)? as u16,
     })
+}
+
+impl OneRow for Vehicles {
+    ghost use Rattle.std.specs.Prelude.{refl};
+    ghost use Rattle.pt_tables_rows.specs.Rows.{vehicle_row};
+
+    ghost row_of = { vehicle_row };
+
+    ghost one = { λ _. refl };
+
+    fn of_row(_alloc: Global, row: &Row) -> Result<Option<Vehicle>, AllocError> {
+        Ok(vehicle_of(row))
+    }
 }
