@@ -10,7 +10,7 @@ use Rattle.pt_records.specs.Records.{Each, IsInOrder}
 use Rattle.pt_records.proofs.TableLemmas.{Each-filter, IsInOrder-filter}
 use Rattle.pt_tables_rows.specs.Schema.{desk_schema}
 use Rattle.pt_tables_rows.specs.Tables.{AreRows, columns_of}
-use Rattle.pt_tables_rows.proofs.SameRowsRecords.{number_in}
+use Rattle.pt_tables_rows.proofs.ColumnLemmas.{number_in}
 use Rattle.pt_tables_asking.specs.Asking.{AreInOrder, HasAnswer}
 use Rattle.pt_tables_asking.proofs.AskedQueries.{AsksFor, answers_passing}
 use Rattle.pt_tables_asking.proofs.OrderedLemmas.{IsCounted, IsPaired, count_le, double_key, keeps_order, pair_le}

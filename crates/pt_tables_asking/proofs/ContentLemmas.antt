@@ -20,10 +20,10 @@ use Rattle.pt_records.proofs.TableLemmas.{IsInOrder-filter}
 use Rattle.pt_desk_rules.specs.Ranges.{FitsFiled, FitsKept, FitsRider, FitsTrip}
 use Rattle.pt_tables_rows.specs.Rows.{entry_row, kept_row, number_value, rider_chair_rows, rider_row, row_if, trip_chair_rows, trip_row}
 use Rattle.pt_tables_rows.specs.Schema.{desk_schema, entries_table, kept_table, rider_chairs_table, riders_table, trip_chairs_table, trips_table}
-use Rattle.pt_tables_rows.specs.Tables.{AreRows, IsKept, Stands}
-use Rattle.pt_tables_rows.proofs.SameRowsRecords.{number_in, entry-told, kept-told, rider-told, trip-told}
+use Rattle.pt_tables_rows.specs.Tables.{AreRows, IsKept, Stands, IsWellFormed}
+use Rattle.pt_tables_rows.proofs.ColumnLemmas.{number_in}
+use Rattle.pt_tables_rows.proofs.SameRows.{entry-told, kept-told, rider-told, trip-told}
 use Rattle.pt_tables_asking.specs.Asking.{HasAnswer, Rests}
-use Rattle.pt_tables_rows.specs.WellFormed.{IsWellFormed}
 use Rattle.pt_tables_asking.specs.Marks.{FitsMark, HasMarks, IsMark, has_row, mark_key, mark_row, marked_in}
 use Rattle.pt_tables_asking.specs.declared.texts.TheConstants.{ENTRIES_BY_RIDER, KEPT_BY_CALLER, RIDER_BY_NUMBER, RIDER_MARKS, TRIPS_BY_DAY, TRIPS_BY_RIDER, TRIPS_FROM_DAY, TRIP_BY_NUMBER, TRIP_MARKS}
 use Rattle.pt_tables_asking.proofs.AnswerLemmas.{by_one, by_two, has_passing}

@@ -9,7 +9,7 @@ use Rattle.pt_records.specs.declared.span.Span.{Span}
 use Rattle.pt_records.proofs.OrderLemmas.{Each-both, Each-weaker, compared, record_at-above, record_at-here, record_at-past}
 use Rattle.pt_records.proofs.TableLemmas.{Each-filter, IsInOrder-filter}
 use Rattle.pt_tables_rows.specs.Rows.{number_value, row_if}
-use Rattle.pt_tables_rows.proofs.SameRowsRecords.{number_in}
+use Rattle.pt_tables_rows.proofs.ColumnLemmas.{number_in}
 use Rattle.pt_tables_asking.specs.Asking.{HasAnswer}
 use Rattle.pt_tables_asking.specs.Marks.{FitsMark, HasMarks, IsMark, has_mark, has_row, is_marked, mark_key, mark_row, marked_in}
 use Rattle.pt_tables_asking.specs.declared.marks.Mark.{Mark}

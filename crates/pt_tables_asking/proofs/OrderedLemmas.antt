@@ -21,7 +21,7 @@ use Rattle.pt_tables_rows.specs.Rows.{number_value}
 use Rattle.pt_tables_asking.specs.Asking.{AreInOrder}
 use Rattle.pt_tables_asking.proofs.AskedQueries.{keys_of}
 use Rattle.pt_tables_rows.proofs.SameRowsLists.{in_one_order}
-use Rattle.pt_tables_rows.proofs.SameRowsRecords.{number_in}
+use Rattle.pt_tables_rows.proofs.ColumnLemmas.{number_in}
 
 -- the first three columns as one number
 abbrev pub triple_key : Row → ℕ

@@ -25,10 +25,9 @@ use Rattle.pt_tables_reading.specs.Fitting.{FitsStopAt, stop_row}
 use Rattle.pt_tables_reading.specs.declared.stops.StopAt.{StopAt}
 use Rattle.pt_tables_rows.specs.Rows.{number_value, stop_number, stop_rows, stop_rows_from}
 use Rattle.pt_tables_rows.specs.Schema.{desk_schema, stops_table}
-use Rattle.pt_tables_rows.specs.Tables.{IsKept, Stands, columns_of}
-use Rattle.pt_tables_rows.specs.WellFormed.{IsWellFormed}
+use Rattle.pt_tables_rows.specs.Tables.{IsKept, Stands, columns_of, IsWellFormed}
 use Rattle.pt_tables_rows.proofs.SameRowsGroups.{kind-told, stops-in_order}
-use Rattle.pt_tables_rows.proofs.SameRowsRecords.{number_in}
+use Rattle.pt_tables_rows.proofs.ColumnLemmas.{number_in}
 use Rattle.pt_tables_asking.specs.Asking.{HasAnswer}
 use Rattle.pt_tables_asking.specs.Plans.{HasFewStops, plan_by_stops}
 use Rattle.pt_tables_asking.specs.declared.texts.TheConstants.{STOPS_BY_VEHICLE_AND_DAY}

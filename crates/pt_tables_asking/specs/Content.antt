@@ -4,8 +4,7 @@ use Rattle.sqlite.specs.State.{State as Connected, HasCleanDisk}
 use Rattle.pt_desk_rules.specs.State.{State}
 use Rattle.pt_tables_asking.specs.declared.asking.Unread.{Unread}
 use Rattle.pt_tables_asking.specs.declared.asking.Unread.TheVariants.{Row as BadRow}
-use Rattle.pt_tables_rows.specs.Tables.{IsKept}
-use Rattle.pt_tables_rows.specs.WellFormed.{IsWellFormed}
+use Rattle.pt_tables_rows.specs.Tables.{IsKept, IsWellFormed}
 
 -- what is read is this of the content that the tables have
 abbrev pub Tells : {X : Type 0} → Connected → Connected → (State → X) → Result X Unread → Type 0

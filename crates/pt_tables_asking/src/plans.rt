@@ -12,8 +12,7 @@ ghost use Rattle.pt_tables_asking.specs.Asking.{Rests, ShowsCommit};
 ghost use Rattle.pt_tables_asking.specs.Content.{Tells};
 ghost use Rattle.pt_tables_asking.specs.Plans.{HasFewStops, HasVersionAmong, plan_by_stops, vehicle_ids};
 ghost use Rattle.pt_tables_asking.specs.declared.asking.Unread.TheVariants.{Row as BadRow};
-ghost use Rattle.pt_tables_rows.specs.Tables.{IsKept};
-ghost use Rattle.pt_tables_rows.specs.WellFormed.{IsWellFormed};
+ghost use Rattle.pt_tables_rows.specs.Tables.{IsKept, IsWellFormed};
 
 use crate::asking::{Unread, asked, ordered};
 use crate::texts::STOPS_BY_VEHICLE_AND_DAY;

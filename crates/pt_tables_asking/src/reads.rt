@@ -11,10 +11,9 @@ ghost use Rattle.pt_desk_rules.specs.Planned.{trips_of, trips_on};
 ghost use Rattle.pt_desk_rules.specs.State.{State, entries_of, kept_of, rider_of, trip_of};
 ghost use Rattle.pt_tables_rows.specs.Rows.{trip_row};
 ghost use Rattle.pt_tables_rows.specs.Schema.{desk_schema};
-ghost use Rattle.pt_tables_rows.specs.Tables.{IsKept};
+ghost use Rattle.pt_tables_rows.specs.Tables.{IsKept, IsWellFormed};
 ghost use Rattle.pt_tables_asking.specs.Asking.{HasAnswer, Rests};
 ghost use Rattle.pt_tables_asking.specs.Content.{Decodes, Tells};
-ghost use Rattle.pt_tables_rows.specs.WellFormed.{IsWellFormed};
 ghost use Rattle.pt_tables_asking.specs.declared.asking.Unread.TheVariants.{Row as BadRow};
 
 use crate::asking::{Unread, asked, first, ordered};

@@ -40,7 +40,7 @@ use Rattle.pt_tables_writing.proofs.NumberedWrites.{puts_so, takes_so}
 use Rattle.pt_tables_writing.proofs.RecordRows.{rewrites-permuted, rows-put, takes}
 use Rattle.pt_tables_writing.proofs.RemovalLemmas.{IsRemoval, removed}
 use Rattle.pt_tables_writing.proofs.UpsertLemmas.{IsUpsert, upserted, only_first}
-use Rattle.pt_tables_rows.proofs.WellFormedLemmas.{day-word}
+use Rattle.pt_tables_rows.proofs.SameRows.{day-word}
 use Rattle.pt_desk_rules.specs.Ranges.{FitsRider, FitsTrip}
 
 -- a record with no row is put where that of one with its key is taken away

@@ -30,7 +30,7 @@ use Rattle.pt_scheduling.specs.declared.planned.PlannedStop.{PlannedStop}
 use Rattle.pt_tables_writing.specs.Grouped.{Adds, KeepsStops}
 use Rattle.pt_tables_rows.specs.Rows.{stop_row, number_value, stop_rows, stop_rows_from}
 use Rattle.pt_tables_rows.specs.Schema.{desk_schema, stops_table}
-use Rattle.pt_tables_rows.specs.WellFormed.{IsStoredPlan}
+use Rattle.pt_tables_rows.specs.Tables.{IsStoredPlan}
 use Rattle.pt_tables_writing.specs.Writes.{Replaces, Rewrites, Takes}
 use Rattle.pt_tables_writing.specs.declared.grouped.stops.TheConstants.{DELETE_LATER_STOPS, DELETE_STOPS, INSERT_STOP, INSERT_TWO_STOPS}
 use Rattle.pt_tables_writing.proofs.AppendLemmas.{adds, behind_all}
@@ -39,7 +39,7 @@ use Rattle.pt_tables_writing.proofs.DeleteLemmas.{IsDelete, has_columns, has_col
 use Rattle.pt_tables_writing.proofs.InsertLemmas.{IsInsert}
 use Rattle.pt_tables_writing.proofs.KeyLemmas.{from-told, pair-told}
 use Rattle.pt_tables_writing.proofs.RecordRows.{replaces, takes}
-use Rattle.pt_tables_rows.proofs.WellFormedLemmas.{day-word}
+use Rattle.pt_tables_rows.proofs.SameRows.{day-word}
 
 module _ (vehicle day : ℕ) (place : ℤ) (stop : PlannedStop) where
   abbrev row : Row

@@ -1,8 +1,7 @@
 -- What puts and takes of records make of one table, one after the other.
-use Rattle.std.proofs.Common.{◌≡◌, ◌++◌, ℕ, Bool, true, false, not, cond, List, [], ◌∷◌, Some, flat_map, filter, refl, sym, ap, subst, ◌∙◌}
+use Rattle.std.proofs.Common.{◌≡◌, ◌++◌, ◌<◌, ◌⊎◌, inl, inr, ℕ, zero, suc, Bool, true, false, not, cond, List, [], ◌∷◌, length, get_or, Option, None, Some, flat_map, filter, refl, sym, ap, subst, ◌∙◌, arith}
 use Rattle.std.specs.Prelude.{◌==◌, ◌||◌}
 use Rattle.std.proofs.lemmas.Bool.Decides.{nat_tests}
-use Rattle.std.proofs.Common.{arith}
 use Rattle.sqlite.specs.Effect.{Database}
 use Rattle.sqlite.specs.Order.{Row}
 use Rattle.sqlite.specs.Table.{Table}
@@ -11,10 +10,9 @@ use Rattle.pt_records.specs.declared.span.Span.{Span}
 use Rattle.pt_records.proofs.OrderLemmas.{Each-put, IsInOrder-put}
 use Rattle.pt_records.proofs.TableLemmas.{Each-filter, IsInOrder-filter, IsInOrder-take_all}
 use Rattle.pt_tables_rows.specs.Schema.{desk_schema}
-use Rattle.pt_tables_writing.specs.Agreeing.{KnowsEdited, OfEach}
+use Rattle.pt_tables_writing.specs.Groups.{KnowsEdited, KnowsTaken, OfEach}
 use Rattle.pt_tables_writing.specs.Stored.{without, without_all, PutsAll, TakesAll, TakesSpans, EditsTable}
 use Rattle.pt_tables_writing.specs.Writes.{Puts, Replaces, Takes, Rewrites}
-use Rattle.pt_tables_writing.proofs.AgreeLemmas.{known_stands}
 use Rattle.pt_tables_writing.proofs.TurnLemmas.{rewrites_then}
 
 -- ---- lists
@@ -193,6 +191,21 @@ taken_one_by_one {A} key span spans xs =
     without_all-is key (within key span xs) (take_all key spans xs)
     ∙ same_left (λ x. not (has_key key (key x) (within key span xs))) (λ x. not (is_within (key x) span)) (take_all key spans xs)
     (each_agrees key span xs (take_all key spans xs) (Each-take_all P key spans xs (key_within key span xs)))
+
+-- ---- lists that agree with what is there
+
+-- what is known of one of the spans
+pub known_at : {A : Type 0} (key : A → ℕ) (spans : List Span) (n : ℕ) (span : Span) (known there : List A) → n < length spans
+    → span ≡ get_or spans n span → KnowsTaken key spans known there → within key span known ≡ within key span there
+known_at key [] n span known there low is agrees = absurd (omega arith)
+known_at key (s ∷ spans) zero span known there low is agrees = subst (λ s. within key s known ≡ within key s there) (sym is) agrees.0
+known_at key (s ∷ spans) (suc n) span known there low is agrees = known_at key spans n span known there (omega arith) is agrees.1
+
+-- a record that is known for a key is the one that is there
+pub known_stands : {A : Type 0} (known there : Option A) (before : A) → (known ≡ None) ⊎ (known ≡ there) → known ≡ Some before
+    → there ≡ Some before
+known_stands known there before (inl none) found = absurd (let no = sym none ∙ found in cc)
+known_stands known there before (inr same) found = sym same ∙ found
 
 -- ---- tables
 

@@ -25,7 +25,7 @@ use Rattle.pt_tables_writing.proofs.DeleteLemmas.{IsDelete, has_columns, removes
 use Rattle.pt_tables_writing.proofs.InsertLemmas.{IsInsert}
 use Rattle.pt_tables_writing.proofs.KeyLemmas.{pair-told}
 use Rattle.pt_tables_writing.proofs.RecordRows.{takes}
-use Rattle.pt_tables_rows.proofs.WellFormedLemmas.{day-word}
+use Rattle.pt_tables_rows.proofs.SameRows.{day-word}
 
 vehicle_cast : (version : Vehicle) → cast_row vehicles_table (Null ∷ vehicle_row version) ≡ Null ∷ vehicle_row version
 vehicle_cast version = simp (cast_null, cast_int)

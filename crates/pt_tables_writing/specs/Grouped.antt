@@ -8,7 +8,7 @@ use Rattle.pt_scheduling.specs.Plan.{Plan, plan_key}
 use Rattle.pt_scheduling.specs.declared.planned.PlannedStop.{PlannedStop}
 use Rattle.pt_tables_rows.specs.Rows.{stop_rows}
 use Rattle.pt_tables_rows.specs.Schema.{stops_table}
-use Rattle.pt_tables_rows.specs.WellFormed.{IsStoredPlan}
+use Rattle.pt_tables_rows.specs.Tables.{IsStoredPlan}
 use Rattle.pt_tables_writing.specs.Writes.{Rewrites}
 
 -- the table has these rows more, and each other table what it had

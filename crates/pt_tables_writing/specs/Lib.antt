@@ -1,4 +1,3 @@
-pub mod Agreeing
 pub mod Committing
 pub mod Grouped
 pub mod Groups

@@ -5,9 +5,8 @@ ghost use Rattle.pt_records.specs.Records.{record_at};
 ghost use Rattle.pt_scheduling.specs.Plan.{plan_key};
 ghost use Rattle.pt_tables_rows.specs.Rows.{stop_rows};
 ghost use Rattle.pt_tables_rows.specs.Schema.{stops_table};
-ghost use Rattle.pt_tables_rows.specs.Tables.{Makes};
-ghost use Rattle.pt_tables_rows.specs.WellFormed.{IsStoredPlan};
-ghost use Rattle.pt_tables_writing.specs.Agreeing.{KnowsEdited, OfEach};
+ghost use Rattle.pt_tables_rows.specs.Tables.{Makes, IsStoredPlan};
+ghost use Rattle.pt_tables_writing.specs.Groups.{KnowsEdited, OfEach};
 ghost use Rattle.pt_tables_writing.specs.Stored.{EditsTable};
 
 use crate::grouped::replace_plan;

@@ -3,7 +3,7 @@ ghost use Rattle.sqlite.specs.Held.{state};
 ghost use Rattle.sqlite.specs.Order.{Row};
 ghost use Rattle.sqlite.specs.State.{Survives};
 ghost use Rattle.sqlite.specs.Table.{Table as StoredTable};
-ghost use Rattle.pt_tables_writing.specs.Agreeing.{KnowsTaken, OfEach};
+ghost use Rattle.pt_tables_writing.specs.Groups.{KnowsTaken, OfEach};
 ghost use Rattle.pt_tables_writing.specs.Stored.{EditsTable, PutsAll, TakesAll, TakesSpans};
 ghost use Rattle.pt_tables_rows.specs.Tables.{Makes};
 ghost use Rattle.pt_tables_writing.specs.Writes.{Puts, Takes};

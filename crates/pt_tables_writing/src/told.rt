@@ -1,5 +1,5 @@
 ghost use Rattle.std.specs.Prelude.{◌↔◌, IsTrue};
-ghost use Rattle.pt_tables_rows.specs.WellFormed.{PutsWellFormed};
+ghost use Rattle.pt_tables_rows.specs.Tables.{PutsWellFormed};
 
 use pt_desk_rules::{Change, have_stops, puts_in_range};
 

@@ -3,15 +3,13 @@ ghost use Rattle.std.specs.Option.{unwrap_or};
 ghost use Rattle.sqlite.specs.Held.{state};
 ghost use Rattle.sqlite.specs.State.{HasCleanDisk, Survives};
 ghost use Rattle.pt_desk_rules.specs.State.{State, applied};
-ghost use Rattle.pt_tables_writing.specs.Agreeing.{AgreesFor, AgreesWith, OfEach};
+ghost use Rattle.pt_tables_writing.specs.Groups.{AgreesFor, AgreesWith, OfEach, Leads, with_people, with_area};
+ghost use Rattle.pt_tables_writing.specs.Groups.{with_trips, WritesRiders, WritesVehicles, WritesFleet, WritesTrips};
 ghost use Rattle.pt_tables_writing.specs.Committing.{IsMade, LeadsTo};
-ghost use Rattle.pt_tables_writing.specs.Groups.{Leads, with_people, with_area, with_trips};
-ghost use Rattle.pt_tables_writing.specs.Groups.{WritesRiders, WritesVehicles, WritesFleet, WritesTrips};
 ghost use Rattle.pt_tables_writing.specs.Least.{IsUndone};
 ghost use Rattle.pt_tables_rows.specs.Rows.{desk_row};
 ghost use Rattle.pt_tables_rows.specs.Schema.{desk_table};
-ghost use Rattle.pt_tables_rows.specs.Tables.{Makes};
-ghost use Rattle.pt_tables_rows.specs.WellFormed.{IsWellFormed, PutsWellFormed};
+ghost use Rattle.pt_tables_rows.specs.Tables.{Makes, IsWellFormed, PutsWellFormed};
 ghost use Rattle.pt_tables_writing.specs.Writes.{Rewrites};
 
 use crate::numbered::write_desk;

@@ -4,8 +4,7 @@ ghost use Rattle.sqlite.specs.State.{Survives};
 ghost use Rattle.pt_scheduling.specs.Plan.{plan_key};
 ghost use Rattle.pt_tables_rows.specs.Rows.{stop_number, stop_row, stop_rows, stop_rows_from};
 ghost use Rattle.pt_tables_rows.specs.Schema.{stops_table};
-ghost use Rattle.pt_tables_rows.specs.Tables.{Makes};
-ghost use Rattle.pt_tables_rows.specs.WellFormed.{IsStoredPlan};
+ghost use Rattle.pt_tables_rows.specs.Tables.{Makes, IsStoredPlan};
 ghost use Rattle.pt_tables_writing.specs.Grouped.{Adds, KeepsStops};
 ghost use Rattle.pt_tables_writing.specs.Writes.{Replaces};
 

@@ -3,8 +3,7 @@ use Rattle.sqlite.specs.Held.{state}
 use Rattle.sqlite.specs.State.{HasCleanDisk}
 use Rattle.pt_desk_rules.specs.State.{State}
 use Rattle.pt_tables_asking.specs.Asking.{Rests}
-use Rattle.pt_tables_rows.specs.Tables.{IsKept}
-use Rattle.pt_tables_rows.specs.WellFormed.{IsWellFormed}
+use Rattle.pt_tables_rows.specs.Tables.{IsKept, IsWellFormed}
 use Rattle.pt_tables_asking.proofs.DayLemmas.{plans_of}
 use Rattle.pt_tables_asking.proofs.plans.plans_by_day.Given as goal
 

@@ -2,8 +2,8 @@ use Rattle.sqlite.specs.Held.{state}
 use Rattle.pt_scheduling.specs.Plan.{plan_key}
 use Rattle.pt_tables_rows.specs.Rows.{stop_rows}
 use Rattle.pt_tables_rows.specs.Schema.{stops_table}
-use Rattle.pt_tables_rows.specs.WellFormed.{IsStoredPlan}
-use Rattle.pt_tables_writing.specs.Agreeing.{KnowsEdited, KnowsTaken, OfEach}
+use Rattle.pt_tables_rows.specs.Tables.{IsStoredPlan}
+use Rattle.pt_tables_writing.specs.Groups.{KnowsEdited, KnowsTaken, OfEach}
 use Rattle.pt_tables_writing.specs.Stored.{EditsTable}
 use Rattle.pt_tables_writing.specs.Writes.{Replaces}
 use Rattle.pt_tables_writing.proofs.StoredLemmas.{replaced_made}

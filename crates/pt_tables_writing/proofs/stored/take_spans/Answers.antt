@@ -3,11 +3,10 @@ use Rattle.std.proofs.lemmas.List.{take_all, take_more}
 use Rattle.sqlite.specs.Held.{state}
 use Rattle.pt_records.specs.Records.{within}
 use Rattle.pt_tables_rows.specs.Tables.{Makes}
-use Rattle.pt_tables_writing.specs.Agreeing.{KnowsTaken, OfEach}
+use Rattle.pt_tables_writing.specs.Groups.{KnowsTaken, OfEach}
 use Rattle.pt_tables_writing.specs.Stored.{TakesAll, TakesSpans}
 use Rattle.pt_tables_writing.proofs.TurnLemmas.{did_then, survive_both}
-use Rattle.pt_tables_writing.proofs.AgreeLemmas.{known_at}
-use Rattle.pt_tables_writing.proofs.StoredLemmas.{spans_next}
+use Rattle.pt_tables_writing.proofs.StoredLemmas.{known_at, spans_next}
 use Rattle.pt_tables_writing.proofs.stored.take_spans.Goals as goal
 
 pub loop-span-preserved : goal.loop-span-preserved

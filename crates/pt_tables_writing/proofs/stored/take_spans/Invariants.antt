@@ -2,7 +2,7 @@ use Rattle.std.proofs.Common.{◌≡◌, Ok, take}
 use Rattle.sqlite.specs.Held.{state}
 use Rattle.sqlite.specs.State.{Survives}
 use Rattle.pt_tables_rows.specs.Tables.{Makes}
-use Rattle.pt_tables_writing.specs.Agreeing.{KnowsTaken, OfEach}
+use Rattle.pt_tables_writing.specs.Groups.{KnowsTaken, OfEach}
 use Rattle.pt_tables_writing.specs.Stored.{TakesSpans}
 use Rattle.pt_tables_writing.proofs.stored.take_spans.Given as goal
 

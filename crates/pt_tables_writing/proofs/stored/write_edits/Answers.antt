@@ -1,6 +1,6 @@
 use Rattle.std.proofs.Common.{sym, subst}
 use Rattle.sqlite.specs.Held.{state}
-use Rattle.pt_tables_writing.specs.Agreeing.{KnowsTaken, OfEach}
+use Rattle.pt_tables_writing.specs.Groups.{KnowsTaken, OfEach}
 use Rattle.pt_tables_writing.specs.Stored.{PutsAll, TakesSpans, EditsTable}
 use Rattle.pt_tables_writing.proofs.TurnLemmas.{did_then}
 use Rattle.pt_tables_writing.proofs.StoredLemmas.{edits_made}

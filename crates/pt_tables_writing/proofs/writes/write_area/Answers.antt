@@ -1,8 +1,7 @@
 use Rattle.std.proofs.Common.{Ok, subst}
 use Rattle.sqlite.specs.Held.{state}
 use Rattle.pt_tables_rows.specs.Tables.{Makes}
-use Rattle.pt_tables_writing.specs.Agreeing.{AgreesFor, OfEach}
-use Rattle.pt_tables_writing.specs.Groups.{Leads, Then, WritesFleet, with_people, with_area}
+use Rattle.pt_tables_writing.specs.Groups.{AgreesFor, OfEach, Leads, Then, WritesFleet, with_people, with_area}
 use Rattle.pt_tables_writing.proofs.GroupLemmas.{Known-places, Known-routes, Known-travel, area_leads}
 use Rattle.pt_tables_writing.proofs.TurnLemmas.{did_as, did_next}
 use Rattle.pt_tables_writing.proofs.writes.write_area.Goals as goal

@@ -1,8 +1,7 @@
 use Rattle.std.proofs.Common.{Ok, subst}
 use Rattle.sqlite.specs.Held.{state}
 use Rattle.pt_tables_rows.specs.Tables.{Makes}
-use Rattle.pt_tables_writing.specs.Agreeing.{AgreesFor, OfEach}
-use Rattle.pt_tables_writing.specs.Groups.{WritesTrips}
+use Rattle.pt_tables_writing.specs.Groups.{AgreesFor, OfEach, WritesTrips}
 use Rattle.pt_tables_writing.proofs.GroupLemmas.{Known-trips, Marked-trips}
 use Rattle.pt_tables_writing.proofs.TurnLemmas.{did_then}
 use Rattle.pt_tables_writing.proofs.writes.write_booked.Goals as goal

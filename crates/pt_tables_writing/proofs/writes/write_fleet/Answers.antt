@@ -5,8 +5,7 @@ use Rattle.pt_tables_rows.specs.Rows.{vehicle_chair_rows}
 use Rattle.pt_tables_rows.specs.Schema.{vehicle_chairs_table}
 use Rattle.pt_tables_rows.specs.Tables.{Makes}
 use Rattle.pt_spelling.specs.Ranges.{IsVehicle}
-use Rattle.pt_tables_writing.specs.Agreeing.{AgreesFor, KnowsTaken, OfEach}
-use Rattle.pt_tables_writing.specs.Groups.{WritesFleet, WritesVehicles}
+use Rattle.pt_tables_writing.specs.Groups.{AgreesFor, KnowsTaken, OfEach, WritesFleet, WritesVehicles}
 use Rattle.pt_tables_writing.specs.Stored.{TakesSpans}
 use Rattle.pt_tables_writing.proofs.GroupLemmas.{Unmarked-vehicles}
 use Rattle.pt_tables_writing.proofs.TurnLemmas.{did_then}

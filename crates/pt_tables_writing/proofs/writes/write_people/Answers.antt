@@ -1,8 +1,7 @@
 use Rattle.std.proofs.Common.{Ok, subst}
 use Rattle.sqlite.specs.Held.{state}
 use Rattle.pt_tables_rows.specs.Tables.{Makes}
-use Rattle.pt_tables_writing.specs.Agreeing.{AgreesFor, OfEach}
-use Rattle.pt_tables_writing.specs.Groups.{Leads, Then, WritesRiders, with_people}
+use Rattle.pt_tables_writing.specs.Groups.{AgreesFor, OfEach, Leads, Then, WritesRiders, with_people}
 use Rattle.pt_tables_writing.proofs.GroupLemmas.{Known-callers, Known-kept, Known-entries, people_lead}
 use Rattle.pt_tables_writing.proofs.TurnLemmas.{did_as, did_next}
 use Rattle.pt_tables_writing.proofs.writes.write_people.Goals as goal

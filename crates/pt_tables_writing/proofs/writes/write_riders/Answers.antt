@@ -1,8 +1,7 @@
 use Rattle.std.proofs.Common.{Ok, subst}
 use Rattle.sqlite.specs.Held.{state}
 use Rattle.pt_tables_rows.specs.Tables.{Makes}
-use Rattle.pt_tables_writing.specs.Agreeing.{AgreesFor, OfEach}
-use Rattle.pt_tables_writing.specs.Groups.{WritesRiders}
+use Rattle.pt_tables_writing.specs.Groups.{AgreesFor, OfEach, WritesRiders}
 use Rattle.pt_tables_writing.proofs.GroupLemmas.{Known-riders, Marked-riders}
 use Rattle.pt_tables_writing.proofs.TurnLemmas.{did_then}
 use Rattle.pt_tables_writing.proofs.writes.write_riders.Goals as goal

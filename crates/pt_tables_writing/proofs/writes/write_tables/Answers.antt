@@ -1,8 +1,7 @@
 use Rattle.std.proofs.Common.{Ok}
 use Rattle.sqlite.specs.Held.{state}
 use Rattle.pt_desk_rules.specs.State.{applied}
-use Rattle.pt_tables_writing.specs.Agreeing.{AgreesFor, AgreesWith, OfEach}
-use Rattle.pt_tables_writing.specs.Groups.{Leads, Then, with_people, with_area, with_trips}
+use Rattle.pt_tables_writing.specs.Groups.{AgreesFor, AgreesWith, OfEach, Leads, Then, with_people, with_area, with_trips}
 use Rattle.pt_tables_writing.proofs.TurnLemmas.{did_as, did_next, open_then, stayed, stayed_then}
 use Rattle.pt_tables_writing.proofs.writes.write_tables.Goals as goal
 

@@ -1,7 +1,6 @@
 use Rattle.std.proofs.Common.{Ok}
 use Rattle.sqlite.specs.Held.{state}
-use Rattle.pt_tables_writing.specs.Agreeing.{AgreesFor, AgreesWith, OfEach}
-use Rattle.pt_tables_writing.specs.Groups.{Leads, Then, WritesTrips, with_people, with_area, with_trips}
+use Rattle.pt_tables_writing.specs.Groups.{AgreesFor, AgreesWith, OfEach, Leads, Then, WritesTrips, with_people, with_area, with_trips}
 use Rattle.pt_tables_writing.proofs.GroupLemmas.{Known-planned, Known-settings, trips_lead}
 use Rattle.pt_tables_writing.proofs.TurnLemmas.{did_as, did_next, open_then, stayed, stayed_then}
 use Rattle.pt_tables_writing.proofs.writes.write_trips.Goals as goal

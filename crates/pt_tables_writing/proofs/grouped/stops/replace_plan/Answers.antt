@@ -3,7 +3,7 @@ use Rattle.sqlite.specs.Held.{state}
 use Rattle.pt_scheduling.specs.Plan.{plan_key}
 use Rattle.pt_tables_rows.specs.Rows.{stop_rows, stop_rows_from}
 use Rattle.pt_tables_rows.specs.Schema.{stops_table}
-use Rattle.pt_tables_rows.specs.WellFormed.{IsStoredPlan}
+use Rattle.pt_tables_rows.specs.Tables.{IsStoredPlan}
 use Rattle.pt_tables_writing.specs.Grouped.{Adds, KeepsStops}
 use Rattle.pt_tables_writing.specs.Writes.{Replaces}
 use Rattle.pt_tables_writing.proofs.StopRows.{plan-replaced}

@@ -2,7 +2,7 @@ use Rattle.sqlite.specs.Held.{state}
 use Rattle.pt_scheduling.specs.Plan.{plan_key}
 use Rattle.pt_tables_rows.specs.Rows.{stop_rows}
 use Rattle.pt_tables_rows.specs.Schema.{stops_table}
-use Rattle.pt_tables_rows.specs.WellFormed.{IsStoredPlan}
+use Rattle.pt_tables_rows.specs.Tables.{IsStoredPlan}
 use Rattle.pt_tables_writing.proofs.ChangeLemmas.{did_put}
 use Rattle.pt_tables_writing.proofs.grouped.stops.PlansStored.put.Goals as goal
 
