@@ -12,16 +12,15 @@ use Rattle.pt_desk_rules.specs.declared.change.Change.{Change}
 use Rattle.pt_base.specs.declared.vehicle.Vehicle.{Vehicle}
 use Rattle.pt_records.specs.Records.{Each}
 use Rattle.pt_tables_asking.specs.Plans.{HasVersionAmong}
-use Rattle.pt_tables_rows.specs.WellFormed.{IsWellFormed}
+use Rattle.pt_tables_rows.specs.Tables.{IsWellFormed, IsKept, Stands}
 use Rattle.pt_tables_keeper.proofs.ReadLemmas.{not_lasting}
 use Rattle.pt_tables_keeper.proofs.StepLemmas.{Settles, finds, settles, shut_falls}
 use Rattle.pt_desk.proofs.StoreLemmas.{reads_then}
 use Rattle.pt_tables_keeper.specs.Keeper.{AreInStep, KeptTables, kept_store, store_of}
 use Rattle.pt_tables_keeper.specs.Writable.{IsWritable}
 use Rattle.pt_tables_rows.proofs.SameRows.{opens_once}
-use Rattle.pt_tables_rows.specs.Tables.{IsKept, Stands}
-use Rattle.pt_tables_writing.proofs.AgreeLemmas.{agrees_known}
-use Rattle.pt_tables_writing.specs.Agreeing.{AgreesFor}
+use Rattle.pt_tables_writing.proofs.GroupLemmas.{agrees_known}
+use Rattle.pt_tables_writing.specs.Groups.{AgreesFor}
 use Rattle.pt_tables_writing.specs.Committing.{IsMade, LeadsTo, MayFind}
 use Rattle.pt_tables_writing.specs.Least.{IsUndone}
 

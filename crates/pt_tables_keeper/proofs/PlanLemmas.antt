@@ -19,8 +19,8 @@ use Rattle.pt_scheduling.proofs.PlanLemmas.{found_key}
 use Rattle.pt_spelling.specs.Ranges.{IsVehicle}
 use Rattle.pt_tables_asking.specs.Plans.{HasVersionAmong}
 use Rattle.pt_tables_asking.proofs.StopLemmas.{filter_found}
-use Rattle.pt_tables_rows.specs.WellFormed.{IsWellFormed}
-use Rattle.pt_tables_writing.specs.Agreeing.{KnowsEdited, KnowsReplaced, KnowsTaken}
+use Rattle.pt_tables_rows.specs.Tables.{IsWellFormed}
+use Rattle.pt_tables_writing.specs.Groups.{KnowsEdited, KnowsReplaced, KnowsTaken}
 use Rattle.pt_tables_keeper.specs.Plans.{IsOneKey, keys_of, plans_at, plans_with}
 use Rattle.pt_tables_keeper.specs.Writable.{IsWritable}
 

@@ -14,8 +14,7 @@ use Rattle.pt_desk_rules.specs.Planned.{is_booked_from, is_of, is_standing_from}
 use Rattle.pt_desk_rules.specs.State.{State}
 use Rattle.pt_tables_asking.specs.Asking.{Rests}
 use Rattle.pt_tables_asking.specs.Content.{Tells}
-use Rattle.pt_tables_rows.specs.Tables.{IsKept}
-use Rattle.pt_tables_rows.specs.WellFormed.{IsWellFormed}
+use Rattle.pt_tables_rows.specs.Tables.{IsKept, IsWellFormed}
 use Rattle.pt_tables_asking.specs.declared.asking.Unread.{Unread}
 use Rattle.pt_tables_asking.specs.declared.asking.Unread.TheVariants as unread
 use Rattle.pt_tables_keeper.proofs.StepLemmas.{Settles, reads_tables, step_still}

@@ -7,7 +7,7 @@ use Rattle.pt_desk_rules.specs.declared.change.Change.{Change}
 use Rattle.pt_records.proofs.OrderLemmas.{Each-weaker, length-below, length-put_new, length-put_there}
 use Rattle.pt_records.proofs.TableLemmas.{found_is_some}
 use Rattle.pt_records.specs.Records.{Each, Edit, edited, put, record_at}
-use Rattle.pt_tables_rows.specs.WellFormed.{IsWellFormed}
+use Rattle.pt_tables_rows.specs.Tables.{IsWellFormed}
 use Rattle.pt_desk_rules.specs.Ranges.{FitsRider}
 
 each_any : {A : Type 0} (key : A → ℕ) (xs : List A) → Each (λ x. 0 ≤ key x) xs

@@ -21,7 +21,7 @@ use Rattle.pt_desk_rules.specs.declared.facts.WriteFacts.{WriteFacts}
 use Rattle.pt_desk_rules.specs.declared.kept.Kept.{Kept}
 use Rattle.pt_desk_rules.specs.declared.kept.Sent.{Sent}
 use Rattle.pt_desk_rules.proofs.RangeLemmas.{Each-more, planned_days, trip_days}
-use Rattle.pt_desk_rules.proofs.SoundLemmas.{request_sound, change_trip}
+use Rattle.pt_desk_rules.proofs.SoundLemmas.{cancel_trip, change_trip, request_sound}
 use Rattle.pt_records.specs.Keys.{pair_key}
 use Rattle.pt_records.specs.Records.{Each, Edit, put, put_all, take_away}
 use Rattle.pt_records.proofs.OrderLemmas.{record_at-put_same}
@@ -188,10 +188,6 @@ end_shaped : (found : Option Trip) (outcome : Outcome) (s : State) (made : Decis
 end_shaped None outcome s made ends = absurd ends
 end_shaped (Some trip) outcome s made is =
     no_plans s _ _ made is refl refl refl refl refl (omega arith) (inl refl)
-
-cancel_trip : (found : Option Trip) (s : State) → (cancel_facts found s).booking.trip ≡ found
-cancel_trip None s = refl
-cancel_trip (Some trip) s = refl
 
 -- ---- all writes
 

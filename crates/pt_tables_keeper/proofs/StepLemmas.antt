@@ -9,12 +9,11 @@ use Rattle.pt_desk.specs.Store.{Goes, IsSettled}
 use Rattle.pt_desk.specs.declared.keeper.StoreFault.{StoreFault}
 use Rattle.pt_desk.specs.declared.keeper.StoreFault.TheVariants.{Memory, Store as failed}
 use Rattle.pt_desk_rules.specs.State.{State}
-use Rattle.pt_tables_rows.specs.WellFormed.{IsWellFormed}
+use Rattle.pt_tables_rows.specs.Tables.{IsWellFormed, HasRows, IsKept}
 use Rattle.pt_tables_asking.proofs.ContentLemmas.{kept_still}
 use Rattle.pt_tables_asking.specs.Asking.{Rests}
 use Rattle.pt_tables_keeper.specs.Keeper.{AreInStep, kept_store, shut}
 use Rattle.pt_tables_rows.proofs.SameRows.{opens_once}
-use Rattle.pt_tables_rows.specs.Tables.{HasRows, IsKept}
 use Rattle.pt_tables_writing.specs.Committing.{MayFind}
 
 both : (a b : Bool) → IsTrue (a && b) → IsTrue a × IsTrue b

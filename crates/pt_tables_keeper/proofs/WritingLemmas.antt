@@ -9,9 +9,8 @@ use Rattle.pt_records.specs.Records.{Each}
 use Rattle.pt_scheduling.specs.Plan.{Plan}
 use Rattle.pt_tables_asking.specs.Asking.{Rests, ShowsCommit}
 use Rattle.pt_tables_asking.proofs.InsideLemmas.{still_shown}
-use Rattle.pt_tables_rows.specs.Tables.{Stands}
-use Rattle.pt_tables_rows.specs.WellFormed.{IsWellFormed}
-use Rattle.pt_tables_writing.specs.Agreeing.{AgreesFor, AgreesWith}
+use Rattle.pt_tables_rows.specs.Tables.{Stands, IsWellFormed}
+use Rattle.pt_tables_writing.specs.Groups.{AgreesFor, AgreesWith}
 use Rattle.pt_tables_writing.specs.Committing.{IsMade, LeadsTo}
 use Rattle.pt_tables_writing.specs.Least.{IsUndone}
 use Rattle.pt_tables_keeper.specs.Plans.{IsOneKey, keys_of, plans_at}

@@ -11,11 +11,10 @@ use Rattle.sqlite.specs.Store.{Ghosts}
 use Rattle.sqlite.specs.View.{doubt}
 use Rattle.pt_records.specs.Records.{Each}
 use Rattle.pt_tables_asking.specs.Plans.{HasVersionAmong}
-use Rattle.pt_tables_rows.specs.WellFormed.{IsWellFormed}
+use Rattle.pt_tables_rows.specs.Tables.{IsWellFormed, IsKept}
 use Rattle.pt_tables_asking.specs.declared.asking.Unread.{Unread}
 use Rattle.pt_tables_asking.specs.declared.asking.Unread.TheVariants.{Memory, Store as failed, Row}
 use Rattle.pt_tables_keeper.specs.Coding.{state_code}
-use Rattle.pt_tables_rows.specs.Tables.{IsKept}
 use Rattle.pt_tables_writing.specs.Committing.{MayFind}
 
 -- a connection, the count of failures, and the content of its tables

@@ -17,7 +17,7 @@ use Rattle.pt_requests.specs.declared.request.Answer.{Answer}
 use Rattle.pt_requests.specs.declared.request.Write.{Write}
 use Rattle.pt_spelling.specs.Ranges.{IsRequest}
 use Rattle.pt_tables_asking.specs.Plans.{HasVersionAmong}
-use Rattle.pt_tables_rows.specs.WellFormed.{PutsWellFormed}
+use Rattle.pt_tables_rows.specs.Tables.{PutsWellFormed}
 use Rattle.pt_tables_keeper.specs.Plans.{IsFleetEdit, IsOneKey}
 
 -- Rows tell all that it puts. From the tables that are read as they are asked for it takes away nothing but plans, one

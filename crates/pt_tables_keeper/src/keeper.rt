@@ -1,5 +1,6 @@
 ghost use Rattle.std.specs.Prelude.{◌≡◌, ◌<◌, ◌↔◌, IfErr, OnErr, OnOk, false, length};
-ghost use Rattle.pt_desk.specs.Store.{Commits, Reads, Refuses};
+ghost use Rattle.pt_desk.specs.Listed.{known_of};
+ghost use Rattle.pt_desk.specs.Store.{Commits, Goes, Reads, Refuses};
 ghost use Rattle.pt_desk.specs.declared.keeper.StoreFault.TheVariants.{Memory, Store as Failed};
 ghost use Rattle.pt_desk_rules.specs.State.{applied, rider_of};
 ghost use Rattle.sqlite.specs.Held.{state};
@@ -7,10 +8,9 @@ ghost use Rattle.sqlite.specs.State.{HasCleanDisk};
 ghost use Rattle.pt_records.specs.Records.{Each};
 ghost use Rattle.pt_tables_asking.specs.Plans.{HasVersionAmong};
 ghost use Rattle.pt_tables_asking.specs.declared.asking.Unread.TheVariants.{Memory as Wanted};
-ghost use Rattle.pt_tables_rows.specs.WellFormed.{IsWellFormed};
+ghost use Rattle.pt_tables_rows.specs.Tables.{IsWellFormed, IsKept};
 ghost use Rattle.pt_tables_keeper.specs.Keeper.{Counts, store_of};
 ghost use Rattle.pt_tables_keeper.specs.Writable.{IsWritable};
-ghost use Rattle.pt_tables_rows.specs.Tables.{IsKept};
 
 use crate::known::Known;
 use crate::writable::is_writable;
@@ -20,11 +20,13 @@ use pt_base::{
     VehicleId,
 };
 use pt_corridor::FixedRoute;
-use pt_desk::{Keeper, StoreFault, file_with, find_caller, is_booked_from, table_count_before};
+use pt_desk::{
+    Keeper, ListKeeper, StoreFault, file_with, find_caller, is_booked_from, table_count_before,
+};
 use pt_desk_rules::{
     Arrival, Caller, Change, Digest, PlannedRoute, Spelling, TravelTable, has_version, table_on,
 };
-use pt_records::{Key, Rows};
+use pt_records::{Key, Keyed, Rows, Table};
 use pt_rights::CaseFile;
 use pt_tables_asking::{
     Unread, entries_by_rider, kept_by_caller, plan_by_key, plans_by_day, rider_by_number,
@@ -142,6 +144,36 @@ impl<S: Alter> SqlKeeper<S> {
         Ok(())
     }
 
+    /// What is known in memory.
+    fn lists(&self) -> &ListKeeper
+        ensures known { result.now.content ≡ known_of self.now.content }
+    {
+        self.known.lists()
+    }
+
+    /// Answers what is known in memory, unless the store has failed.
+    fn told<T: Drop>(&self, value: T) -> Result<T, StoreFault>
+        ensures reads { Goes (store_of S.Store self.now) (store_of S.Store self.now) value None result }
+        ensures refuses { Refuses (store_of S.Store self.now) result }
+    {
+        self.serve()?;
+        Ok(value)
+    }
+
+    /// Answers a copy of records that are known in memory, unless the store has failed.
+    fn copied<T: Keyed + Clone + Drop>(
+        &self,
+        alloc: Global,
+        records: &Table<T>,
+    ) -> Result<Rows<T>, StoreFault>
+        requires copies { (x y : T) → T.is_clone x y → y ≡ x }
+        ensures reads { Goes (store_of S.Store self.now) (store_of S.Store self.now) records.now.items None result }
+        ensures refuses { Refuses (store_of S.Store self.now) result }
+    {
+        self.serve()?;
+        Ok(Rows::of(records.as_slice().to_vec(alloc)?))
+    }
+
     /// The rider of this number, as it is read from the tables.
     fn read_rider(&mut self, id: RiderId) -> Result<Option<Rider>, StoreFault>
         ensures reads { Reads (store_of S.Store self.old) (store_of S.Store self.new) (rider_of id) result }
@@ -198,20 +230,17 @@ impl<S: Alter> Keeper for SqlKeeper<S> {
     ghost found_clean = { λ _ _ may. may.0 };
 
     fn caller_with(&mut self, digest: &Digest) -> Result<Option<Caller>, StoreFault> {
-        self.serve()?;
-        let callers = self.known.lists().callers_table();
-        Ok(find_caller(callers.as_slice(), digest))
+        let callers = self.lists().callers_table();
+        self.told(find_caller(callers.as_slice(), digest))
     }
 
     fn caller(&mut self, id: CallerId) -> Result<Option<Caller>, StoreFault> {
-        self.serve()?;
-        let callers = self.known.lists().callers_table();
-        Ok(callers.find(&Key::of(id.number())).copied())
+        let callers = self.lists().callers_table();
+        self.told(callers.find(&Key::of(id.number())).copied())
     }
 
     fn caller_count(&mut self) -> Result<usize, StoreFault> {
-        self.serve()?;
-        Ok(self.known.lists().callers_table().as_slice().len())
+        self.told(self.lists().callers_table().as_slice().len())
     }
 
     fn arrival(
@@ -227,42 +256,33 @@ impl<S: Alter> Keeper for SqlKeeper<S> {
     }
 
     fn policy(&mut self) -> Result<Policy, StoreFault> {
-        self.serve()?;
-        Ok(self.known.lists().current_policy())
+        self.told(self.lists().current_policy())
     }
 
     fn place(&mut self, id: PlaceId) -> Result<Option<Place>, StoreFault> {
-        self.serve()?;
-        let places = self.known.lists().places_table();
-        Ok(places.find(&Key::of(id.number())).copied())
+        let places = self.lists().places_table();
+        self.told(places.find(&Key::of(id.number())).copied())
     }
 
     fn place_count(&mut self) -> Result<usize, StoreFault> {
-        self.serve()?;
-        Ok(self.known.lists().places_table().as_slice().len())
+        self.told(self.lists().places_table().as_slice().len())
     }
 
     fn places(&mut self, alloc: Global) -> Result<Rows<Place>, StoreFault> {
-        self.serve()?;
-        let places = self.known.lists().places_table();
-        Ok(Rows::of(places.as_slice().to_vec(alloc)?))
+        self.copied(alloc, self.lists().places_table())
     }
 
     fn has_route(&mut self, id: RouteId) -> Result<bool, StoreFault> {
-        self.serve()?;
-        let routes = self.known.lists().routes_table();
-        Ok(routes.find(&Key::of(id.number())).is_some())
+        let routes = self.lists().routes_table();
+        self.told(routes.find(&Key::of(id.number())).is_some())
     }
 
     fn route_count(&mut self) -> Result<usize, StoreFault> {
-        self.serve()?;
-        Ok(self.known.lists().routes_table().as_slice().len())
+        self.told(self.lists().routes_table().as_slice().len())
     }
 
     fn routes(&mut self, alloc: Global) -> Result<Rows<FixedRoute>, StoreFault> {
-        self.serve()?;
-        let routes = self.known.lists().routes_table();
-        Ok(Rows::of(routes.as_slice().to_vec(alloc)?))
+        self.copied(alloc, self.lists().routes_table())
     }
 
     fn rider(&mut self, id: RiderId) -> Result<Option<Rider>, StoreFault> {
@@ -282,21 +302,17 @@ impl<S: Alter> Keeper for SqlKeeper<S> {
     }
 
     fn has_vehicle(&mut self, id: VehicleId) -> Result<bool, StoreFault> {
-        self.serve()?;
-        let vehicles = self.known.lists().vehicles_table();
-        Ok(has_version(vehicles.as_slice(), id))
+        let vehicles = self.lists().vehicles_table();
+        self.told(has_version(vehicles.as_slice(), id))
     }
 
     fn vehicles(&mut self, alloc: Global) -> Result<Rows<Vehicle>, StoreFault> {
-        self.serve()?;
-        let vehicles = self.known.lists().vehicles_table();
-        Ok(Rows::of(vehicles.as_slice().to_vec(alloc)?))
+        self.copied(alloc, self.lists().vehicles_table())
     }
 
     fn table_count_before(&mut self, day: Day) -> Result<usize, StoreFault> {
-        self.serve()?;
-        let travel = self.known.lists().travel_table();
-        Ok(table_count_before(travel.as_slice(), day))
+        let travel = self.lists().travel_table();
+        self.told(table_count_before(travel.as_slice(), day))
     }
 
     fn travel_on(&mut self, alloc: Global, day: Day) -> Result<Option<TravelTable>, StoreFault> {
@@ -340,8 +356,7 @@ impl<S: Alter> Keeper for SqlKeeper<S> {
     }
 
     fn last_trip(&mut self) -> Result<u32, StoreFault> {
-        self.serve()?;
-        Ok(self.known.lists().current_last_trip())
+        self.told(self.lists().current_last_trip())
     }
 
     fn planned_route(

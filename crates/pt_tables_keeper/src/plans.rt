@@ -8,8 +8,7 @@ ghost use Rattle.pt_records.specs.Records.{record_at};
 ghost use Rattle.pt_scheduling.specs.Plan.{plan_key};
 ghost use Rattle.pt_tables_asking.specs.Asking.{Rests, ShowsCommit};
 ghost use Rattle.pt_tables_keeper.specs.Plans.{keys_of, plans_with, plans_at};
-ghost use Rattle.pt_tables_rows.specs.Tables.{IsKept};
-ghost use Rattle.pt_tables_rows.specs.WellFormed.{IsWellFormed};
+ghost use Rattle.pt_tables_rows.specs.Tables.{IsKept, IsWellFormed};
 
 use pt_desk_rules::PlannedRoute;
 use pt_records::{Edits, Key, Keyed, Span, Table};

@@ -7,9 +7,8 @@ ghost use Rattle.pt_desk_rules.specs.State.{State, applied};
 ghost use Rattle.pt_records.specs.Records.{Each};
 ghost use Rattle.pt_tables_asking.specs.Asking.{ShowsCommit};
 ghost use Rattle.pt_tables_keeper.specs.Plans.{IsOneKey};
-ghost use Rattle.pt_tables_rows.specs.Tables.{IsKept};
-ghost use Rattle.pt_tables_rows.specs.WellFormed.{IsWellFormed, PutsWellFormed};
-ghost use Rattle.pt_tables_writing.specs.Agreeing.{AgreesFor};
+ghost use Rattle.pt_tables_rows.specs.Tables.{IsKept, IsWellFormed, PutsWellFormed};
+ghost use Rattle.pt_tables_writing.specs.Groups.{AgreesFor};
 ghost use Rattle.pt_tables_writing.specs.Committing.{IsMade, LeadsTo};
 ghost use Rattle.pt_tables_writing.specs.Least.{IsUndone};
 

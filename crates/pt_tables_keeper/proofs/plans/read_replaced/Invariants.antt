@@ -5,8 +5,7 @@ use Rattle.pt_desk_rules.specs.State.{State}
 use Rattle.pt_scheduling.specs.Plan.{plan_key}
 use Rattle.pt_tables_asking.specs.Asking.{Rests}
 use Rattle.pt_tables_keeper.specs.Plans.{plans_at}
-use Rattle.pt_tables_rows.specs.Tables.{IsKept}
-use Rattle.pt_tables_rows.specs.WellFormed.{IsWellFormed}
+use Rattle.pt_tables_rows.specs.Tables.{IsKept, IsWellFormed}
 use Rattle.pt_tables_keeper.proofs.plans.read_replaced.Given as goal
 
 abbrev pub invariant-loop-new : goal.invariant-loop-new

@@ -5,7 +5,7 @@ use Rattle.pt_desk.specs.declared.keeper.StoreFault.TheVariants.{Memory}
 use Rattle.pt_desk_rules.specs.State.{applied}
 use Rattle.pt_tables_keeper.proofs.CommitLemmas.{agrees_writable, at_most_one, commits_by, commits_made, commits_not, riders_counted, step_made, step_undone, wants_memory}
 use Rattle.pt_tables_keeper.proofs.PlanLemmas.{carried_after}
-use Rattle.pt_tables_rows.proofs.WellFormedLemmas.{applied-well_formed}
+use Rattle.pt_tables_rows.proofs.SameRows.{applied-well_formed}
 use Rattle.pt_tables_keeper.specs.Keeper.{AreInStep, KeptTables, kept_store}
 use Rattle.pt_tables_keeper.specs.Writable.{IsWritable}
 use Rattle.pt_tables_keeper.proofs.keeper.SqlKeeper.make.Goals as goal
