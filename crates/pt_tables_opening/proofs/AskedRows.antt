@@ -37,9 +37,8 @@ use Rattle.pt_tables_opening.proofs.ShownRows.{AsksAll, AsksAllIn, asks_for_all}
 use Rattle.pt_tables_rows.specs.Rows.{row_if, rider_chair_rows, vehicle_chair_rows, trip_chair_rows, caller_row, kept_row, place_row, route_row, rider_row, entry_row, vehicle_row, trip_row, stop_rows, travel_rows}
 use Rattle.pt_tables_rows.specs.Schema.{desk_schema, first_schema, desk_table, callers_table, kept_table, places_table, fixed_table, vehicles_table, riders_table, entries_table, trips_table}
 use Rattle.pt_tables_rows.specs.Schema.{stops_table, travel_table, rider_chairs_table, vehicle_chairs_table, trip_chairs_table}
-use Rattle.pt_tables_rows.specs.Tables.{columns_of}
-use Rattle.pt_tables_rows.specs.WellFormed.{IsStoredPlan}
-use Rattle.pt_tables_rows.proofs.SameRowsRecords.{number_in}
+use Rattle.pt_tables_rows.specs.Tables.{columns_of, IsStoredPlan}
+use Rattle.pt_tables_rows.proofs.ColumnLemmas.{number_in}
 
 -- ---- what a text means
 

@@ -21,7 +21,7 @@ use Rattle.pt_tables_opening.specs.Gathered.{BeginsOnce, BeginsPlan, BeginsTrave
 use Rattle.pt_desk_rules.specs.Ranges.{FitsDrive, FitsTravel}
 use Rattle.pt_tables_reading.specs.Reading.{Reads}
 use Rattle.pt_tables_rows.specs.Rows.{stop_rows, stop_rows_from, travel_row, travel_rows}
-use Rattle.pt_tables_rows.specs.WellFormed.{IsStoredPlan}
+use Rattle.pt_tables_rows.specs.Tables.{IsStoredPlan}
 use Rattle.pt_tables_opening.proofs.GatheredLemmas.{each_at, same_records}
 use Rattle.pt_tables_asking.proofs.OrderedLemmas.{IsNumbered, triple_key}
 use Rattle.pt_tables_opening.proofs.OrderedLemmas.{IsSpan, rows_told}

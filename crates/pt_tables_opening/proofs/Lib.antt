@@ -8,9 +8,7 @@ pub mod GroupOrders
 pub mod OrderedLemmas
 pub mod PlanReading
 pub mod RestLemmas
-pub mod SameTables
 pub mod SchemaLemmas
 pub mod ShownRows
 pub mod StepLemmas
 pub mod TableCases
-pub mod TableReads

@@ -15,11 +15,11 @@ use Rattle.pt_tables_reading.specs.Fitting.{FitsStopAt, FitsDriveAt}
 use Rattle.pt_tables_opening.specs.Gathered.{BeginsOnce, BeginsPlan, BeginsTravel, FitsRows}
 use Rattle.pt_desk_rules.specs.Ranges.{FitsDrive, FitsStop, FitsTravel}
 use Rattle.pt_tables_rows.specs.Rows.{stop_row, stop_rows, stop_rows_from, travel_row, travel_rows}
-use Rattle.pt_tables_rows.specs.WellFormed.{IsStoredPlan}
+use Rattle.pt_tables_rows.specs.Tables.{IsStoredPlan}
 use Rattle.pt_tables_reading.specs.declared.stops.StopAt.{StopAt}
 use Rattle.pt_tables_opening.proofs.GatheredLemmas.{each_at}
 use Rattle.pt_tables_rows.proofs.SameRowsGroups.{drive_in, drives-back}
-use Rattle.pt_tables_rows.proofs.SameRowsRecords.{number_in}
+use Rattle.pt_tables_rows.proofs.ColumnLemmas.{number_in}
 use Rattle.pt_tables_rows.proofs.StopLemmas.{stop_rows-push}
 
 -- the first row, where there is one

@@ -13,30 +13,19 @@ use Rattle.pt_records.proofs.OrderLemmas.{Each-both}
 use Rattle.pt_soundness.specs.Tables.{all_tables, number_of, table_count, IsSoundIn}
 use Rattle.pt_soundness.specs.declared.unsound_table.UnsoundTable.{UnsoundTable}
 use Rattle.pt_soundness.specs.declared.unsound_table.UnsoundTable.TheVariants as table
-use Rattle.pt_soundness.proofs.TableLemmas.{sound_in, sound_of}
+use Rattle.pt_soundness.proofs.TableLemmas.{each_table, sound_in, sound_of}
 use Rattle.pt_tables_opening.specs.Faults.{IsRefusal, fault, store_refused, tables_refused, unsound}
 use Rattle.pt_tables_opening.specs.Opening.{Rests}
 use Rattle.pt_tables_opening.specs.Refused.{AreUnsound, SparesOtherVersion, TellsWhy}
 use Rattle.pt_tables_opening.specs.Standing.{IsFirstAtFault, NoneStandsTo, StandsIn}
-use Rattle.pt_tables_opening.specs.Steps.{HasRowsTo, IsFaultOf, IsReadIn, IsReadTo, OpensTable, OpensTo, ReadsTable}
+use Rattle.pt_tables_opening.specs.Steps.{HasRowsTo, IsFaultOf, IsReadTo, OpensTable, OpensTo, ReadsTable}
 use Rattle.pt_tables_opening.specs.Tables.{HasRowsIn, IsLaidIn}
 use Rattle.pt_tables_opening.specs.Agency.{HasOtherVersion}
 use Rattle.pt_tables_opening.specs.declared.open_fault.OpenFault.{OpenFault}
 use Rattle.pt_tables_opening.proofs.AgencyLemmas.{spares_none}
-use Rattle.pt_tables_opening.proofs.RestLemmas.{last, refused, rests_so, rests_then}
-use Rattle.pt_tables_opening.proofs.SameTables.{sound_there}
-use Rattle.pt_tables_opening.proofs.TableCases.{and_in, each_laid, each_table, last_table, rows_in}
+use Rattle.pt_tables_opening.proofs.RestLemmas.{refused, rests_so, rests_then}
+use Rattle.pt_tables_opening.proofs.TableCases.{and_in, each_laid, last_table, no_answer, passed_on, rows_in, sound_there}
 use Rattle.pt_tables_rows.specs.Schema.{desk_schema}
-
--- a refusal that is passed on
-pub passed_on : {X F : Type 0} (P : F → Type 0) (e : F) → P e → (r : Result X F) → IsErrAnd r (λ f. f ≡ e) → IfErr r P
-passed_on P e p (Ok x) h = tt
-passed_on P e p (Err f) h = subst P (sym h) p
-
--- where there is a refusal there is nothing else
-no_answer : {X F : Type 0} (P : X → Type 0) (r : Result X F) → IsErr r → IfOk r P
-no_answer P (Ok x) bad = absurd (cc)
-no_answer P (Err f) bad = tt
 
 -- ---- the tables in their order
 
@@ -92,36 +81,7 @@ tells_version trees it is version =
       first = λ same. let n : it.code ≡ 31 = same in absurd (omega arith);
     }
 
--- ---- one table is read
-
-pub puts_so : {X : Type 0} (t : UnsoundTable) (old new : Connected) (s : State) (r : Result X OpenFault) (x : X) → r ≡ Ok x → Rests old new r → (change made : Change) → change ≡ made
-    → IsReadIn t (applied made s)
-    → (HasCleanDisk new → old.now.schema ≡ desk_schema → HasRowsTo (number_of t - 1) s old.now.trees → HasRowsTo (number_of t) (applied made s) old.now.trees)
-    → ReadsTable t old new s (Ok change)
-puts_so t old new s r x is rests change made same read rows = record {
-  rests = last old new r x is rests (Ok change);
-  read = subst (λ (it : Change). IsReadIn t (applied it s)) (sym same) read;
-  rows = λ clean has before. subst (λ (it : Change). HasRowsTo (number_of t) (applied it s) old.now.trees) (sym same) (rows clean has before);
-  faults = tt;
-}
-
-pub fails_so : {X : Type 0} (t : UnsoundTable) (old new : Connected) (s : State) (r : Result X OpenFault) (e : OpenFault) (out : Result Change OpenFault) → IsErr out → IsErrAnd out (λ f. f ≡ e)
-    → Rests old new r → (P : Type 0) → (HasRowsTo (number_of t - 1) s old.now.trees → P → NoneStandsTo (number_of t) old.now.trees)
-    → IsFaultOf t (HasCleanDisk new → old.now.schema ≡ desk_schema → P) e → ReadsTable t old new s out
-fails_so t old new s r e out bad is rests P gives h = record {
-  rests = refused old new r out bad rests;
-  read = no_answer (λ change. IsReadIn t (applied change s)) out bad;
-  rows = λ clean has before. no_answer (λ change. HasRowsTo (number_of t) (applied change s) old.now.trees) out bad;
-  faults = passed_on _ e (told h) out is;
-}
-  where
-    told : IsFaultOf t (HasCleanDisk new → old.now.schema ≡ desk_schema → P) e
-        → IsFaultOf t (HasCleanDisk new → old.now.schema ≡ desk_schema → HasRowsTo (number_of t - 1) s old.now.trees → NoneStandsTo (number_of t) old.now.trees) e
-    told (inl memory) = inl memory
-    told (inr (inl store)) = inr (inl store)
-    told (inr (inr rows)) = inr (inr (rows.0, λ clean has before. gives before (rows.1 clean has)))
-
--- ---- and judged
+-- ---- one table that was read is judged
 
 pub judged_so : (t : UnsoundTable) (old new : Connected) (s : State) (read_as : Result Change OpenFault) (change : Change) → read_as ≡ Ok change → ReadsTable t old new s read_as
     → (r : Result Listed OpenFault) → IfOk r (λ judged. judged.content ≡ applied change s) → IfOk r (λ judged. IsSoundIn (applied change s) t)

@@ -16,8 +16,7 @@ use Rattle.pt_tables_rows.specs.Rows.{rider_chair_rows, vehicle_chair_rows, trip
 use Rattle.pt_tables_rows.specs.Schema.{desk_table, callers_table, kept_table, places_table, fixed_table}
 use Rattle.pt_tables_rows.specs.Schema.{vehicles_table, riders_table, entries_table, trips_table, stops_table}
 use Rattle.pt_tables_rows.specs.Schema.{travel_table, rider_chairs_table, vehicle_chairs_table, trip_chairs_table}
-use Rattle.pt_tables_rows.specs.Tables.{AreRows}
-use Rattle.pt_tables_rows.specs.WellFormed.{IsStoredPlan}
+use Rattle.pt_tables_rows.specs.Tables.{AreRows, IsStoredPlan}
 
 -- the rows of this table are the content's
 abbrev pub HasRowsIn : State → Trees → UnsoundTable → Type 0

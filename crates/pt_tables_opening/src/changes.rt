@@ -8,7 +8,6 @@ ghost use Rattle.std.specs.Prelude.{◌-◌, ◌<◌};
 
 use crate::OpenFault;
 use crate::beside::beside_in;
-use crate::content::no_change;
 use crate::gathered::gathered_in;
 use crate::one_row::RowByRow;
 use pt_desk::ListKeeper;
@@ -36,7 +35,7 @@ fn callers_change<S: Alter>(alloc: Global, conn: &mut Connection<S>) -> Result<C
     )?;
     Ok(Change {
         callers,
-        ..no_change(alloc)
+        ..Change::none(alloc)
     })
 }
 
@@ -50,7 +49,7 @@ fn kept_change<S: Alter>(alloc: Global, conn: &mut Connection<S>) -> Result<Chan
     let kept = gathered_in::<S, RowByRow<KeptWrites>>(alloc, conn, KEPT_ROWS, UnsoundTable::Kept)?;
     Ok(Change {
         kept,
-        ..no_change(alloc)
+        ..Change::none(alloc)
     })
 }
 
@@ -64,7 +63,7 @@ fn places_change<S: Alter>(alloc: Global, conn: &mut Connection<S>) -> Result<Ch
     let places = gathered_in::<S, RowByRow<Places>>(alloc, conn, PLACE_ROWS, UnsoundTable::Places)?;
     Ok(Change {
         places,
-        ..no_change(alloc)
+        ..Change::none(alloc)
     })
 }
 
@@ -85,7 +84,7 @@ fn routes_change<S: Alter>(alloc: Global, conn: &mut Connection<S>) -> Result<Ch
     )?;
     Ok(Change {
         routes,
-        ..no_change(alloc)
+        ..Change::none(alloc)
     })
 }
 
@@ -106,7 +105,7 @@ fn vehicles_change<S: Alter>(alloc: Global, conn: &mut Connection<S>) -> Result<
     )?;
     Ok(Change {
         vehicles,
-        ..no_change(alloc)
+        ..Change::none(alloc)
     })
 }
 
@@ -120,7 +119,7 @@ fn riders_change<S: Alter>(alloc: Global, conn: &mut Connection<S>) -> Result<Ch
     let riders = gathered_in::<S, RowByRow<Riders>>(alloc, conn, RIDER_ROWS, UnsoundTable::Riders)?;
     Ok(Change {
         riders,
-        ..no_change(alloc)
+        ..Change::none(alloc)
     })
 }
 
@@ -141,7 +140,7 @@ fn entries_change<S: Alter>(alloc: Global, conn: &mut Connection<S>) -> Result<C
     )?;
     Ok(Change {
         entries,
-        ..no_change(alloc)
+        ..Change::none(alloc)
     })
 }
 
@@ -157,7 +156,7 @@ fn trips_change<S: Alter>(alloc: Global, conn: &mut Connection<S>) -> Result<Cha
     let trips = gathered_in::<S, RowByRow<Trips>>(alloc, conn, TRIP_ROWS, UnsoundTable::Trips)?;
     Ok(Change {
         trips,
-        ..no_change(alloc)
+        ..Change::none(alloc)
     })
 }
 
@@ -172,7 +171,7 @@ fn planned_change<S: Alter>(alloc: Global, conn: &mut Connection<S>) -> Result<C
     let planned = gathered_in::<S, Plans>(alloc, conn, STOP_ROWS, UnsoundTable::Stops)?;
     Ok(Change {
         planned,
-        ..no_change(alloc)
+        ..Change::none(alloc)
     })
 }
 
@@ -186,7 +185,7 @@ fn travel_change<S: Alter>(alloc: Global, conn: &mut Connection<S>) -> Result<Ch
     let travel = gathered_in::<S, TravelTables>(alloc, conn, TRAVEL_ROWS, UnsoundTable::Travel)?;
     Ok(Change {
         travel,
-        ..no_change(alloc)
+        ..Change::none(alloc)
     })
 }
 
@@ -211,7 +210,7 @@ fn rider_chairs_change<S: Alter>(
     )?;
     Ok(Change {
         riders,
-        ..no_change(alloc)
+        ..Change::none(alloc)
     })
 }
 
@@ -237,7 +236,7 @@ fn vehicle_chairs_change<S: Alter>(
     )?;
     Ok(Change {
         vehicles,
-        ..no_change(alloc)
+        ..Change::none(alloc)
     })
 }
 
@@ -262,7 +261,7 @@ fn trip_chairs_change<S: Alter>(
     )?;
     Ok(Change {
         trips,
-        ..no_change(alloc)
+        ..Change::none(alloc)
     })
 }
 
@@ -279,7 +278,7 @@ pub(crate) fn change_in<S: Alter>(
     ensures { ReadsTable table (state S.Store conn.old) (state S.Store conn.new) keeper.now.content result }
 {
     match table {
-        UnsoundTable::Desk => Ok(no_change(alloc)),
+        UnsoundTable::Desk => Ok(Change::none(alloc)),
         UnsoundTable::Callers => callers_change(alloc, conn),
         UnsoundTable::Kept => kept_change(alloc, conn),
         UnsoundTable::Places => places_change(alloc, conn),

@@ -1,6 +1,5 @@
 ghost use Rattle.std.specs.Prelude.{◌≡◌, IfOk, IfErr};
 ghost use Rattle.pt_base.specs.Codes.{memory_refused};
-ghost use Rattle.pt_desk_rules.specs.Deciding.{no_change};
 ghost use Rattle.pt_records.specs.Records.{Each};
 ghost use Rattle.pt_soundness.specs.Tables.{all_tables};
 ghost use Rattle.pt_spelling.specs.Ranges.{IsWord};
@@ -12,31 +11,11 @@ use crate::OpenFault;
 use pt_base::{Policy, TripId};
 use pt_desk::ListKeeper;
 use pt_desk_rules::Change;
-use pt_records::{Edits, Key, Span};
+use pt_records::{Key, Span};
 use std::alloc::Global;
 
 /// The key of nobody, which the admin of the least state has until all callers are taken away.
 const NO_KEY: &[u8] = &[];
-
-/// No change.
-pub(crate) fn no_change(alloc: Global) -> Change
-    ensures { result ≡ no_change }
-{
-    Change {
-        callers: Edits::none(alloc),
-        kept: Edits::none(alloc),
-        policy: None,
-        places: Edits::none(alloc),
-        routes: Edits::none(alloc),
-        riders: Edits::none(alloc),
-        entries: Edits::none(alloc),
-        vehicles: Edits::none(alloc),
-        travel: Edits::none(alloc),
-        trips: Edits::none(alloc),
-        planned: Edits::none(alloc),
-        last_trip: None,
-    }
-}
 
 /// The desk of an agency with this policy and this number last given to a trip, and with no records.
 pub(crate) fn desk_of(
@@ -56,7 +35,7 @@ pub(crate) fn desk_of(
     let mut change = Change {
         policy: Some(policy),
         last_trip: TripId::of(last_trip),
-        ..no_change(alloc)
+        ..Change::none(alloc)
     };
     let Ok(()) = change.callers.take_away(all_numbers()) else {
         return Err(OpenFault::MEMORY);

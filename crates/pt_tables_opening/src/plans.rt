@@ -4,7 +4,7 @@ ghost use Rattle.pt_tables_opening.specs.Gathered.{FitStops, FitsRows};
 ghost use Rattle.pt_tables_reading.specs.Fitting.{FitsStopAt};
 ghost use Rattle.pt_tables_reading.specs.Reading.{Reads};
 ghost use Rattle.pt_tables_rows.specs.Rows.{stop_row, stop_rows, stop_rows_from};
-ghost use Rattle.pt_tables_rows.specs.WellFormed.{IsStoredPlan};
+ghost use Rattle.pt_tables_rows.specs.Tables.{IsStoredPlan};
 
 use crate::gathered::{Gathered, is_nought};
 use pt_base::{Day, VehicleId};

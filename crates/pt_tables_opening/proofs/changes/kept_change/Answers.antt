@@ -2,7 +2,7 @@ use Rattle.std.proofs.Common.{ap}
 use Rattle.sqlite.specs.Held.{state}
 use Rattle.pt_desk_rules.specs.declared.change.Change.{Change}
 use Rattle.pt_tables_opening.proofs.AskedRows.{kept_asked}
-use Rattle.pt_tables_opening.proofs.TableReads.{none_read, puts_read, kept_reads}
+use Rattle.pt_tables_opening.proofs.TableCases.{none_read, puts_read, kept_reads}
 use Rattle.pt_tables_opening.proofs.changes.kept_change.Goals as goal
 
 pub gathered_in-requires : goal.gathered_in-requires
@@ -11,7 +11,7 @@ gathered_in-requires g c = record { asked = kept_asked }
 pub returns : goal.returns
 returns g c s read =
     puts_read kept_reads (state g.S.Store c.args.conn.now) (state g.S.Store c.gathered_in.new.conn) s c.gathered_in.result c.gathered_in.ensures.rests read c.in_ok-kept.kept c.in_ok-kept.was
-    c.in_ok-kept.ensures.fitting c.in_ok-kept.ensures.told _ (ap (λ (change : Change). record change { kept = c.in_ok-kept.kept }) c.no_change.ensures)
+    c.in_ok-kept.ensures.fitting c.in_ok-kept.ensures.told _ (ap (λ (change : Change). record change { kept = c.in_ok-kept.kept }) c.none.ensures.value)
 
 pub returns-in_err-kept : goal.returns-in_err-kept
 returns-in_err-kept g c s read =

@@ -4,8 +4,7 @@ use Rattle.pt_base.specs.declared.rider.Rider.{Rider}
 use Rattle.pt_desk_rules.specs.declared.change.Change.{Change}
 use Rattle.pt_soundness.specs.declared.unsound_table.UnsoundTable.TheVariants as table
 use Rattle.pt_tables_opening.proofs.AskedRows.{rider_chairs_asked, riders_beside}
-use Rattle.pt_tables_opening.proofs.StepLemmas.{fails_so, puts_so}
-use Rattle.pt_tables_opening.proofs.TableReads.{puts_riders, rider_chairs_none, rider_chairs_read, rider_chairs_shown}
+use Rattle.pt_tables_opening.proofs.TableCases.{fails_so, puts_so, puts_riders, rider_chairs_none, rider_chairs_read, rider_chairs_shown}
 use Rattle.pt_tables_rows.specs.Rows.{rider_row}
 use Rattle.pt_tables_rows.specs.Schema.{riders_table}
 use Rattle.pt_tables_rows.specs.Tables.{AreRows}
@@ -26,7 +25,7 @@ returns g c =
     let known = c.as_slice.ensures.value ∙ c.riders_table.ensures.value in
     let same = c.in_ok-riders.ensures.same ∙ ap (map rider_row) known in
     puts_so table.RiderChairs old (state g.S.Store c.beside_in.new.conn) s c.beside_in.result edit c.in_ok-riders.was c.beside_in.ensures.rests _ (puts_riders edit)
-    (ap (λ (change : Change). record change { riders = edit }) c.no_change.ensures) (rider_chairs_read s edit c.requires.before fits same)
+    (ap (λ (change : Change). record change { riders = edit }) c.none.ensures.value) (rider_chairs_read s edit c.requires.before fits same)
     (λ clean has before. rider_chairs_shown s old.now.trees edit c.requires.before fits same (c.in_ok-riders.ensures.told clean has) before)
 
 pub returns-in_err-riders : goal.returns-in_err-riders

@@ -2,7 +2,7 @@ use Rattle.std.proofs.Common.{ap}
 use Rattle.sqlite.specs.Held.{state}
 use Rattle.pt_desk_rules.specs.declared.change.Change.{Change}
 use Rattle.pt_tables_opening.proofs.AskedRows.{riders_asked}
-use Rattle.pt_tables_opening.proofs.TableReads.{none_read, puts_read, riders_reads}
+use Rattle.pt_tables_opening.proofs.TableCases.{none_read, puts_read, riders_reads}
 use Rattle.pt_tables_opening.proofs.changes.riders_change.Goals as goal
 
 pub gathered_in-requires : goal.gathered_in-requires
@@ -11,7 +11,7 @@ gathered_in-requires g c = record { asked = riders_asked }
 pub returns : goal.returns
 returns g c s read =
     puts_read riders_reads (state g.S.Store c.args.conn.now) (state g.S.Store c.gathered_in.new.conn) s c.gathered_in.result c.gathered_in.ensures.rests read c.in_ok-riders.riders c.in_ok-riders.was
-    c.in_ok-riders.ensures.fitting c.in_ok-riders.ensures.told _ (ap (λ (change : Change). record change { riders = c.in_ok-riders.riders }) c.no_change.ensures)
+    c.in_ok-riders.ensures.fitting c.in_ok-riders.ensures.told _ (ap (λ (change : Change). record change { riders = c.in_ok-riders.riders }) c.none.ensures.value)
 
 pub returns-in_err-riders : goal.returns-in_err-riders
 returns-in_err-riders g c s read =

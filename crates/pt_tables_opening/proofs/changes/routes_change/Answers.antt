@@ -2,7 +2,7 @@ use Rattle.std.proofs.Common.{ap}
 use Rattle.sqlite.specs.Held.{state}
 use Rattle.pt_desk_rules.specs.declared.change.Change.{Change}
 use Rattle.pt_tables_opening.proofs.AskedRows.{routes_asked}
-use Rattle.pt_tables_opening.proofs.TableReads.{none_read, puts_read, routes_reads}
+use Rattle.pt_tables_opening.proofs.TableCases.{none_read, puts_read, routes_reads}
 use Rattle.pt_tables_opening.proofs.changes.routes_change.Goals as goal
 
 pub gathered_in-requires : goal.gathered_in-requires
@@ -11,7 +11,7 @@ gathered_in-requires g c = record { asked = routes_asked }
 pub returns : goal.returns
 returns g c s read =
     puts_read routes_reads (state g.S.Store c.args.conn.now) (state g.S.Store c.gathered_in.new.conn) s c.gathered_in.result c.gathered_in.ensures.rests read c.in_ok-routes.routes c.in_ok-routes.was
-    c.in_ok-routes.ensures.fitting c.in_ok-routes.ensures.told _ (ap (λ (change : Change). record change { routes = c.in_ok-routes.routes }) c.no_change.ensures)
+    c.in_ok-routes.ensures.fitting c.in_ok-routes.ensures.told _ (ap (λ (change : Change). record change { routes = c.in_ok-routes.routes }) c.none.ensures.value)
 
 pub returns-in_err-routes : goal.returns-in_err-routes
 returns-in_err-routes g c s read =

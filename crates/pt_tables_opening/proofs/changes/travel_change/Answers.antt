@@ -2,7 +2,7 @@ use Rattle.std.proofs.Common.{ap}
 use Rattle.sqlite.specs.Held.{state}
 use Rattle.pt_desk_rules.specs.declared.change.Change.{Change}
 use Rattle.pt_tables_opening.proofs.AskedRows.{travel_asked}
-use Rattle.pt_tables_opening.proofs.TableReads.{none_read, puts_read, travel_reads}
+use Rattle.pt_tables_opening.proofs.TableCases.{none_read, puts_read, travel_reads}
 use Rattle.pt_tables_opening.proofs.changes.travel_change.Goals as goal
 
 pub gathered_in-requires : goal.gathered_in-requires
@@ -11,7 +11,7 @@ gathered_in-requires g c = record { asked = travel_asked }
 pub returns : goal.returns
 returns g c s read =
     puts_read travel_reads (state g.S.Store c.args.conn.now) (state g.S.Store c.gathered_in.new.conn) s c.gathered_in.result c.gathered_in.ensures.rests read c.in_ok-travel.travel c.in_ok-travel.was
-    c.in_ok-travel.ensures.fitting c.in_ok-travel.ensures.told _ (ap (λ (change : Change). record change { travel = c.in_ok-travel.travel }) c.no_change.ensures)
+    c.in_ok-travel.ensures.fitting c.in_ok-travel.ensures.told _ (ap (λ (change : Change). record change { travel = c.in_ok-travel.travel }) c.none.ensures.value)
 
 pub returns-in_err-travel : goal.returns-in_err-travel
 returns-in_err-travel g c s read =

@@ -4,8 +4,7 @@ use Rattle.pt_base.specs.declared.trip.Trip.{Trip}
 use Rattle.pt_desk_rules.specs.declared.change.Change.{Change}
 use Rattle.pt_soundness.specs.declared.unsound_table.UnsoundTable.TheVariants as table
 use Rattle.pt_tables_opening.proofs.AskedRows.{trip_chairs_asked, trips_beside}
-use Rattle.pt_tables_opening.proofs.StepLemmas.{fails_so, puts_so}
-use Rattle.pt_tables_opening.proofs.TableReads.{puts_trips, trip_chairs_none, trip_chairs_read, trip_chairs_shown}
+use Rattle.pt_tables_opening.proofs.TableCases.{fails_so, puts_so, puts_trips, trip_chairs_none, trip_chairs_read, trip_chairs_shown}
 use Rattle.pt_tables_rows.specs.Rows.{trip_row}
 use Rattle.pt_tables_rows.specs.Schema.{trips_table}
 use Rattle.pt_tables_rows.specs.Tables.{AreRows}
@@ -26,7 +25,7 @@ returns g c =
     let known = c.as_slice.ensures.value ∙ c.trips_table.ensures.value in
     let same = c.in_ok-trips.ensures.same ∙ ap (map trip_row) known in
     puts_so table.TripChairs old (state g.S.Store c.beside_in.new.conn) s c.beside_in.result edit c.in_ok-trips.was c.beside_in.ensures.rests _ (puts_trips edit)
-    (ap (λ (change : Change). record change { trips = edit }) c.no_change.ensures) (trip_chairs_read s edit c.requires.before fits same)
+    (ap (λ (change : Change). record change { trips = edit }) c.none.ensures.value) (trip_chairs_read s edit c.requires.before fits same)
     (λ clean has before. trip_chairs_shown s old.now.trees edit c.requires.before fits same (c.in_ok-trips.ensures.told clean has) before)
 
 pub returns-in_err-trips : goal.returns-in_err-trips

@@ -4,8 +4,7 @@ use Rattle.pt_base.specs.declared.vehicle.Vehicle.{Vehicle}
 use Rattle.pt_desk_rules.specs.declared.change.Change.{Change}
 use Rattle.pt_soundness.specs.declared.unsound_table.UnsoundTable.TheVariants as table
 use Rattle.pt_tables_opening.proofs.AskedRows.{vehicle_chairs_asked, vehicles_beside}
-use Rattle.pt_tables_opening.proofs.StepLemmas.{fails_so, puts_so}
-use Rattle.pt_tables_opening.proofs.TableReads.{puts_vehicles, vehicle_chairs_none, vehicle_chairs_read, vehicle_chairs_shown}
+use Rattle.pt_tables_opening.proofs.TableCases.{fails_so, puts_so, puts_vehicles, vehicle_chairs_none, vehicle_chairs_read, vehicle_chairs_shown}
 use Rattle.pt_tables_rows.specs.Rows.{vehicle_row}
 use Rattle.pt_tables_rows.specs.Schema.{vehicles_table}
 use Rattle.pt_tables_rows.specs.Tables.{AreRows}
@@ -26,7 +25,7 @@ returns g c =
     let known = c.as_slice.ensures.value ∙ c.vehicles_table.ensures.value in
     let same = c.in_ok-vehicles.ensures.same ∙ ap (map vehicle_row) known in
     puts_so table.VehicleChairs old (state g.S.Store c.beside_in.new.conn) s c.beside_in.result edit c.in_ok-vehicles.was c.beside_in.ensures.rests _ (puts_vehicles edit)
-    (ap (λ (change : Change). record change { vehicles = edit }) c.no_change.ensures) (vehicle_chairs_read s edit c.requires.before fits same)
+    (ap (λ (change : Change). record change { vehicles = edit }) c.none.ensures.value) (vehicle_chairs_read s edit c.requires.before fits same)
     (λ clean has before. vehicle_chairs_shown s old.now.trees edit c.requires.before fits same (c.in_ok-vehicles.ensures.told clean has) before)
 
 pub returns-in_err-vehicles : goal.returns-in_err-vehicles
