@@ -1,5 +1,4 @@
 pub mod AdoptLemmas
-pub mod LeastLemmas
 pub mod MigrationLemmas
 pub mod NewLemmas
 pub mod RowidLemmas

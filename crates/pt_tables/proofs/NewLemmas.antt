@@ -1,23 +1,78 @@
--- The tables of a new desk, and what a crash leaves of their making.
-use Rattle.std.proofs.Common.{◌≡◌, ℕ, List, [], ◌∷◌, map, flat_map, IsPermutation, IsTrue, true, false, refl, sym, ap, subst, ◌∙◌, arith}
+-- The tables of a new desk, what a crash leaves of their making, and what an opening after it finds.
+use Rattle.std.proofs.Common.{◌≡◌, inl, inr, ℕ, List, IsTrue, false, refl, sym, ap, subst, ◌∙◌, [], ◌∷◌, map, flat_map, IsPermutation, true, arith}
 use Rattle.std.specs.List.{AllByRecursion}
+use Rattle.sqlite.specs.Effect.{Database, IsDatabase}
+use Rattle.sqlite.specs.Tree.{Trees}
+use Rattle.sqlite.specs.State.{State as Connected, Survives, KeepsCommit, HasCleanDisk, Shows}
+use Rattle.sqlite.proofs.StateLemmas.{survives_weaker, survives_then}
 use Rattle.sqlite.specs.Store.{Ghosts}
 use Rattle.sqlite.specs.Held.{Held, state}
 use Rattle.sqlite.specs.Order.{Row}
 use Rattle.sqlite.specs.Schema.{Schema}
-use Rattle.sqlite.specs.Effect.{Database, IsDatabase}
-use Rattle.sqlite.specs.State.{State as Connected, KeepsCommit, HasCleanDisk, Survives, Shows}
 use Rattle.sqlite.specs.Table.{Table}
-use Rattle.sqlite.specs.Tree.{Trees}
 use Rattle.sqlite.proofs.Callers.{survives_begin}
-use Rattle.sqlite.proofs.StateLemmas.{survives_then}
 use Rattle.sqlite_keyed.proofs.ListLemmas.{IsPermutation-same}
+use Rattle.sha2.specs.Sha256.{sha256}
 use Rattle.pt_base.specs.declared.policy.Policy.{Policy}
+use Rattle.pt_desk.specs.LeastState.{IsLeastPolicy, IsLeastState}
 use Rattle.pt_desk_rules.specs.State.{State}
-use Rattle.pt_tables_writing.specs.Least.{first_admin, IsDeskDatabase, IsNew, IsNewDesk}
+use Rattle.pt_tables_writing.specs.Least.{IsNew, IsAsBefore, IsDeskDatabase, IsInUse, IsUndone, IsNewDesk, IsLeastDesk, first_admin}
 use Rattle.pt_tables_rows.specs.Rows.{desk_row, caller_row, kept_row, place_row, route_row, vehicle_row, rider_row, entry_row, trip_row, stop_rows, travel_rows, rider_chair_rows, vehicle_chair_rows, trip_chair_rows}
-use Rattle.pt_tables_rows.specs.Schema.{desk_schema, no_schema, tables, desk_table, callers_table, kept_table, places_table, fixed_table, vehicles_table, riders_table, entries_table, trips_table, stops_table, travel_table, rider_chairs_table, vehicle_chairs_table, trip_chairs_table}
-use Rattle.pt_tables_rows.specs.Tables.{columns_of, AreRows, HasRows, HaveRowids, IsBlank, IsKept, Fills, Stands}
+use Rattle.pt_tables_rows.specs.Schema.{no_schema, desk_schema, tables, desk_table, callers_table, kept_table, places_table, fixed_table, vehicles_table, riders_table, entries_table, trips_table, stops_table, travel_table, rider_chairs_table, vehicle_chairs_table, trip_chairs_table}
+use Rattle.pt_tables_rows.specs.Tables.{HasRows, IsKept, columns_of, AreRows, HaveRowids, IsBlank, Fills, Stands}
+
+-- ---- the least state is new
+
+same_row : (p q : Policy) (n : ℕ) → IsLeastPolicy p → IsLeastPolicy q → n ≡ 0 → desk_row p n ≡ desk_row q 0
+same_row p q n a b none = rw (a.base, a.transfer, a.fare, a.service, a.extra_ride, a.min_missed, a.percent, a.span_days, b.base, b.transfer, b.fare, b.service, b.extra_ride, b.min_missed, b.percent, b.span_days, none) refl
+
+pub least_is_new : (key : List ℕ) (s content : State) → IsLeastState key s → IsLeastState key content → IsNew s.policy (sha256 key) content
+least_is_new key s content least is = record {
+  desk = same_row content.policy s.policy content.last_trip is.policy least.policy is.last_trip;
+  callers = is.callers;
+  kept = is.kept;
+  places = is.places;
+  routes = is.routes;
+  riders = is.riders;
+  entries = is.entries;
+  vehicles = is.vehicles;
+  travel = is.travel;
+  trips = is.trips;
+  planned = is.planned;
+}
+
+pub survives_least : (key : List ℕ) (s : State) (old new : Connected) → IsLeastState key s → Survives old new (IsNewDesk s.policy (sha256 key)) → Survives old new (IsLeastDesk key)
+survives_least key s old new least =
+    survives_weaker old new (IsNewDesk s.policy (sha256 key)) (IsLeastDesk key)
+    (λ _ db desk. record { tables = desk.tables; rows = λ content is. desk.rows content (least_is_new key s content least is) })
+
+pub as_before : (old new : Connected) → (IsTrue old.is_open → old.now ≡ old.committed) → IsUndone old new → IsAsBefore old new
+as_before old new settled undone = record {
+  now = λ here. undone.now here ∙ sym (settled (undone.was_open here));
+  committed = undone.committed;
+}
+
+pub untouched : (s : Connected) → IsAsBefore s s
+untouched s = record { now = λ _. refl; committed = λ _. refl }
+
+-- what is committed has the rows of the least state
+pub committed_least : (key : List ℕ) (s : State) (new : Connected) (db : Trees) → IsLeastState key s → IsTrue new.is_open → IsDeskDatabase new.committed.trees
+    → ((any : State) → IsNew s.policy (sha256 key) any → IsKept any new) → db ≡ new.committed.trees → IsLeastDesk key db
+committed_least key s new db least here tables made same = record {
+  tables = subst IsDeskDatabase (sym same) tables;
+  rows = λ content is.
+      let kept = made content (least_is_new key s content least is) in
+      subst (HasRows content) (sym (same ∙ ap (λ (d : Database). d.trees) (kept.committed here))) (kept.stands here).rows;
+}
+
+pub least_kept : (key : List ℕ) (s : State) (new : Connected) → IsLeastState key s → ((any : State) → IsNew s.policy (sha256 key) any → IsKept any new) → IsKept s new
+least_kept key s new least made = made s (least_is_new key s s least least)
+
+pub never_in_use : (s : Connected) → s.in_transaction ≡ false → s.now.schema ≡ no_schema → IsInUse s → ⊥
+never_in_use s alone blank (inl inside) = absurd (let none = subst IsTrue alone inside in cc)
+never_in_use s alone blank (inr used) = used blank
+
+-- ---- the tables of a new desk
 
 -- a table with no row stands for no record
 pub none_there : (table : Table) (trees : Trees) (rows : List Row) → trees table.tree ≡ [] → rows ≡ [] → AreRows table trees rows

@@ -6,8 +6,7 @@ ghost use Rattle.sqlite.specs.Held.{state};
 ghost use Rattle.sqlite.specs.State.{HasCleanDisk};
 ghost use Rattle.pt_records.specs.Records.{Each};
 ghost use Rattle.pt_tables_asking.specs.Plans.{HasVersionAmong};
-ghost use Rattle.pt_tables_rows.specs.WellFormed.{IsWellFormed};
-ghost use Rattle.pt_tables_rows.specs.Tables.{IsKept};
+ghost use Rattle.pt_tables_rows.specs.Tables.{IsWellFormed, IsKept};
 
 use pt_desk::{Keeper, ListKeeper};
 use pt_tables_keeper::{Content, Known, SqlKeeper};

@@ -9,7 +9,7 @@ use Rattle.pt_tables_opening.specs.Refused.{SparesOtherVersion}
 use Rattle.pt_tables_rows.specs.Tables.{HasRows}
 use Rattle.pt_tables.proofs.AdoptLemmas.{adopted, first_committed, handed_back, left_before, others_committed, unsound_committed}
 use Rattle.pt_tables_keeper.proofs.CarriedLemmas.{sound_carried}
-use Rattle.pt_tables_rows.proofs.WellFormedLemmas.{sound-well_formed}
+use Rattle.pt_tables_rows.proofs.SameRows.{sound-well_formed}
 use Rattle.pt_tables.proofs.adopting.adopt.Goals as goal
 
 pub keeper_of-requires : goal.keeper_of-requires

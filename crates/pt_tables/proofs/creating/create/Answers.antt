@@ -8,9 +8,9 @@ use Rattle.pt_desk_rules.specs.State.{State}
 use Rattle.pt_tables_writing.specs.Least.{IsLeastDesk, IsNew, IsNewDesk}
 use Rattle.pt_tables_rows.specs.Schema.{no_schema}
 use Rattle.pt_tables_rows.specs.Tables.{IsKept}
-use Rattle.pt_tables.proofs.LeastLemmas.{as_before, committed_least, least_kept, never_in_use, survives_least, untouched}
+use Rattle.pt_tables.proofs.NewLemmas.{as_before, committed_least, least_kept, never_in_use, survives_least, untouched}
 use Rattle.pt_tables_keeper.proofs.CarriedLemmas.{sound_carried}
-use Rattle.pt_tables_rows.proofs.WellFormedLemmas.{sound-well_formed}
+use Rattle.pt_tables_rows.proofs.SameRows.{sound-well_formed}
 use Rattle.pt_tables.proofs.creating.create.Goals as goal
 
 pub keeper_of-requires : goal.keeper_of-requires
