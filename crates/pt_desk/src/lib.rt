@@ -11,9 +11,8 @@ pub use laws::{
 pub use list_keeper::ListKeeper;
 pub use places::place_ids;
 pub use pt_desk_rules::{
-    Answer, Caller, Change, Confirmation, Decision, Digest, FiledEntry, Inquiry, Kept,
-    MOST_CALLERS, MOST_PLACES, MOST_RIDERS, MOST_ROUTES, Read, ReadFacts, RefusalFacts, Request,
-    Role, Write, WriteFacts,
+    Answer, Caller, Change, Confirmation, Decision, Digest, FiledEntry, Inquiry, Kept, Read,
+    ReadFacts, RefusalFacts, Request, Role, Write, WriteFacts,
 };
 pub use refusals::facts;
 pub use running::{Call, run};

@@ -33,7 +33,7 @@ use Rattle.pt_desk_rules.specs.Booking.{AreTimes, IsAnswered, IsRequestBy, route
 use Rattle.pt_desk_rules.specs.Explaining.{next_trip, AreFactsOf, AreRoutesOf, IsExplained}
 use Rattle.pt_desk_rules.specs.Explaining.{IsExplainedAfter, IsInquiry, IsInquiryAfter, IsToldPossible, RefusalsAreShown}
 use Rattle.pt_desk_rules.specs.Fleet as fleet
-use Rattle.pt_desk_rules.specs.Limits.{last_trip_number}
+use Rattle.pt_desk_rules.specs.State.{last_trip_number}
 use Rattle.pt_desk_rules.specs.Permission.{is_dispatcher}
 use Rattle.pt_desk_rules.specs.Refusal.{AreWithout, Refusal}
 use Rattle.pt_desk_rules.specs.Rules.{explain_rules}

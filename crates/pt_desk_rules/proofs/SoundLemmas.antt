@@ -21,7 +21,7 @@ use Rattle.pt_records.proofs.TableLemmas.{same_or_other, stays_there, found_by_k
 use Rattle.pt_records.proofs.WithinLemmas.{within-put_other, within-put_last, Each-within}
 use Rattle.pt_rights.specs.Rules.{first_failing}
 use Rattle.pt_rights.specs.declared.entry.Entry.{Entry}
-use Rattle.pt_desk_rules.specs.Limits.{most_callers, most_places, most_routes, most_riders, most_tables}
+use Rattle.pt_desk_rules.specs.State.{most_callers, most_places, most_routes, most_riders, most_tables}
 use Rattle.std.specs.Option.{unwrap_or}
 use Rattle.pt_spelling.specs.Replies.{reply_of}
 use Rattle.pt_spelling.specs.Requests.{spelling}

@@ -28,7 +28,7 @@ use Rattle.pt_desk_rules.specs.State.{no_edit, puts_one, replaces, versions_from
 use Rattle.pt_desk_rules.specs.Rules.{rules_of, read_rules}
 use Rattle.pt_desk_rules.specs.Tours.{IsDaySheet, IsManifestOf}
 use Rattle.pt_desk_rules.specs.Trips.{cancelled, gives_up, has_ends, moves_to}
-use Rattle.pt_desk_rules.specs.Limits.{last_trip_number}
+use Rattle.pt_desk_rules.specs.State.{last_trip_number}
 use Rattle.pt_requests.specs.declared.caller.Caller.{Caller}
 use Rattle.pt_desk_rules.specs.declared.kept.Kept.{Kept}
 use Rattle.pt_desk_rules.specs.declared.kept.Sent.{Sent}

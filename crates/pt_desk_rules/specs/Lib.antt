@@ -1,4 +1,3 @@
-pub mod Limits
 pub mod State
 pub mod Ranges
 pub mod Facts

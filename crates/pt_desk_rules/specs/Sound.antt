@@ -16,8 +16,8 @@ use Rattle.pt_scheduling.specs.Plan.{Plan, plan_key, planned_stops, stops_among,
 use Rattle.pt_scheduling.specs.Routes.{IsFeasible}
 use Rattle.pt_spelling.specs.Requests.{IsSpelling}
 use Rattle.pt_travel.specs.Chain.{Row}
-use Rattle.pt_desk_rules.specs.Limits.{most_callers, most_places, most_routes, most_riders, most_entries}
-use Rattle.pt_desk_rules.specs.Limits.{most_vehicles, most_versions, most_tables}
+use Rattle.pt_desk_rules.specs.State.{most_callers, most_places, most_routes, most_riders, most_entries}
+use Rattle.pt_desk_rules.specs.State.{most_vehicles, most_versions, most_tables}
 use Rattle.pt_desk_rules.specs.State.{State, caller_key, kept_key, place_key, route_key, rider_key, entry_key}
 use Rattle.pt_desk_rules.specs.State.{vehicle_key, travel_key, trip_key, entries_of}
 use Rattle.pt_desk_rules.specs.Facts.{has_subject}

@@ -1,4 +1,4 @@
--- What the desk keeps, and what a change makes of it.
+-- What the desk keeps, how much of it, and what a change makes of it.
 use Rattle.std.specs.Prelude.{ℕ, List, [], ◌∷◌, Option, bytes_eq, find, map, take}
 use Rattle.std.specs.Option.{unwrap_or}
 use Rattle.pt_base.specs.declared.place.Place.{Place}
@@ -10,9 +10,9 @@ use Rattle.pt_corridor.specs.Route.{Route}
 use Rattle.pt_records.specs.Keys.{pair_key}
 use Rattle.pt_records.specs.Records.{Edit, edited, record_at, take_away, within}
 use Rattle.pt_records.specs.declared.span.Span.{Span}
+pub use Rattle.pt_rights.specs.Limits.{most_entries}
 use Rattle.pt_rights.specs.declared.entry.Entered.{Entered}
 use Rattle.pt_scheduling.specs.Plan.{Plan, plan_key}
-use Rattle.pt_desk_rules.specs.Limits.{most_entries}
 use Rattle.pt_desk_rules.specs.Travel.{DatedTable}
 use Rattle.pt_requests.specs.declared.caller.Caller.{Caller}
 use Rattle.pt_desk_rules.specs.declared.kept.Kept.{Kept}
@@ -38,6 +38,50 @@ pub record State : Type 0 where
   pub planned : List Plan
   -- the number that was last given to a trip
   pub last_trip : ℕ
+
+-- the state of an agency that has these callers and this policy, and nothing else yet
+abbrev pub new_state : List Caller → Policy → State
+new_state callers policy = record {
+  callers = callers;
+  kept = [];
+  policy = policy;
+  places = [];
+  routes = [];
+  riders = [];
+  entries = [];
+  vehicles = [];
+  travel = [];
+  trips = [];
+  planned = [];
+  last_trip = 0;
+}
+
+-- the most of each table
+abbrev pub most_callers : ℕ
+most_callers = 1_000
+
+abbrev pub most_places : ℕ
+most_places = 100
+
+abbrev pub most_routes : ℕ
+most_routes = 50
+
+abbrev pub most_riders : ℕ
+most_riders = 100_000
+
+abbrev pub most_vehicles : ℕ
+most_vehicles = 50
+
+-- of one vehicle
+abbrev pub most_versions : ℕ
+most_versions = 20
+
+abbrev pub most_tables : ℕ
+most_tables = 50
+
+-- the last number that a trip can have
+abbrev pub last_trip_number : ℕ
+last_trip_number = 4_294_967_295
 
 abbrev pub no_edit : {A : Type 0} → Edit A
 no_edit = record { away = []; puts = [] }

@@ -1,6 +1,7 @@
 ghost use Rattle.std.specs.Prelude.{◌≡◌, Some, IfOk};
 ghost use Rattle.pt_base.specs.Day.{IsDay};
-ghost use Rattle.pt_desk_rules.specs.Deciding.{kept_of, no_change, with_kept, IsReady, IsDecidedBy, IsDecision, PutsInRangeIf};
+ghost use Rattle.pt_desk_rules.specs.Deciding.{kept_of, no_change, with_kept};
+ghost use Rattle.pt_desk_rules.specs.Deciding.{IsReady, IsDecidedBy, IsDecision, PutsInRangeIf};
 ghost use Rattle.pt_desk_rules.specs.declared.deciding.Decision.TheVariants.{Accepted};
 ghost use Rattle.pt_requests.specs.declared.request.Answer.TheVariants.{Done};
 ghost use Rattle.pt_requests.specs.declared.request.Write.TheVariants.{Enter};

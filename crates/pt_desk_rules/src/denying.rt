@@ -11,11 +11,12 @@ use crate::outcomes::{awaits_outcome, has_come};
 use crate::permission::{
     is_admin, is_clerk, is_dispatcher, may_alter, may_book, may_end, may_enter,
 };
-use crate::trips::{has_ends, is_cancellable, is_changeable};
-use crate::{
-    Caller, LAST_TRIP_NUMBER, MOST_CALLERS, MOST_PLACES, MOST_RIDERS, MOST_ROUTES, MOST_TABLES,
-    MOST_VEHICLES, MOST_VERSIONS, Write, WriteFacts,
+use crate::ranges::{
+    LAST_TRIP_NUMBER, MOST_CALLERS, MOST_PLACES, MOST_RIDERS, MOST_ROUTES, MOST_TABLES,
+    MOST_VEHICLES, MOST_VERSIONS,
 };
+use crate::trips::{has_ends, is_cancellable, is_changeable};
+use crate::{Caller, Write, WriteFacts};
 use pt_base::{CallerId, Moment, Place, PlaceId, Residence, Rider, RiderId, Rule, Vehicle};
 use pt_booking::first_failing;
 use pt_records::{Key, Rows};

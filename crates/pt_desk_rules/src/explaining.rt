@@ -6,14 +6,15 @@ ghost use Rattle.pt_rights.specs.Rules.{first_failing};
 ghost use Rattle.pt_travel.specs.Times.{time_in};
 ghost use Rattle.pt_desk_rules.specs.Booking.{AreTimes, rows_of};
 ghost use Rattle.pt_desk_rules.specs.Explaining.{AreRoutesOf, IsExplained, IsInquiry, IsInquiryAfter, IsToldPossible};
-ghost use Rattle.pt_desk_rules.specs.Limits.{last_trip_number};
+ghost use Rattle.pt_desk_rules.specs.State.{last_trip_number};
 ghost use Rattle.pt_desk_rules.specs.Rules.{explain_rules};
 ghost use Rattle.pt_desk_rules.specs.Trips.{has_ends};
 
 use crate::booking::{Asking, answer_wish};
 use crate::permission::is_dispatcher;
+use crate::ranges::LAST_TRIP_NUMBER;
 use crate::trips::has_ends;
-use crate::{Answer, Caller, LAST_TRIP_NUMBER, TravelTable, WriteFacts, on_duty};
+use crate::{Answer, Caller, TravelTable, WriteFacts, on_duty};
 use pt_base::{Day, Moment, Rule, TripId, Wish};
 use pt_booking::{asked_for, first_failing, riders_denial};
 use pt_insertion::{Asked, Duty};

@@ -16,14 +16,9 @@ pub use laws::{
     requests_are_the_same_again, requests_outlive_crashes, sound_states_have_routes,
     sound_states_have_tours, trips_are_private, writes_may_be_sent_again,
 };
-pub use limits::{
-    LAST_TRIP_NUMBER, MOST_CALLERS, MOST_PLACES, MOST_RIDERS, MOST_ROUTES, MOST_TABLES,
-    MOST_VEHICLES, MOST_VERSIONS,
-};
 pub use pt_requests::{Answer, Caller, Confirmation, Digest, Read, Request, Role, Write};
 pub use pt_scheduling::{PlannedRoute, PlannedStop};
 pub use pt_spelling::{KeptReply, Spelling};
-pub use ranges::puts_in_range;
 pub use tallies::Tallies;
 pub use telling::tell;
 pub use travel::{TravelTable, table_on};
@@ -39,10 +34,9 @@ mod fleet;
 mod kept;
 mod laws;
 mod letters;
-mod limits;
 mod outcomes;
 mod permission;
-mod ranges;
+pub mod ranges;
 mod tallies;
 mod telling;
 mod tours;

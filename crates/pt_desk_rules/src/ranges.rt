@@ -1,4 +1,4 @@
-//! The fields of records are in their ranges, as their types have it.
+//! How many records the desk keeps of each table, and that their fields are in their ranges, as their types have it.
 //!
 //! Definitions see a day, a minute or the number of a record as a bare number. That it keeps to its range is known
 //! where its type is in sight, so these functions look at each field, and say no more than that.
@@ -14,6 +14,30 @@ use pt_corridor::FixedRoute;
 use pt_rights::{Condition, Entry, Grant};
 use pt_spelling::{days_byte, spell_reply};
 use pt_travel::Row;
+
+/// The most callers that the desk keeps.
+pub const MOST_CALLERS: usize = 1_000;
+
+/// The most places that the desk keeps.
+pub const MOST_PLACES: usize = 100;
+
+/// The most fixed routes that the desk keeps.
+pub const MOST_ROUTES: usize = 50;
+
+/// The most vehicles that the desk keeps.
+pub const MOST_VEHICLES: usize = 50;
+
+/// The most versions of one vehicle.
+pub const MOST_VERSIONS: usize = 20;
+
+/// The most travel tables that the desk keeps.
+pub const MOST_TABLES: usize = 50;
+
+/// The last number that a trip can have.
+pub const LAST_TRIP_NUMBER: u32 = 4_294_967_295;
+
+/// The most riders that the desk keeps.
+pub const MOST_RIDERS: usize = 100_000;
 
 /// A record whose fields have ranges.
 trait Fitting {

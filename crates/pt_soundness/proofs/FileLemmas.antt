@@ -7,7 +7,7 @@ use Rattle.pt_records.specs.Keys.{pair_key}
 use Rattle.pt_records.specs.Records.{Each, IsInOrder, is_within}
 use Rattle.pt_records.proofs.OrderLemmas.{Each-both, Each-weaker}
 use Rattle.pt_records.proofs.TableLemmas.{same_or_other}
-use Rattle.pt_desk_rules.specs.Limits.{most_entries}
+use Rattle.pt_desk_rules.specs.State.{most_entries}
 use Rattle.pt_desk_rules.specs.Sound.{AreNumberedFrom, IsSoundFile}
 use Rattle.pt_desk_rules.specs.State.{entry_key, entries_of, span_of}
 use Rattle.pt_desk_rules.specs.declared.change.FiledEntry.{FiledEntry}

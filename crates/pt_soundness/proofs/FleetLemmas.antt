@@ -8,7 +8,7 @@ use Rattle.pt_base.specs.declared.vehicle.Vehicle.{Vehicle}
 use Rattle.pt_records.specs.Keys.{pair_key}
 use Rattle.pt_records.specs.Records.{Each, IsInOrder, is_within, within}
 use Rattle.pt_desk_rules.specs.Fleet.{has_version, vehicle_count, versions_of}
-use Rattle.pt_desk_rules.specs.Limits.{most_versions}
+use Rattle.pt_desk_rules.specs.State.{most_versions}
 use Rattle.pt_desk_rules.specs.Sound.{HasFirstDay}
 use Rattle.pt_desk_rules.specs.State.{vehicle_key, versions_from}
 

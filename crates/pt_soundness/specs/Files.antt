@@ -1,6 +1,6 @@
 -- The entries of all case files, one after another.
 use Rattle.std.specs.Prelude.{◌≡◌, ℕ, ◌<◌, ◌==◌, if◌then◌else◌}
-use Rattle.pt_desk_rules.specs.Limits.{most_entries}
+use Rattle.pt_desk_rules.specs.State.{most_entries}
 use Rattle.pt_desk_rules.specs.declared.change.FiledEntry.{FiledEntry}
 
 -- the position that a rider's next entry takes, where the next one of this rider takes this

@@ -1,5 +1,5 @@
--- The tables of the database, and what a sound state keeps in each: beside the ranges of its records each line stands with
--- the greatest of the tables that it speaks of.
+-- The tables of the database, and what a sound state keeps in each: beside the ranges of its records each line stands
+-- with the greatest of the tables that it speaks of.
 use Rattle.std.specs.Prelude.{ℕ, Bool, true, IsTrue, List, is_some, ◌-◌, [], ◌∷◌, take}
 use Rattle.pt_base.specs.declared.place.Place.{Place}
 use Rattle.pt_base.specs.declared.rider.Rider.{Rider}
@@ -12,7 +12,7 @@ use Rattle.pt_requests.specs.declared.caller.Role.{Role}
 use Rattle.pt_requests.specs.declared.caller.Role.TheVariants as role
 use Rattle.pt_scheduling.specs.Plan.{Plan, plan_key, IsRoutePlan}
 use Rattle.pt_desk_rules.specs.Fleet.{has_version}
-use Rattle.pt_desk_rules.specs.Limits.{most_callers, most_places, most_routes, most_riders, most_tables}
+use Rattle.pt_desk_rules.specs.State.{most_callers, most_places, most_routes, most_riders, most_tables}
 use Rattle.pt_desk_rules.specs.Sound.{HasOneHolder, IsKeptWrite, IsOfCaller, HasFiledRider, HasAuthor, IsSoundFile}
 use Rattle.pt_desk_rules.specs.Sound.{HasDepot, IsFleet, IsOfPlaces, IsNumberedTo, IsOfRider, HasPlaces}
 use Rattle.pt_desk_rules.specs.Sound.{HasStandingTrips, HasStops, DrivesIn, LoadsFitIn, IsPlanned}

@@ -4,7 +4,8 @@ ghost use Rattle.pt_soundness.specs.Tables.{AreSoundPlaces, AreSoundRoutes, AreS
 
 use pt_base::{Place, Rider};
 use pt_corridor::FixedRoute;
-use pt_desk_rules::{Caller, MOST_PLACES, MOST_RIDERS, MOST_ROUTES, Role};
+use pt_desk_rules::ranges::{MOST_PLACES, MOST_RIDERS, MOST_ROUTES};
+use pt_desk_rules::{Caller, Role};
 use pt_records::{Key, Table};
 
 /// Whether the places are those of a sound state.

@@ -1,13 +1,14 @@
 ghost use Rattle.std.specs.Prelude.{◌≡◌, ℕ, ◌≤◌, ◌↔◌, ◌∷◌, IsTrue, length};
 ghost use Rattle.pt_records.specs.Records.{Each, IsInOrder};
 ghost use Rattle.pt_desk_rules.specs.Fleet.{has_version, vehicle_count, versions_of};
-ghost use Rattle.pt_desk_rules.specs.Limits.{most_versions};
+ghost use Rattle.pt_desk_rules.specs.State.{most_versions};
 ghost use Rattle.pt_desk_rules.specs.Sound.{HasDepot, HasFirstDay, IsFleet};
 ghost use Rattle.pt_desk_rules.specs.State.{vehicle_key, versions_from};
 ghost use Rattle.pt_soundness.specs.Tables.{AreSoundVehicles, HasDriven};
 
 use pt_base::{Place, Vehicle, VehicleId};
-use pt_desk_rules::{Caller, MOST_VEHICLES, MOST_VERSIONS, Role};
+use pt_desk_rules::ranges::{MOST_VEHICLES, MOST_VERSIONS};
+use pt_desk_rules::{Caller, Role};
 use pt_records::{Key, Span, Table};
 
 /// Whether the depot of a version is there.

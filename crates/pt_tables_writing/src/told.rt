@@ -1,7 +1,8 @@
 ghost use Rattle.std.specs.Prelude.{◌↔◌, IsTrue};
 ghost use Rattle.pt_tables_rows.specs.Tables.{PutsWellFormed};
 
-use pt_desk_rules::{Change, have_stops, puts_in_range};
+use pt_desk_rules::ranges::puts_in_range;
+use pt_desk_rules::{Change, have_stops};
 
 /// Whether rows tell all that the change puts: of a plan with no stops no row would. A change that the rules make is
 /// such.

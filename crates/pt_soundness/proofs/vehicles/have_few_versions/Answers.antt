@@ -1,7 +1,7 @@
 use Rattle.std.proofs.Common.{◌≤◌, length}
 use Rattle.pt_base.specs.declared.vehicle.Vehicle.{Vehicle}
 use Rattle.pt_desk_rules.specs.Fleet.{versions_of}
-use Rattle.pt_desk_rules.specs.Limits.{most_versions}
+use Rattle.pt_desk_rules.specs.State.{most_versions}
 use Rattle.pt_soundness.proofs.FleetLemmas.{each_of, few_versions}
 use Rattle.pt_soundness.proofs.vehicles.have_few_versions.Goals as goal
 
