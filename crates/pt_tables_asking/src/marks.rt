@@ -20,7 +20,7 @@ use crate::asking::{Unread, asked, ordered};
 use pt_base::{Rider, Trip};
 use pt_records::{Key, Keyed, Rows};
 use pt_tables_reading::OneRow;
-use pt_tables_rows::{RiderChairs, TableOf, TripChairs};
+use pt_tables_rows::tables::{RiderChairs, TableOf, TripChairs};
 use sqlite::types::ValueRef;
 use sqlite::{Alter, Connection, Row, params};
 use std::alloc::{AllocError, Global};

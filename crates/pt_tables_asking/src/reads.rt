@@ -25,7 +25,7 @@ use crate::texts::{
 use pt_base::{CallerId, Day, Rider, RiderId, Trip, TripId};
 use pt_desk_rules::{FiledEntry, Kept};
 use pt_records::Rows;
-use pt_tables_rows::{Entries, KeptWrites, RiderChairs, Riders, TripChairs, Trips};
+use pt_tables_rows::tables::{Entries, KeptWrites, RiderChairs, Riders, TripChairs, Trips};
 use sqlite::types::ValueRef;
 use sqlite::{Alter, Connection, params};
 use std::alloc::Global;

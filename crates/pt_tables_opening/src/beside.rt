@@ -20,7 +20,9 @@ use pt_base::{Rider, Trip, Vehicle};
 use pt_records::Edits;
 use pt_soundness::UnsoundTable;
 use pt_tables_reading::{OneRow, rider_beside, trip_beside, vehicle_beside};
-use pt_tables_rows::{RiderChairs, Riders, TableOf, TripChairs, Trips, VehicleChairs, Vehicles};
+use pt_tables_rows::tables::{
+    RiderChairs, Riders, TableOf, TripChairs, Trips, VehicleChairs, Vehicles,
+};
 use sqlite::{Alter, Connection, Row};
 use std::alloc::{AllocError, Global};
 

@@ -13,7 +13,7 @@ use crate::one_row::RowByRow;
 use pt_desk::ListKeeper;
 use pt_desk_rules::Change;
 use pt_soundness::UnsoundTable;
-use pt_tables_rows::{
+use pt_tables_rows::tables::{
     Callers, Entries, FixedRoutes, KeptWrites, Places, Plans, RiderChairs, Riders, TravelTables,
     TripChairs, Trips, VehicleChairs, Vehicles,
 };

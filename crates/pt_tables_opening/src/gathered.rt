@@ -20,7 +20,7 @@ use crate::table_rows::rows_of_table;
 use pt_records::Edits;
 use pt_soundness::UnsoundTable;
 use pt_tables_asking::are_rising;
-use pt_tables_rows::TableOf;
+use pt_tables_rows::tables::TableOf;
 use sqlite::types::ValueRef;
 use sqlite::{Alter, Connection, Row};
 use std::alloc::{AllocError, Global};

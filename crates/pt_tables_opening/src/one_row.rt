@@ -4,7 +4,7 @@ ghost use Rattle.pt_tables_opening.specs.Gathered.{BeginsEach};
 
 use crate::gathered::Gathered;
 use pt_tables_reading::OneRow;
-use pt_tables_rows::TableOf;
+use pt_tables_rows::tables::TableOf;
 use sqlite::Row;
 use std::alloc::{AllocError, Global};
 use std::marker::PhantomData;

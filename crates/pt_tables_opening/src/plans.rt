@@ -11,7 +11,7 @@ use pt_base::{Day, VehicleId};
 use pt_desk_rules::PlannedRoute;
 use pt_scheduling::PlannedStop;
 use pt_tables_reading::stop_of;
-use pt_tables_rows::Plans;
+use pt_tables_rows::tables::Plans;
 use sqlite::Row;
 use std::alloc::{AllocError, Global};
 

@@ -11,7 +11,7 @@ use crate::gathered::{Gathered, is_nought};
 use pt_base::Day;
 use pt_desk_rules::TravelTable;
 use pt_tables_reading::drive_of;
-use pt_tables_rows::TravelTables;
+use pt_tables_rows::tables::TravelTables;
 use pt_travel::{Raw, Row as Drive};
 use sqlite::Row;
 use std::alloc::{AllocError, Global};

@@ -10,7 +10,7 @@ use crate::columns::{bytes_at, id_at, number_at};
 use crate::one_row::OneRow;
 use pt_base::{RiderId, VehicleId};
 use pt_requests::{Caller, Digest, Role};
-use pt_tables_rows::Callers;
+use pt_tables_rows::tables::Callers;
 use sqlite::Row;
 use std::alloc::{AllocError, Global};
 

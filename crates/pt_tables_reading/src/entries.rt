@@ -19,7 +19,7 @@ use crate::one_row::OneRow;
 use pt_base::Day;
 use pt_desk_rules::FiledEntry;
 use pt_rights::{Conditions, Entered, Entry, Grant, Reasons};
-use pt_tables_rows::Entries;
+use pt_tables_rows::tables::Entries;
 use sqlite::Row;
 use std::alloc::{AllocError, Global};
 

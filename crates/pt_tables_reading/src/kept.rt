@@ -12,7 +12,7 @@ use crate::one_row::OneRow;
 use pt_base::CallerId;
 use pt_desk_rules::Kept;
 use pt_spelling::{KeptReply, Spelling, read_reply};
-use pt_tables_rows::KeptWrites;
+use pt_tables_rows::tables::KeptWrites;
 use sqlite::Row;
 use std::alloc::{AllocError, Global};
 

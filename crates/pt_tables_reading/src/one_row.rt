@@ -4,7 +4,7 @@ ghost use Rattle.std.specs.Prelude.{◌≡◌, ◌∷◌, [], IfOk};
 ghost use Rattle.sqlite.specs.Order.{Row as StoredRow};
 ghost use Rattle.pt_tables_reading.specs.Reading.{Reads};
 
-use pt_tables_rows::TableOf;
+use pt_tables_rows::tables::TableOf;
 use sqlite::Row;
 use std::alloc::{AllocError, Global};
 

@@ -8,7 +8,7 @@ ghost use Rattle.pt_desk_rules.specs.Ranges.{FitsPlace};
 use crate::columns::{id_at, signed_at, truth_at};
 use crate::one_row::OneRow;
 use pt_base::{Place, Point};
-use pt_tables_rows::Places;
+use pt_tables_rows::tables::Places;
 use sqlite::Row;
 use std::alloc::{AllocError, Global};
 

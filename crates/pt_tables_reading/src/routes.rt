@@ -12,7 +12,7 @@ use crate::points::{are_points, points_from};
 use crate::weekdays::days_at;
 use pt_base::Point;
 use pt_corridor::FixedRoute;
-use pt_tables_rows::FixedRoutes;
+use pt_tables_rows::tables::FixedRoutes;
 use sqlite::Row;
 use std::alloc::{AllocError, Global};
 

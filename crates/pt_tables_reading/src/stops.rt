@@ -10,7 +10,7 @@ use pt_base::{Day, VehicleId};
 use pt_feasible::StopKind;
 use pt_records::{Key, Keyed};
 use pt_scheduling::PlannedStop;
-use pt_tables_rows::TableOf;
+use pt_tables_rows::tables::TableOf;
 use sqlite::Row;
 use std::alloc::{AllocError, Global};
 

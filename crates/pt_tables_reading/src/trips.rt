@@ -7,7 +7,7 @@ use crate::columns::{
 };
 use crate::one_row::OneRow;
 use pt_base::{Trip, Wish};
-use pt_tables_rows::Trips;
+use pt_tables_rows::tables::Trips;
 use sqlite::Row;
 use std::alloc::{AllocError, Global};
 

@@ -7,7 +7,7 @@ use crate::columns::{day_at, id_at, minute_at, number_in};
 use crate::one_row::OneRow;
 use crate::weekdays::days_at;
 use pt_base::Vehicle;
-use pt_tables_rows::Vehicles;
+use pt_tables_rows::tables::Vehicles;
 use sqlite::Row;
 use std::alloc::{AllocError, Global};
 

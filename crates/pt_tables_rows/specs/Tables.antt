@@ -1,6 +1,6 @@
--- The tables of a database, the content that they stand for, and the contents that their rows tell apart: the records of
--- each table stand in the order of their keys and keep to their ranges, and no plan is without stops, of which no row
--- would tell.
+-- The tables of a database, the content that they stand for, and the contents that their rows tell apart: the records
+-- of each table stand in the order of their keys and keep to their ranges, and no plan is without stops, of which no
+-- row would tell.
 use Rattle.std.specs.Prelude.{◌≡◌, ◌≢◌, ℕ, false, List, [], ◌∷◌, drop, map, flat_map, IsTrue, IsPermutation, Result, Ok}
 use Rattle.std.specs.Prelude.{Err}
 use Rattle.std.specs.List.{AllByRecursion}

@@ -5,11 +5,7 @@ pub use laws::{an_opening_finds_one_thing, same_rows_same_content};
 pub use schema::{
     DESK, FIRST_VERSION, TABLE_VERSION, add_chairs_tables, create_first_tables, create_tables,
 };
-pub use tables::{
-    Callers, Entries, FixedRoutes, KeptWrites, Places, Plans, RiderChairs, Riders, TableOf,
-    TravelTables, TripChairs, Trips, VehicleChairs, Vehicles,
-};
 
 mod laws;
 mod schema;
-mod tables;
+pub mod tables;

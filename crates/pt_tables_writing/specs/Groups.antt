@@ -1,5 +1,5 @@
--- Where lists, which have all records of the tables or a part of them, agree with what is there; and what a change makes
--- of a content, some tables at a time.
+-- Where lists, which have all records of the tables or a part of them, agree with what is there; and what a change
+-- makes of a content, some tables at a time.
 use Rattle.std.specs.Prelude.{◌≡◌, ◌⊎◌, ℕ, List, None, [], ◌∷◌}
 use Rattle.std.specs.Option.{unwrap_or}
 use Rattle.sqlite.specs.Effect.{Database}

@@ -13,7 +13,7 @@ ghost use Rattle.pt_desk_rules.specs.Ranges.{FitsRider, FitsTrip};
 
 use crate::stored::Stored;
 use pt_base::{Rider, Trip, Vehicle};
-use pt_tables_rows::{RiderChairs, TripChairs, VehicleChairs};
+use pt_tables_rows::tables::{RiderChairs, TripChairs, VehicleChairs};
 use sqlite::{Alter, Error, Transaction, params};
 
 const PUT_RIDER_CHAIR: &str = "INSERT INTO rider_chairs (rider) VALUES (?1) \

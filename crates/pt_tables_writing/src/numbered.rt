@@ -9,7 +9,7 @@ use pt_corridor::FixedRoute;
 use pt_desk_rules::Kept;
 use pt_requests::Caller;
 use pt_spelling::{days_byte, role_number, spell_reply, subject_of};
-use pt_tables_rows::{Callers, FixedRoutes, KeptWrites, Places, Riders, Trips};
+use pt_tables_rows::tables::{Callers, FixedRoutes, KeptWrites, Places, Riders, Trips};
 use sqlite::{Alter, Error, Transaction, params};
 
 mod columns;

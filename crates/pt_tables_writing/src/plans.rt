@@ -13,7 +13,7 @@ use crate::grouped::replace_plan;
 use crate::stored::write_edits;
 use pt_records::{Edits, Keyed, Table};
 use pt_scheduling::PlannedRoute;
-use pt_tables_rows::Plans;
+use pt_tables_rows::tables::Plans;
 use sqlite::{Alter, Error, Transaction};
 
 /// The plan in whose place the edit puts one, and that one, where the edit does no more.

@@ -9,7 +9,7 @@ ghost use Rattle.pt_tables_rows.specs.Tables.{Makes};
 ghost use Rattle.pt_tables_writing.specs.Writes.{Puts, Takes};
 
 use pt_records::{Edits, Keyed, Span, Table};
-use pt_tables_rows::TableOf;
+use pt_tables_rows::tables::TableOf;
 use sqlite::{Alter, Error, Transaction};
 
 /// A table that is written record by record.

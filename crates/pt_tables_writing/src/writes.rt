@@ -20,7 +20,7 @@ use pt_desk::ListKeeper;
 use pt_desk_rules::Change;
 use pt_records::Table;
 use pt_scheduling::PlannedRoute;
-use pt_tables_rows::{
+use pt_tables_rows::tables::{
     Callers, Entries, FixedRoutes, KeptWrites, Places, RiderChairs, Riders, TravelTables,
     TripChairs, Trips, VehicleChairs, Vehicles,
 };

@@ -12,7 +12,7 @@ use crate::grouped::entry_texts::{
 use crate::stored::Stored;
 use pt_desk_rules::FiledEntry;
 use pt_spelling::entry_number;
-use pt_tables_rows::Entries;
+use pt_tables_rows::tables::Entries;
 use sqlite::{Alter, Error, Transaction, params};
 
 const DELETE_ENTRY: &str = "DELETE FROM entries WHERE rider = ?1 AND place = ?2";

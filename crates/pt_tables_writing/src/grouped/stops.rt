@@ -12,7 +12,7 @@ use crate::stored::Stored;
 use pt_base::{Day, VehicleId};
 use pt_feasible::StopKind;
 use pt_scheduling::{PlannedRoute, PlannedStop};
-use pt_tables_rows::Plans;
+use pt_tables_rows::tables::Plans;
 use sqlite::{Alter, Error, Transaction, params};
 
 const DELETE_STOPS: &str = "DELETE FROM stops WHERE vehicle = ?1 AND day = ?2";

@@ -9,7 +9,7 @@ ghost use Rattle.pt_tables_writing.specs.Grouped.{Adds};
 use crate::stored::Stored;
 use pt_base::Day;
 use pt_desk_rules::TravelTable;
-use pt_tables_rows::TravelTables;
+use pt_tables_rows::tables::TravelTables;
 use pt_travel::Row;
 use sqlite::{Alter, Error, Transaction, params};
 

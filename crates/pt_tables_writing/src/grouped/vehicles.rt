@@ -9,7 +9,7 @@ ghost use Rattle.pt_tables_writing.specs.Grouped.{Adds};
 use crate::stored::Stored;
 use pt_base::Vehicle;
 use pt_spelling::days_byte;
-use pt_tables_rows::Vehicles;
+use pt_tables_rows::tables::Vehicles;
 use sqlite::{Alter, Error, Transaction, params};
 
 const DELETE_VEHICLE: &str = "DELETE FROM vehicles WHERE id = ?1 AND from_day = ?2";
