@@ -2,7 +2,7 @@
 use Rattle.std.specs.Prelude.{◌≡◌, ℕ, List, [], ◌∷◌}
 use Rattle.sha2.specs.Sha256.{sha256}
 use Rattle.pt_base.specs.declared.policy.Policy.{Policy}
-use Rattle.pt_desk_rules.specs.State.{State}
+use Rattle.pt_desk_rules.specs.State.{State, new_state}
 use Rattle.pt_requests.specs.declared.caller.Role.TheVariants.{Admin}
 
 -- the policy of an agency that has settled nothing
@@ -18,15 +18,5 @@ pub record IsLeastPolicy (policy : Policy) : Type 0 where
 
 -- caller 1 is the admin, who holds this key, and nothing else is there
 pub record IsLeastState (admin_key : List ℕ) (s : State) : Type 0 where
-  pub callers : s.callers ≡ record { id = 1; role = Admin; digest = sha256 admin_key } ∷ []
-  pub kept : s.kept ≡ []
   pub policy : IsLeastPolicy s.policy
-  pub places : s.places ≡ []
-  pub routes : s.routes ≡ []
-  pub riders : s.riders ≡ []
-  pub entries : s.entries ≡ []
-  pub vehicles : s.vehicles ≡ []
-  pub travel : s.travel ≡ []
-  pub trips : s.trips ≡ []
-  pub planned : s.planned ≡ []
-  pub last_trip : s.last_trip ≡ 0
+  pub content : s ≡ new_state (record { id = 1; role = Admin; digest = sha256 admin_key } ∷ []) s.policy

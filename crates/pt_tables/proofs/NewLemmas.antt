@@ -1,44 +1,32 @@
 -- The tables of a new desk, what a crash leaves of their making, and what an opening after it finds.
-use Rattle.std.proofs.Common.{◌≡◌, inl, inr, ℕ, List, IsTrue, false, refl, sym, ap, subst, ◌∙◌, [], ◌∷◌, map, flat_map, IsPermutation, true, arith}
-use Rattle.std.specs.List.{AllByRecursion}
+use Rattle.std.proofs.Common.{◌≡◌, inl, inr, ℕ, List, IsTrue, false, refl, sym, ap, subst, ◌∙◌, true, arith}
 use Rattle.sqlite.specs.Effect.{Database, IsDatabase}
 use Rattle.sqlite.specs.Tree.{Trees}
 use Rattle.sqlite.specs.State.{State as Connected, Survives, KeepsCommit, HasCleanDisk, Shows}
 use Rattle.sqlite.proofs.StateLemmas.{survives_weaker, survives_then}
 use Rattle.sqlite.specs.Store.{Ghosts}
 use Rattle.sqlite.specs.Held.{Held, state}
-use Rattle.sqlite.specs.Order.{Row}
 use Rattle.sqlite.specs.Schema.{Schema}
-use Rattle.sqlite.specs.Table.{Table}
 use Rattle.sqlite.proofs.Callers.{survives_begin}
-use Rattle.sqlite_keyed.proofs.ListLemmas.{IsPermutation-same}
 use Rattle.sha2.specs.Sha256.{sha256}
 use Rattle.pt_base.specs.declared.policy.Policy.{Policy}
 use Rattle.pt_desk.specs.LeastState.{IsLeastPolicy, IsLeastState}
 use Rattle.pt_desk_rules.specs.State.{State}
 use Rattle.pt_tables_writing.specs.Least.{IsNew, IsAsBefore, IsDeskDatabase, IsInUse, IsUndone, IsNewDesk, IsLeastDesk, first_admin}
-use Rattle.pt_tables_rows.specs.Rows.{desk_row, caller_row, kept_row, place_row, route_row, vehicle_row, rider_row, entry_row, trip_row, stop_rows, travel_rows, rider_chair_rows, vehicle_chair_rows, trip_chair_rows}
-use Rattle.pt_tables_rows.specs.Schema.{no_schema, desk_schema, tables, desk_table, callers_table, kept_table, places_table, fixed_table, vehicles_table, riders_table, entries_table, trips_table, stops_table, travel_table, rider_chairs_table, vehicle_chairs_table, trip_chairs_table}
-use Rattle.pt_tables_rows.specs.Tables.{HasRows, IsKept, columns_of, AreRows, HaveRowids, IsBlank, Fills, Stands}
+use Rattle.pt_tables_rows.specs.Rows.{desk_row, caller_row}
+use Rattle.pt_tables_rows.specs.Schema.{no_schema, desk_schema, desk_table, callers_table}
+use Rattle.pt_tables_rows.specs.Tables.{HasRows, IsKept, IsBlank, Fills, Stands}
+use Rattle.pt_tables_rows.proofs.CreateLemmas.{stands_new}
 
 -- ---- the least state is new
 
-same_row : (p q : Policy) (n : ℕ) → IsLeastPolicy p → IsLeastPolicy q → n ≡ 0 → desk_row p n ≡ desk_row q 0
-same_row p q n a b none = rw (a.base, a.transfer, a.fare, a.service, a.extra_ride, a.min_missed, a.percent, a.span_days, b.base, b.transfer, b.fare, b.service, b.extra_ride, b.min_missed, b.percent, b.span_days, none) refl
+same_row : (p q : Policy) → IsLeastPolicy p → IsLeastPolicy q → desk_row p 0 ≡ desk_row q 0
+same_row p q a b = rw (a.base, a.transfer, a.fare, a.service, a.extra_ride, a.min_missed, a.percent, a.span_days, b.base, b.transfer, b.fare, b.service, b.extra_ride, b.min_missed, b.percent, b.span_days) refl
 
 pub least_is_new : (key : List ℕ) (s content : State) → IsLeastState key s → IsLeastState key content → IsNew s.policy (sha256 key) content
 least_is_new key s content least is = record {
-  desk = same_row content.policy s.policy content.last_trip is.policy least.policy is.last_trip;
-  callers = is.callers;
-  kept = is.kept;
-  places = is.places;
-  routes = is.routes;
-  riders = is.riders;
-  entries = is.entries;
-  vehicles = is.vehicles;
-  travel = is.travel;
-  trips = is.trips;
-  planned = is.planned;
+  desk = same_row content.policy s.policy is.policy least.policy;
+  whole = is.content;
 }
 
 pub survives_least : (key : List ℕ) (s : State) (old new : Connected) → IsLeastState key s → Survives old new (IsNewDesk s.policy (sha256 key)) → Survives old new (IsLeastDesk key)
@@ -74,76 +62,6 @@ never_in_use s alone blank (inr used) = used blank
 
 -- ---- the tables of a new desk
 
--- a table with no row stands for no record
-pub none_there : (table : Table) (trees : Trees) (rows : List Row) → trees table.tree ≡ [] → rows ≡ [] → AreRows table trees rows
-none_there table trees rows empty none = IsPermutation-same _ rows (ap (map (columns_of table)) empty ∙ sym none)
-
-no_rowids : (rows : List Row) → rows ≡ [] → HaveRowids rows
-no_rowids rows none = subst HaveRowids (sym none) (record { rising = tt; whole = tt })
-
-module _ (policy : Policy) (digest : List ℕ) (blank desked done : Database) (first : IsBlank blank) (desk : Fills desk_table (desk_row policy 0) blank desked)
-    (admin : Fills callers_table (caller_row (first_admin digest)) desked done) where
-  rows_of_new : (content : State) → IsNew policy digest content → HasRows content done.trees
-  rows_of_new content is = record {
-    records = record {
-      desk = subst (λ rows. IsPermutation (map (columns_of desk_table) rows) (desk_row content.policy content.last_trip ∷ [])) (sym (admin.others.0 (λ e. cc)))
-          (subst (λ row. AreRows desk_table desked.trees (row ∷ [])) (sym is.desk) (desk.rows first.rows.0));
-      callers = subst (λ cs. AreRows callers_table done.trees (map caller_row cs)) (sym is.callers) (admin.rows (desk.others.1.0 (λ e. cc) ∙ first.rows.1.0));
-      kept = none_there kept_table done.trees (map kept_row content.kept) (admin.others.1.1.0 (λ e. cc) ∙ desk.others.1.1.0 (λ e. cc) ∙ first.rows.1.1.0) (ap (map kept_row) is.kept);
-      places = none_there places_table done.trees (map place_row content.places) (admin.others.1.1.1.0 (λ e. cc) ∙ desk.others.1.1.1.0 (λ e. cc) ∙ first.rows.1.1.1.0) (ap (map place_row) is.places);
-      fixed = none_there fixed_table done.trees (map route_row content.routes) (admin.others.1.1.1.1.0 (λ e. cc) ∙ desk.others.1.1.1.1.0 (λ e. cc) ∙ first.rows.1.1.1.1.0) (ap (map route_row) is.routes);
-      vehicles = none_there vehicles_table done.trees (map vehicle_row content.vehicles) (admin.others.1.1.1.1.1.0 (λ e. cc) ∙ desk.others.1.1.1.1.1.0 (λ e. cc) ∙ first.rows.1.1.1.1.1.0) (ap (map vehicle_row) is.vehicles);
-      riders = none_there riders_table done.trees (map rider_row content.riders) (admin.others.1.1.1.1.1.1.0 (λ e. cc) ∙ desk.others.1.1.1.1.1.1.0 (λ e. cc) ∙ first.rows.1.1.1.1.1.1.0) (ap (map rider_row) is.riders);
-      entries = none_there entries_table done.trees (map entry_row content.entries) (admin.others.1.1.1.1.1.1.1.0 (λ e. cc) ∙ desk.others.1.1.1.1.1.1.1.0 (λ e. cc) ∙ first.rows.1.1.1.1.1.1.1.0) (ap (map entry_row) is.entries);
-      trips = none_there trips_table done.trees (map trip_row content.trips) (admin.others.1.1.1.1.1.1.1.1.0 (λ e. cc) ∙ desk.others.1.1.1.1.1.1.1.1.0 (λ e. cc) ∙ first.rows.1.1.1.1.1.1.1.1.0) (ap (map trip_row) is.trips);
-      stops = none_there stops_table done.trees (flat_map stop_rows content.planned) (admin.others.1.1.1.1.1.1.1.1.1.0 (λ e. cc) ∙ desk.others.1.1.1.1.1.1.1.1.1.0 (λ e. cc) ∙ first.rows.1.1.1.1.1.1.1.1.1.0) (ap (flat_map stop_rows) is.planned);
-      travel = none_there travel_table done.trees (flat_map travel_rows content.travel) (admin.others.1.1.1.1.1.1.1.1.1.1.0 (λ e. cc) ∙ desk.others.1.1.1.1.1.1.1.1.1.1.0 (λ e. cc) ∙ first.rows.1.1.1.1.1.1.1.1.1.1.0) (ap (flat_map travel_rows) is.travel);
-    };
-    rider_chairs = none_there rider_chairs_table done.trees (flat_map rider_chair_rows content.riders) (admin.others.1.1.1.1.1.1.1.1.1.1.1.0 (λ e. cc) ∙ desk.others.1.1.1.1.1.1.1.1.1.1.1.0 (λ e. cc) ∙ first.rows.1.1.1.1.1.1.1.1.1.1.1.0) (ap (flat_map rider_chair_rows) is.riders);
-    vehicle_chairs = none_there vehicle_chairs_table done.trees (flat_map vehicle_chair_rows content.vehicles) (admin.others.1.1.1.1.1.1.1.1.1.1.1.1.0 (λ e. cc) ∙ desk.others.1.1.1.1.1.1.1.1.1.1.1.1.0 (λ e. cc) ∙ first.rows.1.1.1.1.1.1.1.1.1.1.1.1.0) (ap (flat_map vehicle_chair_rows) is.vehicles);
-    trip_chairs = none_there trip_chairs_table done.trees (flat_map trip_chair_rows content.trips) (admin.others.1.1.1.1.1.1.1.1.1.1.1.1.1.0 (λ e. cc) ∙ desk.others.1.1.1.1.1.1.1.1.1.1.1.1.1.0 (λ e. cc) ∙ first.rows.1.1.1.1.1.1.1.1.1.1.1.1.1.0) (ap (flat_map trip_chair_rows) is.trips);
-  }
-
-  rowids_of_new : AllByRecursion (λ t. HaveRowids (done.trees t.tree)) tables
-  rowids_of_new =
-      let trees = done.trees in (
-        subst HaveRowids (sym (admin.others.0 (λ e. cc))) (desk.rowids first.rows.0),
-        (
-          admin.rowids (desk.others.1.0 (λ e. cc) ∙ first.rows.1.0),
-          (
-            no_rowids (trees kept_table.tree) (admin.others.1.1.0 (λ e. cc) ∙ desk.others.1.1.0 (λ e. cc) ∙ first.rows.1.1.0),
-            (
-              no_rowids (trees places_table.tree) (admin.others.1.1.1.0 (λ e. cc) ∙ desk.others.1.1.1.0 (λ e. cc) ∙ first.rows.1.1.1.0),
-              (
-                no_rowids (trees fixed_table.tree) (admin.others.1.1.1.1.0 (λ e. cc) ∙ desk.others.1.1.1.1.0 (λ e. cc) ∙ first.rows.1.1.1.1.0),
-                (
-                  no_rowids (trees vehicles_table.tree) (admin.others.1.1.1.1.1.0 (λ e. cc) ∙ desk.others.1.1.1.1.1.0 (λ e. cc) ∙ first.rows.1.1.1.1.1.0),
-                  (
-                    no_rowids (trees riders_table.tree) (admin.others.1.1.1.1.1.1.0 (λ e. cc) ∙ desk.others.1.1.1.1.1.1.0 (λ e. cc) ∙ first.rows.1.1.1.1.1.1.0),
-                    (
-                      no_rowids (trees entries_table.tree) (admin.others.1.1.1.1.1.1.1.0 (λ e. cc) ∙ desk.others.1.1.1.1.1.1.1.0 (λ e. cc) ∙ first.rows.1.1.1.1.1.1.1.0),
-                      (
-                        no_rowids (trees trips_table.tree) (admin.others.1.1.1.1.1.1.1.1.0 (λ e. cc) ∙ desk.others.1.1.1.1.1.1.1.1.0 (λ e. cc) ∙ first.rows.1.1.1.1.1.1.1.1.0),
-                        (
-                          no_rowids (trees stops_table.tree) (admin.others.1.1.1.1.1.1.1.1.1.0 (λ e. cc) ∙ desk.others.1.1.1.1.1.1.1.1.1.0 (λ e. cc) ∙ first.rows.1.1.1.1.1.1.1.1.1.0),
-                          (
-                            no_rowids (trees travel_table.tree) (admin.others.1.1.1.1.1.1.1.1.1.1.0 (λ e. cc) ∙ desk.others.1.1.1.1.1.1.1.1.1.1.0 (λ e. cc) ∙ first.rows.1.1.1.1.1.1.1.1.1.1.0),
-                            (no_rowids (trees rider_chairs_table.tree) (admin.others.1.1.1.1.1.1.1.1.1.1.1.0 (λ e. cc) ∙ desk.others.1.1.1.1.1.1.1.1.1.1.1.0 (λ e. cc) ∙ first.rows.1.1.1.1.1.1.1.1.1.1.1.0), (no_rowids (trees vehicle_chairs_table.tree) (admin.others.1.1.1.1.1.1.1.1.1.1.1.1.0 (λ e. cc) ∙ desk.others.1.1.1.1.1.1.1.1.1.1.1.1.0 (λ e. cc) ∙ first.rows.1.1.1.1.1.1.1.1.1.1.1.1.0), (no_rowids (trees trip_chairs_table.tree) (admin.others.1.1.1.1.1.1.1.1.1.1.1.1.1.0 (λ e. cc) ∙ desk.others.1.1.1.1.1.1.1.1.1.1.1.1.1.0 (λ e. cc) ∙ first.rows.1.1.1.1.1.1.1.1.1.1.1.1.1.0), tt))),
-                          ),
-                        ),
-                      ),
-                    ),
-                  ),
-                ),
-              ),
-            ),
-          ),
-        ),
-      )
-
-  pub stands_new : (content : State) → IsNew policy digest content → Stands content done
-  stands_new content is = record { schema = admin.schema; rows = rows_of_new content is; rowids = rowids_of_new }
-
 module _ {S : Type 0} (g : Ghosts S) (old begun one two three : Held S) (policy : Policy) (digest : List ℕ) (is : begun ≡ record old { in_transaction = true }) (blank : old.schema ≡ no_schema)
     (made_survives : Survives (state g begun) (state g one) (λ _. ⊥)) (desk_survives : Survives (state g one) (state g two) (λ _. ⊥)) (admin_survives : Survives (state g two) (state g three) (λ _. ⊥))
     (made : HasCleanDisk (state g one) → IsTrue begun.in_transaction
@@ -176,7 +94,7 @@ module _ {S : Type 0} (g : Ghosts S) (old begun one two three : Held S) (policy 
   stand : HasCleanDisk (state g three) → (content : State) → IsNew policy digest content → Stands content (state g three).now
   stand clean content new =
       let it = filled clean in
-      stands_new policy digest (state g one).now (state g two).now (state g three).now it.empty it.desked it.done content new
+      stands_new policy (first_admin digest) (state g one).now (state g two).now (state g three).now it.empty it.desked it.done content new.desk new.whole
 
   desk_there : HasCleanDisk (state g three) → IsDeskDatabase (state g three).now.trees
   desk_there clean =

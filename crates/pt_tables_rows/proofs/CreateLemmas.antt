@@ -1,5 +1,5 @@
--- What the statements that make the tables do, one after the other.
-use Rattle.std.proofs.Common.{◌≡◌, ◌<◌, ◌+◌, ◌-◌, ℕ, zero, suc, List, [], ◌∷◌, ◌++◌, false, None, Some, Ok, refl, sym, ap, subst, ◌∙◌, arith, slice_get, slice_index_or, fold, map, take, length}
+-- What the statements that make the tables do, one after the other, and what rows a new desk then has.
+use Rattle.std.proofs.Common.{◌≡◌, ◌≢◌, ◌<◌, ◌+◌, ◌-◌, ℕ, zero, suc, List, [], ◌∷◌, ◌++◌, IsPermutation, false, None, Some, Ok, refl, sym, ap, subst, ◌∙◌, arith, slice_get, slice_index_or, fold, map, drop, take, length}
 use Rattle.std.specs.List.{AllByRecursion}
 use Rattle.sqlite.specs.Command.TheVariants.{CreateTable, CreateIndex}
 use Rattle.sqlite.specs.Table.{Table}
@@ -10,14 +10,19 @@ use Rattle.sqlite.specs.Compile.{table_defined_by, index_defined_by}
 use Rattle.sqlite.specs.Does.{Tally, lacks_sequence, AtPlace, Defines, MakesIndex}
 use Rattle.sqlite.specs.Effect.{Database}
 use Rattle.sqlite.specs.Listing.{understood}
-use Rattle.sqlite.specs.State.{State, Writes, Executes, mode_of}
+use Rattle.sqlite.specs.State.{State as Connected, Writes, Executes, mode_of}
 use Rattle.sqlite.proofs.Callers.{IsPlain, command_of, statement_of, runs_as}
-use Rattle.sqlite_keyed.proofs.ListLemmas.{all-append}
+use Rattle.sqlite_keyed.proofs.ListLemmas.{IsPermutation-same, all-append}
 use Rattle.sqlite_schema.specs.declared.schema.Index.{Index}
 use Rattle.sqlite_tied.specs.Compute.{everything}
-use Rattle.pt_tables_rows.specs.Schema.{desk_schema, first_schema, no_schema, first_tables, chairs_tables, desk_table, trips_table, rider_chairs_table, trip_indexes, trips_rider, trips_day}
+use Rattle.pt_base.specs.declared.policy.Policy.{Policy}
+use Rattle.pt_requests.specs.declared.caller.Caller.{Caller}
+use Rattle.pt_desk_rules.specs.State.{State, new_state}
+use Rattle.pt_tables_rows.specs.Rows.{desk_row, caller_row}
+use Rattle.pt_tables_rows.specs.Schema.{desk_schema, first_schema, no_schema, tables, first_tables, chairs_tables, desk_table, callers_table, kept_table, places_table, fixed_table, vehicles_table, riders_table}
+use Rattle.pt_tables_rows.specs.Schema.{entries_table, trips_table, stops_table, travel_table, rider_chairs_table, vehicle_chairs_table, trip_chairs_table, trip_indexes, trips_rider, trips_day}
 use Rattle.pt_tables_rows.specs.declared.schema.TheConstants.{FIRST_TABLES, ADDITIONS}
-use Rattle.pt_tables_rows.specs.Tables.{AddsChairs, IsBlank, IsFirstBlank}
+use Rattle.pt_tables_rows.specs.Tables.{AddsChairs, AreRows, Fills, HasRows, HaveRowids, IsBlank, IsFirstBlank, Stands, columns_of}
 use Rattle.pt_tables_rows.proofs.PartLemmas.{went, same_value}
 use Rattle.pt_tables_rows.proofs.SameRowsLists.{all_back, all_front}
 
@@ -107,7 +112,7 @@ still_empty (t ∷ ts) old new keeps empty = (keeps.0 ∙ empty.0, still_empty t
 
 module _ (schema : Schema) (text : List ℕ) (table : Table) (step : Step schema text table) where
   -- what a CREATE TABLE makes: a table with no row, beside others that keep theirs
-  creates : (old new : State) (count : ℕ) → old.now.schema ≡ schema → Executes text [] old new (Ok count)
+  creates : (old new : Connected) (count : ℕ) → old.now.schema ≡ schema → Executes text [] old new (Ok count)
       → (new.now.schema ≡ created schema (as_read table)) × KeepsRows schema.tables old.now.trees new.now.trees × (new.now.trees (next_tree schema) ≡ [])
   creates old new count has h =
       let w = subst (λ t. Writes old new None CreateTable t [] count) step.whole (runs_as text [] old new schema has CreateTable step.is step.plain count h) in
@@ -143,7 +148,7 @@ next (suc (suc (suc (suc (suc (suc (suc (suc (suc zero))))))))) low = (step_9, r
 next (suc (suc (suc (suc (suc (suc (suc (suc (suc (suc zero)))))))))) low = (step_10, refl)
 next (suc (suc (suc (suc (suc (suc (suc (suc (suc (suc (suc n))))))))))) low = absurd (omega arith)
 
-pub makes_next : (n : ℕ) → n < first_count → (old new : State) (count : ℕ) → IsMade n old.now → Executes (slice_index_or statements_of_tables n []) [] old new (Ok count) → IsMade (n + 1) new.now
+pub makes_next : (n : ℕ) → n < first_count → (old new : Connected) (count : ℕ) → IsMade n old.now → Executes (slice_index_or statements_of_tables n []) [] old new (Ok count) → IsMade (n + 1) new.now
 makes_next n low old new count made h =
     let schema = schema_after n in
     let table = slice_index_or first_tables n desk_table in
@@ -254,7 +259,7 @@ whole_added = refl
 
 module _ (n : ℕ) (index : Index) (step : IndexStep n index) where
   -- what a CREATE INDEX of trips makes: the index, and each table keeps its rows
-  indexes : (old new : State) (count : ℕ) → old.now.schema ≡ added_after n → Executes (statement_at n) [] old new (Ok count)
+  indexes : (old new : Connected) (count : ℕ) → old.now.schema ≡ added_after n → Executes (statement_at n) [] old new (Ok count)
       → (new.now.schema ≡ added_after (n + 1)) × KeepsRows (first_tables ++ take n chairs_tables) old.now.trees new.now.trees
   indexes old new count has h =
       let text = statement_at n in
@@ -290,7 +295,7 @@ all_same : (ts : List Table) (old : Trees) → AllByRecursion (Same old old) ts
 all_same [] old = tt
 all_same (t ∷ ts) old = (refl, all_same ts old)
 
-module _ (base : Database) (old new : State) (count : ℕ) where
+module _ (base : Database) (old new : Connected) (count : ℕ) where
   adds_table : (n : ℕ) → ChairsStep n → IsAdded n base old.now → Executes (statement_at n) [] old new (Ok count) → IsAdded (n + 1) base new.now
   adds_table n s added h =
       let it = creates (added_after n) (statement_at n) (chairs_table n) s.step old new count added.schema h in
@@ -342,3 +347,95 @@ blank_then old new blank adds = record {
   rows = all-append (Empty new.trees) first_tables chairs_tables (still_empty first_tables old.trees new.trees adds.kept blank.rows)
       (adds.rider_chairs, (adds.vehicle_chairs, (adds.trip_chairs, tt)));
 }
+
+-- ---- the rows of a new desk
+
+-- a table with no row stands for no record
+none_there : (table : Table) (trees : Trees) → trees table.tree ≡ [] → AreRows table trees []
+none_there table trees empty = IsPermutation-same _ [] (ap (map (columns_of table)) empty)
+
+no_rowids : (ts : List Table) (trees : Trees) → AllByRecursion (Empty trees) ts → AllByRecursion (λ t. HaveRowids (trees t.tree)) ts
+no_rowids [] trees empty = tt
+no_rowids (t ∷ ts) trees empty = (subst HaveRowids (sym empty.0) (record { rising = tt; whole = tt }), no_rowids ts trees empty.1)
+
+-- it is neither the agency's table nor that of the callers
+abbrev IsBeyond : Table → Type 0
+IsBeyond t = (t.tree ≢ desk_table.tree) × (t.tree ≢ callers_table.tree)
+
+-- a table apart from those that are filled has no row
+abbrev Unfilled : Table → Trees → Trees → Table → Type 0
+Unfilled filled old new t = t.tree ≢ filled.tree → new t.tree ≡ old t.tree
+
+still_unfilled : (ts : List Table) (blank desked done : Trees) → AllByRecursion IsBeyond ts → AllByRecursion (Empty blank) ts → AllByRecursion (Unfilled desk_table blank desked) ts
+    → AllByRecursion (Unfilled callers_table desked done) ts → AllByRecursion (Empty done) ts
+still_unfilled [] blank desked done beyond empty desk callers = tt
+still_unfilled (t ∷ ts) blank desked done beyond empty desk callers =
+    (callers.0 beyond.0.1 ∙ desk.0 beyond.0.0 ∙ empty.0, still_unfilled ts blank desked done beyond.1 empty.1 desk.1 callers.1)
+
+-- the tables whose records a new desk lacks
+abbrev later_tables : List Table
+later_tables = drop 2 tables
+
+are_beyond : AllByRecursion IsBeyond later_tables
+are_beyond = (
+  (λ e. cc, λ e. cc),
+  (
+    (λ e. cc, λ e. cc),
+    (
+      (λ e. cc, λ e. cc),
+      (
+        (λ e. cc, λ e. cc),
+        (
+          (λ e. cc, λ e. cc),
+          (
+            (λ e. cc, λ e. cc),
+            ((λ e. cc, λ e. cc), ((λ e. cc, λ e. cc), ((λ e. cc, λ e. cc), ((λ e. cc, λ e. cc), ((λ e. cc, λ e. cc), ((λ e. cc, λ e. cc), tt)))))),
+          ),
+        ),
+      ),
+    ),
+  ),
+)
+
+module _ (policy : Policy) (caller : Caller) (blank desked done : Database) (first : IsBlank blank) (desk : Fills desk_table (desk_row policy 0) blank desked)
+    (callers : Fills callers_table (caller_row caller) desked done) where
+  unfilled : AllByRecursion (Empty done.trees) later_tables
+  unfilled = still_unfilled later_tables blank.trees desked.trees done.trees are_beyond first.rows.1.1 desk.others.1.1 callers.others.1.1
+
+  no_callers : desked.trees callers_table.tree ≡ []
+  no_callers = desk.others.1.0 (λ e. cc) ∙ first.rows.1.0
+
+  same_desk : done.trees desk_table.tree ≡ desked.trees desk_table.tree
+  same_desk = callers.others.0 (λ e. cc)
+
+  rows_of_new : (shown : Policy) → desk_row shown 0 ≡ desk_row policy 0 → HasRows (new_state (caller ∷ []) shown) done.trees
+  rows_of_new shown same =
+      let trees = done.trees in
+      let none = unfilled in
+      record {
+        records = record {
+          desk = subst (λ rows. IsPermutation (map (columns_of desk_table) rows) (desk_row shown 0 ∷ [])) (sym same_desk)
+              (subst (λ row. AreRows desk_table desked.trees (row ∷ [])) (sym same) (desk.rows first.rows.0));
+          callers = callers.rows no_callers;
+          kept = none_there kept_table trees none.0;
+          places = none_there places_table trees none.1.0;
+          fixed = none_there fixed_table trees none.1.1.0;
+          vehicles = none_there vehicles_table trees none.1.1.1.0;
+          riders = none_there riders_table trees none.1.1.1.1.0;
+          entries = none_there entries_table trees none.1.1.1.1.1.0;
+          trips = none_there trips_table trees none.1.1.1.1.1.1.0;
+          stops = none_there stops_table trees none.1.1.1.1.1.1.1.0;
+          travel = none_there travel_table trees none.1.1.1.1.1.1.1.1.0;
+        };
+        rider_chairs = none_there rider_chairs_table trees none.1.1.1.1.1.1.1.1.1.0;
+        vehicle_chairs = none_there vehicle_chairs_table trees none.1.1.1.1.1.1.1.1.1.1.0;
+        trip_chairs = none_there trip_chairs_table trees none.1.1.1.1.1.1.1.1.1.1.1.0;
+      }
+
+  -- a content with this caller alone, and a policy that shows as the one that was written
+  pub stands_new : (content : State) → desk_row content.policy 0 ≡ desk_row policy 0 → content ≡ new_state (caller ∷ []) content.policy → Stands content done
+  stands_new content same is = subst (λ (s : State). Stands s done) (sym is) (record {
+    schema = callers.schema;
+    rows = rows_of_new content.policy same;
+    rowids = (subst HaveRowids (sym same_desk) (desk.rowids first.rows.0), (callers.rowids no_callers, no_rowids later_tables done.trees unfilled));
+  })

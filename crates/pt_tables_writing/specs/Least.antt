@@ -5,7 +5,7 @@ use Rattle.sqlite.specs.State.{State as Connected}
 use Rattle.sqlite.specs.Tree.{Trees}
 use Rattle.pt_base.specs.declared.policy.Policy.{Policy}
 use Rattle.pt_desk.specs.LeastState.{IsLeastState}
-use Rattle.pt_desk_rules.specs.State.{State}
+use Rattle.pt_desk_rules.specs.State.{State, new_state}
 use Rattle.pt_requests.specs.declared.caller.Caller.{Caller}
 use Rattle.pt_requests.specs.declared.caller.Role.TheVariants.{Admin}
 use Rattle.pt_tables_rows.specs.Rows.{desk_row}
@@ -18,17 +18,8 @@ first_admin digest = record { id = 1; role = Admin; digest = digest }
 
 -- the admin with this digest and a policy that shows as this one, and nothing else
 pub record IsNew (policy : Policy) (digest : List ℕ) (content : State) : Type 0 where
-  pub desk : desk_row content.policy content.last_trip ≡ desk_row policy 0
-  pub callers : content.callers ≡ first_admin digest ∷ []
-  pub kept : content.kept ≡ []
-  pub places : content.places ≡ []
-  pub routes : content.routes ≡ []
-  pub riders : content.riders ≡ []
-  pub entries : content.entries ≡ []
-  pub vehicles : content.vehicles ≡ []
-  pub travel : content.travel ≡ []
-  pub trips : content.trips ≡ []
-  pub planned : content.planned ≡ []
+  pub desk : desk_row content.policy 0 ≡ desk_row policy 0
+  pub whole : content ≡ new_state (first_admin digest ∷ []) content.policy
 
 -- the database lists the desk's tables, each by the text that defines it, and nothing else, and its rows obey them
 abbrev pub IsDeskDatabase : Trees → Type 0
