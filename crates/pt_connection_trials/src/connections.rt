@@ -198,18 +198,27 @@ fn answered<'c>(
     (writer.stream, told)
 }
 
+/// Compares what is told of a case and what its client has taken.
+fn compare_reply(rt: &impl Abort, case: &Case, told: Result<(), Fault>, out: &[u8]) {
+    let reply = DONE.as_bytes();
+    assert_eq!(rt; told, case.told);
+    assert_eq!(rt; out, &reply[..case.written.min(reply.len())]);
+}
+
+/// Answers the request of a case to a new desk, and compares what comes of it.
+fn compare_answer(rt: &impl Abort, alloc: Global, case: &Case, course: &Course) {
+    let mut keeper = ListKeeper::new(alloc, b"abc").expect(rt, "memory");
+    let (out, told) = answered(rt, alloc, &mut keeper, PUT_CLERK.as_bytes(), case, course);
+    compare_reply(rt, case, told, out.as_slice());
+    assert_eq!(rt; has_clerk(rt, &mut keeper), case.is_put);
+}
+
 fn compare_case(rt: &impl Abort, alloc: Global, case: &Case) {
     let course = Course {
         calls: RefCell::new(Vec::new(alloc)),
         seconds: Cell::new(1_000),
     };
-    let mut keeper = ListKeeper::new(alloc, b"abc").expect(rt, "memory");
-    let request = PUT_CLERK.as_bytes();
-    let (out, told) = answered(rt, alloc, &mut keeper, request, case, &course);
-    assert_eq!(rt; told, case.told);
-    assert_eq!(rt; has_clerk(rt, &mut keeper), case.is_put);
-    let reply = DONE.as_bytes();
-    assert_eq!(rt; out.as_slice(), &reply[..case.written.min(reply.len())]);
+    compare_answer(rt, alloc, case, &course);
     let calls = course.calls.into_inner();
     assert_eq!(rt; calls.as_slice(), case.calls);
 }
