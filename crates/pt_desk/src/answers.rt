@@ -1,8 +1,7 @@
 //! What is answered of records, wherever they stand.
 ghost use Rattle.std.specs.Prelude.{◌≡◌, ◌<◌, ◌++◌, ◌∷◌, [], IfOk, OnOk, bytes_eq, find, length};
-ghost use Rattle.pt_desk_rules.specs.State.{most_entries};
 ghost use Rattle.pt_desk_rules.specs.Planned.{is_booked_from, is_standing_from, planned_on, trips_of, trips_on};
-ghost use Rattle.pt_desk_rules.specs.State.{file_with, tables_before, trip_key};
+ghost use Rattle.pt_desk_rules.specs.State.{file_with, most_entries, tables_before, trip_key};
 ghost use Rattle.pt_records.specs.Records.{IsInOrder};
 ghost use Rattle.pt_scheduling.specs.Plan.{plan_key};
 

@@ -24,11 +24,10 @@ use Rattle.pt_desk_rules.specs.Fleet.{duty_of}
 use Rattle.pt_rights.specs.declared.tally.Outcome.{Outcome}
 use Rattle.pt_desk_rules.specs.Letters.{letter_at, IsToldLetter}
 use Rattle.pt_desk_rules.specs.Outcomes.{ended}
-use Rattle.pt_desk_rules.specs.State.{no_edit, puts_one, replaces, versions_from, tables_from}
+use Rattle.pt_desk_rules.specs.State.{no_edit, puts_one, replaces, versions_from, tables_from, last_trip_number}
 use Rattle.pt_desk_rules.specs.Rules.{rules_of, read_rules}
 use Rattle.pt_desk_rules.specs.Tours.{IsDaySheet, IsManifestOf}
 use Rattle.pt_desk_rules.specs.Trips.{cancelled, gives_up, has_ends, moves_to}
-use Rattle.pt_desk_rules.specs.State.{last_trip_number}
 use Rattle.pt_requests.specs.declared.caller.Caller.{Caller}
 use Rattle.pt_desk_rules.specs.declared.kept.Kept.{Kept}
 use Rattle.pt_desk_rules.specs.declared.kept.Sent.{Sent}

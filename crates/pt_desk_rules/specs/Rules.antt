@@ -17,12 +17,11 @@ use Rattle.pt_rights.specs.declared.entry.Entry.{Entry}
 use Rattle.pt_travel.specs.Chain.{Row}
 use Rattle.pt_desk_rules.specs.Fleet.{has_version, vehicle_count, versions_before, versions_of_others}
 use Rattle.pt_desk_rules.specs.State.{most_callers, most_places, most_routes, most_riders, most_entries}
-use Rattle.pt_desk_rules.specs.State.{most_vehicles, most_versions, most_tables, last_trip_number}
+use Rattle.pt_desk_rules.specs.State.{most_vehicles, most_versions, most_tables, last_trip_number, place_key}
 use Rattle.pt_desk_rules.specs.Letters.{letter_at}
 use Rattle.pt_desk_rules.specs.Outcomes.{awaits_outcome, has_come}
 use Rattle.pt_desk_rules.specs.Permission.{is_admin, is_clerk, is_dispatcher, may_alter, may_book, may_end, may_enter}
 use Rattle.pt_desk_rules.specs.Permission.{may_run, may_see_standing}
-use Rattle.pt_desk_rules.specs.State.{place_key}
 use Rattle.pt_desk_rules.specs.Trips.{has_ends, is_cancellable, is_changeable}
 use Rattle.pt_requests.specs.declared.caller.Caller.{Caller}
 use Rattle.pt_desk_rules.specs.declared.facts.ReadFacts.{ReadFacts}

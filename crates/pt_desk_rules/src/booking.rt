@@ -7,8 +7,7 @@ ghost use Rattle.pt_desk_rules.specs.Deciding.{booked, given_up, IsChangeDecided
 ghost use Rattle.pt_desk_rules.specs.declared.deciding.Decision.TheVariants.{Accepted};
 ghost use Rattle.pt_requests.specs.declared.request.Answer.TheVariants.{Booked, Done};
 ghost use Rattle.pt_requests.specs.declared.request.Confirmation.{Confirmation};
-ghost use Rattle.pt_desk_rules.specs.State.{last_trip_number};
-ghost use Rattle.pt_desk_rules.specs.State.{place_key};
+ghost use Rattle.pt_desk_rules.specs.State.{last_trip_number, place_key};
 ghost use Rattle.pt_desk_rules.specs.Trips.{has_ends, IsConfirmation};
 ghost use Rattle.pt_records.specs.Records.{record_at};
 

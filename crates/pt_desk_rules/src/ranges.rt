@@ -24,6 +24,9 @@ pub const MOST_PLACES: usize = 100;
 /// The most fixed routes that the desk keeps.
 pub const MOST_ROUTES: usize = 50;
 
+/// The most riders that the desk keeps.
+pub const MOST_RIDERS: usize = 100_000;
+
 /// The most vehicles that the desk keeps.
 pub const MOST_VEHICLES: usize = 50;
 
@@ -35,9 +38,6 @@ pub const MOST_TABLES: usize = 50;
 
 /// The last number that a trip can have.
 pub const LAST_TRIP_NUMBER: u32 = 4_294_967_295;
-
-/// The most riders that the desk keeps.
-pub const MOST_RIDERS: usize = 100_000;
 
 /// A record whose fields have ranges.
 trait Fitting {
