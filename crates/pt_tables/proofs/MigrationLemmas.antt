@@ -10,7 +10,6 @@ use Rattle.sqlite.specs.Table.{Table}
 use Rattle.sqlite.specs.Tree.{Trees}
 use Rattle.sqlite.proofs.Callers.{survives_begin}
 use Rattle.sqlite.proofs.StateLemmas.{survives_then}
-use Rattle.sqlite_keyed.proofs.ListLemmas.{IsPermutation-same}
 use Rattle.std.specs.Prelude.{◌==◌}
 use Rattle.pt_base.specs.declared.rider.Rider.{Rider}
 use Rattle.pt_base.specs.declared.trip.Trip.{Trip}
@@ -21,6 +20,7 @@ use Rattle.pt_tables.specs.Migration.{IsMigrated, IsMigratedDesk, IsRaised}
 use Rattle.pt_tables_opening.specs.Opening.{IsFirstVersion}
 use Rattle.pt_tables_rows.specs.Rows.{desk_row, first_version, versioned_row, number_value, row_if, rider_chair_rows, vehicle_chair_rows, trip_chair_rows}
 use Rattle.pt_tables_rows.specs.Schema.{desk_schema, first_schema, desk_table, callers_table, kept_table, places_table, fixed_table, vehicles_table, riders_table, entries_table, trips_table, stops_table, travel_table, rider_chairs_table, vehicle_chairs_table, trip_chairs_table}
+use Rattle.pt_tables_rows.proofs.CreateLemmas.{none_there}
 use Rattle.pt_tables_rows.specs.Tables.{AddsChairs, AreRows, HasFirstRows, HasRows, columns_of}
 use Rattle.pt_tables_writing.specs.Writes.{Rewrites, RaisesVersion}
 use Rattle.pt_tables_writing.proofs.RaiseWrites.{row_holds}
@@ -38,10 +38,6 @@ no_vehicles (x ∷ xs) none =
 no_trips : (trips : List Trip) → Each (λ trip. trip.wheelchair ≡ false) trips → flat_map trip_chair_rows trips ≡ []
 no_trips [] none = refl
 no_trips (x ∷ xs) none = ap (λ s. row_if s (number_value x.id ∷ []) ++ flat_map trip_chair_rows xs) none.0 ∙ no_trips xs none.1
-
--- a table with no row stands for no record
-none_there : (table : Table) (trees : Trees) (rows : List Row) → trees table.tree ≡ [] → rows ≡ [] → AreRows table trees rows
-none_there table trees rows empty none = IsPermutation-same _ rows (ap (map (columns_of table)) empty ∙ sym none)
 
 -- a table with the rows that it had has the rows of the same records
 still : (t : Table) (old new : Trees) (rows : List Row) → new t.tree ≡ old t.tree → AreRows t old rows → AreRows t new rows

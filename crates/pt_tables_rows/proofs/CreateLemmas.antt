@@ -4,6 +4,7 @@ use Rattle.std.specs.List.{AllByRecursion}
 use Rattle.sqlite.specs.Command.TheVariants.{CreateTable, CreateIndex}
 use Rattle.sqlite.specs.Table.{Table}
 use Rattle.sqlite.specs.Schema.{Schema}
+use Rattle.sqlite.specs.Order.{Row}
 use Rattle.sqlite.specs.Tree.{Trees}
 use Rattle.sqlite.specs.Change.{created, indexed, next_tree, KeepsRows}
 use Rattle.sqlite.specs.Compile.{table_defined_by, index_defined_by}
@@ -351,8 +352,8 @@ blank_then old new blank adds = record {
 -- ---- the rows of a new desk
 
 -- a table with no row stands for no record
-none_there : (table : Table) (trees : Trees) → trees table.tree ≡ [] → AreRows table trees []
-none_there table trees empty = IsPermutation-same _ [] (ap (map (columns_of table)) empty)
+pub none_there : (table : Table) (trees : Trees) (rows : List Row) → trees table.tree ≡ [] → rows ≡ [] → AreRows table trees rows
+none_there table trees rows empty none = IsPermutation-same _ rows (ap (map (columns_of table)) empty ∙ sym none)
 
 no_rowids : (ts : List Table) (trees : Trees) → AllByRecursion (Empty trees) ts → AllByRecursion (λ t. HaveRowids (trees t.tree)) ts
 no_rowids [] trees empty = tt
@@ -417,19 +418,19 @@ module _ (policy : Policy) (caller : Caller) (blank desked done : Database) (fir
           desk = subst (λ rows. IsPermutation (map (columns_of desk_table) rows) (desk_row shown 0 ∷ [])) (sym same_desk)
               (subst (λ row. AreRows desk_table desked.trees (row ∷ [])) (sym same) (desk.rows first.rows.0));
           callers = callers.rows no_callers;
-          kept = none_there kept_table trees none.0;
-          places = none_there places_table trees none.1.0;
-          fixed = none_there fixed_table trees none.1.1.0;
-          vehicles = none_there vehicles_table trees none.1.1.1.0;
-          riders = none_there riders_table trees none.1.1.1.1.0;
-          entries = none_there entries_table trees none.1.1.1.1.1.0;
-          trips = none_there trips_table trees none.1.1.1.1.1.1.0;
-          stops = none_there stops_table trees none.1.1.1.1.1.1.1.0;
-          travel = none_there travel_table trees none.1.1.1.1.1.1.1.1.0;
+          kept = none_there kept_table trees [] none.0 refl;
+          places = none_there places_table trees [] none.1.0 refl;
+          fixed = none_there fixed_table trees [] none.1.1.0 refl;
+          vehicles = none_there vehicles_table trees [] none.1.1.1.0 refl;
+          riders = none_there riders_table trees [] none.1.1.1.1.0 refl;
+          entries = none_there entries_table trees [] none.1.1.1.1.1.0 refl;
+          trips = none_there trips_table trees [] none.1.1.1.1.1.1.0 refl;
+          stops = none_there stops_table trees [] none.1.1.1.1.1.1.1.0 refl;
+          travel = none_there travel_table trees [] none.1.1.1.1.1.1.1.1.0 refl;
         };
-        rider_chairs = none_there rider_chairs_table trees none.1.1.1.1.1.1.1.1.1.0;
-        vehicle_chairs = none_there vehicle_chairs_table trees none.1.1.1.1.1.1.1.1.1.1.0;
-        trip_chairs = none_there trip_chairs_table trees none.1.1.1.1.1.1.1.1.1.1.1.0;
+        rider_chairs = none_there rider_chairs_table trees [] none.1.1.1.1.1.1.1.1.1.0 refl;
+        vehicle_chairs = none_there vehicle_chairs_table trees [] none.1.1.1.1.1.1.1.1.1.1.0 refl;
+        trip_chairs = none_there trip_chairs_table trees [] none.1.1.1.1.1.1.1.1.1.1.1.0 refl;
       }
 
   -- a content with this caller alone, and a policy that shows as the one that was written
