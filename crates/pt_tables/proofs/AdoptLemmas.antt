@@ -1,39 +1,21 @@
 -- A desk whose content was read from the tables, and one whose tables are refused.
-use Rattle.std.proofs.Common.{◌≡◌, ◌≤◌, inl, inr, IsTrue, Ok, refl, sym, subst, ◌∙◌, ap, arith}
+use Rattle.std.proofs.Common.{◌≡◌, ◌≤◌, inl, inr, IsTrue, sym, subst, ◌∙◌, ap, arith}
 use Rattle.sqlite.specs.Effect.{Database}
-use Rattle.sqlite.specs.State.{State as Connected, HasCleanDisk, Survives}
+use Rattle.sqlite.specs.State.{State as Connected, HasCleanDisk, IsLive, Survives}
 use Rattle.sqlite.specs.Tree.{Trees}
 use Rattle.sqlite.specs.View.{doubt}
+use Rattle.sqlite_catalog.proofs.ReadLemmas.{lists_once}
+use Rattle.sqlite_catalog.specs.Listing.{Lists}
+use Rattle.sqlite_trees.specs.Objects.{catalog_tree}
 use Rattle.pt_desk_rules.specs.State.{State}
 use Rattle.pt_tables_opening.specs.Faults.{rows_refused, tables_refused}
-use Rattle.pt_tables_opening.specs.Opening.{IsReopened, Rests, Stays}
+use Rattle.pt_tables_opening.specs.Opening.{IsReopened, Stays}
 use Rattle.pt_tables_rows.specs.Schema.{desk_schema}
 use Rattle.pt_tables_rows.specs.Tables.{HasRows, IsKept, Stands}
-use Rattle.pt_tables_opening.specs.Refused.{AreUnsound, HasOtherTables, ListsOthers, TellsOf}
+use Rattle.pt_tables_opening.specs.Refused.{AreUnsound, HasOtherTables, ListsOthers, SparesOtherVersion, TellsOf}
 use Rattle.pt_tables_opening.specs.Standing.{IsFirstAtFault}
 use Rattle.pt_tables_opening.specs.Agency.{HasOtherVersion}
 use Rattle.pt_tables_opening.specs.declared.open_fault.OpenFault.{OpenFault}
-
--- after reads of a connection that was opened anew its tables have the content that was read
-pub adopted : {X E : Type 0} (content : State) (old mid new : Connected) (x : X) → Rests {E = E} mid new (Ok x) → mid.now.schema ≡ desk_schema → (HasCleanDisk mid → IsReopened old mid)
-    → (HasCleanDisk new → HasRows content mid.now.trees) → HasCleanDisk new → IsKept content new
-adopted content old mid new x rests has opened rows clean =
-    let early : HasCleanDisk mid = omega (arith, rests.survives.clean) in
-    let anew = opened early in
-    let same = rests.same clean has in
-    let stands : Stands content mid.now = record { schema = has; rows = rows clean; rowids = anew.rowids has } in
-    record {
-      stands = λ here. subst (Stands content) (sym same.0.now_is) stands;
-      committed = λ here. same.0.committed_is ∙ anew.committed ∙ sym same.0.now_is;
-    }
-
--- a store that is handed back after reads of such a connection shows what the first connection had committed
-pub handed_back : (old mid new : Connected) (trees : Trees) → trees ≡ new.committed.trees → IsTrue new.is_open → HasCleanDisk new → (HasCleanDisk new → Stays mid new)
-    → doubt mid.is_clean ≤ doubt new.is_clean → (HasCleanDisk mid → IsReopened old mid) → trees ≡ old.committed.trees
-handed_back old mid new trees is here clean stays falls opened =
-    let early : HasCleanDisk mid = omega (arith, clean, falls) in
-    let anew = opened early in
-    is ∙ ap (λ (d : Database). d.trees) ((stays clean).committed here ∙ anew.committed) ∙ anew.rows
 
 -- where nothing is committed, a crash leaves what it could leave before
 pub left_before : (old new : Connected) → Survives old new (λ _. ⊥) → HasCleanDisk new → (db : Trees) → new.may_leave db → old.may_leave db
@@ -42,21 +24,70 @@ left_before old new survives clean db left = elim (survives.crash clean db left)
   | inr nothing ↦ absurd nothing
 ]
 
--- nothing was read
-pub stays_same : (s : Connected) → Stays s s
-stays_same s = record { was_open = λ here. here; now = λ _ _. refl; committed = λ _. refl }
+-- what reads show of an open connection leaves what was committed
+pub still_committed : (old new : Connected) (trees : Trees) → Stays old new → IsTrue new.is_open → trees ≡ new.committed.trees → trees ≡ old.committed.trees
+still_committed old new trees stays here is = is ∙ ap (λ (d : Database). d.trees) (stays.committed here)
 
--- ---- why a database is not adopted
+-- Reads of a connection with no open transaction, and then a new connection to what it had committed.
+module _ (old new last : Connected) (settled : IsTrue old.is_open → old.now ≡ old.committed) (live : IsLive old) (stays : HasCleanDisk new → Stays old new)
+    (falls : doubt new.is_clean ≤ doubt last.is_clean) (was_open : HasCleanDisk last → IsTrue new.is_open) (opened : HasCleanDisk last → IsReopened new last)
+    (clean : HasCleanDisk last) where
+  early : HasCleanDisk new
+  early = omega (arith, clean, falls)
 
-pub unsound_committed : (old mid : Connected) (refused : OpenFault) → IsReopened old mid → TellsOf mid.now refused → refused.code ≡ rows_refused → AreUnsound old.committed.trees
-unsound_committed old mid refused anew why code = subst AreUnsound anew.rows (why.rows code)
+  stay : Stays old new
+  stay = stays early
 
-pub first_committed : (old mid : Connected) (refused : OpenFault) → IsReopened old mid → TellsOf mid.now refused → refused.code ≡ rows_refused
-    → IsFirstAtFault old.committed.trees refused.table
-first_committed old mid refused anew why code = subst (λ trees. IsFirstAtFault trees refused.table) anew.rows (why.first code)
+  open_then : IsTrue new.is_open
+  open_then = was_open clean
 
-pub others_committed : (old mid : Connected) (refused : OpenFault) → IsReopened old mid → TellsOf mid.now refused → refused.code ≡ tables_refused → HasOtherTables old.committed.trees
-others_committed old mid refused anew why code = elim (why.tables code) [
-  | inl other ↦ inl (subst ListsOthers anew.rows (mid.now.schema, anew.lists, other))
-  | inr version ↦ inr (subst HasOtherVersion anew.rows version)
-]
+  open_first : IsTrue old.is_open
+  open_first = stay.was_open open_then
+
+  anew : IsReopened new last
+  anew = opened clean
+
+  shown : old.now.trees ≡ old.committed.trees
+  shown = ap (λ (d : Database). d.trees) (settled open_first)
+
+  same_rows : last.now.trees ≡ old.now.trees
+  same_rows = still_committed old new last.now.trees stay open_then anew.rows ∙ sym shown
+
+  lists : Lists (old.now.trees catalog_tree) old.now.schema
+  lists = (live open_first).0.lists
+
+  same_schema : last.now.schema ≡ old.now.schema
+  same_schema = lists_once (old.now.trees catalog_tree) last.now.schema old.now.schema (subst (λ (trees : Trees). Lists (trees catalog_tree) last.now.schema) same_rows anew.lists) lists
+
+  -- what was read is what was committed
+  pub read_committed : (P : Trees → Type 0) → P old.now.trees → P old.committed.trees
+  read_committed P read = subst P shown read
+
+  -- the new connection has the content that was read
+  pub adopted : (content : State) → old.now.schema ≡ desk_schema → HasRows content old.now.trees → IsKept content last
+  adopted content has rows =
+      let is = same_schema ∙ has in
+      let stands : Stands content last.now = record { schema = is; rows = subst (HasRows content) (sym same_rows) rows; rowids = anew.rowids is } in
+      record { stands = λ _. stands; committed = λ _. anew.committed }
+
+  -- the store that it hands back shows what was committed
+  pub handed_back : (trees : Trees) → trees ≡ last.committed.trees → trees ≡ old.committed.trees
+  handed_back trees is = is ∙ ap (λ (d : Database). d.trees) anew.committed ∙ still_committed old new last.now.trees stay open_then anew.rows
+
+  -- ---- why a database is not adopted
+
+  module _ (refused : OpenFault) (why : TellsOf old.now refused) where
+    pub unsound_committed : refused.code ≡ rows_refused → AreUnsound old.committed.trees
+    unsound_committed code = subst AreUnsound shown (why.rows code)
+
+    pub first_committed : refused.code ≡ rows_refused → IsFirstAtFault old.committed.trees refused.table
+    first_committed code = subst (λ trees. IsFirstAtFault trees refused.table) shown (why.first code)
+
+    pub others_committed : refused.code ≡ tables_refused → HasOtherTables old.committed.trees
+    others_committed code = elim (why.tables code) [
+      | inl other ↦ inl (subst ListsOthers shown (old.now.schema, lists, other))
+      | inr version ↦ inr (subst HasOtherVersion shown version)
+    ]
+
+  pub version_committed : (refused : OpenFault) → SparesOtherVersion old.now.trees refused → SparesOtherVersion old.committed.trees refused
+  version_committed refused spares = subst (λ trees. SparesOtherVersion trees refused) shown spares

@@ -1,13 +1,13 @@
 //! A desk whose database is opened.
 
-ghost use Rattle.std.specs.Prelude.{◌≡◌, ◌⊎◌, IsTrue, IfOk, IfErr, IsErrAnd, MatchResult, false};
+ghost use Rattle.std.specs.Prelude.{◌≡◌, ◌⊎◌, ◌≤◌, IsTrue, IfOk, IfErr, IsErrAnd, MatchResult, false};
 ghost use Rattle.pt_base.specs.Codes.{memory_refused};
 ghost use Rattle.pt_desk.specs.Store.{IsSettled};
 ghost use Rattle.pt_desk_rules.specs.Sound.{IsSound};
 ghost use Rattle.sqlite.specs.Held.{state};
 ghost use Rattle.sqlite.specs.State.{HasCleanDisk};
 ghost use Rattle.sqlite.specs.Tree.{Trees};
-ghost use Rattle.sqlite.specs.View.{IsClean};
+ghost use Rattle.sqlite.specs.View.{IsClean, doubt};
 ghost use Rattle.pt_tables_opening.specs.Faults.{IsRefusal, fault, rows_refused, store_refused, tables_refused};
 ghost use Rattle.pt_tables_opening.specs.Opening.{IsReopened};
 ghost use Rattle.pt_tables_opening.specs.Refused.{AreUnsound, HasOtherTables, SparesOtherVersion};
@@ -22,7 +22,8 @@ use sqlite::{Alter, Connection};
 use std::alloc::Global;
 
 /// A new connection to what another had committed, whose open transaction, if it has one, is undone: code 32 where the
-/// store failed, and 0 where memory was refused. Its store is handed back with the refusal.
+/// store failed, and 0 where memory was refused. Its store is handed back with the refusal. The memory in which the
+/// other answered is let go.
 fn reopened<S: Alter + Drop>(
     alloc: Global,
     conn: Connection<S>,
@@ -37,6 +38,13 @@ fn reopened<S: Alter + Drop>(
         → (state S.Store new).may_leave trees → (state S.Store conn).may_leave trees)
         (λ refused. IsClean (S.Store.view refused.0) → (trees : Trees)
         → S.Store.recovers refused.0 trees → (state S.Store conn).may_leave trees) }
+    ensures clean { MatchResult result
+        (λ new. doubt (state S.Store conn).is_clean ≤ doubt (state S.Store new).is_clean)
+        (λ refused. doubt (state S.Store conn).is_clean ≤ doubt (S.Store.view refused.0).is_clean) }
+    ensures was_open { MatchResult result
+        (λ new. HasCleanDisk (state S.Store new) → IsTrue (state S.Store conn).is_open)
+        (λ refused. IsClean (S.Store.view refused.0) → IsTrue (S.Store.view refused.0).is_open
+        → IsTrue (state S.Store conn).is_open) }
     ensures faults { IfErr result (λ refused.
         (refused.1 ≡ fault memory_refused) ⊎ (refused.1 ≡ fault store_refused)) }
 {
@@ -50,7 +58,8 @@ fn reopened<S: Alter + Drop>(
     }
 }
 
-/// Opens a database that has the desk's tables: their content is read and judged, and nothing is written.
+/// Opens a database that has the desk's tables: their content is read and judged, and nothing is written. The store
+/// serves by a new connection, since one that has read all rows keeps the memory that it took.
 ///
 /// A refusal hands the store back: code 30 where the tables are not the desk's, or are of another version; 31 with
 /// the number of the first table at fault, where the rows are those of no sound state; 32 where a transaction is
@@ -88,8 +97,13 @@ pub fn adopt<S: Alter + Drop>(
     if !conn.is_autocommit() {
         return Err((conn.into_store(), OpenFault::STORE));
     }
-    let mut conn = reopened(alloc, conn)?;
-    match content_in(alloc, &mut conn) {
+    let mut reading = conn;
+    let read = content_in(alloc, &mut reading);
+    let conn = match reopened(alloc, reading) {
+        Ok(conn) => conn,
+        Err(refusal) => return Err(refusal),
+    };
+    match read {
         Ok(lists) => Ok(keeper_of(alloc, conn, lists)),
         Err(refused) => Err((conn.into_store(), refused)),
     }

@@ -1,6 +1,6 @@
 ghost use Rattle.std.specs.Prelude.{◌≡◌, ◌⊎◌, ◌-◌, ◌<◌, IfOk, IfErr};
 ghost use Rattle.sqlite.specs.Held.{state};
-ghost use Rattle.sqlite.specs.State.{HasCleanDisk, Survives};
+ghost use Rattle.sqlite.specs.State.{HasCleanDisk, IsLive, Survives};
 ghost use Rattle.pt_base.specs.Codes.{memory_refused};
 ghost use Rattle.pt_desk_rules.specs.Sound.{IsSound};
 ghost use Rattle.pt_desk_rules.specs.State.{applied};
@@ -105,6 +105,7 @@ pub fn content_in<S: Alter>(
     alloc: Global,
     conn: &mut Connection<S>,
 ) -> Result<ListKeeper, OpenFault>
+    ensures live { IsLive (state S.Store conn.old) }
     ensures schema { IfOk result (λ _. (state S.Store conn.old).now.schema ≡ desk_schema) }
     ensures sound { IfOk result (λ keeper. IsSound keeper.content) }
     ensures rows { HasCleanDisk (state S.Store conn.new)

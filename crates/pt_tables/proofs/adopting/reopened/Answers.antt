@@ -40,3 +40,25 @@ returns-in-Ok-clause-crash g c clean db left =
 pub returns-in-Err-clause-crash : goal.returns-in-Err-clause-crash
 returns-in-Err-clause-crash g c clean db left =
     c.into_store-store.ensures.quiet.outcomes db (c.in-Err.ensures.unharmed.outcomes db left)
+
+pub returns-in-Ok-clause-clean : goal.returns-in-Ok-clause-clean
+returns-in-Ok-clause-clean g c = omega (arith, c.into_store-store.ensures.quiet.clean, c.in-Ok.ensures.clean)
+
+pub returns-in-Err-clause-clean : goal.returns-in-Err-clause-clean
+returns-in-Err-clause-clean g c = omega (arith, c.into_store-store.ensures.quiet.clean, c.in-Err.ensures.unharmed.clean)
+
+pub returns-in-Ok-clause-was_open : goal.returns-in-Ok-clause-was_open
+returns-in-Ok-clause-was_open g c clean =
+    let store = c.into_store-store.result in
+    let v = g.S.Store.view store in
+    let early : IsClean v = omega (arith, clean, c.in-Ok.ensures.clean) in
+    let sound : v.is_broken ≡ false = sym (c.is_broken.ensures early) ∙ c.if-is_broken.false in
+    (c.into_store-store.ensures.undone.kept early).was_open (open_store v (g.met.S.Store.broken_if_shut store) sound)
+
+pub returns-in-Err-clause-was_open : goal.returns-in-Err-clause-was_open
+returns-in-Err-clause-was_open g c clean here =
+    let store = c.into_store-store.result in
+    let v = g.S.Store.view store in
+    let early : IsClean v = omega (arith, clean, c.in-Err.ensures.unharmed.clean) in
+    let sound : v.is_broken ≡ false = sym (c.is_broken.ensures early) ∙ c.if-is_broken.false in
+    (c.into_store-store.ensures.undone.kept early).was_open (open_store v (g.met.S.Store.broken_if_shut store) sound)
