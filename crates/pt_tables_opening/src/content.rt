@@ -1,5 +1,7 @@
-ghost use Rattle.std.specs.Prelude.{◌≡◌, IfOk, IfErr};
+ghost use Rattle.std.specs.Prelude.{◌≡◌, ◌∷◌, [], Some, IfOk, IfErr};
 ghost use Rattle.pt_base.specs.Codes.{memory_refused};
+ghost use Rattle.pt_desk_rules.specs.Deciding.{no_change};
+ghost use Rattle.pt_desk_rules.specs.State.{applied};
 ghost use Rattle.pt_records.specs.Records.{Each};
 ghost use Rattle.pt_soundness.specs.Tables.{all_tables};
 ghost use Rattle.pt_spelling.specs.Ranges.{IsWord};
@@ -17,6 +19,45 @@ use std::alloc::Global;
 /// The key of nobody, which the admin of the least state has until all callers are taken away.
 const NO_KEY: &[u8] = &[];
 
+/// The desk with the change made: code 0 where memory was refused.
+pub(crate) fn with_change(keeper: ListKeeper, change: Change) -> Result<ListKeeper, OpenFault>
+    ensures content { IfOk result (λ made. made.content ≡ applied change keeper.content) }
+    ensures memory { IfErr result (λ refused. refused ≡ fault memory_refused) }
+{
+    let mut keeper = keeper;
+    match keeper.reserve(&change) {
+        Ok(()) => {
+            keeper.make(change);
+            Ok(keeper)
+        }
+        Err(_) => Err(OpenFault::MEMORY),
+    }
+}
+
+/// The change that makes a new desk that of an agency with this policy, and with no records.
+fn agency_change(
+    alloc: Global,
+    policy: Policy,
+    last_trip: Option<TripId>,
+) -> Result<Change, OpenFault>
+    ensures value { IfOk result (λ change. change ≡ record no_change {
+      callers = record { away = numbers ∷ []; puts = [] };
+      policy = Some policy;
+      last_trip = last_trip;
+    }) }
+    ensures memory { IfErr result (λ refused. refused ≡ fault memory_refused) }
+{
+    let mut change = Change {
+        policy: Some(policy),
+        last_trip,
+        ..Change::none(alloc)
+    };
+    match change.callers.take_away(all_numbers()) {
+        Ok(()) => Ok(change),
+        Err(_) => Err(OpenFault::MEMORY),
+    }
+}
+
 /// The desk of an agency with this policy and this number last given to a trip, and with no records.
 pub(crate) fn desk_of(
     alloc: Global,
@@ -29,22 +70,11 @@ pub(crate) fn desk_of(
     ensures none { IfOk result (λ keeper. Each (HasNoneIn keeper.content) all_tables) }
     ensures memory { IfErr result (λ refused. refused ≡ fault memory_refused) }
 {
-    let Ok(mut keeper) = ListKeeper::new(alloc, NO_KEY) else {
-        return Err(OpenFault::MEMORY);
-    };
-    let mut change = Change {
-        policy: Some(policy),
-        last_trip: TripId::of(last_trip),
-        ..Change::none(alloc)
-    };
-    let Ok(()) = change.callers.take_away(all_numbers()) else {
-        return Err(OpenFault::MEMORY);
-    };
-    let Ok(()) = keeper.reserve(&change) else {
-        return Err(OpenFault::MEMORY);
-    };
-    keeper.make(change);
-    Ok(keeper)
+    let change = agency_change(alloc, policy, TripId::of(last_trip))?;
+    match ListKeeper::new(alloc, NO_KEY) {
+        Ok(keeper) => with_change(keeper, change),
+        Err(_) => Err(OpenFault::MEMORY),
+    }
 }
 
 /// The keys that are numbers.

@@ -16,7 +16,7 @@ ghost use Rattle.pt_tables_rows.specs.Tables.{HasRows};
 use crate::OpenFault;
 use crate::agency::agency_in;
 use crate::changes::change_in;
-use crate::content::desk_of;
+use crate::content::{desk_of, with_change};
 use crate::schema_check::is_desk_schema;
 use pt_desk::ListKeeper;
 use pt_desk_rules::Change;
@@ -50,11 +50,7 @@ fn judged(
     ensures faults { IfErr result (λ refused. (refused ≡ fault memory_refused)
         ⊎ ((refused ≡ unsound (number_of table)) × ¬ IsSoundIn (applied change keeper.content) table)) }
 {
-    let mut keeper = keeper;
-    let Ok(()) = keeper.reserve(&change) else {
-        return Err(OpenFault::MEMORY);
-    };
-    keeper.make(change);
+    let keeper = with_change(keeper, change)?;
     match is_sound_in(alloc, &keeper, table) {
         Ok(true) => Ok(keeper),
         Ok(false) => Err(at_fault(table)),
