@@ -7,7 +7,7 @@ use pt_feasible::{Route, Stop, Stops};
 use pt_insertion::Asked;
 
 /// A vehicle's route with the trip put in at one place.
-#[derive(Clone, Copy, Debug)]
+#[derive(Clone, Copy)]
 pub struct Insertion<'a> {
     pub vehicle: &'a Vehicle,
     pub route: &'a Route,
@@ -22,7 +22,7 @@ pub struct Insertion<'a> {
 }
 
 /// A visit of the route: to a stop, or to the depot at either end.
-#[derive(Clone, Copy, Debug, PartialEq, Eq)]
+#[derive(Clone, Copy)]
 pub struct Visit {
     pub place: PlaceId,
     pub lo: Minute,

@@ -1,11 +1,11 @@
 /// A log of refusals: its lines between `AUDIT 1` and `DONE`.
-#[derive(Debug, Drop)]
+#[derive(Drop)]
 pub struct Log {
     pub lines: Vec<Line>,
 }
 
 /// A line of a log.
-#[derive(Clone, Copy, Debug, PartialEq, Eq)]
+#[derive(Clone, Copy, PartialEq, Eq)]
 pub enum Line {
     /// `NODIRECT`: there is no way from the origin to the goal.
     NoDirect,
@@ -18,7 +18,7 @@ pub enum Line {
 }
 
 /// A new lower bound, in minutes of the day, of the service time at a visit; 0 is leaving the depot.
-#[derive(Clone, Copy, Debug, PartialEq, Eq)]
+#[derive(Clone, Copy, PartialEq, Eq)]
 pub enum Raise {
     /// `F k n`: visit `k` does not begin before minute `n`, for so its window says.
     Window(u32, u32),
@@ -31,7 +31,7 @@ pub enum Raise {
 }
 
 /// Why a case is not possible.
-#[derive(Clone, Copy, Debug, PartialEq, Eq)]
+#[derive(Clone, Copy, PartialEq, Eq)]
 pub enum End {
     /// `W k`: visit `k` is after its window.
     Late(u32),

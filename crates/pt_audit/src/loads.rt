@@ -9,7 +9,7 @@ use pt_base::Load;
 use pt_feasible::StopKind;
 
 /// The loads of many stops together, which may be more than any vehicle carries at once.
-#[derive(Clone, Copy, Debug, PartialEq, Eq)]
+#[derive(Clone, Copy)]
 struct Total {
     pub seats: u32,
     pub chairs: u32,

@@ -26,7 +26,7 @@ pub const LAST_DAY: u32 = 47_481;
 const EPOCH: u32 = 4_371_587;
 
 /// A day from 2000-01-01 to 2099-12-31, seen as its number of days since 1970-01-01.
-#[derive(Clone, Copy, Debug, PartialEq, Eq, PartialOrd, Ord)]
+#[derive(Clone, Copy, PartialEq, Eq, PartialOrd, Ord)]
 pub struct Day {
     days: u32,
 }

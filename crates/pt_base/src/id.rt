@@ -5,7 +5,7 @@ use std::marker::{Model, PhantomData};
 /// The number of a record of one kind, from 1 to 4,294,967,295.
 ///
 /// The kind keeps the numbers of riders, places and the rest apart, and takes no room.
-#[derive(Clone, Copy, Debug, PartialEq, Eq, PartialOrd, Ord)]
+#[derive(Clone, Copy, PartialEq, Eq, PartialOrd, Ord)]
 pub struct Id<Kind> {
     number: u32,
     kind: PhantomData<Kind>,
@@ -46,27 +46,27 @@ impl<Kind> Id<Kind> {
 }
 
 /// Marks the numbers of places.
-#[derive(Clone, Copy, Debug, PartialEq, Eq, PartialOrd, Ord)]
+#[derive(Clone, Copy, PartialEq, Eq, PartialOrd, Ord)]
 pub struct PlaceKind;
 
 /// Marks the numbers of riders.
-#[derive(Clone, Copy, Debug, PartialEq, Eq, PartialOrd, Ord)]
+#[derive(Clone, Copy, PartialEq, Eq, PartialOrd, Ord)]
 pub struct RiderKind;
 
 /// Marks the numbers of trips.
-#[derive(Clone, Copy, Debug, PartialEq, Eq, PartialOrd, Ord)]
+#[derive(Clone, Copy, PartialEq, Eq, PartialOrd, Ord)]
 pub struct TripKind;
 
 /// Marks the numbers of vehicles.
-#[derive(Clone, Copy, Debug, PartialEq, Eq, PartialOrd, Ord)]
+#[derive(Clone, Copy, PartialEq, Eq, PartialOrd, Ord)]
 pub struct VehicleKind;
 
 /// Marks the numbers of callers.
-#[derive(Clone, Copy, Debug, PartialEq, Eq, PartialOrd, Ord)]
+#[derive(Clone, Copy, PartialEq, Eq, PartialOrd, Ord)]
 pub struct CallerKind;
 
 /// Marks the numbers of fixed routes.
-#[derive(Clone, Copy, Debug, PartialEq, Eq, PartialOrd, Ord)]
+#[derive(Clone, Copy, PartialEq, Eq, PartialOrd, Ord)]
 pub struct RouteKind;
 
 /// The number of a place.

@@ -4,7 +4,7 @@ ghost use Rattle.pt_base.specs.Load.{no_load, load_sum, load_difference, IsLoad,
 use crate::Vehicle;
 
 /// What one party, or all parties aboard, take of a vehicle's room.
-#[derive(Clone, Copy, Debug, PartialEq, Eq)]
+#[derive(Clone, Copy, PartialEq, Eq)]
 pub struct Load {
     /// How many persons take a seat.
     pub seats: u16,

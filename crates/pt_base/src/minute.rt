@@ -7,7 +7,7 @@ use std::marker::Model;
 pub const LAST_MINUTE: u32 = 1439;
 
 /// A minute of a day, from 0 (midnight) to 1439 (23:59).
-#[derive(Clone, Copy, Debug, PartialEq, Eq, PartialOrd, Ord)]
+#[derive(Clone, Copy, PartialEq, Eq, PartialOrd, Ord)]
 pub struct Minute {
     number: u32,
 }

@@ -3,14 +3,14 @@ ghost use Rattle.pt_base.specs.Place.{IsOnPlane};
 use crate::PlaceId;
 
 /// A point on the agency's plane, in whole feet east and north of its origin.
-#[derive(Clone, Copy, Debug, PartialEq, Eq)]
+#[derive(Clone, Copy)]
 pub struct Point {
     pub x: i32,
     pub y: i32,
 }
 
 /// A place where trips begin and end.
-#[derive(Clone, Copy, Debug, PartialEq, Eq)]
+#[derive(Clone, Copy)]
 pub struct Place {
     pub id: PlaceId,
     /// Within 1,000,000 feet of the origin either way.

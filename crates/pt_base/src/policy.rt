@@ -2,7 +2,7 @@ ghost use Rattle.std.specs.Prelude.{◌≤◌};
 ghost use Rattle.std.specs.Int.{IsInRange};
 
 /// What the agency has settled on: fares in cents, minutes, and when missed trips make a pattern.
-#[derive(Clone, Copy, Debug, PartialEq, Eq)]
+#[derive(Clone, Copy)]
 pub struct Policy {
     /// The fixed fare on one route, in cents, at most 100,000.
     pub base: u32,

@@ -1,7 +1,7 @@
 use crate::RiderId;
 
 /// How a rider may use the service.
-#[derive(Clone, Copy, Debug, PartialEq, Eq)]
+#[derive(Clone, Copy, PartialEq, Eq)]
 pub enum Residence {
     /// Lives in the agency's area, and has a case file.
     Resident,
@@ -10,7 +10,7 @@ pub enum Residence {
 }
 
 /// A rider's record.
-#[derive(Clone, Copy, Debug, PartialEq, Eq)]
+#[derive(Clone, Copy)]
 pub struct Rider {
     pub id: RiderId,
     pub kind: Residence,

@@ -3,7 +3,7 @@ ghost use Rattle.std.specs.Prelude.{◌≤◌};
 use crate::{Day, Minute, PlaceId, RiderId, TripId, TripStatus, VehicleId};
 
 /// A trip as a rider wishes it.
-#[derive(Clone, Copy, Debug, PartialEq, Eq)]
+#[derive(Clone, Copy)]
 pub struct Wish {
     pub day: Day,
     /// When the rider wishes to be picked up.
@@ -19,7 +19,7 @@ pub struct Wish {
 }
 
 /// A trip that was booked, with what was settled then: later policies and tables leave it as it is.
-#[derive(Clone, Copy, Debug, PartialEq, Eq)]
+#[derive(Clone, Copy)]
 pub struct Trip {
     pub id: TripId,
     pub rider: RiderId,

@@ -4,7 +4,7 @@ ghost use Rattle.std.specs.Int.{IsInRange};
 use crate::{Day, Minute, PlaceId, VehicleId, Weekdays};
 
 /// A vehicle as it is from a day on, until its next version.
-#[derive(Clone, Copy, Debug, PartialEq, Eq)]
+#[derive(Clone, Copy)]
 pub struct Vehicle {
     pub id: VehicleId,
     pub from_day: Day,

@@ -5,7 +5,7 @@ ghost use Rattle.pt_base.specs.Weekday.{number_of, Includes};
 use std::marker::Model;
 
 /// A day of the week.
-#[derive(Clone, Copy, Debug, PartialEq, Eq, PartialOrd, Ord)]
+#[derive(Clone, Copy, PartialEq, Eq, PartialOrd, Ord)]
 pub enum Weekday {
     Monday,
     Tuesday,
@@ -52,7 +52,7 @@ impl Weekday {
 }
 
 /// A set of weekdays, as the days on which a route or a vehicle runs. It may be empty.
-#[derive(Clone, Copy, Debug, PartialEq, Eq)]
+#[derive(Clone, Copy)]
 pub struct Weekdays {
     has: [bool; 7],
 }

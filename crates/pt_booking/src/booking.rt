@@ -23,7 +23,7 @@ use pt_travel::Times;
 use std::alloc::{AllocError, Global};
 
 /// A trip that is booked.
-#[derive(Debug, Drop)]
+#[derive(Drop)]
 pub struct Booking {
     pub trip: Trip,
     /// Its place in its vehicle's route of before, and the least service times of the new one.
@@ -33,7 +33,7 @@ pub struct Booking {
 }
 
 /// What comes of a request.
-#[derive(Debug, Drop)]
+#[derive(Drop)]
 pub enum Decision {
     /// The trip is booked.
     Booked(Booking),

@@ -7,7 +7,7 @@ use pt_party::Party;
 use pt_rights::CaseFile;
 
 /// A trip that is asked for, with all that its rules look at but vehicles and driving times.
-#[derive(Clone, Copy, Debug)]
+#[derive(Clone, Copy)]
 pub struct TripRequest<'a> {
     /// The number that the trip is to have.
     pub trip: TripId,

@@ -18,7 +18,7 @@ const MOST_CONNECTIONS: u32 = 1_000_000;
 const MOST_COMPANIONS: u32 = 255;
 
 /// What the program is asked to do.
-#[derive(Clone, Copy, Debug)]
+#[derive(Clone, Copy)]
 pub enum Line<'a> {
     /// To answer requests from standard input, on a desk in memory whose admin has the key.
     Rehearse {

@@ -16,7 +16,7 @@ const ROWS_REFUSED: u16 = 31;
 pub const STORE_REFUSED: u16 = 32;
 
 /// How the program ended.
-#[derive(Clone, Copy, Debug, PartialEq, Eq)]
+#[derive(Clone, Copy)]
 pub enum Outcome {
     /// It did what the words asked for.
     Done,

@@ -32,7 +32,7 @@ fn is_new(
     let request = spell(alloc, &asked).or_else(|_| spell(alloc, &asked));
     let request = request.expect(rt, "memory");
     let arrival = keeper.arrival(caller, number, &request);
-    arrival.expect(rt, "an arrival") == Arrival::New
+    matches!(arrival.expect(rt, "an arrival"), Arrival::New)
 }
 
 fn seen(rt: &impl Abort, alloc: Global, keeper: &mut ListKeeper) -> Snapshot {

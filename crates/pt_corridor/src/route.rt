@@ -24,7 +24,7 @@ pub const MAX_POINTS: usize = 200;
 pub const MAX_COORDINATE: i32 = 1_000_000;
 
 /// A fixed route of the agency: where it goes, how far its corridor reaches, and when it runs.
-#[derive(Debug, Drop)]
+#[derive(Drop)]
 pub struct FixedRoute {
     id: RouteId,
     width: u32,

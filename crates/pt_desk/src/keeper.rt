@@ -18,7 +18,7 @@ use pt_rights::CaseFile;
 use std::alloc::{AllocError, Global};
 
 /// Why a store did not serve.
-#[derive(Clone, Copy, Debug, PartialEq, Eq)]
+#[derive(Clone, Copy, Debug)]
 pub enum StoreFault {
     /// Memory was refused, and nothing is changed.
     Memory,

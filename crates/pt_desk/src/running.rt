@@ -8,7 +8,7 @@ use pt_desk_rules::Request;
 use std::alloc::{AllocError, Global};
 
 /// A request as it comes in: at its moment, with the caller's key and the caller's number for it.
-#[derive(Debug, Drop)]
+#[derive(Drop)]
 pub struct Call {
     pub now: Moment,
     pub key: Vec<u8>,

@@ -53,7 +53,7 @@ fn place_at(places: &Rows<Place>, id: PlaceId) -> Place
 }
 
 /// What a request is made of beside the facts: the rider, the places of both ends, and a visitor's days of use.
-#[derive(Debug, Drop)]
+#[derive(Drop)]
 pub(crate) struct Asking {
     rider: Rider,
     from: Place,

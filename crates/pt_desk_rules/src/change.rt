@@ -11,7 +11,7 @@ use pt_scheduling::PlannedRoute;
 use std::alloc::{AllocError, Global};
 
 /// An entry of a rider's case file.
-#[derive(Debug, Drop)]
+#[derive(Drop)]
 pub struct FiledEntry {
     pub rider: RiderId,
     /// Its position in the file, counted from 0.
@@ -20,7 +20,7 @@ pub struct FiledEntry {
 }
 
 /// What one write makes of the tables, all of it or nothing.
-#[derive(Debug, Drop)]
+#[derive(Drop)]
 pub struct Change {
     pub callers: Edits<Caller>,
     pub kept: Edits<Kept>,

@@ -23,7 +23,7 @@ use pt_travel::Raw;
 use std::alloc::{AllocError, Global};
 
 /// What the rules make of a write.
-#[derive(Debug, Drop)]
+#[derive(Drop)]
 pub enum Decision {
     /// The first rule that it breaks.
     Denied(Rule),

@@ -27,7 +27,7 @@ use std::marker::Model;
 ///
 /// A contract sees the vehicles on duty on the wish's day, by rising number, with their stops; the trip that is asked
 /// of them; and the rows of driving times that hold on the day.
-#[derive(Debug, Drop)]
+#[derive(Drop)]
 pub struct RefusalFacts {
     routes: Vec<DayRoute>,
     asked: Asked,
@@ -78,7 +78,7 @@ impl RefusalFacts {
 }
 
 /// What comes of asking for the facts of a refusal.
-#[derive(Debug, Drop)]
+#[derive(Drop)]
 pub enum Inquiry {
     /// What the refusal stands on, if the wish is refused for want of a vehicle.
     Facts(RefusalFacts),

@@ -10,7 +10,7 @@ use pt_scheduling::PlannedRoute;
 use std::alloc::Global;
 
 /// What the rules of a write look at. What a write has no use for is left at nothing.
-#[derive(Debug, Drop)]
+#[derive(Drop)]
 pub struct WriteFacts {
     /// The agency's policy.
     pub policy: Policy,
@@ -47,7 +47,7 @@ pub struct WriteFacts {
 }
 
 /// What the rules of a trip look at.
-#[derive(Debug, Drop)]
+#[derive(Drop)]
 pub struct BookingFacts {
     /// The trip of which the write speaks.
     pub trip: Option<Trip>,
@@ -80,7 +80,7 @@ impl BookingFacts {
 }
 
 /// What the desk has for a day: the driving times, the trips, and the stops that are planned.
-#[derive(Debug, Drop)]
+#[derive(Drop)]
 pub struct DayFacts {
     /// The travel table that holds on the day.
     pub travel: Option<TravelTable>,
@@ -132,7 +132,7 @@ impl WriteFacts {
 }
 
 /// What the rules of a read look at, and what it is told. What a read has no use for is left at nothing.
-#[derive(Debug, Drop)]
+#[derive(Drop)]
 pub struct ReadFacts {
     /// The rider of whom it speaks.
     pub rider: Option<Rider>,

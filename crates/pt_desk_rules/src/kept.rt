@@ -8,7 +8,7 @@ use pt_records::{Key, Keyed};
 use pt_spelling::{KeptReply, Spelling};
 
 /// What comes with a write: the caller's number for it, and its spelling.
-#[derive(Debug, Drop)]
+#[derive(Drop)]
 pub struct Sent {
     pub number: u32,
     pub request: Spelling,
@@ -29,7 +29,7 @@ impl Sent {
 }
 
 /// The last accepted write of a caller.
-#[derive(Debug, Drop)]
+#[derive(Drop)]
 pub struct Kept {
     pub caller: CallerId,
     pub number: u32,
@@ -47,7 +47,7 @@ impl Keyed for Kept {
 }
 
 /// How a write comes in beside the caller's last accepted one.
-#[derive(Clone, Copy, Debug, PartialEq, Eq)]
+#[derive(Clone, Copy)]
 pub enum Arrival {
     /// Its number is above that one's.
     New,

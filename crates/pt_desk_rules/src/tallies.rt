@@ -7,7 +7,7 @@ use std::alloc::{AllocError, Global};
 use std::marker::Model;
 
 /// How a rider's trips ended, seen as the list of their outcomes.
-#[derive(Debug, Drop)]
+#[derive(Drop)]
 pub struct Tallies {
     tallies: Vec<Tally>,
 }

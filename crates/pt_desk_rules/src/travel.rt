@@ -15,7 +15,7 @@ use std::marker::Model;
 /// The agency's travel table from a day on, with the driving times that it gives, worked out once.
 ///
 /// A contract sees its day and its rows.
-#[derive(Debug, Drop)]
+#[derive(Drop)]
 pub struct TravelTable {
     from_day: Day,
     rows: Raw,

@@ -13,7 +13,7 @@ use pt_base::Vehicle;
 use pt_travel::Times;
 
 /// What the service time of a visit has to keep.
-#[derive(Clone, Copy, Debug, Default, PartialEq, Eq)]
+#[derive(Clone, Copy, Default)]
 pub(crate) struct Limits {
     /// The last minute of the day at which it may begin.
     pub latest: u16,
@@ -23,7 +23,7 @@ pub(crate) struct Limits {
 }
 
 /// At most so many minutes pass since service began at this visit.
-#[derive(Clone, Copy, Debug, Default, PartialEq, Eq)]
+#[derive(Clone, Copy, Default)]
 pub(crate) struct Since {
     pub visit: usize,
     pub most: u32,

@@ -5,7 +5,7 @@ ghost use Rattle.pt_feasible.specs.Pairing.{most_stops, IsPickupThenDrop, is_par
 use crate::{MAX_STOPS, Stop, StopKind, Stops};
 
 /// A route of at most `MAX_STOPS` stops, in which each trip has one pickup and one later drop.
-#[derive(Debug, Drop)]
+#[derive(Drop)]
 pub struct Route {
     stops: Vec<Stop>,
     ghost short: { vec_len stops ≤ most_stops },

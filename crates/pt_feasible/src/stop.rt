@@ -1,7 +1,7 @@
 use pt_base::{Load, Minute, PlaceId, TripId};
 
 /// What happens at a stop.
-#[derive(Clone, Copy, Debug, PartialEq, Eq)]
+#[derive(Clone, Copy, PartialEq, Eq)]
 pub enum StopKind {
     /// The party comes aboard.
     Pickup,
@@ -10,7 +10,7 @@ pub enum StopKind {
 }
 
 /// One of the two stops of a trip, as its vehicle's route keeps it.
-#[derive(Clone, Copy, Debug, PartialEq, Eq)]
+#[derive(Clone, Copy, PartialEq, Eq)]
 pub struct Stop {
     pub trip: TripId,
     pub kind: StopKind,

@@ -10,7 +10,7 @@ use crate::{Passes, Schedule};
 use std::sync::ledger::Ledger;
 
 /// What raising bounds did to them.
-#[derive(Clone, Copy, Debug, PartialEq, Eq)]
+#[derive(Clone, Copy, PartialEq, Eq)]
 pub(crate) enum Pass {
     /// No bound was raised.
     Stayed,

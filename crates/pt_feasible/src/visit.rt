@@ -5,7 +5,7 @@ use crate::Stops;
 use pt_base::{Minute, PlaceId, Vehicle};
 
 /// A visit of a route, to a stop or to the depot.
-#[derive(Clone, Copy, Debug, PartialEq, Eq)]
+#[derive(Clone, Copy)]
 pub struct Visit {
     pub place: PlaceId,
     pub lo: Minute,

@@ -18,7 +18,7 @@ use std::alloc::Global;
 use std::io::Read;
 
 /// What came in.
-#[derive(Debug, Drop)]
+#[derive(Drop)]
 pub(crate) enum Received {
     /// A message to be answered.
     Message(Message),

@@ -12,7 +12,7 @@ pub const LONGEST_HEAD: usize = 8_192;
 pub const MOST_FIELDS: usize = 64;
 
 /// Where the parts of a head are in its bytes.
-#[derive(Debug, Drop)]
+#[derive(Drop)]
 pub struct Head {
     pub method: Span,
     pub target: Span,
@@ -42,7 +42,7 @@ impl Head {
 }
 
 /// What stands at the front of some bytes.
-#[derive(Debug, Drop)]
+#[derive(Drop)]
 pub(crate) enum Front {
     /// A head.
     Head(Head),

@@ -12,7 +12,7 @@ use pt_manifest::{day_sheet, decision_letter, manifest, trips_csv};
 use std::alloc::{AllocError, Global};
 
 /// The body of a reply.
-#[derive(Debug, Drop)]
+#[derive(Drop)]
 pub(crate) enum Body {
     /// In room that is there.
     Fixed(ReplyBuffer),

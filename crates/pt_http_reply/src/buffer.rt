@@ -8,7 +8,7 @@ use std::marker::Model;
 pub const LONGEST_REPLY: usize = 512;
 
 /// A reply in bytes, or a part of one, in fixed room. It takes no memory.
-#[derive(Debug, Drop)]
+#[derive(Drop)]
 pub struct ReplyBuffer {
     bytes: ArrayVec<u8, LONGEST_REPLY>,
 }

@@ -7,7 +7,7 @@ use pt_http_request::FieldName;
 use std::alloc::AllocError;
 
 /// The value of a member of an object.
-#[derive(Clone, Copy, Debug)]
+#[derive(Clone, Copy)]
 pub(crate) enum MemberValue<'a> {
     Null,
     Truth(bool),

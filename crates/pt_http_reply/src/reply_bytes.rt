@@ -9,7 +9,7 @@ use pt_desk::StoreFault;
 use std::alloc::Global;
 
 /// A reply in bytes, formed before any of them is written.
-#[derive(Debug, Drop)]
+#[derive(Drop)]
 pub struct ReplyBytes {
     /// The head, and a body that needs no more room than is there.
     pub front: ReplyBuffer,

@@ -12,7 +12,7 @@ use pt_desk::{Answer, Reply};
 use pt_http_request::RequestFault;
 
 /// What goes out in reply to the bytes that came in.
-#[derive(Debug, Drop)]
+#[derive(Drop)]
 pub enum Response {
     /// They were a request, which the desk answered.
     Answered(Reply),

@@ -6,7 +6,7 @@ use http::StatusCode;
 use std::alloc::AllocError;
 
 /// A method that a path takes.
-#[derive(Clone, Copy, Debug, PartialEq, Eq)]
+#[derive(Clone, Copy)]
 pub enum AllowedMethod {
     Get,
     Post,
@@ -26,7 +26,7 @@ impl AllowedMethod {
 }
 
 /// Why bytes are no request that the desk could answer.
-#[derive(Clone, Copy, Debug, PartialEq, Eq)]
+#[derive(Clone, Copy)]
 pub enum RequestFault {
     /// The head cannot be read.
     Head,
@@ -74,7 +74,7 @@ impl RequestFault {
 }
 
 /// Why no request is read from a message.
-#[derive(Clone, Copy, Debug, PartialEq, Eq)]
+#[derive(Clone, Copy)]
 pub enum MessageFault {
     /// It is none: the first fault that stands.
     Refused(RequestFault),

@@ -2,7 +2,7 @@ ghost use Rattle.std.specs.Prelude.{◌≡◌, ◌≤◌, length};
 ghost use Rattle.pt_http_request.specs.Names.{field_name};
 
 /// A header of a request, which must have it in a given form, or a field of a body, of a request or of a reply.
-#[derive(Clone, Copy, Debug, PartialEq, Eq)]
+#[derive(Clone, Copy)]
 pub enum FieldName {
     /// The header with the caller's key.
     DeskKey,

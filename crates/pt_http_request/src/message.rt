@@ -29,7 +29,7 @@ use std::alloc::Global;
 use std::str;
 
 /// A request with what its headers give.
-#[derive(Debug, Drop)]
+#[derive(Drop)]
 pub struct Message {
     /// The caller's key, where a header gives one.
     pub key: Option<Vec<u8>>,

@@ -10,7 +10,7 @@ use std::alloc::Global;
 use std::str;
 
 /// A route of the desk.
-#[derive(Clone, Copy, Debug, PartialEq, Eq)]
+#[derive(Clone, Copy)]
 pub enum Path {
     Callers,
     Policy,
@@ -32,7 +32,7 @@ pub enum Path {
 }
 
 /// What the path of a request names.
-#[derive(Clone, Copy, Debug, PartialEq, Eq)]
+#[derive(Clone, Copy)]
 pub enum Target {
     /// What is read there; the path says all of it.
     Read(Read),
@@ -41,7 +41,7 @@ pub enum Target {
 }
 
 /// Where a write goes.
-#[derive(Clone, Copy, Debug, PartialEq, Eq)]
+#[derive(Clone, Copy)]
 pub enum WriteTarget {
     /// The callers of the desk.
     Callers,

@@ -5,7 +5,7 @@ use pt_base::{Load, Minute, PlaceId, TripId};
 use pt_feasible::{Stop, StopKind};
 
 /// A trip that is asked for.
-#[derive(Clone, Copy, Debug, PartialEq, Eq)]
+#[derive(Clone, Copy)]
 pub struct Asked {
     pub trip: TripId,
     pub origin: PlaceId,

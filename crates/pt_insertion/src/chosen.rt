@@ -2,7 +2,7 @@ use pt_base::VehicleId;
 use pt_feasible::Schedule;
 
 /// A place for a trip: in which vehicle's route, and where in it.
-#[derive(Clone, Debug, Drop)]
+#[derive(Clone, Drop)]
 pub struct Chosen {
     pub vehicle: VehicleId,
     /// After how many of the route's stops the pickup comes.

@@ -7,7 +7,7 @@ use pt_base::{TripId, Vehicle};
 use pt_feasible::Route;
 
 /// A vehicle on duty on a day, and its route of that day.
-#[derive(Clone, Copy, Debug)]
+#[derive(Clone, Copy)]
 pub struct Duty<'a> {
     pub vehicle: &'a Vehicle,
     pub route: &'a Route,

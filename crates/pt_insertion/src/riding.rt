@@ -16,7 +16,7 @@ use pt_feasible::{aboard_after, visit_at};
 use pt_travel::Times;
 
 /// A ride from its pickup on, at one of the places where the vehicle stops.
-#[derive(Clone, Copy, Debug, PartialEq, Eq)]
+#[derive(Clone, Copy)]
 pub(crate) struct Riding {
     /// The origin, or the place of a stop after it.
     pub place: PlaceId,

@@ -8,7 +8,7 @@ use crate::insertion::stop_at;
 use pt_feasible::{Route, Stop, Stops};
 
 /// A route that is lent with a trip put in: nothing is copied.
-#[derive(Clone, Copy, Debug)]
+#[derive(Clone, Copy)]
 pub struct Spliced<'a> {
     route: &'a Route,
     asked: &'a Asked,

@@ -10,7 +10,7 @@ use pt_audit::{Bounds, End, Insertion, Raise};
 use pt_travel::Times;
 
 /// What follows in a case.
-#[derive(Clone, Copy, Debug, PartialEq, Eq)]
+#[derive(Clone, Copy)]
 pub(crate) enum Step {
     /// A bound that a constraint raises.
     Raise(Raise),

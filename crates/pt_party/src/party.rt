@@ -5,7 +5,7 @@ ghost use Rattle.pt_party.specs.Party.{MayTravel, persons_of, load_of};
 use pt_base::{Load, Rider, Rule};
 
 /// Who comes along with a rider, as a trip was asked for. It may be more than the rules allow.
-#[derive(Clone, Copy, Debug, PartialEq, Eq)]
+#[derive(Clone, Copy)]
 pub struct Party {
     /// Whether a personal care attendant comes.
     pub attendant: bool,

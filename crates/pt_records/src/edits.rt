@@ -8,7 +8,7 @@ use std::alloc::{AllocError, Global};
 use std::marker::Model;
 
 /// What is taken away from a table, and then what is put into it.
-#[derive(Debug, Drop)]
+#[derive(Drop)]
 pub struct Edits<T> {
     pub(crate) away: Vec<Span>,
     pub(crate) puts: Vec<T>,

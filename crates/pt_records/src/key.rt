@@ -8,7 +8,7 @@ use std::marker::Model;
 /// One or two numbers that a record is known by, in the order of the first and then of the second.
 ///
 /// A contract sees it as one number of that order; nothing is packed when the program runs.
-#[derive(Debug, Drop)]
+#[derive(Drop)]
 pub struct Key {
     first: u32,
     second: u32,

@@ -5,7 +5,7 @@ use crate::Key;
 use std::cmp::Ordering;
 
 /// The keys from one to another, both among them.
-#[derive(Debug, Drop)]
+#[derive(Drop)]
 pub struct Span {
     pub from: Key,
     pub to: Key,

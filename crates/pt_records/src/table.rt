@@ -9,7 +9,7 @@ use std::alloc::{AllocError, Global};
 use std::marker::Model;
 
 /// A table of records, which stand in the order of their keys, no key twice.
-#[derive(Debug, Drop)]
+#[derive(Drop)]
 pub struct Table<T: Keyed> {
     rows: Vec<T>,
 }

@@ -9,7 +9,7 @@ use std::str;
 pub(crate) const LONGEST_MOMENT_LINE: usize = 19;
 
 /// The moment that a line gives.
-#[derive(Clone, Copy, Debug, PartialEq, Eq)]
+#[derive(Clone, Copy)]
 pub(crate) struct MomentLine {
     pub moment: Moment,
     /// The number of bytes of the line, its newline among them.

@@ -7,7 +7,7 @@ use sha2::{Digest as _, Sha256};
 use std::marker::Model;
 
 /// What a caller does for the agency, and so what the caller may ask.
-#[derive(Clone, Copy, Debug, PartialEq, Eq)]
+#[derive(Clone, Copy)]
 pub enum Role {
     /// A rider, who asks about the rider's own record and trips.
     Rider(RiderId),
@@ -26,7 +26,7 @@ pub enum Role {
 }
 
 /// The SHA-256 digest of a caller's key.
-#[derive(Clone, Copy, Debug, PartialEq, Eq)]
+#[derive(Clone, Copy, PartialEq, Eq)]
 pub struct Digest {
     bytes: [u8; 32],
 }
@@ -69,7 +69,7 @@ impl Digest {
 }
 
 /// Somebody who has a key to the desk.
-#[derive(Clone, Copy, Debug, PartialEq, Eq)]
+#[derive(Clone, Copy)]
 pub struct Caller {
     pub id: CallerId,
     pub role: Role,

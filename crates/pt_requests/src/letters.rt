@@ -5,7 +5,7 @@ use pt_base::{Day, Rider};
 use pt_rights::{Entry, Grant, Reasons};
 
 /// What was decided on a rider's application, appeal or suspension, and is told by letter.
-#[derive(Debug, Drop, PartialEq, Eq)]
+#[derive(Drop)]
 pub enum Determination {
     /// The application is granted.
     Granted(Grant),
@@ -56,7 +56,7 @@ impl Determination {
 }
 
 /// What a letter tells a rider.
-#[derive(Debug, Drop, PartialEq, Eq)]
+#[derive(Drop)]
 pub struct Letter {
     /// The rider's record as it is.
     pub rider: Rider,

@@ -10,7 +10,7 @@ use pt_rights::{Entry, Outcome, Standing};
 use pt_travel::Raw;
 
 /// What a caller asks of the desk.
-#[derive(Debug, Drop)]
+#[derive(Drop)]
 pub enum Request {
     Read(Read),
     Write(Write),
@@ -19,7 +19,7 @@ pub enum Request {
 }
 
 /// A request that changes nothing.
-#[derive(Clone, Copy, Debug, PartialEq, Eq)]
+#[derive(Clone, Copy)]
 pub enum Read {
     /// Asks for a rider's standing on a day.
     Standing { rider: RiderId, day: Day },
@@ -36,7 +36,7 @@ pub enum Read {
 }
 
 /// A request that may change something, and comes with the caller's number for it.
-#[derive(Debug, Drop)]
+#[derive(Drop)]
 pub enum Write {
     /// Makes a caller, or replaces the one of that number.
     PutCaller(Caller),
@@ -65,7 +65,7 @@ pub enum Write {
 }
 
 /// What a rider is told of a trip that is booked.
-#[derive(Clone, Copy, Debug, PartialEq, Eq)]
+#[derive(Clone, Copy)]
 pub struct Confirmation {
     pub trip: TripId,
     pub vehicle: VehicleId,
@@ -81,7 +81,7 @@ pub struct Confirmation {
 }
 
 /// What the rules make of a request.
-#[derive(Debug, Drop)]
+#[derive(Drop)]
 pub enum Answer {
     /// It is done.
     Done,

@@ -3,7 +3,7 @@ ghost use Rattle.std.specs.Prelude.{◌<◌, vec_len};
 use pt_base::{Day, Load, Minute, PlaceId, RiderId, TripId, VehicleId, Window};
 
 /// A stop of a tour.
-#[derive(Clone, Copy, Debug, PartialEq, Eq)]
+#[derive(Clone, Copy)]
 pub struct TourStop {
     /// When service begins.
     pub minute: Minute,
@@ -17,7 +17,7 @@ pub struct TourStop {
 }
 
 /// A vehicle's way from its depot over at least one stop and back.
-#[derive(Debug, Drop, PartialEq, Eq)]
+#[derive(Drop)]
 pub struct Tour {
     pub depot: PlaceId,
     /// How many wheelchair places the vehicle has.
@@ -32,7 +32,7 @@ pub struct Tour {
 }
 
 /// What a vehicle does on a day.
-#[derive(Debug, Drop, PartialEq, Eq)]
+#[derive(Drop)]
 pub struct VehicleSheet {
     pub vehicle: VehicleId,
     /// `None` where the vehicle has no stops, or is off duty.
@@ -40,7 +40,7 @@ pub struct VehicleSheet {
 }
 
 /// What all vehicles do on a day.
-#[derive(Debug, Drop, PartialEq, Eq)]
+#[derive(Drop)]
 pub struct DaySheet {
     pub day: Day,
     /// The vehicles on duty, by rising number.

@@ -26,7 +26,7 @@ const PRESUMED_AFTER: u16 = 21;
 const OVERDUE_AFTER: u16 = 30;
 
 /// What a rider's case file entitles to.
-#[derive(Debug, Drop, PartialEq, Eq)]
+#[derive(Drop)]
 pub enum Standing {
     /// An application went unanswered for 21 days.
     Presumed,
@@ -39,7 +39,7 @@ pub enum Standing {
 }
 
 /// A resident's case file, seen as its entries in the order in which they were entered.
-#[derive(Debug, Drop)]
+#[derive(Drop)]
 pub struct CaseFile {
     entries: Vec<Entered>,
     /// The least day of an unanswered application.

@@ -12,7 +12,7 @@ pub const MOST_CONDITIONS: usize = 4;
 
 /// A condition under which a trip qualifies (49 CFR 37.123(b), (e)). A grant's trips qualify where
 /// one of its conditions holds.
-#[derive(Clone, Copy, Debug, Default, PartialEq, Eq)]
+#[derive(Clone, Copy, Default, PartialEq, Eq)]
 pub enum Condition {
     /// Every trip qualifies.
     #[default]
@@ -26,7 +26,7 @@ pub enum Condition {
 }
 
 /// The conditions of a grant, in the order given: one to four, and one may stand twice.
-#[derive(Debug, Drop)]
+#[derive(Drop)]
 pub struct Conditions {
     members: ArrayVec<Condition, MOST_CONDITIONS>,
 }

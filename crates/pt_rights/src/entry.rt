@@ -8,7 +8,7 @@ use pt_base::{CallerId, Day};
 use std::alloc::AllocError;
 
 /// What a grant of eligibility allows.
-#[derive(Debug, Drop, PartialEq, Eq)]
+#[derive(Drop)]
 pub struct Grant {
     /// The last day of eligibility.
     pub until: Day,
@@ -38,7 +38,7 @@ impl Clone for Grant {
 }
 
 /// What is entered in a case file.
-#[derive(Debug, Drop, PartialEq, Eq)]
+#[derive(Drop)]
 pub enum Entry {
     /// The application is complete.
     Complete,
@@ -226,7 +226,7 @@ impl Clone for Entry {
 }
 
 /// An entry as it stands in a case file.
-#[derive(Debug, Drop, PartialEq, Eq)]
+#[derive(Drop)]
 pub struct Entered {
     pub entry: Entry,
     /// The day on which it was entered.

@@ -4,7 +4,7 @@ ghost use Rattle.pt_rights.specs.Feet.{IsFeet};
 use std::marker::Model;
 
 /// A distance of 1 to 100,000 feet, seen as its number of feet.
-#[derive(Clone, Copy, Debug, PartialEq, Eq)]
+#[derive(Clone, Copy, PartialEq, Eq)]
 pub struct Feet {
     feet: u32,
 }

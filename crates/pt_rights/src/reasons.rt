@@ -7,7 +7,7 @@ use std::alloc::AllocError;
 use std::marker::Model;
 
 /// A decision's reasons: 1 to 500 bytes of printable ASCII, 0x20 to 0x7E.
-#[derive(Debug, Drop)]
+#[derive(Drop)]
 pub struct Reasons {
     bytes: Vec<u8>,
 }

@@ -1,7 +1,7 @@
 use pt_base::Day;
 
 /// How a trip ended.
-#[derive(Clone, Copy, Debug, PartialEq, Eq)]
+#[derive(Clone, Copy, PartialEq, Eq)]
 pub enum Outcome {
     /// The rider rode.
     Ridden,
@@ -12,7 +12,7 @@ pub enum Outcome {
 }
 
 /// The outcome of one of a rider's trips.
-#[derive(Clone, Copy, Debug, PartialEq, Eq)]
+#[derive(Clone, Copy)]
 pub struct Tally {
     /// The day of the trip.
     pub day: Day,

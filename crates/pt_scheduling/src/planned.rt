@@ -9,14 +9,14 @@ use std::alloc::{AllocError, Global};
 use std::marker::Model;
 
 /// A stop of a vehicle's route: all else of it stands in its trip.
-#[derive(Clone, Copy, Debug, PartialEq, Eq)]
+#[derive(Clone, Copy, PartialEq, Eq)]
 pub struct PlannedStop {
     pub trip: TripId,
     pub kind: StopKind,
 }
 
 /// The route of a vehicle on a day, as the stops between its depot and its depot.
-#[derive(Debug, Drop)]
+#[derive(Drop)]
 pub struct PlannedRoute {
     pub vehicle: VehicleId,
     pub day: Day,

@@ -15,7 +15,7 @@ use pt_records::{Key, Rows, find_record};
 use std::alloc::{AllocError, Global};
 
 /// A vehicle on duty, and its route of the day.
-#[derive(Debug, Drop)]
+#[derive(Drop)]
 pub struct DayRoute {
     pub vehicle: Vehicle,
     pub route: Route,

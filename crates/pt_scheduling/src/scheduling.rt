@@ -19,7 +19,7 @@ use pt_travel::Times;
 use std::alloc::{AllocError, Global};
 
 /// What is planned for a day.
-#[derive(Clone, Copy, Debug)]
+#[derive(Clone, Copy)]
 pub struct DayPlans<'a> {
     /// The vehicles on duty, by rising number.
     pub vehicles: &'a [Vehicle],
@@ -30,7 +30,7 @@ pub struct DayPlans<'a> {
 }
 
 /// What comes of a trip that is asked for.
-#[derive(Debug, Drop)]
+#[derive(Drop)]
 pub enum Scheduled {
     /// The trip, and its vehicle's new route.
     Booked { trip: Trip, plan: PlannedRoute },

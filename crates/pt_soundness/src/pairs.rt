@@ -7,7 +7,7 @@ use pt_desk_rules::{PlannedRoute, PlannedStop};
 use pt_feasible::{MAX_STOPS, StopKind};
 
 /// What came so far of a trip's stops.
-#[derive(Clone, Copy, Debug, PartialEq, Eq)]
+#[derive(Clone, Copy)]
 pub(crate) enum Met {
     Nothing,
     Pickup,

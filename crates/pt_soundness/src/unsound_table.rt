@@ -3,7 +3,7 @@ ghost use Rattle.std.specs.Prelude.{◌≡◌, ◌≤◌, ◌↔◌, IsSome, IfS
 /// A table of the desk's database, in their order.
 ///
 /// A condition over several tables is that of the last of them.
-#[derive(Clone, Copy, Debug, PartialEq, Eq)]
+#[derive(Clone, Copy)]
 pub enum UnsoundTable {
     /// The policy and the last trip's number: whatever they are, they are sound.
     Desk,

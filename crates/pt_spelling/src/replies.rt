@@ -22,7 +22,7 @@ const CONFIRMATION_BYTES: usize = 24;
 const HIGHEST_DUE: u32 = 200_000;
 
 /// What the sender of an accepted request is told, and told again where the same request comes again.
-#[derive(Clone, Copy, Debug, PartialEq, Eq)]
+#[derive(Clone, Copy)]
 pub enum KeptReply {
     /// It is done.
     Done,

@@ -3,7 +3,7 @@ ghost use Rattle.std.specs.Prelude.{◌≡◌, ℕ, List};
 use std::marker::Model;
 
 /// The bytes that spell a request.
-#[derive(Debug, Drop)]
+#[derive(Drop)]
 pub struct Spelling {
     bytes: Vec<u8>,
 }

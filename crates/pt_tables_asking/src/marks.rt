@@ -30,7 +30,7 @@ use std::marker::PhantomData;
 const COLUMNS: usize = 1;
 
 /// The number of a record that is marked.
-#[derive(Clone, Copy, Debug, PartialEq, Eq)]
+#[derive(Clone, Copy)]
 pub(crate) struct Mark {
     pub(crate) number: u32,
 }

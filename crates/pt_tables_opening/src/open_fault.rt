@@ -8,7 +8,7 @@ use pt_soundness::UnsoundTable;
 use sqlite::{Error, ErrorCode};
 
 /// Why a database is not opened.
-#[derive(Clone, Copy, Debug, PartialEq, Eq)]
+#[derive(Clone, Copy)]
 pub struct OpenFault {
     /// 0 where memory was refused, 30 where the tables are not the desk's or of another version, 31 where rows are
     /// those of no sound state, 32 where the store refused or failed.

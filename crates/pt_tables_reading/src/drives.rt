@@ -12,7 +12,7 @@ use sqlite::Row as TableRow;
 const COLUMNS: usize = 4;
 
 /// A drive of the travel table of a day, as a row has it.
-#[derive(Clone, Copy, Debug, PartialEq, Eq)]
+#[derive(Clone, Copy)]
 pub struct DriveAt {
     pub from_day: Day,
     /// From one place to another in so many minutes; `None` in the row of noughts, which begins a table.

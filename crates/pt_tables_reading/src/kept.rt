@@ -20,7 +20,7 @@ use std::alloc::{AllocError, Global};
 const COLUMNS: usize = 4;
 
 /// What a row tells of a caller's last accepted write, its request lent by the row.
-#[derive(Clone, Copy, Debug)]
+#[derive(Clone, Copy)]
 pub struct KeptRow<'a> {
     pub caller: CallerId,
     pub number: u32,

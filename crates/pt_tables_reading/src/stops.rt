@@ -18,7 +18,7 @@ use std::alloc::{AllocError, Global};
 const COLUMNS: usize = 5;
 
 /// A stop of a vehicle on a day, as a row has it.
-#[derive(Clone, Copy, Debug, PartialEq, Eq)]
+#[derive(Clone, Copy)]
 pub struct StopAt {
     pub vehicle: VehicleId,
     pub day: Day,
@@ -36,7 +36,7 @@ impl Keyed for StopAt {
 }
 
 /// The stops that are planned, one by one.
-#[derive(Clone, Copy, Debug)]
+#[derive(Clone, Copy)]
 pub struct Stops;
 
 impl TableOf for Stops {

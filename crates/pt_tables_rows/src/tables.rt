@@ -26,7 +26,7 @@ pub trait TableOf {
 }
 
 /// Those who may ask the desk.
-#[derive(Clone, Copy, Debug)]
+#[derive(Clone, Copy)]
 pub struct Callers;
 
 impl TableOf for Callers {
@@ -45,7 +45,7 @@ impl TableOf for Callers {
 }
 
 /// What is kept of writes, for each caller.
-#[derive(Clone, Copy, Debug)]
+#[derive(Clone, Copy)]
 pub struct KeptWrites;
 
 impl TableOf for KeptWrites {
@@ -64,7 +64,7 @@ impl TableOf for KeptWrites {
 }
 
 /// Places.
-#[derive(Clone, Copy, Debug)]
+#[derive(Clone, Copy)]
 pub struct Places;
 
 impl TableOf for Places {
@@ -83,7 +83,7 @@ impl TableOf for Places {
 }
 
 /// Fixed routes.
-#[derive(Clone, Copy, Debug)]
+#[derive(Clone, Copy)]
 pub struct FixedRoutes;
 
 impl TableOf for FixedRoutes {
@@ -102,7 +102,7 @@ impl TableOf for FixedRoutes {
 }
 
 /// Vehicles, with all their versions.
-#[derive(Clone, Copy, Debug)]
+#[derive(Clone, Copy)]
 pub struct Vehicles;
 
 impl TableOf for Vehicles {
@@ -121,7 +121,7 @@ impl TableOf for Vehicles {
 }
 
 /// Riders.
-#[derive(Clone, Copy, Debug)]
+#[derive(Clone, Copy)]
 pub struct Riders;
 
 impl TableOf for Riders {
@@ -140,7 +140,7 @@ impl TableOf for Riders {
 }
 
 /// Entries of case files.
-#[derive(Clone, Copy, Debug)]
+#[derive(Clone, Copy)]
 pub struct Entries;
 
 impl TableOf for Entries {
@@ -159,7 +159,7 @@ impl TableOf for Entries {
 }
 
 /// Driving times, with all their versions.
-#[derive(Clone, Copy, Debug)]
+#[derive(Clone, Copy)]
 pub struct TravelTables;
 
 impl TableOf for TravelTables {
@@ -177,7 +177,7 @@ impl TableOf for TravelTables {
 }
 
 /// Trips.
-#[derive(Clone, Copy, Debug)]
+#[derive(Clone, Copy)]
 pub struct Trips;
 
 impl TableOf for Trips {
@@ -196,7 +196,7 @@ impl TableOf for Trips {
 }
 
 /// The stops that are planned, a plan in several rows.
-#[derive(Clone, Copy, Debug)]
+#[derive(Clone, Copy)]
 pub struct Plans;
 
 impl TableOf for Plans {
@@ -214,7 +214,7 @@ impl TableOf for Plans {
 }
 
 /// The riders in wheelchairs.
-#[derive(Clone, Copy, Debug)]
+#[derive(Clone, Copy)]
 pub struct RiderChairs;
 
 impl TableOf for RiderChairs {
@@ -232,7 +232,7 @@ impl TableOf for RiderChairs {
 }
 
 /// The vehicles with wheelchair places.
-#[derive(Clone, Copy, Debug)]
+#[derive(Clone, Copy)]
 pub struct VehicleChairs;
 
 impl TableOf for VehicleChairs {
@@ -250,7 +250,7 @@ impl TableOf for VehicleChairs {
 }
 
 /// The trips of riders in wheelchairs.
-#[derive(Clone, Copy, Debug)]
+#[derive(Clone, Copy)]
 pub struct TripChairs;
 
 impl TableOf for TripChairs {

@@ -10,7 +10,7 @@ use pt_base::PlaceId;
 use std::alloc::{AllocError, Global};
 
 /// The driving times by the least chains of a table's rows.
-#[derive(Debug, Drop)]
+#[derive(Drop)]
 pub struct Closed {
     places: Places,
     lines: Vec<Line>,

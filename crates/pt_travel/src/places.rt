@@ -8,7 +8,7 @@ use pt_base::PlaceId;
 const GUESSES: usize = 1024;
 
 /// Places, each once and at most 100.
-#[derive(Clone, Copy, Debug)]
+#[derive(Clone, Copy)]
 pub(crate) struct Places {
     numbers: [u32; MOST_PLACES],
     len: usize,

@@ -17,7 +17,7 @@ pub const MOST_MINUTES: u16 = 1439;
 pub type Row = (PlaceId, PlaceId, u16);
 
 /// The agency's table as it gave it: in order of its places, each pair of places once.
-#[derive(Debug, Drop)]
+#[derive(Drop)]
 pub struct Raw {
     rows: Vec<Row>,
     places: Places,

@@ -440,7 +440,8 @@ impl Trial {
         if self.file.is_full() {
             return Err(Fail::new("a full file"));
         }
-        self.file.push(entry, today, author)?;
+        let pushed = self.file.push(entry, today, author);
+        pushed.map_err(|(_, fault)| fault)?;
         Ok(rule == wanted)
     }
 
