@@ -9,7 +9,7 @@ use Rattle.pt_requests.specs.declared.request.Answer.{Answer}
 use Rattle.pt_requests.specs.declared.request.Answer.TheVariants.{Denied}
 use Rattle.pt_requests.specs.declared.request.Request.{Request}
 use Rattle.pt_requests.specs.declared.request.Request.TheVariants as request
-use Rattle.pt_desk_rules.proofs.OutcomeLemmas.{is_of_write, commits_nothing, read_commits_nothing}
+use Rattle.pt_desk_laws.proofs.OutcomeLemmas.{is_of_write, commits_nothing, read_commits_nothing}
 use Rattle.pt_desk.specs.Run.{IsDenial, IsRead}
 use Rattle.pt_desk.specs.Store.{Store, Answers, ChangesNothing}
 use Rattle.pt_desk.specs.declared.keeper.StoreFault.{StoreFault}

@@ -7,7 +7,7 @@ use Rattle.pt_booking.specs.Planning.{SomeVehicleCan}
 use Rattle.pt_desk.specs.Refusals.{IsFacts, IsInquiryBy, RefusalsAreTold}
 use Rattle.pt_desk.specs.Store.{Answers, Store}
 use Rattle.pt_desk.specs.declared.keeper.StoreFault.{StoreFault}
-use Rattle.pt_desk_rules.proofs.AgainLemmas.{denials_are_the_same_again}
+use Rattle.pt_desk_laws.proofs.AgainLemmas.{denials_are_the_same_again}
 use Rattle.pt_desk_rules.proofs.ExplainLemmas.{refusals_are_shown}
 use Rattle.pt_desk_rules.specs.Booking.{AreTimes}
 use Rattle.pt_desk_rules.specs.Facts.{wish_facts}

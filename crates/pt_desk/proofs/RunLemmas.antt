@@ -9,11 +9,11 @@ use Rattle.pt_requests.specs.declared.request.Answer.{Answer}
 use Rattle.pt_desk.specs.declared.running.Call.{Call}
 use Rattle.pt_desk.specs.Run.{AnswersCall, IsOnlyTold, IsOutcomeOf, Runs, AreOnlyTold, AreRefused, GoesOn}
 use Rattle.pt_desk.specs.Run.{made, AreAnswered, IsToldAfterACrash, RunsAreCalls, RunsLeaveAcceptedWrites, TellOfFailure}
-use Rattle.pt_desk_rules.specs.Again.{IsToldAgain}
-use Rattle.pt_desk_rules.specs.Numbers.{committed, AreMadeBy}
+use Rattle.pt_desk_laws.specs.Again.{IsToldAgain}
+use Rattle.pt_desk_laws.specs.Numbers.{committed, AreMadeBy}
 use Rattle.pt_desk_rules.specs.Step.{state_after}
-use Rattle.pt_desk_rules.proofs.NumberLemmas.{accepted_writes_make_the_state}
-use Rattle.pt_desk_rules.proofs.AgainLemmas.{requests_are_the_same_again}
+use Rattle.pt_desk_laws.proofs.NumberLemmas.{accepted_writes_make_the_state}
+use Rattle.pt_desk_laws.proofs.AgainLemmas.{requests_are_the_same_again}
 use Rattle.std.proofs.lemmas.Option.{same_Some}
 
 abbrev Reply : Type 0

@@ -6,7 +6,7 @@ use Rattle.pt_desk_rules.specs.Step.{state_after, IsOutcome}
 use Rattle.pt_desk_rules.specs.Sound.{IsSound}
 use Rattle.pt_requests.specs.declared.request.Answer.{Answer}
 use Rattle.pt_requests.specs.declared.request.Request.{Request}
-use Rattle.pt_desk_rules.proofs.SoundLemmas.{request_sound}
+use Rattle.pt_desk_laws.proofs.SoundLemmas.{request_sound}
 use Rattle.pt_desk.specs.Store.{Store, Answers, Tells, IsFault}
 use Rattle.pt_desk.specs.declared.keeper.StoreFault.{StoreFault}
 use Rattle.pt_desk.specs.declared.keeper.StoreFault.TheVariants.{Memory, Store as failed}

@@ -2,8 +2,8 @@
 use Rattle.std.specs.Prelude.{◌≡◌, ◌≢◌, ◌⊎◌, ℕ, ◌<◌, List, [], ◌∷◌, Option, Some, None, Result, Ok, Err}
 use Rattle.std.specs.Prelude.{IsOk}
 use Rattle.pt_records.specs.Records.{Each}
-use Rattle.pt_desk_rules.specs.Again.{IsToldAgain}
-use Rattle.pt_desk_rules.specs.Numbers.{committed, AreCalls, AreMadeBy, Call as Made}
+use Rattle.pt_desk_laws.specs.Again.{IsToldAgain}
+use Rattle.pt_desk_laws.specs.Numbers.{committed, AreCalls, AreMadeBy, Call as Made}
 use Rattle.pt_desk_rules.specs.Sound.{IsSound}
 use Rattle.pt_desk_rules.specs.State.{State}
 use Rattle.pt_desk_rules.specs.Step.{IsOutcome, state_after}

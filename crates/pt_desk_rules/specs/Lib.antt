@@ -17,8 +17,3 @@ pub mod Booking
 pub mod Refusal
 pub mod Explaining
 pub mod Tours
-pub mod Privacy
-pub mod Numbers
-pub mod Again
-pub mod Laws
-pub mod One

@@ -8,14 +8,6 @@ pub use explaining::{Inquiry, RefusalFacts, explain, refusal_facts};
 pub use facts::{BookingFacts, DayFacts, ReadFacts, WriteFacts};
 pub use fleet::{has_version, on_duty};
 pub use kept::{Arrival, Kept, Sent};
-pub use laws::{
-    accepted_numbers_rise, accepted_writes_are_kept, accepted_writes_make_the_state,
-    denials_are_right, denials_are_the_same_again, last_accepted_is_kept,
-    manifests_show_standing_trips, outcomes_are_one, outcomes_of_sound_states_are_sound,
-    reads_are_the_same_again, refusals_are_shown, repeats_are_told_the_same,
-    requests_are_the_same_again, requests_outlive_crashes, sound_states_have_routes,
-    sound_states_have_tours, trips_are_private, writes_may_be_sent_again,
-};
 pub use pt_requests::{Answer, Caller, Confirmation, Digest, Read, Request, Role, Write};
 pub use pt_scheduling::{PlannedRoute, PlannedStop};
 pub use pt_spelling::{KeptReply, Spelling};
@@ -32,7 +24,6 @@ mod explaining;
 mod facts;
 mod fleet;
 mod kept;
-mod laws;
 mod letters;
 mod outcomes;
 mod permission;

@@ -8,7 +8,7 @@ use Rattle.pt_desk.specs.declared.keeper.StoreFault.TheVariants.{Memory}
 use Rattle.pt_desk_rules.specs.Step.{sender, state_after}
 use Rattle.pt_requests.specs.declared.request.Answer.{Answer}
 use Rattle.pt_requests.specs.declared.request.Answer.TheVariants.{Booked, Denied, Done, Entered}
-use Rattle.pt_desk_rules.proofs.OutcomeLemmas.{is_of_write, commits_nothing}
+use Rattle.pt_desk_laws.proofs.OutcomeLemmas.{is_of_write, commits_nothing}
 use Rattle.pt_http_reply.specs.Reply.{is_of_read, is_told, IsSent}
 use Rattle.pt_http_reply.specs.declared.response.Response.{Response}
 use Rattle.pt_http_reply.specs.declared.response.Response.TheVariants as response

@@ -21,7 +21,7 @@ use Rattle.pt_desk_rules.specs.declared.facts.WriteFacts.{WriteFacts}
 use Rattle.pt_desk_rules.specs.declared.kept.Kept.{Kept}
 use Rattle.pt_desk_rules.specs.declared.kept.Sent.{Sent}
 use Rattle.pt_desk_rules.proofs.RangeLemmas.{Each-more, planned_days, trip_days}
-use Rattle.pt_desk_rules.proofs.SoundLemmas.{cancel_trip, change_trip, request_sound}
+use Rattle.pt_desk_laws.proofs.SoundLemmas.{cancel_trip, change_trip, request_sound}
 use Rattle.pt_records.specs.Keys.{pair_key}
 use Rattle.pt_records.specs.Records.{Each, Edit, put, put_all, take_away}
 use Rattle.pt_records.proofs.OrderLemmas.{record_at-put_same}

@@ -1,0 +1,5 @@
+pub mod Laws
+pub mod Privacy
+pub mod Numbers
+pub mod Again
+pub mod One

@@ -1,0 +1,25 @@
+-- One call in one state has one outcome.
+use Rattle.std.specs.Prelude.{◌≡◌, ◌⊎◌, ℕ, List, Option}
+use Rattle.pt_base.specs.declared.moment.Moment.{Moment}
+use Rattle.pt_desk_laws.specs.Again.{IsSameAnswer, IsToldAgain}
+use Rattle.pt_desk_rules.specs.Sound.{IsSound}
+use Rattle.pt_desk_rules.specs.State.{State}
+use Rattle.pt_desk_rules.specs.Step.{state_after, IsOutcome}
+use Rattle.pt_requests.specs.declared.request.Answer.{Answer}
+use Rattle.pt_requests.specs.declared.request.Request.{Request}
+
+-- Two outcomes of one call in one sound state are one: the same is told, and the same is committed, if anything. So the
+-- rules settle each answer, the place and the window of a trip too.
+abbrev pub OutcomesAreOne : Type 0
+OutcomesAreOne = (key : List ℕ) (now : Moment) (number : ℕ) (asked : Request) (s : State) (told other : Answer)
+    (left also : Option State) → IsSound s → IsOutcome key now number asked s told left →
+    IsOutcome key now number asked s other also → IsSameAnswer told other × (left ≡ also)
+
+-- A crash finds a request's state before it or after it. In both the request, made again at the same moment with its
+-- key and number, is told what it was told, and leaves what it left. But where it gave its caller another key and is
+-- found made, it has to be sent again with that one.
+abbrev pub RequestsOutliveCrashes : Type 0
+RequestsOutliveCrashes = (key : List ℕ) (now : Moment) (number : ℕ) (asked : Request) (s found : State)
+    (told again : Answer) (left after : Option State) → IsSound s → IsOutcome key now number asked s told left →
+    (found ≡ s) ⊎ (found ≡ state_after left s) → IsOutcome key now number asked found again after →
+    IsToldAgain key asked s (state_after left s) told again × (state_after after found ≡ state_after left s)

@@ -1,5 +1,0 @@
-use Rattle.pt_desk_rules.proofs.NumberLemmas.{accepted_writes_are_kept}
-use Rattle.pt_desk_rules.proofs.laws.accepted_writes_are_kept.Goals as goal
-
-pub returns : goal.returns
-returns c = accepted_writes_are_kept

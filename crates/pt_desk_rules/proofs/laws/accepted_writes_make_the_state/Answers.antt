@@ -1,5 +1,0 @@
-use Rattle.pt_desk_rules.proofs.NumberLemmas.{accepted_writes_make_the_state}
-use Rattle.pt_desk_rules.proofs.laws.accepted_writes_make_the_state.Goals as goal
-
-pub returns : goal.returns
-returns c = accepted_writes_make_the_state

@@ -1,5 +1,0 @@
-use Rattle.pt_desk_rules.proofs.RightLemmas.{denials_are_right}
-use Rattle.pt_desk_rules.proofs.laws.denials_are_right.Goals as goal
-
-pub returns : goal.returns
-returns c = denials_are_right

@@ -1,5 +1,0 @@
-use Rattle.pt_desk_rules.proofs.SoundLemmas.{request_sound}
-use Rattle.pt_desk_rules.proofs.laws.outcomes_of_sound_states_are_sound.Goals as goal
-
-pub returns : goal.returns
-returns c = request_sound

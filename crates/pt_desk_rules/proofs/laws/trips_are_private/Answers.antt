@@ -1,5 +1,0 @@
-use Rattle.pt_desk_rules.proofs.PrivacyLemmas.{trips_are_private}
-use Rattle.pt_desk_rules.proofs.laws.trips_are_private.Goals as goal
-
-pub returns : goal.returns
-returns c = trips_are_private

@@ -1,5 +1,0 @@
-use Rattle.pt_desk_rules.proofs.NumberLemmas.{writes_may_be_sent_again}
-use Rattle.pt_desk_rules.proofs.laws.writes_may_be_sent_again.Goals as goal
-
-pub returns : goal.returns
-returns c = writes_may_be_sent_again
