@@ -4,8 +4,8 @@ use Rattle.pt_base.specs.Codes.{memory_refused, write_failed}
 use Rattle.pt_base.specs.Fault.{fault}
 use Rattle.pt_base.specs.Rule.{name_of}
 use Rattle.pt_base.specs.declared.fault.Fault.{Fault}
-use Rattle.pt_desk.specs.declared.keeper.StoreFault.{StoreFault}
-use Rattle.pt_desk.specs.declared.keeper.StoreFault.TheVariants.{Memory, Store}
+use Rattle.pt_store.specs.declared.keeper.StoreFault.{StoreFault}
+use Rattle.pt_store.specs.declared.keeper.StoreFault.TheVariants.{Memory, Store}
 use Rattle.pt_manifest.specs.Export.{trips_text}
 use Rattle.pt_manifest.specs.Manifests.{manifest_text}
 use Rattle.pt_requests.specs.declared.request.Answer.{Answer}

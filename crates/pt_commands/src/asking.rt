@@ -4,9 +4,9 @@ ghost use Rattle.pt_commands.specs.declared.outcome.Outcome.TheVariants.{Done};
 ghost use Rattle.pt_commands.specs.Told.{EndsBy, ending_of, fault_of, told_text};
 ghost use Rattle.pt_base.specs.Codes.{memory_refused, write_failed};
 ghost use Rattle.pt_base.specs.Fault.{fault};
-ghost use Rattle.pt_desk.specs.Store.{Answers};
+ghost use Rattle.pt_store.specs.Store.{Answers};
 ghost use Rattle.pt_desk_rules.specs.Step.{IsOutcome};
-ghost use Rattle.pt_desk.specs.declared.keeper.StoreFault.{StoreFault};
+ghost use Rattle.pt_store.specs.declared.keeper.StoreFault.{StoreFault};
 ghost use Rattle.pt_requests.specs.declared.request.Answer.{Answer};
 
 use crate::outcome::{Outcome, STORE_REFUSED};

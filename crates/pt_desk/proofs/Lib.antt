@@ -1,9 +1,7 @@
-pub mod StoreLemmas
 mod SoundLemmas
 mod FileLemmas
 mod RunLemmas
 mod AnswerLemmas
-mod ReadLemmas
 mod QuietLemmas
 mod PlaceLemmas
 pub mod RefusalLemmas

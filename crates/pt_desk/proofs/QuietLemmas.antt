@@ -11,8 +11,8 @@ use Rattle.pt_requests.specs.declared.request.Request.{Request}
 use Rattle.pt_requests.specs.declared.request.Request.TheVariants as request
 use Rattle.pt_desk_laws.proofs.OutcomeLemmas.{is_of_write, commits_nothing, read_commits_nothing}
 use Rattle.pt_desk.specs.Run.{IsDenial, IsRead}
-use Rattle.pt_desk.specs.Store.{Store, Answers, ChangesNothing}
-use Rattle.pt_desk.specs.declared.keeper.StoreFault.{StoreFault}
+use Rattle.pt_store.specs.Store.{Store, Answers, ChangesNothing}
+use Rattle.pt_store.specs.declared.keeper.StoreFault.{StoreFault}
 use Rattle.pt_desk.proofs.AnswerLemmas.{changes_nothing}
 
 abbrev Reply : Type 0

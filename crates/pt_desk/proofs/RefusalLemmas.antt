@@ -5,8 +5,8 @@ use Rattle.pt_base.specs.declared.trip.Wish.{Wish}
 use Rattle.pt_base.specs.declared.moment.Moment.{Moment}
 use Rattle.pt_booking.specs.Planning.{SomeVehicleCan}
 use Rattle.pt_desk.specs.Refusals.{IsFacts, IsInquiryBy, RefusalsAreTold}
-use Rattle.pt_desk.specs.Store.{Answers, Store}
-use Rattle.pt_desk.specs.declared.keeper.StoreFault.{StoreFault}
+use Rattle.pt_store.specs.Store.{Answers, Store}
+use Rattle.pt_store.specs.declared.keeper.StoreFault.{StoreFault}
 use Rattle.pt_desk_laws.proofs.AgainLemmas.{denials_are_the_same_again}
 use Rattle.pt_desk_rules.proofs.ExplainLemmas.{refusals_are_shown}
 use Rattle.pt_desk_rules.specs.Booking.{AreTimes}

@@ -2,9 +2,9 @@
 use Rattle.std.proofs.Common.{◌≡◌, ℕ, zero, suc, ◌<◌, ◌≤◌, ◌⊎◌, ◌++◌, List, [], ◌∷◌, Some, None, Result, Ok, Err, length, drop, get_or, drop-cons, add-one, ◌+◌, arith, refl, sym, ap, ◌∙◌, subst, inl, inr}
 use Rattle.std.proofs.lemmas.List.{drop_all}
 use Rattle.pt_desk_rules.specs.State.{State}
-use Rattle.pt_desk.specs.Store.{Store, ChangesNothing, Fails}
-use Rattle.pt_desk.specs.declared.keeper.StoreFault.{StoreFault}
-use Rattle.pt_desk.specs.declared.keeper.StoreFault.TheVariants.{Memory, Store as failed}
+use Rattle.pt_store.specs.Store.{Store, ChangesNothing, Fails}
+use Rattle.pt_store.specs.declared.keeper.StoreFault.{StoreFault}
+use Rattle.pt_store.specs.declared.keeper.StoreFault.TheVariants.{Memory, Store as failed}
 use Rattle.pt_requests.specs.declared.request.Answer.{Answer}
 use Rattle.pt_desk.specs.declared.running.Call.{Call}
 use Rattle.pt_desk.specs.Run.{AnswersCall, IsOnlyTold, IsOutcomeOf, Runs, AreOnlyTold, AreRefused, GoesOn}

@@ -7,9 +7,9 @@ use Rattle.pt_desk_rules.specs.Sound.{IsSound}
 use Rattle.pt_requests.specs.declared.request.Answer.{Answer}
 use Rattle.pt_requests.specs.declared.request.Request.{Request}
 use Rattle.pt_desk_laws.proofs.SoundLemmas.{request_sound}
-use Rattle.pt_desk.specs.Store.{Store, Answers, Tells, IsFault}
-use Rattle.pt_desk.specs.declared.keeper.StoreFault.{StoreFault}
-use Rattle.pt_desk.specs.declared.keeper.StoreFault.TheVariants.{Memory, Store as failed}
+use Rattle.pt_store.specs.Store.{Store, Answers, Tells, IsFault}
+use Rattle.pt_store.specs.declared.keeper.StoreFault.{StoreFault}
+use Rattle.pt_store.specs.declared.keeper.StoreFault.TheVariants.{Memory, Store as failed}
 
 abbrev Reply : Type 0
 Reply = Result Answer StoreFault

@@ -1,4 +1,3 @@
-pub mod Store
 pub mod Run
 pub mod LeastState
 pub mod Places

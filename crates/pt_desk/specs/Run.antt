@@ -11,9 +11,9 @@ use Rattle.pt_requests.specs.declared.request.Answer.{Answer}
 use Rattle.pt_requests.specs.declared.request.Answer.TheVariants.{Denied}
 use Rattle.pt_requests.specs.declared.request.Request.{Request}
 use Rattle.pt_requests.specs.declared.request.Request.TheVariants.{Explain, Read, Write}
-use Rattle.pt_desk.specs.Store.{Answers, IsSettled, Store as Kept, TellsBy}
-use Rattle.pt_desk.specs.declared.keeper.StoreFault.{StoreFault}
-use Rattle.pt_desk.specs.declared.keeper.StoreFault.TheVariants.{Memory, Store}
+use Rattle.pt_store.specs.Store.{Answers, IsSettled, Store as Kept, TellsBy}
+use Rattle.pt_store.specs.declared.keeper.StoreFault.{StoreFault}
+use Rattle.pt_store.specs.declared.keeper.StoreFault.TheVariants.{Memory, Store}
 use Rattle.pt_desk.specs.declared.running.Call.{Call}
 
 -- a request that only asks

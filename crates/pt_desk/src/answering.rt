@@ -5,16 +5,16 @@ ghost use Rattle.pt_desk_rules.specs.Step.{sent_with, told_of, left_of};
 ghost use Rattle.pt_desk_rules.specs.Step.{IsExplainOutcome, IsReadOutcome, IsDecidedOutcome, IsWriteOutcome};
 ghost use Rattle.pt_desk_rules.specs.Step.{IsOutcome};
 ghost use Rattle.pt_requests.specs.declared.request.Answer.{Answer};
-ghost use Rattle.pt_desk.specs.Store.{Store, Answers, ChangesNothing, Goes, Reads, Fails, IsSoundKept};
+ghost use Rattle.pt_store.specs.Store.{Store, Answers, ChangesNothing, Goes, Reads, Fails, IsSoundKept};
 ghost use Rattle.pt_desk.specs.Run.{IsDenial, IsRead};
 
-use crate::gathering::{gather, gather_read, gather_wish};
 use crate::{Keeper, Reply, StoreFault};
 use pt_base::{Moment, RiderId, Rule, Wish};
 use pt_desk_rules::{
     Answer, Arrival, Caller, Decision, Digest, Read, Request, Sent, Write, decide, explain, tell,
 };
 use pt_spelling::spell;
+use pt_store::{gather, gather_read, gather_wish};
 use std::alloc::Global;
 
 /// Answers a read.

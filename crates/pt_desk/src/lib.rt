@@ -4,7 +4,6 @@
 
 pub use answering::answer;
 pub use answers::{file_with, find_caller, is_booked_from, table_count_before};
-pub use keeper::{Keeper, Reply, StoreFault};
 pub use laws::{
     answers_outlive_crashes, refusals_are_told, runs_are_calls, runs_leave_accepted_writes,
 };
@@ -14,13 +13,12 @@ pub use pt_desk_rules::{
     Answer, Caller, Change, Confirmation, Decision, Digest, FiledEntry, Inquiry, Kept, Read,
     ReadFacts, RefusalFacts, Request, Role, Write, WriteFacts,
 };
+pub use pt_store::{Keeper, Reply, StoreFault};
 pub use refusals::facts;
 pub use running::{Call, run};
 
 mod answering;
 mod answers;
-mod gathering;
-mod keeper;
 mod laws;
 mod list_keeper;
 mod places;

@@ -91,7 +91,7 @@ impl Model for ListKeeper {
 impl ListKeeper {
     ghost use Rattle.pt_desk.specs.LeastState.{IsLeastState};
     ghost use Rattle.pt_desk.specs.Listed.{HasRoom, HasKnownRoom, known_of, with_known};
-    ghost use Rattle.pt_desk.specs.Store.{IsSettled};
+    ghost use Rattle.pt_store.specs.Store.{IsSettled};
     ghost use Rattle.pt_desk_rules.specs.Sound.{IsSound};
     ghost use Rattle.pt_desk_rules.specs.State.{applied};
 

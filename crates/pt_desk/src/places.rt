@@ -2,7 +2,7 @@ ghost use Rattle.std.specs.Prelude.{◌≡◌, IfOk, map};
 ghost use Rattle.std.specs.List.Sorted.{IsStrictlyIncreasing};
 ghost use Rattle.pt_desk_rules.specs.State.{place_key};
 ghost use Rattle.pt_desk.specs.Places.{numbers_in};
-ghost use Rattle.pt_desk.specs.Store.{Fails, Reads};
+ghost use Rattle.pt_store.specs.Store.{Fails, Reads};
 
 use crate::{Keeper, StoreFault};
 use pt_base::{Place, PlaceId};

@@ -1,11 +1,11 @@
 ghost use Rattle.std.specs.Prelude.{◌≡◌, IfOk, None, Some};
 ghost use Rattle.pt_desk.specs.Refusals.{IsFacts, IsInquiryBy};
-ghost use Rattle.pt_desk.specs.Store.{Store, Answers, ChangesNothing, Fails};
+ghost use Rattle.pt_store.specs.Store.{Store, Answers, ChangesNothing, Fails};
 
-use crate::gathering::gather_wish;
 use crate::{Keeper, StoreFault};
 use pt_base::{Moment, RiderId, Rule, Wish};
 use pt_desk_rules::{Caller, Digest, Inquiry, refusal_facts};
+use pt_store::gather_wish;
 use std::alloc::Global;
 
 /// What the refusal of a rider's wish would stand on, by what is planned.

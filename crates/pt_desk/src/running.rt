@@ -1,5 +1,5 @@
 ghost use Rattle.std.specs.Prelude.{◌≡◌, ◌<◌, ◌≤◌, IfOk, OnErr};
-ghost use Rattle.pt_desk.specs.Store.{Store, Answers, ChangesNothing, Fails, IsSettled, IsSoundKept};
+ghost use Rattle.pt_store.specs.Store.{Store, Answers, ChangesNothing, Fails, IsSettled, IsSoundKept};
 ghost use Rattle.pt_desk.specs.Run.{AreOnlyTold, GoesOn, IsOnlyTold, IsOutcomeOf, TellOfFailure};
 
 use crate::{Keeper, Reply, answer};

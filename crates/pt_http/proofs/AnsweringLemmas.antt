@@ -6,7 +6,7 @@ use Rattle.pt_base.specs.Codes.{write_failed}
 use Rattle.pt_base.specs.Fault.{fault}
 use Rattle.pt_base.specs.declared.fault.Fault.{Fault}
 use Rattle.pt_base.specs.declared.moment.Moment.{Moment}
-use Rattle.pt_desk.specs.Store.{Store}
+use Rattle.pt_store.specs.Store.{Store}
 use Rattle.pt_http.specs.Answering.{AnswersOne, CanBeAskedAgain, ExchangesOne, GoesOn, TellsFailure}
 use Rattle.pt_http.specs.Exchange.{IsExchangedOver, IsUnanswered, IsWritten, ServesOver, desk_of}
 use Rattle.pt_http.specs.Input.{HasInput}

@@ -4,7 +4,7 @@ use Rattle.pt_base.specs.Codes.{write_failed}
 use Rattle.pt_base.specs.Fault.{fault}
 use Rattle.pt_base.specs.declared.fault.Fault.{Fault}
 use Rattle.pt_base.specs.declared.moment.Moment.{Moment}
-use Rattle.pt_desk.specs.Store.{IsSettled, Store}
+use Rattle.pt_store.specs.Store.{IsSettled, Store}
 use Rattle.pt_http.specs.Exchange.{IsExchangedOver, IsUnanswered, IsWritten, ServesOver}
 use Rattle.pt_http.specs.Input.{HasInput}
 use Rattle.pt_http_inbox.specs.Inbox.{ReadsOn}

@@ -5,10 +5,10 @@ use Rattle.pt_base.specs.declared.fault.Fault.{Fault}
 use Rattle.pt_base.specs.Codes.{memory_refused, read_failed}
 use Rattle.pt_base.specs.declared.rule.Rule.TheVariants.{Key}
 use Rattle.pt_base.specs.declared.moment.Moment.{Moment}
-use Rattle.pt_desk.specs.Store.{Store, TellsBy, Fails}
+use Rattle.pt_store.specs.Store.{Store, TellsBy, Fails}
 use Rattle.pt_desk_rules.specs.State.{State}
 use Rattle.pt_desk_rules.specs.Step.{IsOutcome}
-use Rattle.pt_desk.specs.declared.keeper.StoreFault.{StoreFault}
+use Rattle.pt_store.specs.declared.keeper.StoreFault.{StoreFault}
 use Rattle.pt_requests.specs.declared.request.Answer.{Answer}
 use Rattle.pt_requests.specs.declared.request.Answer.TheVariants.{Denied}
 use Rattle.pt_http_request.specs.declared.fault.RequestFault.TheVariants.{Head, Length}

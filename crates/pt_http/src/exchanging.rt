@@ -2,7 +2,7 @@ ghost use Rattle.std.specs.Prelude.{◌≡◌, IfErr, OnOk};
 ghost use Rattle.std.specs.Io.KnownBytes.{Appends};
 ghost use Rattle.pt_base.specs.Codes.{write_failed};
 ghost use Rattle.pt_base.specs.Fault.{fault};
-ghost use Rattle.pt_desk.specs.Store.{Store};
+ghost use Rattle.pt_store.specs.Store.{Store};
 ghost use Rattle.pt_http.specs.Answering.{AnswersOne, CanBeAskedAgain, ExchangesOne, GoesOn};
 ghost use Rattle.pt_http.specs.Exchange.{IsExchangedOver, desk_of};
 ghost use Rattle.pt_http.specs.Input.{HasInput};

@@ -7,7 +7,7 @@ use Rattle.pt_base.specs.declared.rule.Rule.TheVariants as rule
 use Rattle.pt_http_request.specs.declared.fault.RequestFault.TheVariants as fault
 use Rattle.pt_rights.specs.declared.case_file.Standing.{Standing}
 use Rattle.pt_rights.specs.declared.case_file.Standing.TheVariants as standing
-use Rattle.pt_desk.specs.declared.keeper.StoreFault.TheVariants.{Memory, Store}
+use Rattle.pt_store.specs.declared.keeper.StoreFault.TheVariants.{Memory, Store}
 use Rattle.pt_requests.specs.declared.request.Answer.{Answer}
 use Rattle.pt_requests.specs.declared.request.Answer.TheVariants as answer
 use Rattle.pt_http_reply.proofs.TripLemmas.{IsDateText-unique, trips_body-unique}

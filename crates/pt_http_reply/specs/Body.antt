@@ -8,7 +8,7 @@ use Rattle.pt_rights.specs.declared.case_file.Standing.TheVariants as standing
 use Rattle.pt_rights.specs.declared.conditions.Condition.{Condition}
 use Rattle.pt_rights.specs.declared.entry.Grant.{Grant}
 use Rattle.pt_conditions.specs.Texts.{condition_text}
-use Rattle.pt_desk.specs.declared.keeper.StoreFault.TheVariants.{Memory, Store}
+use Rattle.pt_store.specs.declared.keeper.StoreFault.TheVariants.{Memory, Store}
 use Rattle.pt_manifest.specs.Export.{trips_text}
 use Rattle.pt_manifest.specs.Letters.{letter_text}
 use Rattle.pt_manifest.specs.Manifests.{day_sheet_text, manifest_text}

@@ -1,6 +1,6 @@
 -- How a reply is held before it is written.
 use Rattle.std.specs.Prelude.{◌≡◌, ◌≤◌, ◌⊎◌, ℕ, List, ◌++◌, length, Bool, true, false, Ok, Err}
-use Rattle.pt_desk.specs.declared.keeper.StoreFault.TheVariants.{Memory}
+use Rattle.pt_store.specs.declared.keeper.StoreFault.TheVariants.{Memory}
 use Rattle.pt_requests.specs.declared.request.Answer.{Answer}
 use Rattle.pt_requests.specs.declared.request.Answer.TheVariants as answer
 use Rattle.pt_http_reply.specs.declared.body.Body.{Body}

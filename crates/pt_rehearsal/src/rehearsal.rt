@@ -4,7 +4,7 @@ ghost use Rattle.pt_base.specs.Fault.{fault};
 ghost use Rattle.pt_base.specs.Codes.{read_failed, write_failed, moment_line_refused};
 ghost use Rattle.pt_http_inbox.specs.Inbox.{reads_of};
 ghost use Rattle.pt_http.specs.Exchange.{Desk, desk_of, IsUnanswered, is_last};
-ghost use Rattle.pt_desk.specs.Store.{Store, IsSettled};
+ghost use Rattle.pt_store.specs.Store.{Store, IsSettled};
 ghost use Rattle.pt_http.specs.Input.{HasInput};
 ghost use Rattle.pt_rehearsal.specs.Moments.{IsNext};
 ghost use Rattle.pt_http_request.specs.Targets.{desk_routes};

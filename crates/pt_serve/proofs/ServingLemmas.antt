@@ -5,7 +5,7 @@ use Rattle.pt_base.specs.Codes.{write_failed}
 use Rattle.pt_base.specs.Fault.{fault}
 use Rattle.pt_base.specs.declared.fault.Fault.{Fault}
 use Rattle.pt_base.specs.declared.moment.Moment.{Moment}
-use Rattle.pt_desk.specs.Store.{Store}
+use Rattle.pt_store.specs.Store.{Store}
 use Rattle.pt_http.specs.Exchange.{Desk, IsUnanswered, Serves, desk_of}
 use Rattle.pt_http_reply.specs.declared.response.Response.{Response}
 use Rattle.pt_serve.specs.Serving.{IsMomentIn, ServesATurn, ServesInTurn, ServesOn, ServesOne, Turn, unheard, unanswered, failures_in, has_failed}

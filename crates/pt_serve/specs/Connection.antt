@@ -2,7 +2,7 @@
 use Rattle.std.specs.Prelude.{◌≡◌, ℕ, List, Option, Some, Result}
 use Rattle.pt_base.specs.declared.fault.Fault.{Fault}
 use Rattle.pt_base.specs.declared.moment.Moment.{Moment}
-use Rattle.pt_desk.specs.Store.{Store}
+use Rattle.pt_store.specs.Store.{Store}
 use Rattle.pt_http.specs.Answering.{AnswersOne}
 use Rattle.pt_http.specs.Exchange.{Exchanges, desk_of}
 use Rattle.pt_http_reply.specs.declared.response.Response.{Response}

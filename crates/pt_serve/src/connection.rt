@@ -1,5 +1,5 @@
 ghost use Rattle.std.specs.Prelude.{◌≡◌, ◌⊎◌, OnOk};
-ghost use Rattle.pt_desk.specs.Store.{Store};
+ghost use Rattle.pt_store.specs.Store.{Store};
 ghost use Rattle.pt_http.specs.Answering.{GoesOn, TellsFailure};
 ghost use Rattle.pt_http.specs.Exchange.{ServesOver, desk_of};
 ghost use Rattle.pt_http_reply.specs.declared.response.Response.{Response};

@@ -4,7 +4,7 @@ ghost use Rattle.pt_base.specs.Codes.{read_failed, write_failed};
 ghost use Rattle.pt_base.specs.Fault.{fault};
 ghost use Rattle.pt_clock.specs.Codes.{no_such_zone};
 ghost use Rattle.pt_clock.specs.LocalTime.{IsZoneRule};
-ghost use Rattle.pt_desk.specs.Store.{Store};
+ghost use Rattle.pt_store.specs.Store.{Store};
 ghost use Rattle.pt_http.specs.Answering.{GoesOn};
 ghost use Rattle.pt_http.specs.Exchange.{desk_of};
 ghost use Rattle.pt_serve.specs.Port.{left_of};

@@ -3,7 +3,7 @@
 ghost use Rattle.std.specs.Prelude.{◌≡◌, ◌⊎◌, ◌↔◌, IsTrue, IfOk, IfErr, OnOk, OnErr, MatchResult, false};
 ghost use Rattle.pt_base.specs.Codes.{memory_refused};
 ghost use Rattle.pt_desk.specs.LeastState.{IsLeastState};
-ghost use Rattle.pt_desk.specs.Store.{IsSettled};
+ghost use Rattle.pt_store.specs.Store.{IsSettled};
 ghost use Rattle.pt_desk_rules.specs.Sound.{IsSound};
 ghost use Rattle.pt_desk_rules.specs.State.{State};
 ghost use Rattle.sqlite.specs.Held.{state};

@@ -1,7 +1,7 @@
 //! The store over tables whose content was just made, or read.
 
 ghost use Rattle.std.specs.Prelude.{◌≡◌, false};
-ghost use Rattle.pt_desk.specs.Store.{IsSettled};
+ghost use Rattle.pt_store.specs.Store.{IsSettled};
 ghost use Rattle.sqlite.specs.Held.{state};
 ghost use Rattle.sqlite.specs.State.{HasCleanDisk};
 ghost use Rattle.pt_records.specs.Records.{Each};

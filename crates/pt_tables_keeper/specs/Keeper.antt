@@ -1,9 +1,9 @@
 -- What a keeper over tables shows, what it keeps true, and what it makes of what it reads.
 use Rattle.std.specs.Prelude.{◌≡◌, ◌≤◌, ◌&&◌, ℕ, Result, Ok, Err, false, length, refl}
 use Rattle.std.specs.Coded.{Coded, code_by, coded×, coded_ℕ}
-use Rattle.pt_desk.specs.Store.{Store}
-use Rattle.pt_desk.specs.declared.keeper.StoreFault.{StoreFault}
-use Rattle.pt_desk.specs.declared.keeper.StoreFault.TheVariants as fault
+use Rattle.pt_store.specs.Store.{Store}
+use Rattle.pt_store.specs.declared.keeper.StoreFault.{StoreFault}
+use Rattle.pt_store.specs.declared.keeper.StoreFault.TheVariants as fault
 use Rattle.pt_desk_rules.specs.State.{State}
 use Rattle.sqlite.specs.Held.{Held, held_code, state}
 use Rattle.sqlite.specs.State.{State as Connected, HasCleanDisk}

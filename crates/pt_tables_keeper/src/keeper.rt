@@ -1,7 +1,7 @@
 ghost use Rattle.std.specs.Prelude.{◌≡◌, ◌<◌, ◌↔◌, IfErr, OnErr, OnOk, false, length};
 ghost use Rattle.pt_desk.specs.Listed.{known_of};
-ghost use Rattle.pt_desk.specs.Store.{Commits, Goes, Reads, Refuses};
-ghost use Rattle.pt_desk.specs.declared.keeper.StoreFault.TheVariants.{Memory, Store as Failed};
+ghost use Rattle.pt_store.specs.Store.{Commits, Goes, Reads, Refuses};
+ghost use Rattle.pt_store.specs.declared.keeper.StoreFault.TheVariants.{Memory, Store as Failed};
 ghost use Rattle.pt_desk_rules.specs.State.{applied, rider_of};
 ghost use Rattle.sqlite.specs.Held.{state};
 ghost use Rattle.sqlite.specs.State.{HasCleanDisk};

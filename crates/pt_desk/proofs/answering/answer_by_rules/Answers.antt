@@ -4,7 +4,7 @@ use Rattle.pt_base.specs.declared.rule.Rule.TheVariants.{Key}
 use Rattle.pt_desk_rules.specs.State.{caller_with}
 use Rattle.pt_desk_rules.specs.Step.{IsExplainOutcome, IsReadOutcome, IsWriteOutcome, IsOutcomeBy, IsOutcome}
 use Rattle.pt_requests.specs.declared.request.Answer.TheVariants.{Done, Denied}
-use Rattle.pt_desk.specs.Store.{Answers}
+use Rattle.pt_store.specs.Store.{Answers}
 use Rattle.pt_desk.proofs.AnswerLemmas.{read_then, read_told, read_fault, handed}
 use Rattle.pt_desk.proofs.answering.answer_by_rules.Goals as goal
 

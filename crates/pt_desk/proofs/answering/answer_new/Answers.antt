@@ -5,8 +5,8 @@ use Rattle.pt_desk_rules.specs.Step.{sent_with, told_of, left_of, IsDecidedOutco
 use Rattle.pt_requests.specs.declared.request.Answer.{Answer}
 use Rattle.pt_requests.specs.declared.request.Answer.TheVariants.{Done}
 use Rattle.pt_desk_rules.specs.declared.kept.Sent.{Sent}
-use Rattle.pt_desk.specs.Store.{Answers}
-use Rattle.pt_desk.specs.declared.keeper.StoreFault.TheVariants.{Memory}
+use Rattle.pt_store.specs.Store.{Answers}
+use Rattle.pt_store.specs.declared.keeper.StoreFault.TheVariants.{Memory}
 use Rattle.pt_desk.proofs.AnswerLemmas.{read_then, read_fault, read_memory, goes_by, handed}
 use Rattle.pt_desk.proofs.answering.answer_new.Goals as goal
 

@@ -6,8 +6,8 @@ use Rattle.pt_desk_rules.specs.Step.{IsDecidedOutcome, IsOutcomeAs, IsWriteOutco
 use Rattle.pt_desk_rules.specs.declared.kept.Arrival.{Arrival}
 use Rattle.pt_desk_rules.specs.declared.kept.Arrival.TheVariants.{Repeated, Stale}
 use Rattle.pt_requests.specs.declared.request.Answer.TheVariants.{Done, Denied}
-use Rattle.pt_desk.specs.Store.{Answers}
-use Rattle.pt_desk.specs.declared.keeper.StoreFault.TheVariants.{Memory}
+use Rattle.pt_store.specs.Store.{Answers}
+use Rattle.pt_store.specs.declared.keeper.StoreFault.TheVariants.{Memory}
 use Rattle.pt_desk.proofs.AnswerLemmas.{no_memory, read_then, read_told, read_fault, handed}
 use Rattle.pt_desk.proofs.answering.answer_write.Goals as goal
 

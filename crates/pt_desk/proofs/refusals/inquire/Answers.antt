@@ -3,8 +3,8 @@ use Rattle.pt_base.specs.declared.rule.Rule.TheVariants.{Key}
 use Rattle.pt_desk.proofs.AnswerLemmas.{handed, read_fault, read_memory, read_told}
 use Rattle.pt_desk.proofs.refusals.inquire.Goals as goal
 use Rattle.pt_desk.specs.Refusals.{IsInquiryBy}
-use Rattle.pt_desk.specs.Store.{Answers}
-use Rattle.pt_desk.specs.declared.keeper.StoreFault.TheVariants.{Memory}
+use Rattle.pt_store.specs.Store.{Answers}
+use Rattle.pt_store.specs.declared.keeper.StoreFault.TheVariants.{Memory}
 use Rattle.pt_desk_rules.specs.Explaining.{IsInquiry}
 use Rattle.pt_desk_rules.specs.declared.explaining.Inquiry.TheVariants.{Denied}
 

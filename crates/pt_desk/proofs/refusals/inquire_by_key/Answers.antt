@@ -3,7 +3,7 @@ use Rattle.pt_base.specs.declared.rule.Rule.TheVariants.{Key}
 use Rattle.pt_desk.proofs.AnswerLemmas.{handed, read_fault, read_then, read_told}
 use Rattle.pt_desk.proofs.refusals.inquire_by_key.Goals as goal
 use Rattle.pt_desk.specs.Refusals.{IsFacts, IsInquiryBy}
-use Rattle.pt_desk.specs.Store.{Answers}
+use Rattle.pt_store.specs.Store.{Answers}
 use Rattle.pt_desk_rules.specs.State.{caller_with}
 use Rattle.pt_desk_rules.specs.declared.explaining.Inquiry.TheVariants.{Denied}
 

@@ -2,8 +2,8 @@ use Rattle.std.proofs.Common.{◌≡◌, ◌+◌, ◌-◌, ◌<◌, ◌≤◌, �
 use Rattle.pt_desk_rules.specs.State.{State}
 use Rattle.pt_desk_rules.specs.Sound.{IsSound}
 use Rattle.pt_desk.specs.Run.{AreOnlyTold, GoesOn, TellOfFailure}
-use Rattle.pt_desk.specs.Store.{IsSettled}
-use Rattle.pt_desk.specs.declared.keeper.StoreFault.{StoreFault}
+use Rattle.pt_store.specs.Store.{IsSettled}
+use Rattle.pt_store.specs.declared.keeper.StoreFault.{StoreFault}
 use Rattle.pt_requests.specs.declared.request.Answer.{Answer}
 use Rattle.pt_desk.proofs.RunLemmas.{IsSame}
 use Rattle.pt_desk.proofs.running.run.Given as goal

@@ -1,5 +1,5 @@
 use Rattle.std.proofs.Common.{◌≡◌, ◌≤◌, ℕ, List}
-use Rattle.pt_desk.specs.Store.{Store, IsSettled}
+use Rattle.pt_store.specs.Store.{Store, IsSettled}
 use Rattle.pt_http.specs.Exchange.{desk_of}
 use Rattle.pt_http.specs.Input.{HasInput}
 use Rattle.pt_rehearsal.proofs.RehearsalLemmas.{StandsAt}

@@ -1,6 +1,6 @@
 use Rattle.std.proofs.Common.{◌≡◌, ◌∷◌, [], Err, None, length, min, ◌+◌, sym, ap, subst, ◌∙◌, rules}
 use Rattle.std.specs.List.{slice_get}
-use Rattle.pt_desk.specs.Store.{Goes}
+use Rattle.pt_store.specs.Store.{Goes}
 use Rattle.pt_desk_rules.specs.State.{State, applied, rider_of}
 use Rattle.pt_tables_keeper.proofs.ReadLemmas.{counted_now, goes_not, goes_to, readable_now, serves_still}
 use Rattle.pt_tables_keeper.proofs.RiderLemmas.{only_one, riders_one_more, riders_still}

@@ -1,6 +1,6 @@
 use Rattle.std.proofs.Common.{◌≡◌, Err, None, Ok, sym, ap, subst, ◌∙◌, rules}
 use Rattle.sqlite.specs.Held.{state}
-use Rattle.pt_desk.specs.Store.{Goes}
+use Rattle.pt_store.specs.Store.{Goes}
 use Rattle.pt_desk_rules.specs.Arrival.{arrival_of}
 use Rattle.pt_desk_rules.specs.State.{kept_of}
 use Rattle.pt_tables_keeper.proofs.ReadLemmas.{reads_not, reads_on}

@@ -1,7 +1,7 @@
 use Rattle.std.proofs.Common.{◌≡◌, Err, None, Ok, sym, ap, subst, ◌∙◌, rules}
 use Rattle.sqlite.specs.Held.{state}
-use Rattle.pt_desk.specs.Store.{Goes}
-use Rattle.pt_desk.specs.declared.keeper.StoreFault.TheVariants.{Memory}
+use Rattle.pt_store.specs.Store.{Goes}
+use Rattle.pt_store.specs.declared.keeper.StoreFault.TheVariants.{Memory}
 use Rattle.pt_desk_rules.specs.State.{State, entries_of, file_of, file_with}
 use Rattle.pt_tables_keeper.proofs.ReadLemmas.{reads_not, reads_on, reads_wanting}
 use Rattle.pt_tables_keeper.specs.Keeper.{KeptTables, kept_store, store_of}

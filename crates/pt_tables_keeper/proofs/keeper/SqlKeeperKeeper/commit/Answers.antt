@@ -1,5 +1,5 @@
 use Rattle.std.proofs.Common.{◌≡◌, Err, Some, length, sym, ap, subst, ◌∙◌, rules}
-use Rattle.pt_desk.specs.Store.{Goes}
+use Rattle.pt_store.specs.Store.{Goes}
 use Rattle.pt_desk_rules.specs.State.{State, applied}
 use Rattle.pt_tables_keeper.proofs.CommitLemmas.{commits_then}
 use Rattle.pt_tables_keeper.proofs.ReadLemmas.{goes_not}

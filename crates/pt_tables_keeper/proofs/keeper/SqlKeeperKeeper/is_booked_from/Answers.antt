@@ -1,6 +1,6 @@
 use Rattle.std.proofs.Common.{◌≡◌, Err, None, Ok, sym, ap, subst, filter, ◌∙◌, rules}
 use Rattle.sqlite.specs.Held.{state}
-use Rattle.pt_desk.specs.Store.{Goes}
+use Rattle.pt_store.specs.Store.{Goes}
 use Rattle.std.specs.Prelude.{nat_le}
 use Rattle.pt_desk_rules.specs.Planned.{is_booked_from}
 use Rattle.pt_desk_rules.specs.State.{State}

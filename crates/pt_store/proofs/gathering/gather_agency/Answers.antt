@@ -1,0 +1,29 @@
+use Rattle.pt_desk_rules.specs.Facts.{no_facts}
+use Rattle.pt_desk_rules.specs.State.{State}
+use Rattle.pt_store.proofs.ReadLemmas.{reads_pair, reads_map, fault_handed}
+use Rattle.pt_store.proofs.gathering.gather_agency.Goals as goal
+
+pub returns : goal.returns
+returns g c = record {
+  reads =
+      (reads_map _ _ _ _ (λ found. record found.1.1 { places = found.0; vehicles = found.1.0 })
+      (reads_pair _ _ _ (λ (s : State). s.places) (λ (s : State). (s.vehicles, no_facts s.policy)) _ _ c.in_ok-places.ensures.reads
+      (reads_pair _ _ _ (λ (s : State). s.vehicles) (λ (s : State). no_facts s.policy) _ _ c.in_ok-vehicles.ensures.reads
+      c.in_ok-gather_policy.ensures.reads)));
+}
+
+pub returns-in_err-gather_policy : goal.returns-in_err-gather_policy
+returns-in_err-gather_policy g c = record {
+  reads =
+      fault_handed _ _ _ _ _ _ _ _ _ c.from_residual-in_err-gather_policy.ensures.1
+      (reads_pair _ _ _ (λ (s : State). s.places) (λ (s : State). s.vehicles) _ _ c.in_ok-places.ensures.reads c.in_ok-vehicles.ensures.reads)
+      c.in_err-gather_policy.ensures.reads;
+}
+
+pub returns-in_err-vehicles : goal.returns-in_err-vehicles
+returns-in_err-vehicles g c = record {
+  reads =
+      fault_handed _ _ _ _ _ _ _ _ _ c.from_residual-in_err-vehicles.ensures.1
+      c.in_ok-places.ensures.reads
+      c.in_err-vehicles.ensures.reads;
+}

@@ -1,0 +1,23 @@
+use Rattle.std.proofs.Common.{List, Option}
+use Rattle.pt_base.specs.declared.rider.Rider.{Rider}
+use Rattle.pt_rights.specs.declared.entry.Entered.{Entered}
+use Rattle.pt_desk_rules.specs.Facts.{no_read_facts, trips_counted_for}
+use Rattle.pt_desk_rules.specs.State.{State, file_of, rider_of}
+use Rattle.pt_store.proofs.ReadLemmas.{reads_by, reads_map, fault_handed}
+use Rattle.pt_store.proofs.gathering.gather_standing.Goals as goal
+
+pub returns : goal.returns
+returns g c = record {
+  reads =
+      rw c.none.ensures.value (reads_map _ _ _ _ (λ found. record no_read_facts { rider = found.0.0; file = found.0.1; trips = found.1 })
+      (reads_by _ _ _ (λ (s : State). (rider_of c.args.rider s, file_of c.args.rider s)) (λ (found : Option Rider × List Entered) (s : State). trips_counted_for found.0 s.trips) _ _ c.in_ok-rider.ensures.reads
+      c.in_ok-trips.ensures.reads));
+}
+
+pub returns-in_err-trips : goal.returns-in_err-trips
+returns-in_err-trips g c = record {
+  reads =
+      fault_handed _ _ _ _ _ _ _ _ _ c.from_residual-in_err-trips.ensures.1
+      c.in_ok-rider.ensures.reads
+      c.in_err-trips.ensures.reads;
+}
