@@ -10,9 +10,9 @@ use Rattle.pt_base.specs.declared.fault.Fault.{Fault}
 use Rattle.pt_booking.specs.Planning.{SomeVehicleCan, on_duty}
 use Rattle.pt_store.specs.declared.keeper.StoreFault.{StoreFault}
 use Rattle.pt_desk_rules.specs.Booking.{AreTimes}
-use Rattle.pt_desk_rules.specs.Refusal.{Refusal}
-use Rattle.pt_desk_rules.specs.declared.explaining.Inquiry.{Inquiry}
-use Rattle.pt_desk_rules.specs.declared.explaining.Inquiry.TheVariants as inquiry
+use Rattle.pt_desk_reads.specs.Refusal.{Refusal}
+use Rattle.pt_desk_reads.specs.declared.explaining.Inquiry.{Inquiry}
+use Rattle.pt_desk_reads.specs.declared.explaining.Inquiry.TheVariants as inquiry
 use Rattle.pt_insertion.specs.declared.duty.Duty.{Duty}
 use Rattle.pt_insertion_log.specs.Written.{WritesRightLog}
 use Rattle.pt_commands.specs.Told.{fault_of}

@@ -9,7 +9,7 @@ ghost use Rattle.pt_store.specs.declared.keeper.StoreFault.{StoreFault};
 ghost use Rattle.pt_desk_rules.specs.Sound.{IsSound};
 ghost use Rattle.pt_desk_rules.specs.State.{State};
 ghost use Rattle.pt_desk_rules.specs.Step.{IsOutcome};
-ghost use Rattle.pt_desk_rules.specs.declared.explaining.Inquiry.{Inquiry};
+ghost use Rattle.pt_desk_reads.specs.declared.explaining.Inquiry.{Inquiry};
 ghost use Rattle.pt_requests.specs.declared.request.Answer.{Answer};
 ghost use Rattle.pt_requests.specs.declared.request.Answer.TheVariants as answer;
 ghost use Rattle.pt_requests.specs.declared.request.Request.TheVariants.{Explain};

@@ -8,14 +8,14 @@ use Rattle.pt_desk.specs.Refusals.{IsFacts, IsInquiryBy, RefusalsAreTold}
 use Rattle.pt_store.specs.Store.{Answers, Store}
 use Rattle.pt_store.specs.declared.keeper.StoreFault.{StoreFault}
 use Rattle.pt_desk_laws.proofs.AgainLemmas.{denials_are_the_same_again}
-use Rattle.pt_desk_rules.proofs.ExplainLemmas.{refusals_are_shown}
+use Rattle.pt_desk_reads.proofs.ExplainLemmas.{refusals_are_shown}
 use Rattle.pt_desk_rules.specs.Booking.{AreTimes}
 use Rattle.pt_desk_rules.specs.Facts.{wish_facts}
-use Rattle.pt_desk_rules.specs.Refusal.{Refusal}
+use Rattle.pt_desk_reads.specs.Refusal.{Refusal}
 use Rattle.pt_desk_rules.specs.State.{State}
 use Rattle.pt_desk_rules.specs.Step.{sender, IsOutcomeBy}
-use Rattle.pt_desk_rules.specs.declared.explaining.Inquiry.{Inquiry}
-use Rattle.pt_desk_rules.specs.declared.explaining.Inquiry.TheVariants as inquiry
+use Rattle.pt_desk_reads.specs.declared.explaining.Inquiry.{Inquiry}
+use Rattle.pt_desk_reads.specs.declared.explaining.Inquiry.TheVariants as inquiry
 use Rattle.pt_requests.specs.declared.caller.Caller.{Caller}
 use Rattle.pt_requests.specs.declared.request.Answer.TheVariants as answer
 use Rattle.pt_requests.specs.declared.request.Request.TheVariants as request

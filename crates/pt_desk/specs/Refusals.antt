@@ -5,14 +5,14 @@ use Rattle.pt_base.specs.declared.trip.Wish.{Wish}
 use Rattle.pt_base.specs.declared.moment.Moment.{Moment}
 use Rattle.pt_booking.specs.Planning.{SomeVehicleCan}
 use Rattle.pt_desk_rules.specs.Booking.{AreTimes}
-use Rattle.pt_desk_rules.specs.Explaining.{IsInquiry}
+use Rattle.pt_desk_reads.specs.Inquiry.{IsInquiry}
 use Rattle.pt_desk_rules.specs.Facts.{wish_facts}
-use Rattle.pt_desk_rules.specs.Refusal.{Refusal}
+use Rattle.pt_desk_reads.specs.Refusal.{Refusal}
 use Rattle.pt_desk_rules.specs.Sound.{IsSound}
 use Rattle.pt_desk_rules.specs.State.{State}
 use Rattle.pt_desk_rules.specs.Step.{sender, IsOutcome}
-use Rattle.pt_desk_rules.specs.declared.explaining.Inquiry.{Inquiry}
-use Rattle.pt_desk_rules.specs.declared.explaining.Inquiry.TheVariants as inquiry
+use Rattle.pt_desk_reads.specs.declared.explaining.Inquiry.{Inquiry}
+use Rattle.pt_desk_reads.specs.declared.explaining.Inquiry.TheVariants as inquiry
 use Rattle.pt_requests.specs.declared.caller.Caller.{Caller}
 use Rattle.pt_requests.specs.declared.request.Answer.{Answer}
 use Rattle.pt_requests.specs.declared.request.Answer.TheVariants as answer

@@ -10,8 +10,9 @@ ghost use Rattle.pt_desk.specs.Run.{IsDenial, IsRead};
 
 use crate::{Keeper, Reply, StoreFault};
 use pt_base::{Moment, RiderId, Rule, Wish};
+use pt_desk_reads::{explain, tell};
 use pt_desk_rules::{
-    Answer, Arrival, Caller, Decision, Digest, Read, Request, Sent, Write, decide, explain, tell,
+    Answer, Arrival, Caller, Decision, Digest, Read, Request, Sent, Write, decide,
 };
 use pt_spelling::spell;
 use pt_store::{gather, gather_read, gather_wish};

@@ -9,9 +9,10 @@ pub use laws::{
 };
 pub use list_keeper::ListKeeper;
 pub use places::place_ids;
+pub use pt_desk_reads::{Inquiry, RefusalFacts};
 pub use pt_desk_rules::{
-    Answer, Caller, Change, Confirmation, Decision, Digest, FiledEntry, Inquiry, Kept, Read,
-    ReadFacts, RefusalFacts, Request, Role, Write, WriteFacts,
+    Answer, Caller, Change, Confirmation, Decision, Digest, FiledEntry, Kept, Read, ReadFacts,
+    Request, Role, Write, WriteFacts,
 };
 pub use pt_store::{Keeper, Reply, StoreFault};
 pub use refusals::facts;

@@ -4,7 +4,8 @@ ghost use Rattle.pt_store.specs.Store.{Store, Answers, ChangesNothing, Fails};
 
 use crate::{Keeper, StoreFault};
 use pt_base::{Moment, RiderId, Rule, Wish};
-use pt_desk_rules::{Caller, Digest, Inquiry, refusal_facts};
+use pt_desk_reads::{Inquiry, refusal_facts};
+use pt_desk_rules::{Caller, Digest};
 use pt_store::gather_wish;
 use std::alloc::Global;
 

@@ -4,7 +4,6 @@
 
 ghost use Rattle.pt_desk_laws.specs.Again.{ReadsAreTheSameAgain, RequestsAreTheSameAgain};
 ghost use Rattle.pt_desk_rules.specs.Booking.{HasRoutes};
-ghost use Rattle.pt_desk_rules.specs.Explaining.{RefusalsAreShown};
 ghost use Rattle.pt_desk_laws.specs.Laws.{DenialsAreRight, OutcomesOfSoundStatesAreSound};
 ghost use Rattle.pt_desk_laws.specs.Numbers.{AcceptedNumbersRise, AcceptedWritesAreKept, LastAcceptedIsKept};
 ghost use Rattle.pt_desk_laws.specs.Numbers.{AcceptedWritesMakeTheState};
@@ -106,9 +105,4 @@ pub fn outcomes_are_one()
 /// has to come with that one.
 pub fn requests_outlive_crashes()
     ensures { RequestsOutliveCrashes }
-{}
-
-/// A law: a wish for which no vehicle of a refusal's facts has a place is denied for want of a vehicle.
-pub fn refusals_are_shown()
-    ensures { RefusalsAreShown }
 {}

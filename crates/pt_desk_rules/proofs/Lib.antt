@@ -2,4 +2,3 @@ pub mod RangeLemmas
 pub mod FleetLemmas
 mod BookingLemmas
 pub mod TourLemmas
-pub mod ExplainLemmas

@@ -14,6 +14,5 @@ pub mod Trips
 pub mod Outcomes
 pub mod Letters
 pub mod Booking
-pub mod Refusal
 pub mod Explaining
 pub mod Tours

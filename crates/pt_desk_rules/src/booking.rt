@@ -54,16 +54,17 @@ fn place_at(places: &Rows<Place>, id: PlaceId) -> Place
 
 /// What a request is made of beside the facts: the rider, the places of both ends, and a visitor's days of use.
 #[derive(Drop)]
-pub(crate) struct Asking {
-    rider: Rider,
-    from: Place,
-    to: Place,
-    uses: Table<Day>,
+pub struct Asking {
+    pub rider: Rider,
+    pub from: Place,
+    pub to: Place,
+    /// In order, each day once.
+    pub uses: Table<Day>,
 }
 
 impl Asking {
     /// The same of the facts; the trip that is left out makes no day of use.
-    pub(crate) fn of(
+    pub fn of(
         alloc: Global,
         facts: &WriteFacts,
         left_out: &Option<TripId>,
@@ -71,7 +72,7 @@ impl Asking {
     ) -> Result<Self, AllocError>
         requires rider { IsTrue (is_some facts.now.rider) }
         requires ends { IsTrue (has_ends wish.now facts.now.places) }
-        ensures { IfOk result (λ asking. IsAsking left_out.now wish.now facts.now asking) }
+        ensures value { IfOk result (λ asking. IsAsking left_out.now wish.now facts.now asking) }
     {
         Ok(Asking {
             rider: facts.rider.unwrap(),
@@ -82,7 +83,7 @@ impl Asking {
     }
 
     /// The request that the facts make of a wish, for a trip of this number.
-    pub(crate) fn request<'a>(
+    pub fn request<'a>(
         &'a self,
         facts: &'a WriteFacts,
         trip: TripId,
@@ -110,7 +111,7 @@ impl Asking {
 }
 
 /// Schedules a wish for a trip of this number; the trip that is left out makes no day of use.
-pub(crate) fn answer_wish(
+pub fn answer_wish(
     alloc: Global,
     facts: &WriteFacts,
     trip: TripId,
@@ -120,7 +121,7 @@ pub(crate) fn answer_wish(
 ) -> Result<Scheduled, AllocError>
     requires rider { IsTrue (is_some facts.now.rider) }
     requires ends { IsTrue (has_ends wish.now facts.now.places) }
-    ensures { IfOk result (λ scheduled. IsAnswered trip left_out.now today wish.now facts.now scheduled) }
+    ensures value { IfOk result (λ scheduled. IsAnswered trip left_out.now today wish.now facts.now scheduled) }
 {
     let asking = Asking::of(alloc, facts, left_out, wish)?;
     let vehicles = on_duty(alloc, facts.vehicles.as_slice(), wish.day)?;

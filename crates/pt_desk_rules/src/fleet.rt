@@ -75,7 +75,7 @@ fn is_on_duty(vehicles: &[Vehicle], version: &Vehicle, day: Day) -> bool
 }
 
 /// The version of a vehicle that is on duty on a day, if one is.
-pub(crate) fn duty_of(vehicles: &[Vehicle], id: VehicleId, day: Day) -> Option<&Vehicle>
+pub fn duty_of(vehicles: &[Vehicle], id: VehicleId, day: Day) -> Option<&Vehicle>
     ensures value { option_copied result ≡ duty_of id day vehicles.now }
 {
     for version in vehicles {

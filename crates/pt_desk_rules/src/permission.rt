@@ -23,8 +23,8 @@ pub(crate) fn is_clerk(role: Role) -> bool
 }
 
 /// Whether the role is a dispatcher's.
-pub(crate) fn is_dispatcher(role: Role) -> bool
-    ensures { result ≡ is_dispatcher role }
+pub fn is_dispatcher(role: Role) -> bool
+    ensures value { result ≡ is_dispatcher role }
 {
     matches!(role, Role::Dispatcher)
 }
@@ -86,8 +86,8 @@ pub(crate) fn may_enter(role: Role, rider: RiderId, found: &Option<Rider>, entry
 }
 
 /// Whether the caller may see the rider's standing.
-pub(crate) fn may_see_standing(role: Role, rider: RiderId, found: &Option<Rider>) -> bool
-    ensures { result ≡ may_see_standing rider found.now role }
+pub fn may_see_standing(role: Role, rider: RiderId, found: &Option<Rider>) -> bool
+    ensures value { result ≡ may_see_standing rider found.now role }
 {
     match role {
         Role::Rider(own) => is_own(own, rider, found),
@@ -97,8 +97,8 @@ pub(crate) fn may_see_standing(role: Role, rider: RiderId, found: &Option<Rider>
 }
 
 /// Whether the caller may book for the rider, and see the rider's trips.
-pub(crate) fn may_book(role: Role, rider: RiderId, found: &Option<Rider>) -> bool
-    ensures { result ≡ may_book rider found.now role }
+pub fn may_book(role: Role, rider: RiderId, found: &Option<Rider>) -> bool
+    ensures value { result ≡ may_book rider found.now role }
 {
     match role {
         Role::Rider(own) => is_own(own, rider, found),
@@ -119,8 +119,8 @@ pub(crate) fn may_alter(role: Role, trip: &Option<Trip>, found: &Option<Rider>) 
 }
 
 /// Whether the caller drives the vehicle, or dispatches.
-pub(crate) fn may_run(role: Role, vehicle: VehicleId) -> bool
-    ensures { result ≡ may_run vehicle role }
+pub fn may_run(role: Role, vehicle: VehicleId) -> bool
+    ensures value { result ≡ may_run vehicle role }
 {
     match role {
         Role::Driver(own) => own == vehicle,

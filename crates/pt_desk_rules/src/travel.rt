@@ -54,7 +54,7 @@ impl TravelTable {
     }
 
     /// A table of no rows, by which no way leads from one place to another.
-    pub(crate) fn none(alloc: Global, from_day: Day) -> Result<Self, AllocError>
+    pub fn none(alloc: Global, from_day: Day) -> Result<Self, AllocError>
         ensures value { IfOk result (λ table. table ≡ record { from_day = from_day; rows = [] }) }
     {
         let no_rows = Raw::of(Vec::new(alloc)).unwrap();

@@ -14,8 +14,8 @@ use pt_scheduling::PlannedRoute;
 use std::alloc::{AllocError, Global};
 
 /// Whether both places of the wish are there.
-pub(crate) fn has_ends(wish: &Wish, places: &Rows<Place>) -> bool
-    ensures { result ≡ has_ends wish.now places.now }
+pub fn has_ends(wish: &Wish, places: &Rows<Place>) -> bool
+    ensures value { result ≡ has_ends wish.now places.now }
 {
     is_there(wish.from, places) && is_there(wish.to, places)
 }

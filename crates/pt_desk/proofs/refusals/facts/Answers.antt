@@ -5,7 +5,7 @@ use Rattle.pt_desk.proofs.RefusalLemmas.{found_by, inquiry_commits_nothing}
 use Rattle.pt_desk.proofs.refusals.facts.Goals as goal
 use Rattle.pt_desk.specs.Refusals.{IsFacts}
 use Rattle.pt_desk_rules.specs.Step.{sender}
-use Rattle.pt_desk_rules.specs.declared.explaining.Inquiry.TheVariants.{Denied}
+use Rattle.pt_desk_reads.specs.declared.explaining.Inquiry.TheVariants.{Denied}
 
 pub returns-then-failures-gt0-clause-goes : goal.returns-then-failures-gt0-clause-goes
 returns-then-failures-gt0-clause-goes g c =

@@ -5,8 +5,8 @@ use Rattle.pt_desk.proofs.refusals.inquire.Goals as goal
 use Rattle.pt_desk.specs.Refusals.{IsInquiryBy}
 use Rattle.pt_store.specs.Store.{Answers}
 use Rattle.pt_store.specs.declared.keeper.StoreFault.TheVariants.{Memory}
-use Rattle.pt_desk_rules.specs.Explaining.{IsInquiry}
-use Rattle.pt_desk_rules.specs.declared.explaining.Inquiry.TheVariants.{Denied}
+use Rattle.pt_desk_reads.specs.Inquiry.{IsInquiry}
+use Rattle.pt_desk_reads.specs.declared.explaining.Inquiry.TheVariants.{Denied}
 
 pub returns-in_err-facts : goal.returns-in_err-facts
 returns-in_err-facts g c =

@@ -5,7 +5,7 @@ use Rattle.pt_desk.proofs.refusals.inquire_by_key.Goals as goal
 use Rattle.pt_desk.specs.Refusals.{IsFacts, IsInquiryBy}
 use Rattle.pt_store.specs.Store.{Answers}
 use Rattle.pt_desk_rules.specs.State.{caller_with}
-use Rattle.pt_desk_rules.specs.declared.explaining.Inquiry.TheVariants.{Denied}
+use Rattle.pt_desk_reads.specs.declared.explaining.Inquiry.TheVariants.{Denied}
 
 pub returns-in_err-me : goal.returns-in_err-me
 returns-in_err-me g c =

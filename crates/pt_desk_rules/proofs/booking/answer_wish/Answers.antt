@@ -5,12 +5,14 @@ use Rattle.pt_desk_rules.proofs.BookingLemmas.{answered_of}
 use Rattle.pt_desk_rules.proofs.booking.answer_wish.Goals as goal
 
 pub schedule_on-requires : goal.schedule_on-requires
-schedule_on-requires c = record { uses = c.request-request.ensures.uses c.args.left_out.now c.in_ok-asking.ensures }
+schedule_on-requires c = record { uses = c.request-request.ensures.uses c.args.left_out.now c.in_ok-asking.ensures.value }
 
 pub returns : goal.returns
 returns c =
     let wish = c.args.wish.now in
-    answered_of c.args.trip c.args.left_out.now c.args.today wish c.args.facts.now (request_of c.request-request.result)
-    c.deref.result.now c.schedule_on.result
-    (c.deref.ensures.value ∙ c.in_ok-vehicles.ensures.value ∙ ap (on_duty wish.day) c.as_slice.ensures.value)
-    (c.request-request.ensures.value c.args.left_out.now c.in_ok-asking.ensures) c.schedule_on.ensures
+    record {
+      value = answered_of c.args.trip c.args.left_out.now c.args.today wish c.args.facts.now
+          (request_of c.request-request.result) c.deref.result.now c.schedule_on.result
+          (c.deref.ensures.value ∙ c.in_ok-vehicles.ensures.value ∙ ap (on_duty wish.day) c.as_slice.ensures.value)
+          (c.request-request.ensures.value c.args.left_out.now c.in_ok-asking.ensures.value) c.schedule_on.ensures;
+    }

@@ -8,7 +8,7 @@ returns-in-Denied c =
     let facts = c.args.facts.now in
     let old = c.unwrap-old.result in
     of_trip facts.booking.trip old c.args.today c.args.wish.now facts _ c.unwrap-old.ensures
-    (denied (changed old facts.booking.plan) old.id old.id (Some old.id) c.args.today c.args.wish.now facts c.in_ok-rule.field-0 c.in-Denied.rule refl c.in-Denied.is c.in_ok-rule.ensures)
+    (denied (changed old facts.booking.plan) old.id old.id (Some old.id) c.args.today c.args.wish.now facts c.in_ok-rule.field-0 c.in-Denied.rule refl c.in-Denied.is c.in_ok-rule.ensures.value)
 
 pub returns-in_ok-trips-in-Booked : goal.returns-in_ok-trips-in-Booked
 returns-in_ok-trips-in-Booked c =
@@ -16,6 +16,6 @@ returns-in_ok-trips-in-Booked c =
     let old = c.unwrap-old.result in
     of_trip facts.booking.trip old c.args.today c.args.wish.now facts c.confirmed.result c.unwrap-old.ensures
     (confirmed (changed old facts.booking.plan) old.id old.id (Some old.id) c.args.today c.args.wish.now facts c.in_ok-rule.field-0 c.in-Booked.trip c.in-Booked.plan
-    _ c.confirmed.result refl c.in-Booked.is c.in_ok-rule.ensures c.confirmed.ensures
+    _ c.confirmed.result refl c.in-Booked.is c.in_ok-rule.ensures.value c.confirmed.ensures
     (changed_made c.none.result c.in_ok-trips-in-Booked.trips c.in_ok-planned-in-Booked.planned old facts.booking.plan c.in-Booked.trip c.in-Booked.plan
     c.none.ensures.value c.in_ok-trips-in-Booked.ensures c.in_ok-planned-in-Booked.ensures.value))

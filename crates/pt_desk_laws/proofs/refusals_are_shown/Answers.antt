@@ -1,5 +1,0 @@
-use Rattle.pt_desk_rules.proofs.ExplainLemmas.{refusals_are_shown}
-use Rattle.pt_desk_laws.proofs.refusals_are_shown.Goals as goal
-
-pub returns : goal.returns
-returns c = refusals_are_shown

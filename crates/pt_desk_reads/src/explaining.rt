@@ -1,0 +1,219 @@
+ghost use Rattle.std.specs.Prelude.{◌≡◌, ◌+◌, ◌<◌, All, AllPairs, IfOk, IsTrue, is_some};
+ghost use Rattle.pt_booking.specs.Planning.{on_duty};
+ghost use Rattle.pt_feasible.specs.Route.{stops_of};
+ghost use Rattle.pt_insertion.specs.Insertion.{IsWithout};
+ghost use Rattle.pt_rights.specs.Rules.{first_failing};
+ghost use Rattle.pt_travel.specs.Times.{time_in};
+ghost use Rattle.pt_desk_rules.specs.Booking.{AreTimes, rows_of};
+ghost use Rattle.pt_desk_rules.specs.Explaining.{IsExplained, IsToldPossible};
+ghost use Rattle.pt_desk_reads.specs.Inquiry.{AreRoutesOf, IsInquiry, IsInquiryAfter};
+ghost use Rattle.pt_desk_rules.specs.State.{last_trip_number};
+ghost use Rattle.pt_desk_rules.specs.Rules.{explain_rules};
+ghost use Rattle.pt_desk_rules.specs.Trips.{has_ends};
+
+use pt_base::{Day, Moment, Rule, TripId, Wish};
+use pt_booking::{asked_for, first_failing, riders_denial};
+use pt_desk_rules::ranges::LAST_TRIP_NUMBER;
+use pt_desk_rules::{
+    Answer, Asking, Caller, TravelTable, WriteFacts, answer_wish, has_ends, is_dispatcher, on_duty,
+};
+use pt_insertion::{Asked, Duty};
+use pt_scheduling::{DayPlans, DayRoute, Scheduled, are_without_trip, duties_of, routes_without};
+use pt_travel::Closed;
+use std::alloc::{AllocError, Global};
+use std::marker::Model;
+
+/// What the refusal of a wish stands on.
+///
+/// A contract sees the vehicles on duty on the wish's day, by rising number, with their stops; the trip that is asked
+/// of them; and the rows of driving times that hold on the day.
+#[derive(Drop)]
+pub struct RefusalFacts {
+    routes: Vec<DayRoute>,
+    asked: Asked,
+    table: TravelTable,
+}
+
+impl Model for RefusalFacts {
+    ghost use Rattle.std.specs.Prelude.{map};
+    ghost use Rattle.pt_desk_reads.specs.Refusal.{AreWithout, Refusal};
+    ghost use Rattle.pt_scheduling.specs.Routes.{day_route};
+
+    ghost Value = { Refusal };
+
+    ghost view = { λ found. record {
+      vehicles = map day_route found.routes.items;
+      asked = found.asked;
+      rows = found.table.rows;
+    } };
+
+    ghost invariant = { λ found. AreWithout found.asked.trip (map day_route found.routes.items) };
+}
+
+impl RefusalFacts {
+    /// The vehicles on duty with their routes, by rising number; no route has a stop of the asked trip.
+    pub fn duties(&self, alloc: Global) -> Result<Vec<Duty<'_>>, AllocError>
+        ensures vehicles { IfOk result (λ duties. on_duty duties.items ≡ self.now.vehicles) }
+        ensures rising { IfOk result (λ duties.
+            AllPairs (λ first second. first.vehicle.now.id < second.vehicle.now.id) duties.items) }
+        ensures new_trip { IfOk result (λ duties.
+            All (λ duty. IsWithout self.now.asked.trip (stops_of duty.route.now)) duties.items) }
+    {
+        duties_of(alloc, &self.routes)
+    }
+
+    /// The trip that is asked of the vehicles, under the number that it would get.
+    pub fn asked(&self) -> &Asked
+        ensures value { result.now ≡ self.now.asked }
+    {
+        &self.asked
+    }
+
+    /// The least driving times on the day.
+    pub fn times(&self) -> &Closed
+        ensures least { AreTimes self.now.rows (time_in result.now) }
+    {
+        self.table.times()
+    }
+}
+
+/// What comes of asking for the facts of a refusal.
+#[derive(Drop)]
+pub enum Inquiry {
+    /// What the refusal stands on, if the wish is refused for want of a vehicle.
+    Facts(RefusalFacts),
+    /// The first rule that fails before any vehicle is looked at.
+    Denied(Rule),
+}
+
+/// The first rule by which an explanation is denied, before the rules of the trip itself.
+fn explain_denial(facts: &WriteFacts, me: &Caller, wish: &Wish) -> Option<Rule>
+    ensures value { result ≡ first_failing (explain_rules wish.now me.now facts.now) }
+{
+    first_failing(&[
+        (Rule::Caller, is_dispatcher(me.role)),
+        (
+            Rule::Unknown,
+            facts.rider.is_some() && has_ends(wish, &facts.places),
+        ),
+        (Rule::Full, facts.booking.last_trip < LAST_TRIP_NUMBER),
+    ])
+}
+
+/// The number that a trip would get now.
+fn next_trip(facts: &WriteFacts) -> TripId
+    requires { facts.now.booking.last_trip < last_trip_number }
+    ensures { result ≡ facts.now.booking.last_trip + 1 }
+{
+    TripId::of(facts.booking.last_trip + 1).unwrap()
+}
+
+/// What is told where a booking would end so.
+fn told_of(found: &Scheduled) -> Answer
+    ensures { IsToldPossible found.now result }
+{
+    match found {
+        Scheduled::Denied(rule) => Answer::Denied(*rule),
+        Scheduled::Booked { .. } => Answer::Possible,
+    }
+}
+
+/// Tells a caller whether a rider's wish could be booked at the moment `now`, or by which rule it would be denied.
+pub fn explain(
+    alloc: Global,
+    facts: &WriteFacts,
+    me: &Caller,
+    now: Moment,
+    wish: &Wish,
+) -> Result<Answer, AllocError>
+    ensures value { IfOk result (λ told. IsExplained wish.now me.now now facts.now told) }
+{
+    if let Some(rule) = explain_denial(facts, me, wish) {
+        return Ok(Answer::Denied(rule));
+    }
+    let found = answer_wish(alloc, facts, next_trip(facts), &None, now.day, wish)?;
+    Ok(told_of(&found))
+}
+
+/// The driving times that the facts give.
+fn table_of(alloc: Global, facts: &WriteFacts, day: Day) -> Result<TravelTable, AllocError>
+    ensures { IfOk result (λ table. table.rows ≡ rows_of facts.now.booking.day.travel) }
+{
+    match &facts.booking.day.travel {
+        Some(table) => table.copy(alloc),
+        None => TravelTable::none(alloc, day),
+    }
+}
+
+/// The vehicles on duty on the wish's day with their routes without this trip; `None` where the stops of one are no
+/// route.
+fn routes_of(
+    alloc: Global,
+    facts: &WriteFacts,
+    trip: TripId,
+    wish: &Wish,
+) -> Result<Option<Vec<DayRoute>>, AllocError>
+    ensures { IfOk result (λ found. AreRoutesOf facts.now trip wish.now found) }
+{
+    let vehicles = on_duty(alloc, facts.vehicles.as_slice(), wish.day)?;
+    let plans = DayPlans {
+        vehicles: &vehicles,
+        trips: &facts.booking.day.trips,
+        plans: &facts.booking.day.plans,
+    };
+    let Some(routes) = routes_without(alloc, trip, wish.day, &plans)? else {
+        return Ok(None);
+    };
+    if !are_without_trip(&duties_of(alloc, &routes)?, trip) {
+        return Ok(None);
+    }
+    Ok(Some(routes))
+}
+
+/// The facts by which a wish would be refused for want of a vehicle, where none of its other rules fails.
+fn inquire(
+    alloc: Global,
+    facts: &WriteFacts,
+    today: Day,
+    wish: &Wish,
+) -> Result<Inquiry, AllocError>
+    requires rider { IsTrue (is_some facts.now.rider) }
+    requires ends { IsTrue (has_ends wish.now facts.now.places) }
+    requires number { facts.now.booking.last_trip < last_trip_number }
+    ensures { IfOk result (λ found. IsInquiryAfter wish.now today facts.now found) }
+{
+    let trip = next_trip(facts);
+    let table = table_of(alloc, facts, wish.day)?;
+    let times = table.times();
+    let asking = Asking::of(alloc, facts, &None, wish)?;
+    let request = asking.request(facts, trip, today, wish);
+    if let Some(rule) = riders_denial(&request) {
+        return Ok(Inquiry::Denied(rule));
+    }
+    let asked = asked_for(&request, times);
+    match routes_of(alloc, facts, trip, wish)? {
+        Some(routes) => Ok(Inquiry::Facts(RefusalFacts {
+            routes,
+            asked,
+            table,
+        })),
+        None => Ok(Inquiry::Denied(Rule::NoVehicle)),
+    }
+}
+
+/// What the refusal of a rider's wish at the moment `now` would stand on, or the first rule by which the wish is denied
+/// to the caller before any vehicle is looked at.
+pub fn refusal_facts(
+    alloc: Global,
+    facts: &WriteFacts,
+    me: &Caller,
+    now: Moment,
+    wish: &Wish,
+) -> Result<Inquiry, AllocError>
+    ensures value { IfOk result (λ found. IsInquiry wish.now me.now now facts.now found) }
+{
+    if let Some(rule) = explain_denial(facts, me, wish) {
+        return Ok(Inquiry::Denied(rule));
+    }
+    inquire(alloc, facts, now.day, wish)
+}
