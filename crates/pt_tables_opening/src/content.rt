@@ -34,7 +34,8 @@ pub(crate) fn with_change(keeper: ListKeeper, change: Change) -> Result<ListKeep
     }
 }
 
-/// The change that makes a new desk that of an agency with this policy, and with no records.
+/// The change that makes a new desk that of an agency with this policy and this number last given to a trip, and with
+/// no records: code 0 where memory was refused.
 fn agency_change(
     alloc: Global,
     policy: Policy,
@@ -58,7 +59,8 @@ fn agency_change(
     }
 }
 
-/// The desk of an agency with this policy and this number last given to a trip, and with no records.
+/// The desk of an agency with this policy and this number last given to a trip, and with no records: code 0 where
+/// memory was refused.
 pub(crate) fn desk_of(
     alloc: Global,
     policy: Policy,
