@@ -8,7 +8,7 @@ use pt_base::Fault;
 use pt_base::fault::MEMORY;
 use pt_command_line::{Line, WRONG_WORDS, line, matches_in};
 use pt_commands::{Outcome, exit_status, outcome_of, outcome_of_refusal, rehearse_with_key};
-use pt_desk::Read;
+use pt_requests::Read;
 use std::io::ErrorKind;
 use std::process::ExitCode;
 use std::{env, io};

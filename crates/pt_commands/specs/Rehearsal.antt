@@ -1,6 +1,6 @@
 -- A rehearsal from its beginning.
 use Rattle.std.specs.Prelude.{◌≡◌, ℕ, List}
-use Rattle.pt_desk.specs.LeastState.{IsLeastState}
+use Rattle.pt_store.specs.LeastState.{IsLeastState}
 use Rattle.pt_http.specs.Exchange.{Desk}
 use Rattle.pt_rehearsal.specs.Rehearsal.{Exchanged, Rehearses}
 

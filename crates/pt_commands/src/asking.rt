@@ -12,8 +12,10 @@ ghost use Rattle.pt_requests.specs.declared.request.Answer.{Answer};
 use crate::outcome::{Outcome, STORE_REFUSED};
 use pt_base::fault::{MEMORY, WRITE_FAILED};
 use pt_base::{Fault, Moment};
-use pt_desk::{Answer, Keeper, Reply, Request, StoreFault, answer};
+use pt_desk::answer;
 use pt_manifest::{manifest, trips_csv};
+use pt_requests::{Answer, Request};
+use pt_store::{Keeper, Reply, StoreFault};
 use std::alloc::{AllocError, Global};
 use std::io::Write;
 

@@ -19,9 +19,11 @@ use crate::{Outcome, fault_of};
 use pt_audit::{Log, check};
 use pt_base::fault::WRITE_FAILED;
 use pt_base::{Fault, Moment, RiderId, Rule, Wish};
-use pt_desk::{Inquiry, Keeper, RefusalFacts, facts};
+use pt_desk::facts;
+use pt_desk_reads::{Inquiry, RefusalFacts};
 use pt_insertion::best;
 use pt_insertion_log::explain;
+use pt_store::Keeper;
 use std::alloc::Global;
 use std::io::Write;
 

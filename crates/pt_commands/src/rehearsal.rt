@@ -6,9 +6,9 @@ ghost use Rattle.pt_base.specs.Codes.{memory_refused, moment_line_refused, write
 ghost use Rattle.pt_rehearsal.specs.Rehearsal.{most_messages, Exchanged, HasBadLine, IsFinished, IsRehearsalFault};
 
 use pt_base::Fault;
-use pt_desk::ListKeeper;
 use pt_http_inbox::Inbox;
 use pt_rehearsal::rehearse;
+use pt_store::ListKeeper;
 use std::alloc::Global;
 use std::io::{Read, Write};
 

@@ -1,8 +1,8 @@
 -- Which trips the conditions of a grant cover (49 CFR 37.123(b), (e)).
 use Rattle.std.specs.Prelude.{ℕ, pos, List, ◌⊎◌, IsTrue, All, Any, Contains}
-use Rattle.pt_base.specs.DateText.{IsInMonth}
-use Rattle.pt_base.specs.declared.place.Place.{Place}
-use Rattle.pt_base.specs.declared.place.Point.{Point}
+use Rattle.pt_corridor.specs.DateText.{IsInMonth}
+use Rattle.pt_corridor.specs.Place.{Place}
+use Rattle.pt_corridor.specs.Point.{Point}
 use Rattle.pt_corridor.specs.Near.{IsNearLine}
 use Rattle.pt_corridor.specs.Route.{Route}
 use Rattle.pt_corridor.specs.Corridor.{IsRunning, Joins}

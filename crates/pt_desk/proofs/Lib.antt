@@ -1,5 +1,4 @@
 mod SoundLemmas
-mod FileLemmas
 mod RunLemmas
 mod AnswerLemmas
 mod QuietLemmas

@@ -8,14 +8,12 @@ ghost use Rattle.pt_requests.specs.declared.request.Answer.{Answer};
 ghost use Rattle.pt_store.specs.Store.{Store, Answers, ChangesNothing, Goes, Reads, Fails, IsSoundKept};
 ghost use Rattle.pt_desk.specs.Run.{IsDenial, IsRead};
 
-use crate::{Keeper, Reply, StoreFault};
 use pt_base::{Moment, RiderId, Rule, Wish};
 use pt_desk_reads::{explain, tell};
-use pt_desk_rules::{
-    Answer, Arrival, Caller, Decision, Digest, Read, Request, Sent, Write, decide,
-};
+use pt_desk_rules::{Arrival, Decision, Sent, decide};
+use pt_requests::{Answer, Caller, Digest, Read, Request, Write};
 use pt_spelling::spell;
-use pt_store::{gather, gather_read, gather_wish};
+use pt_store::{Keeper, Reply, StoreFault, gather, gather_read, gather_wish};
 use std::alloc::Global;
 
 /// Answers a read.

@@ -1,7 +1,7 @@
 ghost use Rattle.pt_desk.specs.Refusals.{RefusalsAreTold};
 ghost use Rattle.pt_desk.specs.Run.{IsToldAfterACrash, RunsAreCalls, RunsLeaveAcceptedWrites};
 
-use crate::Keeper;
+use pt_store::Keeper;
 
 /// A law: the calls that a run answered are a list of calls by the rules, each told what its reply says, and where the
 /// store has not failed they lead to the state that is left. What the rules promise of every list of calls, as that

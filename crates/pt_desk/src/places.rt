@@ -4,8 +4,8 @@ ghost use Rattle.pt_desk_rules.specs.State.{place_key};
 ghost use Rattle.pt_desk.specs.Places.{numbers_in};
 ghost use Rattle.pt_store.specs.Store.{Fails, Reads};
 
-use crate::{Keeper, StoreFault};
 use pt_base::{Place, PlaceId};
+use pt_store::{Keeper, StoreFault};
 use std::alloc::{AllocError, Global};
 
 /// The numbers of these places.

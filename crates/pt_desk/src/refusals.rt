@@ -2,11 +2,10 @@ ghost use Rattle.std.specs.Prelude.{◌≡◌, IfOk, None, Some};
 ghost use Rattle.pt_desk.specs.Refusals.{IsFacts, IsInquiryBy};
 ghost use Rattle.pt_store.specs.Store.{Store, Answers, ChangesNothing, Fails};
 
-use crate::{Keeper, StoreFault};
 use pt_base::{Moment, RiderId, Rule, Wish};
 use pt_desk_reads::{Inquiry, refusal_facts};
-use pt_desk_rules::{Caller, Digest};
-use pt_store::gather_wish;
+use pt_requests::{Caller, Digest};
+use pt_store::{Keeper, StoreFault, gather_wish};
 use std::alloc::Global;
 
 /// What the refusal of a rider's wish would stand on, by what is planned.

@@ -2,9 +2,10 @@ ghost use Rattle.std.specs.Prelude.{◌≡◌, ◌<◌, ◌≤◌, IfOk, OnErr};
 ghost use Rattle.pt_store.specs.Store.{Store, Answers, ChangesNothing, Fails, IsSettled, IsSoundKept};
 ghost use Rattle.pt_desk.specs.Run.{AreOnlyTold, GoesOn, IsOnlyTold, IsOutcomeOf, TellOfFailure};
 
-use crate::{Keeper, Reply, answer};
+use crate::answer;
 use pt_base::Moment;
-use pt_desk_rules::Request;
+use pt_requests::Request;
+use pt_store::{Keeper, Reply};
 use std::alloc::{AllocError, Global};
 
 /// A request as it comes in: at its moment, with the caller's key and the caller's number for it.

@@ -3,8 +3,8 @@ use Rattle.std.proofs.Common.{◌≡◌, ◌∙◌, ℕ, List, []}
 use Rattle.std.proofs.Common.{inl, inr, Option, Some, None, refl, sym, ap, subst}
 use Rattle.std.specs.Option.{option_map}
 use Rattle.std.proofs.lemmas.Option.{same_Some}
-use Rattle.pt_base.specs.declared.rule.Rule.TheVariants as rule
-use Rattle.pt_base.specs.declared.moment.Moment.{Moment}
+use Rattle.pt_desk_rules.specs.Rule.TheVariants as rule
+use Rattle.pt_desk_rules.specs.Moment.{Moment}
 use Rattle.pt_desk_laws.specs.Again.{IsToldAgain}
 use Rattle.pt_desk_laws.specs.Again.{ReadsAreTheSameAgain, RequestsAreTheSameAgain}
 use Rattle.pt_desk_rules.specs.Sound.{IsSound}
@@ -14,13 +14,13 @@ use Rattle.pt_desk_rules.specs.Step.{IsOutcome, IsOutcomeBy}
 use Rattle.pt_desk_laws.proofs.KeyLemmas.{key_stays}
 use Rattle.pt_desk_laws.proofs.NumberLemmas.{writes_may_be_sent_again}
 use Rattle.pt_desk_laws.proofs.SoundLemmas.{request_sound}
-use Rattle.pt_requests.specs.declared.caller.Caller.{Caller}
-use Rattle.pt_requests.specs.declared.request.Answer.{Answer}
-use Rattle.pt_requests.specs.declared.request.Answer.TheVariants as answer
-use Rattle.pt_requests.specs.declared.request.Read.{Read}
-use Rattle.pt_requests.specs.declared.request.Request.{Request}
-use Rattle.pt_requests.specs.declared.request.Request.TheVariants as request
-use Rattle.pt_requests.specs.declared.request.Write.{Write}
+use Rattle.pt_desk_rules.specs.Caller.{Caller}
+use Rattle.pt_desk_rules.specs.Answer.{Answer}
+use Rattle.pt_desk_rules.specs.Answer.TheVariants as answer
+use Rattle.pt_desk_rules.specs.Read.{Read}
+use Rattle.pt_desk_rules.specs.Request.{Request}
+use Rattle.pt_desk_rules.specs.Request.TheVariants as request
+use Rattle.pt_desk_rules.specs.Write.{Write}
 use Rattle.pt_desk_laws.specs.Numbers.{DenialsAreTheSameAgain}
 use Rattle.pt_desk_laws.proofs.OutcomeLemmas.{commits_nothing}
 use Rattle.pt_desk_laws.specs.One.{RequestsOutliveCrashes}

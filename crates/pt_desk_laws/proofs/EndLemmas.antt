@@ -1,19 +1,19 @@
 -- A sound state stays sound where a trip that is booked gets its outcome.
 use Rattle.std.proofs.Common.{rules, ◌≡◌, ℕ, true, IsTrue, List, [], ◌∷◌, Option, Some, refl, sym, ap, ◌∙◌, subst, inl, inr}
 use Rattle.std.proofs.lemmas.Option.{same_Some}
-use Rattle.pt_base.specs.TripStatus.{stands}
-use Rattle.pt_base.specs.declared.trip.Trip.{Trip}
-use Rattle.pt_base.specs.declared.trip_status.TripStatus.{TripStatus}
-use Rattle.pt_base.specs.declared.trip_status.TripStatus.TheVariants.{Booked}
+use Rattle.pt_desk_rules.specs.TripStatuses.{stands}
+use Rattle.pt_desk_rules.specs.Trip.{Trip}
+use Rattle.pt_desk_rules.specs.TripStatus.{TripStatus}
+use Rattle.pt_desk_rules.specs.TripStatus.TheVariants.{Booked}
 use Rattle.pt_records.specs.Keys.{pair_key}
 use Rattle.pt_records.specs.Records.{put, record_at, Each}
 use Rattle.pt_records.proofs.OrderLemmas.{record_at-put_other, record_at-put_same, Each-put, Each-weaker, IsInOrder-put}
 use Rattle.pt_records.proofs.TableLemmas.{same_or_other}
-use Rattle.pt_rights.specs.declared.tally.Outcome.{Outcome}
-use Rattle.pt_rights.specs.declared.tally.Outcome.TheVariants as outcome
-use Rattle.pt_feasible.specs.declared.stop.Stop.{Stop}
-use Rattle.pt_feasible.specs.declared.stop.StopKind.{StopKind}
-use Rattle.pt_feasible.specs.declared.stop.StopKind.TheVariants.{Pickup, Drop}
+use Rattle.pt_desk_rules.specs.Outcome.{Outcome}
+use Rattle.pt_desk_rules.specs.Outcome.TheVariants as outcome
+use Rattle.pt_desk_rules.specs.Stop.{Stop}
+use Rattle.pt_desk_rules.specs.StopKind.{StopKind}
+use Rattle.pt_desk_rules.specs.StopKind.TheVariants.{Pickup, Drop}
 use Rattle.pt_scheduling.specs.Plan.{Plan, after_stop, plan_key, stops_among, trip_stop}
 use Rattle.pt_scheduling.specs.declared.planned.PlannedStop.{PlannedStop}
 use Rattle.pt_scheduling.proofs.PlanLemmas.{found_key}

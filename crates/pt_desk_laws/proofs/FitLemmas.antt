@@ -3,13 +3,13 @@ use Rattle.std.proofs.Common.{◌≡◌, ◌⊎◌, ℕ, ◌+◌, ◌<◌, ◌�
 use Rattle.std.specs.Prelude.{◌==◌, ◌&&◌, ◌||◌, nat_le, filter, find}
 use Rattle.std.specs.List.{list_any}
 use Rattle.std.proofs.lemmas.Bool.Decides.{nat_tests}
-use Rattle.pt_base.specs.Day.{IsDay}
-use Rattle.pt_base.specs.TripStatus.{stands}
-use Rattle.pt_base.specs.declared.trip.Trip.{Trip}
-use Rattle.pt_base.specs.declared.vehicle.Vehicle.{Vehicle}
+use Rattle.pt_desk_rules.specs.Day.{IsDay}
+use Rattle.pt_desk_rules.specs.TripStatuses.{stands}
+use Rattle.pt_desk_rules.specs.Trip.{Trip}
+use Rattle.pt_desk_rules.specs.Vehicle.{Vehicle}
 use Rattle.pt_booking.specs.Request as request_of
-use Rattle.pt_feasible.specs.Loads.{LoadsFit}
-use Rattle.pt_feasible.specs.declared.stop.Stop.{Stop}
+use Rattle.pt_desk_rules.specs.Loads.{LoadsFit}
+use Rattle.pt_desk_rules.specs.Stop.{Stop}
 use Rattle.pt_records.specs.Keys.{pair_key}
 use Rattle.pt_records.specs.Records.{is_within, put, record_at, take_away, Each, IsInOrder}
 use Rattle.pt_records.proofs.OrderLemmas.{record_at-put_other, record_at-put_same, Each-both, Each-weaker}

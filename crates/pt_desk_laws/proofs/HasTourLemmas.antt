@@ -1,12 +1,12 @@
 -- In a sound state each vehicle that has stops on a day has a tour.
 use Rattle.std.proofs.Common.{◌≡◌, ℕ, ◌<◌, Bool, true, false, IsTrue, List, [], ◌∷◌, length, Option, Some, None, cond, refl, sym, ap, ◌∙◌, subst, inl, inr, arith}
 use Rattle.std.specs.Prelude.{◌==◌, ◌&&◌, filter, find, is_some}
-use Rattle.pt_base.specs.Day.{IsDay}
-use Rattle.pt_base.specs.declared.trip.Trip.{Trip}
-use Rattle.pt_base.specs.declared.vehicle.Vehicle.{Vehicle}
-use Rattle.pt_feasible.specs.declared.stop.Stop.{Stop}
-use Rattle.pt_requests.specs.declared.sheets.Tour.{Tour}
-use Rattle.pt_requests.specs.declared.sheets.VehicleSheet.{VehicleSheet}
+use Rattle.pt_desk_rules.specs.Day.{IsDay}
+use Rattle.pt_desk_rules.specs.Trip.{Trip}
+use Rattle.pt_desk_rules.specs.Vehicle.{Vehicle}
+use Rattle.pt_desk_rules.specs.Stop.{Stop}
+use Rattle.pt_desk_rules.specs.Tour.{Tour}
+use Rattle.pt_desk_rules.specs.VehicleSheet.{VehicleSheet}
 use Rattle.pt_records.specs.Keys.{pair_key}
 use Rattle.pt_records.specs.Records.{record_at, Each, IsInOrder}
 use Rattle.pt_scheduling.specs.Plan.{Plan, after_stop, plan_key, planned_stops, stops_among, stops_of_plan, IsRoutePlan}
@@ -14,7 +14,7 @@ use Rattle.pt_scheduling.specs.Routes.{stops_on}
 use Rattle.pt_scheduling.specs.declared.planned.PlannedStop.{PlannedStop}
 use Rattle.pt_scheduling.proofs.PlanLemmas.{found_key}
 use Rattle.pt_scheduling.proofs.RouteLemmas.{among_route, Each-found}
-use Rattle.pt_travel.specs.Chain.{Row}
+use Rattle.pt_desk_rules.specs.Chain.{Row}
 use Rattle.pt_desk_rules.specs.Booking.{rows_of}
 use Rattle.pt_desk_rules.specs.Facts.{day_of}
 use Rattle.pt_desk_rules.specs.Fleet.{duty_of, is_on_duty, on_duty}

@@ -6,8 +6,8 @@ use Rattle.std.specs.Option.{option_map}
 use Rattle.std.proofs.lemmas.Bool.Decides.{eqb_tells}
 use Rattle.std.proofs.lemmas.Option.{same_Some}
 use Rattle.std.proofs.lemmas.Slice.Eq.{bytes_eq-Decides}
-use Rattle.pt_base.specs.declared.moment.Moment.{Moment}
-use Rattle.sha2.specs.Sha256.{sha256}
+use Rattle.pt_desk_rules.specs.Moment.{Moment}
+use Rattle.pt_desk_rules.specs.Sha256.{sha256}
 use Rattle.pt_records.specs.Records.{put, Each, IsInOrder}
 use Rattle.pt_records.proofs.OrderLemmas.{compared, record_at-put_same, Each-weaker}
 use Rattle.pt_records.proofs.RecordLemmas.{put_past, put_over, put_before}
@@ -17,11 +17,11 @@ use Rattle.pt_desk_rules.specs.Sound.{HasOneHolder, IsSound}
 use Rattle.pt_desk_rules.specs.State.{caller_key, State}
 use Rattle.pt_desk_rules.specs.Step.{arrival_in, sender, IsOutcomeBy}
 use Rattle.pt_desk_laws.proofs.NumberLemmas.{write_leaves_callers}
-use Rattle.pt_requests.specs.declared.caller.Caller.{Caller}
-use Rattle.pt_requests.specs.declared.request.Answer.{Answer}
-use Rattle.pt_requests.specs.declared.request.Request.TheVariants as request
-use Rattle.pt_requests.specs.declared.request.Write.{Write}
-use Rattle.pt_requests.specs.declared.request.Write.TheVariants as write
+use Rattle.pt_desk_rules.specs.Caller.{Caller}
+use Rattle.pt_desk_rules.specs.Answer.{Answer}
+use Rattle.pt_desk_rules.specs.Request.TheVariants as request
+use Rattle.pt_desk_rules.specs.Write.{Write}
+use Rattle.pt_desk_rules.specs.Write.TheVariants as write
 
 -- a test of two outcomes
 which : (b : Bool) → (b ≡ true) ⊎ (b ≡ false)

@@ -6,24 +6,24 @@ use Rattle.std.proofs.Props.{props}
 use Rattle.std.proofs.lemmas.Bool.{cases_lt}
 use Rattle.std.proofs.lemmas.List.{get_or_default}
 use Rattle.std.specs.Prelude.{slice_index}
-use Rattle.pt_base.specs.declared.moment.Moment.{Moment}
-use Rattle.pt_base.specs.declared.rule.Rule.{Rule}
-use Rattle.pt_base.specs.declared.trip.Trip.{Trip}
-use Rattle.pt_base.specs.declared.trip.Wish.{Wish}
-use Rattle.pt_base.specs.declared.window.Window.{Window}
+use Rattle.pt_desk_rules.specs.Moment.{Moment}
+use Rattle.pt_desk_rules.specs.Rule.{Rule}
+use Rattle.pt_desk_rules.specs.Trip.{Trip}
+use Rattle.pt_desk_rules.specs.Wish.{Wish}
+use Rattle.pt_desk_rules.specs.Window.{Window}
 use Rattle.pt_booking.specs.Booking.{planned_pickup, promised_at, IsFare, IsTripIn}
 use Rattle.pt_booking.specs.Planning.{OnDuty, asked_for, asked_of, IsBestPlace}
 use Rattle.pt_booking.specs.Request.{Request}
 use Rattle.pt_booking.specs.Window.{promised_window, wished_window}
-use Rattle.pt_feasible.specs.ServiceTimes.{IsLeastSchedule}
-use Rattle.pt_feasible.specs.declared.stop.Stop.{Stop}
+use Rattle.pt_desk_rules.specs.ServiceTimes.{IsLeastSchedule}
+use Rattle.pt_desk_rules.specs.Stop.{Stop}
 use Rattle.pt_insertion.specs.Choice.{IsBestIn, IsNoWorseThan}
 use Rattle.pt_insertion.specs.Insertion.{with_trip}
 use Rattle.pt_insertion.specs.declared.asked.Asked.{Asked}
 use Rattle.pt_insertion.specs.declared.chosen.Chosen.{Chosen}
-use Rattle.pt_party.specs.Fare.{fare_of}
-use Rattle.pt_rights.specs.Rules.{first_failing}
-use Rattle.pt_rights.specs.declared.tally.Outcome.{Outcome}
+use Rattle.pt_desk_rules.specs.Fare.{fare_of}
+use Rattle.pt_desk_rules.specs.FailingRules.{first_failing}
+use Rattle.pt_desk_rules.specs.Outcome.{Outcome}
 use Rattle.pt_scheduling.specs.Plan.{planned_stop, Plan}
 use Rattle.pt_scheduling.specs.Scheduling.{AreRoutes, IsBookedIn, IsPlanWith, IsScheduled}
 use Rattle.pt_scheduling.specs.declared.scheduling.Scheduled.{Scheduled}
@@ -50,14 +50,14 @@ use Rattle.pt_desk_rules.specs.declared.facts.WriteFacts.{WriteFacts}
 use Rattle.pt_desk_rules.specs.declared.kept.Arrival.{Arrival}
 use Rattle.pt_desk_rules.specs.declared.kept.Arrival.TheVariants.{New, Repeated, Stale}
 use Rattle.pt_desk_rules.specs.declared.kept.Sent.{Sent}
-use Rattle.pt_requests.specs.declared.caller.Caller.{Caller}
-use Rattle.pt_requests.specs.declared.request.Answer.{Answer}
-use Rattle.pt_requests.specs.declared.request.Answer.TheVariants as answer
-use Rattle.pt_requests.specs.declared.request.Confirmation.{Confirmation}
-use Rattle.pt_requests.specs.declared.request.Request.{Request as Asking}
-use Rattle.pt_requests.specs.declared.request.Request.TheVariants as request
-use Rattle.pt_requests.specs.declared.request.Write.{Write}
-use Rattle.pt_requests.specs.declared.request.Write.TheVariants as write
+use Rattle.pt_desk_rules.specs.Caller.{Caller}
+use Rattle.pt_desk_rules.specs.Answer.{Answer}
+use Rattle.pt_desk_rules.specs.Answer.TheVariants as answer
+use Rattle.pt_desk_rules.specs.Confirmation.{Confirmation}
+use Rattle.pt_desk_rules.specs.Request.{Request as Asking}
+use Rattle.pt_desk_rules.specs.Request.TheVariants as request
+use Rattle.pt_desk_rules.specs.Write.{Write}
+use Rattle.pt_desk_rules.specs.Write.TheVariants as write
 use Rattle.std.proofs.lemmas.Option.{same_Some}
 use Rattle.pt_booking.specs.Planning.{booking_rules}
 use Rattle.pt_booking.specs.Rules.{IsFirstFailing}

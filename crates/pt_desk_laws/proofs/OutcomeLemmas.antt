@@ -1,20 +1,20 @@
 -- Which requests commit nothing.
 use Rattle.std.proofs.Common.{◌≡◌, ◌∙◌, ℕ, ◌+◌, Bool, true, false, Option, Some, None, refl, sym, ap, subst}
-use Rattle.pt_base.specs.declared.rule.Rule.{Rule}
-use Rattle.pt_base.specs.declared.trip.Trip.{Trip}
-use Rattle.pt_base.specs.declared.trip.Wish.{Wish}
-use Rattle.pt_base.specs.declared.moment.Moment.{Moment}
-use Rattle.pt_rights.specs.Rules.{first_failing}
+use Rattle.pt_desk_rules.specs.Rule.{Rule}
+use Rattle.pt_desk_rules.specs.Trip.{Trip}
+use Rattle.pt_desk_rules.specs.Wish.{Wish}
+use Rattle.pt_desk_rules.specs.Moment.{Moment}
+use Rattle.pt_desk_rules.specs.FailingRules.{first_failing}
 use Rattle.pt_scheduling.specs.Plan.{Plan}
 use Rattle.pt_scheduling.specs.declared.scheduling.Scheduled.TheVariants as scheduled
 use Rattle.pt_desk_rules.specs.Booking.{IsBooking}
-use Rattle.pt_rights.specs.declared.tally.Outcome.{Outcome}
+use Rattle.pt_desk_rules.specs.Outcome.{Outcome}
 use Rattle.pt_desk_rules.specs.Deciding.{booked, changed, with_kept, IsCancelDecided, IsChangeDecided, IsEndDecided, IsDecidedBy, IsDecisionAfter}
 use Rattle.pt_desk_rules.specs.Facts.{facts_of}
 use Rattle.pt_desk_rules.specs.Rules.{rules_of}
 use Rattle.pt_desk_rules.specs.State.{State}
 use Rattle.pt_desk_rules.specs.Step.{arrival_in, sent_with, told_of, left_of, IsOutcomeBy, IsOutcomeAs}
-use Rattle.pt_requests.specs.declared.caller.Caller.{Caller}
+use Rattle.pt_desk_rules.specs.Caller.{Caller}
 use Rattle.pt_desk_rules.specs.declared.kept.Arrival.{Arrival}
 use Rattle.pt_desk_rules.specs.declared.kept.Arrival.TheVariants.{New, Repeated, Stale}
 use Rattle.pt_desk_rules.specs.declared.kept.Sent.{Sent}
@@ -22,13 +22,13 @@ use Rattle.pt_desk_rules.specs.declared.change.Change.{Change}
 use Rattle.pt_desk_rules.specs.declared.deciding.Decision.{Decision}
 use Rattle.pt_desk_rules.specs.declared.deciding.Decision.TheVariants as decision
 use Rattle.pt_desk_rules.specs.declared.facts.WriteFacts.{WriteFacts}
-use Rattle.pt_requests.specs.declared.request.Answer.{Answer}
-use Rattle.pt_requests.specs.declared.request.Answer.TheVariants.{Done, Entered, Booked}
-use Rattle.pt_requests.specs.declared.request.Read.{Read}
-use Rattle.pt_requests.specs.declared.request.Request.{Request}
-use Rattle.pt_requests.specs.declared.request.Request.TheVariants as request
-use Rattle.pt_requests.specs.declared.request.Write.{Write}
-use Rattle.pt_requests.specs.declared.request.Write.TheVariants as write
+use Rattle.pt_desk_rules.specs.Answer.{Answer}
+use Rattle.pt_desk_rules.specs.Answer.TheVariants.{Done, Entered, Booked}
+use Rattle.pt_desk_rules.specs.Read.{Read}
+use Rattle.pt_desk_rules.specs.Request.{Request}
+use Rattle.pt_desk_rules.specs.Request.TheVariants as request
+use Rattle.pt_desk_rules.specs.Write.{Write}
+use Rattle.pt_desk_rules.specs.Write.TheVariants as write
 
 -- what an accepted write is told
 abbrev pub is_of_write : Answer → Bool

@@ -3,8 +3,8 @@ use Rattle.std.proofs.Common.{◌≡◌, ℕ, ◌+◌, ◌≤◌, Bool, true, fa
 use Rattle.std.specs.Prelude.{◌==◌, filter}
 use Rattle.std.proofs.lemmas.Bool.Decides.{nat_tests}
 use Rattle.std.proofs.lemmas.Option.{same_Some}
-use Rattle.pt_base.specs.TripStatus.{stands}
-use Rattle.pt_base.specs.declared.trip.Trip.{Trip}
+use Rattle.pt_desk_rules.specs.TripStatuses.{stands}
+use Rattle.pt_desk_rules.specs.Trip.{Trip}
 use Rattle.pt_records.specs.Keys.{pair_key}
 use Rattle.pt_records.specs.Records.{is_within, put, record_at, take_away, Each}
 use Rattle.pt_records.proofs.OrderLemmas.{Each-weaker, record_at-put_other, record_at-put_same}

@@ -1,19 +1,19 @@
 -- A rider's trips are told by nothing but the caller, the rider's record and the trips.
 use Rattle.std.proofs.Common.{◌≡◌, ℕ, List, Option, Some, None, refl, sym, ◌∙◌, subst}
-use Rattle.pt_base.specs.declared.rule.Rule.{Rule}
-use Rattle.pt_base.specs.declared.moment.Moment.{Moment}
-use Rattle.pt_rights.specs.Rules.{first_failing}
+use Rattle.pt_desk_rules.specs.Rule.{Rule}
+use Rattle.pt_desk_rules.specs.Moment.{Moment}
+use Rattle.pt_desk_rules.specs.FailingRules.{first_failing}
 use Rattle.pt_desk_rules.specs.Deciding.{IsTold, IsToldAfter}
 use Rattle.pt_desk_rules.specs.Facts.{read_facts_of}
 use Rattle.pt_desk_laws.specs.Privacy.{AgreeOnTrips, TripsArePrivate}
 use Rattle.pt_desk_rules.specs.Rules.{read_rules}
 use Rattle.pt_desk_rules.specs.State.{State}
 use Rattle.pt_desk_rules.specs.Step.{sender, IsOutcomeBy}
-use Rattle.pt_requests.specs.declared.caller.Caller.{Caller}
+use Rattle.pt_desk_rules.specs.Caller.{Caller}
 use Rattle.pt_desk_rules.specs.declared.facts.ReadFacts.{ReadFacts}
-use Rattle.pt_requests.specs.declared.request.Answer.{Answer}
-use Rattle.pt_requests.specs.declared.request.Read.TheVariants as read
-use Rattle.pt_requests.specs.declared.request.Request.TheVariants as request
+use Rattle.pt_desk_rules.specs.Answer.{Answer}
+use Rattle.pt_desk_rules.specs.Read.TheVariants as read
+use Rattle.pt_desk_rules.specs.Request.TheVariants as request
 
 -- one thing is told of one rider's trips
 told_once : (first : Option Rule) (rider today : ℕ) (facts : ReadFacts) (told also : Answer) → IsToldAfter first (read.Trips rider) today facts told → IsToldAfter first (read.Trips rider) today facts also

@@ -4,26 +4,26 @@ use Rattle.std.proofs.Common.{inl, inr, take, Option, Some, None, arith, refl, s
 use Rattle.std.specs.List.{AllZip}
 use Rattle.std.specs.Prelude.{slice_get, slice_index}
 use Rattle.std.proofs.lemmas.Option.{same_Some}
-use Rattle.pt_base.specs.declared.rider.Residence.{Residence}
-use Rattle.pt_base.specs.declared.rider.Residence.TheVariants.{Resident, Visitor}
-use Rattle.pt_base.specs.declared.rider.Rider.{Rider}
-use Rattle.pt_base.specs.declared.rule.Rule.{Rule}
-use Rattle.pt_base.specs.declared.trip.Trip.{Trip}
-use Rattle.pt_base.specs.declared.vehicle.Vehicle.{Vehicle}
-use Rattle.pt_base.specs.declared.moment.Moment.{Moment}
-use Rattle.pt_feasible.specs.Loads.{load_aboard}
-use Rattle.pt_feasible.specs.ServiceTimes.{IsLeastSchedule}
-use Rattle.pt_feasible.specs.declared.stop.Stop.{Stop}
-use Rattle.pt_requests.specs.declared.letters.Letter.{Letter}
-use Rattle.pt_requests.specs.declared.sheets.DaySheet.{DaySheet}
-use Rattle.pt_requests.specs.declared.sheets.Tour.{Tour}
-use Rattle.pt_requests.specs.declared.sheets.TourStop.{TourStop}
-use Rattle.pt_requests.specs.declared.sheets.VehicleSheet.{VehicleSheet}
+use Rattle.pt_desk_rules.specs.Residence.{Residence}
+use Rattle.pt_desk_rules.specs.Residence.TheVariants.{Resident, Visitor}
+use Rattle.pt_desk_rules.specs.Rider.{Rider}
+use Rattle.pt_desk_rules.specs.Rule.{Rule}
+use Rattle.pt_desk_rules.specs.Trip.{Trip}
+use Rattle.pt_desk_rules.specs.Vehicle.{Vehicle}
+use Rattle.pt_desk_rules.specs.Moment.{Moment}
+use Rattle.pt_desk_rules.specs.Loads.{load_aboard}
+use Rattle.pt_desk_rules.specs.ServiceTimes.{IsLeastSchedule}
+use Rattle.pt_desk_rules.specs.Stop.{Stop}
+use Rattle.pt_desk_rules.specs.Letter.{Letter}
+use Rattle.pt_desk_rules.specs.DaySheet.{DaySheet}
+use Rattle.pt_desk_rules.specs.Tour.{Tour}
+use Rattle.pt_desk_rules.specs.TourStop.{TourStop}
+use Rattle.pt_desk_rules.specs.VehicleSheet.{VehicleSheet}
 use Rattle.pt_records.specs.Records.{record_at}
-use Rattle.pt_rights.specs.Rules.{first_failing}
-use Rattle.pt_rights.specs.declared.entry.Entered.{Entered}
-use Rattle.pt_travel.specs.Chain.{Row}
-use Rattle.pt_visitors.specs.Periods.{MayUse}
+use Rattle.pt_desk_rules.specs.FailingRules.{first_failing}
+use Rattle.pt_desk_rules.specs.Entered.{Entered}
+use Rattle.pt_desk_rules.specs.Chain.{Row}
+use Rattle.pt_desk_rules.specs.Periods.{MayUse}
 use Rattle.pt_desk_laws.specs.Again.{IsSameAnswer, IsSameDaySheet, IsSameSheet, IsSameTour}
 use Rattle.pt_desk_laws.specs.Again.{IsSameTourOrNone}
 use Rattle.pt_desk_rules.specs.Booking.{rows_of}
@@ -39,12 +39,12 @@ use Rattle.pt_desk_rules.specs.Tours.{AreShown, IsTourOrNone}
 use Rattle.pt_desk_rules.proofs.TourLemmas.{minutes_one}
 use Rattle.pt_desk_rules.specs.declared.facts.DayFacts.{DayFacts}
 use Rattle.pt_desk_rules.specs.declared.facts.ReadFacts.{ReadFacts}
-use Rattle.pt_requests.specs.declared.caller.Caller.{Caller}
-use Rattle.pt_requests.specs.declared.request.Answer.{Answer}
-use Rattle.pt_requests.specs.declared.request.Answer.TheVariants as answer
-use Rattle.pt_requests.specs.declared.request.Read.{Read}
-use Rattle.pt_requests.specs.declared.request.Read.TheVariants as read
-use Rattle.pt_requests.specs.declared.request.Request.TheVariants as request
+use Rattle.pt_desk_rules.specs.Caller.{Caller}
+use Rattle.pt_desk_rules.specs.Answer.{Answer}
+use Rattle.pt_desk_rules.specs.Answer.TheVariants as answer
+use Rattle.pt_desk_rules.specs.Read.{Read}
+use Rattle.pt_desk_rules.specs.Read.TheVariants as read
+use Rattle.pt_desk_rules.specs.Request.TheVariants as request
 use Rattle.std.proofs.Common.{◌⊎◌, ◌<◌, ◌||◌}
 use Rattle.std.specs.Prelude.{◌==◌}
 use Rattle.std.specs.List.{list_any}

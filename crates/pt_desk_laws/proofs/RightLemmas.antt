@@ -1,13 +1,13 @@
 -- What is denied in a sound state fails the rule that is told, first of all rules.
 use Rattle.std.proofs.Common.{◌≡◌, ◌∙◌, ◌+◌, inl, inr, ℕ, Option, Some, None, refl, sym, ap, subst}
-use Rattle.pt_base.specs.declared.rule.Rule.{Rule}
-use Rattle.pt_base.specs.declared.trip.Trip.{Trip}
-use Rattle.pt_base.specs.declared.trip.Wish.{Wish}
-use Rattle.pt_base.specs.declared.moment.Moment.{Moment}
+use Rattle.pt_desk_rules.specs.Rule.{Rule}
+use Rattle.pt_desk_rules.specs.Trip.{Trip}
+use Rattle.pt_desk_rules.specs.Wish.{Wish}
+use Rattle.pt_desk_rules.specs.Moment.{Moment}
 use Rattle.pt_booking.specs.Planning.{booking_rules}
 use Rattle.pt_booking.specs.Rules.{IsFirstFailing}
-use Rattle.pt_rights.specs.Rules.{first_failing}
-use Rattle.pt_rights.specs.declared.tally.Outcome.{Outcome}
+use Rattle.pt_desk_rules.specs.FailingRules.{first_failing}
+use Rattle.pt_desk_rules.specs.Outcome.{Outcome}
 use Rattle.pt_scheduling.specs.Plan.{Plan}
 use Rattle.pt_scheduling.specs.Scheduling.{AreRoutes}
 use Rattle.pt_scheduling.specs.declared.scheduling.Scheduled.TheVariants as scheduled
@@ -28,11 +28,11 @@ use Rattle.pt_desk_rules.specs.declared.kept.Sent.{Sent}
 use Rattle.pt_desk_laws.proofs.DutyLemmas.{has_routes}
 use Rattle.pt_desk_laws.proofs.OutcomeLemmas.{decision_is}
 use Rattle.pt_desk_laws.proofs.SoundLemmas.{change_trip}
-use Rattle.pt_requests.specs.declared.caller.Caller.{Caller}
-use Rattle.pt_requests.specs.declared.request.Answer.TheVariants as answer
-use Rattle.pt_requests.specs.declared.request.Request.TheVariants as request
-use Rattle.pt_requests.specs.declared.request.Write.{Write}
-use Rattle.pt_requests.specs.declared.request.Write.TheVariants as write
+use Rattle.pt_desk_rules.specs.Caller.{Caller}
+use Rattle.pt_desk_rules.specs.Answer.TheVariants as answer
+use Rattle.pt_desk_rules.specs.Request.TheVariants as request
+use Rattle.pt_desk_rules.specs.Write.{Write}
+use Rattle.pt_desk_rules.specs.Write.TheVariants as write
 use Rattle.pt_desk_rules.specs.Deciding.{IsCancelDecided, IsEndDecided}
 use Rattle.pt_desk_rules.specs.Step.{told_of}
 use Rattle.pt_desk_laws.proofs.OutcomeLemmas.{is_of_write, IsOfWrite}

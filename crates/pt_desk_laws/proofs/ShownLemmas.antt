@@ -1,14 +1,14 @@
 -- In a sound state the manifest of a vehicle shows none but the trips that stand in it on the day.
 use Rattle.std.proofs.Common.{◌≡◌, ℕ, List, [], ◌∷◌, Option, Some, None, refl, sym, ap, ◌∙◌, subst}
 use Rattle.std.specs.Prelude.{◌==◌, slice_get}
-use Rattle.pt_base.specs.declared.load.Load.{Load}
-use Rattle.pt_base.specs.Day.{IsDay}
-use Rattle.pt_base.specs.declared.trip.Trip.{Trip}
-use Rattle.pt_base.specs.declared.vehicle.Vehicle.{Vehicle}
-use Rattle.pt_feasible.specs.declared.stop.Stop.{Stop}
-use Rattle.pt_requests.specs.declared.sheets.Tour.{Tour}
-use Rattle.pt_requests.specs.declared.sheets.TourStop.{TourStop}
-use Rattle.pt_requests.specs.declared.sheets.VehicleSheet.{VehicleSheet}
+use Rattle.pt_desk_rules.specs.Load.{Load}
+use Rattle.pt_desk_rules.specs.Day.{IsDay}
+use Rattle.pt_desk_rules.specs.Trip.{Trip}
+use Rattle.pt_desk_rules.specs.Vehicle.{Vehicle}
+use Rattle.pt_desk_rules.specs.Stop.{Stop}
+use Rattle.pt_desk_rules.specs.Tour.{Tour}
+use Rattle.pt_desk_rules.specs.TourStop.{TourStop}
+use Rattle.pt_desk_rules.specs.VehicleSheet.{VehicleSheet}
 use Rattle.pt_records.specs.Keys.{pair_key}
 use Rattle.pt_records.specs.Records.{record_at, Each}
 use Rattle.pt_records.proofs.TableLemmas.{Each-filter}

@@ -5,22 +5,22 @@ use Rattle.std.proofs.lemmas.Bool.Decides.{nat_tests}
 use Rattle.std.proofs.lemmas.List.{length-map, length-take}
 use Rattle.std.proofs.Common.{length-append}
 use Rattle.std.proofs.lemmas.Slice.Eq.{bytes_eq-Decides}
-use Rattle.sha2.specs.Sha256.{sha256}
-use Rattle.pt_base.specs.Day.{IsDay}
-use Rattle.pt_base.specs.TripStatus.{stands}
-use Rattle.pt_base.specs.declared.place.Place.{Place}
-use Rattle.pt_base.specs.declared.policy.Policy.{Policy}
-use Rattle.pt_base.specs.declared.rider.Rider.{Rider}
-use Rattle.pt_base.specs.declared.vehicle.Vehicle.{Vehicle}
-use Rattle.pt_base.specs.declared.rule.Rule.{Rule}
-use Rattle.pt_corridor.specs.Route.{Route}
+use Rattle.pt_desk_rules.specs.Sha256.{sha256}
+use Rattle.pt_desk_rules.specs.Day.{IsDay}
+use Rattle.pt_desk_rules.specs.TripStatuses.{stands}
+use Rattle.pt_desk_rules.specs.Place.{Place}
+use Rattle.pt_desk_rules.specs.Policy.{Policy}
+use Rattle.pt_desk_rules.specs.Rider.{Rider}
+use Rattle.pt_desk_rules.specs.Vehicle.{Vehicle}
+use Rattle.pt_desk_rules.specs.Rule.{Rule}
+use Rattle.pt_desk_rules.specs.Route.{Route}
 use Rattle.pt_records.specs.Keys.{pair_key}
 use Rattle.pt_records.specs.Records.{edited, put, put_all, take_away, is_within, record_at, Each, IsInOrder}
 use Rattle.pt_records.proofs.OrderLemmas.{Each-put, Each-weaker, Each-both, IsInOrder-put}
 use Rattle.pt_records.proofs.TableLemmas.{same_or_other, stays_there, found_by_key, below_is, IsTable-put, IsTable-add, IsTable-replace, Each-filter, IsInOrder-filter}
 use Rattle.pt_records.proofs.WithinLemmas.{within-put_other, within-put_last, Each-within}
-use Rattle.pt_rights.specs.Rules.{first_failing}
-use Rattle.pt_rights.specs.declared.entry.Entry.{Entry}
+use Rattle.pt_desk_rules.specs.FailingRules.{first_failing}
+use Rattle.pt_desk_rules.specs.Entry.{Entry}
 use Rattle.pt_desk_rules.specs.State.{most_callers, most_places, most_routes, most_riders, most_tables}
 use Rattle.std.specs.Option.{unwrap_or}
 use Rattle.pt_spelling.specs.Replies.{reply_of}
@@ -29,7 +29,7 @@ use Rattle.pt_spelling.specs.declared.replies.KeptReply.{KeptReply}
 use Rattle.pt_spelling.specs.declared.replies.KeptReply.TheVariants as reply
 use Rattle.pt_desk_rules.specs.State.{State, caller_with, kept_of, rider_of, trip_of, file_of, caller_key, kept_key, place_key, route_key, rider_key, entry_key, vehicle_key, travel_key, trip_key, span_of, versions_from, tables_from, tables_before, entries_of, applied}
 use Rattle.pt_desk_rules.specs.Facts.{cancel_facts, change_facts, facts_of, has_subject, plan_for}
-use Rattle.pt_travel.specs.Chain.{Row}
+use Rattle.pt_desk_rules.specs.Chain.{Row}
 use Rattle.pt_desk_rules.proofs.FleetLemmas.{version_stays, fleet_stays}
 use Rattle.pt_desk_laws.proofs.NumberLemmas.{callers_by, decided_makes, new_is_above, Makes}
 use Rattle.pt_desk_rules.specs.Fleet.{on_duty, vehicle_count, versions_before, versions_of_others}
@@ -37,7 +37,7 @@ use Rattle.pt_desk_rules.specs.Planned.{is_booked_from, planned_on, trips_on}
 use Rattle.pt_desk_rules.specs.Travel.{DatedTable}
 use Rattle.pt_desk_rules.specs.Rules.{rules_of, is_nobody_else, is_nobody_of_another_kind, are_there, has_room_for}
 use Rattle.pt_desk_rules.specs.Booking.{routes_on, IsBooking}
-use Rattle.pt_rights.specs.declared.tally.Outcome.{Outcome}
+use Rattle.pt_desk_rules.specs.Outcome.{Outcome}
 use Rattle.pt_desk_rules.specs.Outcomes.{awaits_outcome}
 use Rattle.pt_desk_laws.proofs.EndLemmas.{end_sound}
 use Rattle.pt_desk_rules.specs.Deciding.{booked, kept_by, with_kept, IsCancelDecided, IsChangeDecided, IsEndDecided, IsDecidedBy, IsDecisionAfter, PutsInRangeIf}
@@ -49,6 +49,7 @@ use Rattle.pt_scheduling.specs.declared.planned.PlannedStop.{PlannedStop}
 use Rattle.pt_scheduling.proofs.PlanLemmas.{found_key}
 use Rattle.pt_scheduling.proofs.RouteLemmas.{booked_has, booked_keeps, booked_plan, booked_route, booked_trips, has_trip, left_has, left_route, planned_route, Each-found}
 use Rattle.pt_spelling.specs.Ranges.{IsRequest}
+use Rattle.pt_desk_rules.specs.Parts as part
 use Rattle.pt_desk_rules.specs.Ranges.{FitsKept, KeepsRanges}
 use Rattle.pt_desk_rules.specs.Sound.{HasStops}
 use Rattle.pt_desk_rules.proofs.RangeLemmas.{Each-more, each-put, first_days, kept_in_range, planned_days, puts_beside, ranges_kept, trip_days}
@@ -56,28 +57,28 @@ use Rattle.pt_desk_laws.proofs.FitLemmas.{booked_fits, each_drive, each_load, fi
 use Rattle.pt_desk_laws.proofs.StandingLemmas.{each_found, has_on, plans_left, put_planned, same_place, stays_beside, stays_planned, trip_on, Each-put_over}
 use Rattle.pt_desk_laws.proofs.PlannedLemmas.{left_standing, plans_after, plans_beside, put_stands, standing_without}
 use Rattle.pt_scheduling.specs.declared.scheduling.Scheduled.TheVariants as scheduled
-use Rattle.pt_base.specs.declared.trip.Trip.{Trip}
-use Rattle.pt_base.specs.declared.trip.Wish.{Wish}
-use Rattle.pt_base.specs.declared.moment.Moment.{Moment}
+use Rattle.pt_desk_rules.specs.Trip.{Trip}
+use Rattle.pt_desk_rules.specs.Wish.{Wish}
+use Rattle.pt_desk_rules.specs.Moment.{Moment}
 use Rattle.pt_records.specs.declared.span.Span.{Span}
 use Rattle.pt_desk_rules.specs.Step.{state_after, arrival_in, sent_with, left_of, sender, IsOutcome, IsOutcomeBy, IsOutcomeAs}
 use Rattle.pt_desk_rules.specs.Sound.{IsSound, IsNumberedTo, IsSoundFile, IsIn, HasOneHolder, HasSubject, IsOfCaller, IsKeptWrite, HasFiledRider, HasAuthor, HasFirstDay, HasDepot, HasDay, HasPlaces, HasStandingTrips, IsOfPlaces, IsOfRider, IsPlanned, StandsIn, AreNumberedFrom}
-use Rattle.pt_requests.specs.declared.caller.Caller.{Caller}
+use Rattle.pt_desk_rules.specs.Caller.{Caller}
 use Rattle.pt_desk_rules.specs.declared.kept.Arrival.{Arrival}
 use Rattle.pt_desk_rules.specs.declared.kept.Arrival.TheVariants.{New, Repeated, Stale}
 use Rattle.pt_desk_rules.specs.declared.kept.Kept.{Kept}
 use Rattle.pt_desk_rules.specs.declared.kept.Sent.{Sent}
-use Rattle.pt_requests.specs.declared.caller.Role.{Role}
-use Rattle.pt_requests.specs.declared.caller.Role.TheVariants as role
+use Rattle.pt_desk_rules.specs.Role.{Role}
+use Rattle.pt_desk_rules.specs.Role.TheVariants as role
 use Rattle.pt_desk_rules.specs.declared.change.Change.{Change}
 use Rattle.pt_desk_rules.specs.declared.change.FiledEntry.{FiledEntry}
 use Rattle.pt_desk_rules.specs.declared.deciding.Decision.{Decision}
 use Rattle.pt_desk_rules.specs.declared.deciding.Decision.TheVariants.{Denied, Accepted}
-use Rattle.pt_requests.specs.declared.request.Answer.{Answer}
-use Rattle.pt_requests.specs.declared.request.Request.{Request}
-use Rattle.pt_requests.specs.declared.request.Request.TheVariants as request
-use Rattle.pt_requests.specs.declared.request.Write.{Write}
-use Rattle.pt_requests.specs.declared.request.Write.TheVariants as write
+use Rattle.pt_desk_rules.specs.Answer.{Answer}
+use Rattle.pt_desk_rules.specs.Request.{Request}
+use Rattle.pt_desk_rules.specs.Request.TheVariants as request
+use Rattle.pt_desk_rules.specs.Write.{Write}
+use Rattle.pt_desk_rules.specs.Write.TheVariants as write
 
 held_by : (new x : Caller) (xs : List Caller) (b : Bool) → bytes_eq x.digest new.digest ≡ b → Each (HasOneHolder (x ∷ xs)) (x ∷ xs)
     → IsTrue (is_nobody_else new.id (cond b (Some x) (find (λ caller. bytes_eq caller.digest new.digest) xs)))
@@ -643,7 +644,7 @@ kept_sound asked me sent s (Accepted told change) there write makes puts sound =
     let kept = kept_by me sent (unwrap_or (reply_of told) reply.Done) in
     let stays = subst (λ edit. IsIn caller_key (edited caller_key edit s.callers) me) (sym makes.1) (caller_stays asked me s.callers there) in
     subst (λ edit. IsSound (record (applied change s) { kept = put kept_key kept (edited kept_key edit s.kept) })) makes.0
-    (numbered_sound kept (applied change s) sound puts.kept.0 (stays, write (unwrap_or (reply_of told) reply.Done)))
+    (numbered_sound kept (applied change s) sound (puts.parts part.kept).0 (stays, write (unwrap_or (reply_of told) reply.Done)))
 
 made_in_range : (asked : Write) (me : ℕ) (sent : Sent) (made : Decision) → Makes (callers_by asked) made → PutsInRangeIf (with_kept me sent made) → PutsInRangeIf made
 made_in_range asked me sent (Denied first) makes puts = tt

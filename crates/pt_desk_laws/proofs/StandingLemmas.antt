@@ -2,8 +2,8 @@
 use Rattle.std.proofs.Common.{◌≡◌, ℕ, ◌<◌, ◌≤◌, Bool, true, false, List, [], ◌∷◌, Option, Some, None, cond, refl, sym, ap, ◌∙◌, inl, inr, arith}
 use Rattle.std.specs.Prelude.{◌==◌, filter}
 use Rattle.std.proofs.lemmas.Bool.Decides.{nat_tests}
-use Rattle.pt_base.specs.Day.{IsDay}
-use Rattle.pt_base.specs.declared.trip.Trip.{Trip}
+use Rattle.pt_desk_rules.specs.Day.{IsDay}
+use Rattle.pt_desk_rules.specs.Trip.{Trip}
 use Rattle.pt_records.specs.Keys.{pair_key}
 use Rattle.pt_records.specs.Records.{is_within, put, put_all, record_at, take_away, Each, IsInOrder}
 use Rattle.pt_records.proofs.OrderLemmas.{compared, record_at-here, record_at-past, record_at-put_other, record_at-put_same, Each-both}

@@ -2,22 +2,22 @@
 use Rattle.std.specs.Prelude.{◌≡◌, ◌≢◌, ◌⊎◌, ℕ, List, Option, Some, None}
 use Rattle.std.specs.List.{AllZip}
 use Rattle.std.specs.Option.{option_map}
-use Rattle.sha2.specs.Sha256.{sha256}
-use Rattle.pt_base.specs.declared.rule.Rule.TheVariants as rule
-use Rattle.pt_base.specs.declared.moment.Moment.{Moment}
-use Rattle.pt_requests.specs.declared.sheets.DaySheet.{DaySheet}
-use Rattle.pt_requests.specs.declared.sheets.Tour.{Tour}
-use Rattle.pt_requests.specs.declared.sheets.VehicleSheet.{VehicleSheet}
+use Rattle.pt_desk_rules.specs.Sha256.{sha256}
+use Rattle.pt_desk_rules.specs.Rule.TheVariants as rule
+use Rattle.pt_desk_rules.specs.Moment.{Moment}
+use Rattle.pt_desk_rules.specs.DaySheet.{DaySheet}
+use Rattle.pt_desk_rules.specs.Tour.{Tour}
+use Rattle.pt_desk_rules.specs.VehicleSheet.{VehicleSheet}
 use Rattle.pt_desk_rules.specs.Sound.{IsSound}
 use Rattle.pt_desk_rules.specs.State.{State, caller_with}
 use Rattle.pt_desk_rules.specs.Step.{sender, state_after, IsOutcome}
-use Rattle.pt_requests.specs.declared.caller.Caller.{Caller}
-use Rattle.pt_requests.specs.declared.request.Answer.{Answer}
-use Rattle.pt_requests.specs.declared.request.Answer.TheVariants as answer
-use Rattle.pt_requests.specs.declared.request.Read.{Read}
-use Rattle.pt_requests.specs.declared.request.Request.{Request}
-use Rattle.pt_requests.specs.declared.request.Request.TheVariants as request
-use Rattle.pt_requests.specs.declared.request.Write.TheVariants as write
+use Rattle.pt_desk_rules.specs.Caller.{Caller}
+use Rattle.pt_desk_rules.specs.Answer.{Answer}
+use Rattle.pt_desk_rules.specs.Answer.TheVariants as answer
+use Rattle.pt_desk_rules.specs.Read.{Read}
+use Rattle.pt_desk_rules.specs.Request.{Request}
+use Rattle.pt_desk_rules.specs.Request.TheVariants as request
+use Rattle.pt_desk_rules.specs.Write.TheVariants as write
 
 -- the same tour: from one depot and back at the same minutes, over the same stops
 pub record IsSameTour (a b : Tour) : Type 0 where

@@ -1,12 +1,12 @@
 -- What holds of every request in a sound state.
 use Rattle.std.specs.Prelude.{◌≡◌, ◌⊎◌, ℕ, ◌+◌, List, Option, Some, None}
-use Rattle.pt_base.specs.declared.rule.Rule.{Rule}
-use Rattle.pt_base.specs.declared.trip.Wish.{Wish}
-use Rattle.pt_base.specs.declared.moment.Moment.{Moment}
+use Rattle.pt_desk_rules.specs.Rule.{Rule}
+use Rattle.pt_desk_rules.specs.Wish.{Wish}
+use Rattle.pt_desk_rules.specs.Moment.{Moment}
 use Rattle.pt_booking.specs.Planning.{booking_rules}
 use Rattle.pt_booking.specs.Request.{Request as TripRequest}
 use Rattle.pt_booking.specs.Rules.{IsFirstFailing}
-use Rattle.pt_rights.specs.Rules.{first_failing}
+use Rattle.pt_desk_rules.specs.FailingRules.{first_failing}
 use Rattle.pt_desk_rules.specs.Booking.{routes_for, rows_of, AreTimes, IsRequestBy}
 use Rattle.pt_desk_rules.specs.Facts.{facts_of}
 use Rattle.pt_desk_rules.specs.Rules.{rules_of}
@@ -15,13 +15,13 @@ use Rattle.pt_desk_rules.specs.State.{State}
 use Rattle.pt_desk_rules.specs.Step.{arrival_in, sender, state_after, IsOutcome}
 use Rattle.pt_desk_rules.specs.declared.facts.WriteFacts.{WriteFacts}
 use Rattle.pt_desk_rules.specs.declared.kept.Arrival.TheVariants.{New}
-use Rattle.pt_requests.specs.declared.caller.Caller.{Caller}
-use Rattle.pt_requests.specs.declared.request.Answer.{Answer}
-use Rattle.pt_requests.specs.declared.request.Answer.TheVariants as answer
-use Rattle.pt_requests.specs.declared.request.Request.{Request}
-use Rattle.pt_requests.specs.declared.request.Request.TheVariants as request
-use Rattle.pt_requests.specs.declared.request.Write.{Write}
-use Rattle.pt_requests.specs.declared.request.Write.TheVariants as write
+use Rattle.pt_desk_rules.specs.Caller.{Caller}
+use Rattle.pt_desk_rules.specs.Answer.{Answer}
+use Rattle.pt_desk_rules.specs.Answer.TheVariants as answer
+use Rattle.pt_desk_rules.specs.Request.{Request}
+use Rattle.pt_desk_rules.specs.Request.TheVariants as request
+use Rattle.pt_desk_rules.specs.Write.{Write}
+use Rattle.pt_desk_rules.specs.Write.TheVariants as write
 
 -- a request leaves a sound state where it finds one
 abbrev pub OutcomesOfSoundStatesAreSound : Type 0

@@ -4,8 +4,8 @@ use Rattle.std.specs.Prelude.{if◌then◌else◌}
 use Rattle.std.specs.Option.{unwrap_or}
 use Rattle.std.specs.List.{cons_option, last_or}
 use Rattle.std.specs.List.Sorted.{IsStrictlyIncreasing}
-use Rattle.pt_base.specs.declared.rule.Rule.{Rule}
-use Rattle.pt_base.specs.declared.moment.Moment.{Moment}
+use Rattle.pt_desk_rules.specs.Rule.{Rule}
+use Rattle.pt_desk_rules.specs.Moment.{Moment}
 use Rattle.pt_records.specs.Records.{Each}
 use Rattle.pt_spelling.specs.Replies.{answer_of, reply_of}
 use Rattle.pt_spelling.specs.Requests.{spelling}
@@ -16,12 +16,12 @@ use Rattle.pt_desk_rules.specs.Step.{sender, sent_with, state_after, IsOutcome}
 use Rattle.pt_desk_rules.specs.declared.kept.Kept.{Kept}
 use Rattle.pt_spelling.specs.declared.replies.KeptReply.{KeptReply}
 use Rattle.pt_spelling.specs.declared.replies.KeptReply.TheVariants.{Done}
-use Rattle.pt_requests.specs.declared.caller.Caller.{Caller}
-use Rattle.pt_requests.specs.declared.request.Answer.{Answer}
-use Rattle.pt_requests.specs.declared.request.Answer.TheVariants as answer
-use Rattle.pt_requests.specs.declared.request.Request.{Request}
-use Rattle.pt_requests.specs.declared.request.Request.TheVariants as request
-use Rattle.pt_requests.specs.declared.request.Write.{Write}
+use Rattle.pt_desk_rules.specs.Caller.{Caller}
+use Rattle.pt_desk_rules.specs.Answer.{Answer}
+use Rattle.pt_desk_rules.specs.Answer.TheVariants as answer
+use Rattle.pt_desk_rules.specs.Request.{Request}
+use Rattle.pt_desk_rules.specs.Request.TheVariants as request
+use Rattle.pt_desk_rules.specs.Write.{Write}
 
 -- the number of the write that is kept, 0 where none is
 abbrev pub number_of : Option Kept → ℕ

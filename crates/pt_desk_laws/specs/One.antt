@@ -1,12 +1,12 @@
 -- One call in one state has one outcome.
 use Rattle.std.specs.Prelude.{◌≡◌, ◌⊎◌, ℕ, List, Option}
-use Rattle.pt_base.specs.declared.moment.Moment.{Moment}
+use Rattle.pt_desk_rules.specs.Moment.{Moment}
 use Rattle.pt_desk_laws.specs.Again.{IsSameAnswer, IsToldAgain}
 use Rattle.pt_desk_rules.specs.Sound.{IsSound}
 use Rattle.pt_desk_rules.specs.State.{State}
 use Rattle.pt_desk_rules.specs.Step.{state_after, IsOutcome}
-use Rattle.pt_requests.specs.declared.request.Answer.{Answer}
-use Rattle.pt_requests.specs.declared.request.Request.{Request}
+use Rattle.pt_desk_rules.specs.Answer.{Answer}
+use Rattle.pt_desk_rules.specs.Request.{Request}
 
 -- Two outcomes of one call in one sound state are one: the same is told, and the same is committed, if anything. So the
 -- rules settle each answer, the place and the window of a trip too.

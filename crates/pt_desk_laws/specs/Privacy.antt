@@ -1,12 +1,12 @@
 -- What decides what is told of a rider's trips, and that nothing else does.
 use Rattle.std.specs.Prelude.{◌≡◌, ℕ, List, Option}
-use Rattle.pt_base.specs.declared.moment.Moment.{Moment}
+use Rattle.pt_desk_rules.specs.Moment.{Moment}
 use Rattle.pt_desk_rules.specs.Planned.{trips_of}
 use Rattle.pt_desk_rules.specs.State.{State, rider_of}
 use Rattle.pt_desk_rules.specs.Step.{sender, IsOutcome}
-use Rattle.pt_requests.specs.declared.request.Answer.{Answer}
-use Rattle.pt_requests.specs.declared.request.Read.TheVariants as read
-use Rattle.pt_requests.specs.declared.request.Request.TheVariants as request
+use Rattle.pt_desk_rules.specs.Answer.{Answer}
+use Rattle.pt_desk_rules.specs.Read.TheVariants as read
+use Rattle.pt_desk_rules.specs.Request.TheVariants as request
 
 -- two states agree on the caller with the key, or have none, and on the rider's record and trips
 pub record AgreeOnTrips (key : List ℕ) (rider : ℕ) (s other : State) : Type 0 where

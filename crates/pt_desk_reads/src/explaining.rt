@@ -15,9 +15,10 @@ use pt_base::{Day, Moment, Rule, TripId, Wish};
 use pt_booking::{asked_for, first_failing, riders_denial};
 use pt_desk_rules::ranges::LAST_TRIP_NUMBER;
 use pt_desk_rules::{
-    Answer, Asking, Caller, TravelTable, WriteFacts, answer_wish, has_ends, is_dispatcher, on_duty,
+    Asking, TravelTable, WriteFacts, answer_wish, has_ends, is_dispatcher, on_duty,
 };
 use pt_insertion::{Asked, Duty};
+use pt_requests::{Answer, Caller};
 use pt_scheduling::{DayPlans, DayRoute, Scheduled, are_without_trip, duties_of, routes_without};
 use pt_travel::Closed;
 use std::alloc::{AllocError, Global};

@@ -5,8 +5,8 @@ ghost use Rattle.pt_desk_rules.specs.Letters.{letter_at, letter_of};
 ghost use Rattle.pt_requests.specs.declared.request.Read.TheVariants.{Letter as ReadLetter};
 
 use pt_base::{Rider, RiderId, Rule};
-use pt_desk_rules::{Answer, Caller, ReadFacts, may_see_standing};
-use pt_requests::{Determination, Letter};
+use pt_desk_rules::{ReadFacts, may_see_standing};
+use pt_requests::{Answer, Caller, Determination, Letter};
 use pt_rights::{CaseFile, Entered};
 use std::alloc::AllocError;
 

@@ -18,12 +18,11 @@ ghost use Rattle.pt_desk_rules.specs.Tours.{IsDaySheet, IsManifestOf, IsSheetOf}
 
 use pt_base::{Day, Load, Minute, PlaceId, Rule, Trip, TripId, Vehicle, VehicleId, Window};
 use pt_desk_rules::{
-    Answer, Caller, DayFacts, ReadFacts, TravelTable, duty_of, has_version, is_dispatcher, may_run,
-    on_duty,
+    DayFacts, ReadFacts, TravelTable, duty_of, has_version, is_dispatcher, may_run, on_duty,
 };
 use pt_feasible::{Route, Schedule, StopKind, Stops, aboard_after, loads_fit, settle};
 use pt_records::{Key, Rows};
-use pt_requests::{DaySheet, Tour, TourStop, VehicleSheet};
+use pt_requests::{Answer, Caller, DaySheet, Tour, TourStop, VehicleSheet};
 use pt_scheduling::route_on;
 use std::alloc::{AllocError, Global};
 

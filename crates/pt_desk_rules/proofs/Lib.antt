@@ -1,3 +1,4 @@
+pub mod PartLemmas
 pub mod RangeLemmas
 pub mod FleetLemmas
 mod BookingLemmas

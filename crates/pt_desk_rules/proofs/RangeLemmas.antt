@@ -6,14 +6,16 @@ use Rattle.pt_records.specs.Records.{Each, Edit, edited, is_within, put, put_all
 use Rattle.pt_records.specs.declared.span.Span.{Span}
 use Rattle.pt_records.proofs.OrderLemmas.{Each-put, Each-weaker}
 use Rattle.pt_records.proofs.TableLemmas.{Each-filter}
-use Rattle.pt_spelling.specs.Ranges.{IsCaller, IsRoute, IsVehicle, IsWord}
+use Rattle.pt_spelling.specs.Ranges.{IsVehicle, IsWord}
 use Rattle.pt_desk_rules.specs.Fleet.{ClosesInDay}
-use Rattle.pt_desk_rules.specs.Ranges.{FitsFiled, FitsKept, FitsPlace, FitsPlan, FitsRider, FitsTravel, FitsTrip, KeepsRanges, PutsInRange}
+use Rattle.pt_desk_rules.specs.Parts.{Part, edit_of, key_in, records_of}
+use Rattle.pt_desk_rules.specs.Parts as part
+use Rattle.pt_desk_rules.specs.Ranges.{FitsIn, FitsKept, FitsPlan, FitsTrip, KeepsRanges, PutsInRange}
+use Rattle.pt_desk_rules.proofs.PartLemmas.{parts_applied}
 use Rattle.pt_desk_rules.specs.Sound.{HasDay, HasFirstDay, IsOnDay, IsSound}
-use Rattle.pt_desk_rules.specs.State.{State, applied, no_edit, caller_key, kept_key, place_key, route_key, rider_key, entry_key, vehicle_key, travel_key, trip_key}
+use Rattle.pt_desk_rules.specs.State.{State, applied, no_edit, kept_key}
 use Rattle.pt_desk_rules.specs.declared.change.Change.{Change}
 use Rattle.pt_desk_rules.specs.declared.kept.Kept.{Kept}
-use Rattle.pt_scheduling.specs.Plan.{plan_key}
 
 -- ---- what holds of each record
 
@@ -48,63 +50,41 @@ given_word (Some number) last is word = is
 
 pub ranges_kept : (change : Change) (s : State) → PutsInRange change → KeepsRanges s → KeepsRanges (applied change s)
 ranges_kept change s puts ranges = record {
-  callers = each-edited IsCaller caller_key change.callers s.callers puts.callers ranges.callers;
-  kept = each-edited FitsKept kept_key change.kept s.kept puts.kept ranges.kept;
-  places = each-edited FitsPlace place_key change.places s.places puts.places ranges.places;
-  routes = each-edited IsRoute route_key change.routes s.routes puts.routes ranges.routes;
-  riders = each-edited FitsRider rider_key change.riders s.riders puts.riders ranges.riders;
-  entries = each-edited FitsFiled entry_key change.entries s.entries puts.entries ranges.entries;
-  vehicles = each-edited IsVehicle vehicle_key change.vehicles s.vehicles puts.vehicles ranges.vehicles;
-  travel = each-edited FitsTravel travel_key change.travel s.travel puts.travel ranges.travel;
-  trips = each-edited FitsTrip trip_key change.trips s.trips puts.trips ranges.trips;
-  planned = each-edited FitsPlan plan_key change.planned s.planned puts.planned ranges.planned;
+  parts = λ p. subst (Each (FitsIn p)) (sym (parts_applied p change s))
+      (each-edited (FitsIn p) (key_in p) (edit_of p change) (records_of p s) (puts.parts p) (ranges.parts p));
   last_trip = given_word change.last_trip s.last_trip puts.last_trip ranges.last_trip;
 }
 
 -- the same where no more is changed than what is kept
+kept_fits : (kept : Kept) (s : State) → FitsKept kept → KeepsRanges s → (p : Part)
+    → Each (FitsIn p) (records_of p (record s { kept = put kept_key kept s.kept }))
+kept_fits kept s fits ranges part.kept = Each-put FitsKept kept_key kept s.kept (ranges.parts part.kept) fits
+kept_fits kept s fits ranges p = ranges.parts p
+
 pub kept_in_range : (kept : Kept) (s : State) → FitsKept kept → KeepsRanges s
     → KeepsRanges (record s { kept = put kept_key kept s.kept })
-kept_in_range kept s fits ranges = record {
-  callers = ranges.callers;
-  kept = Each-put FitsKept kept_key kept s.kept ranges.kept fits;
-  places = ranges.places;
-  routes = ranges.routes;
-  riders = ranges.riders;
-  entries = ranges.entries;
-  vehicles = ranges.vehicles;
-  travel = ranges.travel;
-  trips = ranges.trips;
-  planned = ranges.planned;
-  last_trip = ranges.last_trip;
-}
+kept_in_range kept s fits ranges = record { parts = kept_fits kept s fits ranges; last_trip = ranges.last_trip }
 
 -- what a decision puts beside what is kept of the write
+parts_beside : (change : Change) (kept : Edit Kept) → change.kept ≡ no_edit
+    → PutsInRange (record change { kept = kept }) → (p : Part) → Each (FitsIn p) (edit_of p change).puts
+parts_beside change kept none puts part.kept = subst (λ (edit : Edit Kept). Each FitsKept edit.puts) (sym none) tt
+parts_beside change kept none puts p = puts.parts p
+
 pub puts_beside : (change : Change) (kept : Edit Kept) → change.kept ≡ no_edit
     → PutsInRange (record change { kept = kept }) → PutsInRange change
-puts_beside change kept none puts = record {
-  callers = puts.callers;
-  kept = subst (λ (edit : Edit Kept). Each FitsKept edit.puts) (sym none) tt;
-  places = puts.places;
-  routes = puts.routes;
-  riders = puts.riders;
-  entries = puts.entries;
-  vehicles = puts.vehicles;
-  travel = puts.travel;
-  trips = puts.trips;
-  planned = puts.planned;
-  last_trip = puts.last_trip;
-}
+puts_beside change kept none puts = record { parts = parts_beside change kept none puts; last_trip = puts.last_trip }
 
 -- ---- what ranges say of days
 
 pub first_days : (s : State) → IsSound s → Each HasFirstDay s.vehicles
-first_days s sound = Each-weaker IsVehicle HasFirstDay (λ version is. is.from_day) s.vehicles sound.ranges.vehicles
+first_days s sound = Each-weaker IsVehicle HasFirstDay (λ version is. is.from_day) s.vehicles (sound.ranges.parts part.vehicles)
 
 pub hours : (s : State) → IsSound s → Each ClosesInDay s.vehicles
-hours s sound = Each-weaker IsVehicle ClosesInDay (λ version is. is.closes) s.vehicles sound.ranges.vehicles
+hours s sound = Each-weaker IsVehicle ClosesInDay (λ version is. is.closes) s.vehicles (sound.ranges.parts part.vehicles)
 
 pub trip_days : (s : State) → IsSound s → Each HasDay s.trips
-trip_days s sound = Each-weaker FitsTrip HasDay (λ trip is. is.wish.day) s.trips sound.ranges.trips
+trip_days s sound = Each-weaker FitsTrip HasDay (λ trip is. is.wish.day) s.trips (sound.ranges.parts part.trips)
 
 pub planned_days : (s : State) → IsSound s → Each IsOnDay s.planned
-planned_days s sound = Each-weaker FitsPlan IsOnDay (λ plan is. is.day) s.planned sound.ranges.planned
+planned_days s sound = Each-weaker FitsPlan IsOnDay (λ plan is. is.day) s.planned (sound.ranges.parts part.planned)

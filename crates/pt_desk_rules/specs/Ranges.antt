@@ -13,6 +13,8 @@ use Rattle.pt_spelling.specs.Ranges.{IsCaller, IsEntry, IsRoute, IsVehicle, IsWi
 use Rattle.pt_spelling.specs.Replies.{IsId, IsReply}
 use Rattle.pt_travel.specs.Chain.{Row}
 use Rattle.pt_travel.specs.Table.{IsTable}
+use Rattle.pt_desk_rules.specs.Parts.{Part, edit_of, record_in, records_of}
+use Rattle.pt_desk_rules.specs.Parts as part
 use Rattle.pt_desk_rules.specs.State.{State}
 use Rattle.pt_desk_rules.specs.Travel.{DatedTable}
 use Rattle.pt_desk_rules.specs.declared.change.Change.{Change}
@@ -66,30 +68,25 @@ pub record FitsTravel (dated : DatedTable) : Type 0 where
   pub drives : Each FitsDrive dated.rows
   pub table : IsTable dated.rows
 
+-- what a record of a table keeps to
+abbrev pub FitsIn : (p : Part) → record_in p → Type 0
+FitsIn part.callers = IsCaller
+FitsIn part.kept = FitsKept
+FitsIn part.places = FitsPlace
+FitsIn part.routes = IsRoute
+FitsIn part.riders = FitsRider
+FitsIn part.entries = FitsFiled
+FitsIn part.vehicles = IsVehicle
+FitsIn part.travel = FitsTravel
+FitsIn part.trips = FitsTrip
+FitsIn part.planned = FitsPlan
+
 -- each record of the state keeps to its ranges, and so does the number that was last given to a trip
 pub record KeepsRanges (s : State) : Type 0 where
-  pub callers : Each IsCaller s.callers
-  pub kept : Each FitsKept s.kept
-  pub places : Each FitsPlace s.places
-  pub routes : Each IsRoute s.routes
-  pub riders : Each FitsRider s.riders
-  pub entries : Each FitsFiled s.entries
-  pub vehicles : Each IsVehicle s.vehicles
-  pub travel : Each FitsTravel s.travel
-  pub trips : Each FitsTrip s.trips
-  pub planned : Each FitsPlan s.planned
+  pub parts : (p : Part) → Each (FitsIn p) (records_of p s)
   pub last_trip : IsWord s.last_trip
 
 -- and so does each record that a change puts
 pub record PutsInRange (change : Change) : Type 0 where
-  pub callers : Each IsCaller change.callers.puts
-  pub kept : Each FitsKept change.kept.puts
-  pub places : Each FitsPlace change.places.puts
-  pub routes : Each IsRoute change.routes.puts
-  pub riders : Each FitsRider change.riders.puts
-  pub entries : Each FitsFiled change.entries.puts
-  pub vehicles : Each IsVehicle change.vehicles.puts
-  pub travel : Each FitsTravel change.travel.puts
-  pub trips : Each FitsTrip change.trips.puts
-  pub planned : Each FitsPlan change.planned.puts
+  pub parts : (p : Part) → Each (FitsIn p) (edit_of p change).puts
   pub last_trip : IfSome change.last_trip IsWord

@@ -13,10 +13,11 @@ ghost use Rattle.pt_records.specs.Records.{record_at};
 
 use crate::change::one;
 use crate::trips::{cancelled, confirmation_of, giving_up, moving};
-use crate::{Answer, Change, DayFacts, Decision, TravelTable, WriteFacts, on_duty};
+use crate::{Change, DayFacts, Decision, TravelTable, WriteFacts, on_duty};
 use pt_base::{Day, Place, PlaceId, Rider, Trip, TripId, Vehicle, Wish};
 use pt_booking::TripRequest;
 use pt_records::{Key, Rows, Table};
+use pt_requests::Answer;
 use pt_scheduling::{DayPlans, PlannedRoute, Scheduled, days_of_use, schedule};
 use std::alloc::{AllocError, Global};
 

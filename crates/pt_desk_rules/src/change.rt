@@ -2,10 +2,11 @@ ghost use Rattle.std.specs.Prelude.{◌≡◌, IfOk};
 ghost use Rattle.pt_desk_rules.specs.Deciding.{no_change};
 ghost use Rattle.pt_desk_rules.specs.State.{puts_one, replaces};
 
-use crate::{Caller, Kept, TravelTable};
+use crate::{Kept, TravelTable};
 use pt_base::{Place, Policy, Rider, RiderId, Trip, TripId, Vehicle};
 use pt_corridor::FixedRoute;
 use pt_records::{Edits, Key, Keyed, Span};
+use pt_requests::Caller;
 use pt_rights::Entered;
 use pt_scheduling::PlannedRoute;
 use std::alloc::{AllocError, Global};

@@ -11,14 +11,13 @@ use crate::booking::{decide_booking, decide_cancel, decide_change};
 use crate::change::{one, replacing};
 use crate::outcomes::decide_outcome;
 use crate::ranges::puts_in_range;
-use crate::{
-    Answer, Caller, Change, FiledEntry, Kept, KeptReply, Sent, TravelTable, Write, WriteFacts,
-    denial,
-};
+use crate::{Change, FiledEntry, Kept, Sent, TravelTable, WriteFacts, denial};
 use pt_base::{CallerId, Day, Moment, Place, Policy, Rider, RiderId, Rule, Vehicle};
 use pt_corridor::FixedRoute;
 use pt_records::{Edits, Key, Span};
+use pt_requests::{Answer, Caller, Write};
 use pt_rights::{Entered, Entry};
+use pt_spelling::KeptReply;
 use pt_travel::Raw;
 use std::alloc::{AllocError, Global};
 

@@ -6,6 +6,7 @@ ghost use Rattle.pt_desk_rules.specs.State.{place_key};
 ghost use Rattle.pt_records.specs.Records.{record_at};
 ghost use Rattle.pt_requests.specs.declared.request.Write.TheVariants.{Enter};
 
+use crate::WriteFacts;
 use crate::fleet::{other_vehicle_count, version_count_before};
 use crate::outcomes::{awaits_outcome, has_come};
 use crate::permission::{
@@ -16,10 +17,10 @@ use crate::ranges::{
     MOST_VEHICLES, MOST_VERSIONS,
 };
 use crate::trips::{has_ends, is_cancellable, is_changeable};
-use crate::{Caller, Write, WriteFacts};
 use pt_base::{CallerId, Moment, Place, PlaceId, Residence, Rider, RiderId, Rule, Vehicle};
 use pt_booking::first_failing;
 use pt_records::{Key, Rows};
+use pt_requests::{Caller, Write};
 use pt_rights::Entry;
 use pt_travel::Row;
 

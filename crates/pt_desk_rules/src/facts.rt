@@ -1,10 +1,11 @@
 ghost use Rattle.std.specs.Prelude.{◌≡◌};
 ghost use Rattle.pt_desk_rules.specs.Facts.{no_booking, no_day, no_facts, no_read_facts};
 
-use crate::{Caller, Tallies, TravelTable};
+use crate::{Tallies, TravelTable};
 use pt_base::{Place, Policy, Rider, Trip, Vehicle};
 use pt_corridor::FixedRoute;
 use pt_records::Rows;
+use pt_requests::Caller;
 use pt_rights::CaseFile;
 use pt_scheduling::PlannedRoute;
 use std::alloc::Global;

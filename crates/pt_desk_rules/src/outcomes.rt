@@ -6,8 +6,9 @@ ghost use Rattle.pt_desk_rules.specs.declared.deciding.Decision.TheVariants.{Acc
 ghost use Rattle.pt_requests.specs.declared.request.Answer.TheVariants.{Done};
 
 use crate::change::one;
-use crate::{Answer, Change, Decision};
+use crate::{Change, Decision};
 use pt_base::{Day, Trip, TripStatus, Wish};
+use pt_requests::Answer;
 use pt_rights::Outcome;
 use std::alloc::{AllocError, Global};
 

@@ -6,12 +6,15 @@ ghost use Rattle.std.specs.Prelude.{All};
 ghost use Rattle.pt_records.specs.Records.{Each};
 ghost use Rattle.pt_rights.specs.Conditions.{IsCondition};
 ghost use Rattle.pt_spelling.specs.Ranges.{IsEntry, IsGrant, IsRole, IsWish};
-ghost use Rattle.pt_desk_rules.specs.Ranges.{PutsInRange};
+ghost use Rattle.pt_desk_rules.specs.Parts.{Part, edit_of};
+ghost use Rattle.pt_desk_rules.specs.Ranges.{FitsIn, PutsInRange};
 
-use crate::{Caller, Change, FiledEntry, Kept, PlannedRoute, PlannedStop, Role, TravelTable};
+use crate::{Change, FiledEntry, Kept, TravelTable};
 use pt_base::{Place, Rider, Trip, Vehicle, Wish};
 use pt_corridor::FixedRoute;
+use pt_requests::{Caller, Role};
 use pt_rights::{Condition, Entry, Grant};
+use pt_scheduling::{PlannedRoute, PlannedStop};
 use pt_spelling::{days_byte, spell_reply};
 use pt_travel::Row;
 
@@ -283,9 +286,9 @@ impl Fitting for PlannedRoute {
     }
 }
 
-/// All that a change puts is in its ranges, as the types of its records have it.
-pub fn puts_in_range(change: &Change)
-    ensures { PutsInRange change.now }
+/// The records that a change puts are in their ranges, as their types have it.
+fn parts_fit(change: &Change)
+    ensures { (p : Part) → Each (FitsIn p) (edit_of p change.now).puts }
 {
     all_fit(change.callers.puts());
     all_fit(change.kept.puts());
@@ -297,6 +300,13 @@ pub fn puts_in_range(change: &Change)
     all_fit(change.travel.puts());
     all_fit(change.trips.puts());
     all_fit(change.planned.puts());
+}
+
+/// All that a change puts is in its ranges, as the types of its records have it.
+pub fn puts_in_range(change: &Change)
+    ensures { PutsInRange change.now }
+{
+    parts_fit(change);
     if let Some(last_trip) = change.last_trip {
         let _number = last_trip.number();
     }

@@ -4,12 +4,12 @@ ghost use Rattle.pt_desk_rules.specs.Trips.{has_ends, is_cancellable, is_changea
 ghost use Rattle.pt_desk_rules.specs.Trips.{gives_up, moves_to, IsConfirmation};
 ghost use Rattle.pt_records.specs.Records.{Each};
 
-use crate::Confirmation;
 use crate::denying::is_there;
 use pt_base::{Day, Moment, Place, Trip, TripStatus, Wish};
 use pt_booking::party_of;
 use pt_party::due;
 use pt_records::{Edits, Key, Rows, Span};
+use pt_requests::Confirmation;
 use pt_scheduling::PlannedRoute;
 use std::alloc::{AllocError, Global};
 

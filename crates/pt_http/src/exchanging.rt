@@ -14,10 +14,12 @@ use crate::received::{Received, receive};
 use matchit::Router;
 use pt_base::fault::{MEMORY, WRITE_FAILED};
 use pt_base::{Fault, Moment, Rule};
-use pt_desk::{Answer, Keeper, answer};
+use pt_desk::answer;
 use pt_http_inbox::Inbox;
 use pt_http_reply::{ReplyBytes, Response, reply_to};
 use pt_http_request::{Path, desk_router};
+use pt_requests::Answer;
+use pt_store::Keeper;
 use std::alloc::Global;
 use std::io::{Read, Write};
 

@@ -6,9 +6,10 @@ use crate::standing::{standing_body, visitor_body};
 use crate::trips::{confirmation_body, trips_body};
 use crate::{ReplyBuffer, Response};
 use itoa::Buffer;
-use pt_desk::{Answer, StoreFault};
 use pt_http_request::RequestFault;
 use pt_manifest::{day_sheet, decision_letter, manifest, trips_csv};
+use pt_requests::Answer;
+use pt_store::StoreFault;
 use std::alloc::{AllocError, Global};
 
 /// The body of a reply.

@@ -8,8 +8,9 @@ use crate::{ContentType, ReplyBuffer};
 use http::StatusCode;
 use itoa::Buffer;
 use pt_base::Rule;
-use pt_desk::{Answer, Reply};
 use pt_http_request::RequestFault;
+use pt_requests::Answer;
+use pt_store::Reply;
 
 /// What goes out in reply to the bytes that came in.
 #[derive(Drop)]

@@ -7,10 +7,10 @@ use crate::ReplyBuffer;
 use crate::json::{MemberValue, object, push};
 use pt_base::{Minute, Trip, TripStatus};
 use pt_booking::party_of;
-use pt_desk::Confirmation;
 use pt_http_request::FieldName;
 use pt_party::due;
 use pt_records::Rows;
+use pt_requests::Confirmation;
 use std::alloc::{AllocError, Global};
 
 /// The body that tells of a trip that is booked.

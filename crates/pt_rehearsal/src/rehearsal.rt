@@ -15,11 +15,11 @@ use crate::moment::{LONGEST_MOMENT_LINE, moment_at};
 use matchit::Router;
 use pt_base::fault::{MEMORY, MOMENT_LINE, READ_FAILED};
 use pt_base::{Fault, Moment};
-use pt_desk::Keeper;
 use pt_http::exchange;
 use pt_http_inbox::Inbox;
 use pt_http_reply::Response;
 use pt_http_request::{Path, RequestFault, desk_router};
+use pt_store::Keeper;
 use std::alloc::Global;
 use std::io::{Read, Write};
 

@@ -1,5 +1,5 @@
 -- A state is sound where each of its tables is.
-use Rattle.std.proofs.Common.{ℕ, zero, suc, ◌≤◌, IsTrue, List, [], ◌∷◌, take, refl, arith}
+use Rattle.std.proofs.Common.{ℕ, zero, suc, ◌≤◌, IsTrue, List, Option, None, Some, [], ◌∷◌, take, refl, arith}
 use Rattle.pt_base.specs.declared.rider.Rider.{Rider}
 use Rattle.pt_base.specs.declared.vehicle.Vehicle.{Vehicle}
 use Rattle.pt_records.specs.Records.{Each}
@@ -7,14 +7,17 @@ use Rattle.pt_records.proofs.OrderLemmas.{Each-both, Each-weaker}
 use Rattle.pt_requests.specs.declared.caller.Role.{Role}
 use Rattle.pt_requests.specs.declared.caller.Role.TheVariants as role
 use Rattle.pt_desk_rules.specs.Facts.{has_subject}
+use Rattle.pt_desk_rules.specs.Parts.{Part, records_of}
+use Rattle.pt_desk_rules.specs.Parts as part
 use Rattle.pt_desk_rules.specs.Sound.{HasFirstDay, HasSubject, IsSound}
 use Rattle.pt_desk_rules.specs.State.{State}
 use Rattle.pt_scheduling.specs.Plan.{IsRoutePlan}
-use Rattle.pt_soundness.specs.Tables.{has_driven, has_rider, HasDriven, HasRider, IsSoundIn, IsSoundTo, KeepsLinesIn, KeepsRangesIn, all_tables, table_count}
+use Rattle.pt_desk_rules.specs.TableNames.{all_tables, part_of, table_count}
+use Rattle.pt_soundness.specs.Tables.{has_driven, has_rider, HasDriven, HasRider, IsSoundIn, IsSoundTo, KeepsLinesIn, KeepsRangesIn, keeps_ranges}
 use Rattle.pt_spelling.specs.Ranges.{IsVehicle}
-use Rattle.pt_desk_rules.specs.Ranges.{KeepsRanges}
-use Rattle.pt_soundness.specs.declared.unsound_table.UnsoundTable.{UnsoundTable}
-use Rattle.pt_soundness.specs.declared.unsound_table.UnsoundTable.TheVariants as table
+use Rattle.pt_desk_rules.specs.Ranges.{FitsIn, KeepsRanges}
+use Rattle.pt_desk_rules.specs.declared.table_name.TableName.{TableName}
+use Rattle.pt_desk_rules.specs.declared.table_name.TableName.TheVariants as table
 
 -- the subject of a role is its vehicle and its rider
 subject_of : (r : Role) (riders : List Rider) (vehicles : List Vehicle) → IsTrue (has_driven r vehicles) → IsTrue (has_rider r riders)
@@ -45,23 +48,15 @@ rider_of role.Dispatcher riders vehicles there = refl
 rider_of (role.Driver vehicle) riders vehicles there = refl
 rider_of role.Admin riders vehicles there = refl
 
-ranges_in : (s : State) → KeepsRanges s → (t : UnsoundTable) → KeepsRangesIn s t
-ranges_in s ranges table.Desk = ranges.last_trip
-ranges_in s ranges table.Callers = ranges.callers
-ranges_in s ranges table.Kept = ranges.kept
-ranges_in s ranges table.Places = ranges.places
-ranges_in s ranges table.Fixed = ranges.routes
-ranges_in s ranges table.Vehicles = ranges.vehicles
-ranges_in s ranges table.Riders = ranges.riders
-ranges_in s ranges table.Entries = ranges.entries
-ranges_in s ranges table.Trips = ranges.trips
-ranges_in s ranges table.Stops = ranges.planned
-ranges_in s ranges table.Travel = ranges.travel
-ranges_in s ranges table.RiderChairs = tt
-ranges_in s ranges table.VehicleChairs = tt
-ranges_in s ranges table.TripChairs = tt
+kept_ranges : (s : State) → KeepsRanges s → (o : Option Part) → keeps_ranges s o
+kept_ranges s ranges None = tt
+kept_ranges s ranges (Some p) = ranges.parts p
 
-lines_in : (s : State) → IsSound s → (t : UnsoundTable) → KeepsLinesIn s t
+ranges_in : (s : State) → KeepsRanges s → (t : TableName) → KeepsRangesIn s t
+ranges_in s ranges table.Desk = ranges.last_trip
+ranges_in s ranges t = kept_ranges s ranges (part_of t)
+
+lines_in : (s : State) → IsSound s → (t : TableName) → KeepsLinesIn s t
 lines_in s sound table.Desk = tt
 lines_in s sound table.Callers = record { table = sound.callers; one_holder_each = sound.one_holder_each }
 lines_in s sound table.Kept = record { in_order = sound.kept_in_order; of_callers = sound.kept_of_callers; writes = sound.kept_writes }
@@ -105,16 +100,29 @@ lines_in s sound table.RiderChairs = tt
 lines_in s sound table.VehicleChairs = tt
 lines_in s sound table.TripChairs = sound.planned_load
 
-pub sound_in : (s : State) → IsSound s → (t : UnsoundTable) → IsSoundIn s t
+pub sound_in : (s : State) → IsSound s → (t : TableName) → IsSoundIn s t
 sound_in s sound t = (ranges_in s sound.ranges t, lines_in s sound t)
 
 -- what holds of each table holds of these
-pub each_table : (P : UnsoundTable → Type 0) → ((t : UnsoundTable) → P t) → (ts : List UnsoundTable) → Each P ts
+pub each_table : (P : TableName → Type 0) → ((t : TableName) → P t) → (ts : List TableName) → Each P ts
 each_table P all [] = tt
 each_table P all (t ∷ ts) = (all t, each_table P all ts)
 
 pub sound_to : (s : State) → IsSound s → IsSoundTo table_count s
 sound_to s sound = each_table (IsSoundIn s) (sound_in s sound) all_tables
+
+-- and of each part its ranges
+ranges_of : (s : State) → IsSoundTo table_count s → (p : Part) → Each (FitsIn p) (records_of p s)
+ranges_of s each part.callers = each.1.0.0
+ranges_of s each part.kept = each.1.1.0.0
+ranges_of s each part.places = each.1.1.1.0.0
+ranges_of s each part.routes = each.1.1.1.1.0.0
+ranges_of s each part.vehicles = each.1.1.1.1.1.0.0
+ranges_of s each part.riders = each.1.1.1.1.1.1.0.0
+ranges_of s each part.entries = each.1.1.1.1.1.1.1.0.0
+ranges_of s each part.trips = each.1.1.1.1.1.1.1.1.0.0
+ranges_of s each part.planned = each.1.1.1.1.1.1.1.1.1.0.0
+ranges_of s each part.travel = each.1.1.1.1.1.1.1.1.1.1.0.0
 
 pub sound_of : (s : State) → IsSoundTo table_count s → IsSound s
 sound_of s each =
@@ -131,19 +139,7 @@ sound_of s each =
     let travel : IsSoundIn s table.Travel = each.1.1.1.1.1.1.1.1.1.1.0 in
     let loads : IsSoundIn s table.TripChairs = each.1.1.1.1.1.1.1.1.1.1.1.1.1.0 in
     record {
-      ranges = record {
-        callers = callers.0;
-        kept = kept.0;
-        places = places.0;
-        routes = routes.0;
-        riders = riders.0;
-        entries = entries.0;
-        vehicles = vehicles.0;
-        travel = travel.0;
-        trips = trips.0;
-        planned = plans.0;
-        last_trip = desk.0;
-      };
+      ranges = record { parts = ranges_of s each; last_trip = desk.0 };
       callers = callers.1.table;
       one_holder_each = callers.1.one_holder_each;
       subjects_there = Each-both (HasDriven s.vehicles) (HasRider s.riders) (HasSubject s.riders s.vehicles)

@@ -1,6 +1,6 @@
 -- The tables of the database, and what a sound state keeps in each: beside the ranges of its records each line stands
 -- with the greatest of the tables that it speaks of.
-use Rattle.std.specs.Prelude.{ℕ, Bool, true, IsTrue, List, is_some, ◌-◌, [], ◌∷◌, take}
+use Rattle.std.specs.Prelude.{ℕ, Bool, true, IsTrue, List, Option, None, Some, is_some, ◌-◌, take}
 use Rattle.pt_base.specs.declared.place.Place.{Place}
 use Rattle.pt_base.specs.declared.rider.Rider.{Rider}
 use Rattle.pt_base.specs.declared.trip.Trip.{Trip}
@@ -21,10 +21,12 @@ use Rattle.pt_desk_rules.specs.State.{travel_key, trip_key, entries_of, State}
 use Rattle.pt_desk_rules.specs.Travel.{DatedTable}
 use Rattle.pt_desk_rules.specs.declared.kept.Kept.{Kept}
 use Rattle.pt_desk_rules.specs.declared.change.FiledEntry.{FiledEntry}
-use Rattle.pt_desk_rules.specs.Ranges.{FitsFiled, FitsKept, FitsPlace, FitsPlan, FitsRider, FitsTravel, FitsTrip}
-use Rattle.pt_spelling.specs.Ranges.{IsCaller, IsRoute, IsVehicle, IsWord}
-use Rattle.pt_soundness.specs.declared.unsound_table.UnsoundTable.{UnsoundTable}
-use Rattle.pt_soundness.specs.declared.unsound_table.UnsoundTable.TheVariants as table
+use Rattle.pt_desk_rules.specs.Parts.{Part, records_of}
+use Rattle.pt_desk_rules.specs.Ranges.{FitsIn}
+use Rattle.pt_desk_rules.specs.TableNames.{all_tables, number_of, part_of}
+use Rattle.pt_spelling.specs.Ranges.{IsWord}
+use Rattle.pt_desk_rules.specs.declared.table_name.TableName.{TableName}
+use Rattle.pt_desk_rules.specs.declared.table_name.TableName.TheVariants as table
 
 -- the vehicle is there of which a role speaks, if it speaks of one
 abbrev pub has_driven : Role → List Vehicle → Bool
@@ -101,44 +103,18 @@ pub record AreSoundTables (places : List Place) (vehicles : List Vehicle) (trips
 abbrev pub AreSoundLoads : List Vehicle → List Trip → List Plan → Type 0
 AreSoundLoads vehicles trips plans = Each (LoadsFitIn vehicles trips) plans
 
-abbrev pub table_count : ℕ
-table_count = 14
+-- the records of a part keep to their ranges
+abbrev pub keeps_ranges : State → Option Part → Type 0
+keeps_ranges s None = Unit {0}
+keeps_ranges s (Some p) = Each (FitsIn p) (records_of p s)
 
-abbrev pub number_of : UnsoundTable → ℕ
-number_of table.Desk = 1
-number_of table.Callers = 2
-number_of table.Kept = 3
-number_of table.Places = 4
-number_of table.Fixed = 5
-number_of table.Vehicles = 6
-number_of table.Riders = 7
-number_of table.Entries = 8
-number_of table.Trips = 9
-number_of table.Stops = 10
-number_of table.Travel = 11
-number_of table.RiderChairs = 12
-number_of table.VehicleChairs = 13
-number_of table.TripChairs = 14
-
--- the records of a table keep to their ranges; those of the last three stand in the records beside them
-abbrev pub KeepsRangesIn : State → UnsoundTable → Type 0
+-- and so do those of a table
+abbrev pub KeepsRangesIn : State → TableName → Type 0
 KeepsRangesIn s table.Desk = IsWord s.last_trip
-KeepsRangesIn s table.Callers = Each IsCaller s.callers
-KeepsRangesIn s table.Kept = Each FitsKept s.kept
-KeepsRangesIn s table.Places = Each FitsPlace s.places
-KeepsRangesIn s table.Fixed = Each IsRoute s.routes
-KeepsRangesIn s table.Vehicles = Each IsVehicle s.vehicles
-KeepsRangesIn s table.Riders = Each FitsRider s.riders
-KeepsRangesIn s table.Entries = Each FitsFiled s.entries
-KeepsRangesIn s table.Trips = Each FitsTrip s.trips
-KeepsRangesIn s table.Stops = Each FitsPlan s.planned
-KeepsRangesIn s table.Travel = Each FitsTravel s.travel
-KeepsRangesIn s table.RiderChairs = Unit {0}
-KeepsRangesIn s table.VehicleChairs = Unit {0}
-KeepsRangesIn s table.TripChairs = Unit {0}
+KeepsRangesIn s t = keeps_ranges s (part_of t)
 
 -- the other lines of soundness that are a table's
-abbrev pub KeepsLinesIn : State → UnsoundTable → Type 0
+abbrev pub KeepsLinesIn : State → TableName → Type 0
 KeepsLinesIn s table.Desk = Unit {0}
 KeepsLinesIn s table.Callers = AreSoundCallers s.callers
 KeepsLinesIn s table.Kept = AreSoundKept s.callers s.kept
@@ -155,20 +131,13 @@ KeepsLinesIn s table.VehicleChairs = Unit {0}
 KeepsLinesIn s table.TripChairs = AreSoundLoads s.vehicles s.trips s.planned
 
 -- what a sound state keeps in a table
-abbrev pub IsSoundIn : State → UnsoundTable → Type 0
+abbrev pub IsSoundIn : State → TableName → Type 0
 IsSoundIn s table = KeepsRangesIn s table × KeepsLinesIn s table
-
--- all of them, in the order of their numbers
-abbrev pub all_tables : List UnsoundTable
-all_tables =
-    table.Desk ∷ table.Callers ∷ table.Kept ∷ table.Places ∷ table.Fixed ∷ table.Vehicles ∷ table.Riders
-    ∷ table.Entries ∷ table.Trips ∷ table.Stops ∷ table.Travel ∷ table.RiderChairs ∷ table.VehicleChairs
-    ∷ table.TripChairs ∷ []
 
 -- the first so many tables are sound
 abbrev pub IsSoundTo : ℕ → State → Type 0
 IsSoundTo number s = Each (IsSoundIn s) (take number all_tables)
 
 -- and so each table before this one
-abbrev pub IsSoundBefore : State → UnsoundTable → Type 0
+abbrev pub IsSoundBefore : State → TableName → Type 0
 IsSoundBefore s table = IsSoundTo (number_of table - 1) s

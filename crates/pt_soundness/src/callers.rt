@@ -3,9 +3,9 @@ ghost use Rattle.pt_records.specs.Records.{Each};
 ghost use Rattle.pt_desk_rules.specs.Sound.{HasOneHolder};
 ghost use Rattle.pt_soundness.specs.Tables.{AreSoundCallers};
 
-use pt_desk_rules::Caller;
 use pt_desk_rules::ranges::MOST_CALLERS;
 use pt_records::Table;
+use pt_requests::Caller;
 
 /// Whether the two are one caller or have two digests.
 fn differ(first: &Caller, second: &Caller) -> bool

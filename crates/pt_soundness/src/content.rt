@@ -1,7 +1,6 @@
 ghost use Rattle.std.specs.Prelude.{◌↔◌, IfOk, IsTrue};
 ghost use Rattle.pt_soundness.specs.Tables.{IsSoundBefore, IsSoundIn, KeepsRangesIn};
 
-use crate::UnsoundTable;
 use crate::callers::are_sound_callers;
 use crate::entries::are_sound_entries;
 use crate::fits::are_sound_tables;
@@ -11,7 +10,8 @@ use crate::places::{are_sound_places, are_sound_riders, are_sound_routes};
 use crate::plans::are_sound_plans;
 use crate::trips::are_sound_trips;
 use crate::vehicles::are_sound_vehicles;
-use pt_desk::ListKeeper;
+use pt_desk_rules::TableName;
+use pt_store::ListKeeper;
 use std::alloc::{AllocError, Global};
 
 /// Whether the records of a table are those of a sound state, where all tables before it are sound. That records keep
@@ -19,7 +19,7 @@ use std::alloc::{AllocError, Global};
 pub fn is_sound_in(
     alloc: Global,
     content: &ListKeeper,
-    table: UnsoundTable,
+    table: TableName,
 ) -> Result<bool, AllocError>
     requires before { IsSoundBefore content.now.content table }
     requires ranges { KeepsRangesIn content.now.content table }
@@ -29,19 +29,17 @@ pub fn is_sound_in(
     let (riders, vehicles) = (content.riders_table(), content.vehicles_table());
     let (trips, plans) = (content.trips_table(), content.planned_table());
     let sound = match table {
-        UnsoundTable::Desk | UnsoundTable::RiderChairs | UnsoundTable::VehicleChairs => true,
-        UnsoundTable::Callers => are_sound_callers(callers),
-        UnsoundTable::Kept => are_sound_kept(alloc, callers, content.kept_table())?,
-        UnsoundTable::Places => are_sound_places(places),
-        UnsoundTable::Fixed => are_sound_routes(content.routes_table()),
-        UnsoundTable::Vehicles => are_sound_vehicles(callers, places, vehicles),
-        UnsoundTable::Riders => are_sound_riders(callers, riders),
-        UnsoundTable::Entries => are_sound_entries(callers, riders, content.entries_table()),
-        UnsoundTable::Trips => {
-            are_sound_trips(places, riders, content.current_last_trip(), trips)
-        }
-        UnsoundTable::Stops => are_sound_plans(trips, plans),
-        UnsoundTable::Travel => {
+        TableName::Desk | TableName::RiderChairs | TableName::VehicleChairs => true,
+        TableName::Callers => are_sound_callers(callers),
+        TableName::Kept => are_sound_kept(alloc, callers, content.kept_table())?,
+        TableName::Places => are_sound_places(places),
+        TableName::Fixed => are_sound_routes(content.routes_table()),
+        TableName::Vehicles => are_sound_vehicles(callers, places, vehicles),
+        TableName::Riders => are_sound_riders(callers, riders),
+        TableName::Entries => are_sound_entries(callers, riders, content.entries_table()),
+        TableName::Trips => { are_sound_trips(places, riders, content.current_last_trip(), trips) }
+        TableName::Stops => are_sound_plans(trips, plans),
+        TableName::Travel => {
             are_sound_tables(
                 alloc,
                 places,
@@ -51,7 +49,7 @@ pub fn is_sound_in(
                 content.travel_table(),
             )?
         }
-        UnsoundTable::TripChairs => are_sound_loads(alloc, vehicles, trips, plans)?,
+        TableName::TripChairs => are_sound_loads(alloc, vehicles, trips, plans)?,
     };
     Ok(sound)
 }

@@ -5,8 +5,9 @@ ghost use Rattle.pt_soundness.specs.Tables.{AreSoundEntries};
 
 use crate::files::are_sound_files;
 use pt_base::Rider;
-use pt_desk_rules::{Caller, FiledEntry};
+use pt_desk_rules::FiledEntry;
 use pt_records::{Key, Table};
+use pt_requests::Caller;
 
 /// Whether the rider in whose case file the entry is, is there.
 fn has_rider(riders: &Table<Rider>, filed: &FiledEntry) -> bool

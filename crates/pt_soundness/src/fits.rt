@@ -13,10 +13,10 @@ use crate::travel::are_of_places;
 use crate::vehicles::versions_of;
 use pt_base::{Day, Place, Trip, Vehicle};
 use pt_desk_rules::ranges::MOST_TABLES;
-use pt_desk_rules::{PlannedRoute, PlannedStop, TravelTable, on_duty, table_on};
+use pt_desk_rules::{TravelTable, on_duty, table_on};
 use pt_feasible::{Route, settle};
 use pt_records::Table;
-use pt_scheduling::stops_among;
+use pt_scheduling::{PlannedRoute, PlannedStop, stops_among};
 use pt_travel::Raw;
 use std::alloc::{AllocError, Global};
 

@@ -3,8 +3,9 @@ ghost use Rattle.pt_records.specs.Records.{Each};
 ghost use Rattle.pt_desk_rules.specs.Sound.{IsKeptWrite, IsOfCaller};
 ghost use Rattle.pt_soundness.specs.Tables.{AreSoundKept};
 
-use pt_desk_rules::{Caller, Kept};
+use pt_desk_rules::Kept;
 use pt_records::{Key, Table};
+use pt_requests::Caller;
 use pt_spelling_reading::is_spelling;
 use std::alloc::{AllocError, Global};
 

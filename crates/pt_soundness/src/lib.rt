@@ -2,7 +2,6 @@
 #![tactic(auto)]
 
 pub use content::is_sound_in;
-pub use unsound_table::UnsoundTable;
 
 mod callers;
 mod content;
@@ -17,5 +16,4 @@ mod places;
 mod plans;
 mod travel;
 mod trips;
-mod unsound_table;
 mod vehicles;

@@ -10,9 +10,10 @@ ghost use Rattle.pt_soundness.specs.Tables.{AreSoundLoads};
 use crate::fits::route_of;
 use crate::vehicles::versions_of;
 use pt_base::{Day, Trip, Vehicle};
-use pt_desk_rules::{PlannedRoute, PlannedStop, on_duty};
+use pt_desk_rules::on_duty;
 use pt_feasible::{Route, loads_fit};
 use pt_records::Table;
+use pt_scheduling::{PlannedRoute, PlannedStop};
 use std::alloc::{AllocError, Global};
 
 /// Whether one of these has room for all who are aboard on the route.

@@ -3,8 +3,8 @@ ghost use Rattle.pt_records.specs.Records.{Each};
 ghost use Rattle.pt_scheduling.specs.Plan.{stops_of_trip, IsPair, IsRoutePlan};
 
 use pt_base::TripId;
-use pt_desk_rules::{PlannedRoute, PlannedStop};
 use pt_feasible::{MAX_STOPS, StopKind};
+use pt_scheduling::{PlannedRoute, PlannedStop};
 
 /// What came so far of a trip's stops.
 #[derive(Clone, Copy)]

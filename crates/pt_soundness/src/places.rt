@@ -5,8 +5,8 @@ ghost use Rattle.pt_soundness.specs.Tables.{AreSoundPlaces, AreSoundRoutes, AreS
 use pt_base::{Place, Rider};
 use pt_corridor::FixedRoute;
 use pt_desk_rules::ranges::{MOST_PLACES, MOST_RIDERS, MOST_ROUTES};
-use pt_desk_rules::{Caller, Role};
 use pt_records::{Key, Table};
+use pt_requests::{Caller, Role};
 
 /// Whether the places are those of a sound state.
 pub(crate) fn are_sound_places(places: &Table<Place>) -> bool

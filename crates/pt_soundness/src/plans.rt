@@ -9,8 +9,9 @@ ghost use Rattle.pt_soundness.specs.Tables.{AreSoundPlans};
 
 use crate::pairs::are_route_plans;
 use pt_base::{Trip, TripId};
-use pt_desk_rules::{PlannedRoute, PlannedStop, have_stops};
+use pt_desk_rules::have_stops;
 use pt_records::{Key, Keyed, Table};
+use pt_scheduling::{PlannedRoute, PlannedStop};
 use std::cmp::Ordering;
 
 /// Whether a trip stands in the vehicle and on the day of a plan.

@@ -8,8 +8,8 @@ ghost use Rattle.pt_soundness.specs.Tables.{AreSoundVehicles, HasDriven};
 
 use pt_base::{Place, Vehicle, VehicleId};
 use pt_desk_rules::ranges::{MOST_VEHICLES, MOST_VERSIONS};
-use pt_desk_rules::{Caller, Role};
 use pt_records::{Key, Span, Table};
+use pt_requests::{Caller, Role};
 
 /// Whether the depot of a version is there.
 fn has_depot(places: &Table<Place>, version: &Vehicle) -> bool

@@ -1,2 +1,4 @@
 pub mod StoreLemmas
 pub mod ReadLemmas
+mod FileLemmas
+mod NewLemmas

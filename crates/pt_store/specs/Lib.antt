@@ -1,1 +1,3 @@
+pub mod LeastState
+pub mod Listed
 pub mod Store

@@ -12,11 +12,11 @@ ghost use Rattle.pt_store.specs.Store.{Store, Reads};
 use crate::{Keeper, StoreFault};
 use pt_base::{Day, Place, Residence, Rider, RiderId, Trip, TripId, Vehicle, Wish};
 use pt_corridor::FixedRoute;
-use pt_desk_rules::{
-    BookingFacts, Caller, DayFacts, PlannedRoute, Read, ReadFacts, Role, Tallies, Write, WriteFacts,
-};
+use pt_desk_rules::{BookingFacts, DayFacts, ReadFacts, Tallies, WriteFacts};
 use pt_records::Rows;
+use pt_requests::{Caller, Read, Role, Write};
 use pt_rights::{CaseFile, Entry};
+use pt_scheduling::PlannedRoute;
 use std::alloc::Global;
 
 /// Whether the rider or the vehicle is there that a role speaks of.

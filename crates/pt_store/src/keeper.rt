@@ -12,9 +12,12 @@ use pt_base::{
     VehicleId,
 };
 use pt_corridor::FixedRoute;
-use pt_desk_rules::{Answer, Arrival, Caller, Change, Digest, PlannedRoute, Spelling, TravelTable};
+use pt_desk_rules::{Arrival, Change, TravelTable};
 use pt_records::Rows;
+use pt_requests::{Answer, Caller, Digest};
 use pt_rights::CaseFile;
+use pt_scheduling::PlannedRoute;
+use pt_spelling::Spelling;
 use std::alloc::{AllocError, Global};
 
 /// Why a store did not serve.

@@ -1,8 +1,12 @@
 //! The store that a desk asks: what it promises, and what the rules of each request look at, read from it.
 #![tactic(auto)]
 
+pub use answers::{file_with, find_caller, is_booked_from, table_count_before};
 pub use gathering::{gather, gather_read, gather_wish};
 pub use keeper::{Keeper, Reply, StoreFault};
+pub use list_keeper::ListKeeper;
 
+mod answers;
 mod gathering;
 mod keeper;
+mod list_keeper;

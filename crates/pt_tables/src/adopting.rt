@@ -15,7 +15,7 @@ ghost use Rattle.pt_tables_opening.specs.Standing.{IsFirstAtFault};
 ghost use Rattle.pt_tables_rows.specs.Tables.{HasRows};
 
 use crate::keeping::keeper_of;
-use pt_desk::Keeper;
+use pt_store::Keeper;
 use pt_tables_keeper::SqlKeeper;
 use pt_tables_opening::{OpenFault, content_in, fault_of};
 use sqlite::{Alter, Connection};

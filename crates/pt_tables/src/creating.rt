@@ -2,7 +2,7 @@
 
 ghost use Rattle.std.specs.Prelude.{◌≡◌, ◌⊎◌, ◌↔◌, IsTrue, IfOk, IfErr, OnOk, OnErr, MatchResult, false};
 ghost use Rattle.pt_base.specs.Codes.{memory_refused};
-ghost use Rattle.pt_desk.specs.LeastState.{IsLeastState};
+ghost use Rattle.pt_store.specs.LeastState.{IsLeastState};
 ghost use Rattle.pt_store.specs.Store.{IsSettled};
 ghost use Rattle.pt_desk_rules.specs.Sound.{IsSound};
 ghost use Rattle.pt_desk_rules.specs.State.{State};
@@ -17,8 +17,8 @@ ghost use Rattle.pt_tables_rows.specs.Tables.{IsKept};
 
 use crate::keeping::keeper_of;
 use pt_base::Policy;
-use pt_desk::{Keeper, ListKeeper};
 use pt_requests::Digest;
+use pt_store::{Keeper, ListKeeper};
 use pt_tables_keeper::SqlKeeper;
 use pt_tables_opening::{OpenFault, fault_of};
 use pt_tables_rows::create_tables;

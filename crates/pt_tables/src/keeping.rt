@@ -8,7 +8,7 @@ ghost use Rattle.pt_records.specs.Records.{Each};
 ghost use Rattle.pt_tables_asking.specs.Plans.{HasVersionAmong};
 ghost use Rattle.pt_tables_rows.specs.Tables.{IsWellFormed, IsKept};
 
-use pt_desk::{Keeper, ListKeeper};
+use pt_store::{Keeper, ListKeeper};
 use pt_tables_keeper::{Content, Known, SqlKeeper};
 use sqlite::{Alter, Connection};
 use std::alloc::Global;

@@ -9,6 +9,7 @@ use Rattle.sqlite.specs.State.{State as Connected, HasCleanDisk}
 use Rattle.sqlite.specs.Table.{Table}
 use Rattle.pt_base.specs.declared.rider.Rider.{Rider}
 use Rattle.pt_base.specs.declared.trip.Trip.{Trip}
+use Rattle.pt_desk_rules.specs.Parts as part
 use Rattle.pt_desk_rules.specs.Planned.{trips_of, trips_on}
 use Rattle.pt_desk_rules.specs.State.{State, entries_of, entry_key, kept_key, rider_key, span_of, trip_key}
 use Rattle.pt_desk_rules.specs.declared.change.FiledEntry.{FiledEntry}
@@ -16,7 +17,7 @@ use Rattle.pt_desk_rules.specs.declared.kept.Kept.{Kept}
 use Rattle.pt_records.specs.Keys.{pair_key}
 use Rattle.pt_records.specs.Records.{Each, IsInOrder, is_within, within}
 use Rattle.pt_records.proofs.OrderLemmas.{Each-weaker}
-use Rattle.pt_records.proofs.TableLemmas.{IsInOrder-filter}
+use Rattle.pt_records.proofs.TableLemmas.{Each-filter, IsInOrder-filter}
 use Rattle.pt_desk_rules.specs.Ranges.{FitsFiled, FitsKept, FitsRider, FitsTrip}
 use Rattle.pt_tables_rows.specs.Rows.{entry_row, kept_row, number_value, rider_chair_rows, rider_row, row_if, trip_chair_rows, trip_row}
 use Rattle.pt_tables_rows.specs.Schema.{desk_schema, entries_table, kept_table, rider_chairs_table, riders_table, trip_chairs_table, trips_table}
@@ -110,33 +111,37 @@ module _ (content : State) (readable : IsWellFormed content) where
 
 module _ (content : State) (readable : IsWellFormed content) where
   pub rider_numbers : Each (λ r. rider_key r < 2 ^ 32) content.riders
-  rider_numbers = Each-weaker FitsRider (λ r. rider_key r < 2 ^ 32) (λ r fits. fits.1) content.riders readable.ranges.riders
+  rider_numbers = Each-weaker FitsRider (λ r. rider_key r < 2 ^ 32) (λ r fits. fits.1) content.riders (readable.ranges.parts part.riders)
+
+  -- those that pass are in their ranges
+  pub trips_fit : (passes : Trip → Bool) → Each FitsTrip (filter passes content.trips)
+  trips_fit passes = Each-filter FitsTrip passes content.trips (readable.ranges.parts part.trips)
 
   pub trip_numbers : Each (λ t. trip_key t < 2 ^ 32) content.trips
-  trip_numbers = Each-weaker FitsTrip (λ t. trip_key t < 2 ^ 32) (λ t fits. fits.id.1) content.trips readable.ranges.trips
+  trip_numbers = Each-weaker FitsTrip (λ t. trip_key t < 2 ^ 32) (λ t fits. fits.id.1) content.trips (readable.ranges.parts part.trips)
 
 module _ (content : State) (readable : IsWellFormed content) (db : Database) (stands : Stands content db) where
   pub kept_answer : (caller : ℕ) → HasAnswer KEPT_BY_CALLER.now (number_value caller ∷ []) db (map kept_row (filter (λ kept. kept_key kept == caller) content.kept))
   kept_answer caller =
       has_passing kept_key kept_row FitsKept 1 (by_one kept_key kept_row FitsKept (λ x. refl) (λ x. refl)) kept_table KEPT_BY_CALLER.now (number_value caller ∷ []) (has_number 0 caller) (kept_text caller)
-      db stands.schema (λ kept. kept_key kept == caller) (λ kept fits. same_number kept.caller caller) content.kept readable.ranges.kept readable.kept stands.rows.records.kept
+      db stands.schema (λ kept. kept_key kept == caller) (λ kept fits. same_number kept.caller caller) content.kept (readable.ranges.parts part.kept) readable.kept stands.rows.records.kept
 
   pub rider_answer : (rider : ℕ) → HasAnswer RIDER_BY_NUMBER.now (number_value rider ∷ []) db (map rider_row (filter (λ r. rider_key r == rider) content.riders))
   rider_answer rider =
       has_passing rider_key rider_row FitsRider 1 (by_one rider_key rider_row FitsRider (λ x. refl) (λ x. refl)) riders_table RIDER_BY_NUMBER.now (number_value rider ∷ []) (has_number 0 rider) (rider_text rider)
-      db stands.schema (λ r. rider_key r == rider) (λ r fits. same_number r.id rider) content.riders readable.ranges.riders readable.riders stands.rows.records.riders
+      db stands.schema (λ r. rider_key r == rider) (λ r fits. same_number r.id rider) content.riders (readable.ranges.parts part.riders) readable.riders stands.rows.records.riders
 
   pub entries_answer : (rider : ℕ) → HasAnswer ENTRIES_BY_RIDER.now (number_value rider ∷ []) db (map entry_row (entries_of rider content.entries))
   entries_answer rider =
       has_passing entry_key entry_row FitsFiled 2 (by_two entry_key entry_row FitsFiled (λ x fits. record { first = refl; second = refl; second_low = fits.position }) (λ x. refl)) entries_table
       ENTRIES_BY_RIDER.now (number_value rider ∷ []) (has_number 0 rider) (entries_text rider) db stands.schema (λ filed. is_within (entry_key filed) (span_of rider))
-      (λ filed fits. same_number filed.rider rider ∙ in_span filed.rider rider filed.position fits.position) content.entries readable.ranges.entries readable.entries stands.rows.records.entries
+      (λ filed fits. same_number filed.rider rider ∙ in_span filed.rider rider filed.position fits.position) content.entries (readable.ranges.parts part.entries) readable.entries stands.rows.records.entries
 
   module _ (text : List ℕ) (params : Row) (passes_row : Row → Bool) (asks : AsksFor 1 trips_table text params passes_row) (passes : Trip → Bool) (passing : (t : Trip) → passes_row (trip_row t) ≡ passes t) where
     trips_answer : HasAnswer text params db (map trip_row (filter passes content.trips))
     trips_answer =
         has_passing trip_key trip_row FitsTrip 1 (by_one trip_key trip_row FitsTrip (λ x. refl) (λ x. refl)) trips_table text params passes_row asks
-        db stands.schema passes (λ t fits. passing t) content.trips readable.ranges.trips readable.trips stands.rows.records.trips
+        db stands.schema passes (λ t fits. passing t) content.trips (readable.ranges.parts part.trips) readable.trips stands.rows.records.trips
 
   pub trip_answer : (trip : ℕ) → HasAnswer TRIP_BY_NUMBER.now (number_value trip ∷ []) db (map trip_row (filter (λ t. trip_key t == trip) content.trips))
   trip_answer trip = trips_answer TRIP_BY_NUMBER.now (number_value trip ∷ []) (has_number 0 trip) (trip_text trip) (λ t. trip_key t == trip) (λ t. same_number t.id trip)

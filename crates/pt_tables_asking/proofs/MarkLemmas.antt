@@ -1,18 +1,20 @@
 -- The marks of records in the order of their keys, by number.
-use Rattle.std.proofs.Common.{◌≡◌, ◌++◌, ◌<◌, ◌≤◌, ◌-◌, ◌&&◌, ◌^◌, zero, suc, ℕ, Bool, true, false, List, [], ◌∷◌, length, filter, flat_map, map, drop, slice_get, slice_index_or, slice_set, cond, Some, ◌⊎◌, inl, inr, refl, sym, ap, ap₂, subst, ◌∙◌, arith}
+use Rattle.std.proofs.Common.{◌≡◌, ◌++◌, ◌<◌, ◌≤◌, ◌-◌, ◌&&◌, ◌^◌, zero, suc, ℕ, Bool, IsTrue, true, false, List, [], ◌∷◌, length, filter, flat_map, map, drop, slice_get, slice_index_or, slice_set, cond, Some, ◌⊎◌, inl, inr, refl, sym, ap, ap₂, subst, ◌∙◌, arith}
 use Rattle.std.specs.Prelude.{nat_le, is_some}
 use Rattle.std.proofs.lemmas.Bool.Decides.{nat_tests}
 use Rattle.sqlite.specs.Effect.{Database}
 use Rattle.sqlite.specs.Order.{Row}
+use Rattle.sqlite.specs.State.{State as Connected, HasCleanDisk}
 use Rattle.pt_records.specs.Records.{Each, IsInOrder, is_within, record_at, within}
 use Rattle.pt_records.specs.declared.span.Span.{Span}
 use Rattle.pt_records.proofs.OrderLemmas.{Each-both, Each-weaker, compared, record_at-above, record_at-here, record_at-past}
 use Rattle.pt_records.proofs.TableLemmas.{Each-filter, IsInOrder-filter}
 use Rattle.pt_tables_rows.specs.Rows.{number_value, row_if}
 use Rattle.pt_tables_rows.proofs.ColumnLemmas.{number_in}
-use Rattle.pt_tables_asking.specs.Asking.{HasAnswer}
+use Rattle.pt_tables_asking.specs.Asking.{HasAnswer, Rests, ShowsCommit}
 use Rattle.pt_tables_asking.specs.Marks.{FitsMark, HasMarks, IsMark, has_mark, has_row, is_marked, mark_key, mark_row, marked_in}
 use Rattle.pt_tables_asking.specs.declared.marks.Mark.{Mark}
+use Rattle.pt_tables_asking.proofs.InsideLemmas.{still_shown}
 use Rattle.pt_tables_asking.proofs.RecordLemmas.{first_row, same_by_both, told_by_rows}
 
 -- ---- marks of all
@@ -228,11 +230,30 @@ module _ {A : Type 0} (key : A → ℕ) (rows_of : A → List Row) (are : (x : A
       ∙ ap (is_marked rows_of) (record_at-within key span (key x) inside all)))
       known (each_key key (λ n. is_within n span ≡ true) known held))
 
+  -- the marks with one number tell of the record that has it
+  pub own_marks_tell : (n : ℕ) (ms : List Mark) → ms ≡ marks_of key rows_of are (within key (record { from = n; to = n }) all) → has_mark ms n ≡ is_marked rows_of (record_at key n all)
+  own_marks_tell n ms these =
+      let span : Span = record { from = n; to = n } in
+      let here : n ≤ n = omega arith in
+      ap (λ l. has_mark l n) these
+      ∙ marked_at key rows_of are n (within key span all) (IsInOrder-filter key (λ y. is_within (key y) span) all order)
+      ∙ ap (is_marked rows_of) (record_at-within key span n (both n n n here here) all)
+
   -- the marks of the records in a span have the answer that their rows have
   pub answer_by_marks : (text : List ℕ) (db : Database) → HasMarks text key rows_of db all → (span : Span)
       → HasAnswer text (number_value span.from ∷ number_value span.to ∷ []) db (map mark_row (marks_of key rows_of are (within key span all)))
   answer_by_marks text db has span =
       subst (HasAnswer text (number_value span.from ∷ number_value span.to ∷ []) db) (mark_rows key rows_of are (within key span all)) (has span)
+
+-- ---- marks after a read
+
+-- the tables have the marks that they had
+pub marks_still : {A : Type 0} (key : A → ℕ) (rows_of : A → List Row) (text : List ℕ) (all : List A) (old mid : Connected) → ShowsCommit old → Rests old mid → HasCleanDisk mid
+    → (IsTrue old.is_open → HasMarks text key rows_of old.now all) → IsTrue mid.is_open → HasMarks text key rows_of mid.now all
+marks_still key rows_of text all old mid committed rests clean has here =
+    let was = (rests.keeps clean).was_open here in
+    let before : HasCleanDisk old = omega (arith, clean, rests.survives.clean) in
+    subst (λ db. HasMarks text key rows_of db all) (sym (still_shown old mid rests clean (λ opened. sym (committed before opened)) here)) (has was)
 
 -- ---- records by their rows and their marks
 

@@ -11,6 +11,7 @@ use Rattle.sqlite.specs.Order.{Row}
 use Rattle.sqlite.specs.State.{State as Connected}
 use Rattle.sqlite_keyed.proofs.ListLemmas.{IsPermutation-filter, slice_get-filter}
 use Rattle.pt_base.specs.Day.{IsDay}
+use Rattle.pt_desk_rules.specs.Parts as part
 use Rattle.pt_desk_rules.specs.Ranges.{FitsPlan, FitsStop}
 use Rattle.pt_desk_rules.specs.Sound.{HasStops}
 use Rattle.pt_desk_rules.specs.State.{State}
@@ -164,14 +165,14 @@ module _ (content : State) (readable : IsWellFormed content) (m n : ℕ) (low : 
 
   found_parts : (plan : Plan) → found ≡ Some plan → (plan.vehicle ≡ m) × (plan.day ≡ n)
   found_parts plan is =
-      let fits = Each-found FitsPlan plan_key (pair_key m n) plan content.planned readable.ranges.planned is in
+      let fits = Each-found FitsPlan plan_key (pair_key m n) plan content.planned (readable.ranges.parts part.planned) is in
       parts_of_key plan.vehicle plan.day m n (day_low plan fits) low (found_key plan_key (pair_key m n) plan content.planned is)
 
   rows_wanted : filter (has_pair m n) (flat_map stop_rows content.planned) ≡ map stop_row wanted
   rows_wanted =
       plans_passing m n content.planned
       ∙ ap (flat_map stop_rows) (filter_alike FitsPlan (λ plan. plan.vehicle == m && plan.day == n) (λ plan. plan_key plan == pair_key m n)
-      (λ plan fits. same_key plan.vehicle plan.day m n (day_low plan fits) low) content.planned readable.ranges.planned ∙ filter_found plan_key (pair_key m n) content.planned readable.planned)
+      (λ plan fits. same_key plan.vehicle plan.day m n (day_low plan fits) low) content.planned (readable.ranges.parts part.planned) ∙ filter_found plan_key (pair_key m n) content.planned readable.planned)
       ∙ rows_found m n found found_parts
 
   stops_answer : (db : Database) → Stands content db → HasAnswer STOPS_BY_VEHICLE_AND_DAY.now (number_value m ∷ number_value n ∷ []) db (map stop_row wanted)
@@ -203,7 +204,7 @@ module _ (content : State) (readable : IsWellFormed content) (m n : ℕ) (low : 
   fit_by few None is = tt
   fit_by few (Some plan) is =
       let parts = found_parts plan is in
-      let fits = Each-found FitsPlan plan_key (pair_key m n) plan content.planned readable.ranges.planned is in
+      let fits = Each-found FitsPlan plan_key (pair_key m n) plan content.planned (readable.ranges.parts part.planned) is in
       let short = Each-found HasFewStops plan_key (pair_key m n) plan content.planned few is in
       stops_fit 0 m n plan.stops (subst IsId parts.0 fits.vehicle) (subst IsDay parts.1 fits.day) fits.stops (omega arith)
 

@@ -6,13 +6,13 @@ ghost use Rattle.sqlite.specs.Given.{IsPlain};
 ghost use Rattle.sqlite.specs.Held.{state};
 ghost use Rattle.sqlite.specs.Listing.{reads_listing, understood};
 ghost use Rattle.sqlite.specs.State.{HasCleanDisk};
-ghost use Rattle.pt_records.specs.Records.{Each, IsInOrder};
+ghost use Rattle.pt_records.specs.Records.{Each, IsInOrder, record_at};
 ghost use Rattle.pt_spelling.specs.Ranges.{IsWord};
 ghost use Rattle.pt_tables_rows.specs.Rows.{number_value};
 ghost use Rattle.pt_tables_rows.specs.Schema.{desk_schema};
 ghost use Rattle.pt_tables_reading.specs.Reading.{Reads};
 ghost use Rattle.pt_tables_asking.specs.Asking.{HasAnswer, Rests, ShowsCommit};
-ghost use Rattle.pt_tables_asking.specs.Marks.{FitsMark, HasMarks, IsMark, has_mark, mark_key, mark_row};
+ghost use Rattle.pt_tables_asking.specs.Marks.{FitsMark, HasMarks, IsMark, has_mark, is_marked, mark_key, mark_row};
 ghost use Rattle.pt_tables_asking.specs.Marks.{marked_in};
 ghost use Rattle.pt_tables_asking.specs.declared.asking.Unread.TheVariants.{Row as BadRow};
 
@@ -210,4 +210,56 @@ pub(crate) fn marked<S: Alter, M: Marking>(
     };
     let marks = marks_between::<S, M>(alloc, conn, text, first, last)?;
     Ok(with_marks::<M>(records, &marks))
+}
+
+/// Whether the record of a number is marked. It is asked by its own number, so no mark of another is read.
+fn is_marked<S: Alter, M: Marking>(
+    alloc: Global,
+    conn: &mut Connection<S>,
+    text: &str,
+    number: u32,
+) -> Result<bool, Unread>
+    requires settled { conn.old.in_transaction ≡ false }
+    requires plain { IsPlain (understood desk_schema text.now) }
+    requires unlisted { reads_listing desk_schema text.now ≡ false }
+    ensures told { HasCleanDisk (state S.Store conn.new) → (all : List M.Record) → IsInOrder M.Record.key all
+        → (IsTrue (state S.Store conn.old).is_open
+        → HasMarks text.now M.Record.key M.rows_of (state S.Store conn.old).now all)
+        → IfOk result (λ found. found ≡ is_marked M.rows_of (record_at M.Record.key number all)) }
+    ensures readable { HasCleanDisk (state S.Store conn.new) → (all : List M.Record) → IsInOrder M.Record.key all
+        → Each (λ x. IsWord (M.Record.key x)) all → (IsTrue (state S.Store conn.old).is_open
+        → HasMarks text.now M.Record.key M.rows_of (state S.Store conn.old).now all)
+        → result ≢ Err BadRow }
+    ensures rests { Rests (state S.Store conn.old) (state S.Store conn.new) }
+{
+    let marks = marks_between::<S, M>(alloc, conn, text, number, number)?;
+    Ok(marks.find(&Key::of(number)).is_some())
+}
+
+/// The records with their marks, each asked for by its own number: for records whose numbers lie far apart.
+pub(crate) fn each_marked<S: Alter, M: Marking>(
+    alloc: Global,
+    conn: &mut Connection<S>,
+    text: &str,
+    mut records: Vec<M::Record>,
+) -> Result<Vec<M::Record>, Unread>
+    requires settled { conn.old.in_transaction ≡ false }
+    requires committed { ShowsCommit (state S.Store conn.old) }
+    requires plain { IsPlain (understood desk_schema text.now) }
+    requires unlisted { reads_listing desk_schema text.now ≡ false }
+    ensures told { HasCleanDisk (state S.Store conn.new) → (all : List M.Record) → IsInOrder M.Record.key all
+        → (IsTrue (state S.Store conn.old).is_open
+        → HasMarks text.now M.Record.key M.rows_of (state S.Store conn.old).now all)
+        → IfOk result (λ found. found.items ≡ map (marked_in M.Record.key M.rows_of M.marked all) records.items) }
+    ensures readable { HasCleanDisk (state S.Store conn.new) → (all : List M.Record) → IsInOrder M.Record.key all
+        → Each (λ x. IsWord (M.Record.key x)) all → (IsTrue (state S.Store conn.old).is_open
+        → HasMarks text.now M.Record.key M.rows_of (state S.Store conn.old).now all)
+        → result ≢ Err BadRow }
+    ensures rests { Rests (state S.Store conn.old) (state S.Store conn.new) }
+{
+    for owner in records.iter_mut() {
+        let found = is_marked::<S, M>(alloc, conn, text, M::number(owner))?;
+        M::mark(owner, found);
+    }
+    Ok(records)
 }

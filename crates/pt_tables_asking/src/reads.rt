@@ -17,7 +17,7 @@ ghost use Rattle.pt_tables_asking.specs.Content.{Decodes, Tells};
 ghost use Rattle.pt_tables_asking.specs.declared.asking.Unread.TheVariants.{Row as BadRow};
 
 use crate::asking::{Unread, asked, first, ordered};
-use crate::marks::marked;
+use crate::marks::{each_marked, marked};
 use crate::texts::{
     ENTRIES_BY_RIDER, KEPT_BY_CALLER, RIDER_BY_NUMBER, RIDER_MARKS, TRIP_BY_NUMBER, TRIP_MARKS,
     TRIPS_BY_DAY, TRIPS_BY_RIDER, TRIPS_FROM_DAY,
@@ -76,7 +76,8 @@ pub fn entries_by_rider<S: Alter>(
     ordered(found)
 }
 
-/// The trips that a text asks for, in order of their numbers, with their marks.
+/// The trips that a text asks for, in order of their numbers, with their marks. All marks from the first of the trips
+/// to the last are read: this is for one trip, and for those of days, whose numbers lie near each other.
 fn trips_asked<S: Alter>(
     alloc: Global,
     conn: &mut Connection<S>,
@@ -118,7 +119,8 @@ pub fn trip_by_number<S: Alter>(
     Ok(found.as_slice().first().copied())
 }
 
-/// The trips of a rider, in order of their numbers.
+/// The trips of a rider, in order of their numbers. Between them lie those of all other riders, so each asks for its
+/// own mark.
 pub fn trips_by_rider<S: Alter>(
     alloc: Global,
     conn: &mut Connection<S>,
@@ -129,7 +131,9 @@ pub fn trips_by_rider<S: Alter>(
     ensures readable { Decodes (state S.Store conn.old) (state S.Store conn.new) result }
     ensures rests { Rests (state S.Store conn.old) (state S.Store conn.new) }
 {
-    trips_asked(alloc, conn, TRIPS_BY_RIDER, params![rider.number()])
+    let trips = asked::<S, Trips>(alloc, conn, TRIPS_BY_RIDER, params![rider.number()])?;
+    let found = each_marked::<S, TripChairs>(alloc, conn, TRIP_MARKS, trips)?;
+    ordered(found)
 }
 
 /// The trips of a day, in order of their numbers.

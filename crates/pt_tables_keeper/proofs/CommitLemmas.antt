@@ -1,9 +1,9 @@
 -- What a commit makes of the store over tables.
-use Rattle.std.proofs.Common.{◌≡◌, ◌≤◌, ◌⊎◌, inl, inr, ℕ, Option, Some, None, Result, Ok, Err, List, false, length, refl, sym, ap, subst, ◌∙◌, arith}
+use Rattle.std.proofs.Common.{◌≡◌, ◌<◌, ◌≤◌, ◌⊎◌, inl, inr, ℕ, Option, Some, None, Result, Ok, Err, List, false, length, refl, sym, ap, subst, ◌∙◌, arith}
 use Rattle.sqlite.specs.Held.{Held, state}
 use Rattle.sqlite.specs.State.{State as Connected, HasCleanDisk, Survives}
 use Rattle.sqlite.specs.Store.{Ghosts}
-use Rattle.pt_desk.specs.Listed.{known_of}
+use Rattle.pt_store.specs.Listed.{known_of}
 use Rattle.pt_store.specs.Store.{Goes, Store}
 use Rattle.pt_store.specs.declared.keeper.StoreFault.{StoreFault}
 use Rattle.pt_store.specs.declared.keeper.StoreFault.TheVariants.{Memory, Store as failed}
@@ -169,3 +169,16 @@ pub commits_then : {X : Type 0} (a b c : Store) (x v : X) (change : Change) (r :
 commits_then a b c x v change r first next =
     reads_then a b c x v tt tt (Some (applied change b.content)) (Some (applied change a.content)) r first next
     (λ _ _ same. (refl, ap (λ s. Some (applied change s)) same))
+
+-- a commit that is refused before anything is written leaves all but the failures as it was
+pub commit_refused : (old new : Store) (made : State) → old.doubt ≤ new.doubt → old.shut ≤ new.shut → old.failures ≤ new.failures → 0 < new.failures
+    → ((o : Option State) → new.found o → old.found o) → Goes {X = Unit {0}} old new tt (Some made) (Err failed)
+commit_refused old new made clean serves grows some same = record {
+  clean = clean;
+  serves = serves;
+  grows = grows;
+  told = λ _. some;
+  stays = λ _ _. refl;
+  settled = λ _ _ none. absurd (omega (arith, none, some));
+  holds = λ _. record { tells = tt; crash = λ o found. inl (same o found); durable = tt };
+}

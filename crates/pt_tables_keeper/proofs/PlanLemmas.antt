@@ -5,6 +5,7 @@ use Rattle.std.specs.Option.{option_to_list}
 use Rattle.std.proofs.lemmas.Bool.Decides.{nat_tests}
 use Rattle.pt_base.specs.declared.vehicle.Vehicle.{Vehicle}
 use Rattle.pt_desk_rules.specs.Fleet.{has_version}
+use Rattle.pt_desk_rules.specs.Parts as part
 use Rattle.pt_desk_rules.specs.Sound.{HasFirstDay}
 use Rattle.pt_desk_rules.specs.State.{State, applied, vehicle_key}
 use Rattle.pt_desk_rules.specs.declared.change.Change.{Change}
@@ -136,9 +137,9 @@ module _ (change : Change) (s : State) (readable : IsWellFormed s) (may : IsWrit
     | inl none ↦ subst (λ e. IsTrue (has_version id (edited vehicle_key e s.vehicles))) (sym none) there
     | inr one ↦
         let version = one.0 in
-        let fits = subst (λ (e : Edit Vehicle). Each IsVehicle e.puts) one.1 may.told.ranges.vehicles in
+        let fits = subst (λ (e : Edit Vehicle). Each IsVehicle e.puts) one.1 (may.told.ranges.parts part.vehicles) in
         subst (λ e. IsTrue (has_version id (edited vehicle_key e s.vehicles))) (sym one.1)
-        (version_stays version id s.vehicles fits.0.from_day (first_days s.vehicles readable.ranges.vehicles) there)
+        (version_stays version id s.vehicles fits.0.from_day (first_days s.vehicles (readable.ranges.parts part.vehicles)) there)
   ]
 
   carried_still : (plans : List Plan) → Each (HasVersionAmong s.vehicles) plans → Each (HasVersionAmong (applied change s).vehicles) plans

@@ -2,6 +2,7 @@
 use Rattle.std.proofs.Common.{◌≡◌, ℕ, ◌+◌, ◌<◌, ◌≤◌, ◌^◌, min, List, [], ◌∷◌, length, Some, None, sym, ap, ◌∙◌, arith}
 use Rattle.std.specs.List.{slice_get}
 use Rattle.pt_base.specs.declared.rider.Rider.{Rider}
+use Rattle.pt_desk_rules.specs.Parts as part
 use Rattle.pt_desk_rules.specs.State.{State, applied, rider_key, rider_of}
 use Rattle.pt_desk_rules.specs.declared.change.Change.{Change}
 use Rattle.pt_records.proofs.OrderLemmas.{Each-weaker, length-below, length-put_new, length-put_there}
@@ -17,7 +18,7 @@ each_any key (x ∷ xs) = (omega arith, each_any key xs)
 pub few_riders : (content : State) → IsWellFormed content → length content.riders ≤ 2 ^ 32
 few_riders content readable =
     length-below rider_key 0 (2 ^ 32) content.riders readable.riders (each_any rider_key content.riders)
-    (Each-weaker FitsRider (λ r. rider_key r < 2 ^ 32) (λ r fits. fits.1) content.riders readable.ranges.riders)
+    (Each-weaker FitsRider (λ r. rider_key r < 2 ^ 32) (λ r fits. fits.1) content.riders (readable.ranges.parts part.riders))
 
 -- ---- a change
 

@@ -1,5 +1,5 @@
 ghost use Rattle.std.specs.Prelude.{◌≡◌, ◌<◌, ◌↔◌, IfErr, OnErr, OnOk, false, length};
-ghost use Rattle.pt_desk.specs.Listed.{known_of};
+ghost use Rattle.pt_store.specs.Listed.{known_of};
 ghost use Rattle.pt_store.specs.Store.{Commits, Goes, Reads, Refuses};
 ghost use Rattle.pt_store.specs.declared.keeper.StoreFault.TheVariants.{Memory, Store as Failed};
 ghost use Rattle.pt_desk_rules.specs.State.{applied, rider_of};
@@ -20,14 +20,15 @@ use pt_base::{
     VehicleId,
 };
 use pt_corridor::FixedRoute;
-use pt_desk::{
+use pt_desk_rules::{Arrival, Change, TravelTable, has_version, table_on};
+use pt_records::{Key, Keyed, Rows, Table};
+use pt_requests::{Caller, Digest};
+use pt_rights::CaseFile;
+use pt_scheduling::PlannedRoute;
+use pt_spelling::Spelling;
+use pt_store::{
     Keeper, ListKeeper, StoreFault, file_with, find_caller, is_booked_from, table_count_before,
 };
-use pt_desk_rules::{
-    Arrival, Caller, Change, Digest, PlannedRoute, Spelling, TravelTable, has_version, table_on,
-};
-use pt_records::{Key, Keyed, Rows, Table};
-use pt_rights::CaseFile;
 use pt_tables_asking::{
     Unread, entries_by_rider, kept_by_caller, plan_by_key, plans_by_day, rider_by_number,
     trip_by_number, trips_by_day, trips_by_rider, trips_from_day,

@@ -10,8 +10,8 @@ ghost use Rattle.pt_tables_asking.specs.Asking.{Rests, ShowsCommit};
 ghost use Rattle.pt_tables_keeper.specs.Plans.{keys_of, plans_with, plans_at};
 ghost use Rattle.pt_tables_rows.specs.Tables.{IsKept, IsWellFormed};
 
-use pt_desk_rules::PlannedRoute;
 use pt_records::{Edits, Key, Keyed, Span, Table};
+use pt_scheduling::PlannedRoute;
 use pt_tables_asking::{Unread, plan_by_key};
 use sqlite::{Alter, Connection};
 use std::alloc::{AllocError, Global};

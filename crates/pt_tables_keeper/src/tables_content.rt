@@ -4,8 +4,8 @@ ghost use Rattle.std.specs.Borrow.{ftrue};
 ghost use Rattle.pt_desk_rules.specs.State.{State};
 ghost use Rattle.pt_tables_keeper.specs.Coding.{state_code};
 
-use pt_desk::ListKeeper;
 use pt_desk_rules::Change;
+use pt_store::ListKeeper;
 use std::marker::Model;
 
 /// The content that a database's tables have. It takes no memory, and its functions do nothing as the program runs.

@@ -7,8 +7,9 @@ ghost use Rattle.pt_tables_keeper.specs.Plans.{IsFleetEdit, IsOneKey};
 ghost use Rattle.pt_tables_keeper.specs.Writable.{IsWritable};
 
 use pt_base::Vehicle;
-use pt_desk_rules::{Change, PlannedRoute, has_version};
+use pt_desk_rules::{Change, has_version};
 use pt_records::{Edits, Key, Span};
+use pt_scheduling::PlannedRoute;
 use pt_tables_writing::is_told;
 use std::cmp::Ordering;
 

@@ -13,8 +13,8 @@ ghost use Rattle.pt_tables_writing.specs.Committing.{IsMade, LeadsTo};
 ghost use Rattle.pt_tables_writing.specs.Least.{IsUndone};
 
 use crate::plans::plans_before;
-use pt_desk::ListKeeper;
 use pt_desk_rules::Change;
+use pt_store::ListKeeper;
 use pt_tables_asking::Unread;
 use pt_tables_writing::write_change;
 use sqlite::{Alter, Connection};

@@ -4,15 +4,16 @@ use Rattle.sqlite.specs.Effect.{Database}
 use Rattle.sqlite.specs.State.{State as Connected, HasCleanDisk}
 use Rattle.sqlite.specs.Tree.{Trees}
 use Rattle.pt_base.specs.Codes.{memory_refused}
-use Rattle.pt_desk.specs.Listed.{Listed}
+use Rattle.pt_store.specs.Listed.{Listed}
 use Rattle.pt_desk_rules.specs.Sound.{IsSound}
 use Rattle.pt_desk_rules.specs.State.{State, applied}
 use Rattle.pt_desk_rules.specs.declared.change.Change.{Change}
 use Rattle.pt_records.specs.Records.{Each}
 use Rattle.pt_records.proofs.OrderLemmas.{Each-both}
-use Rattle.pt_soundness.specs.Tables.{all_tables, number_of, table_count, IsSoundIn}
-use Rattle.pt_soundness.specs.declared.unsound_table.UnsoundTable.{UnsoundTable}
-use Rattle.pt_soundness.specs.declared.unsound_table.UnsoundTable.TheVariants as table
+use Rattle.pt_desk_rules.specs.TableNames.{all_tables, number_of, table_count}
+use Rattle.pt_soundness.specs.Tables.{IsSoundIn}
+use Rattle.pt_desk_rules.specs.declared.table_name.TableName.{TableName}
+use Rattle.pt_desk_rules.specs.declared.table_name.TableName.TheVariants as table
 use Rattle.pt_soundness.proofs.TableLemmas.{each_table, sound_in, sound_of}
 use Rattle.pt_tables_opening.specs.Faults.{IsRefusal, fault, store_refused, tables_refused, unsound}
 use Rattle.pt_tables_opening.specs.Opening.{Rests}
@@ -30,11 +31,11 @@ use Rattle.pt_tables_rows.specs.Schema.{desk_schema}
 -- ---- the tables in their order
 
 -- the agency's table is the first
-agency_first : (P : UnsoundTable → Type 0) (n : ℕ) → 0 < n → Each P (take n all_tables) → P table.Desk
+agency_first : (P : TableName → Type 0) (n : ℕ) → 0 < n → Each P (take n all_tables) → P table.Desk
 agency_first P zero some each = absurd (omega arith)
 agency_first P (suc n) some each = each.0
 
-all_stand : (s : State) (trees : Trees) (ts : List UnsoundTable) → Each (IsSoundIn s) ts → Each (HasRowsIn s trees) ts → Each (StandsIn s trees) ts
+all_stand : (s : State) (trees : Trees) (ts : List TableName) → Each (IsSoundIn s) ts → Each (HasRowsIn s trees) ts → Each (StandsIn s trees) ts
 all_stand s trees = Each-both (IsSoundIn s) (HasRowsIn s trees) (StandsIn s trees) (λ t sound rows. record { rows = rows; sound = sound })
 
 -- rows that no content stands for are those of no sound state
@@ -83,7 +84,7 @@ tells_version trees it is version =
 
 -- ---- one table that was read is judged
 
-pub judged_so : (t : UnsoundTable) (old new : Connected) (s : State) (read_as : Result Change OpenFault) (change : Change) → read_as ≡ Ok change → ReadsTable t old new s read_as
+pub judged_so : (t : TableName) (old new : Connected) (s : State) (read_as : Result Change OpenFault) (change : Change) → read_as ≡ Ok change → ReadsTable t old new s read_as
     → (r : Result Listed OpenFault) → IfOk r (λ judged. judged.content ≡ applied change s) → IfOk r (λ judged. IsSoundIn (applied change s) t)
     → IfErr r (λ it. (it ≡ fault memory_refused) ⊎ ((it ≡ unsound (number_of t)) × (IsSoundIn (applied change s) t → ⊥)))
     → OpensTable t old new s r
@@ -117,7 +118,7 @@ judged_so t old new s read_as change is h r content sound faults =
 
 -- ---- one after the other
 
-module _ (t : UnsoundTable) (old mid new : Connected) (keeper : Listed) (later : 1 < number_of t) (h : OpensTo (number_of t - 1) old mid (Ok keeper)) where
+module _ (t : TableName) (old mid new : Connected) (keeper : Listed) (later : 1 < number_of t) (h : OpensTo (number_of t - 1) old mid (Ok keeper)) where
   same_then : HasCleanDisk new → (r : Result Listed OpenFault) → OpensTable t mid new keeper.content r → old.now.schema ≡ desk_schema → mid.now ≡ old.now
   same_then clean r k has = (h.rests.same (omega (arith, clean, k.rests.survives.clean)) has).0.now_is
 

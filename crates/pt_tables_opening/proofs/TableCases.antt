@@ -15,9 +15,10 @@ use Rattle.pt_desk_rules.specs.State.{State, caller_key, kept_key, place_key, ro
 use Rattle.pt_records.specs.Records.{Each, IsInOrder, Edit, edited}
 use Rattle.pt_records.proofs.OrderLemmas.{Each-weaker}
 use Rattle.pt_scheduling.specs.Plan.{Plan, IsRoutePlan, plan_key}
-use Rattle.pt_soundness.specs.Tables.{all_tables, number_of, table_count, IsSoundIn, KeepsRangesIn, KeepsLinesIn, AreSoundCallers, AreSoundEntries, AreSoundKept, AreSoundLoads, AreSoundPlaces, AreSoundPlans, AreSoundRiders, AreSoundRoutes, AreSoundTables, AreSoundTrips, AreSoundVehicles}
-use Rattle.pt_soundness.specs.declared.unsound_table.UnsoundTable.{UnsoundTable}
-use Rattle.pt_soundness.specs.declared.unsound_table.UnsoundTable.TheVariants as table
+use Rattle.pt_desk_rules.specs.TableNames.{all_tables, number_of, table_count}
+use Rattle.pt_soundness.specs.Tables.{IsSoundIn, KeepsRangesIn, KeepsLinesIn, AreSoundCallers, AreSoundEntries, AreSoundKept, AreSoundLoads, AreSoundPlaces, AreSoundPlans, AreSoundRiders, AreSoundRoutes, AreSoundTables, AreSoundTrips, AreSoundVehicles}
+use Rattle.pt_desk_rules.specs.declared.table_name.TableName.{TableName}
+use Rattle.pt_desk_rules.specs.declared.table_name.TableName.TheVariants as table
 use Rattle.pt_tables_rows.specs.Rows.{stop_rows, caller_row, kept_row, place_row, route_row, vehicle_row, rider_row, entry_row, trip_row, travel_rows, vehicle_chair_rows, trip_chair_rows, rider_chair_rows}
 use Rattle.pt_tables_rows.specs.Tables.{HasRows, IsStoredPlan, AreRows}
 use Rattle.pt_base.specs.declared.place.Place.{Place}
@@ -58,24 +59,24 @@ use Rattle.pt_tables_opening.proofs.RestLemmas.{last, refused}
 -- ---- the tables in their order
 
 -- a table stands after all before it
-pub after_all : (t : UnsoundTable) → take (number_of t) all_tables ≡ take (number_of t - 1) all_tables ++ t ∷ []
+pub after_all : (t : TableName) → take (number_of t) all_tables ≡ take (number_of t - 1) all_tables ++ t ∷ []
 after_all table.Desk = refl
 after_all _ = refl
 
-pub last_table : (t : UnsoundTable) → number_of t ≤ table_count
+pub last_table : (t : TableName) → number_of t ≤ table_count
 last_table table.Desk = omega arith
 last_table _ = omega arith
 
 -- what holds before a table and in it
-pub and_in : (P : UnsoundTable → Type 0) (t : UnsoundTable) → Each P (take (number_of t - 1) all_tables) → P t → Each P (take (number_of t) all_tables)
+pub and_in : (P : TableName → Type 0) (t : TableName) → Each P (take (number_of t - 1) all_tables) → P t → Each P (take (number_of t) all_tables)
 and_in P t before here = subst (Each P) (sym (after_all t)) (each_push P (take (number_of t - 1) all_tables) t before here)
 
 -- what holds up to a table holds in it
-pub here_in : (P : UnsoundTable → Type 0) (t : UnsoundTable) → Each P (take (number_of t) all_tables) → P t
+pub here_in : (P : TableName → Type 0) (t : TableName) → Each P (take (number_of t) all_tables) → P t
 here_in P t each = mid P (take (number_of t - 1) all_tables) t [] (subst (Each P) (after_all t) each)
 
 -- of tables in the order of their numbers, the first so many have such numbers
-each_below : (P Q : UnsoundTable → Type 0) (k n : ℕ) (ts : List UnsoundTable) → map number_of ts ≡ range_with_len k (length ts) → ((t : UnsoundTable) → number_of t < k + n → P t → Q t)
+each_below : (P Q : TableName → Type 0) (k n : ℕ) (ts : List TableName) → map number_of ts ≡ range_with_len k (length ts) → ((t : TableName) → number_of t < k + n → P t → Q t)
     → Each P (take n ts) → Each Q (take n ts)
 each_below P Q k zero [] numbers all each = tt
 each_below P Q k zero (t ∷ ts) numbers all each = tt
@@ -84,7 +85,7 @@ each_below P Q k (suc n) (t ∷ ts) numbers all each =
     let first : number_of t ≡ k = ap (λ (l : List ℕ). get_or l 0 0) numbers in
     (all t (omega arith) each.0, each_below P Q (k + 1) n ts (ap (λ (l : List ℕ). drop 1 l) numbers) (λ u low. all u (omega arith)) each.1)
 
-pub each_upto : (P Q : UnsoundTable → Type 0) (n : ℕ) → ((t : UnsoundTable) → number_of t ≤ n → P t → Q t) → Each P (take n all_tables) → Each Q (take n all_tables)
+pub each_upto : (P Q : TableName → Type 0) (n : ℕ) → ((t : TableName) → number_of t ≤ n → P t → Q t) → Each P (take n all_tables) → Each Q (take n all_tables)
 each_upto P Q n all each = each_below P Q 1 n all_tables refl (λ t low. all t (omega arith)) each
 
 -- ---- what is kept in a table
@@ -98,7 +99,7 @@ plans_laid (plan ∷ plans) fits routes some =
     (((fits.0, some.0), omega (arith, long, few)), plans_laid plans fits.1 routes.1 some.1)
 
 -- what is sound in a table is in the order of its keys, and such as its rows are read back
-pub laid_in : (s : State) (t : UnsoundTable) → IsSoundIn s t → IsLaidIn s t
+pub laid_in : (s : State) (t : TableName) → IsSoundIn s t → IsLaidIn s t
 laid_in s table.Desk sound = sound.0
 laid_in s table.Callers sound = (sound.1.table.in_order, sound.0)
 laid_in s table.Riders sound = (sound.1.table.in_order, sound.0)
@@ -109,11 +110,11 @@ laid_in s table.VehicleChairs sound = tt
 laid_in s table.TripChairs sound = tt
 laid_in s _ sound = (sound.1.in_order, sound.0)
 
-pub each_laid : (s : State) (ts : List UnsoundTable) → Each (IsSoundIn s) ts → Each (IsLaidIn s) ts
+pub each_laid : (s : State) (ts : List TableName) → Each (IsSoundIn s) ts → Each (IsLaidIn s) ts
 each_laid s ts sound = Each-weaker (IsSoundIn s) (IsLaidIn s) (laid_in s) ts sound
 
 -- what was read of a table keeps to its ranges
-pub ranges_laid : (s : State) (t : UnsoundTable) → IsLaidIn s t → KeepsRangesIn s t
+pub ranges_laid : (s : State) (t : TableName) → IsLaidIn s t → KeepsRangesIn s t
 ranges_laid s table.Desk laid = laid
 ranges_laid s table.Stops laid = Each-weaker (FitsRows stop_rows IsStoredPlan) FitsPlan (λ plan fits. fits.0.0) s.planned laid.1
 ranges_laid s table.RiderChairs laid = tt
@@ -122,7 +123,7 @@ ranges_laid s table.TripChairs laid = tt
 ranges_laid s _ laid = laid.1
 
 -- tables that have the rows of a content have those of each table
-pub rows_in : (s : State) (trees : Trees) → HasRows s trees → (t : UnsoundTable) → HasRowsIn s trees t
+pub rows_in : (s : State) (trees : Trees) → HasRows s trees → (t : TableName) → HasRowsIn s trees t
 rows_in s trees has table.Desk = has.records.desk
 rows_in s trees has table.Callers = has.records.callers
 rows_in s trees has table.Kept = has.records.kept
@@ -240,7 +241,7 @@ module _ (one other : State) (trees : Trees) where
       → one.trips ≡ other.trips
   same_trips it laid rows chairs also = rows_tell.same_trips _ _ one.trips other.trips (laid_in one table.Trips it.sound).0 laid.0 it.rows rows chairs.rows also
 
-lines_there : (t : UnsoundTable) (one other : State) (trees : Trees) → StandsTo (number_of t) one trees → Each (IsLaidIn other) (take (number_of t) all_tables)
+lines_there : (t : TableName) (one other : State) (trees : Trees) → StandsTo (number_of t) one trees → Each (IsLaidIn other) (take (number_of t) all_tables)
     → HasRowsTo (number_of t) other trees → KeepsLinesIn other t
 lines_there table.Desk one other trees it laid rows = tt
 lines_there table.Callers one other trees it laid rows = subst AreSoundCallers (same_callers one other trees it.1.0 laid.1.0 rows.1.0) it.1.0.sound.1
@@ -285,7 +286,7 @@ lines_there table.TripChairs one other trees it laid rows =
     rows.1.1.1.1.1.1.1.1.1.1.1.1.1.0) it.1.1.1.1.1.1.1.1.1.1.1.1.1.0.sound.1)
 
 -- what stands in the tables up to one is sound there in the one content and so in the other
-pub sound_there : (t : UnsoundTable) (one other : State) (trees : Trees) → StandsTo (number_of t) one trees → Each (IsLaidIn other) (take (number_of t) all_tables) → IsLaidIn other t
+pub sound_there : (t : TableName) (one other : State) (trees : Trees) → StandsTo (number_of t) one trees → Each (IsLaidIn other) (take (number_of t) all_tables) → IsLaidIn other t
     → HasRowsTo (number_of t) other trees → IsSoundIn other t
 sound_there t one other trees it all laid rows = (ranges_laid other t laid, lines_there t one other trees it all rows)
 
@@ -301,7 +302,7 @@ pub no_answer : {X F : Type 0} (P : X → Type 0) (r : Result X F) → IsErr r �
 no_answer P (Ok x) bad = absurd (cc)
 no_answer P (Err f) bad = tt
 
-pub puts_so : {X : Type 0} (t : UnsoundTable) (old new : Connected) (s : State) (r : Result X OpenFault) (x : X) → r ≡ Ok x → Rests old new r → (change made : Change) → change ≡ made
+pub puts_so : {X : Type 0} (t : TableName) (old new : Connected) (s : State) (r : Result X OpenFault) (x : X) → r ≡ Ok x → Rests old new r → (change made : Change) → change ≡ made
     → IsReadIn t (applied made s)
     → (HasCleanDisk new → old.now.schema ≡ desk_schema → HasRowsTo (number_of t - 1) s old.now.trees → HasRowsTo (number_of t) (applied made s) old.now.trees)
     → ReadsTable t old new s (Ok change)
@@ -312,7 +313,7 @@ puts_so t old new s r x is rests change made same read rows = record {
   faults = tt;
 }
 
-pub fails_so : {X : Type 0} (t : UnsoundTable) (old new : Connected) (s : State) (r : Result X OpenFault) (e : OpenFault) (out : Result Change OpenFault) → IsErr out → IsErrAnd out (λ f. f ≡ e)
+pub fails_so : {X : Type 0} (t : TableName) (old new : Connected) (s : State) (r : Result X OpenFault) (e : OpenFault) (out : Result Change OpenFault) → IsErr out → IsErrAnd out (λ f. f ≡ e)
     → Rests old new r → (P : Type 0) → (HasRowsTo (number_of t - 1) s old.now.trees → P → NoneStandsTo (number_of t) old.now.trees)
     → IsFaultOf t (HasCleanDisk new → old.now.schema ≡ desk_schema → P) e → ReadsTable t old new s out
 fails_so t old new s r e out bad is rests P gives h = record {
@@ -331,14 +332,14 @@ fails_so t old new s r e out bad is rests P gives h = record {
 -- ---- records that are put where there were none
 
 -- What the change that puts records makes of a desk that has the tables before this one, and what it tells where no records have its rows.
-pub record ReadsSo {A : Type 0} (t : UnsoundTable) (key : A → ℕ) (home : Table) (rows_of : A → List Row) (Fits : A → Type 0) (puts : Edit A → Change) : Type 0 where
+pub record ReadsSo {A : Type 0} (t : TableName) (key : A → ℕ) (home : Table) (rows_of : A → List Row) (Fits : A → Type 0) (puts : Edit A → Change) : Type 0 where
   pub read : (s : State) (edit : Edit A) → IsReadTo (number_of t - 1) s → IsFitting key Fits edit → IsReadIn t (applied (puts edit) s)
   pub shown : (s : State) (trees : Trees) (edit : Edit A) → IsReadTo (number_of t - 1) s → IsFitting key Fits edit → AreRows home trees (flat_map rows_of edit.puts)
       → HasRowsTo (number_of t - 1) s trees → HasRowsTo (number_of t) (applied (puts edit) s) trees
   pub none : (trees : Trees) → AreRowsOfNone key home rows_of Fits trees → NoneStandsTo (number_of t) trees
 
 -- these are the records of the table in a content, which has them in this order and fitting so, and this change puts them
-module _ {A : Type 0} (t : UnsoundTable) (key : A → ℕ) (home : Table) (rows_of : A → List Row) (listed : List A → List Row) (same : (xs : List A) → flat_map rows_of xs ≡ listed xs)
+module _ {A : Type 0} (t : TableName) (key : A → ℕ) (home : Table) (rows_of : A → List Row) (listed : List A → List Row) (same : (xs : List A) → flat_map rows_of xs ≡ listed xs)
     (Fits FitsRead : A → Type 0) (weaker : (x : A) → FitsRead x → Fits x) (stronger : (x : A) → Fits x → FitsRead x) (records : State → List A) (puts : Edit A → Change)
     (empty : (s : State) → IsReadTo (number_of t - 1) s → records s ≡ [])
     (read_in : (s : State) (edit : Edit A) → IsReadTo (number_of t - 1) s → IsInOrder key (edited key edit (records s)) × Each Fits (edited key edit (records s)) → IsReadIn t (applied (puts edit) s))
@@ -454,7 +455,7 @@ travel_reads =
     (λ s read. read.later.0) (λ s edit read laid. record { laid = laid; sound = read.sound; later = read.later.1 }) (λ s edit trees rows. rows) (λ s edit trees rows. rows)
     (λ s laid. laid) (λ s trees rows. rows)
 
-module _ {A : Type 0} {t : UnsoundTable} {key : A → ℕ} {home : Table} {rows_of : A → List Row} {Fits : A → Type 0} {puts : Edit A → Change} (reads : ReadsSo t key home rows_of Fits puts)
+module _ {A : Type 0} {t : TableName} {key : A → ℕ} {home : Table} {rows_of : A → List Row} {Fits : A → Type 0} {puts : Edit A → Change} (reads : ReadsSo t key home rows_of Fits puts)
     (old new : Connected) (s : State) (r : Result (Edit A) OpenFault) (rests : Rests old new r) where
   -- the change of a read that answered
   pub puts_read : IsReadTo (number_of t - 1) s → (edit : Edit A) → r ≡ Ok edit → IsFitting key Fits edit → ReadsTables old new (λ trees. AreRows home trees (flat_map rows_of edit.puts))
@@ -502,13 +503,13 @@ trips_self (x ∷ xs) = (
 )
 
 -- what is sound of riders is sound of others with their rows
-riders_sound : (s : State) (xs : List Rider) → Each FitsRider xs → Paired AlikeRider s.riders xs → (t : UnsoundTable) → IsSoundIn s t → IsSoundIn (record s { riders = xs }) t
+riders_sound : (s : State) (xs : List Rider) → Each FitsRider xs → Paired AlikeRider s.riders xs → (t : TableName) → IsSoundIn s t → IsSoundIn (record s { riders = xs }) t
 riders_sound s xs each alike table.Riders sound = (each, alike_riders s.riders xs alike s.callers sound.1)
 riders_sound s xs each alike table.Entries sound = (sound.0, alike_entries s.riders xs alike s.callers s.entries sound.1)
 riders_sound s xs each alike table.Trips sound = (sound.0, alike_trips s.trips s.trips (trips_self s.trips) s.places s.riders xs s.last_trip alike sound.1)
 riders_sound s xs each alike _ sound = sound
 
-riders_rows : (s : State) (xs : List Rider) (trees : Trees) → map rider_row xs ≡ map rider_row s.riders → (t : UnsoundTable) → number_of t ≤ 11 → HasRowsIn s trees t → HasRowsIn (record s { riders = xs }) trees t
+riders_rows : (s : State) (xs : List Rider) (trees : Trees) → map rider_row xs ≡ map rider_row s.riders → (t : TableName) → number_of t ≤ 11 → HasRowsIn s trees t → HasRowsIn (record s { riders = xs }) trees t
 riders_rows s xs trees same table.Riders low rows = subst (AreRows riders_table trees) (sym same) rows
 riders_rows s xs trees same table.RiderChairs low rows = absurd (omega arith)
 riders_rows s xs trees same _ low rows = rows
@@ -545,13 +546,13 @@ rider_chairs_none trees none s stands =
     let laid = laid_in s table.Riders it.sound in
     none s.riders laid.1 laid.0 it.rows (here_in (StandsIn s trees) table.RiderChairs stands).rows
 
-vehicles_sound : (s : State) (xs : List Vehicle) → Each IsVehicle xs → Paired AlikeVehicle s.vehicles xs → (t : UnsoundTable) → number_of t ≤ 12 → IsSoundIn s t → IsSoundIn (record s { vehicles = xs }) t
+vehicles_sound : (s : State) (xs : List Vehicle) → Each IsVehicle xs → Paired AlikeVehicle s.vehicles xs → (t : TableName) → number_of t ≤ 12 → IsSoundIn s t → IsSoundIn (record s { vehicles = xs }) t
 vehicles_sound s xs each alike table.Vehicles low sound = (each, alike_vehicles s.callers s.places s.vehicles xs alike sound.1)
 vehicles_sound s xs each alike table.Travel low sound = (sound.0, alike_tables s.trips s.trips (trips_self s.trips) s.places s.vehicles xs s.planned s.travel alike sound.1)
 vehicles_sound s xs each alike table.TripChairs low sound = absurd (omega arith)
 vehicles_sound s xs each alike _ low sound = sound
 
-vehicles_rows : (s : State) (xs : List Vehicle) (trees : Trees) → map vehicle_row xs ≡ map vehicle_row s.vehicles → (t : UnsoundTable) → number_of t ≤ 12 → HasRowsIn s trees t
+vehicles_rows : (s : State) (xs : List Vehicle) (trees : Trees) → map vehicle_row xs ≡ map vehicle_row s.vehicles → (t : TableName) → number_of t ≤ 12 → HasRowsIn s trees t
     → HasRowsIn (record s { vehicles = xs }) trees t
 vehicles_rows s xs trees same table.Vehicles low rows = subst (AreRows vehicles_table trees) (sym same) rows
 vehicles_rows s xs trees same table.VehicleChairs low rows = absurd (omega arith)
@@ -589,14 +590,14 @@ vehicle_chairs_none trees none s stands =
     let laid = laid_in s table.Vehicles it.sound in
     none s.vehicles laid.1 laid.0 it.rows (here_in (StandsIn s trees) table.VehicleChairs stands).rows
 
-trips_sound : (s : State) (xs : List Trip) → Each FitsTrip xs → Paired AlikeTrip s.trips xs → (t : UnsoundTable) → number_of t ≤ 13 → IsSoundIn s t → IsSoundIn (record s { trips = xs }) t
+trips_sound : (s : State) (xs : List Trip) → Each FitsTrip xs → Paired AlikeTrip s.trips xs → (t : TableName) → number_of t ≤ 13 → IsSoundIn s t → IsSoundIn (record s { trips = xs }) t
 trips_sound s xs each alike table.Trips low sound = (each, alike_trips s.trips xs alike s.places s.riders s.riders s.last_trip (riders_self s.riders) sound.1)
 trips_sound s xs each alike table.Stops low sound = (sound.0, alike_plans s.trips xs alike s.planned sound.1)
 trips_sound s xs each alike table.Travel low sound = (sound.0, alike_tables s.trips xs alike s.places s.vehicles s.vehicles s.planned s.travel (vehicles_self s.vehicles) sound.1)
 trips_sound s xs each alike table.TripChairs low sound = absurd (omega arith)
 trips_sound s xs each alike _ low sound = sound
 
-trips_rows : (s : State) (xs : List Trip) (trees : Trees) → map trip_row xs ≡ map trip_row s.trips → (t : UnsoundTable) → number_of t ≤ 13 → HasRowsIn s trees t → HasRowsIn (record s { trips = xs }) trees t
+trips_rows : (s : State) (xs : List Trip) (trees : Trees) → map trip_row xs ≡ map trip_row s.trips → (t : TableName) → number_of t ≤ 13 → HasRowsIn s trees t → HasRowsIn (record s { trips = xs }) trees t
 trips_rows s xs trees same table.Trips low rows = subst (AreRows trips_table trees) (sym same) rows
 trips_rows s xs trees same table.TripChairs low rows = absurd (omega arith)
 trips_rows s xs trees same _ low rows = rows

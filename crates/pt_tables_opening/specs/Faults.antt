@@ -1,7 +1,7 @@
 -- Why a database is not opened.
 use Rattle.std.specs.Prelude.{◌≡◌, ◌⊎◌, ◌≤◌, ℕ}
 use Rattle.pt_base.specs.Codes.{memory_refused}
-use Rattle.pt_soundness.specs.Tables.{table_count}
+use Rattle.pt_desk_rules.specs.TableNames.{table_count}
 use Rattle.pt_tables_opening.specs.declared.open_fault.OpenFault.{OpenFault}
 
 -- the store refused, or failed

@@ -3,12 +3,13 @@ use Rattle.std.specs.Prelude.{ℕ, ◌-◌, ◌<◌, take}
 use Rattle.sqlite.specs.Tree.{Trees}
 use Rattle.pt_desk_rules.specs.State.{State}
 use Rattle.pt_records.specs.Records.{Each}
-use Rattle.pt_soundness.specs.Tables.{all_tables, IsSoundIn}
-use Rattle.pt_soundness.specs.declared.unsound_table.UnsoundTable.{UnsoundTable}
+use Rattle.pt_desk_rules.specs.TableNames.{all_tables}
+use Rattle.pt_soundness.specs.Tables.{IsSoundIn}
+use Rattle.pt_desk_rules.specs.declared.table_name.TableName.{TableName}
 use Rattle.pt_tables_opening.specs.Tables.{HasRowsIn}
 
 -- the content has the rows of this table, and is sound there
-pub record StandsIn (s : State) (trees : Trees) (table : UnsoundTable) : Type 0 where
+pub record StandsIn (s : State) (trees : Trees) (table : TableName) : Type 0 where
   pub rows : HasRowsIn s trees table
   pub sound : IsSoundIn s table
 

@@ -3,12 +3,13 @@ use Rattle.std.specs.Prelude.{◌≡◌, ◌⊎◌, ℕ, ◌-◌, take, drop, Re
 use Rattle.sqlite.specs.State.{State as Connected, HasCleanDisk}
 use Rattle.sqlite.specs.Tree.{Trees}
 use Rattle.pt_base.specs.Codes.{memory_refused}
-use Rattle.pt_desk.specs.Listed.{Listed}
+use Rattle.pt_store.specs.Listed.{Listed}
 use Rattle.pt_desk_rules.specs.State.{State, applied}
 use Rattle.pt_desk_rules.specs.declared.change.Change.{Change}
 use Rattle.pt_records.specs.Records.{Each}
-use Rattle.pt_soundness.specs.Tables.{all_tables, number_of, IsSoundBefore, IsSoundTo}
-use Rattle.pt_soundness.specs.declared.unsound_table.UnsoundTable.{UnsoundTable}
+use Rattle.pt_desk_rules.specs.TableNames.{all_tables, number_of}
+use Rattle.pt_soundness.specs.Tables.{IsSoundBefore, IsSoundTo}
+use Rattle.pt_desk_rules.specs.declared.table_name.TableName.{TableName}
 use Rattle.pt_tables_opening.specs.Faults.{IsRefusal, fault, store_refused, unsound}
 use Rattle.pt_tables_opening.specs.Opening.{Rests}
 use Rattle.pt_tables_opening.specs.Refused.{SparesOtherVersion, TellsWhy}
@@ -23,7 +24,7 @@ pub record IsReadTo (number : ℕ) (s : State) : Type 0 where
   pub later : Each (HasNoneIn s) (drop number all_tables)
 
 -- this table too was read, and not yet judged
-pub record IsReadIn (table : UnsoundTable) (s : State) : Type 0 where
+pub record IsReadIn (table : TableName) (s : State) : Type 0 where
   pub laid : IsLaidIn s table
   pub sound : IsSoundBefore s table
   pub later : Each (HasNoneIn s) (drop (number_of table) all_tables)
@@ -33,13 +34,13 @@ abbrev pub HasRowsTo : ℕ → State → Trees → Type 0
 HasRowsTo number s trees = Each (HasRowsIn s trees) (take number all_tables)
 
 -- memory was refused, the store failed, or the rows are at fault for this reason
-abbrev pub IsFaultOf : UnsoundTable → Type 0 → OpenFault → Type 0
+abbrev pub IsFaultOf : TableName → Type 0 → OpenFault → Type 0
 IsFaultOf table Why refused =
     (refused ≡ fault memory_refused)
     ⊎ ((refused ≡ fault store_refused) ⊎ ((refused ≡ unsound (number_of table)) × Why))
 
 -- A table is read where this content has the rows of all before it: the change adds what the rows tell.
-pub record ReadsTable (table : UnsoundTable) (old new : Connected) (s : State) (result : Result Change OpenFault)
+pub record ReadsTable (table : TableName) (old new : Connected) (s : State) (result : Result Change OpenFault)
     : Type 0 where
   pub rests : Rests old new result
   pub read : IfOk result (λ change. IsReadIn table (applied change s))
@@ -49,7 +50,7 @@ pub record ReadsTable (table : UnsoundTable) (old new : Connected) (s : State) (
       → HasRowsTo (number_of table - 1) s old.now.trees → NoneStandsTo (number_of table) old.now.trees))
 
 -- and it is judged
-pub record OpensTable (table : UnsoundTable) (old new : Connected) (s : State) (result : Result Listed OpenFault)
+pub record OpensTable (table : TableName) (old new : Connected) (s : State) (result : Result Listed OpenFault)
     : Type 0 where
   pub rests : Rests old new result
   pub read : IfOk result (λ keeper. IsReadTo (number_of table) keeper.content)

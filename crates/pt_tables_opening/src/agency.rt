@@ -14,7 +14,7 @@ use crate::open_fault::fault_of;
 use crate::table_rows::desk_rows;
 use crate::version::has_version;
 use pt_base::Policy;
-use pt_soundness::UnsoundTable;
+use pt_desk_rules::TableName;
 use pt_tables_reading::agency_of;
 use pt_tables_rows::TABLE_VERSION;
 use sqlite::{Alter, Connection, Row};
@@ -27,14 +27,14 @@ fn agency_from(rows: &[Row]) -> Result<(Policy, u32), OpenFault>
         ⊎ ((refused ≡ unsound 1) × TellsNoAgency rows.now)) }
 {
     let [row] = rows else {
-        return Err(OpenFault::unsound(UnsoundTable::Desk));
+        return Err(OpenFault::unsound(TableName::Desk));
     };
     if !has_version(row, TABLE_VERSION) {
         return Err(OpenFault::OTHER_TABLES);
     }
     match agency_of(row) {
         Some(agency) => Ok(agency),
-        None => Err(OpenFault::unsound(UnsoundTable::Desk)),
+        None => Err(OpenFault::unsound(TableName::Desk)),
     }
 }
 

@@ -5,7 +5,7 @@ ghost use Rattle.sqlite.specs.Order.{Row as StoredRow};
 ghost use Rattle.sqlite.specs.Held.{state};
 ghost use Rattle.pt_base.specs.Codes.{memory_refused};
 ghost use Rattle.pt_records.specs.Records.{Each, IsInOrder};
-ghost use Rattle.pt_soundness.specs.Tables.{number_of};
+ghost use Rattle.pt_desk_rules.specs.TableNames.{number_of};
 ghost use Rattle.pt_tables_opening.specs.Beside.{AreBeside, IsAlone, NoneBeside, TellsBeside};
 ghost use Rattle.pt_tables_opening.specs.Faults.{fault, store_refused, unsound};
 ghost use Rattle.pt_tables_opening.specs.Gathered.{IsFitting, KeepsRows};
@@ -17,8 +17,8 @@ use crate::OpenFault;
 use crate::open_fault::fault_of;
 use crate::table_rows::rows_of_table;
 use pt_base::{Rider, Trip, Vehicle};
+use pt_desk_rules::TableName;
 use pt_records::Edits;
-use pt_soundness::UnsoundTable;
 use pt_tables_reading::{OneRow, rider_beside, trip_beside, vehicle_beside};
 use pt_tables_rows::tables::{
     RiderChairs, Riders, TableOf, TripChairs, Trips, VehicleChairs, Vehicles,
@@ -152,7 +152,7 @@ fn merged_table<T: Beside>(
     alloc: Global,
     records: &[T::Record],
     rows: &[Row],
-    table: UnsoundTable,
+    table: TableName,
 ) -> Result<Edits<T::Record>, OpenFault>
     requires beside { AreBeside T.Record.key T.First.row_of T.rows_of }
     requires fits { Each T.Fits records.now }
@@ -178,7 +178,7 @@ pub(crate) fn beside_in<S: Alter, T: Beside>(
     conn: &mut Connection<S>,
     records: &[T::Record],
     text: &str,
-    table: UnsoundTable,
+    table: TableName,
 ) -> Result<Edits<T::Record>, OpenFault>
     requires asked { AsksForAll text.now T.home (KeepsRows T.Record.key T.rows_of T.Fits) }
     requires beside { AreBeside T.Record.key T.First.row_of T.rows_of }

@@ -2,7 +2,7 @@
 
 ghost use Rattle.sqlite.specs.Held.{state};
 ghost use Rattle.pt_desk_rules.specs.State.{State};
-ghost use Rattle.pt_soundness.specs.Tables.{number_of};
+ghost use Rattle.pt_desk_rules.specs.TableNames.{number_of};
 ghost use Rattle.pt_tables_opening.specs.Steps.{IsReadTo, ReadsTable};
 ghost use Rattle.std.specs.Prelude.{◌-◌, ◌<◌};
 
@@ -10,9 +10,8 @@ use crate::OpenFault;
 use crate::beside::beside_in;
 use crate::gathered::gathered_in;
 use crate::one_row::RowByRow;
-use pt_desk::ListKeeper;
-use pt_desk_rules::Change;
-use pt_soundness::UnsoundTable;
+use pt_desk_rules::{Change, TableName};
+use pt_store::ListKeeper;
 use pt_tables_rows::tables::{
     Callers, Entries, FixedRoutes, KeptWrites, Places, Plans, RiderChairs, Riders, TravelTables,
     TripChairs, Trips, VehicleChairs, Vehicles,
@@ -25,13 +24,13 @@ const CALLER_ROWS: &str = "SELECT id, role, subject, digest FROM callers ORDER B
 /// The callers, to be put.
 fn callers_change<S: Alter>(alloc: Global, conn: &mut Connection<S>) -> Result<Change, OpenFault>
     ensures { (s : State) → IsReadTo 1 s
-        → ReadsTable UnsoundTable.Callers (state S.Store conn.old) (state S.Store conn.new) s result }
+        → ReadsTable TableName.Callers (state S.Store conn.old) (state S.Store conn.new) s result }
 {
     let callers = gathered_in::<S, RowByRow<Callers>>(
         alloc,
         conn,
         CALLER_ROWS,
-        UnsoundTable::Callers,
+        TableName::Callers,
     )?;
     Ok(Change {
         callers,
@@ -44,9 +43,9 @@ const KEPT_ROWS: &str = "SELECT caller, number, request, reply FROM kept ORDER B
 /// What callers were last told, to be put.
 fn kept_change<S: Alter>(alloc: Global, conn: &mut Connection<S>) -> Result<Change, OpenFault>
     ensures { (s : State) → IsReadTo 2 s
-        → ReadsTable UnsoundTable.Kept (state S.Store conn.old) (state S.Store conn.new) s result }
+        → ReadsTable TableName.Kept (state S.Store conn.old) (state S.Store conn.new) s result }
 {
-    let kept = gathered_in::<S, RowByRow<KeptWrites>>(alloc, conn, KEPT_ROWS, UnsoundTable::Kept)?;
+    let kept = gathered_in::<S, RowByRow<KeptWrites>>(alloc, conn, KEPT_ROWS, TableName::Kept)?;
     Ok(Change {
         kept,
         ..Change::none(alloc)
@@ -58,9 +57,9 @@ const PLACE_ROWS: &str = "SELECT id, x, y, core FROM places ORDER BY id";
 /// The places, to be put.
 fn places_change<S: Alter>(alloc: Global, conn: &mut Connection<S>) -> Result<Change, OpenFault>
     ensures { (s : State) → IsReadTo 3 s
-        → ReadsTable UnsoundTable.Places (state S.Store conn.old) (state S.Store conn.new) s result }
+        → ReadsTable TableName.Places (state S.Store conn.old) (state S.Store conn.new) s result }
 {
-    let places = gathered_in::<S, RowByRow<Places>>(alloc, conn, PLACE_ROWS, UnsoundTable::Places)?;
+    let places = gathered_in::<S, RowByRow<Places>>(alloc, conn, PLACE_ROWS, TableName::Places)?;
     Ok(Change {
         places,
         ..Change::none(alloc)
@@ -74,13 +73,13 @@ const ROUTE_ROWS: &str =
 /// The fixed routes, to be put.
 fn routes_change<S: Alter>(alloc: Global, conn: &mut Connection<S>) -> Result<Change, OpenFault>
     ensures { (s : State) → IsReadTo 4 s
-        → ReadsTable UnsoundTable.Fixed (state S.Store conn.old) (state S.Store conn.new) s result }
+        → ReadsTable TableName.Fixed (state S.Store conn.old) (state S.Store conn.new) s result }
 {
     let routes = gathered_in::<S, RowByRow<FixedRoutes>>(
         alloc,
         conn,
         ROUTE_ROWS,
-        UnsoundTable::Fixed,
+        TableName::Fixed,
     )?;
     Ok(Change {
         routes,
@@ -95,13 +94,13 @@ const VEHICLE_ROWS: &str =
 /// The vehicles, with no wheelchair places yet, to be put.
 fn vehicles_change<S: Alter>(alloc: Global, conn: &mut Connection<S>) -> Result<Change, OpenFault>
     ensures { (s : State) → IsReadTo 5 s
-        → ReadsTable UnsoundTable.Vehicles (state S.Store conn.old) (state S.Store conn.new) s result }
+        → ReadsTable TableName.Vehicles (state S.Store conn.old) (state S.Store conn.new) s result }
 {
     let vehicles = gathered_in::<S, RowByRow<Vehicles>>(
         alloc,
         conn,
         VEHICLE_ROWS,
-        UnsoundTable::Vehicles,
+        TableName::Vehicles,
     )?;
     Ok(Change {
         vehicles,
@@ -114,9 +113,9 @@ const RIDER_ROWS: &str = "SELECT id, kind, attendant FROM riders ORDER BY id";
 /// The riders, in no wheelchairs yet, to be put.
 fn riders_change<S: Alter>(alloc: Global, conn: &mut Connection<S>) -> Result<Change, OpenFault>
     ensures { (s : State) → IsReadTo 6 s
-        → ReadsTable UnsoundTable.Riders (state S.Store conn.old) (state S.Store conn.new) s result }
+        → ReadsTable TableName.Riders (state S.Store conn.old) (state S.Store conn.new) s result }
 {
-    let riders = gathered_in::<S, RowByRow<Riders>>(alloc, conn, RIDER_ROWS, UnsoundTable::Riders)?;
+    let riders = gathered_in::<S, RowByRow<Riders>>(alloc, conn, RIDER_ROWS, TableName::Riders)?;
     Ok(Change {
         riders,
         ..Change::none(alloc)
@@ -130,14 +129,9 @@ const ENTRY_ROWS: &str =
 /// What was entered on riders, to be put.
 fn entries_change<S: Alter>(alloc: Global, conn: &mut Connection<S>) -> Result<Change, OpenFault>
     ensures { (s : State) → IsReadTo 7 s
-        → ReadsTable UnsoundTable.Entries (state S.Store conn.old) (state S.Store conn.new) s result }
+        → ReadsTable TableName.Entries (state S.Store conn.old) (state S.Store conn.new) s result }
 {
-    let entries = gathered_in::<S, RowByRow<Entries>>(
-        alloc,
-        conn,
-        ENTRY_ROWS,
-        UnsoundTable::Entries,
-    )?;
+    let entries = gathered_in::<S, RowByRow<Entries>>(alloc, conn, ENTRY_ROWS, TableName::Entries)?;
     Ok(Change {
         entries,
         ..Change::none(alloc)
@@ -151,9 +145,9 @@ const TRIP_ROWS: &str =
 /// The trips, in no wheelchairs yet, to be put.
 fn trips_change<S: Alter>(alloc: Global, conn: &mut Connection<S>) -> Result<Change, OpenFault>
     ensures { (s : State) → IsReadTo 8 s
-        → ReadsTable UnsoundTable.Trips (state S.Store conn.old) (state S.Store conn.new) s result }
+        → ReadsTable TableName.Trips (state S.Store conn.old) (state S.Store conn.new) s result }
 {
-    let trips = gathered_in::<S, RowByRow<Trips>>(alloc, conn, TRIP_ROWS, UnsoundTable::Trips)?;
+    let trips = gathered_in::<S, RowByRow<Trips>>(alloc, conn, TRIP_ROWS, TableName::Trips)?;
     Ok(Change {
         trips,
         ..Change::none(alloc)
@@ -166,9 +160,9 @@ const STOP_ROWS: &str =
 /// The planned routes, to be put.
 fn planned_change<S: Alter>(alloc: Global, conn: &mut Connection<S>) -> Result<Change, OpenFault>
     ensures { (s : State) → IsReadTo 9 s
-        → ReadsTable UnsoundTable.Stops (state S.Store conn.old) (state S.Store conn.new) s result }
+        → ReadsTable TableName.Stops (state S.Store conn.old) (state S.Store conn.new) s result }
 {
-    let planned = gathered_in::<S, Plans>(alloc, conn, STOP_ROWS, UnsoundTable::Stops)?;
+    let planned = gathered_in::<S, Plans>(alloc, conn, STOP_ROWS, TableName::Stops)?;
     Ok(Change {
         planned,
         ..Change::none(alloc)
@@ -180,9 +174,9 @@ const TRAVEL_ROWS: &str = "SELECT from_day, a, b, minutes FROM travel ORDER BY f
 /// The travel tables, to be put.
 fn travel_change<S: Alter>(alloc: Global, conn: &mut Connection<S>) -> Result<Change, OpenFault>
     ensures { (s : State) → IsReadTo 10 s
-        → ReadsTable UnsoundTable.Travel (state S.Store conn.old) (state S.Store conn.new) s result }
+        → ReadsTable TableName.Travel (state S.Store conn.old) (state S.Store conn.new) s result }
 {
-    let travel = gathered_in::<S, TravelTables>(alloc, conn, TRAVEL_ROWS, UnsoundTable::Travel)?;
+    let travel = gathered_in::<S, TravelTables>(alloc, conn, TRAVEL_ROWS, TableName::Travel)?;
     Ok(Change {
         travel,
         ..Change::none(alloc)
@@ -198,7 +192,7 @@ fn rider_chairs_change<S: Alter>(
     keeper: &ListKeeper,
 ) -> Result<Change, OpenFault>
     requires before { IsReadTo 11 keeper.now.content }
-    ensures { ReadsTable UnsoundTable.RiderChairs (state S.Store conn.old) (state S.Store conn.new)
+    ensures { ReadsTable TableName.RiderChairs (state S.Store conn.old) (state S.Store conn.new)
         keeper.now.content result }
 {
     let riders = beside_in::<S, RiderChairs>(
@@ -206,7 +200,7 @@ fn rider_chairs_change<S: Alter>(
         conn,
         keeper.riders_table().as_slice(),
         RIDER_CHAIR_ROWS,
-        UnsoundTable::RiderChairs,
+        TableName::RiderChairs,
     )?;
     Ok(Change {
         riders,
@@ -224,7 +218,7 @@ fn vehicle_chairs_change<S: Alter>(
     keeper: &ListKeeper,
 ) -> Result<Change, OpenFault>
     requires before { IsReadTo 12 keeper.now.content }
-    ensures { ReadsTable UnsoundTable.VehicleChairs (state S.Store conn.old) (state S.Store conn.new)
+    ensures { ReadsTable TableName.VehicleChairs (state S.Store conn.old) (state S.Store conn.new)
         keeper.now.content result }
 {
     let vehicles = beside_in::<S, VehicleChairs>(
@@ -232,7 +226,7 @@ fn vehicle_chairs_change<S: Alter>(
         conn,
         keeper.vehicles_table().as_slice(),
         VEHICLE_CHAIR_ROWS,
-        UnsoundTable::VehicleChairs,
+        TableName::VehicleChairs,
     )?;
     Ok(Change {
         vehicles,
@@ -249,7 +243,7 @@ fn trip_chairs_change<S: Alter>(
     keeper: &ListKeeper,
 ) -> Result<Change, OpenFault>
     requires before { IsReadTo 13 keeper.now.content }
-    ensures { ReadsTable UnsoundTable.TripChairs (state S.Store conn.old) (state S.Store conn.new)
+    ensures { ReadsTable TableName.TripChairs (state S.Store conn.old) (state S.Store conn.new)
         keeper.now.content result }
 {
     let trips = beside_in::<S, TripChairs>(
@@ -257,7 +251,7 @@ fn trip_chairs_change<S: Alter>(
         conn,
         keeper.trips_table().as_slice(),
         TRIP_CHAIR_ROWS,
-        UnsoundTable::TripChairs,
+        TableName::TripChairs,
     )?;
     Ok(Change {
         trips,
@@ -271,26 +265,26 @@ pub(crate) fn change_in<S: Alter>(
     alloc: Global,
     conn: &mut Connection<S>,
     keeper: &ListKeeper,
-    table: UnsoundTable,
+    table: TableName,
 ) -> Result<Change, OpenFault>
     requires later { 1 < number_of table }
     requires before { IsReadTo (number_of table - 1) keeper.now.content }
     ensures { ReadsTable table (state S.Store conn.old) (state S.Store conn.new) keeper.now.content result }
 {
     match table {
-        UnsoundTable::Desk => Ok(Change::none(alloc)),
-        UnsoundTable::Callers => callers_change(alloc, conn),
-        UnsoundTable::Kept => kept_change(alloc, conn),
-        UnsoundTable::Places => places_change(alloc, conn),
-        UnsoundTable::Fixed => routes_change(alloc, conn),
-        UnsoundTable::Vehicles => vehicles_change(alloc, conn),
-        UnsoundTable::Riders => riders_change(alloc, conn),
-        UnsoundTable::Entries => entries_change(alloc, conn),
-        UnsoundTable::Trips => trips_change(alloc, conn),
-        UnsoundTable::Stops => planned_change(alloc, conn),
-        UnsoundTable::Travel => travel_change(alloc, conn),
-        UnsoundTable::RiderChairs => rider_chairs_change(alloc, conn, keeper),
-        UnsoundTable::VehicleChairs => vehicle_chairs_change(alloc, conn, keeper),
-        UnsoundTable::TripChairs => trip_chairs_change(alloc, conn, keeper),
+        TableName::Desk => Ok(Change::none(alloc)),
+        TableName::Callers => callers_change(alloc, conn),
+        TableName::Kept => kept_change(alloc, conn),
+        TableName::Places => places_change(alloc, conn),
+        TableName::Fixed => routes_change(alloc, conn),
+        TableName::Vehicles => vehicles_change(alloc, conn),
+        TableName::Riders => riders_change(alloc, conn),
+        TableName::Entries => entries_change(alloc, conn),
+        TableName::Trips => trips_change(alloc, conn),
+        TableName::Stops => planned_change(alloc, conn),
+        TableName::Travel => travel_change(alloc, conn),
+        TableName::RiderChairs => rider_chairs_change(alloc, conn, keeper),
+        TableName::VehicleChairs => vehicle_chairs_change(alloc, conn, keeper),
+        TableName::TripChairs => trip_chairs_change(alloc, conn, keeper),
     }
 }

@@ -3,7 +3,7 @@ ghost use Rattle.pt_base.specs.Codes.{memory_refused};
 ghost use Rattle.pt_desk_rules.specs.Deciding.{no_change};
 ghost use Rattle.pt_desk_rules.specs.State.{applied};
 ghost use Rattle.pt_records.specs.Records.{Each};
-ghost use Rattle.pt_soundness.specs.Tables.{all_tables};
+ghost use Rattle.pt_desk_rules.specs.TableNames.{all_tables};
 ghost use Rattle.pt_spelling.specs.Ranges.{IsWord};
 ghost use Rattle.pt_tables_opening.specs.Faults.{fault};
 ghost use Rattle.pt_tables_opening.specs.Tables.{HasNoneIn};
@@ -11,9 +11,9 @@ ghost use Rattle.pt_tables_opening.specs.Agency.{numbers};
 
 use crate::OpenFault;
 use pt_base::{Policy, TripId};
-use pt_desk::ListKeeper;
 use pt_desk_rules::Change;
 use pt_records::{Key, Span};
+use pt_store::ListKeeper;
 use std::alloc::Global;
 
 /// The key of nobody, which the admin of the least state has until all callers are taken away.

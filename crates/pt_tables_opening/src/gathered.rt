@@ -5,7 +5,7 @@ ghost use Rattle.std.specs.Prelude.{slice_index_or};
 ghost use Rattle.sqlite.specs.Order.{Row as StoredRow, column};
 ghost use Rattle.sqlite.specs.Held.{state};
 ghost use Rattle.pt_base.specs.Codes.{memory_refused};
-ghost use Rattle.pt_soundness.specs.Tables.{number_of};
+ghost use Rattle.pt_desk_rules.specs.TableNames.{number_of};
 ghost use Rattle.pt_tables_opening.specs.Faults.{fault, store_refused, unsound};
 ghost use Rattle.pt_tables_opening.specs.Gathered.{AreRowsOfNone, BeginsOnce, FitsRows, GathersNothing, IsFitting};
 ghost use Rattle.pt_tables_opening.specs.Gathered.{KeepsOrder, TellsGathered};
@@ -17,8 +17,8 @@ ghost use Rattle.pt_tables_rows.specs.Tables.{AreRows};
 use crate::OpenFault;
 use crate::open_fault::fault_of;
 use crate::table_rows::rows_of_table;
+use pt_desk_rules::TableName;
 use pt_records::Edits;
-use pt_soundness::UnsoundTable;
 use pt_tables_asking::are_rising;
 use pt_tables_rows::tables::TableOf;
 use sqlite::types::ValueRef;
@@ -91,7 +91,7 @@ fn gathered_of<T: Gathered>(
 fn gathered_table<T: Gathered>(
     alloc: Global,
     rows: &[Row],
-    table: UnsoundTable,
+    table: TableName,
 ) -> Result<Edits<T::Record>, OpenFault>
     ensures fitting { IfOk result (IsFitting T.Record.key (FitsRows T.rows_of T.Fits)) }
     ensures told { IfOk result (λ edit. flat_map T.rows_of edit.puts ≡ rows.now) }
@@ -116,7 +116,7 @@ pub(crate) fn gathered_in<S: Alter, T: Gathered>(
     alloc: Global,
     conn: &mut Connection<S>,
     text: &str,
-    table: UnsoundTable,
+    table: TableName,
 ) -> Result<Edits<T::Record>, OpenFault>
     requires asked { AsksForAll text.now T.home (KeepsOrder T.Record.key T.rows_of (FitsRows T.rows_of T.Fits)) }
     ensures fitting { IfOk result (IsFitting T.Record.key (FitsRows T.rows_of T.Fits)) }

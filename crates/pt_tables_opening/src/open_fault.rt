@@ -1,10 +1,10 @@
 ghost use Rattle.std.specs.Prelude.{◌≡◌, ◌≢◌};
 ghost use Rattle.pt_base.specs.Codes.{memory_refused};
-ghost use Rattle.pt_soundness.specs.Tables.{number_of};
+ghost use Rattle.pt_desk_rules.specs.TableNames.{number_of};
 ghost use Rattle.pt_tables_opening.specs.Faults.{IsRefusal, fault, store_refused, unsound};
 
 use pt_base::fault;
-use pt_soundness::UnsoundTable;
+use pt_desk_rules::TableName;
 use sqlite::{Error, ErrorCode};
 
 /// Why a database is not opened.
@@ -31,7 +31,7 @@ impl OpenFault {
     pub const OTHER_TABLES: OpenFault = OpenFault { code: 30, table: 0 };
 
     /// The rows of this table are those of no sound state.
-    pub(crate) fn unsound(table: UnsoundTable) -> OpenFault
+    pub(crate) fn unsound(table: TableName) -> OpenFault
         ensures value { result ≡ unsound (number_of table) }
     {
         OpenFault {

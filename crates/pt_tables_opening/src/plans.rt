@@ -8,8 +8,7 @@ ghost use Rattle.pt_tables_rows.specs.Tables.{IsStoredPlan};
 
 use crate::gathered::{Gathered, is_nought};
 use pt_base::{Day, VehicleId};
-use pt_desk_rules::PlannedRoute;
-use pt_scheduling::PlannedStop;
+use pt_scheduling::{PlannedRoute, PlannedStop};
 use pt_tables_reading::stop_of;
 use pt_tables_rows::tables::Plans;
 use sqlite::Row;

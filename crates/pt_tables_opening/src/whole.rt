@@ -4,7 +4,8 @@ ghost use Rattle.sqlite.specs.State.{HasCleanDisk, IsLive, Survives};
 ghost use Rattle.pt_base.specs.Codes.{memory_refused};
 ghost use Rattle.pt_desk_rules.specs.Sound.{IsSound};
 ghost use Rattle.pt_desk_rules.specs.State.{applied};
-ghost use Rattle.pt_soundness.specs.Tables.{number_of, table_count, IsSoundBefore, IsSoundIn};
+ghost use Rattle.pt_desk_rules.specs.TableNames.{number_of, table_count};
+ghost use Rattle.pt_soundness.specs.Tables.{IsSoundBefore, IsSoundIn};
 ghost use Rattle.pt_tables_opening.specs.Faults.{IsRefusal, fault, unsound};
 ghost use Rattle.pt_tables_opening.specs.Opening.{Rests, Stays};
 ghost use Rattle.pt_tables_opening.specs.Refused.{SparesOtherVersion, TellsOf};
@@ -18,9 +19,9 @@ use crate::agency::agency_in;
 use crate::changes::change_in;
 use crate::content::{desk_of, with_change};
 use crate::schema_check::is_desk_schema;
-use pt_desk::ListKeeper;
-use pt_desk_rules::Change;
-use pt_soundness::{UnsoundTable, is_sound_in};
+use pt_desk_rules::{Change, TableName};
+use pt_soundness::is_sound_in;
+use pt_store::ListKeeper;
 use sqlite::{Alter, Connection};
 use std::alloc::Global;
 
@@ -28,7 +29,7 @@ use std::alloc::Global;
 const SECOND_TABLE: u32 = 2;
 
 /// The rows of this table are those of no sound state.
-fn at_fault(table: UnsoundTable) -> OpenFault
+fn at_fault(table: TableName) -> OpenFault
     ensures value { result ≡ unsound (number_of table) }
     ensures refusal { IsRefusal result }
 {
@@ -41,7 +42,7 @@ fn judged(
     alloc: Global,
     keeper: ListKeeper,
     change: Change,
-    table: UnsoundTable,
+    table: TableName,
 ) -> Result<ListKeeper, OpenFault>
     requires before { IsSoundBefore (applied change keeper.content) table }
     requires laid { IsLaidIn (applied change keeper.content) table }
@@ -63,7 +64,7 @@ fn with_table<S: Alter>(
     alloc: Global,
     conn: &mut Connection<S>,
     keeper: ListKeeper,
-    table: UnsoundTable,
+    table: TableName,
 ) -> Result<ListKeeper, OpenFault>
     requires later { 1 < number_of table }
     requires before { IsReadTo (number_of table - 1) keeper.content }
@@ -87,7 +88,7 @@ fn all_tables<S: Alter>(alloc: Global, conn: &mut Connection<S>) -> Result<ListK
 {
     let mut keeper = first_table(alloc, conn)?;
     let mut number = SECOND_TABLE;
-    while let Some(table) = UnsoundTable::with_number(number) {
+    while let Some(table) = TableName::with_number(number) {
         keeper = with_table(alloc, conn, keeper, table)?;
         number += 1;
     }

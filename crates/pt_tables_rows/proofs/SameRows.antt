@@ -22,15 +22,16 @@ use Rattle.pt_base.specs.declared.trip_status.TripStatus.{TripStatus}
 use Rattle.pt_base.specs.declared.trip_status.TripStatus.TheVariants.{Booked, Cancelled, Ridden, MissedRider, MissedOperator}
 use Rattle.pt_base.specs.declared.vehicle.Vehicle.{Vehicle}
 use Rattle.pt_corridor.specs.Route.{Route, IsRouteOnPlane}
+use Rattle.pt_desk_rules.specs.Parts as part
 use Rattle.pt_desk_rules.specs.Travel.{DatedTable}
 use Rattle.pt_desk_rules.specs.declared.change.FiledEntry.{FiledEntry}
 use Rattle.pt_desk_rules.specs.declared.kept.Kept.{Kept}
 use Rattle.pt_requests.specs.declared.caller.Caller.{Caller}
 use Rattle.pt_requests.specs.declared.caller.Role.{Role}
 use Rattle.pt_requests.specs.declared.caller.Role.TheVariants as role
-use Rattle.pt_rights.specs.declared.entry.Entry.{Entry}
-use Rattle.pt_rights.specs.declared.entry.Entry.TheVariants as entry
-use Rattle.pt_rights.specs.declared.entry.Grant.{Grant}
+use Rattle.pt_desk_rules.specs.Entry.{Entry}
+use Rattle.pt_desk_rules.specs.Entry.TheVariants as entry
+use Rattle.pt_desk_rules.specs.Grant.{Grant}
 use Rattle.pt_spelling.specs.Fields.{numbers_bytes}
 use Rattle.pt_spelling.specs.Ranges.{IsWeek, IsEntry, IsWord, IsRoute, IsVehicle}
 use Rattle.pt_spelling.specs.Replies.{IsReply}
@@ -450,17 +451,17 @@ module _ (one other : State) (trees : Trees) (ones : IsWellFormed one) (others :
       let other_rows = others_show.records in
       let desk = one_same _ _ (shared _ _ _ rows.desk other_rows.desk) in
       let callers = same_callers _ one.callers other.callers ones.callers others.callers rows.callers other_rows.callers in
-      let kept = same_kept _ one.kept other.kept ones.kept others.kept ones.ranges.kept others.ranges.kept rows.kept other_rows.kept in
+      let kept = same_kept _ one.kept other.kept ones.kept others.kept (ones.ranges.parts part.kept) (others.ranges.parts part.kept) rows.kept other_rows.kept in
       let places = same_places _ one.places other.places ones.places others.places rows.places other_rows.places in
-      let routes = same_routes _ one.routes other.routes ones.routes others.routes ones.ranges.routes others.ranges.routes rows.fixed other_rows.fixed in
+      let routes = same_routes _ one.routes other.routes ones.routes others.routes (ones.ranges.parts part.routes) (others.ranges.parts part.routes) rows.fixed other_rows.fixed in
       let riders = same_riders _ _ one.riders other.riders ones.riders others.riders rows.riders other_rows.riders shows.rider_chairs others_show.rider_chairs in
-      let entries = same_entries _ one.entries other.entries ones.entries others.entries ones.ranges.entries others.ranges.entries rows.entries other_rows.entries in
-      let vehicles = same_vehicles _ _ one.vehicles other.vehicles ones.vehicles others.vehicles ones.ranges.vehicles others.ranges.vehicles rows.vehicles other_rows.vehicles
+      let entries = same_entries _ one.entries other.entries ones.entries others.entries (ones.ranges.parts part.entries) (others.ranges.parts part.entries) rows.entries other_rows.entries in
+      let vehicles = same_vehicles _ _ one.vehicles other.vehicles ones.vehicles others.vehicles (ones.ranges.parts part.vehicles) (others.ranges.parts part.vehicles) rows.vehicles other_rows.vehicles
       shows.vehicle_chairs others_show.vehicle_chairs in
-      let travel = same_travel _ one.travel other.travel ones.travel others.travel ones.ranges.travel others.ranges.travel rows.travel other_rows.travel in
+      let travel = same_travel _ one.travel other.travel ones.travel others.travel (ones.ranges.parts part.travel) (others.ranges.parts part.travel) rows.travel other_rows.travel in
       let trips = same_trips _ _ one.trips other.trips ones.trips others.trips rows.trips other_rows.trips shows.trip_chairs others_show.trip_chairs in
-      let planned = same_planned _ one.planned other.planned ones.planned others.planned (stored-plans one.planned ones.ranges.planned ones.stops)
-      (stored-plans other.planned others.ranges.planned others.stops) rows.stops other_rows.stops in
+      let planned = same_planned _ one.planned other.planned ones.planned others.planned (stored-plans one.planned (ones.ranges.parts part.planned) ones.stops)
+      (stored-plans other.planned (others.ranges.parts part.planned) others.stops) rows.stops other_rows.stops in
       λ i. record {
         callers = callers i;
         kept = kept i;

@@ -17,11 +17,11 @@ use Rattle.pt_conditions.specs.Texts.{condition_text, numbers_text}
 use Rattle.pt_conditions.proofs.NumbersLemmas.{months-from_set}
 use Rattle.pt_conditions.proofs.TextLemmas.{condition_text-injective}
 use Rattle.pt_requests.specs.declared.request.Confirmation.{Confirmation}
-use Rattle.pt_rights.specs.Conditions.{IsCondition}
-use Rattle.pt_rights.specs.Months.{numbers_of}
-use Rattle.pt_rights.specs.declared.conditions.Condition.{Condition}
-use Rattle.pt_rights.specs.declared.conditions.Condition.TheVariants.{Always, Months, Farther, NoLift}
-use Rattle.pt_rights.specs.declared.entry.Grant.{Grant}
+use Rattle.pt_desk_rules.specs.Conditions.{IsCondition}
+use Rattle.pt_desk_rules.specs.Months.{numbers_of}
+use Rattle.pt_desk_rules.specs.Condition.{Condition}
+use Rattle.pt_desk_rules.specs.Condition.TheVariants.{Always, Months, Farther, NoLift}
+use Rattle.pt_desk_rules.specs.Grant.{Grant}
 use Rattle.pt_spelling.specs.Fields.{number_bytes, numbers_bytes}
 use Rattle.pt_spelling.specs.Ranges.{IsWord}
 use Rattle.pt_spelling.specs.Replies.{reply_spelling, numbers_told, IsTold, IsReply}

@@ -8,14 +8,14 @@ use Rattle.std.proofs.lemmas.Bool.{and_parts}
 use Rattle.std.proofs.lemmas.List.Sorted.{IsPermutation-map}
 use Rattle.sqlite.specs.Order.{Row}
 use Rattle.sqlite_trees.proofs.ListLemmas.{all-permutation}
-use Rattle.pt_feasible.specs.declared.stop.StopKind.{StopKind}
-use Rattle.pt_feasible.specs.declared.stop.StopKind.TheVariants.{Pickup, Drop}
+use Rattle.pt_desk_rules.specs.StopKind.{StopKind}
+use Rattle.pt_desk_rules.specs.StopKind.TheVariants.{Pickup, Drop}
 use Rattle.pt_records.specs.Keys.{pair_key}
 use Rattle.pt_records.specs.Records.{Each, IsInOrder}
 use Rattle.pt_scheduling.specs.Plan.{Plan}
 use Rattle.pt_scheduling.specs.declared.planned.PlannedStop.{PlannedStop}
-use Rattle.pt_travel.specs.Chain as travel
-use Rattle.pt_travel.specs.Table.{ComesBefore, Rises}
+use Rattle.pt_desk_rules.specs.Chain as travel
+use Rattle.pt_desk_rules.specs.Table.{ComesBefore, Rises}
 use Rattle.pt_tables_rows.specs.Rows.{stop_number, stop_rows_from, stop_rows, travel_row, travel_rows}
 use Rattle.pt_desk_rules.specs.Travel.{DatedTable}
 use Rattle.pt_tables_rows.proofs.SameRowsLists.{in_one_order, same_rest, steps-in_order}

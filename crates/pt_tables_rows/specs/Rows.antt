@@ -19,18 +19,18 @@ use Rattle.pt_corridor.specs.Route.{Route}
 use Rattle.pt_desk_rules.specs.Travel.{DatedTable}
 use Rattle.pt_desk_rules.specs.declared.change.FiledEntry.{FiledEntry}
 use Rattle.pt_desk_rules.specs.declared.kept.Kept.{Kept}
-use Rattle.pt_feasible.specs.declared.stop.StopKind.{StopKind}
-use Rattle.pt_feasible.specs.declared.stop.StopKind.TheVariants.{Pickup, Drop}
+use Rattle.pt_desk_rules.specs.StopKind.{StopKind}
+use Rattle.pt_desk_rules.specs.StopKind.TheVariants.{Pickup, Drop}
 use Rattle.pt_requests.specs.declared.caller.Caller.{Caller}
-use Rattle.pt_rights.specs.declared.entry.Entry.{Entry}
-use Rattle.pt_rights.specs.declared.entry.Entry.TheVariants as entry
-use Rattle.pt_rights.specs.declared.entry.Grant.{Grant}
+use Rattle.pt_desk_rules.specs.Entry.{Entry}
+use Rattle.pt_desk_rules.specs.Entry.TheVariants as entry
+use Rattle.pt_desk_rules.specs.Grant.{Grant}
 use Rattle.pt_scheduling.specs.Plan.{Plan}
 use Rattle.pt_scheduling.specs.declared.planned.PlannedStop.{PlannedStop}
 use Rattle.pt_spelling.specs.Fields.{days_byte}
 use Rattle.pt_spelling.specs.Replies.{reply_spelling}
 use Rattle.pt_spelling.specs.Requests.{role_number, subject_of, kind_number, entry_number, point_bytes}
-use Rattle.pt_travel.specs.Chain as travel
+use Rattle.pt_desk_rules.specs.Chain as travel
 
 -- the version of these tables
 abbrev pub table_version : ℕ

@@ -6,8 +6,9 @@ ghost use Rattle.sqlite.specs.Table.{Table as StoredTable};
 
 use pt_base::{Place, Rider, Trip, Vehicle};
 use pt_corridor::FixedRoute;
-use pt_desk_rules::{Caller, FiledEntry, Kept, TravelTable};
+use pt_desk_rules::{FiledEntry, Kept, TravelTable};
 use pt_records::Keyed;
+use pt_requests::Caller;
 use pt_scheduling::PlannedRoute;
 
 /// A table of records, each with rows of its own in it.

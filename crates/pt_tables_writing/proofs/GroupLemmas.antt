@@ -16,12 +16,13 @@ use Rattle.sqlite_trees.proofs.ListLemmas.{all_both}
 use Rattle.pt_base.specs.declared.rider.Rider.{Rider}
 use Rattle.pt_base.specs.declared.trip.Trip.{Trip}
 use Rattle.pt_base.specs.declared.vehicle.Vehicle.{Vehicle}
+use Rattle.pt_desk_rules.specs.Parts as part
 use Rattle.pt_desk_rules.specs.State.{State, caller_key, kept_key, place_key, route_key, rider_key, entry_key, vehicle_key, travel_key, trip_key}
 use Rattle.pt_tables_rows.specs.Rows.{desk_row, caller_row, kept_row, place_row, route_row, vehicle_row, rider_row, entry_row, trip_row, stop_rows, travel_rows, rider_chair_rows, vehicle_chair_rows, trip_chair_rows}
 use Rattle.pt_tables_rows.specs.Schema.{desk_schema, desk_table, callers_table, kept_table, places_table, fixed_table, vehicles_table, riders_table, entries_table, trips_table, stops_table, travel_table, rider_chairs_table, vehicle_chairs_table, trip_chairs_table}
 use Rattle.pt_tables_rows.specs.Tables.{AreRows, HasRows, HaveRowids, Stands, columns_of, IsStoredPlan}
 use Rattle.pt_tables_rows.proofs.SameRowsLists.{all_back, all_front}
-use Rattle.pt_desk.specs.Listed.{known_of}
+use Rattle.pt_store.specs.Listed.{known_of}
 use Rattle.pt_desk_rules.specs.declared.change.Change.{Change}
 use Rattle.pt_records.specs.declared.span.Span.{Span}
 use Rattle.pt_base.specs.declared.policy.Policy.{Policy}
@@ -339,16 +340,16 @@ people_lead change known a e four content agrees told puts stands =
     let two = three.1 in
     let m = marks_of content in
     let s1 : State = record content { callers = edited caller_key change.callers content.callers } in
-    let all_1 = step 1 s1 m a two.0 (are content a stands) (λ _. two.1 content.callers agrees.callers puts.ranges.callers told.callers told.ranges.callers) refl refl refl refl in
+    let all_1 = step 1 s1 m a two.0 (are content a stands) (λ _. two.1 content.callers agrees.callers (puts.ranges.parts part.callers) told.callers (told.ranges.parts part.callers)) refl refl refl refl in
     let s2 : State = record s1 { kept = edited kept_key change.kept content.kept } in
-    let all_2 = step 2 s2 m two.0 three.0 all_1 (λ has. two.2 has content.kept agrees.kept puts.ranges.kept told.kept told.ranges.kept) refl refl refl refl in
+    let all_2 = step 2 s2 m two.0 three.0 all_1 (λ has. two.2 has content.kept agrees.kept (puts.ranges.parts part.kept) told.kept (told.ranges.parts part.kept)) refl refl refl refl in
     let both = three.2 all_2.schema content agrees in
     let s3 : State = record s2 { riders = edited rider_key change.riders content.riders } in
-    let all_3 = step 6 s3 m three.0 both.0 all_2 (λ _. both.1 puts.ranges.riders told.riders told.ranges.riders) refl refl refl refl in
+    let all_3 = step 6 s3 m three.0 both.0 all_2 (λ _. both.1 (puts.ranges.parts part.riders) told.riders (told.ranges.parts part.riders)) refl refl refl refl in
     let n : Marks = record m { riders = edited rider_key change.riders m.riders } in
-    let all_4 = step 11 s3 n both.0 four.0 all_3 (λ has. both.2 has puts.ranges.riders told.riders told.ranges.riders) refl refl refl refl in
+    let all_4 = step 11 s3 n both.0 four.0 all_3 (λ has. both.2 has (puts.ranges.parts part.riders) told.riders (told.ranges.parts part.riders)) refl refl refl refl in
     let s4 : State = record s3 { entries = edited entry_key change.entries content.entries } in
-    let all_5 = step 7 s4 n four.0 e all_4 (λ has. four.2 has content.entries agrees.entries puts.ranges.entries told.entries told.ranges.entries) refl refl refl refl in
+    let all_5 = step 7 s4 n four.0 e all_4 (λ has. four.2 has content.entries agrees.entries (puts.ranges.parts part.entries) told.entries (told.ranges.parts part.entries)) refl refl refl refl in
     stand (with_people change content) e all_5
 
 pub area_leads : (change : Change) (known : State) (a e : Database)
@@ -361,21 +362,21 @@ area_leads change known a e four content agrees told puts stands =
     let s = with_people change content in
     let m = marks_of s in
     let s1 : State = record s { places = edited place_key change.places s.places } in
-    let all_1 = step 3 s1 m a two.0 (are s a stands) (λ _. two.1 content.places agrees.places puts.ranges.places told.places told.ranges.places) refl refl refl refl in
+    let all_1 = step 3 s1 m a two.0 (are s a stands) (λ _. two.1 content.places agrees.places (puts.ranges.parts part.places) told.places (told.ranges.parts part.places)) refl refl refl refl in
     let s2 : State = record s1 { routes = edited route_key change.routes s.routes } in
-    let all_2 = step 4 s2 m two.0 three.0 all_1 (λ has. two.2 has content.routes agrees.routes puts.ranges.routes told.routes told.ranges.routes) refl refl refl refl in
+    let all_2 = step 4 s2 m two.0 three.0 all_1 (λ has. two.2 has content.routes agrees.routes (puts.ranges.parts part.routes) told.routes (told.ranges.parts part.routes)) refl refl refl refl in
     let first = three.2 all_2.schema content agrees in
     let left : Marks = record m { vehicles = take_all vehicle_key change.vehicles.away m.vehicles } in
-    let all_3 = step 12 s2 left three.0 first.0 all_2 (λ _. first.1 told.vehicles told.ranges.vehicles) refl refl refl refl in
+    let all_3 = step 12 s2 left three.0 first.0 all_2 (λ _. first.1 told.vehicles (told.ranges.parts part.vehicles)) refl refl refl refl in
     let rest = first.2 all_3.schema in
     let s3 : State = record s2 { vehicles = edited vehicle_key change.vehicles s.vehicles } in
-    let all_4 = step 5 s3 left first.0 rest.0 all_3 (λ _. rest.1 puts.ranges.vehicles told.vehicles told.ranges.vehicles) refl refl refl refl in
+    let all_4 = step 5 s3 left first.0 rest.0 all_3 (λ _. rest.1 (puts.ranges.parts part.vehicles) told.vehicles (told.ranges.parts part.vehicles)) refl refl refl refl in
     let n : Marks = record m { vehicles = edited vehicle_key change.vehicles m.vehicles } in
     let all_5 = step 12 s3 n rest.0 four.0 all_4
-    (λ has. rest.2 has puts.ranges.vehicles left.vehicles (IsInOrder-take_all vehicle_key change.vehicles.away m.vehicles told.vehicles)
-    (Each-take_all IsVehicle vehicle_key change.vehicles.away m.vehicles told.ranges.vehicles)) refl refl refl refl in
+    (λ has. rest.2 has (puts.ranges.parts part.vehicles) left.vehicles (IsInOrder-take_all vehicle_key change.vehicles.away m.vehicles told.vehicles)
+    (Each-take_all IsVehicle vehicle_key change.vehicles.away m.vehicles (told.ranges.parts part.vehicles))) refl refl refl refl in
     let s4 : State = record s3 { travel = edited travel_key change.travel s.travel } in
-    let all_6 = step 10 s4 n four.0 e all_5 (λ has. four.2 has content.travel agrees.travel puts.ranges.travel told.travel told.ranges.travel) refl refl refl refl in
+    let all_6 = step 10 s4 n four.0 e all_5 (λ has. four.2 has content.travel agrees.travel (puts.ranges.parts part.travel) told.travel (told.ranges.parts part.travel)) refl refl refl refl in
     stand (with_area change s) e all_6
 
 pub trips_lead : (change : Change) (known : State) (plans : List Plan) (a d : Database)
@@ -388,12 +389,12 @@ trips_lead change known plans a d three content agrees told puts stands =
     let m = marks_of s in
     let both = two.1 content agrees.0 in
     let s1 : State = record s { trips = edited trip_key change.trips s.trips } in
-    let all_1 = step 8 s1 m a both.0 (are s a stands) (λ _. both.1 puts.ranges.trips told.trips told.ranges.trips) refl refl refl refl in
+    let all_1 = step 8 s1 m a both.0 (are s a stands) (λ _. both.1 (puts.ranges.parts part.trips) told.trips (told.ranges.parts part.trips)) refl refl refl refl in
     let n : Marks = record m { trips = edited trip_key change.trips m.trips } in
-    let all_2 = step 13 s1 n both.0 two.0 all_1 (λ has. both.2 has puts.ranges.trips told.trips told.ranges.trips) refl refl refl refl in
+    let all_2 = step 13 s1 n both.0 two.0 all_1 (λ has. both.2 has (puts.ranges.parts part.trips) told.trips (told.ranges.parts part.trips)) refl refl refl refl in
     let s2 : State = record s1 { planned = edited plan_key change.planned s.planned } in
     let all_3 = step 9 s2 n two.0 three.0 all_2
-    (λ has. two.2 has content.planned agrees.1 (stored-plans change.planned.puts puts.ranges.planned puts.stops) told.planned (stored-plans s.planned told.ranges.planned told.stops)) refl refl refl refl in
+    (λ has. two.2 has content.planned agrees.1 (stored-plans change.planned.puts (puts.ranges.parts part.planned) puts.stops) told.planned (stored-plans s.planned (told.ranges.parts part.planned) told.stops)) refl refl refl refl in
     let s3 : State = with_trips change s in
     let all_4 = step 0 s3 n three.0 d all_3 (λ has. three.2 has content agrees.0 content.policy content.last_trip) refl refl refl refl in
     stand s3 d all_4

@@ -4,7 +4,7 @@ use Rattle.sqlite.specs.Effect.{IsDatabase}
 use Rattle.sqlite.specs.State.{State as Connected}
 use Rattle.sqlite.specs.Tree.{Trees}
 use Rattle.pt_base.specs.declared.policy.Policy.{Policy}
-use Rattle.pt_desk.specs.LeastState.{IsLeastState}
+use Rattle.pt_store.specs.LeastState.{IsLeastState}
 use Rattle.pt_desk_rules.specs.State.{State, new_state}
 use Rattle.pt_requests.specs.declared.caller.Caller.{Caller}
 use Rattle.pt_requests.specs.declared.caller.Role.TheVariants.{Admin}

@@ -16,10 +16,10 @@ use crate::numbered::write_desk;
 use crate::plans::write_plans;
 use crate::stored::{put_each, take_spans, write_edits};
 use pt_base::Policy;
-use pt_desk::ListKeeper;
 use pt_desk_rules::Change;
 use pt_records::Table;
 use pt_scheduling::PlannedRoute;
+use pt_store::ListKeeper;
 use pt_tables_rows::tables::{
     Callers, Entries, FixedRoutes, KeptWrites, Places, RiderChairs, Riders, TravelTables,
     TripChairs, Trips, VehicleChairs, Vehicles,

@@ -70,7 +70,7 @@ struct Found {
 }
 
 /// The schedule of a route that fits the vehicle.
-fn fitting(route: &Route, vehicle: &Vehicle) -> Option<Schedule> {
+pub fn fitting(route: &Route, vehicle: &Vehicle) -> Option<Schedule> {
     if route.len() > MAX_STOPS || !loads_fit(route, vehicle) {
         return None;
     }

@@ -4,6 +4,7 @@ ghost use Rattle.std.specs.Prelude.{◌≤◌, IsTrue};
 use crate::asking::choose;
 use crate::four_places::Place::{A, Away, B, C, Depot};
 use crate::four_places::{asked, empty, seated, vehicle};
+use crate::insertion::fitting;
 use pt_base::{Load, Vehicle};
 use pt_feasible::{MAX_STOPS, Route, Stops};
 use pt_insertion::{Asked, Chosen, Duty, RouteEdits};
@@ -78,6 +79,25 @@ fn takes_the_place_with_the_least_added_driving(rt: HostRuntime) -> Result<(), F
         assert_eq!(rt; (chosen.i, chosen.j, chosen.added), place);
         assert_eq!(rt; chosen.schedule.as_slice(), times.as_slice());
     }
+    Ok(())
+}
+
+#[test]
+fn takes_a_trip_out_again(rt: HostRuntime) -> Result<(), Fail> {
+    let vehicle = vehicle(4, 1020);
+    let first = asked(1, (A, B), (485, 515), seated(1));
+    let route = route_of(rt.alloc(), &first)?;
+    let second = asked(2, (C, B), (535, 655), seated(1));
+    let duties = [Duty {
+        vehicle: &vehicle,
+        route: &route,
+    }];
+    let longer = insert(rt.alloc(), &route, &second, &place_of(&duties, &second)?)?;
+    assert_eq!(rt; longer.len(), 4);
+    let shorter = longer.removed(rt.alloc(), second.trip)?;
+    assert_goes(&rt, &shorter, &first);
+    let schedule = fitting(&shorter, &vehicle).ok_or("no schedule")?;
+    assert_eq!(rt; schedule.as_slice(), [480, 500, 532, 574].as_slice());
     Ok(())
 }
 

@@ -1,5 +1,6 @@
 use Rattle.std.proofs.Common.{sym, subst, rules}
 use Rattle.sqlite.specs.Held.{state}
+use Rattle.pt_desk_rules.specs.Parts as part
 use Rattle.pt_desk_rules.specs.State.{entries_of, entry_key, span_of}
 use Rattle.pt_records.specs.Records.{IsInOrder, is_within}
 use Rattle.pt_records.proofs.TableLemmas.{Each-filter, IsInOrder-filter}
@@ -16,7 +17,7 @@ asked-requires g c = let it = entries_text c.args.rider in record { settled = c.
 
 pub returns-in_err-found-clause-readable : goal.returns-in_err-found-clause-readable
 returns-in_err-found-clause-readable g c clean content readable held =
-    let never = c.in_err-found.ensures.readable clean _ (Each-filter FitsFiled (λ filed. is_within (entry_key filed) (span_of c.args.rider)) content.entries readable.ranges.entries)
+    let never = c.in_err-found.ensures.readable clean _ (Each-filter FitsFiled (λ filed. is_within (entry_key filed) (span_of c.args.rider)) content.entries (readable.ranges.parts part.entries))
     (entries_there content readable (state g.S.Store c.args.conn.now) held c.args.rider _ (search rules)) in
     search rules
 
@@ -26,13 +27,13 @@ returns-clause-told g c clean content readable held =
     let found = c.in_ok-found.ensures.told clean wanted (entries_there content readable (state g.S.Store c.args.conn.now) held c.args.rider _ (search rules)) in
     ok_same c.ordered.result c.in_ok-found.found.items wanted c.ordered.ensures.told
     (same_records entry_row FitsFiled entries_apart c.in_ok-found.found.items wanted found.1
-    (Each-filter FitsFiled (λ filed. is_within (entry_key filed) (span_of c.args.rider)) content.entries readable.ranges.entries) found.0)
+    (Each-filter FitsFiled (λ filed. is_within (entry_key filed) (span_of c.args.rider)) content.entries (readable.ranges.parts part.entries)) found.0)
 
 pub returns-clause-readable : goal.returns-clause-readable
 returns-clause-readable g c clean content readable held =
     let wanted = entries_of c.args.rider content.entries in
     let found = c.in_ok-found.ensures.told clean wanted (entries_there content readable (state g.S.Store c.args.conn.now) held c.args.rider _ (search rules)) in
     let same = same_records entry_row FitsFiled entries_apart c.in_ok-found.found.items wanted found.1
-    (Each-filter FitsFiled (λ filed. is_within (entry_key filed) (span_of c.args.rider)) content.entries readable.ranges.entries) found.0 in
+    (Each-filter FitsFiled (λ filed. is_within (entry_key filed) (span_of c.args.rider)) content.entries (readable.ranges.parts part.entries)) found.0 in
     c.ordered.ensures.readable
     (subst (IsInOrder entry_key) (sym same) (IsInOrder-filter entry_key (λ filed. is_within (entry_key filed) (span_of c.args.rider)) content.entries readable.entries))

@@ -1,6 +1,7 @@
 use Rattle.std.proofs.Common.{◌==◌, ap, ◌∙◌, slice_get, filter, rules}
 use Rattle.sqlite.specs.Held.{state}
 use Rattle.sqlite_keyed.proofs.ListLemmas.{slice_get-filter}
+use Rattle.pt_desk_rules.specs.Parts as part
 use Rattle.pt_desk_rules.specs.State.{kept_key}
 use Rattle.pt_records.proofs.TableLemmas.{Each-filter}
 use Rattle.pt_desk_rules.specs.Ranges.{FitsKept}
@@ -15,7 +16,7 @@ asked-requires g c = let it = kept_text c.args.caller in record { settled = c.re
 
 pub returns-in_err-found-clause-readable : goal.returns-in_err-found-clause-readable
 returns-in_err-found-clause-readable g c clean content readable held =
-    let never = c.in_err-found.ensures.readable clean _ (Each-filter FitsKept (λ kept. kept_key kept == c.args.caller) content.kept readable.ranges.kept)
+    let never = c.in_err-found.ensures.readable clean _ (Each-filter FitsKept (λ kept. kept_key kept == c.args.caller) content.kept (readable.ranges.parts part.kept))
     (kept_there content readable (state g.S.Store c.args.conn.now) held c.args.caller _ (search rules)) in
     search rules
 
@@ -23,5 +24,5 @@ pub returns-clause-told : goal.returns-clause-told
 returns-clause-told g c clean content readable held =
     let wanted = filter (λ kept. kept_key kept == c.args.caller) content.kept in
     let found = c.in_ok-found.ensures.told clean wanted (kept_there content readable (state g.S.Store c.args.conn.now) held c.args.caller _ (search rules)) in
-    let same = same_records kept_row FitsKept kept_apart c.in_ok-found.found.items wanted found.1 (Each-filter FitsKept (λ kept. kept_key kept == c.args.caller) content.kept readable.ranges.kept) found.0 in
+    let same = same_records kept_row FitsKept kept_apart c.in_ok-found.found.items wanted found.1 (Each-filter FitsKept (λ kept. kept_key kept == c.args.caller) content.kept (readable.ranges.parts part.kept)) found.0 in
     c.first.ensures.value ∙ ap (λ l. slice_get l 0) same ∙ slice_get-filter (λ kept. kept_key kept == c.args.caller) content.kept

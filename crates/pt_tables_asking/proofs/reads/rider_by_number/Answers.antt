@@ -3,6 +3,7 @@ use Rattle.sqlite.specs.Held.{state}
 use Rattle.sqlite.specs.State.{HasCleanDisk}
 use Rattle.sqlite_keyed.proofs.ListLemmas.{slice_get-filter}
 use Rattle.pt_base.specs.declared.rider.Rider.{Rider}
+use Rattle.pt_desk_rules.specs.Parts as part
 use Rattle.pt_desk_rules.specs.Ranges.{FitsRider}
 use Rattle.pt_desk_rules.specs.State.{rider_key}
 use Rattle.pt_records.proofs.TableLemmas.{Each-filter}
@@ -26,7 +27,7 @@ marked-requires g c =
 pub returns-in_err-riders-clause-readable : goal.returns-in_err-riders-clause-readable
 returns-in_err-riders-clause-readable g c clean content readable held =
     let passes : Rider → Bool = λ r. rider_key r == c.args.rider in
-    let never = c.in_err-riders.ensures.readable clean (filter passes content.riders) (Each-filter FitsRider passes content.riders readable.ranges.riders)
+    let never = c.in_err-riders.ensures.readable clean (filter passes content.riders) (Each-filter FitsRider passes content.riders (readable.ranges.parts part.riders))
     (rider_there content readable (state g.S.Store c.args.conn.now) held c.args.rider _ (search rules)) in
     search rules
 

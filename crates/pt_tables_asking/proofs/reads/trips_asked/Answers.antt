@@ -1,6 +1,7 @@
 use Rattle.std.proofs.Common.{sym, subst, filter, ◌∙◌, arith, rules}
 use Rattle.sqlite.specs.Held.{state}
 use Rattle.sqlite.specs.State.{HasCleanDisk}
+use Rattle.pt_desk_rules.specs.Parts as part
 use Rattle.pt_desk_rules.specs.Ranges.{FitsTrip}
 use Rattle.pt_desk_rules.specs.State.{trip_key}
 use Rattle.pt_records.specs.Records.{IsInOrder}
@@ -22,7 +23,7 @@ marked-requires g c =
 
 pub returns-in_err-trips-clause-readable : goal.returns-in_err-trips-clause-readable
 returns-in_err-trips-clause-readable g c clean content readable held passes has =
-    let never = c.in_err-trips.ensures.readable clean (filter passes content.trips) (Each-filter FitsTrip passes content.trips readable.ranges.trips) has in
+    let never = c.in_err-trips.ensures.readable clean (filter passes content.trips) (Each-filter FitsTrip passes content.trips (readable.ranges.parts part.trips)) has in
     search rules
 
 pub returns-in_err-found-clause-readable : goal.returns-in_err-found-clause-readable

@@ -6,7 +6,7 @@ use Rattle.pt_tables_opening.specs.Faults.{fault, store_refused, unsound}
 use Rattle.pt_tables_opening.specs.Gathered.{KeepsRows}
 use Rattle.pt_tables_rows.specs.Schema.{desk_schema}
 use Rattle.pt_tables_rows.specs.Tables.{AreRows}
-use Rattle.pt_soundness.specs.Tables.{number_of}
+use Rattle.pt_desk_rules.specs.TableNames.{number_of}
 use Rattle.pt_tables_opening.proofs.BesideLemmas.{beside_told, refuses_beside, same_told}
 use Rattle.pt_tables_opening.proofs.RestLemmas.{last, refused}
 use Rattle.pt_tables_opening.proofs.ShownRows.{shows_asked}

@@ -2,23 +2,23 @@ use Rattle.std.proofs.Common.{◌≡◌, ◌-◌, ◌<◌, Result, sym, subst, a
 use Rattle.sqlite.specs.State.{State as Connected}
 use Rattle.pt_desk_rules.specs.State.{State}
 use Rattle.pt_desk_rules.specs.declared.change.Change.{Change}
-use Rattle.pt_soundness.specs.Tables.{number_of}
-use Rattle.pt_soundness.specs.declared.unsound_table.UnsoundTable.{UnsoundTable}
-use Rattle.pt_soundness.specs.declared.unsound_table.UnsoundTable.TheVariants as table
+use Rattle.pt_desk_rules.specs.TableNames.{number_of}
+use Rattle.pt_desk_rules.specs.declared.table_name.TableName.{TableName}
+use Rattle.pt_desk_rules.specs.declared.table_name.TableName.TheVariants as table
 use Rattle.pt_tables_opening.specs.Steps.{IsReadTo, ReadsTable}
 use Rattle.pt_tables_opening.specs.declared.open_fault.OpenFault.{OpenFault}
 use Rattle.pt_tables_opening.proofs.changes.change_in.Goals as goal
 
-read_to : (t u : UnsoundTable) (s : State) → t ≡ u → IsReadTo (number_of t - 1) s → IsReadTo (number_of u - 1) s
-read_to t u s is read = subst (λ (v : UnsoundTable). IsReadTo (number_of v - 1) s) is read
+read_to : (t u : TableName) (s : State) → t ≡ u → IsReadTo (number_of t - 1) s → IsReadTo (number_of u - 1) s
+read_to t u s is read = subst (λ (v : TableName). IsReadTo (number_of v - 1) s) is read
 
 -- the change of the table that this one is
-change_of : (t u : UnsoundTable) (old new : Connected) (s : State) (r : Result Change OpenFault) → t ≡ u → IsReadTo (number_of t - 1) s → (IsReadTo (number_of u - 1) s → ReadsTable u old new s r)
+change_of : (t u : TableName) (old new : Connected) (s : State) (r : Result Change OpenFault) → t ≡ u → IsReadTo (number_of t - 1) s → (IsReadTo (number_of u - 1) s → ReadsTable u old new s r)
     → ReadsTable t old new s r
-change_of t u old new s r is read reads = subst (λ (v : UnsoundTable). ReadsTable v old new s r) (sym is) (reads (read_to t u s is read))
+change_of t u old new s r is read reads = subst (λ (v : TableName). ReadsTable v old new s r) (sym is) (reads (read_to t u s is read))
 
 pub returns-in-Desk : goal.returns-in-Desk
-returns-in-Desk g c = let late = subst (λ (t : UnsoundTable). 1 < number_of t) c.in-Desk.is c.requires.later in absurd (omega arith)
+returns-in-Desk g c = let late = subst (λ (t : TableName). 1 < number_of t) c.in-Desk.is c.requires.later in absurd (omega arith)
 
 pub returns-in-Callers : goal.returns-in-Callers
 returns-in-Callers g c = change_of c.args.table table.Callers _ _ c.args.keeper.now.content _ c.in-Callers.is c.requires.before (c.callers_change.ensures c.args.keeper.now.content)

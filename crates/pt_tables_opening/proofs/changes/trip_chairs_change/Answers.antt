@@ -2,7 +2,7 @@ use Rattle.std.proofs.Common.{List, map, ap, sym, subst, ◌∙◌}
 use Rattle.sqlite.specs.Held.{state}
 use Rattle.pt_base.specs.declared.trip.Trip.{Trip}
 use Rattle.pt_desk_rules.specs.declared.change.Change.{Change}
-use Rattle.pt_soundness.specs.declared.unsound_table.UnsoundTable.TheVariants as table
+use Rattle.pt_desk_rules.specs.declared.table_name.TableName.TheVariants as table
 use Rattle.pt_tables_opening.proofs.AskedRows.{trip_chairs_asked, trips_beside}
 use Rattle.pt_tables_opening.proofs.TableCases.{fails_so, puts_so, puts_trips, trip_chairs_none, trip_chairs_read, trip_chairs_shown}
 use Rattle.pt_tables_rows.specs.Rows.{trip_row}

@@ -1,25 +1,25 @@
 use Rattle.std.proofs.Common.{◌≡◌, ◌+◌, ◌-◌, ◌<◌, ◌≤◌, ◌↔◌, ℕ, IsSome, None, Result, Ok, sym, subst, arith}
 use Rattle.sqlite.specs.Held.{state}
 use Rattle.sqlite.specs.State.{State as Connected}
-use Rattle.pt_desk.specs.Listed.{Listed}
-use Rattle.pt_soundness.specs.Tables.{number_of, table_count}
-use Rattle.pt_soundness.specs.declared.unsound_table.UnsoundTable.{UnsoundTable}
+use Rattle.pt_store.specs.Listed.{Listed}
+use Rattle.pt_desk_rules.specs.TableNames.{number_of, table_count}
+use Rattle.pt_desk_rules.specs.declared.table_name.TableName.{TableName}
 use Rattle.pt_tables_opening.specs.Steps.{IsReadTo, OpensTable, OpensTo}
 use Rattle.pt_tables_opening.specs.declared.open_fault.OpenFault.{OpenFault}
 use Rattle.pt_tables_opening.proofs.StepLemmas.{ends_so, opens_then}
 use Rattle.pt_tables_opening.proofs.TableCases.{last_table}
 use Rattle.pt_tables_opening.proofs.whole.all_tables.Goals as goal
 
-opens_next : (t : UnsoundTable) (n : ℕ) (old mid new : Connected) (keeper : Listed) → number_of t ≡ n → 1 < n → OpensTo (n - 1) old mid (Ok keeper)
+opens_next : (t : TableName) (n : ℕ) (old mid new : Connected) (keeper : Listed) → number_of t ≡ n → 1 < n → OpensTo (n - 1) old mid (Ok keeper)
     → (r : Result Listed OpenFault) → OpensTable t mid new keeper.content r → OpensTo n old new r
 opens_next t n old mid new keeper is late h r k =
     subst (λ (m : ℕ). OpensTo m old new r) is
     (opens_then t old mid new keeper (subst (λ (m : ℕ). 1 < m) (sym is) late) (subst (λ (m : ℕ). OpensTo (m - 1) old mid (Ok keeper)) (sym is) h) r k)
 
 -- the first number with no table is that after the last
-past_last : (n : ℕ) → (IsSome {T = UnsoundTable} None ↔ ((1 ≤ n) × (n ≤ table_count))) → 1 < n → n ≤ table_count + 1 → n - 1 ≡ table_count
+past_last : (n : ℕ) → (IsSome {T = TableName} None ↔ ((1 ≤ n) × (n ≤ table_count))) → 1 < n → n ≤ table_count + 1 → n - 1 ≡ table_count
 past_last n range late within =
-    let past : n ≤ table_count → ⊥ = λ low. let some : IsSome {T = UnsoundTable} None = range.1 (omega arith, low) in cc in
+    let past : n ≤ table_count → ⊥ = λ low. let some : IsSome {T = TableName} None = range.1 (omega arith, low) in cc in
     omega arith
 
 pub loop-table-init : goal.loop-table-init

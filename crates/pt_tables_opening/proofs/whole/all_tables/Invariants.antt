@@ -1,6 +1,6 @@
 use Rattle.std.proofs.Common.{◌+◌, ◌-◌, ◌<◌, ◌≤◌, Ok}
 use Rattle.sqlite.specs.Held.{state}
-use Rattle.pt_soundness.specs.Tables.{table_count}
+use Rattle.pt_desk_rules.specs.TableNames.{table_count}
 use Rattle.pt_tables_opening.specs.Steps.{OpensTo}
 use Rattle.pt_tables_opening.proofs.whole.all_tables.Given as goal
 

@@ -1,7 +1,7 @@
 use Rattle.std.proofs.Common.{Result, Ok, Err, IfOk}
-use Rattle.pt_desk.specs.Listed.{Listed}
+use Rattle.pt_store.specs.Listed.{Listed}
 use Rattle.pt_desk_rules.specs.Sound.{IsSound}
-use Rattle.pt_soundness.specs.Tables.{table_count}
+use Rattle.pt_desk_rules.specs.TableNames.{table_count}
 use Rattle.pt_tables_opening.specs.Steps.{IsReadTo}
 use Rattle.pt_tables_opening.specs.declared.open_fault.OpenFault.{OpenFault}
 use Rattle.pt_tables_opening.proofs.StepLemmas.{all_sound}

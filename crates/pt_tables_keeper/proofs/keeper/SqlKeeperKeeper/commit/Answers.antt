@@ -1,7 +1,7 @@
 use Rattle.std.proofs.Common.{◌≡◌, Err, Some, length, sym, ap, subst, ◌∙◌, rules}
 use Rattle.pt_store.specs.Store.{Goes}
 use Rattle.pt_desk_rules.specs.State.{State, applied}
-use Rattle.pt_tables_keeper.proofs.CommitLemmas.{commits_then}
+use Rattle.pt_tables_keeper.proofs.CommitLemmas.{commit_refused, commits_then}
 use Rattle.pt_tables_keeper.proofs.ReadLemmas.{goes_not}
 use Rattle.pt_tables_keeper.specs.Keeper.{KeptTables, store_of}
 use Rattle.pt_tables_keeper.specs.Writable.{IsWritable}
@@ -29,3 +29,7 @@ make-requires-clause-writable g c =
     let same : c.self.inside.known.content.vehicles ≡ c.rider_count_after.new.self.content.vehicles =
     ap (λ (k : KeptTables _). k.content.vehicles) c.self.view_is ∙ ap (λ (s : State). s.vehicles) (sym c.in_ok-rider_count.ensures.content) in
     subst (λ vs. IsWritable vs c.args.change) (known ∙ same) is
+
+pub returns-then-not-is_writable-clause-commits : goal.returns-then-not-is_writable-clause-commits
+returns-then-not-is_writable-clause-commits g c =
+    commit_refused (store_of g.S.Store c.args.self.now) _ (applied c.args.change c.args.self.now.content) (search rules) (search rules) (search rules) (search rules) (search rules)
