@@ -2,8 +2,8 @@
 use crate::requests::{DONE, PUT_CLERK, eight_in_the_morning, has_clerk};
 use pt_base::Fault;
 use pt_base::fault::{READ_FAILED, WRITE_FAILED};
-use pt_desk::ListKeeper;
-use pt_serve::{Waits, answer_in_time, serve_one};
+use pt_serve::{MOST_DROPPED, Waits, answer_in_time, drop_rest, serve_one};
+use pt_store::ListKeeper;
 use std::alloc::Global;
 use std::cell::{Cell, RefCell};
 use std::io;
@@ -228,6 +228,38 @@ fn each_read_and_each_write_is_told_how_long_it_may_wait(rt: HostRuntime) {
     for case in &CASES {
         compare_case(&rt, rt.alloc(), case);
     }
+}
+
+/// How many bytes are dropped of a client that goes on sending so many at a time in so many seconds, and what the
+/// stream was asked to do; none where the last read came too late.
+fn dropped(rt: &impl Abort, alloc: Global, bytes: usize, seconds: u64) -> (Option<u64>, Vec<Call>) {
+    let course = Course {
+        calls: RefCell::new(Vec::new(alloc)),
+        seconds: Cell::new(1_000),
+    };
+    let stream = Slow {
+        stream: io::repeat(b'x'),
+        bytes,
+        seconds,
+        course: &course,
+    };
+    let count = drop_rest(&course, stream).ok();
+    (count, course.calls.into_inner())
+}
+
+#[test]
+fn a_client_that_goes_on_sending_is_read_from_for_a_while(rt: HostRuntime) {
+    // Eight reads of 8,192 bytes, with the second still to come.
+    let (count, calls) = dropped(&rt, rt.alloc(), 100_000, 0);
+    assert_eq!(rt; count, Some(MOST_DROPPED));
+    assert_eq!(rt; calls.len(), 16);
+    // The second is over after the first read.
+    let (count, calls) = dropped(&rt, rt.alloc(), 100, 1);
+    assert_eq!(rt; count, None);
+    assert_eq!(rt;
+        calls.as_slice(),
+        [Call::WaitToRead(1), Call::Read].as_slice()
+    );
 }
 
 /// What comes of the one request of a connection to a new desk, and whether it has the clerk then.

@@ -2,9 +2,9 @@
 use crate::requests::{DONE, PUT_CLERK, eight_in_the_morning, has_clerk};
 use pt_base::Fault;
 use pt_base::fault::{READ_FAILED, WRITE_FAILED};
-use pt_desk::ListKeeper;
 use pt_http::answer_bytes;
 use pt_http_inbox::Inbox;
+use pt_store::ListKeeper;
 use std::alloc::Global;
 use std::io;
 use std::io::{ErrorKind, Read, Write};

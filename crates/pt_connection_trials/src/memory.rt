@@ -3,11 +3,12 @@ use crate::requests::{COMPLETE, PUT_CLERK, PUT_RIDER, STANDING, eight_in_the_mor
 use arrayvec::ArrayVec;
 use pt_base::fault::MEMORY;
 use pt_base::{CallerId, Fault, Moment, TripId};
-use pt_desk::{Keeper, ListKeeper, Write};
 use pt_desk_rules::Arrival;
 use pt_http::answer_bytes;
 use pt_http_inbox::Inbox;
+use pt_requests::Write;
 use pt_spelling::spell;
+use pt_store::{Keeper, ListKeeper};
 use std::alloc::{AllocError, Global};
 use std::process::Abort;
 

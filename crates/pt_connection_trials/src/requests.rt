@@ -1,6 +1,6 @@
 //! A few requests, and what is told of them.
 use pt_base::{CallerId, Day, Minute, Moment};
-use pt_desk::{Keeper, ListKeeper};
+use pt_store::{Keeper, ListKeeper};
 use std::process::Abort;
 
 /// The admin `abc` puts the clerk `hello`.

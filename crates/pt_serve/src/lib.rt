@@ -2,11 +2,13 @@
 #![tactic(auto)]
 
 pub use bounded::{LONGEST_READING, LONGEST_SERVING, LONGEST_WAIT, Waits};
+pub use closing::{LONGEST_CLOSING, MOST_DROPPED, drop_rest};
 pub use connection::{answer_connection, answer_in_time, serve_one};
 pub use listening::{PORT_REFUSED, Port};
 pub use serving::{moment_at, serve};
 
 mod bounded;
+mod closing;
 mod connection;
 mod listening;
 mod serving;

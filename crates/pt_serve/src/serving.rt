@@ -11,13 +11,14 @@ ghost use Rattle.pt_serve.specs.Port.{left_of};
 ghost use Rattle.pt_serve.specs.Serving.{EndsServing, IsMomentIn, ServesATurn, ServesInTurn, ServesOne, Turn};
 ghost use Rattle.pt_serve.specs.Serving.{failures_in};
 
+use crate::closing::let_go;
 use crate::connection::serve_one;
 use crate::listening::Port;
 use jiff::Timestamp;
 use pt_base::fault::{DATE_OUT_OF_RANGE, MEMORY, READ_FAILED};
 use pt_base::{Fault, Moment};
 use pt_clock::{moment_of, now_in};
-use pt_desk::Keeper;
+use pt_store::Keeper;
 use std::alloc::Global;
 use std::io;
 use std::net::TcpStream;
@@ -47,8 +48,9 @@ pub fn moment_at<C: Clock>(clock: &C, zone: &str) -> Result<Moment, Fault>
     }
 }
 
-/// Answers the request of one connection, by the rules as of the moment after it was accepted. It tells how the
-/// connection failed, if it did: one that was not accepted is a read that failed. The error ends the serving.
+/// Answers the request of one connection, by the rules as of the moment after it was accepted. A client that sent more
+/// is read from for a while, so that it can read its reply. It tells how the connection failed, if it did: one that was
+/// not accepted is a read that failed. The error ends the serving.
 fn serve_next<C: Clock, K: Keeper>(
     clock: &C,
     alloc: Global,
@@ -78,7 +80,10 @@ fn serve_next<C: Clock, K: Keeper>(
     };
     let now = moment_at(clock, zone)?;
     match serve_one(clock, alloc, keeper, now, &stream) {
-        Ok(()) => Ok(None),
+        Ok(()) => {
+            let_go(clock, &stream);
+            Ok(None)
+        }
         Err(fault) if fault.code == MEMORY => Err(fault),
         Err(fault) => Ok(Some(fault)),
     }
