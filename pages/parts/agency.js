@@ -1,0 +1,315 @@
+// What the agency calls its places, fixed routes and vehicles, and what anybody may know of it. The site serves it in some files: what is
+// right in them is used, whatever else is wrong, and each fault is one line. Over them lies what this browser's admin has put since.
+
+import { hearServersTime, isZone, keepClocksOf, keepServiceHours } from "./clock.js";
+import * as desk from "./desk.js";
+import { APPEAL_DAYS, HIGHEST_ID, LAST_MINUTE } from "./limits.js";
+import { LANGUAGES, t } from "./words.js";
+
+/** @typedef {import("../types").Agency} Agency */
+/** @typedef {import("../types").Place} Place */
+/** @typedef {import("../types").Route} Route */
+/** @typedef {import("../types").Vehicle} Vehicle */
+/** @typedef {"places" | "routes" | "vehicles"} Kind */
+
+/** @type {Kind[]} */
+export const KINDS = ["places", "routes", "vehicles"];
+const ADDED = "desk.agency", STAFF = ["clerk", "examiner", "officer", "dispatcher"], DEFAULT_CLOCK = 12, DEFAULT_WAIT = 5, DEFAULT_IDLE = 30, LONGEST_WAIT = 5_000;
+
+/** @typedef {[string, Record<string, any>]} Trouble a key of words and its values */
+/** What was wrong in each file that was read.
+ * @type {Map<string, Trouble[]>}
+ */
+const wrong = new Map();
+/** @type {Record<string, any>} */
+let settings = {};
+/** @type {Record<Kind, Map<number, any>>} */
+let served = { places: new Map(), routes: new Map(), vehicles: new Map() };
+/** @type {Map<number, Place>} */
+let own = new Map();
+/** The rider whose they are. */
+let ownOf = 0;
+/** @type {Record<string, any>} */
+let added = {};
+
+const isText = (/** @type {any} */ it) => typeof it === "string";
+const isNumber = (/** @type {any} */ it) => typeof it === "number" && Number.isFinite(it);
+const isObject = (/** @type {any} */ it) => typeof it === "object" && it !== null && !Array.isArray(it);
+const within = (/** @type {any} */ it, /** @type {number} */ least, /** @type {number} */ most) => Number.isInteger(it) && it >= least && it <= most;
+
+/** A record's number; a text of digits is one too.
+ * @param {any} it
+ */
+function numberIn(it) {
+    const number = isText(it) && /^\d{1,10}$/.test(it) ? Number(it) : it;
+    return within(number, 1, HIGHEST_ID) ? number : null;
+}
+
+/** What is right in one record, and the names of what is not.
+ * @param {any} record @param {Record<string, (it: any) => boolean>} fields
+ */
+function rightIn(record, fields) {
+    const given = Object.entries(record).filter(([name, value]) => name in fields && value !== null && value !== undefined);
+    const right = given.filter(([name, value]) => fields[name](value));
+    return { right: Object.fromEntries(right), faults: given.filter(([name, value]) => !fields[name](value)).map(([name]) => name) };
+}
+
+const isPoint = (/** @type {any} */ it) => Array.isArray(it) && it.length === 2 && it.every(isNumber);
+const isYesNo = (/** @type {any} */ it) => typeof it === "boolean";
+const isMinute = (/** @type {any} */ it) => within(it, 0, LAST_MINUTE);
+
+/** @type {Record<Kind, Record<string, (it: any) => boolean>>} */
+const FIELDS = {
+    places: { name: isText, note: isText, x: isNumber, y: isNumber, core: isYesNo, private: (it) => isYesNo(it) || numberIn(it) !== null,
+        latitude: isNumber, longitude: isNumber },
+    routes: { name: isText, width: isNumber, points: (it) => Array.isArray(it) && it.length > 0 && it.every(isPoint), accessible: isYesNo,
+        days: (it) => Array.isArray(it) && it.every((day) => within(day, 1, 7)), first: isMinute, last: isMinute },
+    vehicles: { name: isText },
+};
+
+/** The records of one kind by their numbers: a list with an id in each, or an object by numbers.
+ * @param {Kind} kind @param {any} given
+ * @param {Trouble[]} faults
+ */
+function recordsIn(kind, given, faults) {
+    const all = new Map();
+    if (given === undefined || given === null) return all;
+    if (typeof given !== "object") faults.push(["common.wrong-list", { kind }]);
+    const pairs = Array.isArray(given) ? given.map((record) => [record?.id, record]) : isObject(given) ? Object.entries(given) : [];
+    for (const [key, value] of pairs) {
+        const record = isText(value) ? { name: value } : value, id = numberIn(record?.id ?? key);
+        if (id === null || !isObject(record)) faults.push(["common.wrong-record", { kind, key: String(key ?? "?") }]);
+        else {
+            const { right, faults: names } = rightIn(record, FIELDS[kind]);
+            for (const name of names) faults.push(["common.wrong-field", { kind, id, name }]);
+            all.set(id, { ...(kind === "routes" ? { points: [], width: 0 } : {}), ...right, id });
+        }
+    }
+    return all;
+}
+
+/** @type {Record<string, (it: any) => boolean>} */
+const SETTINGS = { name: isText, telephone: isText, address: isText, zone: (it) => isText(it) && isZone(it), first_weekday: (it) => within(it, 1, 7),
+    place_word: (it) => isText(it) && it !== "", clock: (it) => it === 12 || it === 24,
+    languages: (it) => Array.isArray(it) && it.some((one) => LANGUAGES.includes(one)), wait_minutes: (it) => within(it, 0, 120),
+    idle_minutes: (it) => within(it, 0, 1440), appeal: isObject, unproved: isYesNo };
+
+/** The settings with what is assumed of what is not there.
+ * @returns {Agency}
+ */
+export function agency() {
+    const it = { ...settings, ...(added.settings ?? {}) }, appeal = rightIn(it.appeal ?? {}, { to: isText, address: isText, telephone: isText,
+        days: (days) => within(days, 1, 366) }).right;
+    return { name: it.name || t("common.agency"), telephone: it.telephone ?? "", address: it.address ?? "", zone: it.zone, first_weekday: it.first_weekday ?? 7,
+        place_word: it.place_word ?? t("common.place"), clock: it.clock ?? DEFAULT_CLOCK, languages: it.languages ?? LANGUAGES,
+        wait_minutes: it.wait_minutes ?? DEFAULT_WAIT, idle_minutes: it.idle_minutes ?? DEFAULT_IDLE, unproved: it.unproved === true,
+        appeal: { to: "", address: "", telephone: "", days: APPEAL_DAYS, ...appeal } };
+}
+
+/** @param {Kind} kind */
+function listOf(kind) {
+    const all = new Map(served[kind]);
+    if (kind === "places") own.forEach((record, id) => all.set(id, { ...all.get(id), ...record }));
+    recordsIn(kind, added[kind], []).forEach((record, id) => all.set(id, { ...all.get(id), ...record }));
+    return [...all.values()].sort((a, b) => a.id - b.id);
+}
+
+/** @returns {Place[]} */
+export const places = () => listOf("places");
+/** @returns {Route[]} */
+export const routes = () => listOf("routes");
+/** @returns {Vehicle[]} */
+export const vehicles = () => listOf("vehicles");
+
+/** One line for each thing that is wrong in the files, each once. */
+export const troubles = () => [...new Set([...wrong.values()].flat().map(([key, values]) => t(key, values)))];
+
+// Reading.
+
+/** The object of a file's text, or null, and then its faults say why.
+ * @param {string} file @param {string | null} text @param {Trouble[]} faults
+ */
+function objectOf(file, text, faults) {
+    try {
+        const it = JSON.parse((text ?? "").replace(/^\ufeff/, ""));
+        if (isObject(it)) return it;
+        faults.push(["common.wrong-file", { file }]);
+    } catch {
+        faults.push([text === null ? "common.missing-file" : "common.wrong-file", { file }]);
+    }
+    return null;
+}
+
+/** Takes the records of a file and keeps what was wrong in it.
+ * @param {string} file @param {any} it @param {Trouble[]} faults
+ */
+function takeRecords(file, it, faults) {
+    const there = KINDS.filter((kind) => it && kind in it);
+    for (const kind of there) served = { ...served, [kind]: recordsIn(kind, it[kind], faults) };
+    wrong.set(file, faults);
+    keepHours();
+}
+
+function keepHours() {
+    const all = routes().filter(({ first, last }) => first !== undefined && last !== undefined);
+    keepServiceHours(all.length ? [Math.min(...all.map(({ first }) => Number(first))), Math.max(...all.map(({ last }) => Number(last)))] : null);
+}
+
+function keptHere() {
+    try {
+        const it = JSON.parse(localStorage.getItem(ADDED) ?? "{}");
+        return isObject(it) ? it : {};
+    } catch {
+        return {};
+    }
+}
+
+/** The file that anybody may read. Without it everything goes by numbers. */
+export async function loadAgency() {
+    added = keptHere();
+    /** @type {Trouble[]} */
+    const faults = [];
+    const file = "agency.json", text = await textOf(file), it = objectOf(file, text, faults) ?? {};
+    const read = rightIn(it, SETTINGS);
+    settings = read.right;
+    for (const name of read.faults) faults.push([name === "zone" ? "common.wrong-zone" : "common.wrong-setting", { name, value: String(it[name]) }]);
+    takeRecords(file, it, faults);
+    keepClocksOf(agency());
+}
+
+/** @param {string} path */
+async function textOf(path) {
+    try {
+        const { timeout } = /** @type {any} */ (AbortSignal);
+        const reply = await fetch(path, { cache: "no-cache", credentials: "omit", signal: timeout.call(AbortSignal, LONGEST_WAIT) });
+        hearServersTime(reply.headers.get("date"));
+        return reply.ok ? await reply.text() : null;
+    } catch {
+        return null;
+    }
+}
+
+/** The places, routes and vehicles, as much of them as the caller's key may see; whether the site answered.
+ * @param {string} screen @returns {Promise<boolean>}
+ */
+export async function loadPlaces(screen) {
+    for (const path of STAFF.includes(screen) ? ["/staff/places.json", "/places.json"] : ["/places.json"]) {
+        const { status, text } = await desk.fetchFile(path);
+        if (status === 0 || status >= 500) return false;
+        if (status !== 200) continue;
+        /** @type {Trouble[]} */
+        const faults = [];
+        takeRecords("places.json", objectOf("places.json", text, faults), faults);
+        return true;
+    }
+    return true;
+}
+
+/** Whether a rider's private places are there.
+ * @param {number} rider
+ */
+export const hasOwnPlaces = (rider) => ownOf === rider;
+
+/** A rider's private places.
+ * @param {number} rider
+ */
+export async function loadOwnPlaces(rider) {
+    const { status, text } = await desk.fetchFile(`/own/${rider}/places.json`);
+    /** @type {Trouble[]} */
+    const faults = [];
+    own = status === 200 ? recordsIn("places", objectOf("own places.json", text, faults)?.places, faults) : new Map();
+    ownOf = rider;
+    wrong.set("own", faults);
+}
+
+/** Nothing of places stays once somebody has signed out. */
+export function forgetPlaces() {
+    own = new Map();
+    ownOf = 0;
+    if (![...wrong.keys()].includes("places.json")) return;
+    served = { places: new Map(), routes: new Map(), vehicles: new Map() };
+    wrong.delete("places.json");
+    wrong.delete("own");
+}
+
+// What the admin puts.
+
+/** @param {Kind} kind @param {any} record */
+export function add(kind, record) {
+    const all = recordsIn(kind, [...recordsIn(kind, added[kind], []).values(), record], []);
+    added = { ...added, [kind]: [...all.values()] };
+    localStorage.setItem(ADDED, JSON.stringify(added));
+    keepHours();
+}
+
+/** @param {Record<string, any>} values */
+export function addSettings(values) {
+    added = { ...added, settings: { ...(added.settings ?? {}), ...values } };
+    localStorage.setItem(ADDED, JSON.stringify(added));
+    keepClocksOf(agency());
+}
+
+/** Goes back to what the server's file says. */
+export function forgetAdded() {
+    added = {};
+    localStorage.removeItem(ADDED);
+    keepClocksOf(agency());
+}
+
+/** The whole as one file. */
+export function agencyText() {
+    const it = { ...settings, ...(added.settings ?? {}) };
+    return `${JSON.stringify({ ...it, places: places(), routes: routes(), vehicles: vehicles() }, null, 2)}\n`;
+}
+
+/** Whether this browser has names that the server's file has not. */
+export function isAhead() {
+    const kept = added, whole = agencyText();
+    added = {};
+    const plain = agencyText();
+    added = kept;
+    return whole !== plain;
+}
+
+// Names.
+
+/** @param {number} id */
+export const placeOf = (id) => own.get(id) ?? places().find((place) => place.id === id) ?? null;
+/** The agency's own word for a place, as it begins a name. */
+export const placeWord = () => agency().place_word.replace(/^./, (letter) => letter.toUpperCase());
+/** @param {number} id */
+export const placeName = (id) => placeOf(id)?.name || `${placeWord()} ${id}`;
+/** @param {number} id */
+export const placeNote = (id) => placeOf(id)?.note ?? "";
+/** @param {number} id */
+export const vehicleName = (id) => vehicles().find((it) => it.id === id)?.name || t("common.vehicle", { vehicle: id });
+/** @param {number} id */
+export const routeName = (id) => routes().find((it) => it.id === id)?.name || t("common.line", { line: id });
+
+/** The places that a rider may be offered, as pairs of a number and a name. A private one is offered to its rider alone.
+ * @param {number} [rider] @returns {[number, string][]} */
+export const placePairs = (rider) => places().filter((place) => isOffered(place, rider))
+    .map(({ id, name }) => [id, name ? `${name} (${id})` : `${placeWord()} ${id}`]);
+
+/** @param {Place} place @param {number | undefined} rider */
+function isOffered({ id, private: whose, name }, rider) {
+    if (!whose) return true;
+    if (whose === true) return rider === undefined || Boolean(name) || own.has(id);
+    return rider === undefined || whose === rider;
+}
+
+/** Whether a point lies at most so many feet from some segment of a line: whole numbers below 2 to the 53rd, so nothing is rounded.
+ * @param {[number, number]} point @param {[number, number]} from @param {[number, number]} to @param {number} feet */
+function isNear([x, y], [ax, ay], [bx, by], feet) {
+    const [dx, dy] = [bx - ax, by - ay], along = (x - ax) * dx + (y - ay) * dy, long = dx * dx + dy * dy;
+    if (along <= 0) return (x - ax) ** 2 + (y - ay) ** 2 <= feet * feet;
+    if (along >= long) return (x - bx) ** 2 + (y - by) ** 2 <= feet * feet;
+    const cross = BigInt(Math.round(dx * (y - ay) - dy * (x - ax))), wide = BigInt(Math.round(feet));
+    return cross * cross <= wide * wide * BigInt(Math.round(long));
+}
+
+/** The routes in whose corridor a place lies.
+ * @param {Place} place
+ */
+export const corridorsOf = (place) => routes().filter((route) => place.core || (place.x !== undefined && place.y !== undefined
+    && route.points.some((point, at) => at > 0 && isNear([Number(place.x), Number(place.y)], route.points[at - 1], point, route.width))));

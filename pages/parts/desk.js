@@ -1,0 +1,297 @@
+// The desk's API: one function a path. Each gives {value} where the desk accepted and {denied, field} where it did not, and none throws.
+// A desk that does not answer is asked again until it does.
+
+import { hearServersTime } from "./clock.js";
+import { digestOf, newKey, normalKey } from "./key.js";
+import { HIGHEST_NUMBER } from "./limits.js";
+import * as line from "./line.js";
+
+/**
+ * @template Value
+ * @typedef {import("../types").Reply<Value>} Reply
+ */
+/** @typedef {{ value?: any, denied?: string, field?: string, silent?: string }} Told what one try gives: silent is the key of words that say why */
+/** @typedef {{ digest: string | null, number: number, path: string, body: string, nextKey?: string, resent: boolean }} Pending */
+
+const LONGEST_WAIT = 30_000, PAUSES = [500, 1000, 2000, 4000, 5000], CROWDED = 429;
+const KEY = "desk.key", PENDING = "desk.pending", SILENT = "common.silent";
+
+let key = sessionStorage.getItem(KEY), left = new AbortController();
+/** @type {string | null} */
+let mine = null;
+
+export { digestOf, newKey };
+
+/** The digest of the key that is signed in with, or null. */
+export const digest = () => mine;
+export const signedIn = () => key !== null;
+
+/** @param {string} text */
+async function hold(text) {
+    key = text;
+    mine = await digestOf(text);
+    sessionStorage.setItem(KEY, text);
+}
+
+/** Any key may ask for a sheet; nobody's key is denied desk.key, and a role that may not read it desk.caller. */
+const PROBE = "/days/2000-01-01/sheet";
+
+/** Signs in with what was typed. Where the desk is silent, a key that isKnown says is known here is taken at once: the desk still judges each
+ * request.
+ * @param {string} typed @param {(digest: string) => Promise<boolean>} [isKnown] @returns {Promise<Reply<true>>}
+ */
+export async function signIn(typed, isKnown = async () => false) {
+    const text = normalKey(typed), first = await readOnce(PROBE, text);
+    if (first.silent && await isKnown(await digestOf(text))) {
+        await hold(text);
+        return { value: true };
+    }
+    const reply = first.silent ? await read(PROBE, text) : first;
+    if (reply.denied !== undefined && reply.denied !== "desk.caller") return { denied: reply.denied, field: reply.field };
+    await hold(text);
+    return { value: true };
+}
+
+export async function comeBack() {
+    if (key !== null) mine = await digestOf(key);
+}
+
+export function signOut() {
+    key = mine = null;
+    sessionStorage.clear();
+    leave();
+}
+
+/** Whoever leaves a screen waits for none of its reads any more. */
+export function leave() {
+    left.abort();
+    left = new AbortController();
+}
+
+// One request. {silent} says that the line broke, or that what answered was not the desk.
+
+/** @param {Response} reply @returns {Promise<any>} */
+async function bodyOf(reply) {
+    const type = reply.headers.get("content-type") ?? "";
+    if (/^application\/json/.test(type)) return reply.json();
+    if (/^text\/(plain|csv)/.test(type) && reply.ok) return reply.text();
+    return undefined;
+}
+
+/** A request is given up after the longest wait, and where its screen is left.
+ * @param {AbortSignal} [signal] @returns {AbortSignal}
+ */
+function bound(signal) {
+    const signals = /** @type {any} */ (AbortSignal);
+    return signals.any([signals.timeout(LONGEST_WAIT), ...(signal ? [signal] : [])]);
+}
+
+/** @param {string} path @param {RequestInit} options @param {AbortSignal} [signal] */
+const asked = (path, options, signal) => fetch(path, { ...options, signal: bound(signal),
+    cache: "no-store", credentials: "omit", redirect: "error" });
+
+/** @param {string} method @param {string} path @param {Record<string, string>} headers @param {string} [body] @param {AbortSignal} [signal]
+ * @returns {Promise<Told>} */
+async function once(method, path, headers, body, signal) {
+    try {
+        const reply = await asked(path, { method, headers, body }, signal), told = await bodyOf(reply);
+        hearServersTime(reply.headers.get("date"));
+        if (reply.status === CROWDED) return { silent: "common.crowded" };
+        if (reply.ok && told !== undefined && told !== null) return { value: told };
+        if (reply.status < 500 && typeof told?.denied === "string") return { denied: told.denied, field: told.field };
+        return { silent: SILENT };
+    } catch {
+        return { silent: SILENT };
+    }
+}
+
+/** @param {number} tries */
+const pause = (tries) => new Promise((go) => { setTimeout(go, PAUSES[Math.min(tries, PAUSES.length - 1)]); });
+
+// Files of the site.
+
+/** A file of the site, asked for once: its status, 0 where the line is broken, and its text.
+ * @param {string} path
+ * @returns {Promise<{ status: number, text: string | null }>}
+ */
+export async function fetchFile(path) {
+    try {
+        const reply = await asked(path, { headers: { "Desk-Key": key ?? "" } }, left.signal);
+        hearServersTime(reply.headers.get("date"));
+        return { status: reply.status, text: reply.ok ? await reply.text() : null };
+    } catch {
+        return { status: 0, text: null };
+    }
+}
+
+/** Tells the site something, once: the status, 0 where the line is broken.
+ * @param {string} path
+ */
+export async function postFile(path) {
+    try {
+        return (await asked(path, { method: "POST", headers: { "Desk-Key": key ?? "" }, keepalive: true })).status;
+    } catch {
+        return 0;
+    }
+}
+
+// Reads.
+
+/** One try of a read.
+ * @param {string} path @param {string | null} [by] @param {AbortSignal} [signal]
+ */
+export const readOnce = (path, by = key, signal = left.signal) => once("GET", path, { "Desk-Key": by ?? "" }, undefined, signal);
+
+/** @param {string} path @param {string | null} [by] @returns {Promise<Reply<any>>} */
+async function read(path, by = key) {
+    const request = {}, { signal } = left;
+    for (let tries = 0; ; tries += 1) {
+        const reply = await readOnce(path, by, signal);
+        if (signal.aborted || !reply.silent) {
+            line.answers(request);
+            return signal.aborted ? { denied: "left" } : /** @type {Reply<any>} */ (reply);
+        }
+        line.waits(request, reply.silent);
+        await pause(tries);
+    }
+}
+
+// Writes. A caller's numbers rise, also over two windows: one window at a time sends, and the other waits for its answer.
+
+const lastNumber = () => Number(localStorage.getItem(`desk.number.${mine}`) ?? 0);
+
+/** The next number of a write. Whoever takes one holds the lock of inTurn.
+ * @param {number} [above]
+ */
+export function takeNumber(above = 0) {
+    const number = Math.min(HIGHEST_NUMBER, Math.max(lastNumber() + 1, Math.floor(Date.now() / 1000), above));
+    localStorage.setItem(`desk.number.${mine}`, String(number));
+    return number;
+}
+
+/** Does something while no other window writes with this key.
+ * @template Made @param {() => Promise<Made>} act @param {LockOptions} [options]
+ * @returns {Promise<Made>}
+ */
+export const inTurn = (act, options = {}) => navigator.locks.request(`desk ${mine}`, options, act);
+
+/** One try of a write.
+ * @param {string} path @param {Record<string, any>} fields @param {number} number @returns {Promise<Told>}
+ */
+export const attempt = (path, fields, number) => post(path, JSON.stringify(fields), number);
+
+/** @param {string} path @param {string} body @param {number} number */
+const post = (path, body, number) => once("POST", path, { "Desk-Key": key ?? "", "Desk-Number": String(number), "Content-Type": "application/json" }, body);
+
+/** @param {Pending} pending */
+const keep = (pending) => sessionStorage.setItem(PENDING, JSON.stringify(pending));
+
+/** The same write until it is answered; pending.resent says whether it may have arrived more than once.
+ * @param {Pending} pending
+ * @returns {Promise<Reply<any>>}
+ */
+async function untilAnswered(pending) {
+    for (let tries = 0; ; tries += 1) {
+        const reply = await post(pending.path, pending.body, pending.number);
+        if (!reply.silent) {
+            line.answers(pending);
+            if (reply.denied === "desk.key" && pending.nextKey && pending.resent) await hold(pending.nextKey);
+            else return /** @type {Reply<any>} */ (reply);
+        } else {
+            line.waits(pending, reply.silent === SILENT ? "common.silent-write" : reply.silent);
+            pending.resent ||= reply.silent === SILENT;
+            keep(pending);
+        }
+        await pause(tries);
+        if (!signedIn()) {
+            line.answers(pending);
+            return { denied: "left" };
+        }
+    }
+}
+
+let told = () => {};
+/** @param {() => void} act what is done where another window or device wrote with this key */
+export const whenOthersWrote = (act) => { told = act; };
+
+/** 409 means that another window or device wrote with this key and a higher number. If this write went out once alone, it was not done, and
+ * goes on with a higher number. If its line broke, nobody knows: that is told.
+ * @param {Pending} pending
+ */
+async function sent(pending) {
+    let reply = await untilAnswered(pending);
+    for (let step = 1; reply.denied === "desk.number" && !pending.resent && step <= 2 ** 30; step *= 8) {
+        pending.number = takeNumber(pending.number + step);
+        keep(pending);
+        reply = await untilAnswered(pending);
+        if (reply.denied !== "desk.number") told();
+    }
+    sessionStorage.removeItem(PENDING);
+    return reply;
+}
+
+/** @param {string} path @param {Record<string, any>} fields @param {string} [nextKey] @returns {Promise<Reply<any>>} */
+const write = (path, fields, nextKey) => inTurn(() => {
+    const pending = { digest: mine, number: takeNumber(), path, body: JSON.stringify(fields), nextKey, resent: false };
+    keep(pending);
+    return sent(pending);
+});
+
+/** A write that was under way when the page was loaded anew: its reply, or null where there is none.
+ * @returns {Promise<Reply<any> | null>}
+ */
+export async function finishPending() {
+    const pending = JSON.parse(sessionStorage.getItem(PENDING) ?? "null");
+    if (!pending || pending.digest !== mine) return null;
+    pending.resent = true;
+    return inTurn(() => sent(pending));
+}
+
+// The paths.
+
+/** Whoever replaces the own key goes on with the new one.
+ * @param {Record<string, any>} fields @param {string} nextKey
+ */
+export async function putCaller(fields, nextKey) {
+    const reply = await write("/callers", fields, nextKey);
+    if (!reply.denied && (await read(PROBE)).denied === "desk.key") await hold(nextKey);
+    return reply;
+}
+
+/** @typedef {Record<string, any>} Fields */
+/** @typedef {import("../types").Wish} Wish */
+/** @typedef {import("../types").Ticket} Ticket */
+
+/** @param {Fields} fields */
+export const putPolicy = (fields) => write("/policy", fields);
+/** @param {Fields} fields */
+export const putPlace = (fields) => write("/places", fields);
+/** @param {Fields} fields */
+export const putRoute = (fields) => write("/routes", fields);
+/** @param {Fields} fields */
+export const putVehicle = (fields) => write("/vehicles", fields);
+/** @param {Fields} fields */
+export const putRider = (fields) => write("/riders", fields);
+/** @param {number} rider @param {Fields} fields @returns {Promise<Reply<{ entered: number }>>} */
+export const enter = (rider, fields) => write(`/riders/${rider}/entries`, fields);
+/** @param {Wish & { rider: number }} fields @returns {Promise<Reply<Ticket>>} */
+export const book = (fields) => write("/trips", fields);
+/** @param {number} trip @param {Wish} fields @returns {Promise<Reply<Ticket>>} */
+export const change = (trip, fields) => write(`/trips/${trip}/change`, fields);
+/** @param {number} trip */
+export const cancel = (trip) => write(`/trips/${trip}/cancel`, {});
+/** @param {number} trip @param {string} outcome */
+export const tellOutcome = (trip, outcome) => write(`/trips/${trip}/outcome`, { outcome });
+
+/** @param {number} rider @param {string} day @returns {Promise<Reply<import("../types").Standing>>} */
+export const standing = (rider, day) => read(`/riders/${rider}/standing/${day}`);
+/** @param {number} rider @returns {Promise<Reply<{ trips: import("../types").Trip[] }>>} */
+export const tripsOf = (rider) => read(`/riders/${rider}/trips`);
+/** @param {number} rider @param {number} entry @returns {Promise<Reply<string>>} */
+export const letter = (rider, entry) => read(`/riders/${rider}/letters/${entry}`);
+/** @param {number} vehicle @param {string} day @returns {Promise<Reply<string>>} */
+export const manifest = (vehicle, day) => read(`/vehicles/${vehicle}/manifest/${day}`);
+/** @param {string} day @returns {Promise<Reply<string>>} */
+export const sheet = (day) => read(`/days/${day}/sheet`);
+/** @param {string} day @returns {Promise<Reply<string>>} */
+export const tripsOn = (day) => read(`/days/${day}/trips.csv`);

@@ -1,0 +1,249 @@
+// Signing in and out, and which screen is shown. An address holds a screen and its part, never a key.
+
+import { agency, forgetPlaces, loadAgency, loadPlaces, troubles } from "./agency.js";
+import { asked } from "./ask.js";
+import * as desk from "./desk.js";
+import { denialOf } from "./denials.js";
+import { button, drawInto, found, make, part, say } from "./element.js";
+import * as line from "./line.js";
+import { clearNotes, dropNote, note } from "./notes.js";
+import { takePaperAway } from "./paper.js";
+import { forgetRoster, loadRoster } from "./roster.js";
+import { screenOf, SCREENS, STAFF } from "./screens.js";
+import { signIn } from "./signing.js";
+import { chooseLanguage, language, LANGUAGE_NAMES, languageFor, t, useWords } from "./words.js";
+
+/** @typedef {import("../types").ScreenPart} ScreenPart */
+/** @typedef {import("./screens.js").Screen} Screen */
+
+const SCREEN = "desk.screen", STAYS = [SCREEN, "desk.language", "desk.agency", "desk.ahead"], LOOKED = 5_000, MINUTE = 60_000;
+const HURRY = 5_000, NEVER_IDLE = ["driver"];
+
+/** How often something else was shown: who waited for a screen that was left draws nothing. */
+let shows = 0;
+let shown = false, active = Date.now();
+/** Whose names are loaded: a key's digest and a screen's kind. */
+let loadedFor = "";
+/** @type {Map<string, ScreenPart[]>} */
+const loaded = new Map();
+
+/** The screen and the part that the address names. */
+function wanted() {
+    const [screenId, partId = ""] = location.hash.slice(1).split("/");
+    return { screen: screenOf(screenId), partId };
+}
+
+/** @param {string} screen @param {string} partId */
+const addressOf = (screen, partId) => `#${screen}/${partId}`;
+
+// The frame: the agency's name, the language, the screens, the parts.
+
+function showFrame() {
+    const { screen } = wanted(), signed = desk.signedIn();
+    found("agency").textContent = agency().name;
+    found("skip").textContent = t("common.skip");
+    found("unproved").textContent = t("common.unproved");
+    found("unproved").hidden = !agency().unproved;
+    drawInto(found("languages"), agency().languages.length > 1 && languageChoice());
+    drawInto(found("session"), signed && button(t("signing.out"), () => leaveByHand()));
+    found("screens").hidden = found("parts").hidden = !signed;
+    found("screens").setAttribute("aria-label", t("common.screen"));
+    found("parts").setAttribute("aria-label", t("common.parts"));
+    drawInto(found("screens"), [part("label", { for: "screen" }, t("common.screen")), part("select", { id: "screen", value: screen?.id ?? "", on: {
+        change: (event) => { location.hash = event.target.value; } } }, SCREENS.map(({ id }) => part("option", { value: id }, t(`signing.${id}`))))]);
+}
+
+function languageChoice() {
+    return part("select", { id: "language", "aria-label": t("common.language"), value: language(), on: { change: async (event) => {
+        await chooseLanguage(event.target.value, { keep: true });
+        loaded.clear();
+        await show({ again: true });
+        found("language").focus();
+    } } }, agency().languages.filter((it) => it in LANGUAGE_NAMES).map((it) => part("option", { value: it, lang: it }, LANGUAGE_NAMES[/** @type {"en"} */ (it)])));
+}
+
+/** @param {Screen} screen @param {ScreenPart[]} parts @param {string} chosen */
+function showParts(screen, parts, chosen) {
+    drawInto(found("parts"), parts.length > 1 && part("ul", {}, parts.map(({ id, name }) => part("li", { key: id },
+        part("a", { href: addressOf(screen.id, id), "aria-current": chosen === id ? "page" : null }, name)))));
+}
+
+/** What is wrong in the agency's files is one line for those who can do something about it.
+ * @param {string} screen
+ */
+function showTroubles(screen) {
+    const [first, ...others] = troubles();
+    if (!first || ["rider", "driver"].includes(screen)) dropNote("files");
+    else note("files", [part("p", {}, first, others.length > 0 && ` ${t("signing.more-troubles", { count: others.length })}`),
+        others.length > 0 && part("details", {}, part("summary", {}, t("signing.all-troubles")), part("ul", {}, others.slice(0, 50).map((it) => part("li", {}, it))))]);
+}
+
+// Loading.
+
+/** @param {string} name */
+function useStyles(name) {
+    const href = `css/${name}.css`;
+    if (document.querySelector(`link[href="${href}"]`)) return Promise.resolve();
+    return new Promise((go) => {
+        document.head.append(make("link", { rel: "stylesheet", href, on: { load: go, error: go } }));
+    });
+}
+
+/** @param {Screen} screen */
+async function partsOf(screen) {
+    const known = loaded.get(screen.id);
+    if (known) return known;
+    const [module] = await Promise.all([import(`../screens/${screen.module}.js`), useWords(...screen.words), ...screen.styles.map(useStyles)]);
+    const parts = module[screen.id]();
+    loaded.set(screen.id, parts);
+    return parts;
+}
+
+const inHurry = (/** @type {Promise<any>} */ it) => Promise.race([it, new Promise((go) => { setTimeout(go, HURRY); })]);
+
+/** The names that this key may see.
+ * @param {Screen} screen
+ */
+async function loadNames(screen) {
+    const staff = STAFF.includes(screen.id), whose = `${desk.digest()} ${staff}`;
+    if (loadedFor === whose) return;
+    loadedFor = whose;
+    const [answered] = await inHurry(Promise.all([loadPlaces(screen.id), staff ? loadRoster() : null])) ?? [];
+    // (a site that did not answer is asked again with the next screen)
+    if (!answered) loadedFor = "";
+}
+
+// Showing.
+
+/** @param {string} title */
+function entitle(title) {
+    document.title = `${title} – ${agency().name}`;
+}
+
+function showSignIn() {
+    entitle(t("signing.in"));
+    showFrame();
+    drawInto(found("parts"), []);
+    drawInto(found("main"), signIn({ screen: wanted().screen?.id ?? kept(SCREEN) ?? "rider", signed: (screen) => {
+        localStorage.setItem(SCREEN, screen);
+        active = Date.now();
+        if (wanted().screen?.id === screen) show();
+        else location.hash = screen;
+    } }));
+}
+
+/** @param {Screen} screen @param {number} mine */
+async function showScreen(screen, mine) {
+    /** @type {ScreenPart[]} */
+    let parts;
+    showFrame();
+    try {
+        [parts] = await Promise.all([partsOf(screen), loadNames(screen)]);
+    } catch (error) {
+        console.error(error);
+        return drawInto(found("main"), part("div", { class: "note row", role: "alert" }, part("p", {}, t("common.not-loaded")),
+            button(t("common.load-again"), () => show())));
+    }
+    if (mine !== shows) return undefined;
+    const { partId } = wanted(), it = parts.find((one) => one.id === partId) ?? parts[0];
+    if (location.hash !== addressOf(screen.id, it.id)) history.replaceState(null, "", addressOf(screen.id, it.id));
+    localStorage.setItem(SCREEN, screen.id);
+    entitle(`${it.name} – ${t(`signing.${screen.id}`)}`);
+    showFrame();
+    showParts(screen, parts, it.id);
+    showTroubles(screen.id);
+    found("main").replaceChildren(make("h1", {}, it.name), make("div", { class: "stack" }, it.draw()));
+    return undefined;
+}
+
+/** @param {{ again?: boolean }} options */
+async function show({ again = false } = {}) {
+    desk.leave();
+    takePaperAway();
+    const mine = shows += 1;
+    if (desk.signedIn() && !wanted().screen) history.replaceState(null, "", `#${screenOf(kept(SCREEN) ?? "")?.id ?? "rider"}`);
+    const { screen } = wanted();
+    document.body.classList.toggle("signed-out", !desk.signedIn());
+    if (!desk.signedIn() || !screen) showSignIn();
+    else await showScreen(screen, mine);
+    if (mine !== shows) return;
+    if (shown && !again) found("main").focus({ preventScroll: true });
+    if (shown && !again) window.scrollTo(0, 0);
+    shown = true;
+}
+
+// Signing out: nothing stays that tells who was there.
+
+/** @param {string} name */
+function kept(name) {
+    try {
+        return localStorage.getItem(name);
+    } catch {
+        return null;
+    }
+}
+
+/** What the driver's phone keeps for itself.
+ * @returns {Promise<any>}
+ */
+const queue = () => import("./queue.js").catch(() => ({}));
+
+async function leaveByHand() {
+    const { maySignOut } = await queue();
+    if (maySignOut && !await maySignOut()) return;
+    if (line.isWaiting() && !await asked({ question: t("signing.waiting"), detail: t("signing.waiting-detail"), yes: t("signing.out-anyway"), danger: true })) return;
+    await signOut(t("signing.signed-out"));
+}
+
+/** @param {string} words */
+async function signOut(words) {
+    const digest = desk.digest(), { forgetHere } = await queue();
+    desk.signOut();
+    await forgetHere?.(digest);
+    forgetPlaces();
+    forgetRoster();
+    loadedFor = "";
+    for (const name of Object.keys(localStorage)) if (name.startsWith("desk.") && !STAYS.includes(name)) localStorage.removeItem(name);
+    clearNotes();
+    history.replaceState(null, "", "#");
+    await show();
+    say(words);
+}
+
+/** Who does nothing for long is signed out, and is told a minute before. */
+async function lookIdle() {
+    const minutes = agency().idle_minutes, idle = Date.now() - active;
+    if (!desk.signedIn() || !minutes || NEVER_IDLE.includes(wanted().screen?.id ?? "") || line.isWaiting()) return;
+    if (idle >= minutes * MINUTE) {
+        await signOut(t("signing.idle-out", { minutes }));
+        note("idle", t("signing.idle-out", { minutes }));
+    } else if (idle >= minutes * MINUTE - MINUTE) {
+        note("idle-soon", t("signing.idle-soon"));
+        say(t("signing.idle-soon"));
+    }
+}
+
+function isActive() {
+    active = Date.now();
+    if (dropNote("idle-soon")) say("");
+}
+
+// What was under way when the page was loaded anew comes to its end before anything else is sent.
+async function finish() {
+    const reply = await desk.finishPending();
+    if (reply) note("finished", reply.denied ? [part("p", {}, t("common.was-denied")), denialOf(reply)] : t("common.was-done"));
+}
+
+desk.whenOthersWrote(() => note("others", t("common.others-wrote")));
+await Promise.all([loadAgency(), desk.comeBack()]);
+await chooseLanguage(languageFor(agency().languages));
+await useWords("common", "denials", "fields", "signing");
+window.addEventListener("hashchange", () => show());
+for (const event of ["pointerdown", "keydown", "scroll"]) window.addEventListener(event, isActive, { passive: true, capture: true });
+found("skip").addEventListener("click", (event) => {
+    event.preventDefault();
+    found("main").focus();
+});
+setInterval(lookIdle, LOOKED);
+await show();
+if (desk.signedIn()) finish();

@@ -1,0 +1,52 @@
+// A place, searched by any part of its name, its note or its number.
+
+import { placeNote, placePairs } from "./agency.js";
+import { comboField } from "./combo.js";
+import { HIGHEST_ID } from "./limits.js";
+import { folded } from "./roster.js";
+import { t } from "./words.js";
+
+/** @typedef {{ id: number, text: string, note: string, sought: string }} Choice */
+
+/** The places that may be chosen: the rider's usual ones first.
+ * @param {number | undefined} rider @param {number[]} usual @returns {Choice[]}
+ */
+function choicesOf(rider, usual) {
+    const all = placePairs(rider).map(([id, text]) => ({ id, text, note: placeNote(id), sought: folded(`${text} ${placeNote(id)}`) }));
+    const at = (/** @type {Choice} */ { id }) => (usual.includes(id) ? usual.indexOf(id) : usual.length);
+    return all.sort((a, b) => at(a) - at(b));
+}
+
+/** Those that have each of the typed words, a place of that very number or name first.
+ * @param {Choice[]} all @param {string} typed
+ */
+function fitting(all, typed) {
+    const words = folded(typed).split(/\s+/).filter(Boolean), same = (/** @type {Choice} */ { id, text }) => String(id) === typed.trim() || text === typed.trim();
+    const fit = all.filter(({ sought }) => words.every((word) => sought.includes(word)));
+    return [...fit.filter(same), ...fit.filter((it) => !same(it))];
+}
+
+/** The one place that is meant by what was typed, or null.
+ * @param {Choice[]} all @param {string} typed
+ */
+function meant(all, typed) {
+    const text = typed.trim(), same = all.find((it) => it.text === text || String(it.id) === text);
+    if (same) return same.id;
+    if (/^\d{1,10}$/.test(text) && Number(text) >= 1 && Number(text) <= HIGHEST_ID) return Number(text);
+    const fit = text ? fitting(all, text) : [];
+    return fit.length === 1 ? fit[0].id : null;
+}
+
+/** @param {string} name @param {string} label @param {{ rider?: number, usual?: () => number[], hint?: string, optional?: boolean, value?: number,
+ *   chosen?: () => void }} options chosen() follows each new choice */
+export function placeField(name, label, { rider, usual = () => [], value, ...options } = {}) {
+    const all = () => choicesOf(rider, usual());
+    const wants = (/** @type {string} */ typed) => {
+        const count = typed.trim() ? fitting(all(), typed).length : 0;
+        return count > 1 ? t("fields.place-many", { count }) : t(typed.trim() ? "fields.place-none" : "fields.place");
+    };
+    const whole = comboField(name, label, { ...options, all, wants, search: (typed) => fitting(all(), typed), meant: (typed) => meant(all(), typed),
+        textOf: (id) => all().find((it) => it.id === id)?.text ?? String(id) });
+    if (value !== undefined) whole.write(value);
+    return whole;
+}

@@ -1,0 +1,308 @@
+// What a phone was told: a log in the browser's own database, which outlives the page and the tab. An entry may have a write, which goes to
+// the desk in its order and is done once, and a tally, which goes to the site's log. Beside the log are copies of what was last read.
+// Each record is bound to the digest of the key that was signed in: nobody else is shown it, and with no other key is it sent.
+
+import { asked } from "./ask.js";
+import { serverNow } from "./clock.js";
+import * as desk from "./desk.js";
+import { sendTally } from "./tally.js";
+import { t, useWords } from "./words.js";
+
+/**
+ * @typedef {{ path: string, fields: Record<string, unknown>, number: number, tries: number }} Write number is 0 until it first goes out and
+ *     fixed from then on; tries counts how often it may have reached the desk
+ * @typedef {"kept" | "waiting" | "done" | "denied"} State kept: it has no write
+ * @typedef {object} Entry
+ * @property {number} order where it is in the log
+ * @property {string} digest
+ * @property {string} sheet what it belongs to, as "1 2025-03-11"
+ * @property {any} tap what was tapped, as the screen writes it
+ * @property {State} state
+ * @property {Write | null} write
+ * @property {string | null} denied the name of the desk's denial
+ * @property {string | null} tally the path of what the site's log is yet to be told
+ * @property {number} since the moment of the tap, in milliseconds of the server's clock
+ * @typedef {Omit<Entry, "order">} Fresh
+ */
+
+const NAME = "desk", VERSION = 1, ENTRIES = "entries", COPIES = "copies", CHANNEL = "desk.queue";
+const PAUSES = [1000, 2000, 4000, 8000, 15_000], HIGHEST_STEP = 2 ** 30;
+/** A tally waits so long, so that a tap that is taken back is not counted. */
+const HELD = 60_000;
+/** Days after which what waits for nothing is dropped. */
+const KEPT = 3 * 86_400_000;
+
+// The database.
+
+/** @type {Promise<IDBDatabase> | null} */
+let opened = null;
+
+function open() {
+    opened ??= new Promise((given, refused) => {
+        const request = indexedDB.open(NAME, VERSION);
+        request.onupgradeneeded = () => {
+            request.result.createObjectStore(ENTRIES, { keyPath: "order", autoIncrement: true }).createIndex("digest", "digest");
+            request.result.createObjectStore(COPIES, { keyPath: ["digest", "name"] });
+        };
+        request.onerror = () => refused(request.error);
+        request.onsuccess = () => {
+            request.result.onclose = () => { opened = null; };
+            request.result.onversionchange = () => {
+                request.result.close();
+                opened = null;
+            };
+            given(request.result);
+        };
+    });
+    opened.catch(() => { opened = null; });
+    return opened;
+}
+
+/** What act's request gives, once its whole change is on the disk; fails where there is no room or no database.
+ * @param {string} store @param {IDBTransactionMode} mode @param {(store: IDBObjectStore) => IDBRequest | void} act @returns {Promise<any>} */
+async function within(store, mode, act) {
+    const database = await open();
+    return new Promise((given, refused) => {
+        const change = database.transaction(store, mode, { durability: "strict" });
+        change.onabort = () => refused(change.error ?? new Error("aborted"));
+        const request = act(change.objectStore(store));
+        change.oncomplete = () => given(request ? request.result : undefined);
+    });
+}
+
+/** Changes one entry where it still is; null drops it.
+ * @param {number} order @param {(entry: Entry) => Entry | null} act */
+const changed = (order, act) => within(ENTRIES, "readwrite", (store) => {
+    const request = store.get(order);
+    request.onsuccess = () => {
+        const next = request.result && act(request.result);
+        if (next) store.put(next);
+        else if (request.result) store.delete(order);
+    };
+});
+
+// The log.
+
+/** @type {Set<() => void>} */
+const listeners = new Set();
+const others = typeof BroadcastChannel === "function" ? new BroadcastChannel(CHANNEL) : null;
+if (others) others.onmessage = () => listeners.forEach((act) => act());
+
+function tell() {
+    listeners.forEach((act) => act());
+    others?.postMessage("changed");
+}
+
+/** Calls act whenever the log has changed, in this window or another.
+ * @param {() => void} act */
+export function onChange(act) {
+    listeners.add(act);
+    return () => listeners.delete(act);
+}
+
+/** The log of whoever is signed in, in its order.
+ * @returns {Promise<Entry[]>} */
+export async function entries() {
+    const digest = desk.digest();
+    return digest ? within(ENTRIES, "readonly", (store) => store.index("digest").getAll(digest)) : [];
+}
+
+/** Keeps an entry, and sends what it has to send; fails where this phone has no room for it.
+ * @param {Omit<Fresh, "digest" | "denied" | "since">} entry */
+export async function keep(entry) {
+    const digest = desk.digest();
+    if (!digest) throw new Error("nobody is signed in");
+    await within(ENTRIES, "readwrite", (store) => store.add({ ...entry, digest, denied: null, since: serverNow() }));
+    tell();
+    sendAll();
+}
+
+/** Drops an entry, unless it is being sent at this moment; whether it is gone.
+ * @param {number} order @returns {Promise<boolean>} */
+export async function takeBack(order) {
+    const gone = await desk.inTurn(async (/** @type {Lock | null} */ turn) => {
+        let left = false;
+        if (turn) await changed(order, (entry) => (left = entry.state !== "kept" && entry.state !== "waiting") ? entry : null);
+        return Boolean(turn) && !left;
+    }, { ifAvailable: true });
+    tell();
+    return gone;
+}
+
+/** Drops what the desk denied, once it was read.
+ * @param {number} order */
+export async function putAside(order) {
+    await changed(order, (entry) => ({ ...entry, tap: { ...entry.tap, seen: true } }));
+    tell();
+}
+
+// Sending. One window at a time has the turn, and what it sends is read from the database then: no number is used for two writes.
+
+/** Numbers and ends that the disk had no room for, while this page lives.
+ * @type {Map<number, { write?: Write, state?: State, denied?: string | null }>} */
+const unwritten = new Map();
+
+/** @type {{ denied?: string } | null} */
+let stopped = null;
+
+/** Why nothing is sent any more: the key was taken away. */
+export const whyStopped = () => stopped;
+
+/** @param {Entry} entry @param {{ write?: Write, state?: State, denied?: string | null }} patch @returns {Promise<Entry>} */
+async function marked(entry, patch) {
+    try {
+        await changed(entry.order, (now) => ({ ...now, ...patch }));
+        unwritten.delete(entry.order);
+    } catch {
+        unwritten.set(entry.order, { ...unwritten.get(entry.order), ...patch });
+    }
+    return { ...entry, ...patch };
+}
+
+/** What waits first, as far as this page knows.
+ * @returns {Promise<(Entry & { write: Write }) | null>} */
+async function firstWaiting() {
+    const all = (await entries()).map((entry) => ({ ...entry, ...unwritten.get(entry.order) }));
+    return /** @type {any} */ (all.find(({ state, write }) => state === "waiting" && write)) ?? null;
+}
+
+/** One try of the write. 409 means that another window or device has used a higher number: this write then gets a higher one. What is queued
+ * here the desk takes once by itself, so a write whose reply was lost may go out again with another number: a second one is desk.over.
+ * @param {Entry & { write: Write }} entry */
+async function tried(entry) {
+    let write = { ...entry.write, number: entry.write.number || desk.takeNumber(), tries: entry.write.tries + 1 };
+    for (let step = 1; ; step *= 8) {
+        await marked(entry, { write });
+        const reply = await desk.attempt(write.path, write.fields, write.number);
+        if (reply.denied !== "desk.number" || step > HIGHEST_STEP) return { reply, write };
+        write = { ...write, number: desk.takeNumber(write.number + step) };
+    }
+}
+
+/** Sends what waits first: whether to go on.
+ * @returns {Promise<"on" | "later" | "end">} */
+async function sendFirst() {
+    if (navigator.onLine === false) return await firstWaiting() ? "later" : "end";
+    return desk.inTurn(async () => {
+        const digest = desk.digest(), entry = await firstWaiting();
+        if (!entry) return "end";
+        const { reply, write } = await tried(entry);
+        if (desk.digest() !== digest) return "end";
+        if ("silent" in reply) return "later";
+        if (reply.denied === "desk.key") {
+            stopped = reply;
+            return "end";
+        }
+        const lost = reply.denied === "desk.over" && write.tries > 1;
+        await marked(entry, { state: reply.denied && !lost ? "denied" : "done", denied: reply.denied ?? null });
+        return "on";
+    });
+}
+
+/** One try of a write that this phone has no room to keep.
+ * @param {Write} write @returns {Promise<{ value?: any, denied?: string, silent?: string }>} */
+export const tellOnce = (write) => desk.inTurn(async () => (await tried(/** @type {any} */ ({ order: -1, write }))).reply);
+
+/** @type {() => void} */
+let wake = () => {};
+let sending = false;
+
+/** @param {number} tries */
+const pause = (tries) => new Promise((go) => {
+    wake = () => go(undefined);
+    setTimeout(go, PAUSES[Math.min(tries, PAUSES.length - 1)]);
+});
+
+/** Sends all that waits, until nothing does or nobody is signed in. A run that is under way goes on at once. */
+export async function sendAll() {
+    wake();
+    if (sending) return;
+    sending = true;
+    stopped = null;
+    try {
+        for (let tries = 0; desk.digest();) {
+            const next = await sendFirst();
+            tell();
+            if (next === "end") break;
+            if (next === "later") await pause(tries);
+            tries = next === "later" ? tries + 1 : 0;
+        }
+    } catch {
+        // (a database that is gone has nothing to send)
+    } finally {
+        sending = false;
+    }
+}
+
+/** Tells the site's log what is old enough to be told. */
+export async function sendTallies() {
+    if (!desk.digest() || navigator.onLine === false) return;
+    for (const entry of await entries()) {
+        if (!entry.tally || entry.since > serverNow() - HELD) continue;
+        if (!await sendTally(entry.tally)) return;
+        await changed(entry.order, (now) => ({ ...now, tally: null }));
+    }
+}
+
+/** Drops what is some days old and waits for nothing. */
+export async function prune() {
+    const oldest = serverNow() - KEPT;
+    await within(ENTRIES, "readwrite", (store) => {
+        const request = store.openCursor();
+        request.onsuccess = () => {
+            const at = request.result;
+            if (!at) return;
+            if (at.value.since < oldest && at.value.state !== "waiting") at.delete();
+            at.continue();
+        };
+    });
+}
+
+window.addEventListener("online", () => sendAll());
+document.addEventListener("visibilitychange", () => { if (!document.hidden) wake(); });
+
+// Copies of what was last read.
+
+/** @param {string} name @param {any} value */
+export async function keepCopy(name, value) {
+    const digest = desk.digest();
+    if (digest) await within(COPIES, "readwrite", (store) => store.put({ digest, name, value }));
+}
+
+/** @param {string} name @returns {Promise<any>} */
+export async function copyOf(name) {
+    const digest = desk.digest();
+    return digest ? (await within(COPIES, "readonly", (store) => store.get([digest, name])))?.value ?? null : null;
+}
+
+/** @param {string} digest */
+const copiesOf = (digest) => IDBKeyRange.bound([digest, ""], [digest, "\uffff"]);
+
+/** Whether the desk has taken this key on this phone, and nobody has signed it out since.
+ * @param {string} digest */
+export async function isKnownHere(digest) {
+    try {
+        return await within(COPIES, "readonly", (store) => store.count(copiesOf(digest))) > 0;
+    } catch {
+        return false;
+    }
+}
+
+/** Drops the copies of a key that is signed out; what waits stays for when it signs in again.
+ * @param {string} digest */
+export async function forgetHere(digest) {
+    try {
+        await within(COPIES, "readwrite", (store) => store.delete(copiesOf(digest)));
+    } catch {
+        // (there is no database, so there is no copy)
+    }
+}
+
+/** Asks whoever signs out while something waits. */
+export async function maySignOut() {
+    const waiting = await entries().then((all) => all.filter(({ state }) => state === "waiting").length, () => 0);
+    if (!waiting) return true;
+    await useWords("driver");
+    return asked({ question: t("driver.out-question", { count: waiting }), detail: t("driver.out-detail"), yes: t("driver.out-yes"),
+        no: t("driver.out-no"), danger: true });
+}

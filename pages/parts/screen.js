@@ -1,0 +1,101 @@
+// A screen: one record of what it is about, and what is shown is drawn from that record. Who changes the record draws anew.
+
+import { drawInto, make } from "./element.js";
+import { onNewDay as newDay } from "./clock.js";
+import { t } from "./words.js";
+
+/** @typedef {import("../types").Given} Given */
+/** @typedef {{ focus?: string | null }} Options */
+
+/**
+ * @template State
+ * @typedef {object} Tools
+ * @property {(patch: Partial<State> | ((state: State) => Partial<State>), options?: Options) => void} change
+ * @property {<Made>(name: string, make: () => Made) => Made} kept what was made once under a name, as long as each draw asks for it
+ */
+
+/** @param {HTMLElement} it */
+export function focusOn(it) {
+    if (it.tabIndex < 0 && !it.hasAttribute("tabindex")) it.setAttribute("tabindex", "-1");
+    it.focus({ preventScroll: true });
+    it.scrollIntoView({ block: "nearest" });
+}
+
+/** The elements from the focused one up to a place.
+ * @param {HTMLElement} place
+ */
+function focusedIn(place) {
+    /** @type {HTMLElement[]} */
+    const way = [];
+    for (let it = document.activeElement; it instanceof HTMLElement && place.contains(it); it = it.parentElement) way.push(it);
+    return way;
+}
+
+/** Where the focus stays though the focused element is gone.
+ * @param {HTMLElement[]} way @param {string} id
+ */
+function focusAgain(way, id) {
+    const [first] = way;
+    if (!first || document.activeElement === first) return;
+    if (first.isConnected) return first.focus({ preventScroll: true });
+    const same = id && document.getElementById(id);
+    const left = same || way.find((it) => it.isConnected);
+    if (left && document.activeElement === document.body) focusOn(left);
+}
+
+/**
+ * @template {object} State
+ * @param {{ state: State, draw: (state: State, tools: Tools<State>) => Given, class?: string }} given
+ */
+export function makeScreen({ state: first, draw, class: kind = "stack" }) {
+    const place = make("div", { class: kind });
+    /** @type {Map<string, any>} */
+    let things = new Map();
+    let state = first;
+
+    /** @type {Tools<State>["change"]} */
+    const change = (patch, { focus } = {}) => {
+        state = { ...state, ...(typeof patch === "function" ? patch(state) : patch) };
+        show();
+        const target = focus && document.getElementById(focus);
+        if (target && place.isConnected) focusOn(target);
+    };
+
+    const show = () => {
+        const way = focusedIn(place), id = way[0]?.id ?? "";
+        /** @type {Map<string, any>} */
+        const asked = new Map();
+        /** @type {Tools<State>["kept"]} */
+        const kept = (name, makeIt) => {
+            if (!asked.has(name)) asked.set(name, things.has(name) ? things.get(name) : makeIt());
+            return asked.get(name);
+        };
+        try {
+            drawInto(place, draw(state, { change, kept }));
+        } catch (error) {
+            console.error(error);
+            drawInto(place, make("p", { class: "denial", role: "alert" }, t("common.not-drawn")));
+        }
+        things = asked;
+        focusAgain(way, id);
+    };
+
+    const every = (/** @type {number} */ milliseconds, /** @type {() => void} */ act) => whileShown(place, milliseconds, act);
+    const onNewDay = (/** @type {() => void} */ act) => newDay(place, act);
+    show();
+    return { element: place, get state() { return state; }, change, every, onNewDay };
+}
+
+/** Does something again and again while an element is on the page and the window is seen.
+ * @param {HTMLElement} place
+ * @param {number} milliseconds @param {() => void} act
+ */
+export function whileShown(place, milliseconds, act) {
+    let shown = false;
+    const clock = setInterval(() => {
+        if (place.isConnected) {
+            shown = true;
+            if (!document.hidden) act();
+        } else if (shown) clearInterval(clock);
+    }, milliseconds);
+}

@@ -1,0 +1,80 @@
+// Whose record is on the screen: a rider's or a vehicle's number, kept until whoever signed in signs out. Where the field holds another number
+// than the one that is shown, what is shown is hidden, so that nothing is done to somebody else.
+
+import { vehicleName, vehicles } from "./agency.js";
+import { comboField } from "./combo.js";
+import { part } from "./element.js";
+import { form } from "./fields.js";
+import { HIGHEST_ID } from "./limits.js";
+import { findRiders, folded, riderLabel, riderName, rosterSize } from "./roster.js";
+import { makeScreen } from "./screen.js";
+import { t } from "./words.js";
+
+/** @typedef {"rider" | "vehicle"} What */
+
+/** @param {What} what */
+const keyOf = (what) => `desk.subject.${what}`;
+
+/** @param {What} what @returns {number | null} */
+export const subjectOf = (what) => Number(sessionStorage.getItem(keyOf(what))) || null;
+/** @param {What} what @param {number} id */
+export const keepSubject = (what, id) => sessionStorage.setItem(keyOf(what), String(id));
+
+/** @param {string} typed */
+function numberIn(typed) {
+    const text = typed.trim();
+    return /^\d{1,10}$/.test(text) && Number(text) >= 1 && Number(text) <= HIGHEST_ID ? Number(text) : null;
+}
+
+/** @param {string} typed */
+const ridersFor = (typed) => findRiders(typed, 12).map(({ rider, name, telephone, note }) => ({ id: rider, text: `${name} (${rider})`,
+    note: [telephone, note].filter(Boolean).join(" · ") }));
+
+/** @param {string} typed */
+const vehiclesFor = (typed) => vehicles().filter(({ id, name }) => folded(`${name ?? ""} ${id}`).includes(folded(typed.trim())))
+    .map(({ id }) => ({ id, text: `${vehicleName(id)} (${id})` }));
+
+/** A field for a number, which is found by a name too.
+ * @param {What} what @param {string} label @param {() => void} chosen
+ */
+function subjectField(what, label, chosen) {
+    const search = what === "rider" ? ridersFor : vehiclesFor;
+    const meant = (/** @type {string} */ typed) => {
+        const number = numberIn(typed);
+        if (number !== null || !typed.trim()) return number;
+        const found = search(typed);
+        return found.length === 1 ? found[0].id : null;
+    };
+    return comboField(what, label, { search, meant, textOf: String, chosen, sends: true, marks: (typed) => !/^[\d\s]+$/.test(typed),
+        hint: what === "rider" && rosterSize() ? t("fields.rider-hint") : undefined,
+        wants: (typed) => t(typed.trim() && rosterSize() ? "fields.rider-none" : "fields.id", { most: HIGHEST_ID }) });
+}
+
+/** A field for the number, and below it what draw(number) gives of the number that was chosen. Where one person has one number, the field is
+ * folded away once it is known. focus names the element that has the focus once a number was chosen.
+ * @param {{ what: What, label: string, action: string, draw: (id: number) => any, folded?: boolean, focus?: string }} given */
+export function withSubject({ what, label, action, draw, folded: folds = false, focus = `${what}-below` }) {
+    /** @type {any} */
+    let tools = null;
+    const field = subjectField(what, label, () => tools?.change({ typed: field.control.value.trim() }));
+    const ask = form({ name: label, fields: [field], action, class: "inline", send: async (values) => ({ value: values[what] }), done: (id) => {
+        keepSubject(what, id);
+        field.write(id);
+        tools.change({ shown: id, typed: String(id), open: false }, { focus });
+    } });
+    const first = subjectOf(what);
+    if (first) field.write(first);
+    return makeScreen({
+        state: { shown: first, typed: String(first ?? ""), open: !first },
+        draw: ({ shown, typed, open }, { kept, change }) => {
+            tools = { change };
+            const same = shown !== null && String(shown) === typed, name = shown !== null && what === "rider" ? riderName(shown) : "";
+            const summary = part("summary", {}, shown === null ? t("fields.type-number") : `${label}: ${shown}`);
+            return [folds ? part("details", { class: "folded", open: open || !same, on: { toggle: (event) => change({ open: event.target.open }) } }, summary, ask)
+                : part("div", { class: "card" }, ask, same && name && part("p", { class: "whose" }, riderLabel(shown))),
+            shown !== null && !same && part("p", { class: "note", role: "status" }, t("fields.other-number", { typed: typed || "…", action })),
+            shown !== null && part("div", { class: "stack", id: `${what}-below`, key: `below-${shown}`, hidden: !same },
+                kept(`below-${shown}`, () => draw(shown)))];
+        },
+    }).element;
+}

@@ -1,0 +1,226 @@
+// A day as a picture, from the day sheet's text: a row for each vehicle, with driving, stops, promised windows, load, and how each trip is doing, on
+// one axis of time. The table says the same.
+
+import { placeName, vehicleName } from "./agency.js";
+import { between, clock } from "./clock.js";
+import { button, part, table } from "./element.js";
+import { riderLabel } from "./roster.js";
+import { aboardAt } from "./texts.js";
+import { t } from "./words.js";
+
+/** @typedef {import("../types").Part} Part */
+/** @typedef {import("./texts.js").Manifest} Manifest */
+/** @typedef {import("./texts.js").Stop} Stop */
+/** @typedef {import("./texts.js").Doing} Doing */
+/** @typedef {Map<number, Doing>} Doings how each trip is doing */
+/** @typedef {(minute: number) => number} Across how far across the picture a minute is */
+/** @typedef {{ chosen: (vehicle: number) => void, selected: number | null, now: number | null, room: number, doings: Doings,
+ *   labelled: (label: Label | null, spoken?: boolean) => void }} Options now is the minute of a line for the present; labelled follows the
+ *   stop that is pointed at, spoken where the arrow keys came to it */
+/** @typedef {{ vehicle: number, at: number, x: number }} Label at is the stop's place in its row */
+
+const HEIGHT = 64, LANE = 40, HOUR = 60, HOUR_WIDE = 64, EDGE = 32, APART = 36, TOLD = ["ridden", "missed-rider", "missed-operator"];
+
+/** The first and the last whole hour that the day needs.
+ * @param {Manifest[]} manifests @returns {[number, number]}
+ */
+export function hoursOf(manifests) {
+    const times = manifests.flatMap(({ stops }) => stops.flatMap(({ at, window }) => [at, ...(window ?? [])]));
+    if (!times.length) return [6, 20];
+    return [Math.floor(Math.min(...times) / HOUR), Math.min(24, Math.floor(Math.max(...times) / HOUR) + 1)];
+}
+
+/** How wide the picture is, and how far across it each minute is.
+ * @param {[number, number]} hours @param {number} room
+ */
+export function scaleOf([first, last], room) {
+    const width = Math.max((last - first) * HOUR_WIDE, room);
+    return { width, across: /** @type {Across} */ ((minute) => Math.round(10 * (EDGE + (minute - first * HOUR) * (width - 2 * EDGE) / ((last - first) * HOUR))) / 10) };
+}
+
+/** @param {number | null} now @param {Across} across @param {number} height */
+const nowLine = (now, across, height) => now !== null && part("line", { class: "now", x1: across(now), x2: across(now), y1: 0, y2: height });
+
+/** @param {[number, number]} hours */
+const wholeHours = ([first, last]) => Array.from({ length: last - first + 1 }, (_, index) => first + index);
+
+/** @param {[number, number]} hours @param {Across} across @param {number} width @param {number | null} now */
+function axis(hours, across, width, now) {
+    return part("svg", { class: "axis", width, height: 22, "aria-hidden": "true" }, wholeHours(hours).map((hour) => part("text",
+        { x: across(hour * HOUR), y: 15, "text-anchor": "middle" }, clock(hour % 24 * HOUR))), nowLine(now, across, 22));
+}
+
+/** @type {Record<string, (x: number) => string>} */
+const PATHS = {
+    PICK: (x) => `M${x} ${LANE - 8}l6 9h-12z`, DROP: (x) => `M${x} ${LANE + 8}l6 -9h-12z`, DEPOT: (x) => `M${x - 4} ${LANE - 4}h8v8h-8z`,
+    ridden: (x) => `M${x - 6} ${LANE}l4 5l8 -10`, "missed-rider": (x) => `M${x - 5} ${LANE - 5}l10 10m0 -10l-10 10`,
+    "missed-operator": (x) => `M${x - 5} ${LANE - 5}l10 10m0 -10l-10 10m-8 -5h13`,
+};
+/** @type {Record<string, string>} */
+const CLASSES = { PICK: "pickup", DROP: "drop", DEPOT: "depot" };
+
+/** A pickup points up, a drop points down, a depot is a square; a ridden trip is ticked at its drop, a missed one is crossed out at both ends.
+ * said: how late it is stands beside it.
+ * @param {Stop} stop @param {Across} across @param {Doings} doings @param {number} at @param {boolean} said
+ */
+function stopShape(stop, across, doings, at, said) {
+    const x = across(stop.at), doing = doings.get(Number(stop.trip)), state = doing?.state ?? "to-come";
+    const shape = state === "ridden" && stop.what === "PICK" ? "PICK" : TOLD.includes(state) ? state : stop.what;
+    const told = TOLD.includes(state) ? ` told ${state}` : "";
+    return part("g", { class: "stop", "data-stop": at }, part("rect", { class: "touch", x: x - 9, y: LANE - 12, width: 18, height: 24 }),
+        part("path", { class: `${CLASSES[stop.what]}${told}`, d: PATHS[shape](x) }),
+        state === "no-word" && stop.what === "DROP" && [part("circle", { class: "no-word", cx: x, cy: LANE + 3, r: 10 }),
+            said && part("text", { class: "no-word", x: x + 12, y: LANE - 4 }, Number.isFinite(doing?.minutes) ? `+${doing?.minutes}` : "?")]);
+}
+
+/** The stops without word beside which there is room to say how late they are.
+ * @param {Stop[]} stops @param {Across} across @param {Doings} doings
+ */
+function saidAt(stops, across, doings) {
+    let last = -APART;
+    return new Set(stops.filter((stop) => {
+        const late = stop.what === "DROP" && doings.get(Number(stop.trip))?.state === "no-word" && across(stop.at) >= last + APART;
+        if (late) last = across(stop.at);
+        return late;
+    }));
+}
+
+/** The way from a stop to the next, as thick as the vehicle is full, with the number aboard where there is room for it.
+ * @param {Stop} stop @param {Stop} next @param {Across} across
+ */
+function legShape(stop, next, across) {
+    const wide = across(next.at) - across(stop.at), aboard = aboardAt(stop);
+    return [part("line", { class: aboard ? "leg loaded" : "leg", x1: across(stop.at), x2: across(next.at), y1: LANE, y2: LANE,
+        "stroke-width": aboard ? Math.min(9, 2 + aboard) : 1.5 }),
+    aboard > 0 && wide > 26 && part("text", { class: "load", x: across(stop.at) + wide / 2, y: LANE + 20, "text-anchor": "middle" }, String(aboard))];
+}
+
+/** Promised windows overlap, so each second one is lower.
+ * @param {Stop} stop @param {Across} across @param {boolean} low
+ */
+function windowShape({ window, at }, across, low) {
+    const y = low ? 16 : 5;
+    return window ? [part("rect", { class: "window", x: across(window[0]), y, width: Math.max(3, across(window[1]) - across(window[0])), height: 8, rx: 2 }),
+        part("line", { class: "planned", x1: across(at), x2: across(at), y1: y - 2, y2: y + 10 })] : [];
+}
+
+// Words.
+
+/** How a trip is doing, in words.
+ * @param {Doing | undefined} doing
+ */
+export const doingWords = (doing) => (doing ? t(`dispatcher.state-${doing.state}`, { minutes: doing.minutes }) : "");
+
+/** @param {Stop} stop */
+export const aboardWords = ({ load, chairs }) => (chairs === undefined ? String(load) : t("dispatcher.aboard-both", { load, chairs }));
+
+/** A stop in one sentence.
+ * @param {Stop} stop @param {Doings} doings
+ */
+export function stopWords(stop, doings) {
+    if (stop.what === "DEPOT") return t("dispatcher.label-depot", { time: clock(stop.at), place: placeName(stop.place) });
+    return [t(`dispatcher.label-${stop.what}`, { time: clock(stop.at), place: placeName(stop.place), rider: riderLabel(Number(stop.rider)), trip: stop.trip }),
+        stop.window && t("dispatcher.label-window", { window: between(...stop.window) }), t("dispatcher.label-aboard", { aboard: aboardWords(stop) }),
+        doingWords(doings.get(Number(stop.trip)))].filter(Boolean).join(". ");
+}
+
+/** What a dispatcher has to look at in a row: trips without word, and missed ones.
+ * @param {Manifest} manifest @param {Doings} doings
+ */
+export function rowFacts({ stops }, doings) {
+    const all = stops.filter(({ what }) => what === "PICK").map(({ trip }) => doings.get(Number(trip))).filter((it) => it !== undefined);
+    const count = (/** @type {string} */ state) => all.filter((it) => it?.state === state).length;
+    const silent = all.filter((it) => it?.state === "no-word").map((it) => it?.minutes ?? 0);
+    return { trips: all.length || stops.filter(({ what }) => what === "PICK").length, ended: TOLD.reduce((sum, state) => sum + count(state), 0),
+        missed: count("missed-rider") + count("missed-operator"), silent: silent.length, longest: Math.max(0, ...silent) };
+}
+
+/** @param {Manifest} manifest @param {Doings} doings */
+function rowWords(manifest, doings) {
+    const { trips, ended, silent, longest } = rowFacts(manifest, doings), { stops } = manifest;
+    return [t("dispatcher.row", { vehicle: vehicleName(manifest.vehicle), trips, ended, from: clock(stops[0].at), to: clock(stops[stops.length - 1].at) }),
+        silent > 0 && t("dispatcher.row-silent", { count: silent, minutes: longest }), t("dispatcher.row-keys")].filter(Boolean).join(" ");
+}
+
+// Rows.
+
+/** Follows the pointer and the arrow keys from stop to stop.
+ * @param {Manifest} manifest @param {Across} across @param {Options["labelled"]} labelled
+ */
+function pointing({ vehicle, stops }, across, labelled) {
+    const show = (/** @type {number} */ at, spoken = false) => labelled(stops[at] ? { vehicle, at, x: across(stops[at].at) } : null, spoken);
+    const key = (/** @type {KeyboardEvent} */ event) => {
+        const lane = /** @type {HTMLElement} */ (event.currentTarget), here = Number(lane.dataset.at ?? -1);
+        const goal = { ArrowRight: Math.min(stops.length - 1, here + 1), ArrowLeft: Math.max(0, here - 1), Home: 0, End: stops.length - 1 }[event.key];
+        if (event.key === "Escape") labelled(null);
+        if (goal === undefined) return;
+        event.preventDefault();
+        lane.dataset.at = String(goal);
+        show(goal, true);
+    };
+    const over = (/** @type {Event} */ event) => {
+        const stop = /** @type {Element} */ (event.target).closest("[data-stop]");
+        if (stop) show(Number(stop.getAttribute("data-stop")));
+    };
+    return { keydown: key, pointerover: over, blur: () => labelled(null), focus: (/** @type {any} */ event) => {
+        if (event.currentTarget.matches(":focus-visible")) show(Number(event.currentTarget.dataset.at ?? 0));
+    } };
+}
+
+/** @param {Manifest} manifest @param {[number, number]} hours @param {Across} across @param {number} width @param {Options} options */
+function row(manifest, hours, across, width, { chosen, selected, now, doings, labelled }) {
+    const { vehicle, stops } = manifest, { silent, missed, trips, ended } = rowFacts(manifest, doings);
+    const lines = wholeHours(hours).map((hour) => part("line", { class: "hour", x1: across(hour * HOUR), x2: across(hour * HOUR), y1: 0, y2: HEIGHT }));
+    const windows = stops.filter(({ window }) => window).flatMap((stop, at) => windowShape(stop, across, at % 2 === 1));
+    const said = saidAt(stops, across, doings), choose = () => chosen(vehicle), isChosen = vehicle === selected;
+    return part("div", { class: isChosen ? "lane-row chosen" : "lane-row", key: `row-${vehicle}`, "data-row": vehicle },
+        button([isChosen && part("span", { "aria-hidden": "true" }, "▸ "), vehicleName(vehicle), part("small", {}, t("dispatcher.row-short", { trips, ended }),
+            silent > 0 && part("span", { class: "silent" }, ` ${t("dispatcher.silent-short", { count: silent })}`),
+            missed > 0 && ` ${t("dispatcher.missed-short", { count: missed })}`)], choose,
+        { "data-vehicle": vehicle, "aria-pressed": String(isChosen), id: `vehicle-${vehicle}` }),
+        part("div", { class: "lane", tabindex: 0, role: "img", "aria-label": rowWords(manifest, doings), on: { ...pointing(manifest, across, labelled), click: choose } },
+            part("svg", { width, height: HEIGHT, "aria-hidden": "true" }, lines, stops.slice(1).map((next, at) => legShape(stops[at], next, across)), windows,
+                stops.map((stop, at) => stopShape(stop, across, doings, at, said.has(stop))), nowLine(now, across, HEIGHT))));
+}
+
+const SAMPLE = { line: "", at: 9, place: 0, load: 0, people: 0, wheelchairs: 0 };
+
+/** @param {"PICK" | "DROP" | "DEPOT"} what @param {import("./texts.js").State} [state] */
+const sample = (what, state = "to-come") => part("svg", { width: 18, height: 20, viewBox: `0 ${LANE - 10} 18 20`, "aria-hidden": "true" },
+    stopShape({ ...SAMPLE, what, trip: 1 }, (at) => at, new Map([[1, { state, minutes: 0 }]]), 0, false));
+
+export const legend = () => part("ul", { class: "legend" },
+    /** @type {[string, Part][]} */ ([["pickup", sample("PICK")], ["drop", sample("DROP")], ["depot", sample("DEPOT")],
+        ["window", part("svg", { width: 30, height: 18, viewBox: "0 0 30 18", "aria-hidden": "true" }, windowShape({ ...SAMPLE, what: "PICK", window: [3, 27], at: 12 }, (at) => at, false))],
+        ["ridden", sample("DROP", "ridden")], ["missed-rider", sample("DROP", "missed-rider")], ["missed-operator", sample("DROP", "missed-operator")],
+        ["no-word", sample("DROP", "no-word")]]).map(([name, shape]) => part("li", {}, shape, t(`dispatcher.legend-${name}`))),
+    part("li", {}, t("dispatcher.legend-load")));
+
+/** The rows of the manifests that have stops, below the hours. The frame is the caller's.
+ * @param {Manifest[]} manifests @param {Options} options
+ */
+export function timeline(manifests, options) {
+    const hours = hoursOf(manifests), { width, across } = scaleOf(hours, options.room);
+    return [part("div", { class: "hours", key: "hours" }, part("span", { class: "corner" }, t("dispatcher.head-vehicle")), axis(hours, across, width, options.now)),
+        manifests.filter(({ stops }) => stops.length).map((manifest) => row(manifest, hours, across, width, options))];
+}
+
+/** Each stop of some manifests.
+ * @param {string} caption @param {Manifest[]} manifests @param {Doings} doings @param {{ one?: boolean }} options
+ */
+export function tableOfDay(caption, manifests, doings, { one = false } = {}) {
+    /** @type {{ vehicle: number, stop: Stop | null, at: number }[]} */
+    const rows = manifests.flatMap(({ vehicle, stops }) => (stops.length ? stops : [null]).map((stop, at) => ({ vehicle, stop, at })));
+    const of = (/** @type {(stop: Stop) => any} */ say) => (/** @type {{ stop: Stop | null }} */ { stop }) => (stop ? say(stop) : "");
+    return table(caption, [
+        ...(one ? [] : [{ head: t("dispatcher.head-vehicle"), cell: (/** @type {{ vehicle: number }} */ { vehicle }) => vehicleName(vehicle) }]),
+        { head: t("dispatcher.head-time"), cell: ({ stop }) => (stop ? clock(stop.at) : t("dispatcher.no-stops")), whole: true },
+        { head: t("dispatcher.head-what"), cell: of(({ what }) => t(`dispatcher.legend-${CLASSES[what]}`)) },
+        { head: t("dispatcher.head-rider"), cell: of(({ rider }) => (rider === undefined ? "" : riderLabel(rider))) },
+        { head: t("dispatcher.head-where"), cell: of(({ place }) => placeName(place)) },
+        { head: t("dispatcher.head-promised"), cell: of(({ window }) => (window ? between(...window) : "")), whole: true },
+        { head: t("dispatcher.head-aboard"), cell: of((stop) => (stop.what === "DEPOT" ? "" : aboardWords(stop))), number: true },
+        { head: t("dispatcher.head-state"), cell: of(({ trip }) => doingWords(doings.get(Number(trip)))) },
+        { head: t("dispatcher.head-trip"), cell: of(({ trip }) => String(trip ?? "")), number: true },
+    ], rows, { rowKey: ({ vehicle, at }) => `${vehicle}-${at}`, class: "stops-table" });
+}

@@ -1,0 +1,88 @@
+// All words of the pages, in the language of who reads them. A text is asked for by its key; a key that a language lacks is told in English.
+
+export const LANGUAGES = ["en", "es"];
+/** The names of languages in themselves. */
+export const LANGUAGE_NAMES = { en: "English", es: "Español" };
+const CHOSEN = "desk.language";
+
+/** @typedef {string | ((values: any) => string)} Text */
+/** @type {Record<string, Record<string, Text>>} */
+const texts = { en: {}, es: {} };
+/** @type {Set<string>} */
+const loaded = new Set();
+let now = "en";
+
+export const language = () => now;
+
+/** Loads files of words of the chosen language, and of English below it.
+ * @param {...string} names
+ */
+export async function useWords(...names) {
+    for (const name of names) loaded.add(name);
+    await Promise.all([...new Set([now, "en"])].flatMap((it) => [...loaded].map((name) => load(it, name))));
+}
+
+/** @param {string} it @param {string} name */
+async function load(it, name) {
+    const { words } = await import(`../words/${it}/${name}.js`);
+    Object.assign(texts[it], words);
+}
+
+/** The language of who reads: as chosen in this browser, else the first that the agency offers.
+ * @param {string[]} offered
+ */
+export function languageFor(offered) {
+    const right = offered.filter((it) => LANGUAGES.includes(it)), kept = keptLanguage();
+    return kept && right.includes(kept) ? kept : right[0] ?? "en";
+}
+
+function keptLanguage() {
+    try {
+        return localStorage.getItem(CHOSEN);
+    } catch {
+        return null;
+    }
+}
+
+/** @param {string} it @param {{ keep?: boolean }} options */
+export async function chooseLanguage(it, { keep = false } = {}) {
+    now = LANGUAGES.includes(it) ? it : "en";
+    document.documentElement.lang = now;
+    if (keep) localStorage.setItem(CHOSEN, now);
+    await useWords();
+}
+
+/** @param {string} it @param {string} key @param {any} values */
+function textIn(it, key, values) {
+    const text = texts[it]?.[key] ?? texts.en[key];
+    if (text === undefined) return key;
+    return typeof text === "function" ? text(values) : text;
+}
+
+/** The text of a key.
+ * @param {string} key @param {Record<string, any>} [values]
+ */
+export const t = (key, values = {}) => textIn(now, key, values);
+
+/** Whether there is a text of this key.
+ * @param {string} key
+ */
+export const hasText = (key) => key in texts[now] || key in texts.en;
+
+/** The text in each language whose words are loaded by loadBoth.
+ * @param {string} key @param {Record<string, any>} [values]
+ */
+export const inBoth = (key, values = {}) => Object.fromEntries(LANGUAGES.map((it) => [it, textIn(it, key, values)]));
+
+/** Loads the words that are used now in every language, so that inBoth has them. */
+export const loadBoth = () => Promise.all(LANGUAGES.flatMap((it) => [...loaded].map((name) => load(it, name))));
+
+/** "a, b and c".
+ * @param {string[]} list
+ */
+export const listed = (list) => new Intl.ListFormat(now, { type: "conjunction" }).format(list);
+
+/** A whole number as the reader writes it.
+ * @param {number} number
+ */
+export const counted = (number) => number.toLocaleString(now === "es" ? "es-US" : "en-US");

@@ -1,0 +1,145 @@
+// A rider's rights: the standing on a day, the letters in order, and what may be put into the case file.
+
+import { dayInWords, monthNames, plus, today } from "../parts/clock.js";
+import * as desk from "../parts/desk.js";
+import { denialOf } from "../parts/denials.js";
+import { fresh, make, part } from "../parts/element.js";
+import { dayField, form, numberField, reasonsField, tickField, ticksField } from "../parts/fields.js";
+import { MOST_FARTHER, SUSPENSION_DAYS } from "../parts/limits.js";
+import { riderLabel } from "../parts/roster.js";
+import { makeScreen } from "../parts/screen.js";
+import { listed, t } from "../parts/words.js";
+import { conditionInWords, hearEntries, isOwn, purposeOf } from "./letters.js";
+
+export { conditionInWords, lettersFor } from "./letters.js";
+
+/** @typedef {import("../types").Standing} Standing */
+/** @typedef {import("../types").Given} Given */
+/** @typedef {import("../types").Field} Field */
+
+// Standing.
+
+const MAY_RIDE = ["presumed", "appeal-overdue", "granted", "visitor"];
+/** The section that each standing rests on. */
+const SECTIONS = /** @type {Record<string, string>} */ ({ presumed: "49 CFR 37.125(c)", "appeal-overdue": "49 CFR 37.125(g)", granted: "49 CFR 37.125(e)", none: "49 CFR 37.125",
+    visitor: "49 CFR 37.127(e)", "visitor-used": "49 CFR 37.127(e)" });
+
+/** @param {number} rider @param {string} day @param {Standing} told */
+function standingWords(rider, day, { standing, suspended, until, conditions }) {
+    const may = !suspended && MAY_RIDE.includes(standing), values = { who: riderLabel(rider), day: dayInWords(day) };
+    const verdict = isOwn() ? t(may ? "cases.you-may" : "cases.you-may-not", values) : t(may ? "cases.may" : "cases.may-not", values);
+    const why = t(`cases.why-${standing}`), last = until && t("cases.until", { day: dayInWords(until) });
+    return part("div", { class: `standing ${may ? "yes" : "no"}` }, part("p", { class: "verdict" }, may ? "✓ " : "✗ ", verdict),
+        suspended && part("p", {}, t("cases.suspended"), " (49 CFR 37.125(h))"),
+        part("p", {}, t(suspended ? "cases.else" : "cases.reason", { why: [why, last].filter(Boolean).join(" ") }), ` (${SECTIONS[standing]})`),
+        conditions && part("p", {}, t("cases.for", { conditions: listed(conditions.map((it) => conditionInWords(it))) }), " (49 CFR 37.123(b))"));
+}
+
+/** @param {number} rider */
+export function standingOf(rider) {
+    const screen = makeScreen({
+        state: { day: today(), reply: /** @type {any} */ (null) },
+        class: "card",
+        draw: ({ day, reply }, { kept }) => [part("h2", {}, isOwn() ? t("cases.standing-own") : t("cases.standing", { who: riderLabel(rider) })),
+            part("div", { role: "status", id: "standing-answer" }, reply === null ? t("cases.reading")
+                : reply.denied !== undefined ? denialOf(reply, purposeOf("standing")) : standingWords(rider, day, reply.value)),
+            kept("ask", () => form({ name: t("cases.standing-day"), fields: [dayField("day", t("cases.day"), { value: today() })], class: "inline", action: t("cases.show-standing"),
+                send: async (values) => ({ value: values.day }), done: (on) => read(on, { focus: "standing-answer" }) }))],
+    });
+    /** @param {string} day @param {{ focus?: string }} [options] */
+    async function read(day, options) {
+        screen.change({ day });
+        const reply = await desk.standing(rider, day);
+        // (an answer to an older question is dropped)
+        if (screen.state.day === day && reply.denied !== "left") screen.change({ reply }, options);
+    }
+    const refresh = () => read(screen.state.day);
+    screen.onNewDay(() => read(today()));
+    hearEntries(rider, screen.element, refresh);
+    refresh();
+    return { element: screen.element, refresh };
+}
+
+// Entries.
+
+/** One to four conditions, of which one has to hold of a trip.
+ * @returns {Field}
+ */
+function conditionsField() {
+    const always = tickField("always", t("cases.tick-always")), nolift = tickField("nolift", t("cases.tick-nolift"));
+    const months = ticksField("months", t("cases.tick-months"), monthNames().map((name, at) => /** @type {[number, string]} */ ([at + 1, name])));
+    const farther = numberField("farther", t("cases.tick-farther"), 1, MOST_FARTHER, { optional: true });
+    const fault = make("p", { class: "fault", id: fresh("fault") }), wants = t("cases.conditions-wants");
+    const read = () => {
+        const far = farther.read(), chosen = months.read().value ?? [];
+        farther.tell(far.fault);
+        if (far.fault) return far;
+        const value = [always.read().value && "always", chosen.length > 0 && `months:${chosen.join(",")}`, far.value && `farther:${far.value}`,
+            nolift.read().value && "nolift"].filter(Boolean);
+        return value.length ? { value } : { fault: wants };
+    };
+    const element = make("fieldset", { class: "field", "aria-describedby": fault.id }, make("legend", {}, t("cases.conditions")),
+        always.element, nolift.element, farther.element, months.element, fault);
+    return { name: "conditions", wants, control: always.control, element, read, tell: (text) => { fault.textContent = text ?? ""; }, write: () => {} };
+}
+
+const untilField = () => dayField("until", t("cases.last-day"), { least: today(), wants: t("cases.last-day-wants") });
+const reasons = () => reasonsField("reasons", t("cases.reasons"));
+const tomorrow = () => plus(today(), 1);
+
+/** The fields of each kind of entry.
+ * @type {Record<string, () => Field[]>}
+ */
+const FIELDS = {
+    complete: () => [], grant: () => [untilField(), conditionsField()], refuse: () => [reasons()],
+    heard: () => [], "appeal-granted": () => [untilField(), conditionsField()], "appeal-denied": () => [reasons()], overturn: () => [],
+    notice: () => [reasonsField("basis", t("cases.basis"))], "notice-heard": () => [],
+    suspend: () => [dayField("starts", t("cases.starts"), { least: tomorrow() }), dayField("ends", t("cases.ends"), { least: tomorrow() }), reasons()],
+};
+/** Those that take something from the rider. */
+const AGAINST = ["refuse", "appeal-denied", "suspend", "notice"];
+
+/** What is wrong of the days together.
+ * @param {any} values
+ */
+function faultOf({ starts, ends }) {
+    if (!starts) return null;
+    const last = plus(starts, SUSPENSION_DAYS - 1);
+    return ends < starts || ends > last ? { field: "ends", fault: t("cases.ends-wants", { first: dayInWords(starts), last: dayInWords(last) }) } : null;
+}
+
+/** What will be in the letter, in words.
+ * @param {any} values @returns {Given}
+ */
+function letterWords({ until, conditions, reasons: why, basis, starts, ends }) {
+    return [until && part("p", {}, t("cases.asked-until", { day: dayInWords(until), conditions: listed(conditions.map((/** @type {string} */ it) => conditionInWords(it))) })),
+        starts && part("p", {}, t("cases.asked-days", { first: dayInWords(starts), last: dayInWords(ends) })),
+        (why || basis) && part("p", {}, t("cases.asked-reasons"), " ", part("q", {}, why || basis)), part("p", {}, t("cases.asked-final"))];
+}
+
+/** The form of one kind of entry. entered() follows what was accepted.
+ * @param {number} rider @param {string} kind @param {() => any} entered
+ */
+function entryForm(rider, kind, entered) {
+    const values = { who: riderLabel(rider), rider }, id = fresh("entered");
+    /** @type {any} */
+    const screen = makeScreen({
+        state: { done: false },
+        draw: ({ done }, { kept }) => part("details", { class: "card entry", "data-entry": kind }, part("summary", {}, t(`cases.heading-${kind}`, values)),
+            part("p", {}, t(`cases.about-${kind}`)), kept("form", () => form({ name: t(`cases.heading-${kind}`, values), fields: FIELDS[kind](), action: t(`cases.do-${kind}`, values),
+                purpose: "entry", danger: AGAINST.includes(kind), check: faultOf, begun: () => screen.change({ done: false }),
+                ask: (given) => ({ question: t(`cases.ask-${kind}`, values), detail: letterWords(given), yes: t("cases.yes", { action: t(`cases.do-${kind}`, values) }),
+                    danger: AGAINST.includes(kind) }),
+                send: (given) => desk.enter(rider, { entry: kind, ...given }), done: async () => {
+                    screen.change({ done: true }, { focus: id });
+                    await entered();
+                } })),
+            part("div", { role: "status", id }, done && part("p", { class: "good" }, t(`cases.done-${kind}`, values)))),
+    });
+    return screen.element;
+}
+
+/** A form for each of these kinds; entered() follows what was accepted. An appeal has none: its button is below the letter.
+ * @param {number} rider @param {string[]} kinds @param {() => any} entered
+ */
+export const entryForms = (rider, kinds, entered) => kinds.filter((kind) => kind in FIELDS).map((kind) => entryForm(rider, kind, entered));

@@ -1,0 +1,112 @@
+// The counter: bookings for who calls, standing and letters, riders' records.
+
+import { today } from "../parts/clock.js";
+import * as desk from "../parts/desk.js";
+import { element, make, part } from "../parts/element.js";
+import { choiceField, form, idField, yesNoField } from "../parts/fields.js";
+import { openRoster, riderLabel, rosterSize, rosterSource, rosterTroubles } from "../parts/roster.js";
+import { makeScreen } from "../parts/screen.js";
+import { keepSubject, subjectOf, withSubject } from "../parts/subject.js";
+import { counted, t } from "../parts/words.js";
+import { bookingFor } from "./booking.js";
+import { entryForms, lettersFor, standingOf } from "./cases.js";
+import { withCard } from "./rider-card.js";
+import { tripsOfRider } from "./trips.js";
+
+// A rider's record.
+
+/** What the desk knows of a rider's record: null where there is none, else its kind; undefined where it did not say.
+ * @param {number} rider
+ */
+async function kindOf(rider) {
+    const reply = await desk.standing(rider, today());
+    if (reply.denied === "desk.unknown") return null;
+    if (reply.denied !== undefined) return undefined;
+    return reply.value.standing.startsWith("visitor") ? "visitor" : "resident";
+}
+
+/** @param {any} values */
+const recordWords = ({ kind, attendant, wheelchair }) => [t(`clerk.as-${kind}`), t(attendant ? "clerk.has-attendant" : "clerk.no-attendant"),
+    t(wheelchair ? "clerk.has-wheelchair" : "clerk.no-wheelchair")].join(" ");
+
+/** @param {any} values */
+async function recordQuestion(values) {
+    const kind = await kindOf(values.id);
+    if (!kind) return null;
+    return { question: t("clerk.change-question", { rider: riderLabel(values.id) }), detail: t("clerk.change-detail", { rider: riderLabel(values.id),
+        kind: t(`clerk.as-${kind}`), record: recordWords(values) }), yes: t("clerk.change-yes", { rider: values.id }) };
+}
+
+function record() {
+    const kinds = /** @type {[string, string][]} */ ([["resident", t("clerk.resident")], ["visitor", t("clerk.visitor")]]);
+    const id = idField("id", t("clerk.number"));
+    id.write(subjectOf("rider"));
+    let isNew = true;
+    const whole = form({ name: t("clerk.record"), action: t("clerk.put"), purpose: "rider", fields: [id, choiceField("kind", t("clerk.kind"), kinds,
+        { empty: t("booking.choose") }), yesNoField("attendant", t("clerk.attendant")), yesNoField("wheelchair", t("clerk.wheelchair"))],
+    begun: () => screen.change({ answer: null }),
+    ask: async (values) => {
+        const question = await recordQuestion(values);
+        isNew = question === null;
+        return question;
+    },
+    send: desk.putRider, done: (_, values) => {
+        keepSubject("rider", values.id);
+        screen.change({ answer: t(isNew ? "clerk.is-new" : "clerk.is-changed", { rider: riderLabel(values.id), record: recordWords(values) }) }, { focus: "record-answer" });
+    } });
+    const screen = makeScreen({ state: { answer: /** @type {string | null} */ (null) }, class: "card", draw: ({ answer }) => [part("h2", {}, t("clerk.record")),
+        part("p", { class: "hint" }, t("clerk.record-hint")), whole, part("div", { role: "status", id: "record-answer" }, answer && part("p", { class: "good" }, answer))] });
+    return screen.element;
+}
+
+// The roster from disk.
+
+/** @param {() => void} opened */
+function rosterBox(opened) {
+    const screen = makeScreen({ state: { at: 0 }, class: "roster", draw: (_, { kept, change }) => part("details", { class: "card" },
+        part("summary", {}, rosterSize() ? t("clerk.roster-there", { count: counted(rosterSize()) }) : t("clerk.roster-none")),
+        part("p", {}, t("clerk.roster-hint")),
+        kept("file", () => element(part("div", { class: "field" }, part("label", { for: "roster-file" }, t("clerk.roster-file")), part("input", { type: "file", id: "roster-file",
+            accept: ".csv,text/csv", on: { change: async (event) => {
+                const [file] = event.target.files;
+                if (!file) return;
+                await openRoster(file);
+                change(({ at }) => ({ at: at + 1 }));
+                opened();
+            } } })))),
+        part("div", { role: "status" }, rosterSource() && part("p", {}, t("clerk.roster-from", { source: rosterSource() === "server" ? t("clerk.server") : rosterSource(),
+            count: counted(rosterSize()) })), rosterTroubles().length > 0 && part("ul", { class: "fault-list" }, rosterTroubles().map((it) => part("li", {}, it))))) });
+    return screen.element;
+}
+
+// Whose record is shown.
+
+/** @param {(rider: number) => any} draw @param {string} [focus] */
+const forRider = (draw, focus) => () => {
+    const subject = () => withSubject({ what: "rider", label: t("clerk.who"), action: t("clerk.show"), draw, focus });
+    const place = make("div", { class: "stack" }, subject());
+    // (what was begun for a rider who is shown stays; nobody is shown yet where the search begins to find names)
+    place.append(rosterBox(() => { if (!subjectOf("rider")) place.firstElementChild?.replaceWith(subject()); }));
+    return place;
+};
+
+/** @param {number} rider */
+function file(rider) {
+    const standing = standingOf(rider), letters = lettersFor(rider);
+    const entered = () => Promise.all([standing.refresh(), letters.refresh()]);
+    return [standing.element, ...entryForms(rider, ["complete", "appeal", "notice"], entered), letters.element];
+}
+
+/** @param {number} rider */
+const booking = (rider) => withCard(rider, () => {
+    const trips = tripsOfRider(rider, { heading: t("booking.trips-of", { rider: riderLabel(rider) }), again: (trip, back) => book.copy(trip, back) });
+    const book = bookingFor(rider, { booked: trips.refresh, known: trips.known });
+    return [book.element, trips.element];
+});
+
+export const ridersTrips = forRider(booking, "book");
+
+export const clerk = () => [
+    { id: "trips", name: t("clerk.trips"), draw: ridersTrips },
+    { id: "file", name: t("clerk.file"), draw: forRider(file) },
+    { id: "rider", name: t("clerk.record-part"), draw: record }];

@@ -1,0 +1,114 @@
+// The day of a vehicle as the driver's phone shows it: what follows from the manifest's stops and from what was tapped, and nothing else.
+//
+// No stop disappears because of an outcome. A pickup is done once the rider is aboard or an outcome was told, a drop once one was told; where
+// the driver went on without either, the stop is passed, but never the drop of a rider aboard: that is next, in its order. An outcome that
+// the desk denied takes nobody back to its stop: the driver is elsewhere by then, and reads the denial there.
+
+/** @typedef {import("../parts/queue.js").Entry} Entry */
+/**
+ * @typedef {{ at: number, what: "DEPOT" | "PICK" | "DROP", place: number, load: number, chairs?: number, trip?: number, rider?: number,
+ *     window?: [number, number] }} Stop
+ * @typedef {"arrived" | "aboard" | "ridden" | "missed-rider" | "missed-operator" | "left"} What
+ * @typedef {{ stop: string, trip: number, rider: number, what: What, at: string, seen?: boolean }} Tap at is the moment, YYYY-MM-DDTHH:MM:SS
+ * @typedef {Stop & { name: string, done: boolean, isNext: boolean, party: { people: number, chairs: number }, arrived: Entry | null, aboard: Entry | null,
+ *     outcome: Entry | null, denied: Entry | null, taps: Entry[] }} Shown
+ */
+
+export const OUTCOMES = /** @type {const} */ (["ridden", "missed-rider", "missed-operator"]);
+const MINUTE = 60;
+
+/** @param {string} what */
+export const isOutcome = (what) => /** @type {readonly string[]} */ (OUTCOMES).includes(what);
+
+/** The name of a stop in its manifest.
+ * @param {Stop} stop @param {number} at @param {number} last */
+const nameOf = ({ what, trip }, at, last) => (what === "DEPOT" ? (at === last ? "back" : "out") : `${what} ${trip}`);
+
+/** @param {Stop | undefined} stop */
+const aboardAt = (stop) => ({ seats: stop?.load ?? 0, chairs: stop?.chairs ?? 0 });
+
+/** Who comes aboard at a pickup, or leaves at a drop.
+ * @param {Stop} stop @param {Stop | undefined} before */
+function partyOf(stop, before) {
+    const now = aboardAt(stop), was = aboardAt(before);
+    return { people: Math.abs(now.seats + now.chairs - was.seats - was.chairs), chairs: Math.abs(now.chairs - was.chairs) };
+}
+
+/** @param {Entry[]} log @param {(tap: Tap) => boolean} isIt */
+const lastOf = (log, isIt) => log.filter(({ tap }) => isIt(tap)).at(-1) ?? null;
+
+/** The stops of a day with all that is to be shown of each, and which of them is next (-1: none).
+ * @param {Stop[]} stops @param {Entry[]} log of this vehicle and day, in its order */
+export function dayOf(stops, log) {
+    const shown = stops.map((stop, at) => {
+        const name = nameOf(stop, at, stops.length - 1), mine = log.filter(({ tap }) => tap.stop === name);
+        const ofTrip = log.filter(({ tap }) => stop.trip !== undefined && tap.trip === stop.trip);
+        const told = lastOf(ofTrip, ({ what }) => isOutcome(what)), aboard = lastOf(ofTrip, ({ what }) => what === "aboard");
+        const outcome = told?.state === "denied" ? null : told, passed = mine.some(({ tap }) => tap.what === "left");
+        const done = stop.what === "DEPOT" ? passed : Boolean(told || (stop.what === "PICK" ? aboard || passed : passed && !aboard));
+        return { ...stop, name, done, isNext: false, party: partyOf(stop, stops[at - 1]), arrived: lastOf(mine, ({ what }) => what === "arrived"),
+            aboard, outcome, denied: told?.state === "denied" ? told : null, taps: mine };
+    });
+    const next = shown.findIndex(({ done }) => !done);
+    if (next >= 0) shown[next].isNext = true;
+    return { stops: /** @type {Shown[]} */ (shown), next };
+}
+
+/** The riders aboard whose drop is still to come.
+ * @param {Shown[]} stops */
+export const stillAboard = (stops) => stops.filter(({ what, aboard, done }) => what === "DROP" && aboard && !done);
+
+/** What is left to do on a day that is over: drops of riders aboard, what waits, and what was denied and not read.
+ * @param {Shown[]} stops @param {Entry[]} log */
+export const leftOpen = (stops, log) => stillAboard(stops).length + log.filter(({ state, tap }) => state === "waiting"
+    || (state === "denied" && !tap.seen)).length;
+
+/** What can be taken back: taps that are on this phone alone, or still wait.
+ * @param {Entry | null | undefined} entry */
+export const canTakeBack = (entry) => entry?.state === "kept" || entry?.state === "waiting";
+
+/** Denials after which the same trip is sure to be denied again. */
+const FINAL = ["desk.over", "desk.caller", "desk.unknown"];
+
+/** What can be tapped at a stop, in the order of the buttons.
+ * @param {Shown} stop @param {boolean} hasCome whether its day has come
+ * @returns {What[]} */
+export function choicesAt(stop, hasCome) {
+    const { what, done, arrived, aboard, outcome, denied } = stop;
+    if (!hasCome) return [];
+    if (what === "DEPOT") return done ? [] : ["left"];
+    if (outcome || FINAL.includes(denied?.denied ?? "") || (what === "PICK" && aboard)) return [];
+    /** @type {(What | false)[]} */
+    const choices = what === "PICK" ? [!arrived && !done && "arrived", "aboard", "missed-rider", "missed-operator", !done && "left"]
+        : aboard ? ["ridden"] : ["ridden", "missed-rider", "missed-operator", !done && "left"];
+    return choices.filter((choice) => choice !== false).map((choice) => /** @type {What} */ (choice));
+}
+
+/** Seconds from midnight of a moment.
+ * @param {string} moment */
+const secondsOf = (moment) => {
+    const [hours, minutes, seconds] = moment.slice(11).split(":").map(Number);
+    return (hours * MINUTE + minutes) * MINUTE + seconds;
+};
+
+/** Minutes that are missing until a stop's planned time; below 0 it is late.
+ * @param {Stop} stop @param {string} day @param {string} now */
+export function minutesUntil(stop, day, now) {
+    const days = Math.round((Date.parse(day) - Date.parse(now.slice(0, 10))) / 86_400_000);
+    return days * 24 * MINUTE + stop.at - Math.floor(secondsOf(now) / MINUTE);
+}
+
+/** The wait at a pickup, from the arrival on, but not before the promised window begins: a rider need not be ready earlier.
+ * @param {Shown} stop @param {number} minutes the agency's @param {string} now @returns {{ begins: number, left: number } | null} seconds */
+export function waitAt(stop, minutes, now) {
+    if (stop.what !== "PICK" || !stop.arrived || stop.aboard || stop.outcome) return null;
+    const { at } = /** @type {Tap} */ (stop.arrived.tap);
+    const begins = Math.max(secondsOf(at), (stop.window?.[0] ?? 0) * MINUTE);
+    if (now.slice(0, 10) > at.slice(0, 10)) return { begins, left: 0 };
+    return { begins, left: Math.max(0, begins + minutes * MINUTE - secondsOf(now)) };
+}
+
+/** The earlier stops that count as passed where the driver goes on from a later one: not the drops of riders aboard.
+ * @param {Shown[]} stops @param {string} from the later one's name */
+export const skipped = (stops, from) => stops.slice(0, Math.max(0, stops.findIndex(({ name }) => name === from)))
+    .filter(({ done, what, aboard }) => !done && !(what === "DROP" && aboard));

@@ -1,0 +1,125 @@
+// What the driver's phone reads, and its copy of it: the manifest of a day with the names of its places and riders. The copy is there without
+// a line, for the key alone that read it, until it signs out.
+
+import { placeOf, placeWord } from "../parts/agency.js";
+import { momentNow } from "../parts/clock.js";
+import * as desk from "../parts/desk.js";
+import { copyOf, keepCopy } from "../parts/queue.js";
+import { cellsOf, riderOf } from "../parts/roster.js";
+import { manifestsIn, rowsIn } from "../parts/texts.js";
+import { t } from "../parts/words.js";
+
+/**
+ * @typedef {{ name?: string, note?: string, latitude?: number, longitude?: number }} PlaceNames
+ * @typedef {{ name: string, note: string }} RiderNames
+ * @typedef {{ places: Record<string, PlaceNames>, riders: Record<string, RiderNames>, fares: Record<string, number> }} Names
+ * @typedef {{ text: string, stops: import("./driver-day.js").Stop[], readAt: string, names: Names }} Read
+ */
+
+/** @type {Names} */
+export const NO_NAMES = { places: {}, riders: {}, fares: {} };
+
+/** @param {number} vehicle @param {string} day */
+const copyName = (vehicle, day) => `manifest ${vehicle} ${day}`;
+
+/** @param {string} text */
+const stopsIn = (text) => /** @type {import("./driver-day.js").Stop[]} */ (manifestsIn(text)[0]?.stops ?? []);
+
+/** The copy of a day, or null.
+ * @param {number} vehicle @param {string} day @returns {Promise<Read | null>} */
+export async function keptDay(vehicle, day) {
+    const kept = await copyOf(copyName(vehicle, day)).catch(() => null);
+    return kept && { ...kept, stops: stopsIn(kept.text) };
+}
+
+/** A file for the driver of a vehicle, or nothing where the site has none.
+ * @param {number} vehicle @param {string} file */
+async function driversFile(vehicle, file) {
+    const { status, text } = await desk.fetchFile(`/drivers/${vehicle}/${file}`);
+    return status === 200 ? (text ?? "").replace(/^\ufeff/, "") : "";
+}
+
+/** Every place by its number, with the private ones: a driver has to find them.
+ * @param {number} vehicle @returns {Promise<Map<number, PlaceNames>>} */
+async function allPlaces(vehicle) {
+    try {
+        const { places } = JSON.parse(await driversFile(vehicle, "places.json"));
+        return new Map(places.map((/** @type {any} */ it) => [it.id, it]));
+    } catch {
+        return new Map();
+    }
+}
+
+/** @param {any} text */
+const textOf = (text) => (typeof text === "string" ? text : undefined);
+/** @param {any} angle */
+const angleOf = (angle) => (typeof angle === "number" ? angle : undefined);
+
+/** Names of the places of these stops, as far as they are known now.
+ * @param {import("./driver-day.js").Stop[]} stops @param {Map<number, PlaceNames>} all
+ * @returns {Record<string, PlaceNames>} */
+function placesOf(stops, all) {
+    const known = [...new Set(stops.map(({ place }) => place))].map((id) => ({ id, ...placeOf(id), ...all.get(id) }));
+    return Object.fromEntries(known.map(({ id, name, note, latitude, longitude }) => [id, { name: textOf(name), note: textOf(note),
+        latitude: angleOf(latitude), longitude: angleOf(longitude) }]).filter(([, it]) => Object.values(it).some((value) => value !== undefined)));
+}
+
+/** The drivers' own file of riders: rider, name, note.
+ * @param {number} vehicle @returns {Promise<Record<string, RiderNames>>} */
+async function ridersOf(vehicle) {
+    const [head = [], ...rows] = cellsOf(await driversFile(vehicle, "roster.csv")), names = head.map((name) => name.toLowerCase());
+    const cell = (/** @type {string[]} */ row, /** @type {string} */ name) => row[names.indexOf(name)] ?? "";
+    return Object.fromEntries(rows.filter((row) => cell(row, "rider")).map((row) => [cell(row, "rider"), { name: cell(row, "name"), note: cell(row, "note") }]));
+}
+
+/** Keys that may not read the export; a driver's may not. */
+const withoutFares = new Set();
+
+/** What is due for each trip, where the key may know it.
+ * @param {string} day @returns {Promise<Record<string, number>>} */
+async function faresOf(day) {
+    if (withoutFares.has(desk.digest())) return {};
+    const reply = await desk.readOnce(`/days/${day}/trips.csv`);
+    if (reply.denied) withoutFares.add(desk.digest());
+    return reply.value === undefined ? {} : Object.fromEntries(rowsIn(reply.value).map((/** @type {any} */ { trip, due }) => [trip, due]));
+}
+
+/** Reads a day once, and keeps a copy of it: what was read, or why not.
+ * @param {number} vehicle @param {string} day @param {Names} before names that are known already
+ * @returns {Promise<Read | { denied: string } | { silent: string }>} */
+export async function readDay(vehicle, day, before) {
+    const reply = await desk.readOnce(`/vehicles/${vehicle}/manifest/${day}`);
+    if (reply.silent) return { silent: reply.silent };
+    if (reply.denied) return { denied: reply.denied };
+    const stops = stopsIn(reply.value), [places, riders, fares] = await Promise.all([allPlaces(vehicle), ridersOf(vehicle), faresOf(day)]);
+    const names = { places: { ...before.places, ...placesOf(stops, places) }, riders: { ...before.riders, ...riders }, fares: { ...before.fares, ...fares } };
+    const read = { text: reply.value, readAt: momentNow(), names };
+    // (a phone without room for a copy shows what it read all the same)
+    await keepCopy(copyName(vehicle, day), read).catch(() => {});
+    return { ...read, stops };
+}
+
+/** @param {number} id @param {Names} names */
+export const placeAt = (id, names) => /** @type {PlaceNames} */ ({ ...placeOf(id), ...names.places[id] });
+/** @param {number} id @param {Names} names */
+export const placeNameAt = (id, names) => placeAt(id, names).name || `${placeWord()} ${id}`;
+/** @param {number} rider @param {Names} names @returns {RiderNames} */
+export const riderAt = (rider, names) => names.riders[rider] ?? riderOf(rider) ?? { name: "", note: "" };
+/** "Ana Lopez, rider 1005", or "rider 1005".
+ * @param {number} rider @param {Names} names */
+export const whoAt = (rider, names) => [riderAt(rider, names).name, t("common.rider", { rider })].filter(Boolean).join(", ");
+
+/** The vehicle that this key has shown last on this phone.
+ * @returns {Promise<number | null>} */
+export const keptVehicle = () => copyOf("vehicle").catch(() => null);
+/** @param {number} vehicle */
+export const keepVehicle = (vehicle) => keepCopy("vehicle", vehicle).catch(() => {});
+
+/** The address of a place for the phone's own maps, or null where the agency gives no coordinates of the earth.
+ * @param {PlaceNames} place */
+export function mapLink({ latitude, longitude }) {
+    if (latitude === undefined || longitude === undefined) return null;
+    const point = `${latitude},${longitude}`;
+    if (/iPhone|iPad|Macintosh/.test(navigator.userAgent)) return `https://maps.apple.com/?daddr=${point}`;
+    return /Android/.test(navigator.userAgent) ? `geo:${point}?q=${point}` : `https://www.openstreetmap.org/?mlat=${latitude}&mlon=${longitude}#map=17/${latitude}/${longitude}`;
+}

@@ -1,0 +1,59 @@
+// What the driver's phone shows, as one record, and what follows from it.
+
+import { momentNow, serverNow, today } from "../parts/clock.js";
+import { dayOf } from "./driver-day.js";
+import { NO_NAMES } from "./driver-read.js";
+
+/** @typedef {import("../parts/queue.js").Entry} Entry */
+/**
+ * @typedef {object} State
+ * @property {number} vehicle
+ * @property {string} day the day that is shown
+ * @property {string} today
+ * @property {string} now the moment that was last drawn
+ * @property {import("./driver-read.js").Read | null} read
+ * @property {Entry[]} kept the log of this key
+ * @property {Entry[]} loose what this phone had no room for: it lives as long as the page
+ * @property {string | null} opened the stop that is shown where it is not the next one
+ * @property {string | null} denied why the manifest cannot be read
+ * @property {boolean} silent whether the line is broken
+ * @property {string | null} noRoom the stop whose outcome could not be kept
+ * @property {string} gone pickups that are in the manifest no more
+ * @property {{ day: string, count: number } | null} before a day that is over and not closed
+ * @property {boolean} begun whether a new day began while this was shown
+ * @property {number} waits how many outcomes have waited for a while
+ */
+
+/** Something that waits for so many milliseconds is said to wait. */
+const SETTLES = 2000;
+/** Orders of what this phone had no room for: behind all others. */
+export const LOOSE = 2 ** 52;
+
+/** @param {number} vehicle @param {string} day */
+export const sheetName = (vehicle, day) => `${vehicle} ${day}`;
+
+/** @param {number} vehicle @param {string} day @returns {State} */
+export const stateOf = (vehicle, day) => ({ vehicle, day, today: today(), now: momentNow(), read: null, kept: [], loose: [], opened: null, denied: null,
+    silent: false, noRoom: null, gone: "", before: null, begun: false, waits: 0 });
+
+/** @param {State} state */
+export const allOf = ({ kept, loose }) => [...kept, ...loose];
+
+/** The log of a day, of the one that is shown where none is named.
+ * @param {State} state @param {string} [day] */
+export const logOf = (state, day = state.day) => allOf(state).filter(({ sheet }) => sheet === sheetName(state.vehicle, day));
+
+/** The stops that are shown, and which of them is next.
+ * @param {State} state */
+export const shownDay = (state) => dayOf(state.read?.stops ?? [], logOf(state));
+
+/** @param {State} state */
+export const namesOf = (state) => state.read?.names ?? NO_NAMES;
+
+/** Denials that nobody has read.
+ * @param {State} state */
+export const deniedIn = (state) => allOf(state).filter((entry) => entry.state === "denied" && !entry.tap.seen);
+
+/** What has waited for a while: not what is under way.
+ * @param {Entry[]} kept */
+export const waitingIn = (kept) => kept.filter(({ state, since }) => state === "waiting" && serverNow() - since > SETTLES);

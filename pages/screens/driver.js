@@ -1,0 +1,161 @@
+// The driver's phone: the own manifest, the next stop first, and what came of each trip. What is tapped is kept by this phone until the desk has
+// it, and the manifest last read is there without a line. The day is the server's, and a new one is gone to by itself.
+
+import { agency, vehicleName } from "../parts/agency.js";
+import { clock, dayInWords, momentNow, plus, today } from "../parts/clock.js";
+import { make, part, say } from "../parts/element.js";
+import { sheetOf } from "../parts/paper.js";
+import { entries, onChange, prune, sendAll, sendTallies } from "../parts/queue.js";
+import { makeScreen } from "../parts/screen.js";
+import { keepSubject, subjectOf, withSubject } from "../parts/subject.js";
+import { t } from "../parts/words.js";
+import { actsOf } from "./driver-acts.js";
+import { dayOf, leftOpen, waitAt } from "./driver-day.js";
+import { keepFiles } from "./driver-files.js";
+import { footOf, headOf, listOf, noticesOf } from "./driver-list.js";
+import { keepVehicle, keptDay, keptVehicle, NO_NAMES, readDay, whoAt } from "./driver-read.js";
+import { logOf, namesOf, shownDay, stateOf, waitingIn } from "./driver-state.js";
+import { stopCard, TITLE } from "./driver-stop.js";
+
+/** @typedef {import("./driver-state.js").State} State */
+/** @typedef {import("./driver-read.js").Read} Read */
+
+const TICK = 1000, RENEWED = 60_000, AGAIN = 15_000, TALLIED = 20_000;
+
+/** The pickups of one reading that the next one has no more.
+ * @param {Read} before @param {Read} now */
+function goneFrom(before, now) {
+    const there = new Set(now.stops.map(({ what, trip }) => `${what} ${trip}`));
+    return before.stops.filter(({ what, trip }) => what === "PICK" && !there.has(`${what} ${trip}`))
+        .map(({ at, rider }) => `${clock(at)} ${whoAt(Number(rider), now.names)}`).join("; ");
+}
+
+/** What each stop's wait still takes, in seconds.
+ * @param {State} state @param {string} now */
+const waitsAt = (state, now) => shownDay(state).stops.map((stop) => waitAt(stop, agency().wait_minutes, now)?.left ?? 0);
+
+/** @param {State} state @param {ReturnType<typeof actsOf> & { show: (day: string) => void }} acts */
+function drawn(state, acts) {
+    const { stops, next } = shownDay(state), shown = stops.find(({ name }) => name === state.opened) ?? stops[next], { read, day, today: now } = state;
+    const about = { day, now: state.now, names: namesOf(state), hasCome: day <= now, isOver: day < now, noRoom: state.noRoom };
+    const none = read && part("section", { class: "card driver-stop", key: "none" },
+        part("h2", { id: TITLE, tabindex: -1 }, t(stops.length ? "driver.all-passed" : "driver.no-stops")));
+    return [headOf(state, acts), noticesOf(state, acts), shown ? stopCard(shown, about, acts) : none, footOf(state, acts), listOf(state, acts),
+        read && part("details", { class: "card", key: "printed" }, part("summary", {}, t("driver.printed")),
+            sheetOf(t("driver.printed-of", { vehicle: vehicleName(state.vehicle), day: dayInWords(day) }), read.text))];
+}
+
+/** Reads the manifest that is shown, and the log.
+ * @param {ReturnType<typeof makeScreen<State>>} screen */
+function readerOf(screen) {
+    let isAsking = false;
+    const reader = {
+        async relog() {
+            const kept = await entries().catch(() => []);
+            screen.change({ kept, now: momentNow(), waits: waitingIn(kept).length });
+        },
+        /** Asks once; what is shown stays until the answer is there.
+         * @returns {Promise<void>} */
+        async refresh() {
+            if (isAsking) return;
+            isAsking = true;
+            const { vehicle, day, read } = screen.state, told = await readDay(vehicle, day, read?.names ?? NO_NAMES);
+            isAsking = false;
+            if (screen.state.day !== day) return reader.refresh();
+            if ("silent" in told) return screen.change({ silent: true });
+            if ("denied" in told) return screen.change({ silent: false, denied: told.denied === "left" ? null : told.denied });
+            const before = screen.state.read, gone = before ? goneFrom(before, told) : "";
+            screen.change({ silent: false, denied: null, read: told, gone: gone || screen.state.gone });
+            keepVehicle(vehicle);
+            keepFiles();
+        },
+        /** Shows a day: its copy first.
+         * @param {string} day */
+        async show(day) {
+            const { vehicle, kept, loose, begun } = screen.state;
+            screen.change({ ...stateOf(vehicle, day), kept, loose, waits: waitingIn(kept).length, begun: begun && day === today() });
+            const read = await keptDay(vehicle, day);
+            if (screen.state.day === day && !screen.state.read) screen.change({ read });
+            await Promise.all([reader.refresh(), reader.lookBack()]);
+        },
+        /** Whether the day before is closed. */
+        async lookBack() {
+            const { vehicle } = screen.state, day = plus(today(), -1), read = await keptDay(vehicle, day), log = logOf(screen.state, day);
+            const count = read ? leftOpen(dayOf(read.stops, log).stops, log) : 0;
+            screen.change({ before: count && screen.state.day !== day ? { day, count } : null });
+        } };
+    return reader;
+}
+
+/** Goes on with the clock: each second, as long as this is seen.
+ * @param {ReturnType<typeof makeScreen<State>>} screen @param {ReturnType<typeof readerOf>} reader */
+function clockOf(screen, reader) {
+    /** @param {string} day */
+    const newDay = (day) => {
+        const follows = screen.state.day === screen.state.today;
+        screen.change({ today: day, now: momentNow(), begun: follows });
+        if (!follows) return;
+        reader.show(day);
+        say(t("driver.new-day", { day: dayInWords(day) }));
+    };
+    return () => {
+        const { state } = screen, now = momentNow(), day = today(), [before, after] = [waitsAt(state, state.now), waitsAt(state, now)];
+        if (day !== state.today) return newDay(day);
+        const waits = waitingIn(state.kept).length;
+        if (now.slice(0, 16) !== state.now.slice(0, 16) || before.some(Boolean) || waits !== state.waits) screen.change({ now, waits });
+        if (before.some((left, at) => left && !after[at])) say(t("driver.wait-over", { minutes: agency().wait_minutes }));
+        return undefined;
+    };
+}
+
+/** Does something when the line or the person is back, as long as an element is on the page.
+ * @param {HTMLElement} place @param {() => void} act */
+function whenBack(place, act) {
+    let wasShown = false;
+    const back = () => {
+        wasShown ||= place.isConnected;
+        if (place.isConnected && !document.hidden) act();
+        if (place.isConnected || !wasShown) return;
+        window.removeEventListener("online", back);
+        document.removeEventListener("visibilitychange", back);
+    };
+    window.addEventListener("online", back);
+    document.addEventListener("visibilitychange", back);
+}
+
+/** @param {number} vehicle */
+function manifestOf(vehicle) {
+    /** @type {ReturnType<typeof actsOf> & { show: (day: string) => void }} */
+    let acts;
+    /** @type {ReturnType<typeof makeScreen<State>>} */
+    const screen = makeScreen({ state: stateOf(vehicle, today()), draw: (state) => (acts ? drawn(state, acts) : []) }), reader = readerOf(screen);
+    acts = { ...actsOf(screen, reader.relog), show: (day) => reader.show(day) };
+    screen.every(TICK, clockOf(screen, reader));
+    screen.every(RENEWED, () => reader.refresh());
+    screen.every(AGAIN, () => screen.state.silent && reader.refresh());
+    screen.every(TALLIED, () => sendTallies().catch(() => {}));
+    whenBack(screen.element, () => reader.refresh());
+    let wasShown = false;
+    const stop = onChange(() => {
+        wasShown ||= screen.element.isConnected;
+        if (wasShown && !screen.element.isConnected) stop();
+        else reader.relog();
+    });
+    prune().catch(() => {});
+    reader.relog().then(() => reader.show(today()));
+    sendAll();
+    return screen.element;
+}
+
+function drawManifest() {
+    const place = make("div", { class: "stack driver" });
+    const drawIt = async () => {
+        const vehicle = subjectOf("vehicle") ?? await keptVehicle();
+        if (vehicle) keepSubject("vehicle", vehicle);
+        place.append(withSubject({ what: "vehicle", label: t("driver.vehicle"), action: t("driver.show"), draw: manifestOf, folded: true }));
+    };
+    drawIt();
+    return place;
+}
+
+export const driver = () => [{ id: "manifest", name: t("driver.manifest"), draw: drawManifest }];

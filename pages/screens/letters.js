@@ -1,0 +1,226 @@
+// Letters: the desk's own text under the agency's letterhead, what it means, and the right of appeal, in English and in Spanish, at two sizes.
+
+import { agency, placeOf } from "../parts/agency.js";
+import { asked } from "../parts/ask.js";
+import { plus, today } from "../parts/clock.js";
+import * as desk from "../parts/desk.js";
+import { denialOf } from "../parts/denials.js";
+import { button, part } from "../parts/element.js";
+import { APPEAL_DAYS, MOST_ENTRIES } from "../parts/limits.js";
+import { printParts, sheetOf } from "../parts/paper.js";
+import { riderLabel, riderName, riderOf } from "../parts/roster.js";
+import { makeScreen } from "../parts/screen.js";
+import { inBoth, language, LANGUAGE_NAMES, loadBoth, t } from "../parts/words.js";
+
+/** @typedef {import("../types").Given} Given */
+/** @typedef {{ entry: number, text: string, date: string, decision: string, lines: Map<string, string> }} Letter lines are those of the desk's text by their names */
+
+/** Whether who reads is the rider: the rider's own screen speaks in the second person. */
+export const isOwn = () => location.hash.startsWith("#rider");
+/** Which text of a denial is meant, for a rider and for the office.
+ * @param {string} purpose
+ */
+export const purposeOf = (purpose) => (isOwn() ? "rider" : purpose);
+
+// Words in a language that is not the one of the page.
+
+const SPEECH = /** @type {Record<string, string>} */ ({ en: "en-US", es: "es-US" });
+
+/** @param {string} own @param {string} key @param {Record<string, any>} [values] @returns {string} */
+const said = (own, key, values) => (own === language() ? t(key, values) : inBoth(key, values)[own]);
+
+/** @param {string} own @param {string} day @param {Intl.DateTimeFormatOptions} [options] */
+function dayIn(own, day, options = { dateStyle: "full" }) {
+    const at = Date.parse(day);
+    return Number.isNaN(at) ? day : new Intl.DateTimeFormat(SPEECH[own], { ...options, timeZone: "UTC" }).format(new Date(at));
+}
+
+/** What a condition of a grant says.
+ * @param {string} text @param {string} [own]
+ */
+export function conditionInWords(text, own = language()) {
+    const [kind, rest = ""] = text.split(":");
+    const months = rest.split(",").map((month) => dayIn(own, `2024-${month.padStart(2, "0")}-15`, { month: "long" }));
+    if (kind === "months") return said(own, "cases.condition-months", { months: new Intl.ListFormat(own, { type: "conjunction" }).format(months) });
+    if (kind === "farther") return said(own, "cases.condition-farther", { feet: Number(rest).toLocaleString(SPEECH[own]) });
+    return kind === "always" || kind === "nolift" ? said(own, `cases.condition-${kind}`) : text;
+}
+
+// Reading.
+
+// Of entries that stand side by side at most four have no letter: an application, an appeal, its hearing, and the hearing of a notice. So
+// behind five of them in a row there is none.
+const WITHOUT_LETTER = 4;
+
+/** @param {number} entry @param {string} text @returns {Letter} */
+function letterOf(entry, text) {
+    const lines = new Map(text.trimEnd().split("\n").map((line) => {
+        const at = line.indexOf(" ");
+        return at < 0 ? [line, ""] : [line.slice(0, at), line.slice(at + 1)];
+    }));
+    return { entry, text, lines, date: lines.get("DATE") ?? "", decision: lines.get("DECISION") ?? "" };
+}
+
+/** @param {number} rider @returns {Promise<{ letters: Letter[], denied?: any }>} */
+async function lettersOf(rider) {
+    /** @type {Letter[]} */
+    const letters = [];
+    for (let entry = 0, without = 0; entry < MOST_ENTRIES && without <= WITHOUT_LETTER; entry += 1) {
+        const reply = await desk.letter(rider, entry);
+        if (reply.denied !== undefined && reply.denied !== "desk.unknown") return { letters, denied: reply };
+        without = reply.denied === undefined ? 0 : without + 1;
+        if (reply.denied === undefined) letters.push(letterOf(entry, reply.value));
+    }
+    return { letters };
+}
+
+// What a letter means. The names of decisions are the desk's.
+
+const NAMES = /** @type {Record<string, string>} */ ({ granted: "granted", "appeal granted": "appeal-granted", refused: "refused", "appeal denied": "appeal-denied",
+    notice: "notice", suspended: "suspended", "suspension overturned": "overturned" });
+const APPEALABLE = ["refused", "suspended"], OF_APPEALS = ["appeal granted", "appeal denied", "suspension overturned"];
+
+/** The last day of an appeal. The desk takes one up to it.
+ * @param {Letter} letter
+ */
+const lastDay = ({ date }) => plus(date, APPEAL_DAYS);
+
+/** @param {string} own @param {Letter} letter */
+const titleOf = (own, { decision }) => (decision in NAMES ? said(own, `cases.letter-${NAMES[decision]}`) : decision);
+
+/** @param {string} own @param {Letter} letter @param {string} who @returns {string[]} */
+function meaningOf(own, { decision, lines }, who) {
+    if (!(decision in NAMES)) return [];
+    const { name, telephone } = agency(), day = (/** @type {string} */ line) => dayIn(own, lines.get(line) ?? "");
+    const means = said(own, `cases.means-${NAMES[decision]}`, { who, agency: name, telephone, until: day("UNTIL"), from: day("FROM"), to: day("TO") });
+    if (!lines.has("CONDITIONS")) return [means];
+    const conditions = (lines.get("CONDITIONS") ?? "").split("; ").map((it) => conditionInWords(it, own));
+    return [means, said(own, "cases.letter-conditions", { conditions: new Intl.ListFormat(own, { type: "disjunction" }).format(conditions) }),
+        said(own, lines.get("ATTENDANT") === "yes" ? "cases.letter-attendant" : "cases.letter-no-attendant")];
+}
+
+/** Where one writes or calls.
+ * @param {string} own
+ */
+function whereTo(own) {
+    const { appeal, name, address, telephone } = agency(), to = [appeal.to || name, ...(appeal.address || address).split("\n")].filter(Boolean);
+    const call = appeal.telephone || telephone;
+    return [part("p", { class: "to" }, to.map((line) => [line, part("br")])), call && part("p", {}, said(own, "cases.appeal-call", { telephone: call }))];
+}
+
+/** The right of appeal, or to be heard on a notice.
+ * @param {string} own @param {Letter} letter @returns {Given}
+ */
+function rightsOf(own, letter) {
+    const { decision } = letter;
+    if (decision === "notice") return [part("h2", {}, said(own, "cases.hearing")), part("p", {}, said(own, "cases.hearing-right")), whereTo(own)];
+    if (!APPEALABLE.includes(decision)) return null;
+    const days = { day: dayIn(own, lastDay(letter)), date: dayIn(own, letter.date), days: APPEAL_DAYS };
+    return [part("h2", {}, said(own, "cases.appeal-right")), part("p", {}, part("strong", {}, said(own, "cases.appeal-until", days))),
+        part("p", {}, said(own, "cases.appeal-how")), whereTo(own), part("p", {}, said(own, "cases.appeal-heard")),
+        part("p", {}, said(own, `cases.appeal-meanwhile-${decision}`))];
+}
+
+// The paper.
+
+/** One letter in one language.
+ * @param {string} own @param {Letter} letter @param {number} rider
+ */
+function paperOf(own, letter, rider) {
+    const { name, address, telephone } = agency(), home = riderOf(rider)?.home ?? null, place = home === null ? null : placeOf(home);
+    const who = riderName(rider) || said(own, "cases.you-number", { rider });
+    return part("article", { class: "letter-page", lang: own },
+        part("header", {}, part("p", { class: "letterhead" }, name), address && part("p", {}, address.split("\n").map((line) => [line, part("br")])),
+            telephone && part("p", {}, said(own, "cases.telephone", { telephone }))),
+        part("p", {}, dayIn(own, letter.date)),
+        part("p", { class: "to" }, riderName(rider) && [riderName(rider), part("br")], place?.name && [place.name, part("br")], said(own, "cases.rider-number", { rider })),
+        part("h1", {}, titleOf(own, letter)), meaningOf(own, letter, who).map((it) => part("p", {}, it)),
+        part("p", {}, said(own, "cases.desk-text")), part("pre", { lang: "en" }, letter.text), rightsOf(own, letter),
+        part("p", { class: "hint" }, said(own, "cases.formats", { telephone: telephone || name })));
+}
+
+/** @param {Letter} letter @param {number} rider @param {{ own: string, large: boolean }} how own is a language, or both */
+function print(letter, rider, { own, large }) {
+    const languages = own === "both" ? Object.keys(LANGUAGE_NAMES) : [own];
+    printParts("", languages.map((it) => paperOf(it, letter, rider)), { class: large ? "letter large" : "letter" });
+}
+
+/** The language that a rider's letters begin with: the rider's own where the roster names it.
+ * @param {number} rider
+ */
+function firstLanguage(rider) {
+    const own = riderOf(rider)?.language ?? "";
+    return own in LANGUAGE_NAMES ? own : language();
+}
+
+/** @param {string} own @param {boolean} large @param {(patch: { own?: string, large?: boolean }) => void} change */
+function howPrinted(own, large, change) {
+    const languages = [...Object.entries(LANGUAGE_NAMES), ["both", t("cases.both")]];
+    return part("div", { class: "row how tools" }, part("label", { for: "letter-language" }, t("cases.print-language")),
+        part("select", { id: "letter-language", value: own, on: { change: (event) => change({ own: event.target.value }) } },
+            languages.map(([value, text]) => part("option", { value }, text))),
+        part("label", { for: "letter-size" }, t("cases.print-size")),
+        part("select", { id: "letter-size", value: large ? "large" : "normal", on: { change: (event) => change({ large: event.target.value === "large" }) } },
+            part("option", { value: "normal" }, t("cases.size-normal")), part("option", { value: "large" }, t("cases.size-large"))));
+}
+
+/** @param {Letter} letter @param {Letter[]} letters */
+const mayAppeal = (letter, letters) => APPEALABLE.includes(letter.decision) && today() <= lastDay(letter)
+    && !letters.some(({ entry, decision }) => entry > letter.entry && OF_APPEALS.includes(decision));
+
+/** Those who want to know that something was entered in a rider's case.
+ * @type {Set<{ rider: number, element: HTMLElement, refresh: () => any }>}
+ */
+const readers = new Set();
+
+/** @param {number} rider @param {HTMLElement} element @param {() => any} refresh */
+export const hearEntries = (rider, element, refresh) => readers.add({ rider, element, refresh });
+
+/** @param {number} rider */
+function tellReaders(rider) {
+    for (const it of readers) {
+        if (!it.element.isConnected) readers.delete(it);
+        else if (it.rider === rider) it.refresh();
+    }
+}
+
+/** A rider's letters in order. appeals says whether who reads may enter an appeal.
+ * @param {number} rider @param {{ appeals?: boolean }} options
+ */
+export function lettersFor(rider, { appeals = true } = {}) {
+    const who = riderLabel(rider);
+    const screen = makeScreen({
+        state: { letters: /** @type {Letter[] | null} */ (null), denied: /** @type {any} */ (null), own: firstLanguage(rider), large: false,
+            answerAt: -1, answer: /** @type {Given} */ (null) },
+        class: "card",
+        draw: ({ letters, denied, own, large, answerAt, answer }, { change }) => [
+            part("h2", {}, isOwn() ? t("cases.letters-own") : t("cases.letters", { who })),
+            part("div", { role: "status" }, !letters && !denied && t("cases.letters-reading"), denied && denialOf(denied, purposeOf("standing")),
+                letters && !letters.length && !denied && t("cases.letters-none")),
+            letters && letters.length > 0 && howPrinted(own, large, change),
+            letters && letters.length > 0 && part("ol", { class: "letters" }, letters.map((letter) => part("li", { key: letter.entry },
+                sheetOf(`${dayIn(language(), letter.date)}: ${titleOf(language(), letter)}`, letter.text, { label: t("cases.print-letter", { entry: letter.entry, rider }),
+                    print: () => print(letter, rider, { own, large }) }),
+                meaningOf(language(), letter, isOwn() ? t("cases.you") : who).map((it) => part("p", {}, it)),
+                mayAppeal(letter, letters) && part("p", {}, t("cases.appeal-by", { day: dayIn(language(), lastDay(letter)) }), " ",
+                    appeals && button(t(isOwn() ? "cases.appeal-own" : "cases.appeal-for", { entry: letter.entry, rider }), () => appeal(letter), { class: "danger" })),
+                part("div", { role: "status", id: `answer-letter-${letter.entry}` }, answerAt === letter.entry && answer))))],
+    });
+    /** @param {Letter} letter */
+    async function appeal(letter) {
+        const against = { title: titleOf(language(), letter), day: dayIn(language(), letter.date), who, rider };
+        if (!await asked({ question: t(isOwn() ? "cases.appeal-question-own" : "cases.appeal-question", against), detail: t("cases.appeal-detail", against),
+            yes: t(isOwn() ? "cases.appeal-yes-own" : "cases.appeal-yes", against), danger: true })) return;
+        const reply = await desk.enter(rider, { entry: "appeal", against: letter.entry });
+        const answer = reply.denied !== undefined ? denialOf(reply, isOwn() ? "rider" : "entry")
+            : part("p", { class: "good" }, t(isOwn() ? "cases.appealed-own" : "cases.appealed", against));
+        screen.change({ answerAt: letter.entry, answer }, { focus: `answer-letter-${letter.entry}` });
+        if (reply.denied === undefined) tellReaders(rider);
+    }
+    const refresh = async () => {
+        const [{ letters, denied }] = await Promise.all([lettersOf(rider), loadBoth()]);
+        if (denied?.denied !== "left") screen.change({ letters, denied: denied ?? null });
+    };
+    refresh();
+    return { element: screen.element, refresh };
+}

@@ -1,0 +1,66 @@
+// The rider's own pages, in plain words.
+
+import { agency, hasOwnPlaces, loadOwnPlaces } from "../parts/agency.js";
+import { today } from "../parts/clock.js";
+import * as desk from "../parts/desk.js";
+import { denialOf } from "../parts/denials.js";
+import { make, part } from "../parts/element.js";
+import { makeScreen } from "../parts/screen.js";
+import { keepSubject, withSubject } from "../parts/subject.js";
+import { t } from "../parts/words.js";
+import { bookingFor } from "./booking.js";
+import { entryForms, lettersFor, standingOf } from "./cases.js";
+import { tripsOfRider } from "./trips.js";
+
+/** What is drawn once the rider's own places have names.
+ * @param {number} rider @param {(rider: number) => any} draw
+ */
+function withNames(rider, draw) {
+    const screen = makeScreen({ state: { ready: hasOwnPlaces(rider) }, draw: ({ ready }, { kept }) => (ready ? kept("own", () => [draw(rider)].flat())
+        : part("p", { role: "status" }, t("rider.reading"))) });
+    if (!screen.state.ready) loadOwnPlaces(rider).then(() => screen.change({ ready: true }));
+    return screen.element;
+}
+
+/** @param {(rider: number) => any} draw */
+const own = (draw) => () => withSubject({ what: "rider", label: t("rider.number"), action: t("rider.show"), folded: true, draw: (rider) => withNames(rider, draw) });
+
+const help = () => (agency().telephone ? [make("p", { class: "hint" }, t("rider.help"), make("a", { href: `tel:${agency().telephone.replace(/[^\d+]/g, "")}` },
+    agency().telephone))] : []);
+
+/** A trip that is booked again is booked on the other part of the screen.
+ * @type {{ trip: import("../types").Trip, back: import("../types").Trip | null } | null}
+ */
+let again = null;
+
+/** @param {number} rider */
+const trips = (rider) => [tripsOfRider(rider, { heading: t("rider.trips"), cards: true, purpose: "rider", again: (trip, back) => {
+    again = { trip, back };
+    keepSubject("rider", rider);
+    location.hash = "rider/book";
+} }).element, ...help()];
+
+/** Nothing is offered for another's number.
+ * @param {number} rider
+ */
+function book(rider) {
+    const booking = bookingFor(rider);
+    const copied = again;
+    again = null;
+    if (copied) setTimeout(() => booking.copy(copied.trip, copied.back));
+    const screen = makeScreen({ state: { denied: /** @type {any} */ (null) }, draw: ({ denied }) => (denied ? denialOf(denied, "rider") : booking.element) });
+    desk.standing(rider, today()).then((reply) => {
+        if (reply.denied !== undefined && reply.denied !== "left") screen.change({ denied: reply });
+    });
+    return [screen.element, ...help()];
+}
+
+/** @param {number} rider */
+function appeals(rider) {
+    const letters = lettersFor(rider);
+    return [letters.element, ...entryForms(rider, ["appeal"], letters.refresh)];
+}
+
+export const rider = () => [
+    { id: "trips", name: t("rider.my-trips"), draw: own(trips) }, { id: "book", name: t("rider.book"), draw: own(book) },
+    { id: "standing", name: t("rider.standing"), draw: own((id) => standingOf(id).element) }, { id: "letters", name: t("rider.letters"), draw: own(appeals) }];

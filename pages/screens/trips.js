@@ -1,0 +1,142 @@
+// A rider's trips: what comes, what is over and what was cancelled, with Change, Cancel and Book again.
+
+import { placeName, vehicleName } from "../parts/agency.js";
+import { asked } from "../parts/ask.js";
+import { clock, dayInWords, minuteNow, today } from "../parts/clock.js";
+import * as desk from "../parts/desk.js";
+import { denialOf } from "../parts/denials.js";
+import { button, part } from "../parts/element.js";
+import { riderLabel } from "../parts/roster.js";
+import { makeScreen } from "../parts/screen.js";
+import { t } from "../parts/words.js";
+import { changeFor, statusOf } from "./booking.js";
+import { dollars, party, printTickets, windowOf } from "./ticket.js";
+
+/** @typedef {import("../types").Trip} Trip */
+/** @typedef {import("../types").Given} Given */
+/** @typedef {{ trips: Trip[] | null, denied: any, changing: number | null, answers: Record<number, Given> }} State answers: what came of an action, by trip */
+/** @typedef {{ rider: number, cards: boolean, state: State, tools: (trip: Trip) => Given, below: (trip: Trip) => Given }} Shown */
+
+const RENEWED = 30_000, COLUMNS = 10, NARROW = "(max-width: 40rem)";
+
+const isComing = (/** @type {Trip} */ trip) => trip.day > today() || (trip.day === today() && trip.window_to >= minuteNow());
+const mayChange = (/** @type {Trip} */ trip) => trip.status === "booked" && trip.day > today();
+/** A trip is cancelled until its promised window begins. */
+const mayCancel = (/** @type {Trip} */ trip) => trip.status === "booked" && (trip.day > today() || (trip.day === today() && trip.window_from > minuteNow()));
+
+const byTime = (/** @type {Trip} */ a, /** @type {Trip} */ b) => a.day.localeCompare(b.day) || a.window_from - b.window_from || a.trip - b.trip;
+
+/** The way back of a trip: the first one of that day that goes from its drop to its pickup later.
+ * @param {Trip[]} trips @param {Trip} trip
+ */
+const wayBack = (trips, trip) => trips.filter((it) => it.day === trip.day && it.from === trip.to && it.to === trip.from && it.wish > trip.wish).sort(byTime)[0] ?? null;
+
+/** @param {Trip} trip */
+const byWords = ({ by }) => (by === null ? "" : clock(by));
+
+/** What came of an action, where the action was.
+ * @param {Trip} trip @param {State} state
+ */
+const answerOf = ({ trip }, { answers }) => answers[trip] && part("div", { id: `answer-${trip}`, class: "answer", tabindex: -1 }, answers[trip]);
+
+// As a table.
+
+/** @param {Trip} trip @param {Shown} shown */
+function tripRow(trip, { tools, below, state }) {
+    const { trip: number, day, wish, from, to, due, vehicle, status } = trip, more = below(trip);
+    const cells = [dayInWords(day), part("span", { class: "whole" }, windowOf(trip)), clock(wish), placeName(from), placeName(to), byWords(trip), party(trip), dollars(due),
+        [vehicleName(vehicle), status !== "booked" && part("small", {}, statusOf(status))]];
+    return [part("tr", { key: number }, part("th", { scope: "row" }, String(number)), cells.map((cell) => part("td", {}, cell)),
+        part("td", { class: "tools" }, answerOf(trip, state), tools(trip))),
+    more && part("tr", { key: `below-${number}` }, part("td", { colspan: COLUMNS + 1 }, more))];
+}
+
+/** @param {Trip[]} trips @param {string} caption @param {Shown} shown */
+function tripsTable(trips, caption, shown) {
+    const heads = ["trip", "day", "pickup", "wished", "from", "to", "by", "who", "to-pay", "vehicle"].map((name) => part("th", { scope: "col" }, t(`booking.${name}`)));
+    return part("div", { class: "scroll", tabindex: 0, role: "region", "aria-label": caption }, part("table", { class: "trips" }, part("caption", {}, caption),
+        part("thead", {}, part("tr", {}, heads, part("th", { scope: "col", class: "tools" }, t("booking.do")))), part("tbody", {}, trips.map((trip) => tripRow(trip, shown)))));
+}
+
+// As cards, one below the other, for a narrow screen and for who reads one after another.
+
+/** @param {Trip} trip @param {Shown} shown */
+function tripCard(trip, { tools, below, state }) {
+    const status = trip.status === "booked" ? "" : ` (${statusOf(trip.status)})`;
+    return part("li", { key: trip.trip }, part("h3", {}, dayInWords(trip.day)),
+        part("p", {}, part("strong", {}, t("booking.card-pickup", { window: windowOf(trip) })), status),
+        part("p", {}, t("booking.card-way", { from: placeName(trip.from), to: placeName(trip.to) }), trip.by !== null && ` ${t("booking.card-by", { by: clock(trip.by) })}`),
+        part("p", { class: "hint" }, t("booking.card-more", { trip: trip.trip, wish: clock(trip.wish), due: dollars(trip.due), who: party(trip), vehicle: vehicleName(trip.vehicle) })),
+        answerOf(trip, state), tools(trip), below(trip));
+}
+
+/** @param {Trip[]} trips @param {string} caption @param {Shown} shown */
+const tripCards = (trips, caption, shown) => part("ul", { class: "cards", "aria-label": caption }, trips.map((trip) => tripCard(trip, shown)));
+
+/** @param {Shown} shown */
+function tripsShown(shown) {
+    const { state, cards } = shown, listOf = cards || matchMedia(NARROW).matches ? tripCards : tripsTable, all = [...(state.trips ?? [])].sort(byTime);
+    // (what was cancelled here just now stays where it was, with the answer)
+    const isOff = (/** @type {Trip} */ trip) => trip.status === "cancelled" && !state.answers[trip.trip];
+    const coming = all.filter((trip) => isComing(trip) && !isOff(trip)), off = all.filter(isOff).reverse();
+    const past = all.filter((trip) => !isComing(trip) && !isOff(trip)).reverse();
+    const folded = (/** @type {Trip[]} */ trips, /** @type {string} */ name) => trips.length > 0 && part("details", { key: name }, part("summary", {},
+        t(`booking.count-${name}`, { count: trips.length })), listOf(trips, t(`booking.list-${name}`), shown));
+    return [coming.length ? listOf(coming, t("booking.list-coming"), shown) : part("p", {}, t("booking.none-coming")), folded(past, "past"), folded(off, "off")];
+}
+
+/** What can be done with a trip, and nothing that is sure to be denied.
+ * @param {Trip} trip @param {{ rider: number, cancel: (trip: Trip) => void, change: (trip: Trip) => void, again?: (trip: Trip) => void }} acts
+ */
+function toolsOf(trip, { rider, cancel, change, again }) {
+    const named = (/** @type {string} */ key) => ({ class: "small", "aria-label": t(key, { trip: trip.trip, rider: riderLabel(rider) }) });
+    return part("div", { class: "row tight tools" }, mayChange(trip) && button(t("booking.change"), () => change(trip), named("booking.change-of")),
+        mayCancel(trip) && button(t("booking.cancel"), () => cancel(trip), named("booking.cancel-of")),
+        again && button(t("booking.again"), () => again(trip), named("booking.again-of")),
+        trip.status === "booked" && button(t("booking.ticket-print"), () => printTickets([{ rider, ticket: trip, wish: trip }], t("booking.ticket", { trip: trip.trip })),
+            named("booking.print-of")));
+}
+
+/** @param {number} rider @param {Trip} trip */
+const sureToCancel = (rider, trip) => asked({ question: t("booking.cancel-question", { trip: trip.trip, rider: riderLabel(rider) }), danger: true,
+    detail: t("booking.cancel-detail", { day: dayInWords(trip.day), window: windowOf(trip), from: placeName(trip.from), to: placeName(trip.to) }),
+    yes: t("booking.cancel-yes", { trip: trip.trip }) });
+
+/** All trips of a rider. again(trip, back) books a trip on another day.
+ * @param {number} rider
+ * @param {{ heading: string, cards?: boolean, purpose?: string, again?: (trip: Trip, back: Trip | null) => void }} options
+ */
+export function tripsOfRider(rider, { heading, cards = false, purpose = "standing", again }) {
+    const top = `trips-${rider}`;
+    const screen = makeScreen({ state: /** @type {State} */ ({ trips: null, denied: null, changing: null, answers: {} }), class: "card",
+        draw: (state, { kept }) => {
+            const tools = (/** @type {Trip} */ trip) => toolsOf(trip, { rider, cancel, change, again: again && ((it) => again(it, wayBack(state.trips ?? [], it))) });
+            /** @type {(trip: Trip) => Given} */
+            const below = (trip) => state.changing === trip.trip && [kept(`change-${trip.trip}`, () => changeFor(rider, trip, refresh)).element,
+                button(t("booking.leave"), () => screen.change({ changing: null }, { focus: top }))];
+            return [part("h2", { id: top, tabindex: -1 }, heading), state.denied ? denialOf(state.denied, purpose)
+                : state.trips === null ? part("p", {}, t("booking.reading")) : tripsShown({ rider, cards, state, tools, below })];
+        } });
+    /** @returns {Promise<void>} */
+    const refresh = async () => {
+        const reply = await desk.tripsOf(rider);
+        if (reply.denied === "left") return;
+        screen.change(reply.denied !== undefined ? { denied: reply } : { denied: null, trips: reply.value.trips });
+    };
+    const change = (/** @type {Trip} */ trip) => screen.change({ changing: trip.trip, answers: {} }, { focus: `change-${trip.trip}` });
+    const cancel = async (/** @type {Trip} */ trip) => {
+        if (!await sureToCancel(rider, trip)) return;
+        const reply = await desk.cancel(trip.trip);
+        const answer = reply.denied !== undefined ? denialOf(reply, "cancel") : part("p", { class: "good" }, t("booking.cancelled-now", { trip: trip.trip, rider: riderLabel(rider) }));
+        await refresh();
+        screen.change({ answers: { [trip.trip]: answer }, changing: null }, { focus: `answer-${trip.trip}` });
+    };
+    screen.every(RENEWED, () => screen.change({}));
+    screen.onNewDay(refresh);
+    refresh();
+    const known = async () => {
+        if (screen.state.trips === null) await refresh();
+        return screen.state.trips ?? [];
+    };
+    return { element: screen.element, refresh, known };
+}

@@ -1,0 +1,30 @@
+// The records that the pages speak of, for the type checker alone.
+
+export type Denied = { denied: string, field?: string, value?: undefined };
+export type Accepted<Value> = { value: Value, denied?: undefined, field?: undefined };
+export type Reply<Value> = Accepted<Value> | Denied;
+
+export type Status = "booked" | "cancelled" | "ridden" | "missed-rider" | "missed-operator";
+export type Wish = { day: string, wish: number, from: number, to: number, by: number | null, attendant: boolean, companions: number };
+export type Ticket = { trip: number, vehicle: number, window_from: number, window_to: number, fare: number, due: number };
+export type Trip = Wish & Ticket & { status: Status };
+export type Standing = { standing: string, suspended: boolean, until?: string, conditions?: string[] };
+
+export type Place = { id: number, name?: string, note?: string, x?: number, y?: number, core?: boolean, private?: boolean | number, latitude?: number,
+    longitude?: number };
+export type Route = { id: number, name?: string, width: number, points: [number, number][], accessible?: boolean, days?: number[], first?: number,
+    last?: number };
+export type Vehicle = { id: number, name?: string };
+export type Appeal = { to: string, address: string, telephone: string, days: number };
+export type Agency = { name: string, telephone: string, address: string, zone: string | undefined, first_weekday: number, place_word: string, clock: 12 | 24,
+    languages: string[], wait_minutes: number, idle_minutes: number, appeal: Appeal, unproved: boolean };
+export type Rider = { rider: number, name: string, telephone: string, language: string, home: number | null, usual: number[], aid: string, note: string };
+
+export type Field<Value = any> = { name: string, wants: string, control: any, element: HTMLElement,
+    read: () => { value?: Value, fault?: string, ambiguous?: number[] }, write: (value: any) => void, tell: (fault?: string | null) => void };
+export type ScreenPart = { id: string, name: string, draw: () => any };
+
+export type Act = (event: any) => void;
+export type Attributes = Record<string, any> & { key?: string | number | null, on?: Record<string, Act | null | false | undefined> };
+export type Part = { tag: string, attributes: Attributes, children: (string | Part | Element)[] };
+export type Given = string | number | Part | Node | null | undefined | boolean | Given[];

@@ -1,0 +1,46 @@
+// Words that every screen uses.
+
+/** @type {Record<string, string>} */
+const KINDS = { places: "place", routes: "line", vehicles: "vehicle" };
+
+/** @type {Record<string, import("../../parts/words.js").Text>} */
+export const words = {
+    "common.am": "AM",
+    "common.pm": "PM",
+    "common.agency": "Paratransit",
+    "common.place": "place",
+    "common.vehicle": ({ vehicle }) => `Vehicle ${vehicle}`,
+    "common.line": ({ line }) => `Line ${line}`,
+    "common.rider": ({ rider }) => `rider ${rider}`,
+    "common.close": "Close",
+    "common.close-note": "Close this note",
+    "common.print": "Print",
+    "common.yes": "Yes",
+    "common.no": "No",
+    "common.no-go-back": "No, go back",
+    "common.silent": "The desk does not answer. What you typed is kept. It is asked again until it does.",
+    "common.silent-write": "The desk does not answer. What you typed is kept. It is sent again, and done once.",
+    "common.crowded": "Many requests at once: this one waits for its turn.",
+    "common.answers-again": "The desk answers again.",
+    "common.not-drawn": "This part could not be shown. Load the page anew. If it stays, tell the people who run the desk.",
+    "common.wrong-file": ({ file }) => `The file ${file} is not JSON of the form that these pages read. What it names goes by numbers.`,
+    "common.missing-file": ({ file }) => `The file ${file} is missing. Places, lines and vehicles go by their numbers.`,
+    "common.wrong-list": ({ kind }) => `In the agency's file, ${kind} is no list.`,
+    "common.wrong-record": ({ kind, key }) => `In the agency's file, the ${KINDS[kind]} “${key}” has no number from 1 on, or is no record.`,
+    "common.wrong-field": ({ kind, id, name }) => `In the agency's file, ${KINDS[kind]} ${id} has a ${name} that cannot be used.`,
+    "common.wrong-zone": ({ value }) => `The zone “${value}” in agency.json is none that browsers know, as America/Chicago. Times are those of this machine.`,
+    "common.wrong-setting": ({ name, value }) => `In agency.json, ${name} cannot be “${value}”.`,
+    "common.roster-head": "The roster needs a first row with the columns “rider” and “name”.",
+    "common.roster-number": ({ row, text }) => `Row ${row} of the roster: “${text}” is no rider's number.`,
+    "common.roster-twice": ({ row, text }) => `Row ${row} of the roster: rider ${text} is there twice. The first row counts.`,
+    "common.others-wrote": "Another window or device wrote with the same key in the meantime. Nothing is lost: what you sent went on with a higher number.",
+    "common.was-denied": "What was being sent when this page was loaded is denied: ",
+    "common.was-done": "What was being sent when this page was loaded is done, once.",
+    "common.not-loaded": "This screen could not be loaded: the line broke. Nothing that you sent is lost.",
+    "common.load-again": "Try again",
+    "common.unproved": "This is a trial program. Nothing of it was proved. Do not use it for real trips.",
+    "common.skip": "Skip to the main part",
+    "common.screen": "Screen",
+    "common.parts": "Parts of this screen",
+    "common.language": "Language",
+};

@@ -1,0 +1,31 @@
+// Words of fields: what each takes, and how it understood what was typed.
+
+/** @type {Record<string, import("../../parts/words.js").Text>} */
+export const words = {
+    "fields.number": ({ least, most }) => `Write a whole number from ${least} to ${most}.`,
+    "fields.money": ({ most }) => `Write an amount in dollars from 0 to ${most}, as 3.50.`,
+    "fields.time": ({ example }) => `Write a time, as ${example}.`,
+    "fields.understood": ({ time }) => `Read as ${time}`,
+    "fields.which-half": ({ early, late }) => `${early} or ${late}? You are asked when you send it.`,
+    "fields.which-question": ({ typed }) => `Which ${typed} is meant?`,
+    "fields.early-key": "a",
+    "fields.late-key": "p",
+    "fields.day": ({ least, most }) => `Choose a day from ${least} to ${most}.`,
+    "fields.text": ({ most }) => `Write 1 to ${most} plain letters, digits and signs, without accents and new lines.`,
+    "fields.reasons": ({ most }) => `Write 1 to ${most} letters, digits and signs.`,
+    "fields.count": ({ count, most }) => `${count} of ${most}`,
+    "fields.sent-as": "It is sent as: ",
+    "fields.lost": ({ signs }) => `The desk cannot take these signs: ${signs}. Write them in other words.`,
+    "fields.choice": "Choose one from the list.",
+    "fields.choose-one": "Choose one.",
+    "fields.tick": "Tick it or leave it.",
+    "fields.yes-no": "Choose yes or no.",
+    "fields.place": "Choose a place: write a part of its name, or its number.",
+    "fields.place-none": "No place has this in its name. Write another part of it, or its number.",
+    "fields.place-many": ({ count }) => `${count} places have this in their names. Choose one of the list, or write more.`,
+    "fields.id": ({ most }) => `Write a whole number from 1 to ${most}.`,
+    "fields.rider-hint": "A number, a name or a part of it, or a telephone number.",
+    "fields.rider-none": "Write a number, or choose one rider of the list.",
+    "fields.type-number": "Type the number here",
+    "fields.other-number": ({ typed, action }) => `${typed} is not shown yet: “${action}” shows it.`,
+};

@@ -1,0 +1,46 @@
+// Palabras que usan todas las pantallas.
+
+/** @type {Record<string, string>} */
+const KINDS = { places: "lugar", routes: "línea", vehicles: "vehículo" };
+
+/** @type {Record<string, import("../../parts/words.js").Text>} */
+export const words = {
+    "common.am": "a. m.",
+    "common.pm": "p. m.",
+    "common.agency": "Paratránsito",
+    "common.place": "lugar",
+    "common.vehicle": ({ vehicle }) => `Vehículo ${vehicle}`,
+    "common.line": ({ line }) => `Línea ${line}`,
+    "common.rider": ({ rider }) => `pasajero ${rider}`,
+    "common.close": "Cerrar",
+    "common.close-note": "Cerrar esta nota",
+    "common.print": "Imprimir",
+    "common.yes": "Sí",
+    "common.no": "No",
+    "common.no-go-back": "No, volver",
+    "common.silent": "El sistema no responde. Lo que escribió se conserva. Se pregunta otra vez hasta que responda.",
+    "common.silent-write": "El sistema no responde. Lo que escribió se conserva. Se envía otra vez y se hace una sola vez.",
+    "common.crowded": "Hay muchas solicitudes a la vez: esta espera su turno.",
+    "common.answers-again": "El sistema responde otra vez.",
+    "common.not-drawn": "Esta parte no se pudo mostrar. Cargue la página otra vez. Si sigue igual, avise a quienes manejan el sistema.",
+    "common.wrong-file": ({ file }) => `El archivo ${file} no es JSON de la forma que leen estas páginas. Lo que nombra aparece con números.`,
+    "common.missing-file": ({ file }) => `Falta el archivo ${file}. Los lugares, las líneas y los vehículos aparecen con sus números.`,
+    "common.wrong-list": ({ kind }) => `En el archivo de la agencia, ${kind} no es una lista.`,
+    "common.wrong-record": ({ kind, key }) => `En el archivo de la agencia, ${KINDS[kind]} «${key}» no tiene un número desde 1, o no es un registro.`,
+    "common.wrong-field": ({ kind, id, name }) => `En el archivo de la agencia, ${KINDS[kind]} ${id} tiene un ${name} que no se puede usar.`,
+    "common.wrong-zone": ({ value }) => `La zona «${value}» de agency.json no es una que conozcan los navegadores, como America/Chicago. Las horas son las de este aparato.`,
+    "common.wrong-setting": ({ name, value }) => `En agency.json, ${name} no puede ser «${value}».`,
+    "common.roster-head": "La lista de pasajeros necesita una primera fila con las columnas «rider» y «name».",
+    "common.roster-number": ({ row, text }) => `Fila ${row} de la lista: «${text}» no es un número de pasajero.`,
+    "common.roster-twice": ({ row, text }) => `Fila ${row} de la lista: el pasajero ${text} está dos veces. Vale la primera fila.`,
+    "common.others-wrote": "Mientras tanto, otra ventana u otro aparato escribió con la misma clave. No se perdió nada: lo que envió siguió con un número más alto.",
+    "common.was-denied": "Lo que se estaba enviando cuando se cargó esta página fue denegado: ",
+    "common.was-done": "Lo que se estaba enviando cuando se cargó esta página se hizo, una sola vez.",
+    "common.not-loaded": "Esta pantalla no se pudo cargar: se cortó la conexión. No se perdió nada de lo que envió.",
+    "common.load-again": "Intentar otra vez",
+    "common.unproved": "Este es un programa de prueba. Nada de él está demostrado. No lo use para viajes reales.",
+    "common.skip": "Saltar a la parte principal",
+    "common.screen": "Pantalla",
+    "common.parts": "Partes de esta pantalla",
+    "common.language": "Idioma",
+};

@@ -1,0 +1,31 @@
+// Palabras de los campos: qué acepta cada uno y cómo entendió lo escrito.
+
+/** @type {Record<string, import("../../parts/words.js").Text>} */
+export const words = {
+    "fields.number": ({ least, most }) => `Escriba un número entero de ${least} a ${most}.`,
+    "fields.money": ({ most }) => `Escriba una cantidad en dólares de 0 a ${most}, como 3.50.`,
+    "fields.time": ({ example }) => `Escriba una hora, como ${example}.`,
+    "fields.understood": ({ time }) => `Se lee como ${time}`,
+    "fields.which-half": ({ early, late }) => `¿${early} o ${late}? Se le pregunta al enviarlo.`,
+    "fields.which-question": ({ typed }) => `¿Qué hora quiere decir ${typed}?`,
+    "fields.early-key": "a",
+    "fields.late-key": "p",
+    "fields.day": ({ least, most }) => `Elija un día de ${least} a ${most}.`,
+    "fields.text": ({ most }) => `Escriba de 1 a ${most} letras, cifras y signos sencillos, sin acentos ni líneas nuevas.`,
+    "fields.reasons": ({ most }) => `Escriba de 1 a ${most} letras, cifras y signos.`,
+    "fields.count": ({ count, most }) => `${count} de ${most}`,
+    "fields.sent-as": "Se envía así: ",
+    "fields.lost": ({ signs }) => `El sistema no acepta estos signos: ${signs}. Dígalo con otras palabras.`,
+    "fields.choice": "Elija uno de la lista.",
+    "fields.choose-one": "Elija uno.",
+    "fields.tick": "Márquelo o déjelo.",
+    "fields.yes-no": "Elija sí o no.",
+    "fields.place": "Elija un lugar: escriba una parte de su nombre, o su número.",
+    "fields.place-none": "Ningún lugar tiene esto en su nombre. Escriba otra parte, o su número.",
+    "fields.place-many": ({ count }) => `${count} lugares tienen esto en su nombre. Elija uno de la lista, o escriba más.`,
+    "fields.id": ({ most }) => `Escriba un número entero de 1 a ${most}.`,
+    "fields.rider-hint": "Un número, un nombre o una parte, o un teléfono.",
+    "fields.rider-none": "Escriba un número, o elija un pasajero de la lista.",
+    "fields.type-number": "Escriba aquí el número",
+    "fields.other-number": ({ typed, action }) => `${typed} todavía no se muestra: «${action}» lo muestra.`,
+};

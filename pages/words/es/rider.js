@@ -1,0 +1,14 @@
+// Palabras de la pantalla propia del pasajero.
+
+/** @type {Record<string, import("../../parts/words.js").Text>} */
+export const words = {
+    "rider.my-trips": "Mis viajes",
+    "rider.trips": "Viajes",
+    "rider.book": "Reservar un viaje",
+    "rider.standing": "¿Puedo viajar?",
+    "rider.letters": "Cartas y apelación",
+    "rider.number": "Su número de pasajero",
+    "rider.show": "Mostrar mis páginas",
+    "rider.help": "Si necesita ayuda, llame al ",
+    "rider.reading": "Se están leyendo los nombres de sus lugares…",
+};

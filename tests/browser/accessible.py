@@ -1,0 +1,188 @@
+"""Each part of each screen for everybody: axe, contrast, 320 pixels, spaced text, zoom, forced colors, Spanish."""
+import os
+import re
+
+from checks import check, holds, same
+from common import PARTS
+
+VANS = 1
+CONTROLS = {"button", "link", "textbox", "combobox", "checkbox", "DisclosureTriangle", "Date", "searchbox", "option",
+            "image", "radio", "listbox"}
+# Texts whose contrast is below 4.5, also in pictures, of which axe says that a person has to look.
+CONTRAST = """
+const channels = (text) => (text.match(/[\\d.]+/g) ?? []).map(Number);
+const linear = (it) => it <= 0.04045 ? it / 12.92 : ((it + 0.055) / 1.055) ** 2.4;
+const light = ([r, g, b]) => [r, g, b].map((it) => linear(it / 255))
+    .reduce((sum, it, at) => sum + it * [0.2126, 0.7152, 0.0722][at], 0);
+const colorOf = (it) => channels(getComputedStyle(it).backgroundColor);
+const ground = (it) => {
+    for (; it; it = it.parentElement) if (colorOf(it).length === 3 || colorOf(it)[3] === 1) return colorOf(it);
+    return colorOf(document.body);
+};
+const walker = document.createTreeWalker(document.body, NodeFilter.SHOW_TEXT), low = [];
+while (walker.nextNode()) {
+    const it = walker.currentNode.parentElement;
+    if (!walker.currentNode.textContent.trim() || !it.checkVisibility()) continue;
+    if (it.closest('.unseen, .skip, [disabled]')) continue;
+    const style = getComputedStyle(it), drawn = it.namespaceURI.endsWith('svg');
+    const [a, b] = [channels(drawn ? style.fill : style.color), ground(it)].map(light).sort((p, q) => q - p);
+    const ratio = (a + 0.05) / (b + 0.05);
+    if (ratio < 4.5) low.push(`${walker.currentNode.textContent.trim().slice(0, 40)} ${ratio.toFixed(2)}`);
+}
+return low;
+"""
+
+
+def nameless(browser):
+    nodes = browser.devtools("Accessibility.getFullAXTree")["nodes"]
+    return [node["role"]["value"] for node in nodes if not node["ignored"] and node["role"]["value"] in CONTROLS
+            and not node.get("name", {}).get("value", "").strip()]
+
+
+def noted(where, incomplete):
+    """What a person has to look at is written to a file, where the environment names one."""
+    if file := os.environ.get("PAGES_INCOMPLETE"):
+        with open(file, "a", encoding="utf-8") as text:
+            text.writelines(f"{where}: {it}\n" for it in incomplete)
+
+
+def each_part(at, screen, language="en"):
+    """Goes to each part of a screen; all that is folded is opened."""
+    for address in at.browser.each_part(at.keys[PARTS[screen]], screen, language):
+        at.browser.script("document.querySelectorAll('details').forEach((it) => { it.open = true; })")
+        yield address
+
+
+def looked_at(at, address):
+    """Names, contrast and axe, light and dark."""
+    same(f"controls without a name in {address}", [], nameless(at.browser))
+    for shades in ["light", "dark"]:
+        with at.browser.media(prefers_color_scheme=shades, prefers_reduced_motion="reduce"):
+            at.browser.settled()
+            same(f"contrast in {address}, {shades}", [], at.browser.script(CONTRAST))
+            found = at.browser.axe()
+            noted(f"{address}, {shades}", found["incomplete"])
+            same(f"axe in {address}, {shades}", [], found["violations"])
+
+
+def widths_of(at, address):
+    """No sideways move at 320 pixels less a scrollbar, nor with spaced text."""
+    with at.browser.screen(320, 640):
+        same(f"{address} at 320 pixels is too wide by", [0, []], at.browser.sideways())
+    with at.browser.zoomed():
+        same(f"{address} at 400 percent is too wide by", [0, []], at.browser.sideways())
+        at.browser.space_text()
+        same(f"{address} at 400 percent with spaced text is too wide by", [0, []], at.browser.sideways())
+
+
+def screen_is_accessible(at, screen):
+    faults = []
+    for address in each_part(at, screen):
+        for look in [looked_at, widths_of]:
+            try:
+                look(at, address)
+            except Exception as fault:
+                faults.append(str(fault))
+    holds("; ".join(faults), not faults)
+
+
+@check
+def the_scrollbar_of_a_narrow_screen_is_a_classic_one(at):
+    at.browser.sign_in(at.keys["clerk"], "clerk", "trips")
+    with at.browser.screen(320, 300):
+        width = at.browser.script("return document.documentElement.clientWidth")
+        holds(f"of 320 pixels {width} are left", 300 <= width <= 310)
+
+
+@check
+def signing_in_is_accessible(at):
+    at.browser.fresh()
+    at.browser.settled()
+    looked_at(at, "signing in")
+    widths_of(at, "signing in")
+
+
+@check
+def the_clerks_screen_is_accessible(at):
+    screen_is_accessible(at, "clerk")
+
+
+@check
+def the_examiners_screen_is_accessible(at):
+    screen_is_accessible(at, "examiner")
+
+
+@check
+def the_officers_screen_is_accessible(at):
+    screen_is_accessible(at, "officer")
+
+
+@check
+def the_dispatchers_screen_is_accessible(at):
+    at.town.set_clock("2025-03-11", "11:00")
+    screen_is_accessible(at, "dispatcher")
+
+
+@check
+def the_drivers_screen_is_accessible(at):
+    at.town.set_clock("2025-03-11", "06:30")
+    screen_is_accessible(at, "driver")
+    at.town.set_clock("2025-03-10")
+
+
+@check
+def the_riders_screen_is_accessible(at):
+    screen_is_accessible(at, "rider")
+
+
+@check
+def the_admins_screen_is_accessible(at):
+    screen_is_accessible(at, "admin")
+
+
+@check
+def each_screen_is_accessible_in_spanish(at):
+    faults = []
+    at.browser.speak("es")
+    try:
+        for screen in PARTS:
+            faults += faults_in_spanish(at, screen)
+    finally:
+        at.browser.speak("en")
+    same("faults in Spanish", [], faults)
+
+
+def faults_in_spanish(at, screen):
+    """The keys of texts that are missing, axe, and the width, of each part."""
+    for address in each_part(at, screen, "es"):
+        found = at.browser.axe()
+        noted(f"{address}, Spanish", found["incomplete"])
+        yield from (f"{address}: {it}" for it in found["violations"])
+        if at.browser.script("return document.documentElement.lang") != "es":
+            yield f"{address} is not marked Spanish"
+        keys = re.findall(r"\b[a-z]+\.[a-z]+(?:-[a-z]+)+\b", at.browser.text())
+        yield from (f"{address} shows the key {it}" for it in keys)
+        with at.browser.screen(320, 640):
+            over, wide = at.browser.sideways()
+        if over:
+            yield f"{address} at 320 pixels is too wide by {over}: {wide}"
+
+
+LINES = """
+const names = ["backgroundColor", "borderBottomColor", "borderBottomStyle", "borderBottomWidth", "outlineStyle",
+    "textDecorationLine"];
+return [...document.querySelectorAll("#parts a")].map((it) => [it.getAttribute("aria-current") === "page",
+    names.map((name) => getComputedStyle(it)[name]).join(" ")]);
+"""
+
+
+@check
+def the_chosen_part_is_marked_in_forced_colors(at):
+    with at.browser.media(forced_colors="active"):
+        for screen in ["clerk", "admin", "rider"]:
+            at.browser.sign_in(at.keys[PARTS[screen]], screen)
+            at.browser.settled()
+            looks = at.browser.script(LINES)
+            chosen = {look for is_chosen, look in looks if is_chosen}
+            others = {look for is_chosen, look in looks if not is_chosen}
+            holds(f"{screen}: the chosen part looks as the others: {looks}", chosen and not chosen & others)

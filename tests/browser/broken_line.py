@@ -1,0 +1,237 @@
+"""A line that breaks at each step of a write, a desk that is slow or gone, two windows, other devices: done once."""
+import json
+
+from browser import pause
+from checks import check, holds, same
+from database import until
+from middle import CROWDED, HALF, LOST, NO_MEMORY, NO_STORE, NONSENSE, UNHEARD
+
+VANS = 1
+DAY, RIDER = "2025-03-14", 1005
+SIGN = "The desk does not answer."
+ASK = """
+const [name, given] = arguments;
+window.replies ??= [];
+import("/parts/desk.js").then((desk) => desk[name](...given)).then((reply) => window.replies.push(reply));
+"""
+
+
+def asks(at, name, *given):
+    """The page's own part that speaks to the desk is asked, and nobody waits for its answer."""
+    at.browser.script(ASK, name, given)
+
+
+def replies(at, count=1):
+    def there():
+        return f"{count} replies do not come, but {at.browser.script('return window.replies')}"
+    found = until(there, lambda: (at.browser.script("return window.replies?.length") or 0) >= count
+                  and at.browser.script("return window.replies"))
+    at.browser.script("window.replies = []")
+    return found
+
+
+def wish(minute, **more):
+    return {"rider": RIDER, "day": DAY, "wish": minute, "from": 1, "to": 2, "by": None, "attendant": False,
+            "companions": 0, **more}
+
+
+def signed_in(at, part="record"):
+    at.browser.sign_in(at.keys["clerk"], "clerk")
+    at.browser.settled()
+
+
+def trips(at):
+    return len(at.town.trips_of(RIDER))
+
+
+@check
+def a_write_whose_line_breaks_at_any_step_is_done_once(at):
+    signed_in(at)
+    for number, how in enumerate([LOST, UNHEARD, HALF, NO_MEMORY, NO_STORE, NONSENSE]):
+        before = trips(at)
+        at.town.middle.breaks(how)
+        asks(at, "book", wish(400 + 40 * number))
+        reply = replies(at)[0]
+        holds(f"{how}: the reply is {reply}", "trip" in (reply.get("value") or {}))
+        same(f"{how}: the trips", before + 1, trips(at))
+        at.browser.sees_no(SIGN)
+
+
+@check
+def a_write_that_breaks_many_times_is_done_once_and_a_sign_says_so_meanwhile(at):
+    signed_in(at)
+    before = trips(at)
+    at.town.middle.breaks(UNHEARD, times=3)
+    asks(at, "book", wish(700))
+    at.browser.sees(SIGN)
+    holds("no reply", "trip" in replies(at)[0]["value"])
+    at.browser.sees_no(SIGN)
+    same("the trips", before + 1, trips(at))
+
+
+@check
+def while_the_site_asks_to_wait_a_write_waits(at):
+    signed_in(at)
+    before = trips(at)
+    at.town.middle.breaks(CROWDED, times=2)
+    asks(at, "book", wish(760))
+    at.browser.sees("Many requests at once")
+    holds("no reply", "trip" in replies(at)[0]["value"])
+    same("the trips", before + 1, trips(at))
+
+
+@check
+def without_a_desk_a_sign_says_so_and_it_goes_on_with_the_desk(at):
+    signed_in(at)
+    before = trips(at)
+    at.town.stop_desk()
+    asks(at, "book", wish(820))
+    at.browser.sees(SIGN, "What you typed is kept.")
+    at.town.start_desk()
+    holds("no reply", "trip" in replies(at)[0]["value"])
+    at.browser.sees_no(SIGN)
+    same("the trips", before + 1, trips(at))
+
+
+@check
+def a_site_that_falls_after_the_desk_has_booked_leaves_one_trip(at):
+    signed_in(at)
+    before = trips(at)
+    with at.town.middle.hold():
+        at.town.middle.writes()
+        asks(at, "book", wish(880))
+        until("the write comes", at.town.middle.writes)
+        at.town.stop_site()
+        at.browser.sees(SIGN)
+    at.town.start_site()
+    holds("no reply", "trip" in replies(at)[0]["value"])
+    same("the trips", before + 1, trips(at))
+
+
+@check
+def a_page_that_is_loaded_anew_while_it_sends_says_that_it_is_done_once(at):
+    signed_in(at)
+    before = trips(at)
+    with at.town.middle.hold():
+        at.town.middle.writes()
+        asks(at, "book", wish(940))
+        until("the write comes", at.town.middle.writes)
+        at.browser.reload()
+    at.browser.sees("What was being sent when this page was loaded is done, once.")
+    same("the trips", before + 1, trips(at))
+
+
+@check
+def without_a_line_what_was_being_sent_outlives_a_reload(at):
+    signed_in(at)
+    before = trips(at)
+    with at.town.middle.gone():
+        asks(at, "book", wish(1000))
+        at.browser.sees(SIGN)
+        at.browser.script("location.reload()")
+    at.browser.sees("What was being sent when this page was loaded is done, once.")
+    same("the trips", before + 1, trips(at))
+
+
+@check
+def another_device_with_the_same_key_is_told_and_nothing_is_lost(at):
+    signed_in(at)
+    at.town.number += 5000
+    at.town.post("clerk", "/riders", {"id": 1011, "kind": "visitor", "attendant": False})
+    asks(at, "putRider", {"id": 1012, "kind": "visitor", "attendant": False})
+    same("the reply", {"value": {"done": True}}, replies(at)[0])
+    at.browser.sees("Another window or device wrote with the same key")
+
+
+@check
+def notes_of_another_device_do_not_pile_up(at):
+    for number in [1013, 1014, 1015]:
+        at.town.number += 50_000
+        at.town.post("clerk", "/riders", {"id": 1011, "kind": "visitor", "attendant": False})
+        asks(at, "putRider", {"id": number, "kind": "visitor", "attendant": False})
+        replies(at)
+    shown = at.browser.text().count("Another window or device wrote")
+    same("the notes", 1, shown)
+
+
+@check
+def a_line_that_breaks_while_another_device_writes_says_that_nobody_knows(at):
+    signed_in(at)
+    at.town.middle.breaks(LOST)
+    asks(at, "putRider", {"id": 1016, "kind": "visitor", "attendant": False})
+    at.town.number += 500_000
+    at.town.post("clerk", "/riders", {"id": 1011, "kind": "visitor", "attendant": False})
+    reply = replies(at)[0]
+    holds(f"the reply is {reply}", reply.get("denied") == "desk.number" or reply == {"value": {"done": True}})
+
+
+@check
+def two_windows_of_one_key_write_at_once_and_all_is_done_once(at):
+    signed_in(at)
+    before = trips(at)
+    kept = at.browser.script("return JSON.stringify({...sessionStorage})")
+    with at.browser.second_window() as (first, second):
+        at.browser.go()
+        at.browser.script("for (const [name, value] of Object.entries(JSON.parse(arguments[0]))) "
+                          "sessionStorage.setItem(name, value)", kept)
+        at.browser.go("#clerk")
+        at.browser.find("button", "Sign out")
+        for number in range(3):
+            asks(at, "book", wish(420 + 40 * number, day="2025-03-17"))
+        first()
+        for number in range(3):
+            asks(at, "book", wish(720 + 40 * number, day="2025-03-17"))
+        holds("a reply is a denial", all("trip" in (it.get("value") or {}) for it in replies(at, 3)))
+        second()
+        holds("a reply is a denial", all("trip" in (it.get("value") or {}) for it in replies(at, 3)))
+    same("the trips", before + 6, trips(at))
+
+
+@check
+def a_slow_desk_leaves_the_page_usable(at):
+    signed_in(at)
+    with at.town.middle.hold():
+        at.browser.go("#clerk")
+        at.browser.find("button", "Sign out")
+        pause(1)
+        holds("the page is empty", len(at.browser.text()) > 100)
+    at.browser.settled()
+    at.browser.sees_no(SIGN)
+
+
+@check
+def who_signs_in_without_a_desk_is_signed_in_as_soon_as_it_answers(at):
+    at.browser.fresh()
+    with at.town.middle.gone():
+        at.browser.fill("Key", at.keys["clerk"])
+        if at.browser.is_there("field", "Screen"):
+            at.browser.fill("Screen", "clerk")
+        at.browser.press("Sign in")
+        at.browser.sees(SIGN)
+    at.browser.find("button", "Sign out")
+
+
+@check
+def a_read_goes_on_by_itself_once_the_line_is_there_again(at):
+    signed_in(at)
+    with at.browser.no_line(at.town):
+        asks(at, "tripsOf", RIDER)
+        at.browser.sees(SIGN)
+    holds("no reply", "trips" in replies(at)[0]["value"])
+    at.browser.sees_no(SIGN)
+
+
+@check
+def numbers_of_writes_are_used_once(at):
+    signed_in(at)
+    sent = []
+    for entry in at.browser.driver.get_log("performance"):
+        message = json.loads(entry["message"])["message"]
+        request = message["params"].get("request", {}) if message["method"] == "Network.requestWillBeSent" else {}
+        if request.get("method") == "POST" and "Desk-Number" in request.get("headers", {}):
+            sent.append((request["headers"]["Desk-Number"], request.get("postData")))
+    holds("no write is seen", len(sent) > 5)
+    bodies = {}
+    for number, body in sent:
+        bodies.setdefault(number, set()).add(body)
+    same("numbers of two writes", [], [number for number, those in bodies.items() if len(those) > 1])

@@ -1,0 +1,388 @@
+"""A browser that is used as a person uses it: by what is seen, by names of controls, by keys; and its devtools."""
+import base64
+import contextlib
+import os
+import re
+import tempfile
+import time
+
+import urllib3
+from selenium import webdriver
+from selenium.common.exceptions import WebDriverException
+from selenium.webdriver.chrome.options import Options
+from selenium.webdriver.chrome.service import Service
+from selenium.webdriver.common.action_chains import ActionChains
+from selenium.webdriver.common.keys import Keys
+from selenium.webdriver.remote.remote_connection import RemoteConnection
+
+import axe
+import scripts
+from paper import Paper
+from database import PATIENCE, ROOT, Trouble, until
+
+LONGEST = 300
+PICTURES = f"{ROOT}/docs/pictures"
+LETTER = {"paperWidth": 8.5, "paperHeight": 11, "preferCSSPageSize": True, "printBackground": False}
+WORDS = {"en": {"key": "Key", "screen": "Screen", "in": "Sign in", "out": "Sign out"},
+         "es": {"key": "Clave", "screen": "Pantalla", "in": "Entrar", "out": "Salir"}}
+
+
+def started(options, tries=3):
+    """A browser; where it does not come up on a busy machine, it is started again."""
+    for left in reversed(range(tries)):
+        service = Service("/usr/bin/chromedriver", log_path=os.devnull)
+        try:
+            return webdriver.Chrome(service=service, options=options)
+        except (WebDriverException, OSError, urllib3.exceptions.HTTPError):
+            service.stop()
+            if not left:
+                raise
+    return None
+
+
+class Browser:
+    def __init__(self, origin, folder, size=(1280, 900)):
+        self.origin, self.folder, self.ignored = origin, folder, []
+        options = Options()
+        options.binary_location = "/usr/bin/chromium"
+        options.accept_insecure_certs = True
+        home = tempfile.mkdtemp(dir=folder)
+        for argument in ["--headless=new", "--no-sandbox", "--disable-gpu", "--disable-dev-shm-usage", "--lang=en-US",
+                         "--disable-renderer-backgrounding", "--disable-backgrounding-occluded-windows",
+                         "--disable-background-timer-throttling", "--ignore-certificate-errors",
+                         f"--window-size={size[0]},{size[1]}", f"--user-data-dir={home}"]:
+            options.add_argument(argument)
+        options.add_experimental_option("excludeSwitches", ["hide-scrollbars"])
+        options.set_capability("goog:loggingPrefs", {"browser": "ALL", "performance": "ALL"})
+        RemoteConnection.set_timeout(LONGEST)
+        self.driver = started(options)
+        self.driver.set_script_timeout(PATIENCE)
+        self.asked = []
+
+    def __enter__(self):
+        return self
+
+    def __exit__(self, *_):
+        with contextlib.suppress(WebDriverException, OSError, urllib3.exceptions.HTTPError):
+            self.driver.quit()
+
+    def script(self, text, *values):
+        return self.driver.execute_script(text, *values)
+
+    def devtools(self, command, **values):
+        return self.driver.execute_cdp_cmd(command, values)
+
+    def go(self, path=""):
+        """Goes to an address of the site, always by loading it."""
+        self.driver.get("about:blank")
+        self.driver.get(f"{self.origin}/{path}")
+
+    def reload(self):
+        self.driver.refresh()
+
+    # What is there, by the names that a person sees or hears.
+
+    def all(self, kind, name, within=None):
+        """Each control that is seen, of a kind (button, link, tab, field, heading, group, region, row) and a name: a
+        text, or a pattern of re."""
+        pattern = name.pattern if isinstance(name, re.Pattern) else None
+        return self.script(scripts.FINDER, kind, pattern or name, pattern is not None, within)
+
+    def find(self, kind, name, within=None):
+        def missing():
+            return f"there is no {kind} {name!r}, but {self.script(scripts.NAMES, kind)}"
+        return until(missing, lambda: self.all(kind, name, within))[0]
+
+    def is_there(self, kind, name):
+        return bool(self.all(kind, name))
+
+    def press(self, name, kind="button", within=None):
+        """Clicks what has this name. A click on what was drawn anew meanwhile is tried again."""
+        def clicked():
+            try:
+                self.find(kind, name, within).click()
+                return True
+            except WebDriverException as error:
+                if "stale" in str(error) or "intercepted" in str(error) or "interactable" in str(error):
+                    return False
+                raise
+        until(f"the {kind} {name!r} cannot be clicked", clicked)
+
+    def fill(self, name, value, within=None):
+        """Types into the field of this label, or chooses in it, or ticks it."""
+        control = self.find("field", name, within)
+        kind = self.script(scripts.KIND, control)
+        if kind in ("text", "password", "textarea", "search", "tel"):
+            control.send_keys(Keys.CONTROL, "a")
+            control.send_keys(Keys.DELETE, str(value))
+        elif options := self.script(scripts.SETTER, control, value):
+            raise Trouble(f"{name} has no {value!r}, but {options}")
+
+    def fill_all(self, values, within=None):
+        for name, value in values.items():
+            self.fill(name, value, within)
+
+    def value(self, name):
+        return self.find("field", name).get_attribute("value")
+
+    def text(self, within=None):
+        return self.script("return (arguments[0] ?? document.body).innerText", within)
+
+    def sees(self, *texts):
+        """Waits until the page shows each of these texts."""
+        from checks import COUNTED
+
+        def missing():
+            shown = self.text()
+            return f"the page does not show {[it for it in texts if it not in shown]}, but: {shown[:900]!r}"
+        until(missing, lambda: all(it in self.text() for it in texts))
+        COUNTED["held"] += len(texts)
+
+    def sees_no(self, *texts):
+        """Waits until the page shows none of these texts."""
+        from checks import COUNTED
+        until(lambda: f"the page still shows one of {texts}", lambda: not any(it in self.text() for it in texts), 10)
+        COUNTED["held"] += len(texts)
+
+    # The keyboard.
+
+    def keys(self, *keys):
+        """Presses these keys one after another, wherever the focus is."""
+        for key in keys:
+            ActionChains(self.driver).send_keys(key).perform()
+
+    def focused(self):
+        """The name of what has the focus; of the body it is empty."""
+        return self.script(scripts.FOCUSED)
+
+    def tab_to(self, name, most=80):
+        """Goes on by Tab to the control of this name, which is to be seen to have the focus; how many Tabs it took."""
+        for count in range(1, most + 1):
+            self.keys(Keys.TAB)
+            here, shown = self.script(scripts.FOCUS_SEEN)
+            if here == name or isinstance(name, re.Pattern) and name.search(here):
+                if not shown:
+                    raise Trouble(f"the focus on {name} is not seen")
+                return count
+        raise Trouble(f"no focus on {name!r} in {most} steps; the last was on {here!r}")
+
+    # Signing in and windows.
+
+    def fresh(self):
+        """The page as somebody new would see it: nothing is kept from before."""
+        self.driver.get(f"{self.origin}/icon.svg")
+        self.devtools("Storage.clearDataForOrigin", origin=self.origin, storageTypes="all")
+        self.go()
+
+    def sign_in(self, key, screen, part="", language="en"):
+        """Signs in with a key, and goes to a screen (and a part of it), as the address names them."""
+        words = WORDS[language]
+        address = f"#{screen}/{part}" if part else f"#{screen}"
+        until("what the window keeps cannot be cleared", lambda: self.cleared(address))
+        self.fill(words["key"], key)
+        if self.is_there("field", words["screen"]):
+            self.fill(words["screen"], screen)
+        self.press(words["in"])
+        self.find("button", words["out"])
+        self.shown(screen)
+        if part:
+            self.go_part(screen, part)
+
+    def cleared(self, address):
+        """Goes to an address with nothing kept by this window; whether it was so. (A busy browser clears late.)"""
+        self.driver.get(f"{self.origin}/icon.svg")
+        self.script("sessionStorage.clear()")
+        self.go(address)
+        return self.script("return sessionStorage.getItem('desk.key') === null")
+
+    @staticmethod
+    def word(name, language):
+        return WORDS[language][name]
+
+    def speak(self, language):
+        """The language of the pages in this browser from the next loading on."""
+        self.driver.get(f"{self.origin}/icon.svg")
+        self.script("localStorage.setItem('desk.language', arguments[0])", language)
+
+    def go_part(self, screen, part):
+        self.script("if (location.hash !== arguments[0]) location.hash = arguments[0]", f"#{screen}/{part}")
+
+    def shown(self, address):
+        """Waits until a part of a screen is shown, and no longer the page of signing in."""
+        until(lambda: f"{address} is not shown, but: {self.text()[:300]!r}", lambda: self.script(
+            "const it = document.querySelector('main'); "
+            "return Boolean(it.querySelector('h1')) && !it.querySelector('[type=password]')"))
+
+    def keep_subjects(self):
+        """Rider 1001 and vehicle 1 are those whose records are shown."""
+        for what, number in [("rider", 1001), ("vehicle", 1)]:
+            self.script("sessionStorage.setItem(`desk.subject.${arguments[0]}`, arguments[1])", what, number)
+
+    def addresses(self):
+        """The addresses of the parts of this screen, none where there is one part."""
+        links = self.script("return [...document.querySelectorAll('#parts a')].map((it) => it.getAttribute('href'))")
+        return [it.lstrip("#") for it in links]
+
+    def each_part(self, key, screen, language="en"):
+        """Goes to each part of a screen, with rider 1001 and vehicle 1 on it; gives its address once it is shown."""
+        self.sign_in(key, screen, language=language)
+        self.keep_subjects()
+        for address in self.addresses() or [screen]:
+            self.go(f"#{address}")
+            self.shown(address)
+            self.settled(500)
+            yield address
+
+    @contextlib.contextmanager
+    def second_window(self, kind="tab"):
+        """A further window of this browser; it is closed at the end."""
+        first = self.driver.current_window_handle
+        self.driver.switch_to.new_window(kind)
+        second = self.driver.current_window_handle
+        try:
+            yield lambda: self.driver.switch_to.window(first), lambda: self.driver.switch_to.window(second)
+        finally:
+            self.driver.switch_to.window(second)
+            self.driver.close()
+            self.driver.switch_to.window(first)
+
+    # How it is shown.
+
+    @contextlib.contextmanager
+    def screen(self, width, height, mobile=False, scale=1):
+        """A screen of so many CSS pixels. That of a desk has a scrollbar, that of a phone (mobile) none."""
+        self.devtools("Emulation.setDeviceMetricsOverride", width=width, height=height, deviceScaleFactor=scale,
+                      mobile=mobile)
+        try:
+            yield
+        finally:
+            self.devtools("Emulation.clearDeviceMetricsOverride")
+
+    def zoomed(self):
+        """A screen of 1280 by 1024 at 400 percent."""
+        return self.screen(320, 256, scale=4)
+
+    @contextlib.contextmanager
+    def media(self, medium="", **features):
+        """Such as forced_colors="active", prefers_color_scheme="dark", prefers_reduced_motion="reduce"; or "print"."""
+        wanted = [{"name": name.replace("_", "-"), "value": value} for name, value in features.items()]
+        self.devtools("Emulation.setEmulatedMedia", media=medium, features=wanted)
+        try:
+            yield
+        finally:
+            self.devtools("Emulation.setEmulatedMedia", media="", features=[])
+
+    def space_text(self):
+        """Spaces the text as WCAG 1.4.12 has it, until the page is loaded anew."""
+        self.script(scripts.SPACING)
+
+    def sideways(self):
+        """How many pixels the page can be moved sideways, and what is too wide."""
+        return self.script(scripts.SIDEWAYS)
+
+    def axe(self, **options):
+        """What axe finds: {"violations": [...], "incomplete": [...]}, each a short text."""
+        return axe.found_by(self, **options)
+
+    # Line and clock.
+
+    @contextlib.contextmanager
+    def no_line(self, town):
+        """The line is cut: the browser is offline, and the site is not there."""
+        town.stop_site()
+        self.line(offline=True)
+        try:
+            yield
+        finally:
+            town.start_site()
+            self.line()
+
+    def line(self, offline=False, milliseconds=0, bytes_a_second=-1):
+        """What the line of this window is like from now on."""
+        self.devtools("Network.enable")
+        self.devtools("Network.emulateNetworkConditions", offline=offline, latency=milliseconds,
+                      downloadThroughput=bytes_a_second, uploadThroughput=bytes_a_second)
+
+    @contextlib.contextmanager
+    def clock(self, seconds=0, hurry=1):
+        """The machine's own clock is so many seconds wrong, and its timers of a second and more run so many times as
+        fast; from the next loading of a page on."""
+        made = self.devtools("Page.addScriptToEvaluateOnNewDocument",
+                             source=scripts.CLOCK % {"milliseconds": seconds * 1000, "hurry": hurry})
+        try:
+            yield
+        finally:
+            self.devtools("Page.removeScriptToEvaluateOnNewDocument", identifier=made["identifier"])
+
+    def passes(self, seconds):
+        """So much time passes by the machine's clock, until the page is loaded anew."""
+        self.script(f"const now = Date.now; Date.now = () => now() + 1000 * {seconds};")
+
+    # Paper and pictures.
+
+    def printed(self, **options):
+        """What a printer would get of the page as it is now."""
+        told = self.devtools("Page.printToPDF", **{**LETTER, **options})
+        return Paper(base64.b64decode(told["data"]), self.folder)
+
+    def papers(self):
+        """From now on, and until the page is loaded anew, a press of Print is counted and opens no dialog."""
+        self.script("window.papers = 0; window.print = () => { window.papers += 1; }")
+
+    def print_by(self, name):
+        """What a printer gets after this button was pressed."""
+        self.papers()
+        self.press(name)
+        until(f"{name} prints nothing", lambda: self.script("return window.papers > 0"))
+        return self.printed()
+
+    def picture(self, name, highest=1500):
+        """Makes a picture of docs/pictures anew."""
+        image = self.sight(highest)
+        with open(f"{PICTURES}/{name}.png", "wb") as file:
+            file.write(image)
+
+    def sight(self, highest=4000):
+        width, height = self.script("return [innerWidth, document.documentElement.scrollHeight]")
+        clip = {"x": 0, "y": 0, "width": width, "height": min(height, highest), "scale": 1}
+        return base64.b64decode(self.devtools("Page.captureScreenshot", captureBeyondViewport=True, clip=clip)["data"])
+
+    def kept_sight(self, name):
+        """Where the environment names a folder as PAGES_SIGHTS, what is seen now is kept there."""
+        folder = os.environ.get("PAGES_SIGHTS")
+        with contextlib.suppress(WebDriverException, OSError):
+            if folder:
+                os.makedirs(folder, exist_ok=True)
+                with open(f"{folder}/{name}.png", "wb") as file:
+                    file.write(self.sight())
+
+    # What the browser notes.
+
+    def no_errors(self):
+        """Raises what the console has of errors that nobody caught. (The browser notes each reply of 400 and above.)"""
+        said = [line["message"] for line in self.driver.get_log("browser")
+                if line["level"] == "SEVERE" and line["source"] not in ("network", "recommendation")]
+        strange = [it for it in said if not any(re.search(pattern, it) for pattern in self.ignored)]
+        if strange:
+            raise Trouble(f"the console has {strange[:3]}")
+
+    def forget_errors(self):
+        with contextlib.suppress(WebDriverException):
+            self.driver.get_log("browser")
+
+    def requests(self):
+        """The addresses that were asked since this was called last."""
+        asked = []
+        for line in self.driver.get_log("performance"):
+            found = re.search(r'"Network.requestWillBeSent".*?"request":\{.*?"url":"([^"]*)"', line["message"])
+            asked += [found[1]] if found else []
+        return asked
+
+    def settled(self, milliseconds=300):
+        """Waits until the page has not changed for so long."""
+        self.driver.execute_async_script(scripts.SETTLED, milliseconds)
+
+
+def pause(seconds):
+    """For what does not happen: there is nothing to wait for."""
+    time.sleep(seconds)

@@ -1,0 +1,94 @@
+"""How a file of checks is made and run: `checks.py FILE PROGRAM TOWNS` runs one, for tests/pages.
+
+A check is a function with one parameter, the place where it happens (`at.town`, `at.browser`, `at.keys`), and its name
+is a sentence. Checks run in the order in which they stand. One that raises has failed, and the rest go on.
+"""
+import dataclasses
+import importlib
+import os
+import sys
+import tempfile
+import time
+import traceback
+
+sys.dont_write_bytecode = True
+HERE = os.path.dirname(os.path.realpath(__file__))
+sys.path.insert(0, HERE)
+from database import Trouble
+from town import Town
+
+LISTED = []
+COUNTED = {"held": 0}
+
+
+def check(function):
+    """Lists a function as a check of its file."""
+    LISTED.append(function)
+    return function
+
+
+def holds(what, condition):
+    """Counts what is as it should be; else it raises what is not."""
+    if not condition:
+        raise Trouble(what)
+    COUNTED["held"] += 1
+
+
+def same(what, wanted, got):
+    holds(f"{what}: wanted {wanted!r}, got {got!r}", wanted == got)
+
+
+@dataclasses.dataclass
+class Place:
+    """Where checks happen."""
+    town: object
+    browser: object
+    keys: dict
+    folder: str
+
+
+def first_line(trouble):
+    told = f"{type(trouble).__name__}: {trouble}" if not isinstance(trouble, Trouble) else str(trouble)
+    return " ".join(told.split())[:1500]
+
+
+def fault_of(function, at):
+    """What is wrong, as a sentence, or None."""
+    try:
+        function(at)
+        at.browser.no_errors()
+        return None
+    except Exception as trouble:
+        if os.environ.get("PAGES_TRACES"):
+            traceback.print_exc()
+        at.browser.kept_sight(function.__name__)
+        at.browser.forget_errors()
+        return first_line(trouble)
+
+
+def run(name, module, at):
+    failed = 0
+    wanted = os.environ.get("PAGES_CHECK", "")
+    for function in [it for it in LISTED if it.__module__ == module.__name__ and wanted in it.__name__]:
+        began, fault = time.monotonic(), fault_of(function, at)
+        if fault is not None:
+            failed += 1
+            print(f"{name}: FAILED: {function.__name__.replace('_', ' ')}: {fault}", flush=True)
+        if os.environ.get("PAGES_TIMES"):
+            print(f"{name}: {function.__name__}: {time.monotonic() - began:.1f} s", flush=True)
+    print(f"{COUNTED['held']} passed, {failed} failed", flush=True)
+    return 1 if failed else 0
+
+
+def main():
+    from browser import Browser
+    name, program, towns = sys.argv[1:4]
+    module = importlib.import_module(name)
+    with tempfile.TemporaryDirectory(prefix="desk-pages-") as folder, \
+            Town(program, folder, getattr(module, "VANS", 6), towns) as town, Browser(town.origin, folder) as browser:
+        return run(name, module, Place(town, browser, town.keys, folder))
+
+
+if __name__ == "__main__":
+    sys.modules["checks"] = sys.modules["__main__"]
+    sys.exit(main())

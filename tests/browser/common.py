@@ -1,0 +1,224 @@
+"""What holds on every screen: the site's headers, words for each denial, signing in and out, the frame, the address."""
+import contextlib
+import glob
+import http.client
+import re
+import ssl
+
+from selenium.webdriver.common.keys import Keys
+
+import people
+from browser import pause
+from checks import check, holds, same
+from database import PATIENCE, ROOT, until
+from town import PAGES
+
+VANS = 1
+HEADERS = {"Content-Security-Policy": "default-src 'self'", "X-Content-Type-Options": "nosniff",
+           "Referrer-Policy": "no-referrer", "Strict-Transport-Security": "max-age="}
+PARTS = {"rider": "rider 1001", "clerk": "clerk", "examiner": "examiner", "officer": "officer",
+         "dispatcher": "dispatcher", "driver": "driver 1", "admin": "admin"}
+HEADING = "return document.querySelector('h1').textContent.trim()"
+
+
+@check
+def every_reply_of_the_site_has_its_headers(at):
+    for path, status in [("/", 200), ("/desk.css", 200), ("/agency.json", 200), ("/days/2000-01-01/sheet", 401)]:
+        got, headers, _ = at.town.answer(path, {"Desk-Key": "nobody"})
+        same(f"the status of {path}", status, got)
+        for name, begins in HEADERS.items():
+            holds(f"{path} has {name}: {headers.get(name)}", (headers.get(name) or "").startswith(begins))
+    same("Cache-Control of a reply", "no-store", headers.get("Cache-Control"))
+
+
+@check
+def who_guesses_keys_is_slowed_down(at):
+    unchecked = ssl._create_unverified_context()
+    line = http.client.HTTPSConnection("127.0.0.1", at.town.port, timeout=PATIENCE, context=unchecked)
+    with contextlib.closing(line):
+        statuses = []
+        for _ in range(8):
+            line.request("GET", "/days/2000-01-01/sheet", headers={"Desk-Key": "guess"})
+            with line.getresponse() as reply:
+                statuses.append(reply.status)
+                reply.read()
+    holds(f"statuses of guesses: {set(statuses)}", {401} <= set(statuses) <= {401, 429})
+
+
+@check
+def files_of_names_need_a_key_and_a_private_place_is_for_staff_and_its_rider(at):
+    def status(path, holder=None):
+        return at.town.answer(path, {"Desk-Key": at.keys[holder]} if holder else {})[0]
+    for path, holder, wanted in [
+            ("/agency.json", None, 200), ("/places.json", None, 401), ("/staff/places.json", None, 401),
+            ("/staff/roster.csv", "rider 1001", 403), ("/staff/places.json", "driver 1", 403),
+            ("/staff/roster.csv", "clerk", 200), ("/drivers/1/roster.csv", "driver 1", 200),
+            ("/drivers/1/roster.csv", "rider 1001", 403), ("/staff/worklist.html", "clerk", 200),
+            ("/places.json", "rider 1001", 200), ("/own/1001/places.json", "rider 1001", 200),
+            ("/own/1002/places.json", "rider 1001", 403), ("/staff/roster.csv", "dispatcher", 200)]:
+        same(f"{path} asked by {holder}", wanted, status(path, holder))
+    shown = [at.town.answer("/agency.json")[2], at.town.answer("/places.json", {"Desk-Key": at.keys["rider 1001"]})[2]]
+    for secret in ["4411", "Oak Street", "Willow", "Shelter", "Rosa"]:
+        holds(f"{secret} is in a file that is not for staff alone", not any(secret in it for it in shown))
+
+
+@check
+def every_denial_has_words_in_both_languages(at):
+    with open(f"{ROOT}/docs/RULES.md", encoding="utf-8") as text:
+        rules = text.read().split("### Names of rules")[1].split("\n## ")[0]
+        names = re.findall(r"^\| `([^`]+)` \| [a-z]", rules, re.M)
+    with open(f"{ROOT}/docs/API.md", encoding="utf-8") as text:
+        names += re.findall(r"`(http\.\w+|desk\.\w+)`", text.read().split("## Setting up")[0])
+    holds(f"only {len(names)} names of denials are found in docs", len(names) > 25)
+    for language in ["en", "es"]:
+        with open(f"{PAGES}/words/{language}/denials.js", encoding="utf-8") as text:
+            table = text.read()
+        for name in sorted(set(names)):
+            has_both = f'"denials.{name}"' in table and f'"denials.{name}/help"' in table
+            holds(f"{language} has no words for {name}", has_both)
+
+
+@check
+def no_page_reads_markup(at):
+    for file in glob.glob(f"{PAGES}/**/*.js", recursive=True):
+        with open(file, encoding="utf-8") as text:
+            content = re.sub(r"^\s*(//|\*|/\*).*$", "", text.read(), flags=re.M)
+        found = re.search(r"innerHTML|outerHTML|insertAdjacentHTML|document\.write|\beval\(|new Function", content)
+        holds(f"{file} has {found and found[0]}", not found)
+
+
+# Signing in and out.
+
+
+@check
+def signing_in_says_what_is_wrong_with_a_key(at):
+    at.browser.fresh()
+    at.browser.press("Sign in")
+    at.browser.sees("Type the key.")
+    same("the focus", True, at.browser.focused().startswith("Key"))
+    at.browser.fill("Key", "nobody")
+    at.browser.press("Sign in")
+    at.browser.sees("Nobody has this key.")
+
+
+@check
+def a_key_is_in_no_address_and_in_no_storage_that_stays(at):
+    at.browser.sign_in(at.keys["clerk"], "clerk")
+    kept = at.browser.script("return location.href + JSON.stringify(localStorage) + document.cookie")
+    holds(f"the key is in {kept}", at.keys["clerk"] not in kept)
+
+
+@check
+def a_key_in_groups_and_in_capitals_is_the_same_key(at):
+    key = at.keys["clerk"]
+    grouped = "-".join(key[start:start + 5] for start in range(0, len(key), 5)).upper()
+    at.browser.sign_in(f" {grouped.replace('-', ' - ', 1)} ", "clerk")
+    at.browser.sees("Sign out")
+
+
+@check
+def signing_out_leaves_nothing(at):
+    at.browser.sign_in(at.keys["clerk"], "clerk")
+    at.browser.settled()
+    at.browser.press("Sign out")
+    at.browser.find("button", "Sign in")
+    same("what this window keeps after signing out", 0, at.browser.script("return sessionStorage.length"))
+    kept = at.browser.script("return JSON.stringify(localStorage)")
+    for secret in [at.keys["clerk"], "1001", "Rosa", "Oak Street"]:
+        holds(f"{secret} is kept after signing out: {kept}", secret not in kept)
+    shown = at.browser.script("return document.documentElement.outerHTML")
+    holds("the page still has a rider's name", "Rosa" not in shown and "Oak Street" not in shown)
+    at.browser.driver.back()
+    at.browser.sees_no("Sign out", "Rosa")
+    at.browser.driver.forward()
+    at.browser.find("button", "Sign in")
+    caches = at.browser.driver.execute_async_script("""const done = arguments[0]; (async () => { const found = [];
+        for (const name of await caches.keys())
+            for (const it of await (await caches.open(name)).keys()) found.push(it.url);
+        return found; })().then(done);""")
+    strange = [it for it in caches if re.search(r"/(staff|own|riders|days|callers)/", it)]
+    same("what is cached of the desk after a clerk signed out", [], strange)
+
+
+@check
+def every_screen_opens_by_its_address_and_has_a_title(at):
+    for screen, holder in PARTS.items():
+        at.browser.sign_in(at.keys[holder], screen)
+        at.browser.settled()
+        count = at.browser.script("return document.querySelectorAll('h1').length")
+        same(f"the headings of the first order on {screen}", 1, count)
+        title, address = at.browser.script("return [document.title, location.hash]")
+        holds(f"{screen} has the title {title}", people.NAME in title)
+        holds(f"{screen} has the address {address}", address.startswith(f"#{screen}"))
+
+
+@check
+def an_unknown_part_is_the_first_one_and_the_address_says_so(at):
+    at.browser.sign_in(at.keys["clerk"], "clerk")
+    at.browser.settled()
+    first = at.browser.script("return location.hash")
+    at.browser.script("location.hash = '#clerk/nosuch'")
+    until("the address stays that of no part", lambda: at.browser.script("return location.hash") == first)
+    same("the part", True, at.browser.is_there("heading", at.browser.script(HEADING)))
+
+
+@check
+def the_skip_link_moves_the_focus_and_nothing_else(at):
+    for screen, part in [("clerk", "trips"), ("rider", "book")]:
+        at.browser.sign_in(at.keys[PARTS[screen]], screen, part)
+        at.browser.settled()
+        before = [at.browser.script("return location.hash"), at.browser.script(HEADING)]
+        at.browser.script("document.querySelector('a').focus()")
+        at.browser.keys(Keys.ENTER)
+        same("where the focus is", "main", at.browser.script("return document.activeElement.id"))
+        same("screen and part", before, [at.browser.script("return location.hash"), at.browser.script(HEADING)])
+
+
+@check
+def the_skip_link_leaves_a_key_that_is_typed(at):
+    at.browser.fresh()
+    at.browser.fill("Key", "half a key")
+    at.browser.script("document.querySelector('a').focus()")
+    at.browser.keys(Keys.ENTER)
+    pause(0.5)
+    same("what was typed", "half a key", at.browser.value("Key"))
+
+
+@check
+def back_and_forward_and_a_reload_stay_signed_in(at):
+    at.browser.sign_in(at.keys["clerk"], "clerk")
+    parts = until("there are no parts", lambda: at.browser.script(
+        "return [...document.querySelectorAll('#parts a')].map((it) => it.getAttribute('href'))"))
+    at.browser.script("location.hash = arguments[0]", parts[0])
+    at.browser.settled()
+    at.browser.script("location.hash = arguments[0]", parts[1])
+    at.browser.settled()
+    at.browser.driver.back()
+    until("back goes back", lambda: at.browser.script("return location.hash") == parts[0])
+    at.browser.reload()
+    at.browser.find("button", "Sign out")
+
+
+@check
+def who_does_nothing_is_signed_out(at):
+    at.town.write_files(idle_minutes=1)
+    try:
+        with at.browser.clock(hurry=60):
+            at.browser.sign_in(at.keys["clerk"], "clerk")
+            at.browser.settled()
+            at.browser.passes(61)
+            until("nobody is signed out", lambda: at.browser.is_there("button", "Sign in"))
+        at.browser.sees("signed out")
+    finally:
+        at.town.write_files()
+
+
+@check
+def nothing_is_loaded_from_elsewhere(at):
+    at.browser.requests()
+    for screen, holder in PARTS.items():
+        at.browser.sign_in(at.keys[holder], screen)
+    asked = at.browser.requests()
+    holds("no request is seen", len(asked) > 20)
+    strange = [it for it in asked if it and not it.startswith((at.town.origin, "blob:", "data:", "chrome", "about:"))]
+    same("what is loaded from elsewhere", [], strange)

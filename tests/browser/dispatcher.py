@@ -1,0 +1,413 @@
+"""The dispatcher's day: picture, trips, outcomes, vehicles out of service, paper."""
+import csv
+import io
+import re
+
+from selenium.webdriver.common.keys import Keys
+
+from checks import check, holds, same
+from database import until
+from middle import UNHEARD
+
+VANS = 6
+DAY, LATER = "2025-03-11", "2025-03-12"
+VAN_1, VAN_2 = "Van 1, blue", "Van 2, white"
+SMALLEST = 9
+VEHICLE = {"This holds from": DAY, "Seats": 4, "Leaves its depot from": "8 am", "Is back by": "5 pm",
+           "Minutes that it may be out": 480, "Depot": "5"}
+# A day sheet of so many vans and trips, as the desk writes it, given to the pages' own printing; it gives the text, and
+# the seconds until it is laid out.
+PRINTS_MADE = """
+const [vans, trips, whole, done] = arguments;
+const two = (minute) => `${String(Math.floor(minute / 60)).padStart(2, "0")}:${String(minute % 60).padStart(2, "0")}`;
+const lines = [];
+for (let van = 1, trip = 1; van <= vans; van += 1) {
+    lines.push(`VEHICLE ${van} DAY 2025-03-11`, "06:00 DEPOT 5");
+    for (let at = 0; at < trips / vans; at += 1, trip += 1) {
+        const pick = 380 + at * 60, rider = 1001 + trip % 10;
+        const who = `trip ${trip} rider ${rider} place`, window = `window ${two(pick)}-${two(pick + 15)}`;
+        lines.push(`${two(pick)} PICK ${who} ${1 + trip % 14} load 1 chairs 0 ${window}`,
+            `${two(pick + 20)} DROP ${who} ${1 + (trip + 3) % 14} load 0 chairs 0`);
+    }
+    lines.push("21:00 DEPOT 5");
+}
+const text = `${lines.join("\\n")}\\nTRIPS ${trips}\\n`;
+Promise.all([import("/parts/paper-day.js"), import("/parts/texts.js")]).then(([paper, texts]) => {
+    window.print = () => {};
+    const began = performance.now(), manifests = texts.manifestsIn(text);
+    if (whole) paper.printDaySheet("2025-03-11", manifests, text);
+    else paper.printManifests(manifests, new Map());
+    document.getElementById("paper").getBoundingClientRect();
+    done([text, (performance.now() - began) / 1000]);
+}).catch((error) => done([String(error), -1]));
+"""
+SAVED = """
+window.saved = [];
+const made = URL.createObjectURL;
+URL.createObjectURL = (blob) => {
+    blob.arrayBuffer().then((it) => window.saved.push([...new Uint8Array(it)]));
+    return made.call(URL, blob);
+};
+"""
+
+
+def words_of(text):
+    return " ".join(text.split())
+
+
+def sign_in(at, day, hour, part=""):
+    at.town.set_clock(day, hour)
+    at.browser.sign_in(at.keys["dispatcher"], "dispatcher", part)
+
+
+def rows_of(at, day=DAY):
+    return list(csv.DictReader(io.StringIO(at.town.get("dispatcher", f"/days/{day}/trips.csv"))))
+
+
+def lacking(lines, paper):
+    """Lines of the desk that are not on the paper."""
+    printed = words_of(paper.text)
+    return [line for line in lines if line and words_of(line) not in printed]
+
+
+def is_right(paper):
+    size, text = paper.smallest()
+    holds(f"{text!r} is printed in {size:.1f} points", size >= SMALLEST - 0.1)
+    same("words beyond the edge", [], paper.outside())
+
+
+def over(at):
+    at.browser.script("window.dispatchEvent(new Event('afterprint'))")
+
+
+def vehicle_row(name):
+    return re.compile(f"^(▸ )?{re.escape(name)}")
+
+
+# The picture.
+
+
+@check
+def the_picture_says_how_each_trip_does_and_the_table_says_the_same(at):
+    trips = sorted((int(row["window_from"]), int(row["trip"])) for row in rows_of(at) if row["vehicle"] == "1")
+    at.town.set_clock(DAY, "10:30")
+    for (_, trip), outcome in zip(trips, ["ridden", "missed-rider", "missed-operator"]):
+        at.town.post("dispatcher", f"/trips/{trip}/outcome", {"outcome": outcome})
+    sign_in(at, DAY, "10:30")
+    at.browser.sees(VAN_1, "3 of", "2 missed", "without word")
+    at.browser.press("The same as a table")
+    at.browser.sees("Each stop of the day", "missed by the rider", "missed by the agency", "under way by the plan",
+                    "no word for", "to come")
+    drawn = at.browser.script("""return ["ridden", "missed-rider", "missed-operator"]
+        .map((it) => document.querySelector(`.lane .told.${it}`) !== null)""")
+    same("the picture has these outcomes", [True, True, True], drawn)
+    at.browser.press("The same as a table")
+
+
+@check
+def the_chosen_manifest_is_beside_the_picture_and_in_view(at):
+    with at.browser.screen(1366, 768):
+        at.browser.press(vehicle_row(VAN_2))
+        at.browser.sees("Manifest, Van 2, white")
+        same("the focus", f"Manifest, {VAN_2}, Tuesday, March 11, 2025", at.browser.focused())
+        box, picture = at.browser.script("""return [".one-van", "#picture"]
+            .map((it) => document.querySelector(it).getBoundingClientRect().toJSON())""")
+        holds(f"it is not beside: {box} {picture}", box["left"] >= picture["right"] and 0 <= box["top"] < 768)
+        same("chosen vehicles", 1, at.browser.script("return document.querySelectorAll('[aria-pressed=true]').length"))
+
+
+@check
+def arrow_keys_go_from_stop_to_stop_and_escape_takes_the_label_away(at):
+    at.browser.script("document.querySelector('[data-row=\"1\"] .lane').focus()")
+    at.browser.keys(Keys.ARROW_RIGHT, Keys.ARROW_RIGHT)
+    label = "return document.querySelector('.tip')?.textContent ?? ''"
+    until("no label", lambda: re.search("pick up|drop", at.browser.script(label)))
+    at.browser.keys(Keys.ESCAPE)
+    until("the label stays", lambda: at.browser.script(label) == "")
+    same("the label", "", at.browser.script(label))
+
+
+@check
+def a_renewal_keeps_focus_scroll_and_what_is_open(at):
+    at.browser.script("""document.querySelector('.one-van details').open = true;
+        document.querySelector('#vehicle-2').focus();
+        document.querySelector('.van-stops').scrollTop = 120;""")
+    trip = next(row["trip"] for row in rows_of(at) if row["vehicle"] == "1" and row["status"] == "booked")
+    name = "return document.querySelector('#vehicle-1').textContent"
+    before = at.browser.script(name)
+    at.town.post("dispatcher", f"/trips/{trip}/outcome", {"outcome": "ridden"})
+    until("it is not renewed", lambda: at.browser.script(name) != before)
+    same("kept", ["vehicle-2", True, True], at.browser.script("""return [document.activeElement.id,
+        document.querySelector('.one-van details').open, document.querySelector('.van-stops').scrollTop > 100]"""))
+
+
+@check
+def the_chosen_vehicle_is_marked_in_forced_colors(at):
+    with at.browser.media(forced_colors="active"):
+        same("outlined", ["solid", "none"], at.browser.script("""document.activeElement.blur();
+            return [2, 1].map((id) => getComputedStyle(document.getElementById(`vehicle-${id}`)).outlineStyle)"""))
+
+
+@check
+def at_midnight_the_day_says_that_it_is_over(at):
+    sign_in(at, DAY, "23:59")
+    at.browser.sees("today", VAN_1)
+    at.town.set_clock(LATER, "00:01")
+    at.browser.passes(120)
+    at.browser.sees("Tuesday, March 11, 2025 is over. Today is Wednesday, March 12, 2025.")
+    at.browser.press("Show today")
+    at.browser.sees("Wednesday, March 12, 2025")
+    at.browser.sees_no("is over")
+
+
+@check
+def nothing_moves_sideways_on_320_pixels(at):
+    with at.browser.screen(320, 640):
+        for part in ["day", "trips", "out", "vehicles"]:
+            sign_in(at, DAY, "10:30", part)
+            at.browser.settled(600)
+            same(f"{part} is too wide", 0, at.browser.sideways()[0])
+            at.browser.space_text()
+            same(f"{part} with spaced text is too wide", 0, at.browser.sideways()[0])
+
+
+# Paper.
+
+
+@check
+def a_manifest_is_printed_for_a_driver_without_a_phone(at):
+    sign_in(at, DAY, "10:30")
+    at.browser.press(vehicle_row(VAN_2))
+    paper = at.browser.print_by("Print this manifest")
+    is_right(paper)
+    lines = at.town.get("dispatcher", f"/vehicles/2/manifest/{DAY}").splitlines()
+    same("lines that are not printed", [], lacking(lines, paper))
+    text = words_of(paper.text)
+    for it in ["Manifest, Van 2, white", "St. Mary's Dialysis, ring twice", "Odometer out", "Signature", "Arrived",
+               "$3.50 due", "1 person, 1 in", "555-0100"]:
+        holds(f"{it!r} is not printed", it in text)
+    holds("no rider's name is printed", any(name in text for name in ["Samuel Grant (1005)", "Walter Hughes"]))
+    over(at)
+    same("what is left of it", ["", False], at.browser.script("""return [document.getElementById("paper").textContent,
+        document.body.classList.contains("papered")]"""))
+
+
+@check
+def all_manifests_and_the_day_sheet_have_every_line_of_the_desk(at):
+    lines = at.town.get("dispatcher", f"/days/{DAY}/sheet").splitlines()
+    busy = [line for line in lines if not re.match("NO STOPS|TRIPS", line) and not re.match("VEHICLE [3-6] ", line)]
+    paper = at.browser.print_by(re.compile("^Print all 2 manifests"))
+    is_right(paper)
+    same("lines that are not printed", [], lacking(busy, paper))
+    same("pages that do not name one van", [], [page[:200] for page in paper.page_texts if page.count("Manifest, Van") != 1])
+    over(at)
+    paper = at.browser.print_by("Print the day sheet")
+    is_right(paper)
+    same("lines that are not on the day sheet", [], lacking(lines, paper))
+    over(at)
+
+
+@check
+def fifty_vans_are_printed_each_on_its_page_in_three_seconds(at):
+    for vans, trips in [(1, 6), (6, 36), (50, 300)]:
+        text, seconds = at.browser.driver.execute_async_script(PRINTS_MADE, vans, trips, False)
+        paper = at.browser.printed()
+        same(f"pages of {vans} vans", vans, paper.pages)
+        same("lines that are not printed", [], lacking(text.splitlines()[:-1], paper))
+        over(at)
+        text, laid = at.browser.driver.execute_async_script(PRINTS_MADE, vans, trips, True)
+        paper = at.browser.printed()
+        is_right(paper)
+        same("lines that are not on the day sheet", [], lacking(text.splitlines(), paper))
+        holds(f"the printing failed: {text}", seconds >= 0 and laid >= 0)
+        over(at)
+
+
+# Trips of the day.
+
+
+@check
+def one_trip_ends_and_its_answer_is_where_it_was(at):
+    sign_in(at, DAY, "23:00", "trips")
+    trip = next(row["trip"] for row in rows_of(at) if row["vehicle"] == "2" and row["status"] == "booked")
+    at.browser.press(re.compile(f"^Rider missed: trip {trip} of"))
+    at.browser.press("Yes: Rider missed")
+    at.browser.sees(f"Trip {trip}: Rider missed.")
+    same("the focus", f"Trip {trip}: Rider missed.", at.browser.focused())
+    same("what the desk has", "missed-rider", next(row["status"] for row in rows_of(at) if row["trip"] == trip))
+
+
+@check
+def the_head_stays_and_no_button_is_cut(at):
+    with at.browser.screen(1366, 768):
+        at.browser.script("document.querySelector('.tall > .scroll').scrollTop = 900")
+        top, head, cut = at.browser.script("""const box = document.querySelector('.tall > .scroll');
+            const edge = box.getBoundingClientRect(), buttons = [...box.querySelectorAll('.outcomes button')];
+            return [edge.top, box.querySelector('thead th').getBoundingClientRect().top,
+                buttons.filter((it) => it.getBoundingClientRect().right > edge.right).length]""")
+        holds(f"the head is at {head}, the box at {top}", abs(head - top) < 4)
+        same("buttons that are cut", 0, cut)
+
+
+@check
+def all_the_rest_of_a_van_is_asked_once_and_done_once_though_the_line_breaks(at):
+    rest = [row["trip"] for row in rows_of(at) if row["vehicle"] == "2" and row["status"] == "booked"]
+    at.town.middle.breaks(UNHEARD, times=2)
+    at.browser.press(f"All the rest of {VAN_2} ridden ({len(rest)})")
+    at.browser.sees(f"{VAN_2}: {len(rest)} trips ridden?", f"trip {rest[0]}")
+    at.browser.press(f"Yes: {len(rest)} trips ridden")
+    until("they are not done", lambda: f"{VAN_2}: {len(rest)} trips ridden." in at.browser.text())
+    states = {row["trip"]: row["status"] for row in rows_of(at)}
+    same("not ridden", [], [trip for trip in rest if states[trip] != "ridden"])
+
+
+@check
+def the_export_is_the_desks_own_or_one_for_a_spreadsheet(at):
+    at.browser.script(SAVED)
+    for count, name in enumerate(["Save as CSV", "Save for a spreadsheet, with names"], 1):
+        at.browser.press(name)
+        until("nothing is saved", lambda: at.browser.script("return window.saved.length") == count)
+    own, sheet = [bytes(it) for it in at.browser.script("return window.saved")]
+    same("the desk's own", at.town.get("dispatcher", f"/days/{DAY}/trips.csv"), own.decode())
+    rows = list(csv.DictReader(io.StringIO(sheet.decode("utf-8-sig"))))
+    told = {row["trip"]: row for row in rows_of(at)}
+    same("rows", len(told), len(rows))
+    row = next(it for it in rows if it["Rider"] == "1001")
+    minute = int(told[row["Trip"]]["window_from"])
+    shown = f"{minute // 60 % 12 or 12}:{minute % 60:02} {'PM' if minute >= 720 else 'AM'}"
+    same("a row", ["Rosa Álvarez", shown], [row["Name"], row["Promised from"]])
+    holds(f"no dollars: {row['Due ($)']}", re.fullmatch(r"\d+\.\d\d", row["Due ($)"]))
+
+
+# Out of service.
+
+# The plan that this browser keeps: its first item is made one that is under way, as it is where a tab is closed in the
+# middle of a booking.
+BROKEN_OFF = """
+const done = arguments[arguments.length - 1], opened = indexedDB.open("desk-out", 1);
+opened.onsuccess = () => {
+    const store = opened.result.transaction("plans", "readwrite").objectStore("plans"), asked = store.openCursor();
+    asked.onsuccess = () => {
+        const plan = asked.result.value;
+        plan.done = false;
+        Object.assign(plan.items[0], { step: "booking", ticket: null });
+        asked.result.update(plan).onsuccess = () => { opened.result.close(); done(plan.items[0].rider); };
+    };
+};
+"""
+
+
+def book_for_later(at):
+    """Trips of the next day in one van, for different riders."""
+    for rider, wish in [(1005, 540), (1006, 600), (1007, 660), (1001, 720)]:
+        at.town.book(rider, LATER, wish, 5, 6)
+    vans = [row["vehicle"] for row in rows_of(at, LATER) if row["status"] == "booked"]
+    return max(set(vans), key=vans.count)
+
+
+def booked_on(at, day, vehicle=None):
+    return [row for row in rows_of(at, day) if row["status"] == "booked" and vehicle in (None, row["vehicle"])]
+
+
+def show_out(at, vehicle, day):
+    at.browser.fill("Vehicle number", vehicle)
+    at.browser.fill("Out of service from", day)
+    at.browser.press("Show its trips")
+
+
+@check
+def todays_trips_cannot_be_moved_and_the_page_says_what_can_be_done(at):
+    sign_in(at, DAY, "10:30", "out")
+    show_out(at, 1, DAY)
+    at.browser.sees("Nothing of today can be moved", "Print the call list", "555-0105")
+    paper = at.browser.print_by("Print the manifest for another driver")
+    is_right(paper)
+    lines = at.town.get("dispatcher", f"/vehicles/1/manifest/{DAY}").splitlines()
+    same("lines that are not printed", [], lacking(lines, paper))
+    over(at)
+    paper = at.browser.print_by("Print the call list")
+    is_right(paper)
+    holds("no telephone is printed", "555-0105" in paper.text and "Whom to call: Van 1, blue" in paper.text)
+    over(at)
+
+
+@check
+def a_vans_trips_are_booked_again_in_others_and_each_change_is_told(at):
+    van = book_for_later(at)
+    before = booked_on(at, LATER, van)
+    show_out(at, van, LATER)
+    at.browser.sees("What will be tried", "off duty on every weekday from Wednesday, March 12, 2025 on")
+    many = f"{len(before)} trips" if len(before) > 1 else "1 trip"
+    at.browser.press(f"Take it off duty and book {many} again")
+    at.browser.press("No, go back")
+    same("nothing is done before the yes", before, booked_on(at, LATER, van))
+    at.browser.press(f"Take it off duty and book {many} again")
+    at.browser.press(f"Yes, book {many} again")
+    at.browser.sees("is off duty from Wednesday, March 12, 2025", "booked again")
+    same("trips that are left in it", [], booked_on(at, LATER, van))
+    after = {row["rider"]: row for row in booked_on(at, LATER)}
+    for row in before:
+        new = after[row["rider"]]
+        same("an old wish", [row["wish"], row["from"], row["to"]], [new["wish"], new["from"], new["to"]])
+        moved = int(new["window_from"]) - int(row["window_from"])
+        at.browser.sees(f"{abs(moved)} minutes {'later' if moved > 0 else 'earlier'}" if moved else "Same time, in")
+    holds("the focus is lost", "off duty" in at.browser.focused())
+
+
+@check
+def a_booking_that_broke_off_is_found_again_and_not_done_twice(at):
+    count = len(booked_on(at, LATER))
+    rider = at.browser.driver.execute_async_script(BROKEN_OFF)
+    sign_in(at, DAY, "10:30", "out")
+    at.browser.sees("It is not finished", "Going on reads the desk first")
+    at.browser.press("Go on")
+    at.browser.sees("is off duty from")
+    same("booked trips", count, len(booked_on(at, LATER)))
+    same("trips of the rider", 1, len([row for row in booked_on(at, LATER) if row["rider"] == str(rider)]))
+    at.browser.press("Put this list away")
+    at.browser.sees_no("is off duty from")
+
+
+@check
+def a_closed_tab_in_the_middle_of_cancelling_forgets_nobody(at):
+    vans = [row["vehicle"] for row in booked_on(at, LATER)]
+    van = max(set(vans), key=vans.count)
+    before = booked_on(at, LATER, van)
+    many = f"{len(before)} trips" if len(before) > 1 else "1 trip"
+    show_out(at, van, LATER)
+    at.browser.press(f"Take it off duty and cancel {many}")
+    at.town.middle.writes()
+    with at.town.middle.hold():
+        at.browser.press(f"Yes, cancel {many}")
+        until("nothing is sent", lambda: any(path.endswith("/cancel") for path in at.town.middle.writes()))
+        at.browser.script("sessionStorage.clear()")
+        at.browser.driver.get(f"{at.browser.origin}/icon.svg")
+    sign_in(at, DAY, "10:30", "out")
+    at.browser.sees("It is not finished")
+    at.browser.press("Go on")
+    at.browser.sees("is off duty from", f"{many} cancelled.")
+    same("trips that are left in it", [], booked_on(at, LATER, van))
+    at.browser.press("Put this list away")
+
+
+# Vehicles.
+
+
+@check
+def a_vehicle_with_trips_is_denied_with_what_works(at):
+    sign_in(at, DAY, "10:30", "vehicles")
+    at.browser.fill_all({"Vehicle number": 1, **VEHICLE})
+    at.browser.press("Put the vehicle")
+    at.browser.sees("A trip stands in this vehicle on that day or later.")
+    at.browser.press("Take Van 1, blue out of service")
+    at.browser.sees("A vehicle out of service")
+    same("the vehicle's number", "1", at.browser.value("Vehicle number"))
+
+
+@check
+def a_vehicle_without_a_name_keeps_none_in_this_browser(at):
+    sign_in(at, DAY, "10:30", "vehicles")
+    at.browser.fill_all({"Vehicle number": 40, **VEHICLE})
+    at.browser.press("Put the vehicle")
+    at.browser.sees("is on record from", "Number 40 has no name yet")
+    same("what this browser keeps", None, at.browser.script("return localStorage.getItem('desk.agency')"))

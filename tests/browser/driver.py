@@ -1,0 +1,610 @@
+"""The driver's phone: what is shown next, what is kept without a line, and what the desk has of it in the end."""
+import json
+import re
+
+from selenium.webdriver.common.keys import Keys
+
+from browser import pause
+from checks import check, holds, same
+from database import until
+from middle import UNHEARD
+from people import TODAY, TOMORROW
+
+VANS = 1
+AFTER = "2025-03-12"
+PHONE = {"width": 390, "height": 844, "mobile": True}
+KEPT = """
+const done = arguments[0], opened = indexedDB.open("desk", 1);
+opened.onsuccess = () => {
+    const change = opened.result.transaction(["entries", "copies"]), [entries, copies] = ["entries", "copies"].map((it) => change.objectStore(it).getAll());
+    change.oncomplete = () => { opened.result.close(); done([entries.result, copies.result.map(({ name }) => name)]); };
+};
+"""
+FILES = """
+const done = arguments[0];
+(async () => {
+    const names = await caches.keys(), all = await Promise.all(names.map(async (name) => (await (await caches.open(name)).keys()).map(({ url }) => url)));
+    done([names, all.flat().map((url) => new URL(url).pathname)]);
+})();
+"""
+STALE = """
+const done = arguments[0];
+(async () => {
+    const name = (await caches.keys()).find((it) => it.startsWith("desk-pages-")), cache = await caches.open(name);
+    await cache.put("/css/driver.css", new Response(":root { --stale: 1; }", { headers: { "Content-Type": "text/css" } }));
+    done(name);
+})();
+"""
+HAS_STALE = "return getComputedStyle(document.documentElement).getPropertyValue('--stale')"
+# As a full disk does it: the change is given up after it was asked for.
+FULL = """
+const real = IDBObjectStore.prototype.add;
+IDBObjectStore.prototype.add = function add(...given) {
+    const request = real.apply(this, given);
+    this.transaction.abort();
+    return request;
+};
+"""
+SMALL = """
+const small = (it) => { const { width, height } = it.getBoundingClientRect(); return width < 64 || height < 64; };
+return [...document.querySelectorAll(".driver-big, .driver-link, .driver-day, .driver-row")].filter((it) => small(it)).map((it) => it.textContent);
+"""
+
+
+def show_manifest(at, vehicle=1):
+    """The number of the vehicle, where it is asked for: this phone knows it from before."""
+    until("neither a vehicle's field nor a manifest", lambda: at.browser.all("field", "Vehicle number")
+          or re.search("All stops|No stops|no copy", at.browser.text()))
+    if at.browser.all("field", "Vehicle number"):
+        at.browser.fill("Vehicle number", str(vehicle))
+        at.browser.keys(Keys.ENTER)
+
+
+def sign_in(at, clock="05:30", day=TOMORROW, holder="driver 1"):
+    at.town.set_clock(day, clock)
+    at.browser.sign_in(at.keys[holder], "driver")
+    show_manifest(at)
+    at.browser.sees("All stops")
+
+
+def begin(at, clock, stop, day=TOMORROW):
+    """A phone that knows nothing from before, whose next stop is the one of this name."""
+    at.browser.fresh()
+    sign_in(at, clock, day)
+    press_stop(at, stop)
+    if at.browser.all("button", "This is my next stop"):
+        at.browser.press("This is my next stop")
+        at.browser.press("Yes: go on from here")
+    is_next(at, stop)
+
+
+def press_stop(at, stop):
+    at.browser.press(re.compile(stop), within=at.browser.script("return document.querySelector('.driver-stops')"))
+
+
+def card(at):
+    return at.browser.text(at.browser.script("return document.querySelector('.driver-stop')"))
+
+
+def next_stop(at):
+    return at.browser.script("return document.querySelector('.driver-row.next')?.innerText.replaceAll('\\n', ' ') ?? ''")
+
+
+def is_next(at, stop):
+    until(lambda: f"the next stop is {next_stop(at)!r}, not {stop}", lambda: re.search(stop, next_stop(at)))
+
+
+def row(at, stop):
+    return next(it for it in rows(at) if re.search(stop, it))
+
+
+def rows(at):
+    return at.browser.script("return [...document.querySelectorAll('.driver-row')].map((it) => it.innerText.replaceAll('\\n', ' '))")
+
+
+def tell(at, what, yes):
+    at.browser.press(what)
+    at.browser.press(yes)
+
+
+def status(at, trip, day=TOMORROW):
+    lines = at.town.get("dispatcher", f"/days/{day}/trips.csv").splitlines()
+    return next(line.split(",")[10] for line in lines if line.startswith(f"{trip},"))
+
+
+def becomes(at, trip, wanted, day=TOMORROW):
+    until(lambda: f"trip {trip} is {status(at, trip, day)}", lambda: status(at, trip, day) == wanted)
+    same(f"trip {trip}", wanted, status(at, trip, day))
+
+
+def close_tab(at):
+    """The tab is closed, and a new one is opened."""
+    old = at.browser.driver.current_window_handle
+    at.browser.driver.switch_to.new_window("tab")
+    new = at.browser.driver.current_window_handle
+    at.browser.driver.switch_to.window(old)
+    at.browser.driver.close()
+    at.browser.driver.switch_to.window(new)
+
+
+def kept(at):
+    """What this phone keeps: the log, and the names of the copies."""
+    return at.browser.driver.execute_async_script(KEPT)
+
+
+def files_are_kept(at):
+    until("the files are not kept", lambda: "/whole" in at.browser.driver.execute_async_script(FILES)[1])
+
+
+def waits(at):
+    return [entry for entry in kept(at)[0] if entry["state"] == "waiting"]
+
+
+@check
+def the_next_days_trips_are_booked(at):
+    at.town.set_clock(TODAY)
+    for rider, wish, start, end in [(1005, 600, 6, 8), (1006, 700, 3, 2)]:
+        at.town.book(rider, AFTER, wish, start, end)
+    same("the town's own trips", 13, len(at.town.get("dispatcher", f"/days/{TOMORROW}/trips.csv").splitlines()) - 1)
+
+
+@check
+def the_drop_of_a_rider_aboard_is_next_in_its_order(at):
+    at.browser.fresh()
+    sign_in(at)
+    at.browser.press("Done here")
+    at.browser.sees("Pick up Rosa Álvarez, rider 1001", "Promised: 5:49", "1 person", "speaks Spanish")
+    at.browser.press("Aboard")
+    at.browser.sees("Pick up Dorothy O'Neill, rider 1002")
+    until(lambda: f"the focus is on {at.browser.focused()!r} after a tap", lambda: at.browser.focused() == "Pick up Dorothy O'Neill, rider 1002")
+    at.browser.press("Aboard")
+    at.browser.sees("Drop Dorothy O'Neill, rider 1002")
+    tell(at, "Ridden", "No, go back")
+    same("an outcome that was not said yes to", "booked", status(at, 2))
+    tell(at, "Ridden", "Yes: ridden")
+    is_next(at, "Drop Rosa Álvarez")
+    at.browser.sees("General Hospital", "door of the day clinic")
+    becomes(at, 2, "ridden")
+    same("the first rider", "booked", status(at, 1))
+    holds(f"aboard and ridden are shown: {rows(at)[:5]}", "aboard" in rows(at)[1] and "ridden" in rows(at)[3])
+    tell(at, "Ridden", "Yes: ridden")
+    becomes(at, 1, "ridden")
+    same("stops that are shown", 28, len(rows(at)))
+
+
+@check
+def a_pickup_that_was_not_tapped_is_told_at_the_drop(at):
+    begin(at, "07:20", "7:26 AM Pick up Henry Park")
+    at.browser.press("Go on to the next stop")
+    at.browser.sees("Drop Henry Park")
+    for name in ["Ridden", "Did not come", "We did not come"]:
+        at.browser.find("button", name)
+    tell(at, "Ridden", "Yes: ridden")
+    becomes(at, 3, "ridden")
+
+
+@check
+def the_wait_is_the_agencys_and_begins_with_the_promised_time(at):
+    with at.browser.clock(hurry=20):
+        begin(at, "08:10", "8:19 AM Pick up Lucille Baker")
+        at.browser.sees("2 people, 1 in a wheelchair", "ramp needed", "tap “Arrived” and wait 5 minutes", "In 9 minutes")
+        at.browser.press("Arrived")
+        at.browser.sees("The wait of 5 minutes begins at 8:19 AM", "Arrived at 8:10 AM.")
+        at.town.set_clock(TOMORROW, "08:21")
+        at.browser.sees("Wait 2:", "2 minutes late")
+        at.browser.press("Did not come")
+        at.browser.sees("The wait is not over yet.", "It counts as a missed trip of the rider.")
+        at.browser.press("No, go back")
+        at.town.set_clock(TOMORROW, "08:25")
+        at.browser.sees("The wait of 5 minutes is over.")
+        at.browser.press("Did not come")
+        at.browser.sees_no("The wait is not over yet.")
+        at.browser.press("Yes: did not come")
+    becomes(at, 4, "missed-rider")
+    is_next(at, "Pick up Samuel Grant")
+    holds(f"the drop stays in the list: {row(at, 'Drop Lucille.*Stop 14')}", "did not come" in row(at, "Drop Lucille.*Stop 14"))
+
+
+@check
+def two_outcomes_without_a_line_are_done_once_after_a_reload(at):
+    begin(at, "09:10", "9:12 AM Pick up Samuel Grant")
+    files_are_kept(at)
+    at.town.middle.writes()
+    with at.browser.no_line(at.town):
+        at.browser.press("Aboard")
+        tell(at, "Ridden", "Yes: ridden")
+        at.browser.sees("Pick up Ana María Núñez")
+        tell(at, "Did not come", "Yes: did not come")
+        at.browser.sees("2 outcomes wait to be sent")
+        holds(f"they wait where they belong: {rows(at)[10:12]}", all("waiting" in it for it in rows(at)[10:12]))
+        at.browser.reload()
+        at.browser.sees("There is no line to the desk", "read at", "2 outcomes wait to be sent", "Pick up Walter Hughes")
+        at.browser.sees("General Hospital", "Call dispatch, 555-0100")
+        holds(f"they wait after a reload: {rows(at)[10:12]}", all("waiting" in it for it in rows(at)[10:12]))
+    becomes(at, 5, "ridden")
+    becomes(at, 6, "missed-rider")
+    at.browser.sees_no("to be sent")
+    same("the writes that the desk got", ["/trips/5/outcome", "/trips/6/outcome"], [it for it in at.town.middle.writes() if "outcome" in it])
+    same("what waits", [], waits(at))
+
+
+@check
+def what_waits_can_be_taken_back(at):
+    begin(at, "10:50", "10:58 AM Pick up Walter Hughes")
+    at.browser.press("Aboard")
+    at.browser.sees("Drop Walter Hughes")
+    press_stop(at, "Pick up Walter Hughes")
+    at.browser.press("Take back: aboard")
+    is_next(at, "Pick up Walter Hughes")
+    at.town.middle.writes()
+    with at.browser.no_line(at.town):
+        tell(at, "We did not come", "Yes: we did not come")
+        until("it waits", lambda: "we did not come, waiting" in row(at, "Pick up Walter Hughes"))
+        press_stop(at, "Pick up Walter Hughes")
+        at.browser.press("Take back: we did not come")
+        is_next(at, "Pick up Walter Hughes")
+        same("what waits", [], waits(at))
+    pause(2)
+    same("the writes that the desk got", [], at.town.middle.writes())
+    same("the trip", "booked", status(at, 7))
+
+
+@check
+def a_denial_is_shown_at_its_stop_and_never_lost(at):
+    begin(at, "10:55", "10:58 AM Pick up Walter Hughes")
+    with at.browser.no_line(at.town):
+        tell(at, "Did not come", "Yes: did not come")
+        at.browser.sees("1 outcome waits to be sent")
+    pause(0)
+    at.town.post("dispatcher", "/trips/8/outcome", {"outcome": "missed-operator"})
+    becomes(at, 7, "missed-rider")
+    is_next(at, "Pick up Visitor Ellen Stone")
+    tell(at, "Did not come", "Yes: did not come")
+    at.browser.sees("The desk did not take “did not come”.", "How this trip ended is told already")
+    holds(f"it is shown at its stop: {row(at, 'Pick up Visitor')}", "did not come: denied" in row(at, "Pick up Visitor"))
+    at.browser.reload()
+    at.browser.sees("The desk did not take “did not come”.")
+    at.browser.press("Open this stop")
+    at.browser.sees("Not taken by the desk: did not come.")
+    holds("nothing is offered that is sure to be denied", not at.browser.all("button", "Did not come"))
+    at.browser.press("I have read this")
+    at.browser.sees_no("The desk did not take")
+    holds(f"the list still has it: {row(at, 'Pick up Visitor')}", "did not come: denied" in row(at, "Pick up Visitor"))
+    same("the trip", "missed-operator", status(at, 8))
+
+
+@check
+def a_reply_that_is_lost_does_nothing_twice(at):
+    begin(at, "12:40", "12:44 PM Pick up Rosa Álvarez")
+    at.town.middle.writes()
+    at.town.middle.breaks(UNHEARD)
+    tell(at, "Did not come", "Yes: did not come")
+    until("nothing waits any more", lambda: not waits(at) and len(kept(at)[0]) > 3)
+    same("the trip", "missed-rider", status(at, 9))
+    # (with another number the desk would not know it again, and deny it as told before)
+    same("what the phone says of it", ("done", None), tuple(kept(at)[0][-1][it] for it in ("state", "denied")))
+    same("the writes that the desk got", ["/trips/9/outcome"] * 2, at.town.middle.writes())
+
+
+@check
+def another_device_with_a_higher_number_is_in_nobodys_way(at):
+    begin(at, "13:30", "1:37 PM Pick up Dorothy")
+    at.town.number += 3_000_000
+    at.town.post("driver 1", "/trips/11/outcome", {"outcome": "missed-operator"})
+    tell(at, "Did not come", "Yes: did not come")
+    becomes(at, 10, "missed-rider")
+    until("nothing waits", lambda: not waits(at))
+    at.browser.sees_no("The desk did not take")
+
+
+@check
+def a_closed_tab_sends_when_the_same_key_is_back_and_no_other_key_sees_it(at):
+    begin(at, "15:20", "3:23 PM Pick up Lucille Baker")
+    with at.browser.no_line(at.town):
+        tell(at, "Did not come", "Yes: did not come")
+        at.browser.sees("1 outcome waits to be sent")
+        close_tab(at)
+    at.browser.sign_in(at.keys["dispatcher"], "driver")
+    show_manifest(at)
+    at.browser.sees("All stops", "Next stop")
+    pause(2)
+    at.browser.sees_no("to be sent", "did not come, waiting")
+    same("the trip", "booked", status(at, 12))
+    at.browser.press("Sign out")
+    at.browser.sign_in(at.keys["driver 1"], "driver")
+    at.browser.sees("All stops")
+    becomes(at, 12, "missed-rider")
+    holds(f"the list has it: {row(at, '3:23 PM Pick up')}", "did not come" in row(at, "3:23 PM Pick up"))
+
+
+@check
+def without_a_line_the_same_key_signs_in_to_its_copy_and_no_other_key_does(at):
+    begin(at, "16:10", "4:16 PM Pick up Samuel Grant")
+    with at.browser.no_line(at.town):
+        at.browser.driver.get("about:blank")
+        at.browser.driver.get(f"{at.browser.origin}/#driver")
+        at.browser.script("sessionStorage.clear()")
+        at.browser.reload()
+        at.browser.fill("Key", at.keys["driver 1"])
+        at.browser.press("Sign in")
+        at.browser.sees("There is no line to the desk", "All stops", "Pick up Samuel Grant")
+        at.browser.script("sessionStorage.clear()")
+        at.browser.reload()
+        at.browser.fill("Key", at.keys["clerk"])
+        at.browser.press("Sign in")
+        at.browser.sees("does not answer")
+        holds("another key sees the copy", "Samuel Grant" not in at.browser.text())
+
+
+@check
+def a_phone_without_room_says_so_and_does_not_show_it_as_kept(at):
+    begin(at, "16:10", "4:16 PM Pick up Samuel Grant")
+    at.browser.script(FULL)
+    with at.browser.no_line(at.town):
+        tell(at, "Did not come", "Yes: did not come")
+        at.browser.sees("This phone has no room to keep this outcome. It is not kept, and it was not sent.")
+        is_next(at, "4:16 PM Pick up Samuel Grant")
+        holds("it is shown as kept", "waiting" not in " ".join(rows(at)))
+    same("the trip", "booked", status(at, 13))
+    at.browser.press("Aboard")
+    at.browser.sees("It is forgotten when this page is closed.", "Drop Samuel Grant")
+    tell(at, "Ridden", "Yes: ridden")
+    becomes(at, 13, "ridden")
+    is_next(at, "Back at the depot")
+
+
+@check
+def a_browser_without_a_database_says_so(at):
+    at.browser.fresh()
+    made = at.browser.devtools("Page.addScriptToEvaluateOnNewDocument", source="Object.defineProperty(window, 'indexedDB', { value: undefined });")
+    sign_in(at, "10:00", AFTER)
+    at.browser.press("Done here")
+    at.browser.sees("It is forgotten when this page is closed.")
+    with at.browser.no_line(at.town):
+        tell(at, "Did not come", "Yes: did not come")
+        at.browser.sees("This phone has no room to keep this outcome.")
+    at.browser.devtools("Page.removeScriptToEvaluateOnNewDocument", identifier=made["identifier"])
+
+
+@check
+def two_windows_use_one_queue_and_no_number_twice(at):
+    at.browser.fresh()
+    sign_in(at, "09:50", AFTER)
+    press_stop(at, "Pick up Samuel Grant")
+    with at.browser.second_window() as (first, second):
+        sign_in(at, "09:50", AFTER)
+        press_stop(at, "Pick up Ana María")
+        with at.town.middle.gone():
+            for window in [second, first]:
+                window()
+                at.browser.devtools("Page.bringToFront")
+                tell(at, "Did not come", "Yes: did not come")
+            at.browser.sees("2 outcomes wait to be sent")
+        until("something waits", lambda: not waits(at))
+        numbers = [entry["write"]["number"] for entry in kept(at)[0] if entry["write"]]
+        holds(f"each has its number, and they rise: {numbers}", len(set(numbers)) == 2 and numbers == sorted(numbers))
+    for trip in [14, 15]:
+        same(f"trip {trip}", "missed-rider", status(at, trip, AFTER))
+
+
+@check
+def signing_out_asks_where_something_waits_and_takes_the_copies_away(at):
+    at.browser.fresh()
+    sign_in(at, "06:00")
+    with at.browser.no_line(at.town):
+        press_stop(at, "4:16 PM Pick up Samuel Grant")
+        tell(at, "Did not come", "Yes: did not come")
+        at.browser.sees("waits to be sent")
+        at.browser.press("Sign out")
+        at.browser.sees("Sign out while 1 outcome waits to be sent?", "sent when you sign in here again with the same key")
+        at.browser.press("Stay signed in")
+        at.browser.sees("All stops")
+        holds("the copies are there", "manifest 1 2025-03-11" in kept(at)[1])
+        at.browser.press("Sign out")
+        at.browser.press("Sign out", within=at.browser.script("return document.querySelector('dialog')"))
+        at.browser.find("button", "Sign in")
+        entries, copies = kept(at)
+        same("copies after signing out", [], copies)
+        same("what waits after signing out", 1, len([it for it in entries if it["state"] == "waiting"]))
+        at.browser.fill("Key", at.keys["driver 1"])
+        at.browser.press("Sign in")
+        at.browser.sees("does not answer")
+        holds("a key that was signed out sees a manifest", "All stops" not in at.browser.text())
+
+
+@check
+def the_phone_goes_to_the_new_day_by_itself(at):
+    at.browser.fresh()
+    with at.browser.clock(hurry=20):
+        sign_in(at, "23:58")
+        at.browser.sees("Tuesday, March 11, 2025")
+        press_stop(at, "6:17 AM Pick up Rosa")
+        at.browser.press("Aboard", within=None)
+        at.town.set_clock(AFTER, "00:01")
+        at.browser.sees("A new day has begun: Wednesday, March 12, 2025.", "Pick up Samuel Grant", "St. Mary's Dialysis")
+        at.browser.sees("Tue, Mar 11 is not closed: 1 stop needs you.")
+        at.browser.press("Show Tue, Mar 11")
+        at.browser.sees("This day is over.", "Drop Rosa Álvarez")
+        at.browser.press("Today")
+        at.browser.sees("Wednesday, March 12, 2025", "Pick up Samuel Grant")
+
+
+@check
+def tomorrow_can_be_read_and_nothing_is_told_there(at):
+    at.browser.fresh()
+    sign_in(at, "12:00")
+    at.browser.press("Tomorrow")
+    at.browser.sees("Wednesday, March 12, 2025", "This is a later day.", "Pick up Samuel Grant")
+    for name in ["Done here", "Aboard", "Ridden", "Did not come"]:
+        holds(f"{name} is offered for tomorrow", not at.browser.all("button", name))
+    at.browser.press("Today")
+    at.browser.sees("Tuesday, March 11, 2025", "Leave the depot")
+
+
+@check
+def a_phone_whose_clock_is_wrong_has_the_servers_day(at):
+    at.browser.fresh()
+    with at.browser.clock(seconds=400_000):
+        sign_in(at, "06:05")
+        at.browser.sees("Tuesday, March 11, 2025", "5 minutes late")
+        files_are_kept(at)
+        with at.browser.no_line(at.town):
+            at.browser.reload()
+            at.browser.sees("There is no line to the desk", "Tuesday, March 11, 2025", "late")
+
+
+@check
+def the_place_is_in_the_phones_own_map_and_dispatch_is_a_call_away(at):
+    at.browser.fresh()
+    from people import agency_file
+    places = [{**it, "latitude": 42.5, "longitude": -73.25} if it["id"] == 9 else it for it in agency_file(1)["places"]]
+    at.town.write_files(places=places)
+    sign_in(at, "06:05")
+    at.browser.requests()
+    press_stop(at, "Pick up Dorothy.*Senior Center")
+    link = at.browser.find("link", "Open Senior Center in the map").get_attribute("href")
+    holds(f"the address of a place: {link}", "42.5" in link and "-73.25" in link)
+    same("the telephone", "tel:5550100", at.browser.find("link", "Call dispatch, 555-0100").get_attribute("href"))
+    press_stop(at, "7:26 AM Pick up Henry")
+    holds("a place without coordinates has a map", not at.browser.all("link", re.compile("in the map")))
+    same("what is asked elsewhere", [], [it for it in at.browser.requests() if it.startswith("http") and not it.startswith(at.town.origin)])
+    at.town.write_files()
+
+
+@check
+def a_driver_finds_private_places_where_the_site_has_the_file(at):
+    at.browser.fresh()
+    at.town.write_file("drivers/places.json", json.dumps({"places": [{"id": 11, "name": "12 Oak Street", "note": "gate code 4411#"}]}))
+    served = at.town.answer("/drivers/1/places.json", {"Desk-Key": at.keys["driver 1"]})[0]
+    sign_in(at, "06:05")
+    press_stop(at, "6:17 AM Pick up Rosa")
+    if served == 200:
+        at.browser.sees("12 Oak Street", "gate code 4411#")
+    else:
+        at.browser.sees("Stop 11")
+    at.town.write_file("drivers/places.json", None)
+
+
+@check
+def a_fare_is_shown_to_a_key_that_may_know_it(at):
+    at.browser.fresh()
+    sign_in(at, "06:05", holder="dispatcher")
+    press_stop(at, "7:26 AM Pick up Henry")
+    at.browser.sees("Fare due: $")
+
+
+@check
+def times_of_taps_are_told_the_sites_log_once(at):
+    at.browser.fresh()
+    with at.browser.clock(hurry=20):
+        sign_in(at, "06:20")
+        press_stop(at, "6:17 AM Pick up Rosa")
+        at.browser.press("This is my next stop")
+        at.browser.press("Yes: go on from here")
+        at.browser.press("Arrived")
+        at.browser.press("Take back: arrived")
+        at.browser.press("Arrived")
+        at.browser.press("Aboard")
+        pause(1)
+        holds("it is told before it can be taken back", "/tally/stops" not in tallied(at))
+        at.town.set_clock(TOMORROW, "06:23")
+        until("nothing is told", lambda: "event=aboard" in tallied(at))
+    lines = [line for line in tallied(at).splitlines() if "/tally/stops" in line]
+    same("what was told", ["arrived", "aboard"], [re.search("event=([a-z-]+)", line)[1] for line in lines])
+    holds(f"a line has vehicle, trip and time: {lines[0]}", "vehicle=1&trip=1" in lines[0] and re.search("at=2025-03-11T06(:|%3A)2", lines[0]))
+
+
+def tallied(at):
+    try:
+        with open(f"{at.folder}/tally.log", encoding="utf-8") as log:
+            return log.read()
+    except FileNotFoundError:
+        return ""
+
+
+@check
+def a_manifest_that_changes_says_what_is_gone(at):
+    at.browser.fresh()
+    at.town.set_clock(TOMORROW, "01:00")
+    trip = at.town.book(1005, AFTER, 900, 7, 2)
+    with at.browser.clock(hurry=20):
+        sign_in(at, "09:00", AFTER)
+        at.browser.sees("Public Library")
+        at.town.post("clerk", f"/trips/{trip}/cancel", {})
+        at.browser.sees("These stops are not in it any more")
+        at.browser.press("I have read this")
+        at.browser.sees_no("not in it any more")
+
+
+@check
+def the_files_are_the_sites_with_a_line_and_the_kept_ones_without(at):
+    at.browser.fresh()
+    sign_in(at, "06:05")
+    files_are_kept(at)
+    names, paths = at.browser.driver.execute_async_script(FILES)
+    same("sets of files", 1, len([it for it in names if it.startswith("desk-pages-")]))
+    strange = [it for it in paths if not re.search(r"\.(js|css|svg)$", it) and it not in ("/", "/whole", "/agency.json")]
+    same("what is kept beside the files of the pages", [], strange)
+    for path in ["/", "/parts/main.js", "/screens/driver.js", "/css/driver.css", "/words/es/driver.js"]:
+        holds(f"{path} is kept", path in paths)
+    at.browser.driver.execute_async_script(STALE)
+    at.browser.reload()
+    at.browser.sees("All stops")
+    same("a kept file is used with a line", "", at.browser.script(HAS_STALE).strip())
+    at.browser.driver.execute_async_script(STALE)
+    with at.browser.no_line(at.town):
+        at.browser.reload()
+        at.browser.sees("There is no line to the desk")
+        same("a kept file is used without a line", "1", at.browser.script(HAS_STALE).strip())
+
+
+@check
+def it_is_used_with_one_hand_on_a_small_phone(at):
+    at.browser.fresh()
+    sign_in(at, "06:05")
+    at.browser.press("Done here")
+    for width in [390, 320]:
+        with at.browser.screen(width, 700, mobile=True):
+            same(f"targets below 64 pixels at {width}", [], at.browser.script(SMALL))
+            same(f"sideways at {width}", 0, at.browser.sideways()[0])
+            with at.browser.media(prefers_color_scheme="dark"):
+                same(f"axe at {width}, dark", [], at.browser.axe()["violations"])
+    at.browser.space_text()
+    with at.browser.screen(320, 640):
+        same("sideways with spaced text", 0, at.browser.sideways()[0])
+    at.browser.script("document.documentElement.style.fontSize = '200%'")
+    with at.browser.screen(390, 844, mobile=True):
+        same("sideways with large text", 0, at.browser.sideways()[0])
+    with at.browser.media(forced_colors="active"):
+        same("axe with forced colors", [], at.browser.axe()["violations"])
+
+
+@check
+def it_is_used_by_keyboard(at):
+    at.browser.fresh()
+    sign_in(at, "06:05")
+    at.browser.press("Done here")
+    at.browser.tab_to("Arrived")
+    at.browser.keys(Keys.ENTER)
+    at.browser.sees("Arrived at 6:05 AM.")
+    at.browser.tab_to("Did not come")
+    at.browser.keys(Keys.ENTER)
+    at.browser.sees("Did Rosa Álvarez, rider 1001 not come?")
+    same("the harmless answer has the focus", "No, go back", at.browser.focused())
+    at.browser.keys(Keys.ESCAPE)
+    same("the focus after the question", "Did not come", at.browser.focused())
+
+
+@check
+def it_is_there_in_spanish(at):
+    at.browser.fresh()
+    sign_in(at, "06:05")
+    at.browser.fill("Language", "Español")
+    at.browser.sees("Próxima parada", "Todas las paradas", "Llamar a la central, 555-0100")
+    at.browser.press("Listo aquí")
+    at.browser.sees("Recoger: Rosa Álvarez", "A bordo", "No vino", "No fuimos", "Llegué")
+    same("axe", [], at.browser.axe()["violations"])
+    at.browser.press("No vino")
+    at.browser.sees("¿No vino? Rosa Álvarez")
+    at.browser.press("No, volver")
+    at.browser.fill("Idioma", "English")

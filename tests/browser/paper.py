@@ -1,0 +1,49 @@
+"""What was printed, read back from the PDF by Debian's poppler-utils."""
+import re
+import subprocess
+import tempfile
+import xml.etree.ElementTree
+
+ZOOM = 3  # the most that pdftohtml takes; so sizes are told in thirds of a point
+
+
+class Paper:
+    """A printed document: `pages` is their number, `text` all text as it is laid out, `page_texts` of each page."""
+
+    def __init__(self, pdf, folder):
+        with tempfile.NamedTemporaryFile(dir=folder, suffix=".pdf", delete=False) as file:
+            file.write(pdf)
+        self.file = file.name
+        words = ["pdftotext", "-layout", "-enc", "UTF-8", self.file, "-"]
+        laid = subprocess.run(words, check=True, capture_output=True)
+        self.page_texts = laid.stdout.decode().split("\f")[:-1]
+        self.text, self.pages = "\n".join(self.page_texts), len(self.page_texts)
+
+    def sizes(self):
+        """The sizes of type in points, each with the first text that has it."""
+        words = ["pdftohtml", "-xml", "-i", "-stdout", "-zoom", str(ZOOM), self.file]
+        told = subprocess.run(words, check=True, capture_output=True).stdout.decode(errors="replace")
+        sizes, first = {}, {}
+        for number, size in re.findall(r'<fontspec id="(\d+)" size="(-?\d+)"', told):
+            sizes[number] = int(size) / ZOOM
+        for number, text in re.findall(r'<text [^>]*font="(\d+)"[^>]*>(.*?)</text>', told):
+            plain = re.sub(r"<[^>]*>", "", text).strip()
+            if plain:
+                first.setdefault(sizes[number], plain[:60])
+        return first
+
+    def smallest(self):
+        """The smallest size of type and a text of that size."""
+        return min(self.sizes().items(), default=(0, "nothing"))
+
+    def outside(self):
+        """Words that stand beyond the edge of their page."""
+        words = ["pdftotext", "-bbox", "-enc", "UTF-8", self.file, "-"]
+        told = subprocess.run(words, check=True, capture_output=True).stdout
+        found = []
+        for page in xml.etree.ElementTree.fromstring(told).iter("{http://www.w3.org/1999/xhtml}page"):
+            width, height = float(page.get("width")), float(page.get("height"))
+            for word in page:
+                if float(word.get("xMax")) > width or float(word.get("yMax")) > height or float(word.get("xMin")) < 0:
+                    found.append(word.text)
+        return found

@@ -1,0 +1,160 @@
+"""A town to try the pages in: a desk, the site before it, the files of the site, and a clock that both read."""
+import contextlib
+import http.client
+import json
+import os
+import ssl
+import subprocess
+import time
+
+import people
+from database import PATIENCE, ROOT, Desk, Trouble, clocked, copy_of_database, until
+from middle import Middle
+from serving import free_port
+
+BUSY = (429, 502, 503, 504)
+PAGES = os.environ.get("PAGES_FOLDER", f"{ROOT}/pages")
+
+
+# The site.
+
+
+def write_certificate(folder):
+    subprocess.run(["openssl", "req", "-x509", "-newkey", "rsa:2048", "-nodes", "-days", "2", "-subj", "/CN=localhost",
+                    "-addext", "subjectAltName=IP:127.0.0.1,DNS:localhost", "-keyout", f"{folder}/key.pem",
+                    "-out", f"{folder}/certificate.pem"], check=True, capture_output=True)
+
+
+def write_conf(folder, port, desk_port):
+    """The site as deploy/site makes it for a trial: in this folder and on ports of its own."""
+    words = [f"{ROOT}/deploy/site", "--trial", folder, "--desk", desk_port, "--tls", port, "--plain", free_port(),
+             "--pages", PAGES]
+    made = subprocess.run([str(it) for it in words], capture_output=True, text=True)
+    if made.returncode:
+        raise Trouble(f"deploy/site: {made.stderr}")
+    with open(f"{folder}/nginx.conf", "w", encoding="utf-8") as text:
+        text.write(made.stdout)
+
+
+class Town:
+    """Desk, site and files in a folder. Its clock stands still until it is set."""
+
+    def __init__(self, program, folder, vans, towns):
+        self.folder, self.vans, self.keys, self.site = folder, vans, people.keys_of(vans), None
+        self.desk = Desk(program, f"{folder}/desk.db", f"{folder}/clock")
+        self.port, self.number = free_port(), int(time.time())
+        self.middle = Middle(free_port(), self.desk.port)
+        self.origin = f"https://127.0.0.1:{self.port}"
+        self.set_clock(people.TODAY if vans else people.FIRST_DAY)
+        copy_of_database(program, vans, towns, self.desk.file)
+        write_certificate(folder)
+        self.write_files()
+
+    def __enter__(self):
+        write_conf(self.folder, self.port, self.middle.port)
+        self.start_desk()
+        self.start_site()
+        return self
+
+    def __exit__(self, *_):
+        self.stop_site()
+        self.stop_desk()
+        self.middle.close()
+
+    def set_clock(self, day, hour=people.NOON):
+        self.desk.set_clock(day, hour)
+
+    def start_desk(self):
+        self.desk.start()
+
+    def stop_desk(self):
+        self.desk.stop()
+
+    def start_site(self):
+        clock = "".join(f" env {name};" for name in ["LD_PRELOAD", "TZ", "FAKETIME_TIMESTAMP_FILE", "FAKETIME_NO_CACHE",
+                                                     "FAKETIME_DONT_FAKE_MONOTONIC"])
+        words = ["nginx", "-e", f"{self.folder}/nginx.log", "-c", f"{self.folder}/nginx.conf", "-g",
+                 f"daemon off;{clock}"]
+        self.site = subprocess.Popen(words, env=clocked(self.desk.clock), stderr=subprocess.DEVNULL)
+        until("the site answers", lambda: self.answer("/") is not None)
+
+    def stop_site(self):
+        if self.site:
+            self.site.terminate()
+            self.site.wait()
+            self.site = None
+
+    # The files that the site serves.
+
+    def write_files(self, **changed):
+        """The site's files of the agency's own file, with what is changed in it."""
+        os.makedirs(f"{self.folder}/site", exist_ok=True)
+        write_site_files(self.folder, {**people.agency_file(max(self.vans, 1)), **changed})
+
+    def write_file(self, name, content):
+        """One file of the site with these bytes, or none of this name."""
+        path = f"{self.folder}/site/{name}"
+        if content is None:
+            with contextlib.suppress(FileNotFoundError):
+                os.remove(path)
+            return
+        os.makedirs(os.path.dirname(path), exist_ok=True)
+        with open(path, "wb") as file:
+            file.write(content if isinstance(content, bytes) else content.encode())
+
+    # Requests beside the pages, as by another device; they go by the site.
+
+    def answer(self, path, headers=(), method="GET", body=None):
+        """The reply of the site as (status, headers, text), or None."""
+        unchecked = ssl._create_unverified_context()
+        line = http.client.HTTPSConnection("127.0.0.1", self.port, timeout=PATIENCE, context=unchecked)
+        with contextlib.closing(line), contextlib.suppress(OSError, http.client.HTTPException):
+            line.request(method, path, body, dict(headers))
+            reply = line.getresponse()
+            return reply.status, reply.headers, reply.read().decode()
+        return None
+
+    def post(self, holder, path, fields):
+        """The desk's reply to a write of whoever holds this key."""
+        for step in [1, 10_000, 100_000]:
+            self.number = max(self.number + step, int(time.time()))
+            sent = {"Desk-Key": self.keys[holder], "Desk-Number": str(self.number)}
+            _, _, text = until(f"POST {path}", lambda: self.settled(path, sent, "POST", json.dumps(fields)))
+            if "desk.number" not in text:
+                break
+        return json.loads(text)
+
+    def get(self, holder, path):
+        _, headers, text = until(f"GET {path}", lambda: self.settled(path, {"Desk-Key": self.keys[holder]}))
+        return json.loads(text) if "json" in headers.get("Content-Type", "") else text
+
+    def settled(self, *request):
+        reply = self.answer(*request)
+        return None if reply is None or reply[0] in BUSY else reply
+
+    def trips_of(self, rider):
+        return self.get("clerk", f"/riders/{rider}/trips")["trips"]
+
+    def book(self, rider, day, wish, start, end, **more):
+        """The number of a trip that is booked beside the pages."""
+        fields = {"rider": rider, "day": day, "wish": wish, "from": start, "to": end, "attendant": False,
+                  "companions": 0, **more}
+        reply = self.post("clerk", "/trips", fields)
+        if "trip" not in reply:
+            raise Trouble(f"a trip of {rider} at {wish} on {day} is {reply}")
+        return reply["trip"]
+
+
+def write_site_files(folder, agency):
+    """By bin/site-files, as an agency does it; the worklist is a small one."""
+    for name, content in [("agency.json", json.dumps(agency)), ("roster.csv", people.roster_file()),
+                          ("drivers.csv", people.drivers_file())]:
+        with open(f"{folder}/source-{name}", "w", encoding="utf-8") as text:
+            text.write(content)
+    words = [f"{ROOT}/bin/site-files", f"{folder}/source-agency.json", "--roster", f"{folder}/source-roster.csv",
+             "--drivers", f"{folder}/source-drivers.csv", f"{folder}/site"]
+    made = subprocess.run(words, capture_output=True, text=True)
+    if made.returncode not in (0, 1):
+        raise Trouble(f"bin/site-files: {made.stdout} {made.stderr}")
+    with open(f"{folder}/site/staff/worklist.html", "w", encoding="utf-8") as text:
+        text.write("<!doctype html><html lang=en><title>Worklist</title><p>Nothing waits.</p>")
