@@ -1,12 +1,16 @@
 """What tests/move_in tries without a desk: feeds that are refused, lines, hours, driving times, numbers of writes."""
 import csv
 import json
+import math
 import os
 import random
+import re
 import shutil
 import subprocess
 
-from moving import desk as client, example, feed as feeds, fixed, plane as geometry
+import moving_city
+import serving
+from moving import carry, desk as client, example, feed as feeds, fewer, fixed, plane as geometry
 from moving_stands import Counting, Stand
 from serving import TODAY, ZONE, difference, free_port
 
@@ -23,8 +27,34 @@ def moved(folder, *words):
 
 
 def agency_of(folder):
-    with open(f"{folder}/agency.json", encoding="utf-8") as file:
-        return json.load(file)
+    """What agency.json has, its records by their numbers."""
+    return carry.kept_agency(folder)
+
+
+# What puts the example's agency, as docs/MOVING-IN.md does.
+PUTTING = [
+    ["routes", "feed.zip", "--admin", "keys/1-admin"],
+    ["places", "places.csv", "--admin", "keys/1-admin"],
+    ["callers", "callers.csv", "--admin", "keys/1-admin"],
+    ["write", "/policy", "policy.json", "--admin", "keys/1-admin"],
+    ["vehicles", "vehicles.csv", "--dispatcher", "keys/3-dispatcher"],
+    ["riders", "riders.csv", "--clerk", "keys/2-clerk", "--examiner", "keys/4-examiner"],
+]
+
+
+def moved_town(program, folder):
+    """Moves the example's town in, in a new folder, which then has desk.db, keys, agency.json as move-in writes it, and
+    site, the files that bin/site-files makes of that. How each command ended.
+    """
+    example.write_agency(folder, TODAY)
+    os.mkdir(f"{folder}/keys", 0o700)
+    with open(f"{folder}/keys/1-admin", "w", encoding="ascii") as file:
+        file.write("first-key")
+    runs = [serving.ran(program, "init", f"{folder}/desk.db", "first-key")]
+    with serving.Desk(program, f"{folder}/desk.db") as desk:
+        runs += [moved(folder, *words, "--url", f"http://127.0.0.1:{desk.port}") for words in PUTTING]
+    command = [f"{ROOT}/bin/site-files", "agency.json", "site"]
+    return [*runs, subprocess.run(command, cwd=folder, capture_output=True, text=True, timeout=SECONDS)]
 
 
 # Lines and hours, beside plain second ways to say the same.
@@ -89,6 +119,78 @@ def random_run(chance):
     return feeds.Run("a", weekdays, first, first + chance.randint(5, 400), True)
 
 
+# Cities that are more fixed routes than the desk takes.
+
+
+CITIES = (24, 60)
+
+
+def faults_of_cities(folder):
+    """Cities of so many lines have room, and whoever is owed service has it; nobody is promised more than is said."""
+    for lines in CITIES:
+        os.makedirs(f"{folder}/{lines}")
+        example.write_feed(f"{folder}/{lines}/feed.zip", moving_city.city(lines, TODAY, trips=1 / 8))
+        feed = feeds.read_feed(f"{folder}/{lines}/feed.zip", TODAY, 28)
+        plane = geometry.plane_round([it[1:] for it in feed.stops.values()])
+        making = fixed.Making(LEAST, 500, 120, 0, True)
+        made, refused, said = fewer.fewer(feed, plane, making, 50)
+        yield difference(f"refused lines of a city of {lines}", [], refused)
+        yield None if len(made) <= 50 else f"a city of {lines} lines becomes {len(made)}"
+        widest = max(map(reach_of, made))
+        yield None if f"at most {widest:,} feet" in said and widest <= 500 else f"what is said of {lines} lines: {said}"
+        yield from faults_of_owed(feed, plane, made)
+        yield from faults_of_promised(feed, plane, made)
+
+
+def reach_of(made):
+    """How many feet are said to be added to a corridor."""
+    return int(re.search(r"reaches at most ([\d,]+) feet", " ".join(made.told))[1].replace(",", ""))
+
+
+def faults_of_owed(feed, plane, made):
+    """Random points in the corridor of a line, at minutes at which it runs, lie in that of a fixed route which runs."""
+    chance = random.Random(SEED)
+    shapes = {key: [plane.point(*it) for it in line.positions] for key, line in feed.lines.items()}
+    for route in feed.routes:
+        own = [it for it in made if route.key in it.keys]
+        lost = []
+        for run in chance.choices(route.runs, k=8):
+            point = near_line(chance, shapes[run.line])
+            day, minute = chance.choice(sorted(run.weekdays)), chance.randint(run.first, run.last)
+            day, minute = (day - 1 + minute // 1440) % 7 + 1, minute % 1440
+            if not any(day in it.days and it.first <= minute <= it.last
+                       and geometry.feet_from_line(point, it.points) <= it.width for it in own):
+                lost.append((point, day, minute))
+        yield f"{route.name} loses {lost[0]}" if lost else None
+
+
+def near_line(chance, shape):
+    """A point that is served by a line, near the edge of its corridor."""
+    while True:
+        (x, y), angle, far = chance.choice(shape), chance.uniform(0, 2 * math.pi), chance.randint(LEAST - 6, LEAST)
+        point = round(x + far * math.cos(angle)), round(y + far * math.sin(angle))
+        feet = geometry.feet_from_line(point, shape)
+        if LEAST - 40 <= feet <= LEAST:
+            return point
+
+
+def faults_of_promised(feed, plane, made):
+    """Random points in the corridor of a fixed route lie no farther from its lines than is said."""
+    chance = random.Random(SEED)
+    for it in made:
+        lines = {run.line: None for route in feed.routes if route.key in it.keys for run in route.runs}
+        shapes = [[plane.point(*position) for position in feed.lines[key].positions] for key in lines]
+        reach = reach_of(it)
+        far = []
+        for _ in range(10):
+            x, y = chance.choice(it.points)
+            angle = chance.uniform(0, 2 * math.pi)
+            point = round(x + (it.width - 2) * math.cos(angle)), round(y + (it.width - 2) * math.sin(angle))
+            if not any(geometry.feet_from_line(point, shape) <= LEAST + reach for shape in shapes):
+                far.append(point)
+        yield f"{it.name} reaches {far[0]}, farther than {reach} feet" if far else None
+
+
 # Feeds that are refused.
 
 
@@ -106,16 +208,18 @@ def changed(name, row, column, value):
 
 
 def of_many_routes(found):
-    """51 routes of one trip each."""
+    """51 routes of one trip each, none of which meets another."""
     numbers = range(51)
     found["routes"][1:] = [(f"r{at}", "a", str(at), "", "3") for at in numbers]
-    found["trips"][1:] = [(f"r{at}", "every", f"t{at}", "main", 1) for at in numbers]
-    found["stop_times"][1:] = [(f"t{at}", time, time, stop, place) for at in numbers
-                               for place, (time, stop) in enumerate([("10:00:00", "main0"), ("10:30:00", "main5")])]
+    found["trips"][1:] = [(f"r{at}", "every", f"t{at}", "", 1) for at in numbers]
+    found["stops"][1:] = [(f"s{at}-{end}", "", *example.position(9_000 * end, 4_000 * (at - 25)))
+                          for at in numbers for end in (0, 1)]
+    found["stop_times"][1:] = [(f"t{at}", time, time, f"s{at}-{end}", end) for at in numbers
+                               for end, time in enumerate(("10:00:00", "10:30:00"))]
 
 
-NO_ROOM = ("the feed becomes 51 fixed routes, and the desk has room for 50; leave routes out with --leave-out, or put "
-           "more lines and hours together with --tolerance, --pause and --rounding")
+NO_ROOM = ("the feed becomes 51 fixed routes, which come down to 51 where lines meet, and there is room for 50; leave "
+           "routes out with --leave-out, such as those along which nothing is owed")
 FEEDS = [
     (without("stops"), "feed.zip has no file stops.txt"),
     (without("trips"), "feed.zip has no file trips.txt"),
@@ -216,6 +320,7 @@ def many_places(town, folder):
     agency = agency_of(town)
     more = {str(it): {"name": "", "x": 700 * it, "y": 300 * it % 5_000, "core": False} for it in range(8, 68)}
     agency["places"] |= more
+    # (in the form of an earlier move-in)
     with open(f"{folder}/agency.json", "w", encoding="utf-8") as file:
         json.dump(agency, file)
     return {int(number): it for number, it in agency["places"].items()}
@@ -278,7 +383,8 @@ def faults_of_room(folder):
         (["places", "places.csv"], "this takes either --plan or --url, the address of the desk"),
         (["places", "none.csv", "--plan"], "none.csv can't be read: [Errno 2] No such file or directory: 'none.csv'"),
         (["riders", "places.csv", "--plan"], "places.csv has no column kind; its first line has to name the columns "
-                                             "number, kind, attendant, wheelchair, until, conditions"),
+                                             "number, kind, attendant, wheelchair, until, conditions, "
+                                             "home"),
         (["vehicles", "places.csv", "--folder", "none", "--plan"], "there is no folder none"),
     ]:
         run = moved(folder, *words)

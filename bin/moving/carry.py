@@ -4,16 +4,15 @@ Progress stands on one line of standard error; a sum comes at the end, and a fil
 """
 import collections
 import csv
-import json
 import os
 import sys
 import time
 
+from moving import agency_file
 from moving.limits import DONE, SOME_REFUSED, Wrong
 
 # Something to be done: what it is, and a function that does it, or raises CannotBe with the reason.
 Task = collections.namedtuple("Task", "what do")
-EMPTY = {"name": "", "first_day_of_week": 0, "place_word": "place", "places": {}, "routes": {}, "vehicles": {}}
 # What a denial means here, in plain words.
 REASONS = {
     "desk.exists": "the desk has it already, and it is not replaced",
@@ -43,38 +42,25 @@ def accepted(reply):
 
 
 def kept_agency(folder):
-    """What agency.json has, or an empty one."""
-    path = f"{folder}/agency.json"
-    if not os.path.exists(path):
-        return json.loads(json.dumps(EMPTY))
-    try:
-        with open(path, encoding="utf-8") as file:
-            kept = json.load(file)
-        if not all(isinstance(kept.get(it, {}), dict) for it in ("places", "routes", "vehicles")):
-            raise ValueError
-        return {**json.loads(json.dumps(EMPTY)), **kept}
-    except (ValueError, AttributeError):
-        raise Wrong(f"{path} is not what this program writes: mend it or move it away") from None
+    """What agency.json has, its records by their numbers, or an empty one. What is wrong there is not written over."""
+    path, agency = f"{folder}/agency.json", {}
+    if os.path.exists(path):
+        agency, faults = agency_file.read(path)
+        if faults:
+            raise Wrong(f"{path} has a fault: {faults[0]}. Mend it or move the file away")
+    records = {name: agency.get(name, []) for name in agency_file.LISTS}
+    return {**agency, **{name: {str(it["id"]): without_id(it) for it in those} for name, those in records.items()}}
+
+
+def without_id(record):
+    return {name: it for name, it in record.items() if name != "id"}
 
 
 def keep_agency(folder, agency):
     """Writes agency.json whole, or leaves it as it was."""
-    path = f"{folder}/agency.json"
-    with open(f"{path}.new", "w", encoding="utf-8") as file:
-        file.write("{\n" + ",\n".join(f"{json_of(name)}: {group_text(it)}" for name, it in agency.items()) + "\n}\n")
-    os.replace(f"{path}.new", path)
-
-
-def json_of(value):
-    return json.dumps(value, ensure_ascii=False)
-
-
-def group_text(value):
-    """A value as JSON; of a group each member on a line of its own."""
-    if not isinstance(value, dict) or not value:
-        return json_of(value)
-    members = sorted(value.items(), key=lambda it: (len(it[0]), it[0]))
-    return "{\n" + ",\n".join(f" {json_of(name)}: {json_of(member)}" for name, member in members) + "\n}"
+    lists = {name: [{"id": int(number), **it} for number, it in sorted(agency[name].items(), key=lambda it: int(it[0]))]
+             for name in agency_file.LISTS}
+    agency_file.write(f"{folder}/agency.json", {**agency, **lists})
 
 
 def refused_told(command, folder, refused):

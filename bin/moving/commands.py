@@ -2,9 +2,8 @@
 import datetime
 import hashlib
 import os
-import secrets
 
-from moving import carry, feed as feeds, fixed, plane as geometry, tables
+from moving import agency_file, carry, feed as feeds, fewer, fixed, keys, plane as geometry, tables
 from moving.carry import Task, accepted
 from moving.desk import Caller, Journal, Line
 from moving.limits import DONE, GREATEST_WIDTH, MOST_PLACES, MOST_ROUTES, SOME_REFUSED, Wrong
@@ -42,27 +41,44 @@ def routes(words):
     making = fixed.Making(words.width, words.tolerance, words.pause, words.rounding, words.all_accessible)
     positions = [it[1:] for it in feed.stops.values()]
     plane = geometry.kept_plane(words.folder) or geometry.plane_round(positions)
-    lines = fixed.lines_of(feed, plane, making)
+    made, refused, notes = made_routes(feed, plane, making, words.most)
     error = plane.greatest_error(positions, GREATEST_WIDTH)
     if error >= geometry.GREATEST_ERROR:
         raise Wrong(f"a length at the edge of the feed would be wrong by {error:.2%}, and the plane is to be right "
                     f"within {geometry.GREATEST_ERROR:.1%}")
-    made, refused = fixed.fixed_routes(feed, lines, making)
     agency = carry.kept_agency(words.folder)
     numbered = {str(at): it for at, it in enumerate(made, 1)}
     retired = {number: it for number, it in agency["routes"].items() if number not in numbered}
-    fixed.within_limit(feed, lines, making, len(numbered) + len(retired))
     print(f"plane: round {plane.latitude}, {plane.longitude}; "
           f"a length is wrong by {error * 1000:.3f} feet in a thousand at most")
     told_routes(numbered, retired, made)
-    carry.planned(refused, [*feed.notes, *notes_of_kinds(feed, made)])
+    carry.planned(refused, [*notes, *feed.notes, *notes_of_kinds(feed, made)])
     if words.plan:
         return ended(refused)
-    agency["name"] = agency["name"] or feed.agency
+    said_of_agency(agency, feed.agency)
     admin = caller_of(words, "admin")
     if not os.path.exists(f"{words.folder}/plane.json"):
         geometry.keep_plane(words.folder, plane, error)
     return put_routes(words, admin, agency, [*bodies_of(numbered, retired)], refused)
+
+
+def made_routes(feed, plane, making, most):
+    """The fixed routes of the feed, the routes that are refused, and what is said where some had to become one."""
+    made, refused = fixed.fixed_routes(feed, fixed.lines_of(feed, plane, making), making)
+    if len(made) <= most:
+        return made, refused, []
+    made, refused, said = fewer.fewer(feed, plane, making, most)
+    return made, refused, [said]
+
+
+def said_of_agency(agency, said):
+    """Takes what the feed says of its agency, where agency.json has nothing of it."""
+    for name, value in said.items():
+        try:
+            if value and not agency.get(name):
+                agency[name] = agency_file.FIELDS[name](value)
+        except agency_file.Fault as fault:
+            print(f"  note: agency.txt: {name}: {fault}")
 
 
 def wanted_feed(words):
@@ -79,7 +95,8 @@ def bodies_of(numbered, retired):
     for number, it in numbered.items():
         yield it.name, fixed.body_of(int(number), it)
     for number, it in retired.items():
-        yield it["name"], {"id": int(number), **{name: it[name] for name in it if name != "name"}, "days": []}
+        fields = {"accessible": False, "first": 0, "last": 0, **it, "days": []}
+        yield fields.pop("name", ""), {"id": int(number), **fields}
 
 
 def put_routes(words, admin, agency, bodies, refused):
@@ -94,7 +111,7 @@ def put_routes(words, admin, agency, bodies, refused):
 
 
 def told_routes(numbered, retired, made):
-    count = len({it.key for it in made})
+    count = len({key for it in made for key in it.keys})
     print(f"{len(made)} fixed routes of {count} routes of the feed, of {MOST_ROUTES} that the desk takes:")
     for number, it in numbered.items():
         hours = f"{fixed.days_text(it.days)} {fixed.clock(it.first)}-{fixed.clock(it.last)}"
@@ -103,7 +120,7 @@ def told_routes(numbered, retired, made):
         for said in it.told:
             print(f"     {said}")
     for number, it in retired.items():
-        print(f"  {number}: {it['name']}: the feed has it no more, so it gets no weekdays")
+        print(f"  {number}: {it.get('name', '')}: the feed has it no more, so it gets no weekdays")
 
 
 def notes_of_kinds(feed, made):
@@ -112,7 +129,7 @@ def notes_of_kinds(feed, made):
             yield (f"{route.name} is rail or a coach by its route_type {route.kind}; along commuter bus, commuter rail "
                    "and intercity rail no paratransit is owed (49 CFR 37.121(c)): if it is that, leave it out with "
                    f"--leave-out {route.key}")
-    unmarked = sorted({it.name for it in made if not it.accessible})
+    unmarked = sorted({it.name for it in made if not it.accessible and len(it.keys) == 1})
     if unmarked:
         yield (f"not each trip is marked as accessible of {', '.join(unmarked)}, so the desk takes those as not; "
                "if each bus takes a wheelchair, say --all-accessible")
@@ -143,9 +160,21 @@ def places(words):
              for number, it in kept.items()]
     stands, status = carry.carried_out("places", tasks, [admin], words.folder, refused)
     for record in (records[at] for at in stands):
-        agency["places"][str(record["number"])] = {"name": record["name"], **kept[record["number"]]}
+        number = str(record["number"])
+        agency["places"][number] = place_named(agency["places"].get(number, {}), record, kept[record["number"]], plane)
     carry.keep_agency(words.folder, agency)
     return status
+
+
+def place_named(known, record, fields, plane):
+    """What agency.json has of a place: what the table says, and beside that what was there."""
+    said = {name: record[name] for name in ("name", "note", "private") if record[name] not in (None, "")}
+    position = (record["latitude"], record["longitude"])
+    if plane and position[0] is None:
+        position = (round(it, 6) for it in plane.position(fields["x"], fields["y"]))
+    elif not plane:
+        position = ()
+    return {**known, **said, **fields, **dict(zip(("latitude", "longitude"), position))}
 
 
 def point_of(record, plane):
@@ -176,10 +205,11 @@ def place_fault(record):
 
 def place_told(point, is_core, fixed_routes):
     """Whether a corridor serves the place, or how many feet are missing to the nearest one."""
-    running = [it for it in fixed_routes.values() if it["days"]]
+    running = [it for it in fixed_routes.values() if it.get("days") != []]
     if not running:
         return "there are no fixed routes yet"
-    missing, name = min((geometry.feet_from_line(point, it["points"]) - it["width"], it["name"]) for it in running)
+    missing, name = min((geometry.feet_from_line(point, it["points"]) - it["width"], it.get("name", ""))
+                        for it in running)
     at = f"at {point[0]}, {point[1]}, "
     if missing <= 0:
         return at + "served"
@@ -215,7 +245,9 @@ def vehicles(words):
               for it in records]
     tasks = [Task(f"vehicle {it['id']} from {it['from_day']}", put(dispatcher, "/vehicles", it)) for it in bodies]
     stands, status = carry.carried_out("vehicles", tasks, [dispatcher], words.folder, refused)
-    agency["vehicles"] |= {str(records[at]["number"]): {"name": records[at]["name"]} for at in stands}
+    for record in (records[at] for at in stands):
+        said = {"name": record["name"]} if record["name"] else {}
+        agency["vehicles"][str(record["number"])] = {**agency["vehicles"].get(str(record["number"]), {}), **said}
     carry.keep_agency(words.folder, agency)
     return status
 
@@ -256,7 +288,7 @@ def made_key(path):
         os.fchmod(file.fileno(), 0o600)
         key = file.read().rstrip("\n")
         if not key:
-            key = secrets.token_hex(32)
+            key = keys.made()
             file.write(key)
             file.flush()
             os.fsync(file.fileno())

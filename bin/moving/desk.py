@@ -13,6 +13,7 @@ import time
 import urllib.parse
 from collections import namedtuple
 
+from moving import keys
 from moving.limits import HIGHEST_NUMBER, NotAnswered, Wrong
 
 Reply = namedtuple("Reply", "status body")
@@ -149,7 +150,7 @@ def key_in(path):
         raise Wrong(f"the key in {path} can't be read: {error}") from None
     if not key or key != key.strip() or not key.isprintable():
         raise Wrong(f"{path} holds no key: a key is one line, with no blank at its ends")
-    return key
+    return keys.normalized(key)
 
 
 class Caller:

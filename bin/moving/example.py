@@ -68,8 +68,8 @@ def tables(today):
     """The files of the feed, each as its rows, the header first."""
     start, end = (today + datetime.timedelta(days=it) for it in (-30, 330))
     found = {
-        "agency": [("agency_id", "agency_name", "agency_url", "agency_timezone"),
-                   ("a", "Lake Town Transit", "https://example.org", "America/Chicago")],
+        "agency": [("agency_id", "agency_name", "agency_url", "agency_timezone", "agency_phone"),
+                   ("a", "Lake Town Transit", "https://example.org", "America/Chicago", "612-555-0100")],
         "routes": [("route_id", "agency_id", "route_short_name", "route_long_name", "route_type")],
         "trips": [("route_id", "service_id", "trip_id", "shape_id", "wheelchair_accessible")],
         "stop_times": [("trip_id", "arrival_time", "departure_time", "stop_id", "stop_sequence")],
@@ -131,7 +131,7 @@ def records(today):
     return {
         "places": [("number", "name", "latitude", "longitude", "core"),
                    *((number, name, *position(x, y), core) for number, name, x, y, core in PLACES)],
-        "vehicles": [("number", "name", "from_day", "days", "depot", "capacity", "opens", "closes", "duration", "chairs"),
+        "vehicles": ["number name from_day days depot capacity opens closes duration chairs".split(),
                      (1, "Van 12", today, "1-7", 1, 4, "05:00", "23:00", 900, 1),
                      (2, "Van 14", today, "1-5", 1, 8, "06:00", "20:00", 840, 2)],
         "callers": [("number", "name", "role", "subject"), (2, "Ana Ruiz", "clerk", ""),

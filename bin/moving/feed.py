@@ -20,6 +20,7 @@ Route = collections.namedtuple("Route", "key name kind runs")
 Stop = collections.namedtuple("Stop", "name latitude longitude")
 # A line: positions in order, whether they are a shape's (else those of its stops), and the keys of the stops along it.
 Line = collections.namedtuple("Line", "positions has_shape stops")
+# (agency.json's own names for what the feed says of its agency)
 Feed = collections.namedtuple("Feed", "agency routes lines stops notes")
 WEEKDAYS = ("monday", "tuesday", "wednesday", "thursday", "friday", "saturday", "sunday")
 NEEDED = ("agency", "routes", "trips", "stop_times", "stops")
@@ -187,7 +188,10 @@ def feed_of(tables, services):
 
 
 def agency_of(table):
-    return next((it["agency_name"] for it in table.rows("agency_name")), "")
+    """What the first agency of the feed says of itself, by the names that agency.json has for it."""
+    first = next(table.rows("agency_name"), {})
+    names = {"name": "agency_name", "zone": "agency_timezone", "telephone": "agency_phone"}
+    return {name: first.get(column, "") for name, column in names.items()}
 
 
 def names_of(table):

@@ -8,10 +8,8 @@ import collections
 
 from moving import plane as geometry
 from moving.carry import Progress
-from moving.limits import GREATEST_WIDTH, MOST_POINTS, MOST_ROUTES, Wrong
+from moving.limits import GREATEST_WIDTH, MOST_POINTS, Wrong
 
-# What is tried where there are too many fixed routes.
-ROUNDINGS = (30, 60, 120, 240)
 MINUTES_OF_DAY, MINUTES_OF_WEEK = 1440, 7 * 1440
 # What shortens the comparing of lines: how near a line's shorter form stays to it, and the feet that are tried.
 LIGHTER, STEPS = 15, (5, 25, 50, 100, 200, 350, 500, 750, 1000, 1500, 2000, 3000)
@@ -19,8 +17,8 @@ LIGHTER, STEPS = 15, (5, 25, 50, 100, 200, 350, 500, 750, 1000, 1500, 2000, 3000
 NOT_OWED = {"2", *map(str, range(100, 108)), *map(str, range(200, 210))}
 WEEKDAYS = ["", "Mon", "Tue", "Wed", "Thu", "Fri", "Sat", "Sun"]
 
-# A fixed route as the desk takes it, with the key and the name of the feed's route, and what is told of its line.
-Fixed = collections.namedtuple("Fixed", "key name width points days first last accessible told")
+# A fixed route as the desk takes it, with the keys and the name of the feed's routes, and what is told of its line.
+Fixed = collections.namedtuple("Fixed", "keys name width points days first last accessible told")
 # Minutes of a weekday in which runs are under way, and whether all of them are accessible.
 Span = collections.namedtuple("Span", "weekday first last accessible")
 # How fixed routes are made: the least width, the feet within which lines are put together, the minutes of a pause,
@@ -183,19 +181,7 @@ def along(route, line, width, told, making):
         is_accessible = making.all_accessible or all(it.accessible for it in spans)
         first, last = min(it.first for it in spans), max(it.last for it in spans)
         days = sorted(it.weekday for it in spans)
-        yield Fixed(route.key, route.name, width, line.points, days, first, last, is_accessible, told)
-
-
-def within_limit(feed, lines, making, count):
-    """Ends with a sentence where the desk has no room for so many fixed routes, and says what would help."""
-    if count <= MOST_ROUTES:
-        return
-    helps = ""
-    for rounding in ROUNDINGS:
-        fewer = len(fixed_routes(feed, lines, making._replace(rounding=max(rounding, making.rounding)))[0])
-        helps += f"; with --rounding {rounding} they are {fewer}" if fewer < count else ""
-    raise Wrong(f"the feed becomes {count} fixed routes, and the desk has room for {MOST_ROUTES}{helps}; leave routes "
-                "out with --leave-out, or put more lines and hours together with --tolerance, --pause and --rounding")
+        yield Fixed((route.key,), route.name, width, line.points, days, first, last, is_accessible, told)
 
 
 def clock(minute):

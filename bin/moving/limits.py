@@ -3,6 +3,8 @@
 LEAST_WIDTH, GREATEST_WIDTH = 3_960, 7_920
 GREATEST_COORDINATE, HIGHEST_NUMBER, LAST_MINUTE = 1_000_000, 4_294_967_295, 1_439
 MOST_ROUTES, MOST_POINTS, MOST_PLACES, MOST_SEATS, MOST_CHAIRS = 50, 200, 100, 30, 10
+# Days: how long a decision may be appealed, and how far ahead a trip may be booked.
+DAYS_TO_APPEAL, DAYS_AHEAD = 60, 14
 
 # How a command ends: all is done, something was refused, the words or the input are wrong, the desk did not answer.
 DONE, SOME_REFUSED, WRONG, NOT_ANSWERED = range(4)

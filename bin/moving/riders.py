@@ -1,4 +1,5 @@
 """Riders who are certified already: their records, and for residents a grant to the last day of their certification."""
+import collections
 import datetime
 import json
 import sys
@@ -13,7 +14,8 @@ def riders(words):
     """The riders of a table, or those of them whose certification ends soon."""
     today = datetime.date.today().isoformat()
     earliest = "" if words.as_of else today
-    records, refused, unread = tables.records_in(words.csv, "riders", lambda it: rider_fault(it, earliest))
+    agency = carry.kept_agency(words.folder)
+    records, refused, unread = tables.records_in(words.csv, "riders", lambda it: rider_fault(it, earliest, agency))
     if words.as_of:
         return ending(records, refused, words.as_of, words.within)
     told_riders(records)
@@ -22,10 +24,34 @@ def riders(words):
         return commands.ended(refused)
     clerk, examiner = (commands.caller_of(words, it) for it in ("clerk", "examiner"))
     tasks = [Task(f"rider {it['number']}", put_rider(it, clerk, examiner)) for it in records]
-    return carry.carried_out("riders", tasks, [clerk, examiner], words.folder, refused)[1]
+    stands, status = carry.carried_out("riders", tasks, [clerk, examiner], words.folder, refused)
+    keep_homes(words.folder, agency, [records[at] for at in stands])
+    return status
 
 
-def rider_fault(record, earliest):
+def keep_homes(folder, agency, records):
+    """Makes the riders' homes private, where places.csv does not say of a place whose it is."""
+    homes = collections.defaultdict(set)
+    for record in records:
+        if record["home"]:
+            homes[str(record["home"])].add(record["number"])
+    changed = {}
+    for number, riders in homes.items():
+        known = agency["places"][number].get("private")
+        riders |= set() if known is None or isinstance(known, bool) else {known}
+        wanted = known if isinstance(known, bool) else True if len(riders) > 1 else min(riders)
+        if wanted != known:
+            changed[number] = agency["places"][number]["private"] = wanted
+    if changed:
+        carry.keep_agency(folder, agency)
+        shared = sum(it is True for it in changed.values())
+        print(f"homes: {len(changed) - shared} places are private to their riders now"
+              + (f", and {shared} to staff, since more than one rider lives there" if shared else ""))
+
+
+def rider_fault(record, earliest, agency):
+    if record["home"] and str(record["home"]) not in agency["places"]:
+        return f"the home, place {record['home']}, was not put yet"
     if record["kind"] == "visitor" and record["until"]:
         return "a visitor has no certification here, so until has to be empty"
     if record["until"] and record["until"] < earliest:

@@ -8,6 +8,9 @@ from moving.limits import GREATEST_COORDINATE, HIGHEST_NUMBER, LAST_MINUTE, MOST
 
 CONDITION = re.compile(r"always|nolift|farther:[1-9]\d*|months:[1-9]\d?(,[1-9]\d?)*")
 WEEKDAY_PART = re.compile(r"([1-7])(?:-([1-7]))?")
+WEEKDAY_NAMES = ["mon", "tue", "wed", "thu", "fri", "sat", "sun"]
+WEEKDAY_NAME = re.compile(rf"(?i)\b({'|'.join(WEEKDAY_NAMES)})[a-z]*\b,?")
+FIRST_DAY, LAST_DAY, MOST_SKIPPED = "2000-01-01", "2099-12-31", 366
 # A column: how its text is read, and what an empty text or no such column stands for; REQUIRED has to be there.
 Column = collections.namedtuple("Column", "read default")
 Refused = collections.namedtuple("Refused", "what reason")
@@ -54,13 +57,37 @@ def minute(text):
     return int(found[1]) * 60 + int(found[2])
 
 
+def time_of_day(text):
+    """A time of a 24-hour clock, or one with am or pm."""
+    found = re.fullmatch(r"(\d{1,2}):([0-5]\d)\s*([ap])\.?m\.?", text.lower())
+    if not found:
+        return minute(text)
+    if not 1 <= int(found[1]) <= 12:
+        raise ValueError("is no time such as 9:30 am")
+    return int(found[1]) % 12 * 60 + int(found[2]) + 720 * (found[3] == "p")
+
+
+def days(text):
+    """Days with blanks or semicolons between them, and from one to another by two points."""
+    found = set()
+    for part in filter(None, re.split(r"[\s;]+", text)):
+        first, _, last = part.partition("..")
+        at, end = (datetime.date.fromisoformat(day(it)) for it in (first, last or first))
+        if (end - at).days not in range(MOST_SKIPPED):
+            raise ValueError(f"are no days from one to another, {MOST_SKIPPED} at most")
+        while at <= end:
+            found.add(at.isoformat())
+            at += datetime.timedelta(days=1)
+    return frozenset(found)
+
+
 def weekdays(text):
-    """Numbers from 1, Monday, to 7, such as 1-5 or 1 3 5."""
+    """Numbers from 1, Monday, to 7, or names, such as 1-5, 1 3 5 or Mon-Fri."""
     days = set()
-    for part in text.split():
+    for part in WEEKDAY_NAME.sub(lambda it: str(WEEKDAY_NAMES.index(it[1].lower()) + 1), text).split():
         found = WEEKDAY_PART.fullmatch(part)
         if not found or int(found[2] or found[1]) < int(found[1]):
-            raise ValueError("are no weekdays such as 1-5 or 1 3 7, where 1 is Monday")
+            raise ValueError("are no weekdays such as 1-5, 1 3 7 or Mon-Fri, where 1 is Monday")
         days |= {*range(int(found[1]), int(found[2] or found[1]) + 1)}
     return sorted(days)
 
@@ -85,6 +112,16 @@ def conditions(text):
     return found
 
 
+def whose(text):
+    """Whose place it is: nobody's, for staff alone, or a rider's."""
+    if text.isdigit():
+        return NUMBER.read(text)
+    found = {"yes": True, "true": True, "no": False, "false": False}.get(text.lower())
+    if found is None:
+        raise ValueError("is neither yes, no nor a rider's number")
+    return found
+
+
 def one_of(*words):
     def read(text):
         if text not in words:
@@ -101,9 +138,11 @@ NUMBER = Column(whole(1, HIGHEST_NUMBER), REQUIRED)
 NAME = Column(text_of, "")
 COLUMNS = {
     "places": {
-        "number": NUMBER, "name": NAME, "latitude": Column(degrees(90), None), "longitude": Column(degrees(180), None),
+        "number": NUMBER, "name": NAME, "note": NAME,
+        "latitude": Column(degrees(90), None), "longitude": Column(degrees(180), None),
         "x": Column(whole(-GREATEST_COORDINATE, GREATEST_COORDINATE), None),
         "y": Column(whole(-GREATEST_COORDINATE, GREATEST_COORDINATE), None), "core": Column(yes_or_no, False),
+        "private": Column(whose, None),
     },
     "vehicles": {
         "number": NUMBER, "name": NAME, "from_day": Column(day, REQUIRED), "days": Column(weekdays, []),
@@ -116,10 +155,16 @@ COLUMNS = {
         "role": Column(one_of("rider", "clerk", "examiner", "officer", "dispatcher", "driver"), REQUIRED),
         "subject": Column(whole(0, HIGHEST_NUMBER), 0),
     },
+    "orders": {
+        "order": NAME, "rider": NUMBER, "weekdays": Column(weekdays, REQUIRED), "wish": Column(time_of_day, REQUIRED),
+        "by": Column(time_of_day, None), "from": NUMBER, "to": NUMBER, "companions": Column(whole(0, 255), 0),
+        "attendant": Column(yes_or_no, False), "first_day": Column(day, FIRST_DAY), "last_day": Column(day, LAST_DAY),
+        "skip_days": Column(days, frozenset()),
+    },
     "riders": {
         "number": NUMBER, "kind": Column(one_of("resident", "visitor"), REQUIRED),
         "attendant": Column(yes_or_no, False), "wheelchair": Column(yes_or_no, False), "until": Column(day, None),
-        "conditions": Column(conditions, ["always"]),
+        "conditions": Column(conditions, ["always"]), "home": Column(whole(1, HIGHEST_NUMBER), None),
     },
 }
 
@@ -136,12 +181,12 @@ def value_of(name, column, fields):
         raise ValueError(f"{name} {text!r} {error}") from None
 
 
-def lines_in(path, columns):
+def lines_in(path, columns, named=str.strip):
     """The names in the first line of a table, and its other lines, each as its number and a dict."""
     try:
         with open(path, encoding="utf-8-sig", newline="") as file:
             reader = csv.DictReader(file)
-            reader.fieldnames = [it.strip() for it in reader.fieldnames or []]
+            reader.fieldnames = [named(it) for it in reader.fieldnames or []]
             rows = [(reader.line_num, it) for it in reader]
     except (OSError, UnicodeDecodeError, csv.Error) as error:
         raise Wrong(f"{path} can't be read: {error}") from None

@@ -18,7 +18,7 @@ BLOCK, SECONDS = 25, 60
 def times(words):
     """Writes a table, or looks through one."""
     agency = carry.kept_agency(words.folder)
-    places = {int(number): (it["x"], it["y"]) for number, it in agency["places"].items()}
+    places = {int(number): (it["x"], it["y"]) for number, it in agency["places"].items() if "x" in it}
     if not places:
         raise Wrong(f"{words.folder}/agency.json has no places: run the command places first")
     if words.check:

@@ -1,0 +1,95 @@
+"""The files that the site serves, made from the agency's own: docs/SITE-FILES.md defines them.
+
+Each file is written whole. Who is killed in the middle leaves some files of the old agency and some of the new one, and
+the same run again ends that.
+"""
+import contextlib
+import fcntl
+import os
+import re
+
+from moving import agency_file, roster_file, whole_file
+from moving.limits import Wrong
+
+PUBLIC = ("name", "telephone", "address", "zone", "first_weekday", "place_word", "clock", "languages", "wait_minutes",
+          "idle_minutes", "appeal", "unproved")
+# Whoever serves the files is in the folder's group; nobody else reads them.
+FILE_MODE, FOLDER_MODE = 0o640, 0o2750
+FIXED = ("agency.json", "places.json", "staff/places.json", "staff/roster.csv", "drivers/places.json", "drivers/roster.csv")
+OWN = re.compile(r"own/[1-9][0-9]*/places\.json")
+
+
+def texts_of(agency, roster=None, drivers=None):
+    """Each file's text by its path in the folder."""
+    lists = {name: agency.get(name, []) for name in agency_file.LISTS}
+    hidden = {**lists, "places": [without_secrets(it) for it in lists["places"]]}
+    texts = {
+        "agency.json": agency_file.text_of({it: agency[it] for it in PUBLIC if agency.get(it, False) is not False}),
+        "places.json": agency_file.text_of(hidden),
+        "staff/places.json": agency_file.text_of(lists),
+        # A driver has to find the homes of the riders on the manifest.
+        "drivers/places.json": agency_file.text_of({"places": lists["places"]}),
+    }
+    for rider in sorted({it["private"] for it in lists["places"] if is_riders(it)}):
+        own = [it for it in lists["places"] if is_riders(it) and it["private"] == rider]
+        texts[f"own/{rider}/places.json"] = agency_file.text_of({"places": own})
+    if roster:
+        texts["staff/roster.csv"] = roster_file.text_of(roster.riders, roster.columns)
+    if drivers:
+        texts["drivers/roster.csv"] = roster_file.text_of(drivers.riders, roster_file.DRIVERS_COLUMNS)
+    return texts
+
+
+def without_secrets(place):
+    """What anybody with a key may read of a place."""
+    return {"id": place["id"], "private": True} if place.get("private") else place
+
+
+def is_riders(place):
+    """Whether the place is private to a rider, and not to staff alone."""
+    return not isinstance(place.get("private", False), bool)
+
+
+def put(folder, texts):
+    """Gives the folder these files, and takes away those that an earlier run made and this one does not."""
+    try:
+        os.makedirs(folder, mode=FOLDER_MODE, exist_ok=True)
+        with locked(folder):
+            group = os.stat(folder).st_gid
+            for path in sorted(made_before(folder) - texts.keys()):
+                os.remove(f"{folder}/{path}")
+                with contextlib.suppress(OSError):
+                    os.rmdir(os.path.dirname(f"{folder}/{path}"))
+            for path, text in texts.items():
+                made_folders(folder, os.path.dirname(path), group)
+                whole_file.written(f"{folder}/{path}", text, FILE_MODE, group)
+    except OSError as error:
+        raise Wrong(f"{error.filename or folder}: {error.strerror}") from None
+
+
+def made_folders(folder, inner, group):
+    path = folder
+    for name in filter(None, inner.split("/")):
+        path = f"{path}/{name}"
+        if not os.path.isdir(path):
+            os.mkdir(path)
+            os.chown(path, -1, group)
+            os.chmod(path, FOLDER_MODE)
+
+
+def made_before(folder):
+    """The paths of all files in the folder that a run of this program makes, and what a killed run left of one."""
+    riders = os.listdir(f"{folder}/own") if os.path.isdir(f"{folder}/own") else []
+    own = [it for it in (f"own/{rider}/places.json" for rider in riders) if OWN.fullmatch(it)]
+    return {it for path in [*FIXED, *own] for it in (path, f"{path}.new") if os.path.exists(f"{folder}/{it}")}
+
+
+@contextlib.contextmanager
+def locked(folder):
+    """One run at a time."""
+    number = os.open(folder, os.O_RDONLY | os.O_DIRECTORY)
+    try:
+        fcntl.flock(number, fcntl.LOCK_EX)
+        yield
+    finally:
+        os.close(number)

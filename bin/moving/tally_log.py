@@ -1,0 +1,112 @@
+"""The site's log of denials and of taps at stops: what the pages tell the site, and the site writes down.
+
+A line is the time, the path and the query, with tabs between them. A line that can't be read is named and passed over;
+one that came twice, by its id, counts once.
+"""
+import collections
+import datetime
+import gzip
+import re
+import urllib.parse
+import zlib
+
+from moving import keys
+from moving.limits import HIGHEST_NUMBER, LAST_MINUTE, Wrong
+from moving.rules import RULES
+
+EVENTS = ("arrived", "aboard", "dropped", "left", "no-show-rider", "no-show-agency")
+# `received` is when the site had it, by the site's clock; `at` is when the driver tapped, by the phone's.
+Denial = collections.namedtuple("Denial", "id received day minute rule")
+Stop = collections.namedtuple("Stop", "id received vehicle trip event at")
+Log = collections.namedtuple("Log", "denials stops broken")
+FIELDS = {"denials": ("id", "day", "minute", "rule"), "stops": ("id", "vehicle", "trip", "event", "at")}
+LONGEST = 4_096
+
+
+def read(paths):
+    """What logs hold, each id once, in the order of the logs."""
+    log, known = Log([], [], []), {}
+    for path in paths:
+        for number, line in enumerate(lines_in(path), 1):
+            try:
+                hit = hit_of(line)
+                there = known.setdefault(hit.id, hit)
+                if there is hit:
+                    (log.denials if isinstance(hit, Denial) else log.stops).append(hit)
+                elif there._replace(received=None) != hit._replace(received=None):
+                    raise ValueError(f"the id {hit.id} stands before with other words")
+            except ValueError as error:
+                log.broken.append(f"{path}, line {number}: {error}")
+    return log
+
+
+def lines_in(path):
+    """The lines of a log, which may be packed by gzip."""
+    try:
+        with (gzip.open if str(path).endswith(".gz") else open)(path, "rb") as file:
+            for line in file:
+                yield line.rstrip(b"\r\n")
+    except (OSError, EOFError, zlib.error) as error:
+        raise Wrong(f"{path} can't be read: {getattr(error, 'strerror', None) or error}") from None
+
+
+def hit_of(line):
+    """The hit of a line, or a ValueError that says why it is none."""
+    try:
+        parts = line.decode("ascii").split("\t")
+    except UnicodeDecodeError as error:
+        raise ValueError(f"it has the byte {line[error.start]:#04x}") from None
+    if len(parts) != 3 or len(line) > LONGEST:
+        raise ValueError(f"it has {len(parts)} parts and {len(line)} signs, and a line has a time, a path and a query")
+    kind = parts[1].rpartition("/")[2]
+    if kind not in FIELDS:
+        raise ValueError(f"the path {parts[1][:60]!r} is neither /tally/denials nor /tally/stops")
+    fields = fields_of(parts[2], FIELDS[kind])
+    made = denial_of if kind == "denials" else stop_of
+    return made(id_of(fields["id"]), time_of(parts[0], "the time"), fields)
+
+
+def fields_of(query, names):
+    given = urllib.parse.parse_qs(query, keep_blank_values=True, max_num_fields=20)
+    for name in names:
+        if len(given.get(name, [])) != 1:
+            raise ValueError(f"{name} is missing, or stands twice")
+    return {name: given[name][0] for name in names}
+
+
+def id_of(text):
+    found = keys.normalized(text)
+    if len(found) != keys.SIGNS or not {*found} <= {*keys.ALPHABET}:
+        raise ValueError(f"id {text[:40]!r} is not {keys.SIGNS} signs of base32")
+    return found
+
+
+def time_of(text, name):
+    try:
+        return datetime.datetime.fromisoformat(text)
+    except ValueError:
+        raise ValueError(f"{name} {text[:40]!r} is no time") from None
+
+
+def number_of(text, name, low, high):
+    if not re.fullmatch(r"[0-9]{1,10}", text) or not low <= int(text) <= high:
+        raise ValueError(f"{name} {text[:40]!r} is no number from {low} to {high}")
+    return int(text)
+
+
+def denial_of(key, received, fields):
+    if not re.fullmatch(r"[0-9]{4}-[0-9]{2}-[0-9]{2}", fields["day"]):
+        raise ValueError(f"day {fields['day'][:40]!r} is no day YYYY-MM-DD")
+    day = time_of(fields["day"], "day").date()
+    if fields["rule"] not in RULES:
+        raise ValueError(f"rule {fields['rule'][:40]!r} is none by which the desk denies a trip")
+    return Denial(key, received, day, number_of(fields["minute"], "minute", 0, LAST_MINUTE), fields["rule"])
+
+
+def stop_of(key, received, fields):
+    if fields["event"] not in EVENTS:
+        raise ValueError(f"event {fields['event'][:40]!r} is none of {', '.join(EVENTS)}")
+    if not re.fullmatch(r"[0-9]{4}-[0-9]{2}-[0-9]{2}T[0-9]{2}:[0-9]{2}:[0-9]{2}", fields["at"]):
+        raise ValueError(f"at {fields['at'][:40]!r} is no time YYYY-MM-DDTHH:MM:SS")
+    vehicle, trip = (number_of(fields[it], it, 1, HIGHEST_NUMBER) for it in ("vehicle", "trip"))
+    return Stop(key, received, vehicle, trip, fields["event"], time_of(fields["at"], "at"))
