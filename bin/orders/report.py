@@ -1,0 +1,52 @@
+"""What a night's run came to: a page of text, and a CSV."""
+import collections
+import csv
+import io
+
+from orders.night import BOOKED, REFUSED, THERE
+
+HEADER = ("day", "order", "rider", "wish", "from", "to", "result", "rule", "reason", "trip", "vehicle", "window_from",
+          "window_to")
+
+
+def clock(minute, hours=12):
+    """A minute of the day by the agency's clock."""
+    if hours == 24:
+        return f"{minute // 60:02}:{minute % 60:02}"
+    return f"{(minute // 60 + 11) % 12 + 1}:{minute % 60:02} {'am' if minute < 720 else 'pm'}"
+
+
+def csv_of(outcomes):
+    text = io.StringIO()
+    writer = csv.writer(text, lineterminator="\n")
+    writer.writerow(HEADER)
+    for it in outcomes:
+        trip, (rule, _, reason) = it.trip or {}, it.reason.partition(": ")
+        asked = it.order.rider, clock(it.order.wish, 24), it.order.origin, it.order.goal
+        window = (clock(trip[name], 24) if name in trip else "" for name in ("window_from", "window_to"))
+        booked = trip.get("trip", ""), trip.get("vehicle", ""), *window
+        writer.writerow([it.day, it.order.name, *asked, it.result, rule, reason, *booked])
+    return text.getvalue()
+
+
+def text_of(today, outcomes, faults, notes, hours):
+    """The page: what was refused first, since somebody has to see to it."""
+    groups = collections.defaultdict(list)
+    for it in outcomes:
+        groups[it.result].append(it)
+    lines = [f"Standing orders, {today}: {len(groups[BOOKED])} booked, {len(groups[THERE])} there already, "
+             f"{len(groups[REFUSED])} refused, {len(faults)} lines that are wrong"]
+    lines += [f"  note: {it}" for it in notes]
+    lines += [f"  wrong: {what}: {said}" for what, said in faults]
+    lines += [f"  refused: {said_of(it, hours)}: {it.reason}" for it in groups[REFUSED]]
+    lines += [f"  cancelled: {said_of(it, hours)}: trip {it.trip['trip']} was cancelled, and is not booked again"
+              for it in groups[THERE] if it.trip["status"] == "cancelled"]
+    for it in groups[BOOKED]:
+        window = f"{clock(it.trip['window_from'], hours)} to {clock(it.trip['window_to'], hours)}"
+        lines.append(f"  booked: {said_of(it, hours)}: trip {it.trip['trip']}, pickup from {window}")
+    return "\n".join(lines) + "\n"
+
+
+def said_of(it, hours):
+    return (f"{it.day:%a} {it.day}, {it.order.name}, rider {it.order.rider} at {clock(it.order.wish, hours)} "
+            f"from {it.order.origin} to {it.order.goal}")

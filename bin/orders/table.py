@@ -1,0 +1,73 @@
+"""The table of standing orders: weekly trips of riders, a line for each, as docs/STANDING-ORDERS.md has it."""
+import datetime
+import re
+
+from moving import tables
+
+COLUMNS = tables.COLUMNS["orders"]
+
+
+class Order:
+    """One standing order. `key` tells its trips from those of others, also in later nights."""
+
+    def __init__(self, line, fields):
+        self.line, self.weekdays, self.skipped = line, frozenset(fields["weekdays"]), fields["skip_days"]
+        self.first, self.last = fields["first_day"], fields["last_day"]
+        self.rider, self.wish, self.origin, self.goal = (fields[it] for it in ("rider", "wish", "from", "to"))
+        self.asked = {it: fields[it] for it in ("rider", "wish", "from", "to", "attendant", "companions")}
+        self.asked |= {} if fields["by"] is None else {"by": fields["by"]}
+        self.name = f"order {fields['order']}" if fields["order"] else f"line {line}"
+        self.key = fields["order"] or f"rider {self.rider} at {self.wish} from {self.origin} to {self.goal}"
+
+    def is_on(self, day):
+        """Whether the order has a trip on this day."""
+        text = day.isoformat()
+        return day.isoweekday() in self.weekdays and self.first <= text <= self.last and text not in self.skipped
+
+    def body(self, day):
+        """What is asked of the desk."""
+        return {**self.asked, "day": day.isoformat()}
+
+    def meets(self, other):
+        """Whether two orders have a weekday and a span of days in common."""
+        return self.weekdays & other.weekdays and self.first <= other.last and other.first <= self.last
+
+
+def column_name(text):
+    return re.sub(r"[\s_-]+", "_", text.strip().lower())
+
+
+def orders_in(path):
+    """The orders of a table, what is wrong in other lines, and the columns that are not read."""
+    header, rows = tables.lines_in(path, COLUMNS, column_name)
+    orders, faults, named = [], [], {}
+    for line, fields in rows:
+        if not any(it for it in fields.values() if isinstance(it, str) and it.strip()):
+            continue
+        try:
+            order = order_of(line, fields)
+            there = next((it for it in named.get(order.key, []) if fields.get("order") or it.meets(order)), None)
+            if there:
+                raise ValueError(f"order {order.key!r} stands in line {there.line} already" if fields.get("order") else
+                                 f"it is the same trip as line {there.line}")
+            named.setdefault(order.key, []).append(order)
+            orders.append(order)
+        except ValueError as error:
+            faults.append((f"line {line} of {path}", str(error)))
+    return orders, faults, [it for it in header if it not in COLUMNS]
+
+
+def order_of(line, fields):
+    if None in fields:
+        raise ValueError("it has more fields than the first line")
+    order = Order(line, {name: tables.value_of(name, column, fields) for name, column in COLUMNS.items()})
+    if order.first > order.last:
+        raise ValueError("its last day is before its first")
+    if not order.weekdays:
+        raise ValueError("weekdays is missing")
+    return order
+
+
+def days_of(today, ahead):
+    """The days that may be booked today."""
+    return [today + datetime.timedelta(days=it) for it in range(1, ahead + 1)]

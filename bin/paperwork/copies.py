@@ -1,0 +1,133 @@
+"""A copy of a desk's file, read by SQLite and never written: its tables are those of docs/FORMATS.md."""
+import collections
+import datetime
+import errno
+import fcntl
+import os
+import re
+import sqlite3
+import struct
+import urllib.parse
+
+from moving.limits import Wrong
+
+VERSIONS = (1, 2)
+# In the order in which the tables count them, from 0.
+ENTRIES = ("complete", "grant", "refuse", "appeal", "heard", "appeal granted", "appeal denied", "overturn", "notice",
+           "notice heard", "suspend")
+STATUSES = ("booked", "cancelled", "ridden", "missed by the rider", "missed by the operator")
+BOOKED, CANCELLED, RIDDEN, MISSED_BY_RIDER, MISSED_BY_OPERATOR = range(5)
+KINDS = ("resident", "visitor")
+DAY_ZERO, NO_NUMBER = datetime.date(1970, 1, 1).toordinal(), -1
+FIRST_YEAR, LAST_YEAR = 2000, 2099
+SIGN = b"SQLite format 3\0"
+# The bytes of a file that SQLite locks: one that waits to write, one that will, and those of readers.
+FIRST_LOCKED, LOCKED = 0x40000000, 512
+FLOCK = "hhqqi4x"
+BACKUP = re.compile(r"desk-.*\.db")
+
+Entry = collections.namedtuple("Entry", "place kind day author a b conditions words")
+Policy = collections.namedtuple("Policy", "min_missed percent span_days")
+
+
+def number_of(day):
+    """A day as the tables have it."""
+    return day.toordinal() - DAY_ZERO
+
+
+def day_of(number):
+    """The day of a number of the tables."""
+    try:
+        day = datetime.date.fromordinal(number + DAY_ZERO)
+    except (ValueError, OverflowError, TypeError):
+        day = None
+    if day is None or not FIRST_YEAR <= day.year <= LAST_YEAR:
+        raise Wrong(f"the copy has the day {number!r}, none of {FIRST_YEAR} to {LAST_YEAR}, and is not sound")
+    return day
+
+
+def found(path):
+    """The copy itself; of a folder of backups, the newest by name."""
+    if not os.path.isdir(path):
+        return path
+    names = sorted(it for it in os.listdir(path) if BACKUP.fullmatch(it))
+    if not names:
+        raise Wrong(f"{path} has no backup named desk-*.db")
+    return f"{path.rstrip('/')}/{names[-1]}"
+
+
+class Copy:
+    """A copy that is open. What can't be read ends with one sentence."""
+
+    def __init__(self, path):
+        self.path = path
+        check_file(path)
+        place = urllib.parse.quote(os.path.abspath(path))
+        self.connection = sqlite3.connect(f"file:{place}?mode=ro&immutable=1", uri=True)
+        self.version = self.read_version()
+        self.policy = Policy(*self.rows("SELECT min_missed, percent, span_days FROM desk")[0])
+
+    def __enter__(self):
+        return self
+
+    def __exit__(self, *_):
+        self.connection.close()
+
+    def rows(self, query, *values):
+        """The rows of a query."""
+        try:
+            return self.connection.execute(query, values).fetchall()
+        except (sqlite3.Error, OverflowError) as error:
+            raise Wrong(f"{self.path} is no sound copy of a desk's file: {error}") from None
+
+    def read_version(self):
+        versions = self.rows("SELECT version FROM desk")
+        if len(versions) != 1:
+            raise Wrong(f"{self.path} is no sound copy of a desk's file: its table desk has {len(versions)} rows")
+        if versions[0][0] not in VERSIONS:
+            raise Wrong(f"{self.path} has tables of version {versions[0][0]!r}, and versions 1 and 2 are read here")
+        return versions[0][0]
+
+    def made_on(self):
+        """The day on which the file was last written, by this machine's clock."""
+        return datetime.date.fromtimestamp(os.stat(self.path).st_mtime)
+
+    def case_files(self, rider=None):
+        """The entries of each rider who has any, in their order."""
+        only, values = ("", ()) if rider is None else ("WHERE rider = ?", (rider,))
+        files = collections.defaultdict(list)
+        for number, place, kind, *rest in self.rows(
+                f"SELECT rider, place, kind, day, author, a, b, conditions, words FROM entries {only} "
+                "ORDER BY rider, place", *values):
+            if kind not in range(len(ENTRIES)):
+                raise Wrong(f"{self.path} is no sound copy of a desk's file: an entry of the kind {kind!r}")
+            files[number].append(Entry(place, ENTRIES[kind], *rest))
+        return files
+
+
+def check_file(path):
+    """The file is one of SQLite's, is whole without a log, and nobody has it open to write."""
+    try:
+        with open(path, "rb") as file:
+            head = file.read(len(SIGN))
+            holder = lock_of(file)
+    except OSError as error:
+        raise Wrong(f"{path} can't be read: {error.strerror}") from None
+    if head != SIGN:
+        raise Wrong(f"{path} is no database of SQLite, and so no copy of a desk's file")
+    if os.path.lexists(f"{path}-wal"):
+        raise Wrong(f"{path} has a log, {path}-wal, beside it: this is a desk's own file. Give a backup of it")
+    if holder:
+        raise Wrong(f"process {holder} has {path} open and locked: this is a desk's own file. Give a backup of it")
+
+
+def lock_of(file):
+    """The process that has locked the file as SQLite does, or 0."""
+    asked = struct.pack(FLOCK, fcntl.F_WRLCK, os.SEEK_SET, FIRST_LOCKED, LOCKED, 0)
+    try:
+        kind, _, _, _, holder = struct.unpack(FLOCK, fcntl.fcntl(file, fcntl.F_GETLK, asked))
+    except OSError as error:
+        if error.errno in (errno.ENOTSUP, errno.EINVAL, errno.ENOLCK):
+            return 0
+        raise
+    return 0 if kind == fcntl.F_UNLCK else holder

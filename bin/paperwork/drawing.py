@@ -1,0 +1,84 @@
+"""Lists as text of columns, and as a page that works without a script and prints."""
+import datetime
+import html
+
+from paperwork.lists import Rider
+
+# The site serves the page beside those of the office, and lets no style stand within it.
+STYLE = "/desk.css"
+
+
+def shown(text):
+    """A text without signs that would steer a terminal."""
+    return "".join(it if it.isprintable() else "\ufffd" for it in text)
+
+
+def cell_text(cell):
+    if isinstance(cell, datetime.date):
+        return f"{cell.isoformat()} {cell:%a}"
+    return shown(str(cell.number if isinstance(cell, Rider) else cell))
+
+
+def list_text(listed):
+    """A list as lines."""
+    lines = [f"{listed.title.upper()}: {len(listed.rows)}"] + ([listed.note] if listed.note else [])
+    table = [listed.columns, *([cell_text(cell) for cell in row] for row in listed.rows)]
+    widths = [max(map(len, column)) for column in zip(*table)]
+    if listed.rows:
+        lines += ["  ".join(f"{cell:<{width}}" for cell, width in zip(row, widths)).rstrip() for row in table]
+    return "\n".join([*lines, ""])
+
+
+def cell_html(cell, on_page):
+    if isinstance(cell, Rider):
+        link = f'<a href="#rider-{cell.number}">{cell.number}</a>'
+        return link if cell.number in on_page else str(cell.number)
+    if isinstance(cell, datetime.date):
+        return f'<time datetime="{cell.isoformat()}">{cell:%a, %b} {cell.day}, {cell.year}</time>'
+    return html.escape(shown(str(cell)))
+
+
+def table_html(listed, on_page):
+    head = "".join(f'<th scope="col">{html.escape(it)}</th>' for it in listed.columns)
+    rows = []
+    for first, *rest in listed.rows:
+        cells = "".join(f"<td>{cell_html(it, on_page)}</td>" for it in rest)
+        rows.append(f'<tr><th scope="row">{cell_html(first, on_page)}</th>{cells}</tr>')
+    # (a table that is wider than the screen moves within its own box, which the keyboard reaches)
+    return "\n".join([f'<div class="scroll" role="region" tabindex="0" aria-labelledby="title-{listed.name}">',
+                      "<table>", f"<thead><tr>{head}</tr></thead>", "<tbody>", *rows, "</tbody>", "</table>", "</div>"])
+
+
+def list_html(listed, on_page):
+    note = f"For the {listed.reader}. {listed.note}" if listed.reader else listed.note
+    title = html.escape(shown(listed.title))
+    count = f": {len(listed.rows)}" if listed.reader else ""
+    return "\n".join([
+        f'<section id="{listed.name}" aria-labelledby="title-{listed.name}">',
+        f'<h2 id="title-{listed.name}">{title}{count}</h2>', f"<p>{html.escape(note)}</p>" if note else "",
+        table_html(listed, on_page) if listed.rows else "<p>Nothing waits here.</p>", "</section>"])
+
+
+def file_html(listed, sentences, is_alone):
+    """A case file, folded where others stand beside it."""
+    said = "".join(f"<p>{html.escape(shown(it))}</p>" for it in sentences)
+    return "\n".join([
+        f'<details id="{listed.name}"{" open" if is_alone else ""}>',
+        f'<summary id="title-{listed.name}">{html.escape(shown(listed.title))}</summary>',
+        said, table_html(listed, ()) if listed.rows else "", "</details>"])
+
+
+def page(title, sentences, lists, files):
+    """The page: lists, and below them the case files, each with its sentences."""
+    on_page = {int(it.name.removeprefix("rider-")) for it, _ in files}
+    links = [f'<li><a href="#{it.name}">{html.escape(it.title)}: {len(it.rows)}</a></li>' for it in lists]
+    below = ['<section aria-labelledby="title-files">', '<h2 id="title-files">Case files</h2>',
+             *(file_html(listed, said, not lists) for listed, said in files), "</section>"] if files else []
+    return "\n".join([
+        "<!DOCTYPE html>", '<html lang="en">', "<head>", '<meta charset="utf-8">',
+        '<meta name="viewport" content="width=device-width, initial-scale=1">',
+        f"<title>{html.escape(shown(title))}</title>", f'<link rel="stylesheet" href="{STYLE}">', "</head>", "<body>",
+        '<div class="frame">', '<main class="stack">', f"<h1>{html.escape(shown(title))}</h1>",
+        *(f"<p>{html.escape(shown(it))}</p>" for it in sentences),
+        *(['<nav aria-label="Lists">', "<ul>", *links, "</ul>", "</nav>"] if links else []),
+        *(list_html(it, on_page) for it in lists), *below, "</main>", "</div>", "</body>", "</html>", ""])

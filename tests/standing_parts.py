@@ -1,0 +1,288 @@
+"""What tests/standing_orders tries without a program: a desk's rules in place of it, and kills at each step."""
+import contextlib
+import copy
+import datetime
+import os
+import random
+import tempfile
+
+from moving import whole_file
+from moving.desk import HARMLESS, Reply
+from moving.rules import RULES
+from orders import state as states, table
+from orders.clerk import Clerk
+from orders.night import BOOKED, REFUSED, THERE, Night
+from orders.share import Share
+from serving import difference
+
+MONDAY, SEED, URL = datetime.date(2026, 11, 30), 20261128, "http://desk"
+HEADER = "order,rider,weekdays,wish,by,from,to,companions,attendant,first day,last day,skip days\n"
+OUT = "A,7,1-5,9:00,10:30,1,2,0,no,,,\n"
+BACK = "B,7,1 3 5,2:00 pm,,2,1,1,yes,,,2026-12-04\n"
+OTHER = "C,9,Mon-Sun,11:00,,1,3,,,2026-12-03,2026-12-06,\n"
+
+
+class Killed(BaseException):
+    """The program was killed."""
+
+
+class Steps:
+    """Counts the steps of a run, and kills it at one of them."""
+
+    def __init__(self, kill_at=None):
+        self.count, self.kill_at = 0, kill_at
+
+    def __call__(self):
+        self.count += 1
+        if self.count == self.kill_at:
+            raise Killed
+
+
+class Rules:
+    """A desk as far as bookings go: numbers of writes, days that may be booked, trips, denials."""
+
+    def __init__(self, today):
+        self.today, self.last, self.kept, self.trips, self.denied, self.steps = today, 0, None, {}, {}, Steps()
+
+    def ask(self, method, path, _, number=None, body=None):
+        self.steps()
+        reply = self.read(path) if method == "GET" else self.write(path, number, body)
+        self.steps()
+        return reply
+
+    def read(self, path):
+        rider = int(path.split("/")[2])
+        return Reply(200, {"trips": [it for _, it in sorted(self.trips.items()) if it["rider"] == rider]})
+
+    def write(self, path, number, body):
+        if self.kept and self.kept[:3] == (number, path, body):
+            return self.kept[3]
+        if number <= self.last:
+            return Reply(409, {"denied": "desk.number"})
+        if path == HARMLESS[0]:
+            return Reply(403, {"denied": "desk.caller"})
+        day = datetime.date.fromisoformat(body["day"])
+        rule = "37.131(b)" if not 1 <= (day - self.today).days <= 14 else self.denied.get((body["rider"], body["day"]))
+        if rule:
+            return Reply(422, {"denied": rule})
+        trip = max(self.trips, default=0) + 1
+        told = {"due": 350, "fare": 350, "trip": trip, "vehicle": 1, "window_from": body["wish"] - 60,
+                "window_to": body["wish"] - 45}
+        self.trips[trip] = {"by": None, **body, **told, "status": "booked"}
+        self.last, self.kept = number, (number, path, body, Reply(200, told))
+        return self.kept[3]
+
+    def by_hand(self, **body):
+        """A trip that somebody books with another key."""
+        before = self.last, self.kept
+        self.write("/trips", self.last + 1, {"attendant": False, "companions": 0, **body})
+        self.last, self.kept = before
+
+
+@contextlib.contextmanager
+def steps_counted(steps):
+    """Each line of the state, and each file that is written whole, is a step before, in the middle and after."""
+    add, written, fsync = states.State.add, whole_file.written, os.fsync
+
+    def add_in_steps(self, **entry):
+        steps()
+        try:
+            steps()
+        except Killed:
+            with open(self.path, "ab") as file:
+                file.write(b'{"kind":"send","caller":"')
+            raise
+        add(self, **entry)
+        steps()
+
+    def written_in_steps(*words):
+        steps()
+        written(*words)
+        steps()
+
+    states.State.add, whole_file.written, os.fsync = add_in_steps, written_in_steps, lambda _: None
+    try:
+        yield
+    finally:
+        states.State.add, whole_file.written, os.fsync = add, written, fsync
+
+
+def run_night(folder, rules, orders, today, kill_at=None):
+    """A night's outcomes, or None where it was killed; and how many steps it had."""
+    rules.steps = steps = Steps(kill_at)
+    with open(f"{folder}/orders.csv", "w", encoding="utf-8") as file:
+        file.write(HEADER + orders)
+    with open(f"{folder}/key", "w", encoding="ascii") as file:
+        file.write("standing")
+    with steps_counted(steps), contextlib.suppress(Killed), states.held(folder, URL) as kept:
+        kept.shorten(today)
+        read, faults, _ = table.orders_in(f"{folder}/orders.csv")
+        night = Night(read, today, kept, Clerk(rules, kept, f"{folder}/key"), Share(None, today))
+        return list(night.outcomes()) if not faults else faults, steps.count
+    return None, steps.count
+
+
+def trips_wanted(orders, today):
+    """The trips that a table has on the days that may be booked, each as rider, day, wish, from and to."""
+    with tempfile.NamedTemporaryFile("w", encoding="utf-8") as file:
+        file.write(HEADER + orders)
+        file.flush()
+        read = table.orders_in(file.name)[0]
+    return sorted((it.rider, day.isoformat(), it.wish, it.origin, it.goal)
+                  for day in table.days_of(today, 14) for it in read if it.is_on(day))
+
+
+def trips_there(rules):
+    return sorted((it["rider"], it["day"], it["wish"], it["from"], it["to"]) for it in rules.trips.values()
+                  if it["status"] == "booked")
+
+
+# Kills, and runs again.
+
+
+def faults_of_each_kill():
+    """Killed at each of its steps, and run again, a night has booked each trip once."""
+    orders = (OUT + BACK).replace(",,\n", ",2026-12-04,\n").replace(",,2026-12-04\n", ",2026-12-04,2026-12-04\n")
+    wanted = trips_wanted(orders, MONDAY)
+    with tempfile.TemporaryDirectory() as folder:
+        told, steps = run_night(folder, Rules(MONDAY), orders, MONDAY)
+        yield difference("a night's outcomes", {BOOKED: len(wanted)}, counted(told))
+    yield None if steps > 50 else f"a night has {steps} steps alone"
+    for kill_at in range(1, steps + 1):
+        with tempfile.TemporaryDirectory() as folder:
+            rules = Rules(MONDAY)
+            first = run_night(folder, rules, orders, MONDAY, kill_at)[0]
+            told = run_night(folder, rules, orders, MONDAY)[0]
+            again = run_night(folder, rules, orders, MONDAY)[0]
+            got = first, counted(told, REFUSED), counted(again), trips_there(rules)
+            yield difference(f"a night killed at step {kill_at}", (None, {}, {THERE: len(wanted)}, wanted), got)
+
+
+def counted(outcomes, result=None):
+    """How many outcomes have each result."""
+    results = [it.result for it in outcomes if result in (None, it.result)]
+    return {it: results.count(it) for it in sorted({*results})}
+
+
+def faults_of_denials():
+    """Each rule of a denial is told, and the trip is asked for again in the next night."""
+    day = "2026-12-01"
+    for rule, means in RULES.items():
+        with tempfile.TemporaryDirectory() as folder:
+            rules = Rules(MONDAY)
+            rules.denied = {(7, day): rule}
+            told = run_night(folder, rules, OUT, MONDAY)[0]
+            refused = [(str(it.day), it.reason) for it in told if it.result == REFUSED]
+            yield difference(f"a denial by {rule}", [(day, f"{rule}: {means}")], refused)
+            rules.denied = {}
+            told = run_night(folder, rules, OUT, MONDAY)[0]
+            yield difference("the night after it", {BOOKED: 1, THERE: 9}, counted(told))
+
+
+def faults_of_nights():
+    """A month of nights, one after the other: each day that an order has is booked once, when it comes into sight."""
+    with tempfile.TemporaryDirectory() as folder:
+        rules, days = Rules(MONDAY), [MONDAY + datetime.timedelta(days=it) for it in range(30)]
+        for today in days:
+            rules.today = today
+            run_night(folder, rules, OUT + BACK + OTHER, today)
+        wanted = sorted({it for today in days for it in trips_wanted(OUT + BACK + OTHER, today)})
+        yield difference("a month of nights", wanted, trips_there(rules))
+
+
+# What else may happen between two nights.
+
+
+def faults_of_chances():
+    """Whatever happens between nights that are killed: in the end no trip is there twice, and none is left out."""
+    chance = random.Random(SEED)
+    for turn in range(80):
+        with tempfile.TemporaryDirectory() as folder:
+            rules, lost, backup, orders = Rules(MONDAY), set(), None, [OUT, BACK, OTHER]
+            done = []
+            for _ in range(chance.randint(1, 6)):
+                done.append(chance.choice(HAPPENINGS)(chance, folder, rules, lost, orders))
+                backup = backup if chance.random() < 0.7 else copy.deepcopy(rules.__dict__)
+                shift = datetime.timedelta(days=chance.choice([0, 0, 0, -1, 1, -20, 3, 40]))
+                kill_at = chance.choice([None, chance.randint(1, 160)])
+                run_night(folder, rules, "".join(orders), rules.today + shift, kill_at)
+                if backup and chance.random() < 0.15:
+                    rules.__dict__.update(backup, today=rules.today)
+                    backup, done = None, [*done, "backup"]
+                if chance.random() < 0.3:
+                    rules.today += datetime.timedelta(days=1)
+            told = run_night(folder, rules, "".join(orders), rules.today)[0]
+            yield fault_of_end(turn, done, rules, lost, "".join(orders), told)
+
+
+def booked_by_hand(chance, _folder, rules, _lost, _orders):
+    """A clerk books what an order asks for, at its time or another one."""
+    day = rules.today + datetime.timedelta(days=chance.randint(1, 14))
+    rules.by_hand(rider=7, day=day.isoformat(), wish=chance.choice([540, 600]), **{"from": 1, "to": 2})
+    return f"by hand on {day}"
+
+
+def cancelled(chance, _folder, rules, lost, _orders):
+    """A rider cancels a trip."""
+    standing = [it for it in rules.trips.values() if it["status"] == "booked"]
+    if standing:
+        trip = chance.choice(standing)
+        trip["status"] = "cancelled"
+        lost.add((trip["rider"], trip["day"], trip["from"], trip["to"]))
+    return "cancelled"
+
+
+def key_used(chance, _folder, rules, _lost, _orders):
+    """Somebody writes with the clerk's key."""
+    rules.last += chance.randint(1, 50)
+    rules.kept = rules.last, "/riders", {}, Reply(200, {"done": True})
+    return "key used"
+
+
+def state_lost(_chance, folder, _rules, _lost, _orders):
+    """The file of what was sent is gone."""
+    with contextlib.suppress(FileNotFoundError):
+        os.remove(f"{folder}/standing-orders.jsonl")
+    return "state lost"
+
+
+def order_renamed(_chance, _folder, _rules, _lost, orders):
+    """The table gives an order another name."""
+    orders[0] = OUT.replace("A,", "A2,", 1) if orders[0] == OUT else OUT
+    return "renamed"
+
+
+def denied(chance, _folder, rules, _lost, _orders):
+    """No vehicle has room on a day, or has again."""
+    day = (rules.today + datetime.timedelta(days=chance.randint(1, 14))).isoformat()
+    rules.denied = {} if rules.denied else {(7, day): "no vehicle"}
+    return f"denied {rules.denied}"
+
+
+def nothing(*_):
+    return "nothing"
+
+
+HAPPENINGS = [booked_by_hand, cancelled, key_used, state_lost, order_renamed, denied, nothing]
+
+
+def fault_of_end(turn, done, rules, lost, orders, told):
+    """None where each trip that is wanted is there once, or refused, or was cancelled."""
+    refused = {(it.order.rider, it.day.isoformat(), it.order.origin, it.order.goal): it.reason for it in told
+               if it.result == REFUSED}
+    for rider, day, _, origin, goal in trips_wanted(orders, rules.today):
+        way = rider, day, origin, goal
+        count = sum((it["rider"], it["day"], it["from"], it["to"]) == way and it["status"] == "booked"
+                    for it in rules.trips.values())
+        # (who books by hand what is there already has it twice)
+        most = max(1, sum(it == f"by hand on {day}" for it in done) + 1 if rider == 7 and goal == 2 else 1)
+        if not (1 <= count <= most or count == 0 and (way in lost or way in refused)):
+            return f"turn {turn}, after {done}: {count} trips of rider {rider} on {day} from {origin} to {goal}"
+        if way in refused and not refused[way].startswith("no vehicle"):
+            return f"turn {turn}, after {done}: {way} is refused by {refused[way]}"
+    return None
+
+
+def all_faults():
+    for each in (faults_of_each_kill, faults_of_denials, faults_of_nights, faults_of_chances):
+        yield from each()
