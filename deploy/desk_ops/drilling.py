@@ -1,0 +1,100 @@
+"""The quarter's drill: the newest backup is restored into a folder of its own and served, beside the desk that runs."""
+import contextlib
+import glob
+import os
+import select
+import socket
+import subprocess
+import time
+
+from .content import check_same, content_of_pair
+from .copying import check_room, folder_within, size_of
+from .ending import WRONG_WORDS, Failure
+from .judge import ANY_ZONE
+from .places import program_to_start
+from .restoring import check_backup, prepared
+
+LONGEST_OPENING = 600
+NOBODYS = b"GET /days/2000-01-01/sheet HTTP/1.1\r\nDesk-Key: drill\r\n\r\n"
+
+
+def newest_backup(folder):
+    """The backup of a folder that was written last."""
+    found = [it for it in glob.glob(f"{glob.escape(folder)}/*.db") if os.path.isfile(it)]
+    if not found:
+        raise Failure(f"{folder} has no backup, whose name would end in .db", WRONG_WORDS)
+    return max(found, key=os.path.getmtime)
+
+
+@contextlib.contextmanager
+def served(program, file, port):
+    """The desk over a file on a port of this machine, once it listens. It is ended by the number of its process."""
+    words = [program, "serve", file, ANY_ZONE, str(port), "1000"]
+    process = subprocess.Popen(words, stdin=subprocess.DEVNULL, stderr=subprocess.PIPE)
+    try:
+        if not select.select([process.stderr], [], [], LONGEST_OPENING)[0]:
+            raise Failure(f"the desk did not listen within {LONGEST_OPENING} seconds")
+        said = process.stderr.readline().decode(errors="replace").strip()
+        if not said.startswith("listening"):
+            raise Failure(f"the desk did not serve the restored file: {said}")
+        yield process
+    finally:
+        process.kill()
+        process.wait()
+        process.stderr.close()
+
+
+def free_port():
+    with socket.socket() as tried:
+        tried.bind(("127.0.0.1", 0))
+        return tried.getsockname()[1]
+
+
+def check_answer(port):
+    """The desk answers a request, and takes nobody's key."""
+    with socket.create_connection(("127.0.0.1", port), 60) as line:
+        line.sendall(NOBODYS)
+        said = b""
+        while piece := line.recv(65536):
+            said += piece
+    if b" 401 " not in said.partition(b"\r\n")[0]:
+        raise Failure(f"the restored desk answered {said[:80]!r} to a key that nobody has")
+
+
+class Drill:
+    """What a restore takes, step by step."""
+
+    def __init__(self, backup, folder):
+        self.backup, self.folder = backup, folder
+        self.seconds = {}
+        self.content = None
+        self.age = time.time() - os.path.getmtime(backup)
+
+    @contextlib.contextmanager
+    def timed(self, step):
+        begun = time.monotonic()
+        yield
+        self.seconds[step] = time.monotonic() - begun
+
+    def make(self):
+        check_backup(self.backup)
+        check_room(self.folder, 3 * size_of(self.backup), "the drill")
+        with folder_within(self.folder, "desk-drill-") as folder:
+            with self.timed("copied and judged"):
+                file, self.content = prepared(self.backup, folder, program_to_start(), True)
+            port, begun = free_port(), time.monotonic()
+            with served(program_to_start(), file, port):
+                check_answer(port)
+                self.seconds["opened and answering"] = time.monotonic() - begun
+            check_same(self.content, content_of_pair(file), "the restored file")
+        return self
+
+    def told(self):
+        """What the office learns: what would be lost, and for how long it would be without the desk."""
+        hours = self.age / 3600
+        steps = ", ".join(f"{step} in {seconds:.1f} seconds" for step, seconds in self.seconds.items())
+        return (f"{self.backup} has {self.content.told()}\n"
+                f"{steps}; its counts are those of the backup\n"
+                f"the backup is {hours:.1f} hours old: what was written since would be entered again\n"
+                f"the office would be without the desk for {sum(self.seconds.values()):.0f} seconds, "
+                "beside the time until somebody notices and types the command")

@@ -1,0 +1,100 @@
+"""Where a desk's files and programs are. The environment may name others, which is what trials do."""
+import os
+import re
+import subprocess
+
+from .ending import WRONG_WORDS, Failure
+
+PROGRAM = "/usr/local/bin/desk"
+SETTINGS = "/etc/desk"
+AGENCY_NAME = re.compile(r"[a-z0-9]+(-[a-z0-9]+)*")
+
+
+class Desk:
+    """One desk of this machine: that of the unit `desk`, or of `desk@AGENCY`."""
+
+    def __init__(self, agency=None):
+        if agency is not None and not AGENCY_NAME.fullmatch(agency):
+            raise Failure(f"{agency!r} is no agency's short name: small letters, digits and dashes", WRONG_WORDS)
+        self.agency = agency
+        self.unit = f"desk@{agency}" if agency else "desk"
+        folder = f"/var/lib/desk-{agency}" if agency else "/var/lib/desk"
+        self.file = os.path.realpath(os.environ.get("FILE") or f"{folder}/desk.db")
+        self.folder = os.path.dirname(self.file)
+        self.log = f"{self.file}-wal"
+        settings = os.environ.get("SETTINGS") or SETTINGS
+        self.fence = os.environ.get("FENCE") or (f"{settings}/{agency}.fenced" if agency else f"{settings}/fenced")
+
+    def process(self):
+        """The number of the process that serves, or 0."""
+        command = os.environ.get("PROCESS") or f"systemctl show --property=MainPID --value {self.unit}"
+        said = answer_of(command).strip()
+        if not said.isdigit():
+            raise Failure(f"`{command}` printed {said!r}, which is no number of a process")
+        return int(said)
+
+    def stop(self):
+        answer_of(os.environ.get("STOP") or f"systemctl stop {self.unit}")
+
+    def start(self):
+        """Starts the desk, also where systemd gave it up after a loop of starts."""
+        command = f"systemctl reset-failed {self.unit} 2>/dev/null; systemctl start {self.unit}"
+        answer_of(os.environ.get("START") or command)
+
+    def is_served(self):
+        """Whether the process of the unit has the file open."""
+        process = self.process()
+        return bool(process) and has_open(process, self.file)
+
+    def serving(self):
+        """The number of the process that has the file open, or 0; of a process that does not serve it, a failure."""
+        process = self.process()
+        if process and not has_open(process, self.file):
+            raise Failure(f"process {process} does not serve {self.file}: FILE or PROCESS is another desk's, "
+                          "or this takes the rights of root")
+        return process
+
+
+def answer_of(command):
+    """What a command prints. It goes to bash, so that a function that a script exported is found too."""
+    return subprocess.run(["bash", "-c", command], check=True, stdout=subprocess.PIPE, stderr=subprocess.PIPE,
+                          stdin=subprocess.DEVNULL, text=True).stdout
+
+
+def has_open(process, file):
+    """Whether the process has the file open."""
+    folder = f"/proc/{process}/fd"
+    try:
+        return any(link_of(f"{folder}/{name}") == file for name in os.listdir(folder))
+    except OSError:
+        return False
+
+
+def link_of(path):
+    try:
+        return os.readlink(path)
+    except OSError:
+        return None
+
+
+def program_of(process=0):
+    """The desk's program: that of a process that serves, else the one that DESK names, else the installed one."""
+    given = os.environ.get("DESK")
+    if given:
+        return checked_program(os.path.abspath(given))
+    if process and os.access(f"/proc/{process}/exe", os.X_OK):
+        return f"/proc/{process}/exe"
+    return checked_program(PROGRAM)
+
+
+def program_to_start(process=0):
+    """The program of the next start: the one that DESK names, else the installed one, else that of a process."""
+    if os.environ.get("DESK") or os.path.isfile(PROGRAM):
+        return program_of()
+    return program_of(process)
+
+
+def checked_program(path):
+    if not (os.path.isfile(path) and os.access(path, os.X_OK)):
+        raise Failure(f"there is no program {path}: name the desk's program in DESK")
+    return path

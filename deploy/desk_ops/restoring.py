@@ -1,0 +1,169 @@
+"""A backup in the database's place.
+
+All that can be tried is tried while the desk still runs. Where a later step fails, all is put back.
+"""
+import contextlib
+import os
+import shutil
+import sqlite3
+import tempfile
+import time
+
+from .content import check_whole, content_of, content_of_pair
+from .copying import check_copy, check_room, copied, folder_within, size_of, summed, synced
+from .ending import WRONG_WORDS, Failure, pass_over_signals
+from .judge import judge_or_migrate, migrated
+from .places import program_to_start
+
+EMPTY_LOG = 41
+# The new file, what the desk opens and throws away, and what SQLite writes as it goes.
+COPIES = 3
+
+
+def check_backup(copy):
+    """The backup is one file, whose log has nothing."""
+    if not os.path.isfile(copy):
+        raise Failure(f"there is no backup {copy}", WRONG_WORDS)
+    if size_of(f"{copy}-wal") > EMPTY_LOG:
+        raise Failure(f"{copy} has a log beside it, {copy}-wal: make one file of both first, as BACKUPS.md says of a "
+                      f"snapshot")
+
+
+def prepared(copy, folder, program, migrate):
+    """A checked copy of the backup in a folder: its path and content."""
+    file = f"{folder}/desk.db"
+    said = copied(copy, file)
+    check_copy(file, said)
+    content = content_of(file)
+    check_whole(file)
+    if judge_or_migrate(program, file):
+        if not migrate:
+            raise Failure(f"{copy} is of version {content.version}, and the program of a later one: say --migrate")
+        if not migrated(program, file):
+            raise Failure(f"{copy} could not be migrated")
+        file, content = settled(file)
+    return file, content
+
+
+def settled(file):
+    """A file whose log is put into it."""
+    with contextlib.closing(sqlite3.connect(file)) as connection:
+        connection.execute("PRAGMA wal_checkpoint(TRUNCATE)").fetchone()
+    for end in ("-wal", "-shm"):
+        with contextlib.suppress(FileNotFoundError):
+            os.remove(f"{file}{end}")
+    synced(file)
+    return file, content_of(file)
+
+
+def callers_before(desk):
+    """The callers of the database that is replaced, or None where it cannot be read."""
+    try:
+        return content_of_pair(desk.file).callers
+    except Failure:
+        return None
+
+
+class Restore:
+    """Puts the backup `copy` in the place of the database of a desk."""
+
+    def __init__(self, desk, copy, migrate=False, another=False):
+        self.desk, self.copy = desk, os.path.abspath(copy)
+        self.migrate, self.another = migrate, another
+        self.kept = None
+        self.moved = []
+        self.placed = self.stopped = False
+        self.is_compared = True
+        self.content = None
+        self.seconds = 0
+
+    def make(self):
+        check_backup(self.copy)
+        if not os.path.isdir(self.desk.folder):
+            raise Failure(f"there is no folder {self.desk.folder}: set the machine up first, as README.md says")
+        check_room(self.desk.folder, COPIES * size_of(self.copy), "restoring this backup")
+        program = program_to_start(self.desk.process())
+        before = os.umask(0o077)
+        try:
+            with folder_within(self.desk.folder, ".restored-") as folder:
+                file, self.content = prepared(self.copy, folder, program, self.migrate)
+                self.replace(file)
+        finally:
+            os.umask(before)
+        return self
+
+    def replace(self, file):
+        """The part in which the office is without the desk."""
+        begun = time.monotonic()
+        try:
+            self.stopped = True
+            self.desk.stop()
+            self.check_agency()
+            self.put_aside()
+            self.put_in_place(file)
+            self.desk.start()
+        except BaseException:
+            self.put_back()
+            raise
+        self.seconds = time.monotonic() - begun
+
+    def check_agency(self):
+        """The backup is of the agency whose database is there."""
+        if self.desk.is_served():
+            raise Failure("the desk did not stop")
+        if not os.path.exists(self.desk.file):
+            return
+        callers = callers_before(self.desk)
+        self.is_compared = callers is not None
+        if callers and not callers & self.content.callers and not self.another:
+            raise Failure(f"{self.copy} is another agency's: no caller of it is one of {self.desk.file}; "
+                          "if that is meant, say --another")
+
+    def put_aside(self):
+        """What is there goes into a folder of its own, the log with it: it would be taken for the new file's."""
+        there = [it for it in (self.desk.file, self.desk.log, f"{self.desk.file}-shm") if os.path.exists(it)]
+        if not there:
+            return
+        self.kept = tempfile.mkdtemp(prefix=f"before-{time.strftime('%Y%m%d-%H%M%S')}-", dir=self.desk.folder)
+        for path in there:
+            os.rename(path, f"{self.kept}/{os.path.basename(path)}")
+            self.moved.append(path)
+        self.give_owner(self.kept, *(f"{self.kept}/{os.path.basename(it)}" for it in there))
+        synced(self.kept)
+
+    def put_in_place(self, file):
+        os.chmod(file, 0o600)
+        self.give_owner(file)
+        os.rename(file, self.desk.file)
+        self.placed = True
+        synced(self.desk.folder)
+        if summed(self.desk.file)[0] == 0:
+            raise Failure(f"{self.desk.file} is empty")
+
+    def give_owner(self, *paths):
+        owner = os.stat(self.desk.folder)
+        if os.geteuid() == 0:
+            for path in paths:
+                os.chown(path, owner.st_uid, owner.st_gid)
+
+    def put_back(self):
+        """The old file is there again, and the desk runs as before."""
+        pass_over_signals()
+        if self.placed:
+            with contextlib.suppress(Exception):
+                self.desk.stop()
+            for path in (self.desk.file, self.desk.log):
+                with contextlib.suppress(FileNotFoundError):
+                    os.remove(path)
+        for path in self.moved:
+            os.rename(f"{self.kept}/{os.path.basename(path)}", path)
+        if self.kept:
+            shutil.rmtree(self.kept, ignore_errors=True)
+        if self.stopped and os.path.exists(self.desk.file):
+            self.desk.start()
+
+    def told(self):
+        kept = f"; what was there is in {self.kept}" if self.kept else ""
+        kept += "" if self.is_compared else ", and could not be read, so whether it is the same agency's is not known"
+        return (f"{self.copy} has {self.content.told()}\n{self.desk.file} is that backup now{kept}; "
+                f"the office was without the desk for {self.seconds:.1f} seconds, beside its opening")

@@ -1,0 +1,282 @@
+"""What is wrong with the desks of this machine: facts that root collects, and what is seen of them without a right."""
+import datetime
+import glob
+import json
+import os
+import re
+import smtplib
+import socket
+import ssl
+import subprocess
+import time
+import urllib.error
+import urllib.request
+
+from .ending import Failure
+from .places import AGENCY_NAME, SETTINGS
+
+PORT, SHOWN = "8437", ("LoadState", "ActiveState", "Result", "NRestarts", "ExecMainExitTimestamp", "ExecMainStatus")
+OTHER_SETTINGS = ("standby", "watch")
+MINUTE, HOUR, DAY = 60, 3_600, 86_400
+MOST_RESTARTS, LONGEST_STEP = 3, 15 * MINUTE
+CERTIFICATE_DAYS, BACKUP_AGE, STANDBY_AGE = 21, 25 * HOUR, 20 * MINUTE
+LEAST_FREE, LEAST_SHARE, ENOUGH = 500 << 20, 10, 5 << 30
+STORE_FAILED = 503
+
+
+def value_of(path, name, default=None):
+    """The value of NAME=VALUE in a file of settings."""
+    try:
+        with open(path, encoding="utf-8") as file:
+            found = re.findall(rf"(?m)^{name}=(.*)$", file.read())
+    except OSError:
+        return default
+    return found[-1].strip() if found else default
+
+
+class Watched:
+    """One desk of this machine, and where what belongs to it is."""
+
+    def __init__(self, agency, settings):
+        self.agency = agency
+        self.unit = f"desk@{agency}" if agency else "desk"
+        end = f"-{agency}" if agency else ""
+        self.folder, self.backups = f"/var/lib/desk{end}", f"/var/backups/desk{end}"
+        own = f"{settings}/{agency}.conf"
+        self.port = value_of(own, "PORT", PORT) if agency else PORT
+        self.fence = f"{settings}/{agency}.fenced" if agency else f"{settings}/fenced"
+        self.name = value_of(own, "NAME") if agency else value_of(f"{settings}/watch.conf", "NAME")
+        self.url = os.environ.get("URL") or f"http://127.0.0.1:{self.port}"
+        self.standby = f"desk-standby@{agency}.service" if agency else "desk-standby.service"
+
+
+def watched(settings=SETTINGS):
+    """The desk of each AGENCY.conf, or the one desk of the machine."""
+    names = sorted(os.path.basename(it)[:-5] for it in glob.glob(f"{settings}/*.conf"))
+    agencies = [it for it in names if it not in OTHER_SETTINGS and AGENCY_NAME.fullmatch(it)]
+    if os.environ.get("URL"):
+        agencies = []
+    return [Watched(it, settings) for it in agencies or [None]]
+
+
+# Facts, which root collects. Nothing is judged or changed here.
+
+
+def shown(unit):
+    """What systemd says of a unit. SHOW may be another command, which gets the unit's name."""
+    command = os.environ.get("SHOW") or f"systemctl show --timestamp=unix --property={','.join(SHOWN)}"
+    told = subprocess.run([*command.split(), unit], capture_output=True, text=True, stdin=subprocess.DEVNULL)
+    return dict(line.split("=", 1) for line in told.stdout.splitlines() if "=" in line)
+
+
+def newest_in(folder):
+    """When the newest backup of a folder was made."""
+    return max((os.stat(it).st_mtime for it in glob.glob(f"{folder}/*.db")), default=None)
+
+
+def size_of(folder):
+    return sum(os.stat(it).st_size for it in glob.glob(f"{folder}/desk.db*"))
+
+
+def facts(settings=SETTINGS):
+    desks = watched(settings)
+    return {
+        "moment": time.time(), "uptime": time.clock_gettime(time.CLOCK_BOOTTIME),
+        "units": {it.unit: shown(f"{it.unit}.service") for it in desks},
+        "backups": {it.unit: newest_in(os.environ.get("BACKUPS") or it.backups) for it in desks},
+        "sizes": {it.unit: size_of(os.environ.get("DATA") or it.folder) for it in desks},
+        "standby": {it.unit: shown(it.standby) for it in desks} if os.path.exists(f"{settings}/standby.conf") else {},
+    }
+
+
+# What is looked at. Each gives (what, sentence) of each trouble; `what` says whether it is the same one as before.
+
+
+def answer_of(desk, patience):
+    """The status of a desk's answer to a key that nobody has, or None. An opening may take so many seconds."""
+    end = time.monotonic() + patience
+    while True:
+        asked = urllib.request.Request(f"{desk.url}/days/2000-01-01/sheet", headers={"Desk-Key": "watch"})
+        try:
+            with urllib.request.urlopen(asked, timeout=max(1, patience)) as reply:
+                return reply.status
+        except urllib.error.HTTPError as error:
+            return error.code
+        except (OSError, ValueError):
+            if time.monotonic() >= end:
+                return None
+        time.sleep(min(1, patience))
+
+
+def troubles_of_answer(desk, patience, wanted):
+    status = answer_of(desk, patience)
+    if status == STORE_FAILED:
+        wanted.append(desk.unit)
+        yield "store", "answers 503, and is started anew"
+    elif status is None:
+        yield "down", f"does not answer on {desk.url}: see journalctl -u {desk.unit}"
+
+
+def troubles_of_restarts(unit, seen, state, now, wanted):
+    """A unit that ends again and again. systemd gives it up; it is started again after steps that double."""
+    loop = state.setdefault("loops", {}).setdefault(unit, {"counts": [], "step": MINUTE, "next": 0})
+    count = int(seen.get("NRestarts") or 0)
+    counts = [it for it in loop["counts"] if it[0] > now - HOUR and it[1] <= count]
+    loop["counts"] = [*counts, [now, count]]
+    if seen.get("ActiveState") == "failed":
+        if now >= loop["next"]:
+            wanted.append(unit)
+            loop["next"], loop["step"] = now + loop["step"], min(2 * loop["step"], LONGEST_STEP)
+        yield "loop", (f"has ended again and again ({seen.get('Result')}); it is started again at "
+                       f"{clock_of(loop['next'])}: see journalctl -u {unit}")
+        return
+    begun = count - counts[0][1] if counts else 0
+    if begun >= MOST_RESTARTS:
+        yield "loop", f"was started anew {begun} times within the hour: see journalctl -u {unit}"
+    else:
+        loop["step"], loop["next"] = MINUTE, 0
+
+
+def clock_of(moment):
+    return f"{datetime.datetime.fromtimestamp(moment):%H:%M}"
+
+
+def troubles_of_room(folder, size):
+    try:
+        found = os.statvfs(folder)
+    except OSError:
+        return
+    free, all_of_it = found.f_frsize * found.f_bavail, found.f_frsize * found.f_blocks
+    is_little = free < LEAST_FREE or free < 2 * size or (free * LEAST_SHARE < all_of_it and free < ENOUGH)
+    if is_little:
+        yield f"room {folder}", f"the disk of {folder} has {free >> 20:,} MB free: make room"
+    if found.f_files and found.f_favail * 20 < found.f_files:
+        yield f"files {folder}", f"the disk of {folder} has room for {found.f_favail:,} more files: make room"
+
+
+def troubles_of_clock(told, state):
+    """The machine's clock beside one that nobody sets, since the last look. A jump is told for an hour."""
+    last = state.get("clock")
+    state["clock"] = [told["moment"], told["uptime"]]
+    if last and told["uptime"] >= last[1]:
+        jump = (told["moment"] - last[0]) - (told["uptime"] - last[1])
+        if abs(jump) > MINUTE:
+            way = "forward" if jump > 0 else "back"
+            state["jump"] = [told["uptime"], f"the clock jumped {way} by {abs(jump):,.0f} seconds: look at what was "
+                                             f"written since {moment_of(last[0])}"]
+    at, sentence = state.get("jump", [0, ""])
+    if sentence and 0 <= told["uptime"] - at < HOUR:
+        yield sentence, sentence
+
+
+def moment_of(moment):
+    return f"{datetime.datetime.fromtimestamp(moment):%Y-%m-%d %H:%M}"
+
+
+def end_of_certificate(host, port, name):
+    """When the certificate ends that the site shows."""
+    context = ssl.create_default_context()
+    context.check_hostname, context.verify_mode = False, ssl.CERT_NONE
+    line = socket.create_connection((host, int(port)), 10)
+    with line, context.wrap_socket(line, server_hostname=name) as tls:
+        certificate = ssl.DER_cert_to_PEM_cert(tls.getpeercert(binary_form=True))
+    words = ["openssl", "x509", "-noout", "-enddate"]
+    told = subprocess.run(words, input=certificate, capture_output=True, text=True, check=True)
+    return ssl.cert_time_to_seconds(told.stdout.strip().partition("=")[2])
+
+
+def troubles_of_certificate(name, site, now):
+    host, _, port = site.rpartition(":")
+    try:
+        end = end_of_certificate(host, port, name)
+    except (OSError, ValueError, subprocess.SubprocessError) as error:
+        yield "site", f"the site does not answer on {site}: {error}"
+        return
+    days = int((end - now) // DAY)
+    if days < CERTIFICATE_DAYS:
+        ends = f"ends in {days} days" if days >= 0 else "has ended"
+        yield "certificate", f"the certificate of {name or 'the site'} {ends}: {moment_of(end)}"
+
+
+def troubles_of_backup(newest, now):
+    if newest is None:
+        yield "backup", "there is no backup"
+    elif now - newest > BACKUP_AGE:
+        yield "backup", f"the last backup is of {moment_of(newest)}, more than a day ago"
+
+
+def troubles_of_standby(unit, seen, state, now):
+    """The second machine has the newest copy of the last run that went well."""
+    good = state.setdefault("standby", {})
+    told = (seen.get("ExecMainExitTimestamp") or "").lstrip("@")
+    if seen.get("ExecMainStatus") == "0" and told.isdigit():
+        good[unit] = int(told)
+    last = good.setdefault(unit, int(now))
+    if now - last > STANDBY_AGE:
+        yield "standby", f"the second machine is behind: its last copy is of {moment_of(last)}"
+
+
+# All of it.
+
+
+def troubles(told, state, settings, patience):
+    """(unit, what, sentence) of each trouble, and the units that are to be started anew."""
+    now, wanted, found = told["moment"], [], []
+    site = value_of(f"{settings}/watch.conf", "SITE", "127.0.0.1:443")
+    for desk in watched(settings):
+        if os.path.exists(desk.fence):
+            continue
+        unit = desk.unit
+        of_desk = [*troubles_of_restarts(unit, told["units"].get(unit, {}), state, now, wanted),
+                   *troubles_of_answer(desk, patience, wanted), *troubles_of_backup(told["backups"].get(unit), now)]
+        if told["standby"].get(unit, {}).get("LoadState", "not-found") == "loaded":
+            of_desk += troubles_of_standby(unit, told["standby"][unit], state, now)
+        if site != "none":
+            of_desk += troubles_of_certificate(desk.name, site, now)
+        of_desk += troubles_of_room(os.environ.get("DATA") or desk.folder, told["sizes"].get(unit, 0))
+        found += [(unit, *it) for it in of_desk]
+    found += [("machine", *it) for it in troubles_of_clock(told, state)]
+    for folder in ("/var/log", "/var/backups"):
+        found += [("machine", *it) for it in troubles_of_room(folder, 0)]
+    return found, sorted(set(wanted))
+
+
+def send(settings, lines):
+    """By mail and by the command that watch.conf names, which gets the lines as its input."""
+    path, text = f"{settings}/watch.conf", "".join(f"{it}\n" for it in lines)
+    command, address = value_of(path, "HOOK"), value_of(path, "MAIL")
+    if command:
+        subprocess.run(["sh", "-c", command], input=text, text=True, check=True, timeout=MINUTE)
+    if address:
+        host, _, port = value_of(path, "SMTP", "localhost:25").partition(":")
+        with smtplib.SMTP(host, int(port or 25), timeout=MINUTE) as line:
+            head = f"Subject: the desk of {socket.gethostname()}\r\nTo: {address}\r\n\r\n"
+            line.sendmail(value_of(path, "FROM", address), [address], head + text.replace("\n", "\r\n"))
+
+
+def start_anew(units, settings):
+    """As root: each has to be a desk of this machine. RESTART may be another command, which gets the unit's name."""
+    known = {it.unit for it in watched(settings)}
+    for unit in units:
+        if unit not in known:
+            raise Failure(f"{unit!r} is no desk of this machine")
+        command = os.environ.get("RESTART")
+        if not command:
+            subprocess.run(["systemctl", "reset-failed", unit], check=False)
+        subprocess.run(["bash", "-c", f"{command or 'systemctl restart'} {unit}"], check=True)
+
+
+def state_in(path):
+    try:
+        with open(path, encoding="utf-8") as file:
+            return json.load(file)
+    except (OSError, ValueError):
+        return {}
+
+
+def put_state(path, state):
+    # (root writes into a folder of another user's, so it follows no link there)
+    descriptor = os.open(f"{path}.new", os.O_WRONLY | os.O_CREAT | os.O_TRUNC | os.O_NOFOLLOW, 0o644)
+    with open(descriptor, "w", encoding="utf-8") as file:
+        json.dump(state, file)
+    os.replace(f"{path}.new", path)
