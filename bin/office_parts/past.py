@@ -1,0 +1,178 @@
+"""The made past of the demonstration: who applied, what was decided, which trips were booked, and how they ended.
+
+Days are counted from today. The trips are those of two weeks that a desk booked once (recording.py, weeks.csv). Here
+they come again week after week. The desk judges all of it when it opens the file: it refuses rows of no sound state.
+"""
+import csv
+import datetime
+import os
+import random
+from collections import namedtuple
+
+from office_parts import town
+
+HERE = os.path.dirname(os.path.realpath(__file__))
+WEEKS = f"{HERE}/weeks.csv"
+FIRST_TRIPS, LAST_TRIPS = -21, 10
+
+# The callers: number and role, or number and what they are of.
+STAFF = {
+    "admin": (1, "admin"),
+    "clerk": (2, "clerk"),
+    "examiner": (3, "examiner"),
+    "officer": (4, "officer"),
+    "second officer": (5, "officer"),
+    "dispatcher": (6, "dispatcher"),
+}
+DRIVERS = {f"driver {van}": (10 + van, van) for van, *_ in town.VANS}
+RIDERS_WITH_KEYS = {f"rider {rider}": (number, rider) for number, rider in ((21, 104), (22, 108), (23, 110))}
+CLERK, EXAMINER, OFFICER = 2, 3, 4
+
+# Riders with a story of their own.
+OVERDUE, GRANTED_ON_APPEAL, UNHEARD, REFUSED, HEARD = 110, 116, 122, 126, 131
+SUSPENDED, NOTICED, MISSING = 106, 120, 134
+WAITING = {
+    279: -28,
+    280: -21,
+    281: -21,
+    282: -14,
+    283: -13,
+    284: -10,
+    285: -7,
+    286: -6,
+    287: -5,
+    288: -2,
+    289: 0,
+    290: 0,
+}
+ENDED = {140: -5, 145: -12, 150: -3}
+REASONS = {
+    OVERDUE: "can use lifts and knows the lines",
+    GRANTED_ON_APPEAL: "walks to the bus stop in summer",
+    UNHEARD: "the form names no condition",
+    REFUSED: "travel training was finished",
+    HEARD: "rides Line 1 each day",
+}
+# On which days such riders miss each trip, and until when they have any.
+MISSED = {SUSPENDED: range(-21, -14), NOTICED: range(-14, -7), MISSING: range(-7, 0)}
+LAST_RIDE = {SUSPENDED: -9, **ENDED}
+
+# An entry of a case file. The days are counted from today; `a` is a day, or what an appeal is against.
+Entry = namedtuple("Entry", "kind day author a b conditions words", defaults=(None, None, "", ""))
+KINDS = {
+    name: number
+    for number, name in enumerate(
+        [
+            "complete",
+            "grant",
+            "refuse",
+            "appeal",
+            "heard",
+            "appeal granted",
+            "appeal denied",
+            "overturn",
+            "notice",
+            "notice heard",
+            "suspend",
+        ]
+    )
+}
+
+# A trip of the recorded weeks. Its pickup and drop are places in the route of its van; none where it was cancelled.
+Trip = namedtuple(
+    "Trip",
+    "week weekday rider wish origin goal by attendant companions fare service ride vehicle window_from "
+    "window_to chair pickup drop",
+)
+BOOKED, CANCELLED, RIDDEN, MISSED_BY_RIDER, MISSED_BY_OPERATOR = range(5)
+
+
+def granted(number):
+    """The grant of a rider of whom nothing else is told. Who goes to dialysis or to work rides always."""
+    chance, rider = random.Random(number), town.rider_of(number, "A B")
+    conditions = chance.choice(["nolift", "farther:2640", "months:1,2,3,11,12", "months:1,2,12;farther:5280"])
+    if any(it.by for it in rider.outings) or chance.random() < 0.75:
+        conditions = "always"
+    until = ENDED.get(number, chance.choice([30, 45, 70, 120, 200, 280, 310]))
+    return Entry("grant", -49, EXAMINER, until, None, conditions)
+
+
+def entries_of(number):
+    """The case file of a resident."""
+    if number in WAITING:
+        return [Entry("complete", WAITING[number], CLERK)]
+    files = [Entry("complete", -63, CLERK)]
+    if number in REASONS:
+        return [*files, Entry("refuse", -49, EXAMINER, words=REASONS[number]), *appeals_of(number)]
+    return [*files, granted(number), *misses_of(number)]
+
+
+def appeals_of(number):
+    return {
+        OVERDUE: [Entry("appeal", -42, CLERK, 1), Entry("heard", -35, OFFICER)],
+        GRANTED_ON_APPEAL: [
+            Entry("appeal", -42, CLERK, 1),
+            Entry("heard", -28, OFFICER),
+            Entry("appeal granted", -21, OFFICER, 200, None, "nolift"),
+        ],
+        HEARD: [Entry("appeal", -14, CLERK, 1), Entry("heard", -7, OFFICER)],
+        UNHEARD: [Entry("appeal", -7, CLERK, 1)],
+    }.get(number, [])
+
+
+def misses_of(number):
+    basis = "missed each trip of a week"
+    return {
+        SUSPENDED: [
+            Entry("notice", -14, CLERK, words=basis),
+            Entry("notice heard", -8, OFFICER),
+            Entry("suspend", -7, OFFICER, -3, 11, words="a pattern of missed trips"),
+        ],
+        NOTICED: [Entry("notice", -5, CLERK, words=basis)],
+    }.get(number, [])
+
+
+# Trips.
+
+
+def recorded():
+    """The trips of the two recorded weeks by week and weekday."""
+    weeks = {}
+    with open(WEEKS, encoding="ascii", newline="") as file:
+        for row in csv.DictReader(file):
+            trip = Trip(**{name: int(text) if text else None for name, text in row.items()})
+            weeks.setdefault((trip.week, trip.weekday), []).append(trip)
+    return weeks
+
+
+def recorded_on(weeks, day):
+    """What is recorded for a day: one week after the other."""
+    return weeks.get(((day.toordinal() - 1) // 7 % 2, day.isoweekday()), [])
+
+
+def may_ride(number, offset):
+    """Whether the made past has trips of the rider on that day."""
+    return offset <= LAST_RIDE.get(number, LAST_TRIPS)
+
+
+def status_of(trip, offset, minute, chance):
+    """How a trip ended by that minute of today: nearly always it was ridden."""
+    if trip.pickup is None:
+        return CANCELLED
+    if offset > 0 or offset == 0 and trip.window_to + 40 > minute:
+        return BOOKED
+    if offset in MISSED.get(trip.rider, ()):
+        return MISSED_BY_RIDER
+    turn = chance.random()
+    return MISSED_BY_RIDER if turn < 0.02 else MISSED_BY_OPERATOR if turn < 0.027 else RIDDEN
+
+
+def trips_between(today, minute, first, last):
+    """Each trip of these days with its day and its status."""
+    weeks = recorded()
+    for offset in range(first, last + 1):
+        day = today + datetime.timedelta(days=offset)
+        chance = random.Random(day.toordinal())
+        for trip in recorded_on(weeks, day):
+            if may_ride(trip.rider, offset):
+                yield trip, day, status_of(trip, offset, minute, chance)

@@ -1,0 +1,108 @@
+"""A desk that is started, asked and stopped."""
+import http.client
+import json
+import socket
+import subprocess
+import time
+from collections import namedtuple
+
+Reply = namedtuple("Reply", "status body")
+SECONDS, MOST_CONNECTIONS, PAUSE = 120, 1_000_000, 0.05
+
+
+class Trouble(Exception):
+    """What keeps the office from going on, in one sentence."""
+
+
+def free_port():
+    with socket.socket() as tried:
+        tried.bind(("127.0.0.1", 0))
+        return tried.getsockname()[1]
+
+
+def ran(program, *words):
+    """How a command of the desk ends, and what it prints. A key among the words is one of the demonstration's."""
+    return subprocess.run([program, *map(str, words)], capture_output=True, stdin=subprocess.DEVNULL, check=False)
+
+
+def end(process, seconds=10):
+    """Ends a process that this program started."""
+    if process.poll() is None:
+        process.terminate()
+    try:
+        process.wait(seconds)
+    except subprocess.TimeoutExpired:
+        process.kill()
+        process.wait()
+
+
+class Desk:
+    """A desk that serves a file on a free port of this machine. What it says goes to the file `said`."""
+
+    def __init__(self, program, file, zone, said):
+        self.words, self.said, self.port, self.process = [program, "serve", file, zone], said, free_port(), None
+
+    def start(self):
+        words = [*self.words, str(self.port), str(MOST_CONNECTIONS)]
+        with open(self.said, "wb") as output:
+            # A group of its own, so that Ctrl+C goes to the office alone, which then ends it.
+            self.process = subprocess.Popen(
+                words, stdin=subprocess.DEVNULL, stdout=output, stderr=output, start_new_session=True
+            )
+        try:
+            self.wait_until_open()
+        except BaseException:
+            self.stop()
+            raise
+
+    def wait_until_open(self):
+        while not self.says().startswith("listening"):
+            if self.has_ended():
+                raise Trouble(f"the desk does not open {self.words[2]}: it says '{self.says() or 'nothing'}'")
+            time.sleep(PAUSE)
+
+    def says(self):
+        """The first whole line that it said, or nothing."""
+        with open(self.said, encoding="utf-8", errors="replace") as file:
+            line = file.readline()
+        return line.strip() if line.endswith("\n") else ""
+
+    def stop(self):
+        """Ends it. What was answered is on the disk."""
+        if self.process:
+            end(self.process)
+            self.process = None
+
+    def has_ended(self):
+        return self.process is not None and self.process.poll() is not None
+
+    def __enter__(self):
+        self.start()
+        return self
+
+    def __exit__(self, *_):
+        self.stop()
+
+    def ask(self, method, path, key, number=None, body=None):
+        """The reply to a request. A write whose reply was not seen is sent once more under its number."""
+        headers = {"Desk-Key": key, **({} if number is None else {"Desk-Number": str(number)})}
+        content = None if body is None else json.dumps(body, separators=(",", ":"))
+        try:
+            return self.asked_once(method, path, headers, content)
+        except (OSError, http.client.HTTPException):
+            time.sleep(PAUSE)
+        try:
+            return self.asked_once(method, path, headers, content)
+        except (OSError, http.client.HTTPException) as error:
+            raise Trouble(f"the desk does not answer {method} {path}: {error}") from None
+
+    def asked_once(self, method, path, headers, content):
+        line = http.client.HTTPConnection("127.0.0.1", self.port, timeout=SECONDS)
+        try:
+            line.request(method, path, content, headers)
+            reply = line.getresponse()
+            text = reply.read().decode()
+            is_json = reply.headers.get_content_type() == "application/json"
+            return Reply(reply.status, json.loads(text) if is_json else text)
+        finally:
+            line.close()

@@ -1,0 +1,155 @@
+"""What people open in a browser: the agency's files as the site serves them, and nginx or the proxy before the desk."""
+import http.client
+import json
+import os
+import re
+import shutil
+import socket
+import subprocess
+import sys
+import time
+
+from office_parts import building, proxy
+from office_parts.serving import Trouble, end
+
+SITE, NGINX, TALLY = "site", "nginx", "nginx/tally.log"
+# Lines of the site that only TLS has a use for.
+OF_TLS = re.compile(r"^ *(ssl_\w+|http2_\w+|add_header Strict-Transport-Security) .*;\n", re.MULTILINE)
+SSL = re.compile(r"^ *(listen .*ssl|ssl_)", re.MULTILINE)
+HEADER = re.compile(r'^    add_header (\S+) (?:"([^"$]+)"|([^"$;]+)) always;$', re.MULTILINE)
+PATIENCE = 20
+
+
+def derive(top, folder, is_unproved):
+    """Makes the files that the site serves, as bin/site-files does for an agency."""
+    words = [
+        sys.executable,
+        f"{top}/bin/site-files",
+        f"{folder}/{building.AGENCY}",
+        "--roster",
+        f"{folder}/{building.ROSTER}",
+        "--drivers",
+        f"{folder}/{building.DRIVERS}",
+        f"{folder}/{SITE}",
+    ]
+    ran = subprocess.run(words, capture_output=True, text=True, check=False)
+    if ran.returncode:
+        raise Trouble(f"the agency's files were not taken: {ran.stderr.strip().splitlines()[0]}")
+    public = f"{folder}/{SITE}/agency.json"
+    with open(public, encoding="utf-8") as file:
+        served = json.load(file)
+    if is_unproved and served.get("unproved") is not True:
+        building.write_text(public, json.dumps({**served, "unproved": True}, ensure_ascii=False) + "\n")
+
+
+def need_port(port):
+    """Sees that nobody else has the port."""
+    with socket.socket() as tried:
+        tried.setsockopt(socket.SOL_SOCKET, socket.SO_REUSEADDR, 1)
+        try:
+            tried.bind(("127.0.0.1", port))
+        except OSError as error:
+            raise Trouble(
+                f"the port {port} cannot be had ({error.strerror}); name another one with --port, "
+                "or 0 for any that is free"
+            ) from None
+        return tried.getsockname()[1]
+
+
+def of_loopback(top, folder, port, desk_port, pages):
+    """nginx's settings: the site of deploy/ without TLS on one port, or None where that site is not as expected."""
+    words = [
+        f"{top}/deploy/site",
+        "--trial",
+        f"{folder}/{NGINX}",
+        "--desk",
+        desk_port,
+        "--tls",
+        port,
+        "--pages",
+        pages,
+        "--files",
+        f"{folder}/{SITE}",
+    ]
+    ran = subprocess.run([sys.executable, *map(str, words)], capture_output=True, text=True, check=False)
+    text = OF_TLS.sub("", ran.stdout)
+    text, listens = re.subn(rf"listen 127\.0\.0\.1:{port} [^;]*;", f"listen 127.0.0.1:{port};", text)
+    # The last server only sends browsers on from port 80 to TLS.
+    text, redirects = re.subn(
+        r"\nserver \{(?:(?!\nserver \{).)*?return 301 https.*?\n\}\n", "\n", text, flags=re.DOTALL
+    )
+    return f"daemon off;\n{text}" if listens == 1 and redirects == 1 and not SSL.search(text) else None
+
+
+class Nginx:
+    """nginx, which runs as the one who started the office, with files in the office's folder alone."""
+
+    def __init__(self, text, folder):
+        room = f"{folder}/{NGINX}"
+        building.write_text(f"{room}/nginx.conf", text)
+        self.said = f"{room}/said", f"{room}/nginx.log"
+        with open(self.said[0], "wb") as said:
+            self.process = subprocess.Popen(
+                [nginx_path(), "-e", self.said[1], "-c", f"{room}/nginx.conf"],
+                stdout=said,
+                stderr=said,
+                stdin=subprocess.DEVNULL,
+                start_new_session=True,
+            )
+
+    def has_ended(self):
+        return self.process.poll() is not None
+
+    def why(self):
+        for path in self.said:
+            if os.path.exists(path):
+                with open(path, encoding="utf-8", errors="replace") as file:
+                    lines = [it for it in file.read().splitlines() if "emerg" in it]
+                if lines:
+                    return lines[-1]
+        return "it says nothing"
+
+    def stop(self):
+        end(self.process)
+
+
+def nginx_path():
+    return shutil.which("nginx", path=f"{os.environ.get('PATH', '')}:/usr/sbin:/usr/local/sbin")
+
+
+def headers_of(top):
+    """The headers that the site gives with each reply, without those that TLS or nginx's variables have a part in."""
+    with open(f"{top}/deploy/desk.nginx", encoding="utf-8") as file:
+        found = HEADER.findall(file.read())
+    return {name: quoted or plain for name, quoted, plain in found if name != "Strict-Transport-Security"}
+
+
+def start(top, folder, pages, port, desk_port, by_proxy):
+    """Starts what is before the desk, and says whether that is nginx. Whoever stops it calls `stop`."""
+    os.makedirs(f"{folder}/{NGINX}", exist_ok=True)
+    config = None if by_proxy or not nginx_path() else of_loopback(top, folder, port, desk_port, pages)
+    if config:
+        before = Nginx(config, folder)
+    else:
+        before = proxy.Office(port, desk_port, pages, f"{folder}/{SITE}", f"{folder}/{TALLY}", headers_of(top))
+    wait_for_pages(before, port)
+    return before, bool(config)
+
+
+def wait_for_pages(before, port):
+    """Waits until the first page comes."""
+    finish = time.monotonic() + PATIENCE
+    while time.monotonic() < finish and not before.has_ended():
+        line = http.client.HTTPConnection("127.0.0.1", port, timeout=PATIENCE)
+        try:
+            line.request("GET", "/")
+            if line.getresponse().status == 200:
+                return
+        except (OSError, http.client.HTTPException):
+            pass
+        finally:
+            line.close()
+        time.sleep(0.05)
+    why = before.why() if hasattr(before, "why") else "no page comes"
+    before.stop()
+    raise Trouble(f"the pages are not served on port {port}: {why}")

@@ -1,0 +1,159 @@
+"""Lays out the files of the package in a folder."""
+import gzip
+import hashlib
+import json
+import os
+import shutil
+import stat
+
+from making import licences, manual, receipt
+
+# What of bin/ only the sources have a use for.
+OF_SOURCES = {"desk", "desk_parts", "gate", "look.program", "meter", "package", "rehearsal"}
+# Where the tree is installed by hand, and where the package has it. The tools of bin/ come first.
+PLACES = [
+    ("/usr/local/lib/desk/bin/", "/usr/lib/desk/bin/"),
+    ("/usr/local/lib/desk/", "/usr/lib/desk/deploy/"),
+    ("/usr/local/bin/desk", "/usr/bin/desk"),
+    ("/usr/local/share/desk/pages", "/usr/share/desk/pages"),
+]
+SCRIPTS = ["config", "postinst", "prerm", "postrm"]
+IGNORED = shutil.ignore_patterns("__pycache__", "*.pyc")
+
+
+class Layout:
+    def __init__(self, top, root, kit):
+        self.top, self.root, self.kit = top, root, kit
+
+    def path(self, name):
+        path = f"{self.root}/{name}"
+        os.makedirs(os.path.dirname(path), exist_ok=True)
+        return path
+
+    def copy(self, source, name, mode=0o644):
+        """A file of the tree, in which what is installed by hand has the package's places."""
+        with open(f"{self.top}/{source}", "rb") as file:
+            content = file.read()
+        if b"\0" not in content:
+            for old, new in PLACES:
+                content = content.replace(old.encode(), new.encode())
+        self.write(name, content, mode)
+
+    def write(self, name, content, mode=0o644):
+        content = content.encode() if isinstance(content, str) else content
+        with open(self.path(name), "wb") as file:
+            file.write(content)
+        os.chmod(f"{self.root}/{name}", mode)
+
+    def pack(self, name, text):
+        self.write(f"{name}.gz", gzip.compress(text.encode(), 9, mtime=0))
+
+    def copy_tree(self, source, name):
+        for place, _, files in os.walk(f"{self.top}/{source}"):
+            if "__pycache__" in place:
+                continue
+            for file in sorted(files):
+                inner = os.path.relpath(f"{place}/{file}", f"{self.top}/{source}")
+                is_run = os.stat(f"{place}/{file}").st_mode & stat.S_IXUSR
+                self.copy(f"{source}/{inner}", f"{name}/{inner}", 0o755 if is_run else 0o644)
+
+    def link(self, name, to):
+        os.symlink(to, self.path(name))
+
+
+def put_program(layout, program):
+    shutil.copy(program, layout.path("usr/bin/desk"))
+    os.chmod(layout.path("usr/bin/desk"), 0o755)
+
+
+def put_tools(layout):
+    """The tools of bin/ and deploy/, and a name for each that somebody calls."""
+    for name in sorted(os.listdir(f"{layout.top}/bin")):
+        if name in OF_SOURCES or name == "__pycache__":
+            continue
+        if os.path.isdir(f"{layout.top}/bin/{name}"):
+            layout.copy_tree(f"bin/{name}", f"usr/lib/desk/bin/{name}")
+        else:
+            layout.copy(f"bin/{name}", f"usr/lib/desk/bin/{name}", 0o755)
+            command = "desk-demo" if name == "office" else f"desk-{name}"
+            layout.link(f"usr/bin/{command}", f"../lib/desk/bin/{name}")
+    for name in sorted(os.listdir(f"{layout.top}/deploy")):
+        if name == "desk_ops":
+            layout.copy_tree("deploy/desk_ops", "usr/lib/desk/deploy/desk_ops")
+        elif name.endswith((".service", ".timer")):
+            layout.copy(f"deploy/{name}", f"lib/systemd/system/{name}")
+        elif name == "desk.logrotate":
+            layout.copy("deploy/desk.logrotate", "etc/logrotate.d/desk")
+        elif not name.startswith(("try", "__")) and not name.endswith(".md"):
+            is_run = os.access(f"{layout.top}/deploy/{name}", os.X_OK)
+            layout.copy(f"deploy/{name}", f"usr/lib/desk/deploy/{name}", 0o755 if is_run else 0o644)
+    for name in "desk-setup", "take-over":
+        layout.copy(f"packaging/{name}", f"usr/lib/desk/packaging/{name}", 0o755)
+    layout.link("usr/sbin/desk-setup", "../lib/desk/packaging/desk-setup")
+    layout.copy_tree("pages", "usr/share/desk/pages")
+    layout.link("usr/lib/desk/pages", "../../share/desk/pages")
+    layout.copy("packaging/README.etc", "etc/desk/README")
+    layout.copy("packaging/lintian-overrides", "usr/share/lintian/overrides/desk")
+
+
+def put_documents(layout, version, day, changes, helps, proof, bill):
+    """Documents, examples, manual pages, licences, the receipt and the bill of what is linked."""
+    shared = "usr/share/doc/desk"
+    for name in sorted(os.listdir(f"{layout.top}/docs")):
+        if name.endswith((".md", ".yaml")):
+            layout.copy(f"docs/{name}", f"{shared}/{name}")
+    layout.copy_tree("docs/pictures", f"{shared}/pictures")
+    layout.copy("deploy/README.md", f"{shared}/RUNNING.md")
+    if os.path.exists(f"{layout.top}/deploy/BACKUPS.md"):
+        layout.copy("deploy/BACKUPS.md", f"{shared}/BACKUPS.md")
+    layout.copy_tree("examples", f"{shared}/examples")
+    crates = receipt.kits_crates(layout.kit, receipt.crates_of(layout.top)[1])
+    layout.write(f"{shared}/copyright", licences.copyright_text(layout.kit, crates))
+    layout.write(f"{shared}/receipt.json", json.dumps(proof, indent=1) + "\n")
+    layout.write(f"{shared}/sbom.spdx.json", json.dumps(bill, indent=1) + "\n")
+    layout.pack(f"{shared}/changelog", changes)
+    put_manuals(layout, version, day, helps)
+
+
+def put_manuals(layout, version, day, helps):
+    also = "desk(1), desk-formats(5), desk-setup(8), desk-demo(1)"
+    for (name, section, purpose), text in helps.items():
+        layout.pack(
+            f"usr/share/man/man{section}/{name}.{section}",
+            manual.of_help(name, section, purpose, text, day, version, also),
+        )
+    with open(f"{layout.top}/docs/FORMATS.md", encoding="utf-8") as file:
+        page = manual.of_markdown("desk-formats", 5, "what the desk reads and writes", file.read(), day, version)
+    layout.pack("usr/share/man/man5/desk-formats.5", page)
+
+
+def put_control(layout, version, note):
+    """What dpkg reads: the control file, the conffiles, the scripts, and the checksums."""
+    size = sum(
+        os.path.getsize(f"{place}/{it}")
+        for place, _, files in os.walk(layout.root)
+        for it in files
+        if not os.path.islink(f"{place}/{it}")
+    )
+    with open(f"{layout.top}/packaging/control", encoding="utf-8") as file:
+        text = file.read().replace("@VERSION@", version).replace("@SIZE@", str(size // 1_024)).replace("@NOTE@", note)
+    layout.write("DEBIAN/control", text)
+    configured = sorted(
+        f"{place}/{it}"[len(layout.root) :] for place, _, files in os.walk(f"{layout.root}/etc") for it in files
+    )
+    layout.write("DEBIAN/conffiles", "".join(f"{it}\n" for it in configured))
+    for name in SCRIPTS:
+        layout.copy(f"packaging/{name}", f"DEBIAN/{name}", 0o755)
+    layout.copy("packaging/templates", "DEBIAN/templates")
+    sums = []
+    for place, _, files in os.walk(layout.root):
+        for it in files:
+            path = f"{place}/{it}"
+            if not os.path.islink(path) and "/DEBIAN" not in path and path[len(layout.root) :] not in configured:
+                sums.append((path[len(layout.root) + 1 :], path))
+    layout.write("DEBIAN/md5sums", "".join(f"{md5_of(path)}  {name}\n" for name, path in sorted(sums)))
+
+
+def md5_of(path):
+    with open(path, "rb") as file:
+        return hashlib.md5(file.read()).hexdigest()

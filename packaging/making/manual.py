@@ -1,0 +1,45 @@
+"""Manual pages, made of what a program says of itself and of a document."""
+import re
+
+
+def escaped(text):
+    """Text as roff has it."""
+    text = text.replace("\\", "\\e").replace("-", "\\-")
+    return re.sub(r"(?m)^([.'])", r"\\&\1", text)
+
+
+def heading(name, section, day, version):
+    return f'.TH {name.upper()} {section} {day} "desk {version}" "The desk"\n'
+
+
+def verbatim(text):
+    return f".PP\n.nf\n{escaped(text)}\n.fi\n"
+
+
+def of_help(name, section, purpose, text, day, version, also):
+    """The page of a command, from its help."""
+    return (
+        f"{heading(name, section, day, version)}.SH NAME\n{name} \\- {escaped(purpose)}\n.SH DESCRIPTION\n"
+        f"{verbatim(text.strip())}.SH SEE ALSO\n{escaped(also)}\n"
+    )
+
+
+def plain(text):
+    """A line of Markdown without its marks."""
+    text = re.sub(r"\*\*(.+?)\*\*", r"\1", text)
+    return re.sub(r"\[([^]]+)\]\([^)]+\)", r"\1", text).replace("`", "")
+
+
+def of_markdown(name, section, purpose, text, day, version):
+    """The page of a document: its headings, paragraphs, tables and examples."""
+    page = [heading(name, section, day, version), f".SH NAME\n{name} \\- {escaped(purpose)}\n"]
+    blocks = re.split(r"\n{2,}", re.sub(r"(?s)^# .*?\n", "", text))
+    for block in filter(None, (it.strip("\n") for it in blocks)):
+        title = re.match(r"(#+) (.*)", block)
+        if title:
+            page.append(f"{'.SH' if len(title[1]) == 2 else '.SS'} {escaped(plain(title[2]))}\n")
+        elif block.startswith(("|", "    ", "```", "- ")):
+            page.append(verbatim(block if block.startswith("    ") else plain(block.replace("```", ""))))
+        else:
+            page.append(f".PP\n{escaped(plain(block))}\n")
+    return "".join(page)
