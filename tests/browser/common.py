@@ -62,18 +62,31 @@ def files_of_names_need_a_key_and_a_private_place_is_for_staff_and_its_rider(at)
         holds(f"{secret} is in a file that is not for staff alone", not any(secret in it for it in shown))
 
 
-@check
-def every_denial_has_words_in_both_languages(at):
+def names_in_row(cell):
+    """The names in the first cell of a row of a table; (e) after 37.125(c) is 37.125(e)."""
+    section = ""
+    for name in re.findall(r"`([^`]+)`", cell):
+        section = section if name.startswith("(") else name.partition("(")[0]
+        yield section + name if name.startswith("(") else name
+
+
+def names_of_denials():
     with open(f"{ROOT}/docs/RULES.md", encoding="utf-8") as text:
         rules = text.read().split("### Names of rules")[1].split("\n## ")[0]
-        names = re.findall(r"^\| `([^`]+)` \| [a-z]", rules, re.M)
+    for cell in re.findall(r"^\| (`[^|]+) \| ", rules, re.M):
+        yield from names_in_row(cell)
     with open(f"{ROOT}/docs/API.md", encoding="utf-8") as text:
-        names += re.findall(r"`(http\.\w+|desk\.\w+)`", text.read().split("## Setting up")[0])
+        yield from re.findall(r"`(http\.\w+|desk\.\w+)`", text.read().split("## Setting up")[0])
+
+
+@check
+def every_denial_has_words_in_both_languages(at):
+    names = set(names_of_denials())
     holds(f"only {len(names)} names of denials are found in docs", len(names) > 25)
     for language in ["en", "es"]:
         with open(f"{PAGES}/words/{language}/denials.js", encoding="utf-8") as text:
             table = text.read()
-        for name in sorted(set(names)):
+        for name in sorted(names):
             has_both = f'"denials.{name}"' in table and f'"denials.{name}/help"' in table
             holds(f"{language} has no words for {name}", has_both)
 
