@@ -1,7 +1,9 @@
 // Keys. A made key has 26 signs of base32 (128 bits), shown in groups. A typed key of that shape may have hyphens, blanks and capitals;
 // every other key is used exactly as it was typed.
 
-const SIGNS = "0123456789abcdefghjkmnpqrstvwxyz", LENGTH = 26, BYTES = 16;
+/** How many signs a made key has. */
+export const LENGTH = 26;
+const SIGNS = "0123456789abcdefghjkmnpqrstvwxyz", BYTES = 16;
 
 /** Makes a key, from 128 random bits. */
 export function newKey() {

@@ -8,6 +8,7 @@ import { choiceField, form, idField, numberField } from "../parts/fields.js";
 import { grouped } from "../parts/key.js";
 import { HIGHEST_ID } from "../parts/limits.js";
 import { printParts } from "../parts/paper.js";
+import { squareOf } from "../parts/qr.js";
 import { makeScreen } from "../parts/screen.js";
 import { t } from "../parts/words.js";
 import { keepNote, notes } from "./admin-notes.js";
@@ -52,8 +53,8 @@ function faultOf({ id, role, subject }) {
 /** The card that is given to the one whose key it is.
  * @param {string} key @param {any} caller
  */
-const cardOf = (key, caller) => [part("p", {}, agency().name), part("p", {}, whose(caller)), part("p", { class: "key" }, grouped(key)), part("p", {}, t("admin.card-how")),
-    part("p", {}, location.origin), part("p", {}, t("admin.card-lost", { telephone: agency().telephone }))];
+const cardOf = (key, caller) => [part("p", {}, agency().name), part("p", {}, whose(caller)), part("p", { class: "key" }, grouped(key)), squareOf(key, t("admin.square")),
+    part("p", {}, t("admin.card-how")), part("p", {}, t("admin.card-scan")), part("p", {}, location.origin), part("p", {}, t("admin.card-lost", { telephone: agency().telephone }))];
 
 /** @param {string} key @param {any} caller @param {boolean} copied @param {() => void} copiedNow @param {() => void} hide */
 function keyShown(key, caller, copied, copiedNow, hide) {
@@ -62,7 +63,8 @@ function keyShown(key, caller, copied, copiedNow, hide) {
         copiedNow();
     };
     return part("section", { class: "ticket", id: "new-key", "aria-label": t("admin.new-key") }, part("h3", {}, t("admin.key-of", { id: caller.id, who: whose(caller) })),
-        part("output", { class: "key" }, grouped(key)), part("p", {}, t("admin.shown-once")),
+        part("output", { class: "key" }, grouped(key)), squareOf(key, t("admin.square")),
+        part("p", {}, t("admin.shown-once")),
         part("div", { class: "row" }, button(t("admin.print-card", { id: caller.id }), () => printParts(t("admin.card"), cardOf(key, caller), { class: "key-card" })),
             button(t("admin.copy"), copy), button(t("admin.hide"), hide), part("span", { role: "status" }, copied && t("admin.copied"))));
 }

@@ -1,9 +1,10 @@
-"""What was printed, read back from the PDF by Debian's poppler-utils."""
+"""What was printed, read back from the PDF by Debian's poppler-utils, and squares (QR codes) by its zbar-tools."""
 import re
 import subprocess
 import tempfile
 import xml.etree.ElementTree
 
+DOTS = 200  # an inch, as a camera sees a page
 ZOOM = 3  # the most that pdftohtml takes; so sizes are told in thirds of a point
 
 
@@ -47,3 +48,15 @@ class Paper:
                 if float(word.get("xMax")) > width or float(word.get("yMax")) > height or float(word.get("xMin")) < 0:
                     found.append(word.text)
         return found
+
+    def squares(self):
+        """What a camera reads of the squares on the first page."""
+        words = ["pdftoppm", "-r", str(DOTS), "-f", "1", "-singlefile", "-png", self.file, self.file]
+        subprocess.run(words, check=True, capture_output=True)
+        return squares_in(f"{self.file}.png")
+
+
+def squares_in(file):
+    """What a camera reads of the squares in a picture."""
+    told = subprocess.run(["zbarimg", "--quiet", "--raw", file], capture_output=True, text=True)
+    return told.stdout.split()

@@ -3,6 +3,7 @@ import re
 
 from checks import check, same
 from common import PARTS
+from paper import squares_in
 
 VANS = 6
 SMALLEST = 9
@@ -74,3 +75,20 @@ def the_dispatchers_screen_is_printed_whole(at):
 def the_drivers_screen_is_printed_whole(at):
     at.town.set_clock(BY_VEHICLE, "06:30")
     is_printed_whole(at, "driver")
+
+
+@check
+def the_card_of_a_key_has_a_square_that_a_camera_reads(at):
+    at.browser.sign_in(at.keys["admin"], "admin", "callers")
+    at.browser.fill_all({"Caller number": "90", "Role": "Clerk"})
+    at.browser.press("Make a key")
+    at.browser.press("Yes, make a key for caller 90, Clerk")
+    at.browser.sees("The key of caller 90, Clerk")
+    key = at.browser.script("return document.querySelector('output.key').textContent").replace("-", "")
+    sight = f"{at.folder}/square.png"
+    with at.browser.media(prefers_color_scheme="dark"), open(sight, "wb") as file:
+        file.write(at.browser.sight())
+    same("what a camera reads on a dark screen", [key], squares_in(sight))
+    paper = at.browser.print_by("Print the card of caller 90")
+    same("what a camera reads on the card", [key], paper.squares())
+    same("pages of the card", 1, paper.pages)

@@ -22,6 +22,8 @@ export const words = {
     "admin.subject-wants": "Write the number of the rider or of the vehicle, and nothing for another role.",
     "admin.card": "Your key",
     "admin.card-how": "Open the address below, choose your screen, and type the key. Hyphens and blanks do not matter. Keep this card where nobody else reads it.",
+    "admin.card-scan": "Or let the phone's camera read the square: it has the key alone. Copy what it reads and paste it.",
+    "admin.square": "The key as a square for a phone's camera (QR code)",
     "admin.card-lost": ({ telephone }) => `If you lose it, call ${telephone || "the agency"}: the old key is then made dead.`,
     "admin.new-key": "The new key",
     "admin.key-of": ({ id, who }) => `The key of caller ${id}, ${who}`,

@@ -22,6 +22,8 @@ export const words = {
     "admin.subject-wants": "Escriba el número del pasajero o del vehículo, y nada para otro papel.",
     "admin.card": "Su clave",
     "admin.card-how": "Abra la dirección de abajo, elija su pantalla y escriba la clave. Los guiones y espacios no importan. Guarde esta tarjeta donde nadie más la lea.",
+    "admin.card-scan": "O deje que la cámara del teléfono lea el cuadro: contiene solo la clave. Copie lo que lea y péguelo.",
+    "admin.square": "La clave como cuadro para la cámara de un teléfono (código QR)",
     "admin.card-lost": ({ telephone }) => `Si la pierde, llame: ${telephone || "a la agencia"}. Entonces la clave anterior deja de valer.`,
     "admin.new-key": "La clave nueva",
     "admin.key-of": ({ id, who }) => `La clave del usuario ${id}, ${who}`,
