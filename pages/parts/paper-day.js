@@ -35,12 +35,13 @@ function linesOf({ lines, stops }) {
 /** @param {Stop} stop */
 const whatWords = ({ what, trip }) => (what === "DEPOT" ? t("dispatcher.depot") : t(`dispatcher.paper-${what}`, { trip }));
 
-/** Who it is, what the roster notes, and where.
+/** Who it is, what the roster notes of who comes aboard, and where.
  * @param {Stop} stop
  */
 function whoAndWhere(stop) {
-    const note = stop.rider === undefined ? "" : riderOf(stop.rider)?.note ?? "";
-    return [part("strong", {}, whatWords(stop)), stop.rider !== undefined && ` ${riderLabel(stop.rider)}`, note && ` (${note})`, part("br"), placeWords(stop.place)];
+    if (stop.what === "DEPOT") return [part("strong", {}, whatWords(stop)), ` ${placeWords(stop.place)}`];
+    const note = stop.what === "PICK" ? riderOf(Number(stop.rider))?.note ?? "" : "";
+    return [part("strong", {}, whatWords(stop)), ` ${riderLabel(Number(stop.rider))}`, note && ` (${note})`, part("br"), placeWords(stop.place)];
 }
 
 /** @param {Stop} stop @param {Dues} dues */
@@ -69,9 +70,10 @@ function manifestPaper(manifest, dues) {
     const heads = ["planned", "who-where", "party", "arrived", "left", "odometer", "paid"].map((name) => part("th", { scope: "col" }, t(`dispatcher.head-${name}`)));
     // (the first row of the head is on each page of a long manifest)
     const title = part("h2", {}, t("dispatcher.manifest-of", { vehicle: vehicleName(manifest.vehicle), day: dayInWords(manifest.day) }));
+    const blanks = ["driver", "signature", "odometer-out", "odometer-in", "fares"].map((name) => [blank(`dispatcher.fill-${name}`), " "]);
     return part("section", { class: "van" }, part("p", { class: "own-head" }, part("span", {}, manifest.lines[0]), " ", [agency().name, agency().telephone].filter(Boolean).join(", ")),
-        part("table", { class: "manifest" }, part("colgroup", {}, heads.map(() => part("col"))), part("thead", {}, part("tr", {}, part("th", { class: "title", colspan: COLUMNS }, title)), part("tr", {}, heads)), linesOf(manifest).map(([line, stop]) => stopRows(line, stop, dues))),
-        part("p", { class: "signatures" }, ["driver", "signature", "odometer-out", "odometer-in", "fares"].map((name) => [blank(`dispatcher.fill-${name}`), " "])));
+        part("p", { class: "signatures" }, blanks), part("table", { class: "manifest" }, part("colgroup", {}, heads.map(() => part("col"))),
+            part("thead", {}, part("tr", {}, part("th", { class: "title", colspan: COLUMNS }, title)), part("tr", {}, heads)), linesOf(manifest).map(([line, stop]) => stopRows(line, stop, dues))));
 }
 
 /** @param {Manifest[]} manifests @param {Dues} dues */
