@@ -68,8 +68,9 @@ def fault_of(function, at):
 
 def run(name, module, at):
     failed = 0
-    wanted = os.environ.get("PAGES_CHECK", "")
-    for function in [it for it in LISTED if it.__module__ == module.__name__ and wanted in it.__name__]:
+    wanted = os.environ.get("PAGES_CHECK", "").split(",")
+    mine = [it for it in LISTED if it.__module__ == module.__name__]
+    for function in [it for it in mine if any(part in it.__name__ for part in wanted)]:
         began, fault = time.monotonic(), fault_of(function, at)
         if fault is not None:
             failed += 1
