@@ -1,0 +1,25 @@
+"""The files of which the program is proved and made, and one digest of them."""
+import glob
+import hashlib
+import os
+
+PARTS = "src", "specs", "proofs"
+
+
+def files(top):
+    """Their names from the top, in order."""
+    found = [f"{top}/crates.txt", f"{top}/HANDLES"]
+    for part in PARTS:
+        found += glob.glob(f"{top}/crates/*/{part}/**", recursive=True)
+    return sorted(os.path.relpath(it, top) for it in found if os.path.isfile(it))
+
+
+def digest_of(path):
+    with open(path, "rb") as file:
+        return hashlib.sha256(file.read()).hexdigest()
+
+
+def digest(top):
+    """The SHA-256 of a list as `sha256sum` prints it: a line a file, in the order of names."""
+    lines = "".join(f"{digest_of(f'{top}/{it}')}  {it}\n" for it in files(top))
+    return hashlib.sha256(lines.encode()).hexdigest()
