@@ -10,14 +10,22 @@ import urllib.parse
 from serving import SECONDS, Reply, received_from
 
 
+# What the site answers where a key or an address asks too much, and at which requests of a trial it does.
+TOO_MANY = (b"HTTP/1.1 429 Too Many Requests\r\nContent-Type: text/html\r\nContent-Length: 47\r\n\r\n"
+            b"<html><h1>429 Too Many Requests</h1></html>\r\n\r\n")
+REFUSED_EACH = 13
+
+
 class Relay:
     """Stands before a desk and passes requests on. At every so many requests it kills the program that asks.
 
-    By turns that is before the desk hears of the request, and once it has answered, so that nobody reads the reply.
+    By turns that is before the desk hears of the request, and once it has answered, so that nobody reads the reply. Now
+    and then it says that it is asked too much, as the site does, and passes nothing on.
     """
 
     def __init__(self, desk_port, every):
         self.desk_port, self.every, self.program, self.count, self.kills = desk_port, every, None, 0, 0
+        self.refusals = 0
         self.listener = socket.create_server(("127.0.0.1", 0))
         self.port = self.listener.getsockname()[1]
 
@@ -39,7 +47,10 @@ class Relay:
                 self.count += 1
                 is_last = self.count % self.every == 0
                 request = request_from(connection)
-                reply = b"" if is_last and self.kills % 2 == 0 else self.asked(request)
+                is_too_much = not is_last and self.count % REFUSED_EACH == 0
+                self.refusals += is_too_much
+                is_unheard = is_last and self.kills % 2 == 0
+                reply = b"" if is_unheard else TOO_MANY if is_too_much else self.asked(request)
                 if is_last:
                     self.kills += 1
                     self.program.kill()

@@ -18,8 +18,10 @@ from moving.limits import HIGHEST_NUMBER, NotAnswered, Wrong
 
 Reply = namedtuple("Reply", "status body")
 SECONDS_OF_A_TRY, LONGEST_PAUSE, MOST_COLLISIONS = 60, 5, 5
-# Statuses of a desk whose store or memory fails, and of a proxy that doesn't reach it: the same write is sent again.
-NO_ANSWER = {502, 503, 504}
+# Statuses after which the same write is sent again: of a site that is asked too much, of a desk whose store or memory
+# fails, and of a proxy that doesn't reach the desk.
+TOO_MANY = 429
+NO_ANSWER = {TOO_MANY, 502, 503, 504}
 # Replies after which nothing more is sent, and what they say of a key.
 STOPPING = {
     401: "nobody has the key",
@@ -67,6 +69,9 @@ class Line:
                 if reply.status not in NO_ANSWER:
                     return reply
                 said = f"status {reply.status}"
+            except ssl.SSLCertVerificationError as error:
+                raise Wrong(f"the certificate of {self.parts.geturl()} is not trusted ({error.verify_message}); one "
+                            "that you made yourself is named by --certificate") from None
             except (OSError, http.client.HTTPException, ValueError) as error:
                 said = str(error) or type(error).__name__
             if time.monotonic() + pause > end:

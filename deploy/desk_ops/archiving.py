@@ -14,7 +14,7 @@ import tempfile
 import time
 
 from .content import TABLES, EPOCH, check_same, check_whole, content_of, content_of_pair, day_of, number_of, opened
-from .copying import check_copy, check_room, copied, folder_within, give_name, size_of, summed, synced
+from .copying import check_copy, check_folder_of, check_room, copied, folder_within, give_name, size_of, summed, synced
 from .ending import WRONG_WORDS, Failure
 from .judge import judge
 from .locking import locked
@@ -214,6 +214,7 @@ class Archive:
     def make(self):
         if os.path.exists(self.archive):
             raise Failure(f"{self.archive} is there already", WRONG_WORDS)
+        check_folder_of(self.archive)
         before = os.umask(0o077)
         try:
             with locked(self.desk.file), folder_within(self.desk.folder, ".archived-") as folder:

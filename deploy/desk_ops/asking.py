@@ -1,29 +1,16 @@
-"""The desk asked by a key of a file, through the site too, which says 429 where it is asked too much."""
-import time
+"""The desk asked by a key of a file, also through the site."""
 import types
 
 from . import keys  # noqa: F401  (it leads to the package `moving`)
-from .ending import Failure
 from moving.desk import Caller, Line
 
-TRIES, PAUSE, TOO_MANY = 60, 1, 429
-# How many seconds a desk that is down is waited for.
+# How many seconds a desk that is down, or a site that is asked too much, is waited for.
 PATIENCE = 60
 
 
-class PatientLine(Line):
-    """The way to the desk. What was too much is sent again after a second, as it was."""
-
-    def __init__(self, url, certificate=None):
-        super().__init__(url, certificate, PATIENCE)
-
-    def asked_once(self, *request):
-        for _ in range(TRIES):
-            reply = super().asked_once(*request)
-            if reply.status != TOO_MANY:
-                return reply
-            time.sleep(PAUSE)
-        raise Failure(f"{self.parts.geturl()} says over and over that it is asked too much")
+def line_to(url, certificate=None):
+    """The way to the desk at an address."""
+    return Line(url, certificate, PATIENCE)
 
 
 class Asking:

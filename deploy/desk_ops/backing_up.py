@@ -7,7 +7,7 @@ import sqlite3
 import time
 
 from .content import check_same, check_whole, content_of, content_of_pair
-from .copying import check_copy, check_room, copied, give_name, size_of, synced
+from .copying import check_copy, check_folder_of, check_room, copied, give_name, size_of, synced
 from .ending import WRONG_WORDS, Failure
 from .halt import halted, is_stopped
 from .judge import judge_or_migrate
@@ -39,6 +39,7 @@ class Backup:
             raise Failure(f"there is no {self.desk.file}", WRONG_WORDS)
         if os.path.exists(self.copy):
             raise Failure(f"{self.copy} is there already", WRONG_WORDS)
+        check_folder_of(self.copy)
         with contextlib.suppress(FileExistsError):
             os.mkdir(self.folder, 0o700)
         self.lock = os.open(self.folder, os.O_RDONLY)

@@ -7,7 +7,7 @@ import tempfile
 import time
 import zlib
 
-from .ending import Failure
+from .ending import WRONG_WORDS, Failure
 
 PIECE = 1 << 20
 # What is thrown away and was not touched for so many seconds was left by a script that was killed.
@@ -84,6 +84,13 @@ def check_copy(path, said):
 
 def size_of(path):
     return os.stat(path).st_size if os.path.exists(path) else 0
+
+
+def check_folder_of(path):
+    """The folder of a file that is to be made is there."""
+    folder = os.path.dirname(os.path.abspath(path))
+    if not os.path.isdir(folder):
+        raise Failure(f"there is no folder {folder}: make it by install -d -m 700 {folder}", WRONG_WORDS)
 
 
 def check_room(folder, needed, what):

@@ -5,7 +5,7 @@ import stat
 import struct
 
 from .ballast import free_in
-from .content import content_in
+from .content import TABLES, content_in, content_of_pair
 from .ending import Failure
 from .locking import is_locked
 from .pages import FILE_HEAD, bytes_of, in_memory, log_head, page_size_of
@@ -154,8 +154,17 @@ def cause_of_pages(desk):
             "Make a copy of both, and restore a backup")
 
 
+def cause_of_version(desk):
+    """Tables of an earlier version, which the desk calls fault 30."""
+    content = content_of_pair(desk.file)
+    if len(content.counts) == len(TABLES):
+        return None
+    return (f"{desk.file} is of version {content.version}, which is an earlier one (the desk calls that fault 30): "
+            "`desk migrate` makes it of this one; see \"Upgrading\" in README.md")
+
+
 CAUSES = (cause_of_folder, cause_of_disk, cause_of_permission, cause_of_lock, cause_of_room, cause_of_file,
-          cause_of_log, cause_of_pages)
+          cause_of_log, cause_of_pages, cause_of_version)
 
 
 def cause_of(desk):

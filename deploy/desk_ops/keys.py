@@ -6,6 +6,7 @@ import sqlite3
 import stat
 import sys
 
+from .copying import check_folder_of
 from .ending import WRONG_WORDS, Failure
 
 ABOVE = os.path.dirname(os.path.dirname(os.path.realpath(__file__)))
@@ -49,6 +50,7 @@ def key_in(path):
 def key_made_or_in(path):
     """The key of a file, which is made where it is not there, and is on the disk before anybody is given the key."""
     if not os.path.exists(path):
+        check_folder_of(path)
         descriptor = os.open(path, os.O_WRONLY | os.O_CREAT | os.O_EXCL, 0o600)
         with open(descriptor, "w", encoding="ascii") as file:
             os.fchmod(descriptor, 0o600)

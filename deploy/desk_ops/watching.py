@@ -248,10 +248,14 @@ def send(settings, lines):
     if command:
         subprocess.run(["sh", "-c", command], input=text, text=True, check=True, timeout=MINUTE)
     if address:
-        host, _, port = value_of(path, "SMTP", "localhost:25").partition(":")
-        with smtplib.SMTP(host, int(port or 25), timeout=MINUTE) as line:
-            head = f"Subject: the desk of {socket.gethostname()}\r\nTo: {address}\r\n\r\n"
-            line.sendmail(value_of(path, "FROM", address), [address], head + text.replace("\n", "\r\n"))
+        server = value_of(path, "SMTP", "localhost:25")
+        host, _, port = server.partition(":")
+        head = f"Subject: the desk of {socket.gethostname()}\r\nTo: {address}\r\n\r\n"
+        try:
+            with smtplib.SMTP(host, int(port or 25), timeout=MINUTE) as line:
+                line.sendmail(value_of(path, "FROM", address), [address], head + text.replace("\n", "\r\n"))
+        except OSError as error:
+            raise OSError(f"{server} takes no mail: {error}") from None
 
 
 def start_anew(units, settings):
