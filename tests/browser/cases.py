@@ -1,9 +1,18 @@
-"""Cases: standing, letters, applications, appeals, suspensions."""
+"""Cases: standing, letters, applications, appeals, suspensions, and what waits."""
+import contextlib
+import glob
 import re
+import shutil
+import sqlite3
+import subprocess
 
 from checks import check, holds, same
+from database import ROOT, Trouble
+from people import TODAY, TOMORROW
 
 VANS = 1
+AFTER = "2025-03-12"
+WORKLIST = "staff/worklist.html"
 
 
 def show(at, key, screen, number, part=""):
@@ -132,3 +141,76 @@ def a_suspension_is_of_thirty_days_at_most(at):
     at.browser.sees("From Tuesday, March 11, 2025 to Wednesday, April 9, 2025.")
     at.browser.press("Yes: suspend rider 1001")
     at.browser.sees("This step of a suspension has no ground yet.")
+
+
+# What waits, and the missed trips on which an officer decides.
+
+
+def make_worklist(at, today):
+    """Of a copy of the desk's file, as each night's unit makes it."""
+    folder, file = at.town.folder, at.town.desk.file
+    at.town.stop_desk()
+    for path in glob.glob(f"{glob.escape(file)}*"):
+        shutil.copy(path, f"{folder}/halted{path.removeprefix(file)}")
+    at.town.start_desk()
+    with contextlib.closing(sqlite3.connect(f"{folder}/halted")) as halted:
+        with contextlib.closing(sqlite3.connect(f"{folder}/copy.db")) as copy:
+            halted.backup(copy)
+    words = [f"{ROOT}/bin/worklist", f"{folder}/copy.db", "--html", f"{folder}/site/{WORKLIST}", "--today", today,
+             "--agency", f"{folder}/source-agency.json", "--roster", f"{folder}/source-roster.csv"]
+    made = subprocess.run(words, capture_output=True, text=True)
+    if made.returncode:
+        raise Trouble(f"bin/worklist: {made.stderr}")
+
+
+@check
+def an_officer_reads_of_the_missed_trips_on_which_to_decide(at):
+    trip = min(it["trip"] for it in at.town.trips_of(1001) if it["day"] == TOMORROW)
+    at.town.set_clock(TOMORROW, "22:00")
+    at.town.post("dispatcher", f"/trips/{trip}/outcome", {"outcome": "missed-rider"})
+    at.town.set_clock(AFTER)
+    try:
+        make_worklist(at, AFTER)
+        show(at, "officer", "officer", 1001, "suspensions")
+        at.browser.sees("Missed trips of rider 1001", "The desk shows trips to clerks and dispatchers alone.", AFTER,
+                        "Patterns of missed trips: 1", "100 %",
+                        "Case file of rider 1001, Rosa Álvarez", "complete", "grant")
+        at.browser.fill("Rider number", "1006")
+        at.browser.press("Show the case")
+        at.browser.sees("The work list has no pattern of missed trips of this rider")
+    finally:
+        at.town.set_clock(TODAY)
+
+
+@check
+def what_waits_leads_to_the_case(at):
+    at.browser.sign_in(at.keys["officer"], "officer", "waits")
+    at.browser.sees("Appeals to decide", "Patterns of missed trips: 1", "Rosa Álvarez")
+    at.browser.sees_no("Applications to decide")
+    at.browser.press("Lists for others")
+    at.browser.sees("Applications to decide", "Vehicles with trips ahead")
+    paper = at.browser.print_by("Print these lists")
+    for words in ["What waits", "Patterns of missed trips: 1", "Rosa Álvarez", "Vehicles with trips ahead"]:
+        holds(f"{words} is not on the paper", words in paper.text)
+    at.browser.press("Show rider 1001")
+    at.browser.sees("The case of Rosa Álvarez (1001)", "Missed trips of rider 1001")
+    for key, screen, title in [("examiner", "examiner", "Applications to decide"), ("dispatcher", "dispatcher", "Trips without an outcome")]:
+        at.browser.sign_in(at.keys[key], screen, "waits")
+        at.browser.sees(title)
+
+
+@check
+def a_work_list_that_is_missing_wrong_or_not_for_this_key_is_told(at):
+    at.browser.sign_in(at.keys["rider 1001"], "officer", "waits")
+    at.browser.sees("This key may not read the work list.")
+    at.town.write_file(WORKLIST, "<main><p>Old.</p><section id=missed><h2>Two <img src=x onerror=alert(1)><b>bold</b></h2>"
+                                 "<script>document.title = 'x'</script><table><tbody><tr><td><form>1001")
+    at.browser.sign_in(at.keys["officer"], "officer", "waits")
+    at.browser.sees("Old.", "Two bold")
+    same("markup of the file", 0, at.browser.script("return document.querySelectorAll('main img, main b, main script, main form').length"))
+    at.town.write_file(WORKLIST, None)
+    at.browser.sign_in(at.keys["officer"], "officer", "waits")
+    at.browser.sees("This site has no work list.")
+    make_worklist(at, AFTER)
+    at.browser.press("Read it again")
+    at.browser.sees("Patterns of missed trips: 1")

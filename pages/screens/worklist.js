@@ -1,0 +1,100 @@
+// What waits in the office: the list that the site makes each night of a copy of the desk's file (docs/WORKLIST.md). The desk tells an officer's
+// key no trips, so the missed trips on which an officer decides are read here. Of the file only its words come onto the page, never its markup.
+
+import * as desk from "../parts/desk.js";
+import { button, part, table } from "../parts/element.js";
+import { printParts } from "../parts/paper.js";
+import { makeScreen } from "../parts/screen.js";
+import { keepSubject } from "../parts/subject.js";
+import { t } from "../parts/words.js";
+
+/** @typedef {import("../types").Given} Given */
+/** @typedef {{ id: string, title: string, said: string[], heads: string[], rows: string[][] }} List */
+/** @typedef {{ said: string[], lists: List[], files: List[], fault?: undefined } | { fault: string }} Found */
+
+const FILE = "/staff/worklist.html", FILES = "rider-";
+/** Whose work each list is, and the part of the screen that shows a rider of it.
+ * @type {Record<string, Record<string, string>>}
+ */
+const OWN = { examiner: { applications: "case", grants: "case" }, officer: { appeals: "appeals", missed: "suspensions" },
+    dispatcher: { suspended: "riders", outcomes: "", vehicles: "" } };
+
+/** @param {Element | null} it */
+const wordsOf = (it) => (it?.textContent ?? "").replace(/\s+/g, " ").trim();
+
+/** @param {Element} it @returns {List} */
+const listOf = (it) => ({ id: it.id, title: wordsOf(it.querySelector("h2, summary")), said: [...it.querySelectorAll("p")].map(wordsOf).filter(Boolean),
+    heads: [...it.querySelectorAll("thead th")].map(wordsOf), rows: [...it.querySelectorAll("tbody tr")].map((row) => [...row.children].map(wordsOf)) });
+
+/** @returns {Promise<Found>} */
+async function readWorklist() {
+    const { status, text } = await desk.fetchFile(FILE);
+    if (status !== 200) return { fault: status === 404 ? "none" : status === 401 || status === 403 ? "caller" : "silent" };
+    const main = new DOMParser().parseFromString(text ?? "", "text/html").querySelector("main");
+    const all = (/** @type {string} */ those) => [...main?.querySelectorAll(those) ?? []];
+    return { said: all(":scope > p").map(wordsOf), lists: all("section[id]").map(listOf), files: all(`details[id^="${FILES}"]`).map(listOf) };
+}
+
+/** @param {string} fault */
+const faultWords = (fault) => part("p", { class: "note" }, t(`cases.waits-${fault}`));
+
+// As tables.
+
+/** A rider's number leads to the part that shows the rider.
+ * @param {string} rider @param {string} address
+ */
+const riderCell = (rider, address) => (address && /^\d+$/.test(rider) ? button(rider, () => {
+    keepSubject("rider", Number(rider));
+    location.hash = address;
+}, { class: "small", "aria-label": t("cases.waits-open", { rider }) }) : rider);
+
+/** @param {List} list @param {string} [address] */
+const tableOf = ({ title, heads, rows }, address = "") => rows.length > 0 && table(title, heads.map((head, at) => ({ head,
+    cell: (/** @type {string[]} */ row) => (at === 0 ? riderCell(row[0], address) : row[at] ?? "") })), rows);
+
+/** @param {List} list @param {string} [address] */
+const card = (list, address) => part("section", { class: "card", key: list.id, "aria-labelledby": `waits-${list.id}`, lang: "en" },
+    part("h2", { id: `waits-${list.id}` }, list.title), list.said.map((it) => part("p", {}, it)), tableOf(list, address));
+
+/** @param {List[]} lists @param {string[]} said */
+const print = (lists, said) => printParts(t("cases.waits"), [said.map((it) => part("p", {}, it)), lists.map(({ title, said: notes, heads, rows }) => part("section", {},
+    part("h2", {}, title), notes.map((it) => part("p", {}, it)), rows.length > 0 && part("table", {}, part("thead", {}, part("tr", {}, heads.map((it) => part("th", {}, it)))),
+        part("tbody", {}, rows.map((row) => part("tr", {}, row.map((it) => part("td", {}, it))))))))]);
+
+/** What waits: the lists of who reads first, the others folded below.
+ * @param {"examiner" | "officer" | "dispatcher"} reader
+ */
+export function worklist(reader) {
+    const own = OWN[reader], address = (/** @type {string} */ id) => own[id] && `${reader}/${own[id]}`;
+    const screen = makeScreen({ state: { found: /** @type {Found | null} */ (null) }, draw: ({ found }) => {
+        if (!found) return part("p", { role: "status" }, t("cases.waits-reading"));
+        if (found.fault !== undefined) return [faultWords(found.fault), part("div", { class: "row" }, button(t("cases.waits-again"), read))];
+        const { lists, said } = found, others = lists.filter(({ id }) => !(id in own));
+        return [part("div", { lang: "en" }, said.map((it) => part("p", {}, it))), lists.filter(({ id }) => id in own).map((it) => card(it, address(it.id))),
+            others.length > 0 && part("details", {}, part("summary", {}, t("cases.waits-others")), part("div", { class: "stack" }, others.map((it) => card(it)))),
+            part("div", { class: "row" }, button(t("cases.waits-print"), () => print(lists, said)))];
+    } });
+    async function read() {
+        screen.change({ found: await readWorklist() });
+    }
+    screen.onNewDay(read);
+    read();
+    return screen.element;
+}
+
+/** What the list says of one rider: how many trips were missed, and the case file with all that an officer decides on.
+ * @param {number} rider
+ */
+export function waitingOf(rider) {
+    const screen = makeScreen({ state: { found: /** @type {Found | null} */ (null) }, class: "card", draw: ({ found }) => {
+        const head = [part("h2", {}, t("cases.missed-of", { rider })), part("p", { class: "hint" }, t("cases.missed-hint"))];
+        if (!found) return [head, part("p", { role: "status" }, t("cases.waits-reading"))];
+        if (found.fault !== undefined) return [head, faultWords(found.fault)];
+        const missed = found.lists.filter(({ id }) => id === "missed").map((list) => ({ ...list, rows: list.rows.filter(([number]) => number === String(rider)) }));
+        const files = found.files.filter(({ id }) => id === `${FILES}${rider}`), shown = [...missed.filter(({ rows }) => rows.length > 0), ...files];
+        return [head, part("div", { lang: "en" }, found.said.map((it) => part("p", {}, it))), !shown.length && part("p", {}, t("cases.missed-none")),
+            shown.map((list) => part("section", { key: list.id, lang: "en" }, part("h3", {}, list.title), list.said.map((it) => part("p", {}, it)), tableOf(list)))];
+    } });
+    readWorklist().then((found) => screen.change({ found }));
+    return screen.element;
+}
