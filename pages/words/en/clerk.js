@@ -50,4 +50,5 @@ export const words = {
     "clerk.roster-file": "Roster from this computer",
     "clerk.roster-from": ({ source, count }) => `From ${source}: ${count} ${count === "1" ? "rider" : "riders"}.`,
     "clerk.server": "the server",
+    "clerk.make-record": ({ rider }) => `Make the record of ${rider}`,
 };

@@ -50,4 +50,5 @@ export const words = {
     "clerk.roster-file": "Lista de esta computadora",
     "clerk.roster-from": ({ source, count }) => `De ${source}: ${count} ${count === "1" ? "pasajero" : "pasajeros"}.`,
     "clerk.server": "el servidor",
+    "clerk.make-record": ({ rider }) => `Hacer el registro de ${rider}`,
 };
