@@ -1,4 +1,4 @@
-"""The site's log of denials and of taps at stops: what the pages tell the site, and the site writes down.
+"""The site's log of denials, of taps at stops and of cancellations: what the pages tell the site, and it writes down.
 
 A line is the time, the path and the query, with tabs between them. A line that can't be read is named and passed over;
 one that came twice, by its id, counts once.
@@ -18,21 +18,28 @@ EVENTS = ("arrived", "aboard", "dropped", "left", "no-show-rider", "no-show-agen
 # `received` is when the site had it, by the site's clock; `at` is when the driver tapped, by the phone's.
 Denial = collections.namedtuple("Denial", "id received day minute rule")
 Stop = collections.namedtuple("Stop", "id received vehicle trip event at")
-Log = collections.namedtuple("Log", "denials stops broken")
-FIELDS = {"denials": ("id", "day", "minute", "rule"), "stops": ("id", "vehicle", "trip", "event", "at")}
+# `by` is for whom a trip was cancelled, and `at` is when, by the agency's clock.
+Cancellation = collections.namedtuple("Cancellation", "id received trip by at")
+RIDER, AGENCY = "rider", "agency"
+Log = collections.namedtuple("Log", "denials stops cancellations broken")
+FIELDS = {"denials": ("id", "day", "minute", "rule"), "stops": ("id", "vehicle", "trip", "event", "at"),
+          "cancellations": ("id", "trip", "by", "at")}
 LONGEST = 4_096
+# The years are those in which the desk has days.
+DAY = "20[0-9]{2}-[0-9]{2}-[0-9]{2}"
 
 
 def read(paths):
     """What logs hold, each id once, in the order of the logs."""
-    log, known = Log([], [], []), {}
+    log, known = Log([], [], [], []), {}
+    lists = {Denial: log.denials, Stop: log.stops, Cancellation: log.cancellations}
     for path in paths:
         for number, line in enumerate(lines_in(path), 1):
             try:
                 hit = hit_of(line)
                 there = known.setdefault(hit.id, hit)
                 if there is hit:
-                    (log.denials if isinstance(hit, Denial) else log.stops).append(hit)
+                    lists[type(hit)].append(hit)
                 elif there._replace(received=None) != hit._replace(received=None):
                     raise ValueError(f"the id {hit.id} stands before with other words")
             except ValueError as error:
@@ -41,10 +48,13 @@ def read(paths):
 
 
 def lines_in(path):
-    """The lines of a log, which may be packed by gzip."""
+    """The lines of a log, which may be packed by gzip. Of a line that is too long the beginning is enough."""
     try:
         with (gzip.open if str(path).endswith(".gz") else open)(path, "rb") as file:
-            for line in file:
+            while line := file.readline(LONGEST + 2):
+                rest = line
+                while len(rest) == LONGEST + 2 and not rest.endswith(b"\n"):
+                    rest = file.readline(LONGEST + 2)
                 yield line.rstrip(b"\r\n")
     except (OSError, EOFError, zlib.error) as error:
         raise Wrong(f"{path} can't be read: {getattr(error, 'strerror', None) or error}") from None
@@ -57,13 +67,18 @@ def hit_of(line):
     except UnicodeDecodeError as error:
         raise ValueError(f"it has the byte {line[error.start]:#04x}") from None
     if len(parts) != 3 or len(line) > LONGEST:
-        raise ValueError(f"it has {len(parts)} parts and {len(line)} signs, and a line has a time, a path and a query")
+        raise ValueError(f"it has {len(parts)} parts and {signs(line)} signs, and a line has a time, a path and a "
+                         "query")
     kind = parts[1].rpartition("/")[2]
     if kind not in FIELDS:
-        raise ValueError(f"the path {parts[1][:60]!r} is neither /tally/denials nor /tally/stops")
+        raise ValueError(f"the path {parts[1][:60]!r} is none of {', '.join(f'/tally/{it}' for it in FIELDS)}")
     fields = fields_of(parts[2], FIELDS[kind])
-    made = denial_of if kind == "denials" else stop_of
+    made = {"denials": denial_of, "stops": stop_of, "cancellations": cancellation_of}[kind]
     return made(id_of(fields["id"]), time_of(parts[0], "the time"), fields)
+
+
+def signs(line):
+    return len(line) if len(line) <= LONGEST else f"more than {LONGEST:,}"
 
 
 def fields_of(query, names):
@@ -94,10 +109,19 @@ def number_of(text, name, low, high):
     return int(text)
 
 
+def matched(text, form, name, said):
+    if not re.fullmatch(form, text):
+        raise ValueError(f"{name} {text[:40]!r} is no {said} of 2000 to 2099")
+    return time_of(text, name)
+
+
+def moment_of(text):
+    """A time by the agency's clock."""
+    return matched(text, f"{DAY}T[0-9]{{2}}:[0-9]{{2}}:[0-9]{{2}}", "at", "time YYYY-MM-DDTHH:MM:SS")
+
+
 def denial_of(key, received, fields):
-    if not re.fullmatch(r"[0-9]{4}-[0-9]{2}-[0-9]{2}", fields["day"]):
-        raise ValueError(f"day {fields['day'][:40]!r} is no day YYYY-MM-DD")
-    day = time_of(fields["day"], "day").date()
+    day = matched(fields["day"], DAY, "day", "day YYYY-MM-DD").date()
     if fields["rule"] not in RULES:
         raise ValueError(f"rule {fields['rule'][:40]!r} is none by which the desk denies a trip")
     return Denial(key, received, day, number_of(fields["minute"], "minute", 0, LAST_MINUTE), fields["rule"])
@@ -106,7 +130,12 @@ def denial_of(key, received, fields):
 def stop_of(key, received, fields):
     if fields["event"] not in EVENTS:
         raise ValueError(f"event {fields['event'][:40]!r} is none of {', '.join(EVENTS)}")
-    if not re.fullmatch(r"[0-9]{4}-[0-9]{2}-[0-9]{2}T[0-9]{2}:[0-9]{2}:[0-9]{2}", fields["at"]):
-        raise ValueError(f"at {fields['at'][:40]!r} is no time YYYY-MM-DDTHH:MM:SS")
     vehicle, trip = (number_of(fields[it], it, 1, HIGHEST_NUMBER) for it in ("vehicle", "trip"))
-    return Stop(key, received, vehicle, trip, fields["event"], time_of(fields["at"], "at"))
+    return Stop(key, received, vehicle, trip, fields["event"], moment_of(fields["at"]))
+
+
+def cancellation_of(key, received, fields):
+    if fields["by"] not in (RIDER, AGENCY):
+        raise ValueError(f"by {fields['by'][:40]!r} is neither {RIDER} nor {AGENCY}")
+    trip = number_of(fields["trip"], "trip", 1, HIGHEST_NUMBER)
+    return Cancellation(key, received, trip, fields["by"], moment_of(fields["at"]))

@@ -1,4 +1,4 @@
-"""What is told of the site's log: denials by month and rule, and the taps of drivers."""
+"""What is told of the site's log: denials by month and rule, the taps of drivers, and cancellations."""
 import collections
 import csv
 import html
@@ -46,9 +46,16 @@ def stops_csv(stops):
     return csv_of([("day", "vehicle", "trip", "event", "at", "received"), *rows])
 
 
-def csv_of(rows):
+def cancellations_csv(cancellations):
+    """A row for each cancellation, by its time."""
+    rows = [(it.at.date(), it.trip, it.by, it.at.time(), it.received.isoformat()) for it in
+            sorted(cancellations, key=lambda it: (it.at, it.trip))]
+    return csv_of([("day", "trip", "by", "at", "received"), *rows])
+
+
+def csv_of(rows, end="\n"):
     text = io.StringIO()
-    csv.writer(text, lineterminator="\n").writerows(rows)
+    csv.writer(text, lineterminator=end).writerows(rows)
     return text.getvalue()
 
 

@@ -6,6 +6,7 @@ import fcntl
 import os
 import re
 import sqlite3
+import stat
 import struct
 import urllib.parse
 
@@ -21,6 +22,9 @@ KINDS = ("resident", "visitor")
 DAY_ZERO, NO_NUMBER = datetime.date(1970, 1, 1).toordinal(), -1
 FIRST_YEAR, LAST_YEAR = 2000, 2099
 SIGN = b"SQLite format 3\0"
+# The head of a file of SQLite: the size of a page (1 stands for 65,536), the counter of changes, how many pages there
+# are, and the counter for which that holds.
+HEAD = struct.Struct(">16x H 6x I I 60x I 4x")
 # The bytes of a file that SQLite locks: one that waits to write, one that will, and those of readers.
 FIRST_LOCKED, LOCKED = 0x40000000, 512
 FLOCK = "hhqqi4x"
@@ -88,6 +92,18 @@ class Copy:
             raise Wrong(f"{self.path} has tables of version {versions[0][0]!r}, and versions 1 and 2 are read here")
         return versions[0][0]
 
+    def status_of(self, trip, number):
+        """How a trip ended, in words."""
+        if number not in range(len(STATUSES)):
+            raise Wrong(f"{self.path} is no sound copy of a desk's file: trip {trip} has the status {number!r}")
+        return STATUSES[number]
+
+    def check_days(self):
+        """Each trip is of a day that the desk knows, so that those of all days are all trips."""
+        first, last = (number_of(datetime.date(year, 1, 1)) for year in (FIRST_YEAR, LAST_YEAR + 1))
+        for day, in self.rows("SELECT day FROM trips WHERE day < ? OR day >= ? LIMIT 1", first, last):
+            day_of(day)
+
     def made_on(self):
         """The day on which the file was last written, by this machine's clock."""
         return datetime.date.fromtimestamp(os.stat(self.path).st_mtime)
@@ -108,17 +124,29 @@ class Copy:
 def check_file(path):
     """The file is one of SQLite's, is whole without a log, and nobody has it open to write."""
     try:
+        if not stat.S_ISREG(os.stat(path).st_mode):
+            raise Wrong(f"{path} is no file")
         with open(path, "rb") as file:
-            head = file.read(len(SIGN))
+            head, length = file.read(HEAD.size), os.fstat(file.fileno()).st_size
             holder = lock_of(file)
     except OSError as error:
         raise Wrong(f"{path} can't be read: {error.strerror}") from None
-    if head != SIGN:
+    if not head.startswith(SIGN):
         raise Wrong(f"{path} is no database of SQLite, and so no copy of a desk's file")
+    if length < length_in(head):
+        raise Wrong(f"{path} was cut: it has {length:,} bytes of {length_in(head):,}")
     if os.path.lexists(f"{path}-wal"):
         raise Wrong(f"{path} has a log, {path}-wal, beside it: this is a desk's own file. Give a backup of it")
     if holder:
         raise Wrong(f"process {holder} has {path} open and locked: this is a desk's own file. Give a backup of it")
+
+
+def length_in(head):
+    """How many bytes the file has by its head, at least the head itself."""
+    if len(head) < HEAD.size:
+        return HEAD.size
+    size, changes, pages, valid_for = HEAD.unpack(head)
+    return (65_536 if size == 1 else size) * pages if changes == valid_for else HEAD.size
 
 
 def lock_of(file):

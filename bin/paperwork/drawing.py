@@ -2,7 +2,7 @@
 import datetime
 import html
 
-from paperwork.lists import Rider
+from paperwork.lists import Number, Rider
 
 # The site serves the page beside those of the office, and lets no style stand within it.
 STYLE = "/desk.css"
@@ -10,7 +10,7 @@ STYLE = "/desk.css"
 
 def shown(text):
     """A text without signs that would steer a terminal."""
-    return "".join(it if it.isprintable() else "\ufffd" for it in text)
+    return text if text.isprintable() else "".join(it if it.isprintable() else "\ufffd" for it in text)
 
 
 def cell_text(cell):
@@ -33,16 +33,22 @@ def cell_html(cell, on_page):
     if isinstance(cell, Rider):
         link = f'<a href="#rider-{cell.number}">{cell.number}</a>'
         return link if cell.number in on_page else str(cell.number)
+    if isinstance(cell, Number):
+        return html.escape(cell.text)
     if isinstance(cell, datetime.date):
         return f'<time datetime="{cell.isoformat()}">{cell:%a, %b} {cell.day}, {cell.year}</time>'
     return html.escape(shown(str(cell)))
 
 
+def side(cell):
+    return ' class="number"' if isinstance(cell, Number) else ""
+
+
 def table_html(listed, on_page):
-    head = "".join(f'<th scope="col">{html.escape(it)}</th>' for it in listed.columns)
+    head = "".join(f'<th scope="col"{side(it)}>{cell_html(it, on_page)}</th>' for it in listed.columns)
     rows = []
     for first, *rest in listed.rows:
-        cells = "".join(f"<td>{cell_html(it, on_page)}</td>" for it in rest)
+        cells = "".join(f"<td{side(it)}>{cell_html(it, on_page)}</td>" for it in rest)
         rows.append(f'<tr><th scope="row">{cell_html(first, on_page)}</th>{cells}</tr>')
     # (a table that is wider than the screen moves within its own box, which the keyboard reaches)
     return "\n".join([f'<div class="scroll" role="region" tabindex="0" aria-labelledby="title-{listed.name}">',
@@ -61,17 +67,20 @@ def list_html(listed, on_page):
 
 def file_html(listed, sentences, is_alone):
     """A case file, folded where others stand beside it."""
-    said = "".join(f"<p>{html.escape(shown(it))}</p>" for it in sentences)
     return "\n".join([
         f'<details id="{listed.name}"{" open" if is_alone else ""}>',
         f'<summary id="title-{listed.name}">{html.escape(shown(listed.title))}</summary>',
-        said, table_html(listed, ()) if listed.rows else "", "</details>"])
+        *paragraphs(sentences), table_html(listed, ()) if listed.rows else "", "</details>"])
 
 
-def page(title, sentences, lists, files):
-    """The page: lists, and below them the case files, each with its sentences."""
+def paragraphs(sentences):
+    return [f"<p>{html.escape(shown(it))}</p>" for it in sentences]
+
+
+def page(title, sentences, lists, files, notes=()):
+    """The page: lists, and below them the case files, each with its sentences, or notes."""
     on_page = {int(it.name.removeprefix("rider-")) for it, _ in files}
-    links = [f'<li><a href="#{it.name}">{html.escape(it.title)}: {len(it.rows)}</a></li>' for it in lists]
+    links = [f'<li><a href="#{it.name}">{html.escape(it.title)}: {len(it.rows)}</a></li>' for it in lists if it.reader]
     below = ['<section aria-labelledby="title-files">', '<h2 id="title-files">Case files</h2>',
              *(file_html(listed, said, not lists) for listed, said in files), "</section>"] if files else []
     return "\n".join([
@@ -79,6 +88,6 @@ def page(title, sentences, lists, files):
         '<meta name="viewport" content="width=device-width, initial-scale=1">',
         f"<title>{html.escape(shown(title))}</title>", f'<link rel="stylesheet" href="{STYLE}">', "</head>", "<body>",
         '<div class="frame">', '<main class="stack">', f"<h1>{html.escape(shown(title))}</h1>",
-        *(f"<p>{html.escape(shown(it))}</p>" for it in sentences),
-        *(['<nav aria-label="Lists">', "<ul>", *links, "</ul>", "</nav>"] if links else []),
-        *(list_html(it, on_page) for it in lists), *below, "</main>", "</div>", "</body>", "</html>", ""])
+        *paragraphs(sentences), *(['<nav aria-label="Lists">', "<ul>", *links, "</ul>", "</nav>"] if links else []),
+        *(list_html(it, on_page) for it in lists), *below, *paragraphs(notes),
+        "</main>", "</div>", "</body>", "</html>", ""])

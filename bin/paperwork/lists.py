@@ -11,6 +11,8 @@ from paperwork.copies import day_of, number_of
 # A list: its name, title, who works with it, what it means, its columns, and its rows of numbers, days and texts.
 Listed = collections.namedtuple("Listed", "name title reader note columns rows")
 Rider = collections.namedtuple("Rider", "number")
+# A figure or the head of a column of figures, which go to the right.
+Number = collections.namedtuple("Number", "text")
 
 
 class Names:
@@ -125,14 +127,12 @@ def steps(entries, now):
 
 
 def suspended_trips(copy, files, now, names):
-    rows = []
-    for rider, entries in files.items():
-        for it in case_files.suspensions(entries):
-            for trip, day, vehicle, begins in copy.rows(
-                    "SELECT id, day, vehicle, window_from FROM trips WHERE rider = ? AND status = ? AND day >= ? AND "
-                    "day BETWEEN ? AND ?", rider, copies.BOOKED, now, it.a, it.b) if it.b >= now else ():
-                rows.append((*names.rider(rider), day_of(day), clock(begins), trip, vehicle_named(vehicle, names)))
-    rows = sorted(set(rows), key=lambda it: (it[2], it[3], it[4]))
+    spans = {rider: found for rider, entries in files.items() if (found := case_files.suspensions(entries))}
+    # (all booked trips at once: tables of version 1 have no index by which to find those of a rider)
+    booked = copy.rows("SELECT id, rider, day, vehicle, window_from FROM trips WHERE status = ? AND day >= ? "
+                       "ORDER BY day, window_from, id", copies.BOOKED, now)
+    rows = [(*names.rider(rider), day_of(day), clock(begins), trip, vehicle_named(vehicle, names))
+            for trip, rider, day, vehicle, begins in booked if any(it.a <= day <= it.b for it in spans.get(rider, ()))]
     return Listed(
         "suspended", "Booked trips inside a suspension", "dispatcher",
         "These were booked before the rider was suspended. They stay until somebody cancels them.",
@@ -154,14 +154,16 @@ def without_outcome(copy, now, names):
 
 
 def vehicles(copy, now, names):
+    counts = collections.defaultdict(dict)
+    for vehicle, day, count in copy.rows("SELECT vehicle, day, count(*) FROM trips WHERE day >= ? AND status <> ? "
+                                         "GROUP BY vehicle, day", now, copies.CANCELLED):
+        counts[vehicle][day] = count
     rows = []
     for vehicle, begins in copy.rows("SELECT id, max(from_day) FROM vehicles GROUP BY id ORDER BY id"):
-        count, first, last = copy.rows(
-            "SELECT count(*), min(day), max(day) FROM trips WHERE day >= ? AND vehicle = ? AND status <> ?",
-            max(begins, now), vehicle, copies.CANCELLED)[0]
-        if count:
-            rows.append((vehicle_named(vehicle, names), day_of(begins), count, day_of(first), day_of(last),
-                         day_of(last + 1)))
+        days = {day: count for day, count in counts[vehicle].items() if day >= begins}
+        if days:
+            rows.append((vehicle_named(vehicle, names), day_of(begins), sum(days.values()), day_of(min(days)),
+                         day_of(max(days)), day_of(max(days) + 1)))
     return Listed(
         "vehicles", "Vehicles with trips ahead", "dispatcher and manager",
         "Trips from today on that stand after the vehicle's last version begins. A new version can begin on the last "

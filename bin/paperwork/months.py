@@ -1,46 +1,78 @@
-"""Trips by month, from a copy of the desk's file, and denials by rule, from the site's log."""
+"""What is counted in each month: trips and planned times from a copy of the desk's file, the rest from the site's
+log."""
 import collections
+import datetime
 
-from moving.rules import RULES
 from paperwork import copies
-from paperwork.copies import day_of
+from paperwork.copies import day_of, number_of
+from paperwork.heard import Heard, trips_of
+from paperwork.plans import DROP, PICKUP, Plans
 
-# A column of the table for each way in which a trip can end.
-ENDS = {copies.CANCELLED: "cancelled", copies.RIDDEN: "ridden", copies.MISSED_BY_RIDER: "missed_by_rider",
-        copies.MISSED_BY_OPERATOR: "missed_by_operator", copies.BOOKED: "without_outcome"}
-UNSAID = [
-    "A trip counts in the month of its day, and a denial in the month for which it was asked.",
-    "Booked are all trips that the desk took, cancelled ones too. Asked are the booked and the denied ones.",
-    "Without an outcome are trips of days to come, and those that nobody ended.",
-    "The file does not say when a trip was cancelled, so early and late cancellations are not told apart.",
-    "It does not say whether a trip was changed, and measures neither miles nor hours.",
-    "A denial is counted each time that the pages told it to the site. One that no page told is missing.",
-]
+# A vehicle was on the road on a day where one of its trips ended so.
+ON_THE_ROAD = {copies.RIDDEN, copies.MISSED_BY_RIDER}
+# The days that count, from the first to the last one; all days, where nobody asked for some.
+Period = collections.namedtuple("Period", "first last")
+ALL_DAYS = Period(datetime.date(copies.FIRST_YEAR, 1, 1), datetime.date(copies.LAST_YEAR, 12, 31))
 
 
-def first_of(day):
+def month_of(day):
     return f"{day.year}-{day.month:02}"
 
 
-def table_of(copy, denials, first, last):
-    """The columns and a row for each month that has a trip or a denial. Without a log, what it would say is empty."""
-    trips, denied = collections.defaultdict(collections.Counter), collections.defaultdict(collections.Counter)
-    for number, status, count in copy.rows("SELECT day, status, count(*) FROM trips GROUP BY day, status"):
-        day = day_of(number)
-        if first <= day <= last:
-            trips[first_of(day)][status] += count
-    for it in denials or ():
-        if first <= it.day <= last:
-            denied[first_of(it.day)][it.rule] += 1
-    rules = [] if denials is None else list(RULES)
-    columns = ["month", "asked", "booked", *(f"denied {it}" for it in rules), *ENDS.values()]
-    rows = []
-    for month in sorted({*trips, *denied}):
-        booked, refused = sum(trips[month].values()), [denied[month][it] for it in rules]
-        asked = "" if denials is None else booked + sum(refused)
-        rows.append([month, asked, booked, *refused, *(trips[month][it] for it in ENDS)])
-    return columns, [*rows, total_of(columns, rows)] if rows else []
+def counts_of(copy, log, period, late_minutes):
+    """The counts of each month without a gap: of the months that were asked for, or from the first one that has any."""
+    counts = collections.defaultdict(collections.Counter)
+    status = count_trips(copy, Heard(log), period, late_minutes, counts)
+    count_plans(copy, period, status, counts)
+    for it in log.denials if log else ():
+        if period.first <= it.day <= period.last:
+            counts[month_of(it.day)][f"denied {it.rule}"] += 1
+    is_asked = period.first > ALL_DAYS.first and period.last < ALL_DAYS.last
+    ends = [*map(month_of, period)] if is_asked else sorted(counts)
+    return {month: counts[month] for month in (months_between(ends[0], ends[-1]) if ends else ())}
 
 
-def total_of(columns, rows):
-    return ["all", *("" if rows[0][at] == "" else sum(row[at] for row in rows) for at in range(1, len(columns)))]
+def months_between(month, last):
+    while month <= last:
+        yield month
+        year, number = int(month[:4]), int(month[5:])
+        month = f"{year + number // 12}-{number % 12 + 1:02}"
+
+
+def count_trips(copy, heard, period, late_minutes, counts):
+    """Counts the trips, and returns how each ended."""
+    status = {}
+    for trip in trips_of(copy, *map(number_of, period)):
+        count = counts[month_of(day_of(trip.day))]
+        status[trip.number] = trip.status
+        count["trips"] += 1
+        count[copy.status_of(trip.number, trip.status)] += 1
+        if trip.status == copies.CANCELLED:
+            count[f"cancelled_{heard.cancellation(trip, late_minutes)}"] += 1
+        elif trip.status in ON_THE_ROAD:
+            count_times(count, trip, heard)
+    return status
+
+
+def count_times(count, trip, heard):
+    """When the vehicle came, and for how long the rider was aboard. The window's last minute is in time."""
+    arrived = heard.arrived(trip)
+    is_late = arrived is not None and arrived >= 60 * (trip.window_to + 1)
+    count["pickups_untold" if arrived is None else "pickups_late" if is_late else "pickups_on_time"] += 1
+    seconds = heard.aboard(trip) if trip.status == copies.RIDDEN else None
+    if seconds is not None:
+        count["rides_timed"] += 1
+        count["driven_seconds"] += seconds
+        count["rides_over_limit"] += seconds > 60 * trip.ride
+
+
+def count_plans(copy, period, status, counts):
+    """Planned minutes of rides, and of vehicles from their first pickup to the end of their last drop."""
+    for _, day, stops in Plans(copy).between(*map(number_of, period)):
+        if not any(status.get(it.trip) in ON_THE_ROAD for it in stops):
+            continue
+        count = counts[month_of(day_of(day))]
+        count["vehicle_minutes"] += stops[-1].minute + stops[-1].service - stops[0].minute
+        aboard = {it.trip: it.minute + it.service for it in stops if it.kind == PICKUP}
+        count["planned_minutes"] += sum(it.minute - aboard[it.trip] for it in stops
+                                        if it.kind == DROP and status.get(it.trip) == copies.RIDDEN)

@@ -1,0 +1,137 @@
+"""The figures of months, as a table and as a page that prints. docs/REPORTS.md says what each means."""
+import collections
+import datetime
+
+from moving.rules import NO_VEHICLE, RULES
+from moving.tally_log import RIDER
+from paperwork.lists import Listed, Number
+
+# So many columns fit on paper beside the one of names.
+COLUMNS_OF_A_TABLE, NO_BREAK = 7, "\u00a0"
+# A figure: its name in the CSV, its label on the page, how it comes from a month's counts, and whether a log has to
+# say it.
+Figure = collections.namedtuple("Figure", "name label of needs_log", defaults=(False,))
+
+
+def counted(name, label, needs_log=False):
+    return Figure(name, label, lambda it: it[name], needs_log)
+
+
+def share(name, label, part, whole, digits, needs_log=False):
+    """A figure that is a quotient; it is empty where there is nothing to divide by."""
+    return Figure(name, label, lambda it: round(part(it) / whole(it), digits) if whole(it) else "", needs_log)
+
+
+DENIED = [counted(f"denied {rule}", f"Denied, {rule}: {said}", True) for rule, said in RULES.items()]
+FIGURES = [
+    Figure("asked", "Trips asked for: booked and denied", lambda it: it["trips"] + sum(it[of.name] for of in DENIED),
+           True),
+    Figure("booked", "Booked, cancelled ones too", lambda it: it["trips"]),
+    *DENIED,
+    counted("cancelled", "Cancelled"),
+    counted("cancelled_early", "Cancelled early", True),
+    counted("cancelled_late", "Cancelled late", True),
+    counted("cancelled_by_agency", "Cancelled for the agency", True),
+    counted("cancelled_untold", "Cancelled, and the log does not say when", True),
+    counted("ridden", "Ridden"),
+    Figure("missed_by_rider", "Missed by the rider", lambda it: it["missed by the rider"]),
+    Figure("missed_by_operator", "Missed by the operator", lambda it: it["missed by the operator"]),
+    Figure("without_outcome", "Without an outcome", lambda it: it["booked"]),
+    counted("pickups_on_time", "Pickups on time", True),
+    counted("pickups_late", "Pickups late", True),
+    counted("pickups_untold", "Pickups whose time no driver tapped", True),
+    share("on_time_percent", "On time, in percent", lambda it: 100 * it["pickups_on_time"],
+          lambda it: it["pickups_on_time"] + it["pickups_late"], 1, True),
+    share("minutes_aboard_planned", "Minutes aboard a ride, as planned", lambda it: it["planned_minutes"],
+          lambda it: it["ridden"], 1),
+    share("minutes_aboard_driven", "Minutes aboard a ride, as driven", lambda it: it["driven_seconds"] / 60,
+          lambda it: it["rides_timed"], 1, True),
+    counted("rides_timed", "Rides of which a driver tapped both ends", True),
+    counted("rides_over_limit", "Of these, longer than the trip's limit", True),
+    Figure("vehicle_hours", "Vehicle hours, as planned", lambda it: round(it["vehicle_minutes"] / 60, 2)),
+    share("trips_per_vehicle_hour", "Trips ridden per vehicle hour", lambda it: 60 * it["ridden"],
+          lambda it: it["vehicle_minutes"], 2),
+]
+NOTHING = "The copy has no trip in this period, and the log no denial."
+WITHOUT_LOG = ("Without the site's log (--tally) nothing says what was denied, when trips were cancelled, whether "
+               "pickups were on time, or how long riders were aboard.")
+MEANINGS = [
+    "A trip counts in the month of its day, and a denial in the month for which it was asked.",
+    "Without an outcome are trips of days to come, and those that nobody ended.",
+    "As planned means by the least service times, which are those of the manifests. A ride's minutes run from the end "
+    "of the pickup to the drop.",
+    "Vehicle hours run from the first pickup of a vehicle's day to the end of its last drop, on days on which it "
+    "carried or awaited a rider. Nobody measures them, and no source has miles.",
+]
+MEANINGS_OF_LOG = [
+    "Rules by which nothing was denied are left out.",
+    "A cancellation is late where it came less than {late_minutes} minutes before the promised window. The agency "
+    "cancels where a vehicle is out of service.",
+    "A pickup is on time where the vehicle came by the last minute of the promised window. Pickups are those of trips "
+    "that were ridden or that the rider missed.",
+]
+
+
+def values_of(figure, counts, has_log):
+    """A figure of each month and of all. What a log would say is empty without one."""
+    found = [*counts.values(), sum(counts.values(), collections.Counter())]
+    return [figure.of(it) if has_log or not figure.needs_log else "" for it in found]
+
+
+def table_of(counts, has_log):
+    """The columns, and a row for each month and for all."""
+    columns = [values_of(it, counts, has_log) for it in FIGURES]
+    return ["month", *(it.name for it in FIGURES)], [*zip([*counts, "all"], *columns)] if counts else []
+
+
+def lists_of(counts, has_log):
+    """The figures as tables for a page, each with so many months as fit on paper."""
+    heads, shown = [*map(month_named, counts), "All"], []
+    for it in FIGURES:
+        values = values_of(it, counts, has_log)
+        if values[-1] != "" and is_shown(it, values):
+            shown.append((it.label, values))
+    for at in range(0, len(heads) if counts else 0, COLUMNS_OF_A_TABLE):
+        some = slice(at, at + COLUMNS_OF_A_TABLE)
+        ends = [it.replace(NO_BREAK, " ") for it in (heads[some][0], heads[some][-1])]
+        title = "Figures" if len(heads) <= COLUMNS_OF_A_TABLE else " to ".join(dict.fromkeys(ends))
+        rows = [(label, *map(told, values[some])) for label, values in shown]
+        yield Listed(f"months-{at}", title, "", "", ("Figure", *map(Number, heads[some])), rows)
+
+
+def month_named(month):
+    return f"{datetime.date.fromisoformat(f'{month}-01'):%b}{NO_BREAK}{month[:4]}"
+
+
+def is_shown(figure, values):
+    """Rules by which nothing was denied are left out; want of a vehicle is always said."""
+    return any(values) or figure not in DENIED or figure.name == f"denied {NO_VEHICLE}"
+
+
+def told(value):
+    return Number(value if value == "" else f"{value:,}")
+
+
+def sentences_of(counts, log):
+    """What no source holds."""
+    if not counts:
+        return [NOTHING]
+    return [*sentences_of_log(log)] if log else [WITHOUT_LOG]
+
+
+def sentences_of_log(log):
+    hits = [*log.denials, *log.stops, *log.cancellations]
+    if not hits:
+        yield "The log is empty."
+    else:
+        yield f"The log begins on {min(it.received.date() for it in hits)}, and says nothing of what came before."
+    if not any(it.by == RIDER for it in log.cancellations):
+        yield ("The log has no cancellation by a rider, and the desk's file does not say when a trip was cancelled: so "
+               "early and late ones are not told apart.")
+    if log.broken:
+        yield f"{len(log.broken)} lines of the log could not be read, and are not counted."
+
+
+def meanings_of(log, late_minutes):
+    """What the figures mean."""
+    return [*MEANINGS, *(it.format(late_minutes=late_minutes) for it in (MEANINGS_OF_LOG if log else ()))]

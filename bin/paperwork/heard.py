@@ -1,0 +1,61 @@
+"""What the site's log says of a copy's trips: when a vehicle came, for how long a rider was aboard, and when a trip was
+cancelled."""
+import collections
+import datetime
+
+from moving.tally_log import AGENCY
+from paperwork.copies import CANCELLED, day_of
+
+# A tap counts for a trip from the midnight of its day until the noon after it.
+MOST_SECONDS = 36 * 3_600
+
+Trip = collections.namedtuple("Trip", "number day vehicle window_from window_to ride status")
+
+
+def trips_of(copy, first, last):
+    """The trips of the days from first to last, which are numbers."""
+    return [Trip(*it) for it in copy.rows("SELECT id, day, vehicle, window_from, window_to, ride, status FROM trips "
+                                          "WHERE day BETWEEN ? AND ? ORDER BY day, id", first, last)]
+
+
+class Heard:
+    """What a log says of trips. Without a log it says nothing."""
+
+    def __init__(self, log):
+        self.taps, self.cancelled = collections.defaultdict(list), {}
+        for it in log.stops if log else ():
+            self.taps[it.trip].append(it)
+        for it in log.cancellations if log else ():
+            self.cancelled.setdefault(it.trip, it)
+
+    def tapped(self, trip, event):
+        """When this was first tapped for a trip, in seconds of the trip's day, or None."""
+        if trip.number not in self.taps:
+            return None
+        seconds = [seconds_into(trip.day, it.at) for it in self.taps[trip.number] if it.event == event]
+        return min((it for it in seconds if 0 <= it < MOST_SECONDS), default=None)
+
+    def arrived(self, trip):
+        """When the vehicle was there: Arrived, or where nobody tapped that, Aboard."""
+        found = self.tapped(trip, "arrived")
+        return self.tapped(trip, "aboard") if found is None else found
+
+    def aboard(self, trip):
+        """For how many seconds the rider was aboard, or None."""
+        begin, end = self.tapped(trip, "aboard"), self.tapped(trip, "dropped")
+        return None if begin is None or end is None or end < begin else end - begin
+
+    def cancellation(self, trip, late_minutes):
+        """How a trip was cancelled: for the agency, early, late, or untold."""
+        said = self.cancelled.get(trip.number)
+        if said is None or trip.status != CANCELLED:
+            return "untold"
+        if said.by == AGENCY:
+            return "by_agency"
+        is_late = 60 * trip.window_from - seconds_into(trip.day, said.at) < 60 * late_minutes
+        return "late" if is_late else "early"
+
+
+def seconds_into(number, moment):
+    """The seconds from the midnight of a day to a moment by the same clock."""
+    return int((moment - datetime.datetime.combine(day_of(number), datetime.time())).total_seconds())

@@ -1,0 +1,70 @@
+"""The trips of a period for a spreadsheet: clock times, dollars, and names where the agency gives them."""
+import re
+
+from paperwork import copies
+from paperwork.copies import day_of, number_of
+from paperwork.heard import Heard, trips_of
+from paperwork.lists import clock
+from paperwork.plans import DROP, PICKUP, Plans
+
+# A spreadsheet reads a file as UTF-8 where this sign leads it.
+MARK = "\ufeff"
+# What a spreadsheet would take for a formula.
+FORMULA = re.compile(r"[=+\-@\t\r]")
+COLUMNS = ("Trip", "Rider", "Name", "Telephone", "Day", "Wished", "Promised from", "Promised to", "From", "To", "By",
+           "Vehicle", "Attendant", "Companions", "Wheelchair", "Fare ($)", "Due ($)", "State", "Pickup planned",
+           "Drop planned", "Arrived", "Aboard", "Dropped")
+
+
+def rows_of(copy, log, period, names):
+    """A row for each trip, by day and number. Times that no log says are empty."""
+    heard, days = Heard(log), [*map(number_of, period)]
+    told = {it.number: [time_of(heard.tapped(it, event)) for event in ("arrived", "aboard", "dropped")]
+            for it in trips_of(copy, *days)}
+    planned = {(it.trip, it.kind): clock(it.minute) for _, _, stops in Plans(copy).between(*days) for it in stops}
+    chairs = {trip for trip, in copy.rows("SELECT trip FROM trip_chairs")} if copy.version > 1 else ()
+    for trip, rider, day, wish, origin, goal, latest, attendant, companions, fare, vehicle, begins, ends, status in \
+            copy.rows("SELECT id, rider, day, wish, origin, goal, latest, attendant, companions, fare, vehicle, "
+                      "window_from, window_to, status FROM trips WHERE day BETWEEN ? AND ? ORDER BY day, id", *days):
+        yield [trip, rider, *map(text, names.rider(rider)), day_of(day), clock(wish), clock(begins), clock(ends),
+               text(names.place(origin)), text(names.place(goal)), "" if latest == copies.NO_NUMBER else clock(latest),
+               text(names.vehicle(vehicle)), yes(attendant), companions, yes(trip in chairs), dollars(fare),
+               dollars(fare * (1 + companions)), copy.status_of(trip, status), planned.get((trip, PICKUP), ""),
+               planned.get((trip, DROP), ""), *told[trip]]
+
+
+class Names:
+    """The names of riders, places and vehicles, where the agency gives them. Without them all goes by numbers."""
+
+    def __init__(self, agency, riders):
+        self.riders = {int(it["rider"]): it for it in riders}
+        self.places, self.vehicles = ({it["id"]: it["name"] for it in agency.get(kind, []) if it.get("name")}
+                                      for kind in ("places", "vehicles"))
+
+    def rider(self, number):
+        """A rider's name and telephone number."""
+        rider = self.riders.get(number, {})
+        return rider.get("name", ""), rider.get("telephone", "")
+
+    def place(self, number):
+        return self.places.get(number, str(number))
+
+    def vehicle(self, number):
+        return self.vehicles.get(number, str(number))
+
+
+def text(value):
+    return f"'{value}" if FORMULA.match(value) else value
+
+
+def yes(value):
+    return "yes" if value else "no"
+
+
+def dollars(cents):
+    return f"{cents // 100}.{cents % 100:02}"
+
+
+def time_of(seconds):
+    """A time of a trip's day; one after midnight has more than 24 hours."""
+    return "" if seconds is None else f"{seconds // 3600:02}:{seconds // 60 % 60:02}:{seconds % 60:02}"
