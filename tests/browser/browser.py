@@ -73,9 +73,14 @@ class Browser:
         return self.driver.execute_cdp_cmd(command, values)
 
     def go(self, path=""):
-        """Goes to an address of the site, always by loading it."""
-        self.driver.get("about:blank")
-        self.driver.get(f"{self.origin}/{path}")
+        """Goes to an address of the site, always by loading it. No other site is visited between: a process of its own
+        might not yet know what this window keeps."""
+        if not self.script("const [page, address] = arguments; const [here] = location.href.split('#'); "
+                           "if (here !== page) return false; history.replaceState(null, '', address); return true;",
+                           f"{self.origin}/{path.partition('#')[0]}", f"{self.origin}/{path}"):
+            self.driver.get(f"{self.origin}/{path}")
+        else:
+            self.driver.refresh()
 
     def reload(self):
         self.driver.refresh()

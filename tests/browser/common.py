@@ -132,7 +132,11 @@ def a_key_in_groups_and_in_capitals_is_the_same_key(at):
 @check
 def signing_out_leaves_nothing(at):
     at.browser.sign_in(at.keys["clerk"], "clerk")
-    at.browser.settled()
+    at.browser.keep_subjects()
+    at.browser.go_part("clerk", "file")
+    at.browser.sees("Standing and letters", "Rosa")
+    at.browser.go_part("clerk", "trips")
+    at.browser.sees("Rosa")
     at.browser.press("Sign out")
     at.browser.find("button", "Sign in")
     same("what this window keeps after signing out", 0, at.browser.script("return sessionStorage.length"))

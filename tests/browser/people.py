@@ -63,7 +63,8 @@ def key_for(holder):
     return base64.b32encode(digest).decode().rstrip("=").lower().translate(ALPHABET)
 
 
-STAFF = [(2, "clerk"), (3, "dispatcher"), (4, "examiner"), (5, "officer"), (6, "second officer"), (7, "second clerk")]
+STAFF = [(2, "clerk"), (3, "dispatcher"), (4, "examiner"), (5, "officer"), (6, "second officer"), (7, "second clerk"),
+         (8, "third clerk")]
 
 
 def vans_of(count):

@@ -291,10 +291,12 @@ def a_machine_whose_clock_is_wrong_has_the_servers_days(at):
 
 @check
 def after_midnight_a_form_that_is_open_offers_the_new_days(at):
+    at.town.set_clock("2025-03-10", "23:50")
     with at.browser.clock(hurry=30):
         show(at, 1005)
         at.browser.find("button", BOOK)
+        same("the first day before midnight", "2025-03-11", at.browser.script(DAYS)[0])
         at.town.set_clock("2025-03-11", "00:01")
-        at.browser.passes(12 * 3600 + 60)
+        at.browser.passes(11 * 60)
         until("the days stay those of yesterday", lambda: at.browser.script(DAYS)[0] == "2025-03-12")
     at.town.set_clock("2025-03-10")

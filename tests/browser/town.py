@@ -115,8 +115,8 @@ class Town:
         return None
 
     def post(self, holder, path, fields):
-        """The desk's reply to a write of whoever holds this key."""
-        for step in [1, 10_000, 100_000]:
+        """The desk's reply to a write of whoever holds this key; its number is above those that a page has used."""
+        for step in [1, 100, 10_000, 1_000_000, 100_000_000]:
             self.number = max(self.number + step, int(time.time()))
             sent = {"Desk-Key": self.keys[holder], "Desk-Number": str(self.number)}
             _, _, text = until(f"POST {path}", lambda: self.settled(path, sent, "POST", json.dumps(fields)))
@@ -136,10 +136,10 @@ class Town:
         return self.get("clerk", f"/riders/{rider}/trips")["trips"]
 
     def book(self, rider, day, wish, start, end, **more):
-        """The number of a trip that is booked beside the pages."""
+        """The number of a trip that is booked beside the pages, by a clerk who is at no page."""
         fields = {"rider": rider, "day": day, "wish": wish, "from": start, "to": end, "attendant": False,
                   "companions": 0, **more}
-        reply = self.post("clerk", "/trips", fields)
+        reply = self.post("third clerk", "/trips", fields)
         if "trip" not in reply:
             raise Trouble(f"a trip of {rider} at {wish} on {day} is {reply}")
         return reply["trip"]
