@@ -123,8 +123,7 @@ class Years:
         while count < trips:
             self.first -= 1
             count += self.trips_on(self.first)
-        self.count = count
-        self.gone = count - VEHICLES * TURNS[0] * ahead
+        self.count, self.apart = count, max(count // RIDERS_TRIPS, 2)
 
     def turns_on(self, day):
         """How many trips a vehicle has on a day, those that were cancelled too. (Day 4 was a Monday.)"""
@@ -198,13 +197,11 @@ class Years:
                     yield number, day, at
 
     def rider_of(self, number):
-        """The visitor has the first trip and a late one, and the rider a hundred between them."""
-        apart = max(self.gone // RIDERS_TRIPS, 2)
-        if number <= self.gone:
-            if number in (1, self.gone):
-                return THE_VISITOR
-            if number % apart == apart // 2:
-                return RIDER
+        """The visitor has the first trip and the last one, and the rider a hundred between them, far apart."""
+        if number in (1, self.count):
+            return THE_VISITOR
+        if number % self.apart == self.apart // 2 and number // self.apart < RIDERS_TRIPS:
+            return RIDER
         share = (number * MIX & BITS) / (BITS + 1)
         return BUSIEST + int((self.riders - THE_VISITOR) * share ** 1.5)
 
