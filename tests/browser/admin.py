@@ -1,5 +1,12 @@
 """The admin's keys, fares, places, lines and names."""
+import json
+import os
+
+from selenium.webdriver.common.by import By
+
 from checks import check, holds, same
+from database import until
+from scripts import SAVED
 
 VANS = 0
 
@@ -42,3 +49,79 @@ def a_place_ten_times_too_far_is_asked_about(at):
     at.browser.fill("Feet to the east", "12 500")
     at.browser.press("Put the place")
     at.browser.sees("90 is on record.")
+
+
+@check
+def the_policy_that_was_put_last_is_shown_and_asked_about(at):
+    at.browser.sign_in(at.keys["admin"], "admin", "policy")
+    at.browser.sees("None was put from this browser yet.")
+    at.browser.fill_all({"A trip by fixed routes costs": "1.75", "And so much more where it takes a transfer": "0.50",
+                         "Your own fare": "4", "Minutes that a stop takes": "2",
+                         "Minutes that a ride may take beyond the direct drive": "20",
+                         "A pattern of missed trips is so many at least": "3",
+                         "And so many in a hundred of the rider's trips": "10", "Counted over so many days": "30"})
+    at.browser.press("Put the policy")
+    at.browser.sees("Replace the whole policy by this one?", "$4.00")
+    at.browser.press("Put the policy")
+    at.browser.sees("The policy holds from now on.")
+    at.browser.press("Sign out")
+    at.browser.sign_in(at.keys["admin"], "admin", "policy")
+    at.browser.sees("Put last from this browser, on")
+    same("the fare in the form", "4.00", at.browser.value("Your own fare"))
+
+
+@check
+def a_line_that_is_there_is_replaced_only_after_a_question(at):
+    at.browser.sign_in(at.keys["admin"], "admin", "routes")
+    line = {"Line number": "7", "Points of the line": "0, 0\n20,000; 3,000", "From": "5 am", "To": "11 pm"}
+    at.browser.fill_all(line)
+    at.browser.press("Put the line")
+    at.browser.sees("Line 7 is on record.")
+    at.browser.fill_all(line)
+    at.browser.press("Put the line")
+    at.browser.sees("Line 7 is there already. Replace it?")
+    at.browser.press("No, go back")
+
+
+def chosen_file(at, content):
+    """The server's file as the admin chooses it; what the page saves of it."""
+    path = os.path.join(at.folder, "agency.json")
+    with open(path, "w", encoding="utf-8") as file:
+        file.write(content)
+    at.browser.script(SAVED)
+    at.browser.driver.find_element(By.ID, "server-file").send_keys(path)
+
+
+@check
+def what_was_put_here_is_saved_into_the_servers_file_or_forgotten(at):
+    at.browser.sign_in(at.keys["admin"], "admin", "names")
+    at.browser.sees("The server has the file of the example town.", "This browser has names that the file on the server has not.")
+    at.browser.fill_all({"Of a": "vehicle", "Number": "3", "Name": "Van 3, red"}, at.browser.find("region", "A name"))
+    at.browser.press("Keep the name")
+    at.browser.sees("Kept in this browser.")
+    chosen_file(at, "no file")
+    at.browser.sees("This is no agency.json: it is not one JSON object. Nothing was saved.")
+    chosen_file(at, json.dumps({"name": "Ours", "places": [{"id": 14, "name": "Home", "private": 1004}], "own": 1}))
+    at.browser.sees("Saved. Look at it and have it put on the server.")
+    saved = json.loads(bytes(until("nothing is saved", lambda: at.browser.script("return window.saved[0]"))))
+    same("the server's own", ["Ours", 1], [saved["name"], saved["own"]])
+    same("places", [(14, "Home", 1004), (90, None, None)],
+         [(it["id"], it.get("name"), it.get("private")) for it in saved["places"]])
+    same("the name that was put", [{"id": 3, "name": "Van 3, red"}], saved["vehicles"])
+    at.browser.press("Forget what this browser has put")
+    at.browser.press("Yes, forget them")
+    at.browser.sees("This browser has nothing that the file on the server has not.")
+    same("what this browser keeps", None, at.browser.script("return localStorage.getItem('desk.agency')"))
+
+
+@check
+def who_replaces_the_own_key_goes_on_with_the_new_one(at):
+    at.browser.sign_in(at.keys["admin"], "admin", "callers")
+    make_key(at, 1, "Admin")
+    at.browser.sees("Replace the key of caller 1, the first admin?", "The old key is dead at once.")
+    at.browser.press("Yes, replace the key of the first admin")
+    at.browser.sees("The key of caller 1, Admin")
+    make_key(at, 9, "Dispatcher")
+    at.browser.press("Yes, make a key for caller 9, Dispatcher")
+    at.browser.sees("The key of caller 9, Dispatcher")
+    same("the old key", 401, at.town.answer("/riders/1/trips", {"Desk-Key": at.keys["admin"]})[0])

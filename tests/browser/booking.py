@@ -12,6 +12,8 @@ BOOK = re.compile("^Book the trip")
 WEDNESDAY, THURSDAY, FRIDAY = "2025-03-12", "2025-03-13", "2025-03-14"
 # Keystrokes that a call may take.
 MOST_KNOWN, MOST_ROUND_TRIP, MOST_FIVE_DAYS, MOST_OTHER = 40, 60, 60, 3
+# Clicks of a booking by mouse, and the signs that are typed beside them.
+MOST_CLICKS, MOST_TYPED = 8, 24
 
 
 class Keystrokes:
@@ -24,6 +26,24 @@ class Keystrokes:
         for key in keys:
             self.count += len(key)
             self.browser.keys(*key)
+
+
+class Mouse:
+    """Clicks, types where the click was, and counts both."""
+
+    def __init__(self, browser):
+        self.browser, self.clicks, self.typed = browser, 0, 0
+
+    def click(self, kind, name, typed=""):
+        self.clicks += 1
+        self.typed += len(typed)
+        self.browser.press(name, kind)
+        self.browser.keys(*typed)
+
+    def choose(self, name, text):
+        """A list takes two clicks: one opens it, one takes a line of it."""
+        self.clicks += 2
+        self.browser.fill(name, text)
 
 
 def wait_for(at, what, script):
@@ -68,6 +88,25 @@ def a_booking_for_a_known_number_takes_forty_keys_at_most(at):
     trip = last_trip(at, 1002)
     same("the trip", (3, 9, FRIDAY, 540), (trip["from"], trip["to"], trip["day"], trip["wish"]))
     holds(f"the ticket names the rider: {told}", f"Trip {trip['trip']} is booked for Dorothy O'Neill (1002)" in told)
+
+
+@check
+def a_booking_for_a_known_number_takes_eight_clicks_at_most(at):
+    begin(at)
+    mouse = Mouse(at.browser)
+    mouse.click("field", "Rider number", "1002")
+    mouse.click("button", "Show")
+    wait_for(at, "the form", "document.activeElement.id === 'book'")
+    mouse.click("field", "From", "library")
+    mouse.click("field", "To", "school")
+    mouse.choose("Day", FRIDAY)
+    mouse.click("field", "Wished time of the pickup", "1p")
+    mouse.click("button", BOOK)
+    told = results(at, 1)
+    holds(f"{mouse.clicks} clicks, {mouse.typed} signs", mouse.clicks <= MOST_CLICKS and mouse.typed <= MOST_TYPED)
+    trip = last_trip(at, 1002)
+    same("the trip", (7, 3, FRIDAY, 780), (trip["from"], trip["to"], trip["day"], trip["wish"]))
+    holds(f"the ticket: {told}", f"Trip {trip['trip']} is booked for Dorothy O'Neill (1002)" in told)
 
 
 @check

@@ -203,7 +203,7 @@ def what_waits_leads_to_the_case(at):
 def a_work_list_that_is_missing_wrong_or_not_for_this_key_is_told(at):
     at.browser.sign_in(at.keys["rider 1001"], "officer", "waits")
     at.browser.sees("This key may not read the work list.")
-    at.town.write_file(WORKLIST, "<main><p>Old.</p><section id=missed><h2>Two <img src=x onerror=alert(1)><b>bold</b></h2>"
+    at.town.write_file(WORKLIST, "<main><p>Old.</p><section id=missed><h2>Two <img src=x><b>bold</b></h2>"
                                  "<script>document.title = 'x'</script><table><tbody><tr><td><form>1001")
     at.browser.sign_in(at.keys["officer"], "officer", "waits")
     at.browser.sees("Old.", "Two bold")

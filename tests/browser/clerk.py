@@ -1,4 +1,5 @@
 """The clerk's counter: riders found by name, what is known of them, their records."""
+import csv
 import os
 import re
 
@@ -10,6 +11,34 @@ from checks import check, holds, same
 from database import until
 
 VANS = 1
+MANY = 20_000
+# Far above what is seen (a second and 50 milliseconds are the aim): a busy machine is no fault of the pages.
+MOST_LOADING, MOST_SEARCHING = 10, 0.5
+# How long the opened roster of this window takes to find what is typed, in milliseconds: the longest of some searches,
+# each the shortest of some tries, since the machine does other things beside.
+SEARCHES = """
+const [typed, done] = arguments;
+import("/parts/roster.js").then(({ findRiders }) => {
+    const tried = (text) => {
+        const began = performance.now();
+        findRiders(text, 12);
+        return performance.now() - began;
+    };
+    done(Math.max(...typed.map((text) => Math.min(...Array.from({ length: 5 }, () => tried(text))))));
+});
+"""
+# From now on the seconds until the page says how many riders there are.
+LOADING = """
+const [text] = arguments, file = document.getElementById("roster-file");
+file.addEventListener("change", () => {
+    const began = performance.now(), watch = new MutationObserver(() => {
+        if (!document.body.innerText.includes(text)) return;
+        watch.disconnect();
+        window.loading = (performance.now() - began) / 1000;
+    });
+    watch.observe(document.body, { subtree: true, childList: true, characterData: true });
+}, { once: true, capture: true });
+"""
 
 
 def found_by(at, typed):
@@ -69,6 +98,40 @@ def a_roster_from_disk_is_read_in_this_window_alone(at):
         at.town.write_files()
 
 
+def big_roster(path):
+    """A spreadsheet's file of many riders, with the names that many have."""
+    firsts, lasts = ["Ana", "José", "Mary", "Wei", "Fatima", "John"], ["García", "O'Neill", "Smith", "Núñez", "Lee"]
+    with open(path, "w", encoding="utf-8-sig", newline="") as file:
+        rows = csv.writer(file)
+        rows.writerow(["rider", "name", "telephone", "language", "home", "usual", "aid", "note"])
+        rows.writerows([number, f"{lasts[number % 5]} {number % 997}, {firsts[number % 6]}", f"555-{number:07}", "es",
+                        "", "6 2", "walker", "rings twice, then waits"] for number in range(1, MANY))
+        rows.writerow([MANY, "Brontë, Zoë", "555-9999", "en", "", "", "", ""])
+
+
+@check
+def twenty_thousand_riders_are_opened_and_searched_at_once(at):
+    path = os.path.join(at.folder, "many riders.csv")
+    big_roster(path)
+    begin(at)
+    at.browser.press(re.compile("^Roster: "))
+    at.browser.script(LOADING, f"{MANY:,} riders")
+    at.browser.driver.find_element(By.ID, "roster-file").send_keys(path)
+    at.browser.sees(f"From many riders.csv: {MANY:,} riders.")
+    loading = until("it was not measured", lambda: at.browser.script("return window.loading"))
+    searching = at.browser.driver.execute_async_script(SEARCHES, ["g", "garcia", "nunez 5", "555-0012345", "19999", "zz"])
+    holds(f"it took {loading:.2f} s to load", loading <= MOST_LOADING)
+    holds(f"a search took {searching:.1f} ms", searching <= MOST_SEARCHING * 1000)
+    told(at, f"{MANY} riders load in {loading:.2f} s, the slowest search takes {searching:.1f} ms")
+    same("who is found", [f"Brontë, Zoë ({MANY})"], found_by(at, "zoe bron"))
+
+
+def told(at, figure):
+    """Where the environment asks for times, the figures too."""
+    if os.environ.get("PAGES_TIMES"):
+        print(f"clerk: {figure}", flush=True)
+
+
 @check
 def a_record_that_is_there_is_changed_only_after_a_question(at):
     at.browser.sign_in(at.keys["clerk"], "clerk", "rider")
@@ -111,9 +174,9 @@ def an_address_of_no_part_is_corrected(at):
 def a_note_of_one_kind_is_there_once(at):
     begin(at, "1006", "clerk")
     for _ in range(3):
-        # (another device writes with the same key and a higher number)
-        at.town.post("clerk", "/trips/999/cancel", {})
-        at.town.book(1006, "2025-03-13", 900, 3, 7)
+        # (another device writes with the same key and a number that is higher by far, however slow this is)
+        at.town.number += 100_000
+        at.town.post("clerk", "/riders", {"id": 1600, "kind": "resident", "attendant": False, "wheelchair": False})
         at.browser.fill_all({"From": "library", "To": "senior", "Day": "2025-03-20",
                              "Wished time of the pickup": "2 pm"})
         at.browser.press(BOOK)
@@ -137,6 +200,22 @@ def nothing_is_offered_where_the_key_may_not_or_nobody_is_there(at):
         at.browser.sees(words)
         same("how often it is told", 1, at.browser.text().count(words))
         holds("the form is there", not at.browser.is_there("button", BOOK))
+
+
+@check
+def a_rider_of_the_roster_without_a_record_gets_one(at):
+    with open(os.path.join(at.folder, "new rider.csv"), "w", encoding="utf-8") as file:
+        file.write("rider,name\n1700,Nora Quinn\n")
+    begin(at)
+    at.browser.press(re.compile("^Roster: "))
+    at.browser.driver.find_element(By.ID, "roster-file").send_keys(file.name)
+    at.browser.sees("From new rider.csv: 1 rider.")
+    at.browser.fill("Rider number", "nora")
+    at.browser.keys(Keys.ENTER)
+    at.browser.sees("There is no rider of this number.")
+    at.browser.press("Make the record of Nora Quinn (1700)", "link")
+    at.browser.find("button", "Put the record")
+    same("the number in the form", "1700", at.browser.value("Rider number"))
 
 
 @check

@@ -6,32 +6,40 @@ import re
 from selenium.webdriver.common.keys import Keys
 
 from checks import check, holds, same
-from database import until
+from database import Trouble, until
 from middle import UNHEARD
+from people import TRAVELERS, vans_of
+from scripts import SAVED
 
 VANS = 6
-DAY, LATER = "2025-03-11", "2025-03-12"
+DAY, LATER, BUSY = "2025-03-11", "2025-03-12", "2025-03-14"
+# A day of so many trips is closed by so many clicks.
+CLOSED_TRIPS, MOST_CLICKS = 96, 20
 VAN_1, VAN_2 = "Van 1, blue", "Van 2, white"
 SMALLEST = 9
 VEHICLE = {"This holds from": DAY, "Seats": 4, "Leaves its depot from": "8 am", "Is back by": "5 pm",
            "Minutes that it may be out": 480, "Depot": "5"}
-# A day sheet of so many vans and trips, as the desk writes it, given to the pages' own printing; it gives the text, and
-# the seconds until it is laid out.
-PRINTS_MADE = """
-const [vans, trips, whole, done] = arguments;
+# A day sheet of so many vans and trips, as the desk writes it.
+SHEET = """
 const two = (minute) => `${String(Math.floor(minute / 60)).padStart(2, "0")}:${String(minute % 60).padStart(2, "0")}`;
-const lines = [];
-for (let van = 1, trip = 1; van <= vans; van += 1) {
-    lines.push(`VEHICLE ${van} DAY 2025-03-11`, "06:00 DEPOT 5");
-    for (let at = 0; at < trips / vans; at += 1, trip += 1) {
-        const pick = 380 + at * 60, rider = 1001 + trip % 10;
-        const who = `trip ${trip} rider ${rider} place`, window = `window ${two(pick)}-${two(pick + 15)}`;
-        lines.push(`${two(pick)} PICK ${who} ${1 + trip % 14} load 1 chairs 0 ${window}`,
-            `${two(pick + 20)} DROP ${who} ${1 + (trip + 3) % 14} load 0 chairs 0`);
+function sheetOf(vans, trips) {
+    const lines = [];
+    for (let van = 1, trip = 1; van <= vans; van += 1) {
+        lines.push(`VEHICLE ${van} DAY 2025-03-11`, "06:00 DEPOT 5");
+        for (let at = 0; at < trips / vans; at += 1, trip += 1) {
+            const pick = 380 + at * 60, rider = 1001 + trip % 10;
+            const who = `trip ${trip} rider ${rider} place`, window = `window ${two(pick)}-${two(pick + 15)}`;
+            lines.push(`${two(pick)} PICK ${who} ${1 + trip % 14} load 1 chairs 0 ${window}`,
+                `${two(pick + 20)} DROP ${who} ${1 + (trip + 3) % 14} load 0 chairs 0`);
+        }
+        lines.push("21:00 DEPOT 5");
     }
-    lines.push("21:00 DEPOT 5");
+    return `${lines.join("\\n")}\\nTRIPS ${trips}\\n`;
 }
-const text = `${lines.join("\\n")}\\nTRIPS ${trips}\\n`;
+"""
+# Such a sheet given to the pages' own printing; it gives the text, and the seconds until it is laid out.
+PRINTS_MADE = SHEET + """
+const [vans, trips, whole, done] = arguments, text = sheetOf(vans, trips);
 Promise.all([import("/parts/paper-day.js"), import("/parts/texts.js")]).then(([paper, texts]) => {
     window.print = () => {};
     const began = performance.now(), manifests = texts.manifestsIn(text);
@@ -41,12 +49,12 @@ Promise.all([import("/parts/paper-day.js"), import("/parts/texts.js")]).then(([p
     done([text, (performance.now() - began) / 1000]);
 }).catch((error) => done([String(error), -1]));
 """
-SAVED = """
-window.saved = [];
-const made = URL.createObjectURL;
-URL.createObjectURL = (blob) => {
-    blob.arrayBuffer().then((it) => window.saved.push([...new Uint8Array(it)]));
-    return made.call(URL, blob);
+# From now on the page reads such a sheet, in place of the desk's.
+READS_MADE = SHEET + """
+const [vans, trips] = arguments, real = window.fetch, type = { "Content-Type": "text/plain" };
+window.fetch = async (path, options) => {
+    if (path.endsWith("/sheet")) return new Response(sheetOf(vans, trips), { headers: type });
+    return path.endsWith("/trips.csv") ? new Response("trip,status", { headers: type }) : real(path, options);
 };
 """
 
@@ -117,6 +125,25 @@ def the_chosen_manifest_is_beside_the_picture_and_in_view(at):
 
 
 @check
+def of_fifty_vans_the_hours_the_names_and_the_manifest_stay_in_view(at):
+    sign_in(at, DAY, "10:30", "trips")
+    with at.browser.screen(1366, 768):
+        at.browser.script(READS_MADE, 50, 300)
+        at.browser.press("Day", "link")
+        at.browser.sees("300 trips on this day.")
+        at.browser.press(vehicle_row("Vehicle 50"))
+        at.browser.sees("Manifest, Vehicle 50, Tuesday, March 11, 2025")
+        at.browser.script("document.getElementById('picture').scrollLeft = 300")
+        frame, hours, name, manifest = at.browser.script("""return ["#picture", ".hours", "#vehicle-50", ".one-van"]
+            .map((it) => document.querySelector(it).getBoundingClientRect().toJSON())""")
+        holds(f"the hours are not on top: {hours} {frame}", abs(hours["top"] - frame["top"]) < 4)
+        holds(f"the name is not at the edge: {name} {frame}", abs(name["left"] - frame["left"]) < 4)
+        holds(f"the manifest is not in view: {manifest}", 0 <= manifest["top"] < 300)
+    sign_in(at, DAY, "10:30")
+    at.browser.press(vehicle_row(VAN_2))
+
+
+@check
 def arrow_keys_go_from_stop_to_stop_and_escape_takes_the_label_away(at):
     at.browser.script("document.querySelector('[data-row=\"1\"] .lane').focus()")
     at.browser.keys(Keys.ARROW_RIGHT, Keys.ARROW_RIGHT)
@@ -184,7 +211,7 @@ def a_manifest_is_printed_for_a_driver_without_a_phone(at):
     same("lines that are not printed", [], lacking(lines, paper))
     text = words_of(paper.text)
     for it in ["Manifest, Van 2, white", "St. Mary's Dialysis, ring twice", "Odometer out", "Signature", "Arrived",
-               "$3.50 due", "1 person, 1 in", "555-0100"]:
+               "$3.50 due", "1 person", "wheelchair", "555-0100"]:
         holds(f"{it!r} is not printed", it in text)
     holds("no rider's name is printed", any(name in text for name in ["Samuel Grant (1005)", "Walter Hughes"]))
     over(at)
@@ -208,7 +235,7 @@ def all_manifests_and_the_day_sheet_have_every_line_of_the_desk(at):
 
 
 @check
-def fifty_vans_are_printed_each_on_its_page_in_three_seconds(at):
+def fifty_vans_are_printed_each_on_its_page(at):
     for vans, trips in [(1, 6), (6, 36), (50, 300)]:
         text, seconds = at.browser.driver.execute_async_script(PRINTS_MADE, vans, trips, False)
         paper = at.browser.printed()
@@ -411,3 +438,48 @@ def a_vehicle_without_a_name_keeps_none_in_this_browser(at):
     at.browser.press("Put the vehicle")
     at.browser.sees("is on record from", "Number 40 has no name yet")
     same("what this browser keeps", None, at.browser.script("return localStorage.getItem('desk.agency')"))
+
+
+# A whole day.
+
+
+def book_a_busy_day(at):
+    """So many trips of one day, beside the pages, from the day before on."""
+    at.town.set_clock(DAY, "06:00")
+    goals = [2, 6, 7, 9, 3, 8]
+    for number in range(3 * CLOSED_TRIPS):
+        fields = {"rider": TRAVELERS[number % len(TRAVELERS)], "day": BUSY, "wish": 420 + number * 37 % 780, "attendant": False,
+                  "from": goals[number % 6], "to": goals[(number + 1 + number // 6 % 5) % 6], "companions": 0}
+        at.town.post("clerk", "/trips", fields)
+        if len(booked_on(at, BUSY)) == CLOSED_TRIPS:
+            return
+    raise Trouble(f"only {len(booked_on(at, BUSY))} trips are booked on {BUSY}")
+
+
+@check
+def a_day_of_ninety_six_trips_is_closed_in_twenty_clicks(at):
+    book_a_busy_day(at)
+    sign_in(at, BUSY, "23:30")
+    clicks = 0
+
+    def click(*arguments):
+        nonlocal clicks
+        clicks += 1
+        at.browser.press(*arguments)
+    click("Trips of the day", "link")
+    at.browser.sees(f"{CLOSED_TRIPS} of {CLOSED_TRIPS}")
+    missed = [row["trip"] for row in booked_on(at, BUSY)][:2]
+    for trip, how in zip(missed, ["Rider missed", "Agency missed"]):
+        click(re.compile(f"^{how}: trip {trip} of"))
+        click(f"Yes: {how}")
+        at.browser.sees(f"Trip {trip}: {how}.")
+    names = {**dict(vans_of(VANS)), 40: "Vehicle 40"}
+    for van in sorted({int(row["vehicle"]) for row in booked_on(at, BUSY)}):
+        count = len(booked_on(at, BUSY, str(van)))
+        many = f"{count} trips ridden" if count > 1 else "1 trip ridden"
+        click(f"All the rest of {names[van]} ridden ({count})")
+        click(f"Yes: {many}")
+        until(f"{names[van]} is not closed", lambda: f"{names[van]}: {many}." in at.browser.text())
+    holds(f"{clicks} clicks", clicks <= MOST_CLICKS)
+    states = [row["status"] for row in rows_of(at, BUSY)]
+    same("how the trips ended", [CLOSED_TRIPS - 2, 1, 1], [states.count(it) for it in ["ridden", "missed-rider", "missed-operator"]])

@@ -90,3 +90,12 @@ const most = setTimeout(end, 8000);
 function end() { watch.disconnect(); clearTimeout(most); clearTimeout(waits); done(); }
 watch.observe(document, { subtree: true, childList: true, attributes: true, characterData: true });
 """
+# From now on, and until the page is loaded anew, the bytes of each file that it saves.
+SAVED = """
+window.saved = [];
+const made = URL.createObjectURL;
+URL.createObjectURL = (blob) => {
+    blob.arrayBuffer().then((it) => window.saved.push([...new Uint8Array(it)]));
+    return made.call(URL, blob);
+};
+"""
