@@ -7,7 +7,7 @@ import { denialOf } from "../parts/denials.js";
 import { part } from "../parts/element.js";
 import { riderLabel, riderOf } from "../parts/roster.js";
 import { makeScreen } from "../parts/screen.js";
-import { listed, t } from "../parts/words.js";
+import { LANGUAGE_NAMES, listed, t } from "../parts/words.js";
 import { conditionInWords } from "./cases.js";
 
 /** @typedef {import("../types").Standing} Standing */
@@ -31,7 +31,7 @@ function knownOf(rider) {
     /** @type {[string, import("../types").Given][]} */
     const all = [["telephone", known.telephone && part("a", { href: `tel:${known.telephone.replace(/[^\d+]/g, "")}` }, known.telephone)],
         ["home", known.home === null ? null : placeName(known.home)], ["usual", listed(known.usual.map(placeName))], ["aid", known.aid], ["note", known.note],
-        ["language", known.language && known.language !== "en" ? known.language : null]];
+        ["language", known.language && known.language !== "en" ? LANGUAGE_NAMES[/** @type {"es"} */ (known.language)] ?? known.language : null]];
     return all.filter(([, value]) => value);
 }
 
