@@ -1,6 +1,5 @@
-"""Each part of each screen for everybody: axe, contrast, 320 pixels, spaced text, zoom, forced colors, Spanish."""
+"""Each part of each screen for everybody: axe, contrast, 320 pixels, spaced text, zoom, forced colors."""
 import os
-import re
 
 from checks import check, holds, same
 from common import PARTS
@@ -54,15 +53,16 @@ def each_part(at, screen, language="en"):
 
 
 def looked_at(at, address):
-    """Names, contrast and axe, light and dark."""
+    """Names, contrast and axe; light, dark and forced, which differ in colors alone."""
     same(f"controls without a name in {address}", [], nameless(at.browser))
     for shades in ["light", "dark"]:
         with at.browser.media(prefers_color_scheme=shades, prefers_reduced_motion="reduce"):
-            at.browser.settled()
             same(f"contrast in {address}, {shades}", [], at.browser.script(CONTRAST))
-            found = at.browser.axe()
+            found = at.browser.axe(colors=shades == "dark")
             noted(f"{address}, {shades}", found["incomplete"])
             same(f"axe in {address}, {shades}", [], found["violations"])
+    with at.browser.media(forced_colors="active"):
+        same(f"contrast in {address}, forced colors", [], at.browser.script(CONTRAST))
 
 
 def widths_of(at, address):
@@ -72,7 +72,10 @@ def widths_of(at, address):
     with at.browser.zoomed():
         same(f"{address} at 400 percent is too wide by", [0, []], at.browser.sideways())
         at.browser.space_text()
-        same(f"{address} at 400 percent with spaced text is too wide by", [0, []], at.browser.sideways())
+        try:
+            same(f"{address} at 400 percent with spaced text is too wide by", [0, []], at.browser.sideways())
+        finally:
+            at.browser.unspace_text()
 
 
 def screen_is_accessible(at, screen):
@@ -138,34 +141,6 @@ def the_riders_screen_is_accessible(at):
 @check
 def the_admins_screen_is_accessible(at):
     screen_is_accessible(at, "admin")
-
-
-@check
-def each_screen_is_accessible_in_spanish(at):
-    faults = []
-    at.browser.speak("es")
-    try:
-        for screen in PARTS:
-            faults += faults_in_spanish(at, screen)
-    finally:
-        at.browser.speak("en")
-    same("faults in Spanish", [], faults)
-
-
-def faults_in_spanish(at, screen):
-    """The keys of texts that are missing, axe, and the width, of each part."""
-    for address in each_part(at, screen, "es"):
-        found = at.browser.axe()
-        noted(f"{address}, Spanish", found["incomplete"])
-        yield from (f"{address}: {it}" for it in found["violations"])
-        if at.browser.script("return document.documentElement.lang") != "es":
-            yield f"{address} is not marked Spanish"
-        keys = re.findall(r"\b[a-z]+\.[a-z]+(?:-[a-z]+)+\b", at.browser.text())
-        yield from (f"{address} shows the key {it}" for it in keys)
-        with at.browser.screen(320, 640):
-            over, wide = at.browser.sideways()
-        if over:
-            yield f"{address} at 320 pixels is too wide by {over}: {wide}"
 
 
 LINES = """

@@ -8,11 +8,12 @@ from database import Trouble
 RESOURCES = "/usr/lib/chromium/resources.pak"
 COMPRESSED, VERSION, HEAD, ENTRY = b"\x1e\x9b", 5, 12, 6
 TAGS = ["wcag2a", "wcag2aa", "wcag21a", "wcag21aa", "wcag22aa", "best-practice"]
+OF_COLORS = ["color-contrast", "link-in-text-block"]
 RUN = """
-const [tags, done] = arguments;
+const [only, done] = arguments;
 const short = ({ id, nodes, help }) => nodes.map(({ target, any, all, none }) => `${id}: ${target.join(" ")}: `
     + `${[...any, ...all, ...none].map((it) => it.message).join("; ").slice(0, 200) || help}`);
-globalThis.axe.run(document, { runOnly: { type: "tag", values: tags }, resultTypes: ["violations", "incomplete"] })
+globalThis.axe.run(document, { runOnly: only, resultTypes: ["violations", "incomplete"] })
     .then(({ violations, incomplete }) => done({ violations: violations.flatMap(short),
         incomplete: incomplete.flatMap(short) }), (error) => done({ failed: String(error) }));
 """
@@ -46,15 +47,20 @@ def source():
     raise Trouble(f"{RESOURCES} has no axe")
 
 
-def found_by(browser, tags=TAGS):
-    """What axe finds on the page as it is."""
+@functools.cache
+def program_of(browser):
+    """axe as a program; the template's own signs are read by a browser, once."""
+    return browser.script(f"return {source()};") + "\n;globalThis.axe = axe; true"
+
+
+def found_by(browser, colors=False):
+    """What axe finds on the page as it is; or, by its rules of colors alone, on a page that was looked at before."""
     if not browser.script("return 'axe' in globalThis"):
-        program = browser.script(f"return {source()};")
-        whole = f"{program}\n;globalThis.axe = axe; true"
-        told = browser.devtools("Runtime.evaluate", expression=whole, returnByValue=True)
+        told = browser.devtools("Runtime.evaluate", expression=program_of(browser), returnByValue=True)
         if told.get("exceptionDetails"):
             raise Trouble(f"axe does not run: {json.dumps(told['exceptionDetails'])[:300]}")
-    found = browser.driver.execute_async_script(RUN, tags)
+    only = {"type": "rule", "values": OF_COLORS} if colors else {"type": "tag", "values": TAGS}
+    found = browser.driver.execute_async_script(RUN, only)
     if "failed" in found:
         raise Trouble(f"axe does not run: {found['failed']}")
     return found

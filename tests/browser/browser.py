@@ -213,10 +213,11 @@ class Browser:
         self.script("if (location.hash !== arguments[0]) location.hash = arguments[0]", f"#{screen}/{part}")
 
     def shown(self, address):
-        """Waits until a part of a screen is shown, and no longer the page of signing in."""
+        """Waits until a screen, or this part of it, is shown, and no longer the page of signing in."""
         until(lambda: f"{address} is not shown, but: {self.text()[:300]!r}", lambda: self.script(
-            "const it = document.querySelector('main'); "
-            "return Boolean(it.querySelector('h1')) && !it.querySelector('[type=password]')"))
+            "const [part] = arguments, it = document.querySelector('main'); "
+            "return Boolean(it.querySelector('h1')) && !it.querySelector('[type=password]') && (!part.includes('/') "
+            "|| document.querySelector('#parts [aria-current]')?.getAttribute('href') === `#${part}`)", address))
 
     def keep_subjects(self):
         """Rider 1001 and vehicle 1 are those whose records are shown."""
@@ -232,10 +233,13 @@ class Browser:
         """Goes to each part of a screen, with rider 1001 and vehicle 1 on it; gives its address once it is shown."""
         self.sign_in(key, screen, language=language)
         self.keep_subjects()
-        for address in self.addresses() or [screen]:
-            self.go(f"#{address}")
+        addresses = self.addresses() or [screen]
+        self.go(f"#{addresses[0]}")
+        for address in addresses:
+            if address != addresses[0]:
+                self.script("location.hash = arguments[0]", f"#{address}")
             self.shown(address)
-            self.settled(500)
+            self.settled()
             yield address
 
     @contextlib.contextmanager
@@ -278,8 +282,11 @@ class Browser:
             self.devtools("Emulation.setEmulatedMedia", media="", features=[])
 
     def space_text(self):
-        """Spaces the text as WCAG 1.4.12 has it, until the page is loaded anew."""
+        """Spaces the text as WCAG 1.4.12 has it, until the page is loaded anew, or unspace_text is called."""
         self.script(scripts.SPACING)
+
+    def unspace_text(self):
+        self.script("document.adoptedStyleSheets = document.adoptedStyleSheets.slice(0, -1)")
 
     def sideways(self):
         """How many pixels the page can be moved sideways, and what is too wide."""

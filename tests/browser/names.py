@@ -56,16 +56,15 @@ def as_bytes(content):
 
 def faults_of(at, file, wrong):
     """What is not as it should be, of each wrong content of a file, where a clerk looks at a rider's trips."""
-    faults = []
+    faults, right = [], at.town.file(file)
     at.browser.sign_in(at.keys["clerk"], "clerk", "trips")
     at.browser.script("sessionStorage.setItem('desk.subject.rider', 1001)")
     for content, said in wrong:
-        at.town.write_files()
         at.town.write_file(file, as_bytes(content))
         try:
             at.browser.go("#clerk/trips")
             at.browser.sees("Trips of", "Book a trip")
-            at.browser.settled()
+            at.browser.settled(150)
             at.browser.no_errors()
             note = at.browser.script("return document.getElementById('notes')?.innerText ?? ''")
             if said and said not in note:
@@ -73,7 +72,7 @@ def faults_of(at, file, wrong):
         except Exception as trouble:
             faults.append(f"{file} {as_bytes(content)}: {trouble}"[:400])
             at.browser.forget_errors()
-    at.town.write_files()
+    at.town.write_file(file, right)
     return faults
 
 

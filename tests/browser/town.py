@@ -91,6 +91,11 @@ class Town:
         os.makedirs(f"{self.folder}/site", exist_ok=True)
         write_site_files(self.folder, {**people.agency_file(max(self.vans, 1)), **changed})
 
+    def file(self, name):
+        """The bytes of a file of the site."""
+        with open(f"{self.folder}/site/{name}", "rb") as file:
+            return file.read()
+
     def write_file(self, name, content):
         """One file of the site with these bytes, or none of this name."""
         path = f"{self.folder}/site/{name}"
