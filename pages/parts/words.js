@@ -8,6 +8,10 @@ const CHOSEN = "desk.language";
 /** @typedef {string | ((values: any) => string)} Text */
 /** @type {Record<string, Record<string, Text>>} */
 const texts = { en: {}, es: {} };
+/** What a language does to each of its texts.
+ * @type {Record<string, (text: string) => string>}
+ */
+const smoothing = {};
 /** @type {Set<string>} */
 const loaded = new Set();
 let now = "en";
@@ -24,8 +28,9 @@ export async function useWords(...names) {
 
 /** @param {string} it @param {string} name */
 async function load(it, name) {
-    const { words } = await import(`../words/${it}/${name}.js`);
+    const { words, smooth } = await import(`../words/${it}/${name}.js`);
     Object.assign(texts[it], words);
+    if (smooth) smoothing[it] = smooth;
 }
 
 /** The language of who reads: as chosen in this browser, else the first that the agency offers.
@@ -56,7 +61,7 @@ export async function chooseLanguage(it, { keep = false } = {}) {
 function textIn(it, key, values) {
     const text = texts[it]?.[key] ?? texts.en[key];
     if (text === undefined) return key;
-    return typeof text === "function" ? text(values) : text;
+    return typeof text === "function" ? smoothing[it]?.(text(values)) ?? text(values) : text;
 }
 
 /** The text of a key.

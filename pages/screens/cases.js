@@ -60,6 +60,22 @@ export function standingOf(rider) {
     return { element: screen.element, refresh };
 }
 
+/** What draw() gives of a resident's case, below a heading that names the rider. Nothing is offered where there is no case; a visitor has a standing.
+ * @param {number} rider @param {() => HTMLElement[]} draw
+ */
+export function ofResident(rider, draw) {
+    const screen = makeScreen({ state: { reply: /** @type {any} */ (null) }, draw: ({ reply }, { kept }) => {
+        if (reply === null) return part("p", { role: "status" }, t("cases.reading"));
+        if (reply.denied !== undefined) return part("div", { role: "status" }, denialOf(reply, "standing"));
+        if (reply.value.standing.startsWith("visitor")) return [kept("standing", () => standingOf(rider).element), part("div", { role: "status" }, denialOf({ denied: "37.127" }))];
+        return [part("h2", { class: "case-of" }, t("cases.case-of", { who: riderLabel(rider) })), kept("case", draw)];
+    } });
+    desk.standing(rider, today()).then((reply) => {
+        if (reply.denied !== "left") screen.change({ reply });
+    });
+    return screen.element;
+}
+
 // Entries.
 
 /** One to four conditions, of which one has to hold of a trip.

@@ -9,7 +9,7 @@ import { makeScreen } from "../parts/screen.js";
 import { keepSubject, subjectOf, withSubject } from "../parts/subject.js";
 import { counted, t } from "../parts/words.js";
 import { bookingFor } from "./booking.js";
-import { entryForms, lettersFor, standingOf } from "./cases.js";
+import { entryForms, lettersFor, ofResident, standingOf } from "./cases.js";
 import { withCard } from "./rider-card.js";
 import { tripsOfRider } from "./trips.js";
 
@@ -91,11 +91,11 @@ const forRider = (draw, focus) => () => {
 };
 
 /** @param {number} rider */
-function file(rider) {
+const file = (rider) => ofResident(rider, () => {
     const standing = standingOf(rider), letters = lettersFor(rider);
     const entered = () => Promise.all([standing.refresh(), letters.refresh()]);
     return [standing.element, ...entryForms(rider, ["complete", "appeal", "notice"], entered), letters.element];
-}
+});
 
 /** @param {number} rider */
 const booking = (rider) => withCard(rider, () => {

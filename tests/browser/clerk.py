@@ -203,6 +203,17 @@ def nothing_is_offered_where_the_key_may_not_or_nobody_is_there(at):
 
 
 @check
+def nothing_is_entered_for_nobody_and_for_a_visitor(at):
+    at.browser.sign_in(at.keys["clerk"], "clerk", "file")
+    for number, words in [("1999", "There is no rider of this number."), ("1008", "This rider is a visitor, who has no case file.")]:
+        at.browser.fill("Rider number", number)
+        at.browser.press("Show")
+        at.browser.sees(words)
+        same("what may be entered", [], at.browser.script("return [...document.querySelectorAll('.entry')].map((it) => it.textContent)"))
+    at.browser.sees("may ride on Monday, March 10, 2025")
+
+
+@check
 def a_rider_of_the_roster_without_a_record_gets_one(at):
     with open(os.path.join(at.folder, "new rider.csv"), "w", encoding="utf-8") as file:
         file.write("rider,name\n1700,Nora Quinn\n")
