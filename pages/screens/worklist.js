@@ -9,7 +9,8 @@ import { keepSubject } from "../parts/subject.js";
 import { t } from "../parts/words.js";
 
 /** @typedef {import("../types").Given} Given */
-/** @typedef {{ id: string, title: string, said: string[], heads: string[], rows: string[][] }} List */
+/** @typedef {{ heads: string[], rows: string[][] }} Table */
+/** @typedef {{ id: string, title: string, said: string[], tables: Table[] }} List */
 /** @typedef {{ said: string[], lists: List[], files: List[], fault?: undefined } | { fault: string }} Found */
 
 const FILE = "/staff/worklist.html", FILES = "rider-";
@@ -22,9 +23,12 @@ const OWN = { examiner: { applications: "case", grants: "case" }, officer: { app
 /** @param {Element | null} it */
 const wordsOf = (it) => (it?.textContent ?? "").replace(/\s+/g, " ").trim();
 
+/** @param {Element} it @returns {Table} */
+const wordsOfTable = (it) => ({ heads: [...it.querySelectorAll("thead th")].map(wordsOf), rows: [...it.querySelectorAll("tbody tr")].map((row) => [...row.children].map(wordsOf)) });
+
 /** @param {Element} it @returns {List} */
 const listOf = (it) => ({ id: it.id, title: wordsOf(it.querySelector("h2, summary")), said: [...it.querySelectorAll("p")].map(wordsOf).filter(Boolean),
-    heads: [...it.querySelectorAll("thead th")].map(wordsOf), rows: [...it.querySelectorAll("tbody tr")].map((row) => [...row.children].map(wordsOf)) });
+    tables: [...it.querySelectorAll("table")].map(wordsOfTable).filter(({ rows }) => rows.length > 0) });
 
 /** @returns {Promise<Found>} */
 async function readWorklist() {
@@ -49,17 +53,20 @@ const riderCell = (rider, address) => (address && /^\d+$/.test(rider) ? button(r
 }, { class: "small", "aria-label": t("cases.waits-open", { rider }) }) : rider);
 
 /** @param {List} list @param {string} [address] */
-const tableOf = ({ title, heads, rows }, address = "") => rows.length > 0 && table(title, heads.map((head, at) => ({ head,
-    cell: (/** @type {string[]} */ row) => (at === 0 ? riderCell(row[0], address) : row[at] ?? "") })), rows);
+const tablesOf = ({ title, tables }, address = "") => tables.map(({ heads, rows }) => table(title, heads.map((head, at) => ({ head,
+    cell: (/** @type {string[]} */ row) => (at === 0 ? riderCell(row[0], address) : row[at] ?? "") })), rows));
 
 /** @param {List} list @param {string} [address] */
 const card = (list, address) => part("section", { class: "card", key: list.id, "aria-labelledby": `waits-${list.id}`, lang: "en" },
-    part("h2", { id: `waits-${list.id}` }, list.title), list.said.map((it) => part("p", {}, it)), tableOf(list, address));
+    part("h2", { id: `waits-${list.id}` }, list.title), list.said.map((it) => part("p", {}, it)), tablesOf(list, address));
+
+/** @param {Table} table */
+const paperOf = ({ heads, rows }) => part("table", {}, part("thead", {}, part("tr", {}, heads.map((it) => part("th", {}, it)))),
+    part("tbody", {}, rows.map((row) => part("tr", {}, row.map((it) => part("td", {}, it))))));
 
 /** @param {List[]} lists @param {string[]} said */
-const print = (lists, said) => printParts(t("cases.waits"), [said.map((it) => part("p", {}, it)), lists.map(({ title, said: notes, heads, rows }) => part("section", {},
-    part("h2", {}, title), notes.map((it) => part("p", {}, it)), rows.length > 0 && part("table", {}, part("thead", {}, part("tr", {}, heads.map((it) => part("th", {}, it)))),
-        part("tbody", {}, rows.map((row) => part("tr", {}, row.map((it) => part("td", {}, it))))))))]);
+const print = (lists, said) => printParts(t("cases.waits"), [said.map((it) => part("p", {}, it)), lists.map((list) => part("section", {}, part("h2", {}, list.title),
+    list.said.map((it) => part("p", {}, it)), list.tables.map(paperOf)))]);
 
 /** What waits: the lists of who reads first, the others folded below.
  * @param {"examiner" | "officer" | "dispatcher"} reader
@@ -82,6 +89,12 @@ export function worklist(reader) {
     return screen.element;
 }
 
+/** The rows of a list that are of one rider.
+ * @param {List} list @param {number} rider @returns {List}
+ */
+const rowsOf = (list, rider) => ({ ...list, tables: list.tables.map(({ heads, rows }) => ({ heads, rows: rows.filter(([number]) => number === String(rider)) }))
+    .filter(({ rows }) => rows.length > 0) });
+
 /** What the list says of one rider: how many trips were missed, and the case file with all that an officer decides on.
  * @param {number} rider
  */
@@ -90,10 +103,10 @@ export function waitingOf(rider) {
         const head = [part("h2", {}, t("cases.missed-of", { rider })), part("p", { class: "hint" }, t("cases.missed-hint"))];
         if (!found) return [head, part("p", { role: "status" }, t("cases.waits-reading"))];
         if (found.fault !== undefined) return [head, faultWords(found.fault)];
-        const missed = found.lists.filter(({ id }) => id === "missed").map((list) => ({ ...list, rows: list.rows.filter(([number]) => number === String(rider)) }));
-        const files = found.files.filter(({ id }) => id === `${FILES}${rider}`), shown = [...missed.filter(({ rows }) => rows.length > 0), ...files];
+        const shown = [...found.lists.filter(({ id }) => id === "missed").map((list) => rowsOf(list, rider)).filter(({ tables }) => tables.length > 0),
+            ...found.files.filter(({ id }) => id === `${FILES}${rider}`)];
         return [head, part("div", { lang: "en" }, found.said.map((it) => part("p", {}, it))), !shown.length && part("p", {}, t("cases.missed-none")),
-            shown.map((list) => part("section", { key: list.id, lang: "en" }, part("h3", {}, list.title), list.said.map((it) => part("p", {}, it)), tableOf(list)))];
+            shown.map((list) => part("section", { key: list.id, lang: "en" }, part("h3", {}, list.title), list.said.map((it) => part("p", {}, it)), tablesOf(list)))];
     } });
     readWorklist().then((found) => screen.change({ found }));
     return screen.element;
