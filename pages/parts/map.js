@@ -9,6 +9,7 @@ import { counted, t } from "./words.js";
 /** @typedef {import("../types").Place} Place */
 /** @typedef {import("../types").Route} Route */
 /** @typedef {{ left: number, right: number, top: number, bottom: number }} Label what a name covers */
+/** @typedef {{ area: Label, taken: Label[] }} Room where names may be, and what is covered already */
 
 const MILE = 5280, LEAST_SIDE = 6000, SIZE = [900, 480], NEAR = 40, WIDE = 0.55;
 // Names and numbers are as large as that nine points of them are left on paper, where the map is narrower than on a screen.
@@ -38,26 +39,30 @@ const corridorShape = ({ points, width }) => draw("polyline", { class: "corridor
 /** @param {Route} route @param {number} foot */
 const routeShape = ({ points }, foot) => draw("polyline", { class: "route", points: lineOf(points), "stroke-width": 3 * foot });
 
-/** A name at the first of some points around its own where it covers no other name, else at the first.
- * @param {string} text @param {[number, number, string][]} choices each with its anchor @param {number} size @param {Label[]} taken @param {string} kind
- */
-function nameShape(text, choices, size, taken, kind = "") {
+/** A name at the first of some points around its own where it is seen whole and covers no other name. Where there is none, a name that has to be
+ * there is at the first point, and any other is left out: it is there on a larger map, and in the table.
+ * @param {string} text @param {[number, number, string][]} choices each with its anchor @param {number} size @param {Room} room
+ * @param {{ kind?: string, always?: boolean }} options */
+function nameShape(text, choices, size, { area, taken }, { kind = "", always = false } = {}) {
     const wide = text.length * size * WIDE;
     const labelAt = (/** @type {[number, number, string]} */ [x, y, anchor]) => {
         const left = anchor === "end" ? x - wide : anchor === "middle" ? x - wide / 2 : x;
         return { left, right: left + wide, top: y - size, bottom: y + size * 0.3 };
     };
+    const isSeen = (/** @type {Label} */ it) => it.left >= area.left && it.right <= area.right && it.top >= area.top && it.bottom <= area.bottom;
     const isFree = (/** @type {Label} */ it) => !taken.some((other) => it.left < other.right && other.left < it.right && it.top < other.bottom && other.top < it.bottom);
-    const choice = choices.find((it) => isFree(labelAt(it))) ?? choices[0];
+    const choice = choices.map((it) => /** @type {const} */ ([it, labelAt(it)])).find(([, it]) => isSeen(it) && isFree(it))?.[0] ?? (always ? choices[0] : null);
+    if (!choice) return [];
     taken.push(labelAt(choice));
-    return draw("text", { class: kind || null, x: choice[0], y: choice[1], "text-anchor": choice[2], "font-size": size }, text);
+    return [draw("text", { class: kind || null, x: choice[0], y: choice[1], "text-anchor": choice[2], "font-size": size }, text)];
 }
 
-/** @param {Route} route @param {number} foot @param {Label[]} taken */
-function routeNameShape({ id, points }, foot, taken) {
+/** @param {Route} route @param {number} foot @param {Room} room */
+function routeNameShape({ id, points }, foot, room) {
     const order = points.map((_, at) => at).sort((a, b) => Math.abs(a - points.length / 2) - Math.abs(b - points.length / 2));
-    const choices = order.flatMap((at) => [8, -16].map((up) => /** @type {[number, number, string]} */ ([points[at][0] + 8 * foot, -points[at][1] - up * foot, "start"])));
-    return points.length ? [nameShape(routeName(id), choices, NAME * foot, taken, "route-name")] : [];
+    const choices = order.flatMap((at) => [[8, "start"], [-16, "start"], [8, "end"], [-16, "end"]].map(([up, anchor]) => /** @type {[number, number, string]} */ ([
+        points[at][0] + (anchor === "end" ? -8 : 8) * foot, -points[at][1] - Number(up) * foot, anchor])));
+    return nameShape(routeName(id), choices, NAME * foot, room, { kind: "route-name" });
 }
 
 /** @param {Place} place @param {number} foot */
@@ -67,19 +72,37 @@ function placeShape(place, foot) {
         draw("text", { class: "place-number", x, y: y + 4.7 * foot, "font-size": NAME * foot }, String(place.id))];
 }
 
-/** @param {Place} place @param {number} foot @param {string | undefined} mark @param {Label[]} taken */
-function placeNameShape(place, foot, mark, taken) {
+/** @param {Place} place @param {number} foot @param {string | undefined} mark @param {Room} room */
+function placeNameShape(place, foot, mark, room) {
     const text = [place.name, mark].filter(Boolean).join(" · "), [x, north] = pointOf(place), y = -north;
     const choices = /** @type {[number, number, string][]} */ ([[x + 11 * foot, y + 15 * foot, "start"], [x + 11 * foot, y - 8 * foot, "start"],
         [x - 11 * foot, y + 15 * foot, "end"], [x - 11 * foot, y - 8 * foot, "end"], [x, y + 22 * foot, "middle"], [x, y - 14 * foot, "middle"]]);
-    return text ? [nameShape(text, choices, NAME * foot, taken)] : [];
+    return text ? nameShape(text, choices, NAME * foot, room, { always: Boolean(mark) }) : [];
 }
+
+/** What is seen of a map, which is larger than its box where their shapes differ.
+ * @param {Box} box @param {any} picture @param {number} foot @returns {Label}
+ */
+function areaOf(box, picture, foot) {
+    const wide = (picture.clientWidth || SIZE[0]) * foot / 2, high = (picture.clientHeight || SIZE[1]) * foot / 2;
+    const x = box.x + box.width / 2, y = box.y + box.height / 2;
+    return { left: x - wide, right: x + wide, top: y - high, bottom: y + high };
+}
+
+/** @param {Box} box */
+const scaleMiles = (box) => Math.max(1, Math.floor(box.width / 4 / MILE));
+
+/** What the bar of miles covers.
+ * @param {Box} box @param {number} foot @returns {Label}
+ */
+const scaleLabel = (box, foot) => ({ left: box.x + 8 * foot, right: box.x + 12 * foot + Math.max(scaleMiles(box) * MILE, 60 * foot), top: box.y + box.height - 36 * foot,
+    bottom: box.y + box.height - 8 * foot });
 
 /** A bar of whole miles.
  * @param {Box} box @param {number} foot
  */
 function scaleBar(box, foot) {
-    const miles = Math.max(1, Math.floor(box.width / 4 / MILE)), x = box.x + 12 * foot, y = box.y + box.height - 14 * foot;
+    const miles = scaleMiles(box), x = box.x + 12 * foot, y = box.y + box.height - 14 * foot;
     return [draw("path", { class: "scale", d: `M${x} ${y - 5 * foot}v${5 * foot}h${miles * MILE}v${-5 * foot}`, "stroke-width": 2 * foot }),
         draw("text", { x: x + 6 * foot, y: y - 6 * foot, "font-size": NAME * foot }, t("map.miles", { miles }))];
 }
@@ -108,13 +131,14 @@ export function map({ picked, label }) {
     const footNow = () => Math.max(box.width / (picture.clientWidth || SIZE[0]), box.height / (picture.clientHeight || SIZE[1]));
     const show = () => {
         const foot = footNow(), routes = allRoutes(), places = allPlaces().filter(isPut);
-        /** @type {Label[]} */
-        const taken = places.map(pointOf).map(([x, y]) => ({ left: x - 8 * foot, right: x + 8 * foot, top: -y - 8 * foot, bottom: -y + 8 * foot }));
+        const room = { area: areaOf(box, picture, foot), taken: [scaleLabel(box, foot), ...places.map(pointOf).map(([x, y]) => ({ left: x - 8 * foot, right: x + 8 * foot,
+            top: -y - 8 * foot, bottom: -y + 8 * foot }))] };
+        const namesOf = (/** @type {boolean} */ marked) => places.filter(({ id }) => Boolean(marks[id]) === marked)
+            .flatMap((place) => placeNameShape(place, foot, marks[place.id], room));
         picture.setAttribute("viewBox", `${box.x} ${box.y} ${box.width} ${box.height}`);
         // (all corridors lie below all lines, and all names above both)
         picture.replaceChildren(...[routes.map(corridorShape), routes.map((route) => routeShape(route, foot)), places.flatMap((place) => placeShape(place, foot)),
-            places.flatMap((place) => placeNameShape(place, foot, marks[place.id], taken)), routes.flatMap((route) => routeNameShape(route, foot, taken)),
-            crosses(points, foot), scaleBar(box, foot)].flat());
+            namesOf(true), routes.flatMap((route) => routeNameShape(route, foot, room)), namesOf(false), crosses(points, foot), scaleBar(box, foot)].flat());
     };
     const fit = () => { box = extent(points); show(); };
     const zoom = (/** @type {number} */ times) => () => {

@@ -13,8 +13,8 @@ import { conditionInWords } from "./cases.js";
 /** @typedef {import("../types").Standing} Standing */
 
 const MAY_RIDE = ["presumed", "appeal-overdue", "granted", "visitor"], RECORD = "#clerk/rider";
-/** A clerk makes records, a dispatcher does not. */
-const mayMake = () => location.hash.startsWith("#clerk");
+/** A clerk makes records and is told the standing, a dispatcher neither. */
+const isClerk = () => location.hash.startsWith("#clerk");
 
 /** @param {Standing} told */
 function standingWords({ standing, suspended, until, conditions }) {
@@ -41,12 +41,13 @@ function knownOf(rider) {
 export function withCard(rider, draw) {
     const screen = makeScreen({ state: { reply: /** @type {any} */ (null) }, draw: ({ reply }, { kept }) => {
         const denied = reply?.denied !== undefined, words = reply === null ? t("clerk.reading") : denied ? denialOf(reply, "standing") : standingWords(reply.value);
-        return [part("section", { class: "card rider-card" }, part("h2", {}, t("clerk.rider", { rider: riderLabel(rider) })), part("div", { role: "status" }, words),
-            reply?.denied === "desk.unknown" && mayMake() && part("p", {}, part("a", { href: RECORD }, t("clerk.make-record", { rider: riderLabel(rider) }))),
+        return [part("section", { class: "card rider-card" }, part("h2", {}, t("clerk.rider", { rider: riderLabel(rider) })), part("div", { role: "status" }, isClerk() && words),
+            reply?.denied === "desk.unknown" && isClerk() && part("p", {}, part("a", { href: RECORD }, t("clerk.make-record", { rider: riderLabel(rider) }))),
             part("dl", { class: "facts" }, knownOf(rider).map(([name, value]) => part("div", {}, part("dt", {}, t(`clerk.${name}`)), part("dd", {}, value))))),
         part("div", { class: "stack", hidden: denied }, kept("below", draw))];
     } });
     const refresh = async () => {
+        if (!isClerk()) return;
         const reply = await desk.standing(rider, today());
         if (reply.denied !== "left") screen.change({ reply });
     };

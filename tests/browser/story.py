@@ -259,6 +259,17 @@ def a_rider_with_anothers_number_is_told_that_it_is_not_the_own_one(at):
 
 
 @check
+def a_dispatcher_who_is_not_told_the_standing_books_for_a_rider(at):
+    at.browser.sign_in(at.keys["dispatcher"], "dispatcher", "riders")
+    at.browser.fill("Rider number", 1006)
+    at.browser.keys(Keys.ENTER)
+    at.browser.sees("Trips of Ana María Núñez (1006)")
+    book(at, Day="Thursday, March 20, 2025")
+    booked(at)
+    at.browser.sees_no("This key may not do this.")
+
+
+@check
 def a_booking_for_a_known_number_takes_forty_keys(at):
     at.browser.sign_in(at.keys["clerk"], "clerk")
     at.browser.settled()
