@@ -34,8 +34,8 @@ const listOf = (it) => ({ id: it.id, title: wordsOf(it.querySelector("h2, summar
 async function readWorklist() {
     const { status, text } = await desk.fetchFile(FILE);
     if (status !== 200) return { fault: status === 404 ? "none" : status === 401 || status === 403 ? "caller" : "silent" };
-    const main = new DOMParser().parseFromString(text ?? "", "text/html").querySelector("main");
-    const all = (/** @type {string} */ those) => [...main?.querySelectorAll(those) ?? []];
+    const { body } = new DOMParser().parseFromString(text ?? "", "text/html"), main = body.querySelector("main") ?? body;
+    const all = (/** @type {string} */ those) => [...main.querySelectorAll(those)];
     return { said: all(":scope > p").map(wordsOf), lists: all("section[id]").map(listOf), files: all(`details[id^="${FILES}"]`).map(listOf) };
 }
 
@@ -57,8 +57,7 @@ const tablesOf = ({ title, tables }, address = "") => tables.map(({ heads, rows 
     cell: (/** @type {string[]} */ row) => (at === 0 ? riderCell(row[0], address) : row[at] ?? "") })), rows));
 
 /** @param {List} list @param {string} [address] */
-const card = (list, address) => part("section", { class: "card", key: list.id, "aria-labelledby": `waits-${list.id}`, lang: "en" },
-    part("h2", { id: `waits-${list.id}` }, list.title), list.said.map((it) => part("p", {}, it)), tablesOf(list, address));
+const card = (list, address) => part("section", { class: "card", key: list.id, lang: "en" }, part("h2", {}, list.title), list.said.map((it) => part("p", {}, it)), tablesOf(list, address));
 
 /** @param {Table} table */
 const paperOf = ({ heads, rows }) => part("table", {}, part("thead", {}, part("tr", {}, heads.map((it) => part("th", {}, it)))),
@@ -79,7 +78,7 @@ export function worklist(reader) {
         const { lists, said } = found, others = lists.filter(({ id }) => !(id in own));
         return [part("div", { lang: "en" }, said.map((it) => part("p", {}, it))), lists.filter(({ id }) => id in own).map((it) => card(it, address(it.id))),
             others.length > 0 && part("details", {}, part("summary", {}, t("cases.waits-others")), part("div", { class: "stack" }, others.map((it) => card(it)))),
-            part("div", { class: "row" }, button(t("cases.waits-print"), () => print(lists, said)))];
+            lists.length > 0 && part("div", { class: "row" }, button(t("cases.waits-print"), () => print(lists, said)))];
     } });
     async function read() {
         screen.change({ found: await readWorklist() });
