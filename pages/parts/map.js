@@ -12,6 +12,8 @@ import { counted, t } from "./words.js";
 /** @typedef {{ area: Label, taken: Label[] }} Room where names may be, and what is covered already */
 
 const MILE = 5280, LEAST_SIDE = 6000, SIZE = [900, 480], NEAR = 40, WIDE = 0.55;
+// What is left free around a map: so many feet at least, and so much of its longer side.
+const LEAST_EDGE = 1500, EDGE = 0.07;
 // Names and numbers are as large as that nine points of them are left on paper, where the map is narrower than on a screen.
 const NAME = 13.5;
 
@@ -22,11 +24,12 @@ const pointOf = (/** @type {Place} */ { x, y }) => /** @type {Point} */ ([Number
  * @param {Point[]} extra @returns {Box}
  */
 function extent(extra) {
-    const boxes = /** @type {[number, number, number][]} */ ([...allPlaces().filter(isPut).map((place) => [...pointOf(place), 1500]),
-        ...allRoutes().flatMap(({ points, width }) => points.map(([x, y]) => [x, y, width])), ...extra.map(([x, y]) => [x, y, 1500])]);
+    const boxes = /** @type {[number, number, number][]} */ ([...allPlaces().filter(isPut).map((place) => [...pointOf(place), 0]),
+        ...allRoutes().flatMap(({ points, width }) => points.map(([x, y]) => [x, y, width])), ...extra.map(([x, y]) => [x, y, 0])]);
     if (!boxes.length) return { x: -MILE, y: -MILE, width: 2 * MILE, height: 2 * MILE };
     const least = (/** @type {0 | 1} */ at) => Math.min(...boxes.map((box) => box[at] - box[2])), most = (/** @type {0 | 1} */ at) => Math.max(...boxes.map((box) => box[at] + box[2]));
-    const [left, right, low, high] = [least(0), most(0), least(1), most(1)];
+    const edge = Math.max(LEAST_EDGE, EDGE * Math.max(most(0) - least(0), most(1) - least(1)));
+    const [left, right, low, high] = [least(0) - edge, most(0) + edge, least(1) - edge, most(1) + edge];
     return { x: left, y: -high, width: Math.max(LEAST_SIDE, right - left), height: Math.max(LEAST_SIDE, high - low) };
 }
 

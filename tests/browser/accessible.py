@@ -163,11 +163,12 @@ def the_chosen_part_is_marked_in_forced_colors(at):
             holds(f"{screen}: the chosen part looks as the others: {looks}", chosen and not chosen & others)
 
 
-# The names of a map: how many are seen, and what is cut or covers another.
+# The names of a map: how many are seen, and what is cut or covers another name.
 NAMES_ON_MAP = """
 const map = document.querySelector("svg.map"), edge = map.getBoundingClientRect(), faults = [];
 const names = [...map.querySelectorAll("text:not(.place-number)")].map((it) => [it.textContent, it.getBoundingClientRect()]);
 const whole = (it) => it.left >= edge.left - 1 && it.right <= edge.right + 1 && it.top >= edge.top - 1 && it.bottom <= edge.bottom + 1;
+for (const it of map.querySelectorAll(".place")) if (!whole(it.getBoundingClientRect())) faults.push("a place is cut");
 for (const [name, box] of names) {
     if (!whole(box)) faults.push(`${name} is cut`);
     for (const [other, its] of names) if (name < other && box.left + 2 < its.right && its.left + 2 < box.right
@@ -180,7 +181,7 @@ return [names.length, faults];
 @check
 def names_on_a_map_are_whole_and_none_covers_another(at):
     at.browser.sign_in(at.keys["admin"], "admin", "places")
-    for width, least in [(1280, 10), (390, 5), (320, 4)]:
+    for width, least in [(1280, 10), (390, 4), (320, 3)]:
         with at.browser.screen(width, 800):
             at.browser.settled()
             seen, faults = at.browser.script(NAMES_ON_MAP)
