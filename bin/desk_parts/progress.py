@@ -16,20 +16,6 @@ SECONDS, LEAST_SHARE = 2, 0.04
 MINUTES_A_THOUSAND_LINES = 2.5
 
 
-def crates_of(top, name="pt_app"):
-    """The crate and those that it stands on."""
-    with open(f"{top}/crates.txt", encoding="utf-8") as file:
-        lines = [line.partition("#")[0].partition(":") for line in file]
-    uses = {left.split()[0]: right.split() for left, _, right in lines if left.strip()}
-    found, waiting = [], [name]
-    while waiting:
-        crate = waiting.pop()
-        if crate in uses and crate not in found:
-            found.append(crate)
-            waiting += uses[crate]
-    return found
-
-
 def kept_minutes(crate):
     try:
         with open(f"{KEPT}/{crate}.proof.json", encoding="utf-8") as file:

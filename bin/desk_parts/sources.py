@@ -1,4 +1,4 @@
-"""The files of which the program is proved and made, and one digest of them."""
+"""The crates of which the program is proved and made, their files, and one digest of them."""
 import glob
 import hashlib
 import os
@@ -23,3 +23,19 @@ def digest(top):
     """The SHA-256 of a list as `sha256sum` prints it: a line a file, in the order of names."""
     lines = "".join(f"{digest_of(f'{top}/{it}')}  {it}\n" for it in files(top))
     return hashlib.sha256(lines.encode()).hexdigest()
+
+
+def crates_of(top, name="pt_app"):
+    """The crate and those below it, and the crates of the kit that they name."""
+    with open(f"{top}/crates.txt", encoding="utf-8") as file:
+        lines = [line.partition("#")[0].partition(":") for line in file]
+    uses = {left.split()[0]: right.split() for left, _, right in lines if left.strip()}
+    own, kits, waiting = [], set(), [name]
+    while waiting:
+        crate = waiting.pop()
+        if crate not in uses:
+            kits.add(crate)
+        elif crate not in own:
+            own.append(crate)
+            waiting += uses[crate]
+    return own, kits

@@ -12,7 +12,7 @@ import time
 from office_parts import building, proxy
 from office_parts.serving import Trouble, end
 
-SITE, NGINX, TALLY = "site", "nginx", "nginx/tally.log"
+SITE, NGINX, TALLY, WAITING = "site", "nginx", "nginx/tally.log", "staff/worklist.html"
 # Lines of the site that only TLS has a use for.
 OF_TLS = re.compile(r"^ *(ssl_\w+|http2_\w+|add_header Strict-Transport-Security) .*;\n", re.MULTILINE)
 SSL = re.compile(r"^ *(listen .*ssl|ssl_)", re.MULTILINE)
@@ -40,6 +40,17 @@ def derive(top, folder, is_unproved):
         served = json.load(file)
     if is_unproved and served.get("unproved") is not True:
         building.write_text(public, json.dumps({**served, "unproved": True}, ensure_ascii=False) + "\n")
+
+
+def list_waiting(top, folder, work):
+    """Makes the page of what waits. Where the file cannot be read, the desk says so when it opens it."""
+    copy = f"{work}/copy.db"
+    for end_of_name in "", "-wal":
+        if os.path.exists(f"{folder}/{building.DATABASE}{end_of_name}"):
+            shutil.copy(f"{folder}/{building.DATABASE}{end_of_name}", f"{copy}{end_of_name}")
+    words = [sys.executable, f"{top}/bin/worklist", copy, "--html", f"{folder}/{SITE}/{WAITING}"]
+    words += ["--agency", f"{folder}/{building.AGENCY}", "--roster", f"{folder}/{building.ROSTER}"]
+    subprocess.run(words, capture_output=True, stdin=subprocess.DEVNULL, check=False)
 
 
 def need_port(port):

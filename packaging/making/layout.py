@@ -6,6 +6,7 @@ import os
 import shutil
 import stat
 
+from desk_parts import sources
 from making import licences, manual, receipt
 
 # What of bin/ only the sources have a use for.
@@ -17,8 +18,11 @@ PLACES = [
     ("/usr/local/bin/desk", "/usr/bin/desk"),
     ("/usr/local/share/desk/pages", "/usr/share/desk/pages"),
 ]
+OF_PROOF = """ Every function of the program is proved to meet its contract. The receipt of
+ the proof is in /usr/share/doc/desk/receipt.json."""
+OF_TRIAL = """ This package is for trial: its program need not be proved. Do not use it for
+ real trips."""
 SCRIPTS = ["config", "postinst", "prerm", "postrm"]
-IGNORED = shutil.ignore_patterns("__pycache__", "*.pyc")
 
 
 class Layout:
@@ -89,6 +93,7 @@ def put_tools(layout):
             layout.copy(f"deploy/{name}", f"usr/lib/desk/deploy/{name}", 0o755 if is_run else 0o644)
     for name in "desk-setup", "take-over":
         layout.copy(f"packaging/{name}", f"usr/lib/desk/packaging/{name}", 0o755)
+    layout.copy_tree("packaging/setting_up", "usr/lib/desk/packaging/setting_up")
     layout.link("usr/sbin/desk-setup", "../lib/desk/packaging/desk-setup")
     layout.copy_tree("pages", "usr/share/desk/pages")
     layout.link("usr/lib/desk/pages", "../../share/desk/pages")
@@ -107,7 +112,7 @@ def put_documents(layout, version, day, changes, helps, proof, bill):
     if os.path.exists(f"{layout.top}/deploy/BACKUPS.md"):
         layout.copy("deploy/BACKUPS.md", f"{shared}/BACKUPS.md")
     layout.copy_tree("examples", f"{shared}/examples")
-    crates = receipt.kits_crates(layout.kit, receipt.crates_of(layout.top)[1])
+    crates = receipt.kits_crates(layout.kit, sources.crates_of(layout.top)[1])
     layout.write(f"{shared}/copyright", licences.copyright_text(layout.kit, crates))
     layout.write(f"{shared}/receipt.json", json.dumps(proof, indent=1) + "\n")
     layout.write(f"{shared}/sbom.spdx.json", json.dumps(bill, indent=1) + "\n")
@@ -127,7 +132,7 @@ def put_manuals(layout, version, day, helps):
     layout.pack("usr/share/man/man5/desk-formats.5", page)
 
 
-def put_control(layout, version, note):
+def put_control(layout, version, is_proved):
     """What dpkg reads: the control file, the conffiles, the scripts, and the checksums."""
     size = sum(
         os.path.getsize(f"{place}/{it}")
@@ -136,7 +141,9 @@ def put_control(layout, version, note):
         if not os.path.islink(f"{place}/{it}")
     )
     with open(f"{layout.top}/packaging/control", encoding="utf-8") as file:
-        text = file.read().replace("@VERSION@", version).replace("@SIZE@", str(size // 1_024)).replace("@NOTE@", note)
+        text = file.read().replace("@VERSION@", version).replace("@SIZE@", str(size // 1_024))
+    note, paragraph = ("", OF_PROOF) if is_proved else (" (for trial)", OF_TRIAL)
+    text = text.replace("@NOTE@", note).replace("@PROOF@", paragraph)
     layout.write("DEBIAN/control", text)
     configured = sorted(
         f"{place}/{it}"[len(layout.root) :] for place, _, files in os.walk(f"{layout.root}/etc") for it in files

@@ -1,0 +1,65 @@
+"""What bin/desk notes beside the program that it built: by which kit, of which sources, and what was proved."""
+import json
+import os
+import re
+
+from desk_parts import sources
+
+CRATE = "crates/pt_app"
+PROGRAM, NOTE, COUNTS = f"{CRATE}/out/pt_app", f"{CRATE}/out/desk.built", f"{CRATE}/out/desk.proved"
+# Two kits with the same logic prove alike, whatever else differs in them.
+LOGIC = re.compile(r"\blogic (\S+)")
+
+
+def logic_in(line):
+    found = LOGIC.search(line)
+    return found[1] if found else None
+
+
+def read(path):
+    """What a file of JSON holds, or an empty object."""
+    try:
+        with open(path, encoding="utf-8") as file:
+            held = json.load(file)
+    except (OSError, ValueError):
+        return {}
+    return held if isinstance(held, dict) else {}
+
+
+def write(path, value, seconds=None):
+    with open(f"{path}.new", "w", encoding="utf-8") as file:
+        json.dump(value, file, indent=1, sort_keys=True)
+        file.write("\n")
+    if seconds is not None:
+        os.utime(f"{path}.new", (seconds, seconds))
+    os.replace(f"{path}.new", path)
+
+
+def note(top):
+    """The kit's line, the SHA-256 of the program and that of the sources; empty where bin/desk has built none."""
+    held = read(f"{top}/{NOTE}")
+    return held if {"kit", "program", "sources"} <= set(held) else {}
+
+
+def write_note(top, kit, digest, begun):
+    """Notes what was built. The note is as old as the beginning of the build: what was written meanwhile is newer."""
+    told = {"kit": kit, "program": sources.digest_of(f"{top}/{PROGRAM}"), "sources": digest}
+    write(f"{top}/{NOTE}", told, begun)
+
+
+def keep_counts(top, log):
+    """Keeps how many functions the prover counted in each crate, beside what earlier builds counted."""
+    counts, crate = read(f"{top}/{COUNTS}"), None
+    with open(log, encoding="utf-8", errors="replace") as file:
+        for line in file:
+            named, proved = re.match(r"crate (\w+):", line), re.match(r"logic=proved functions=(\d+)", line)
+            crate = named[1] if named else crate
+            if proved and crate:
+                counts[crate], crate = int(proved[1]), None
+    write(f"{top}/{COUNTS}", counts)
+
+
+def functions_proved(top):
+    """How many functions the prover counted in the crates of the program; None where a crate's count is missing."""
+    counts, own = read(f"{top}/{COUNTS}"), sources.crates_of(top)[0]
+    return sum(counts[it] for it in own) if all(it in counts for it in own) else None

@@ -1,0 +1,109 @@
+"""The units that a setup starts, and their state before it, so that they can be put back."""
+import contextlib
+import http.client
+import json
+import os
+import socket
+import ssl
+import subprocess
+import time
+
+from setting_up.changes import run
+from setting_up.settings import NIGHTLY, Failure
+
+DESK, SITE, CLOCK = "desk.service", "nginx.service", "systemd-time-wait-sync.service"
+ALWAYS = [DESK, "desk-watch.timer", "desk-restart.timer"]
+PORT, SECONDS, SECONDS_OF_SITE, NOBODY = 8437, 120, 30, "no key of anybody"
+
+
+def has_systemd():
+    return os.path.isdir("/run/systemd/system")
+
+
+def is_so(verb, unit):
+    return subprocess.run(["systemctl", "--quiet", verb, unit], check=False, capture_output=True).returncode == 0
+
+
+def need_port(port):
+    """Sees that no other program than nginx has the site's port."""
+    with socket.socket() as tried:
+        tried.setsockopt(socket.SOL_SOCKET, socket.SO_REUSEADDR, 1)
+        try:
+            tried.bind(("", int(port)))
+        except OSError as error:
+            with contextlib.suppress(OSError, ValueError):
+                with open("/run/nginx.pid", encoding="ascii") as file:
+                    os.kill(int(file.read()), 0)
+                return
+            raise Failure(f"the port {port} cannot be had ({error.strerror}): name another one by --port") from None
+
+
+def agency_at(port, name):
+    """The agency's name at the site of this name on a port of this machine."""
+    context = ssl.create_default_context()
+    context.check_hostname, context.verify_mode = False, ssl.CERT_NONE
+    with socket.create_connection(("127.0.0.1", port), 10) as line:
+        with context.wrap_socket(line, server_hostname=name) as wrapped:
+            wrapped.sendall(f"GET /agency.json HTTP/1.0\r\nHost: {name}\r\n\r\n".encode())
+            reply = http.client.HTTPResponse(wrapped)
+            reply.begin()
+            return json.load(reply).get("name")
+
+
+class Services:
+    """What runs by itself for one agency."""
+
+    def __init__(self, nightly):
+        timers = {f"desk-{it}.timer": it in nightly.split(", ") for it in NIGHTLY}
+        self.wanted = [*ALWAYS, *[it for it, is_wanted in timers.items() if is_wanted]]
+        self.others = [it for it, is_wanted in timers.items() if not is_wanted]
+        self.enabled = {it: is_so("is-enabled", it) for it in [*self.wanted, *self.others]}
+        self.was_up = is_so("is-active", DESK)
+
+    def start(self):
+        run("systemctl", "daemon-reload")
+        run("systemctl", "enable", "--now", *self.wanted)
+        if self.others:
+            run("systemctl", "disable", "--now", *self.others)
+        run("systemctl", "restart", DESK)
+        # The clock is waited for at a start of the machine, where this machine has the unit for it.
+        subprocess.run(["systemctl", "--quiet", "enable", CLOCK], check=False, capture_output=True)
+        self.wait_for_desk()
+
+    def wait_for_desk(self):
+        """Until the desk answers: that nobody has this key."""
+        end = time.monotonic() + SECONDS
+        while time.monotonic() < end:
+            if is_so("is-failed", DESK):
+                break
+            with contextlib.suppress(OSError, http.client.HTTPException):
+                line = http.client.HTTPConnection("127.0.0.1", PORT, timeout=10)
+                line.request("GET", "/riders/1/trips", headers={"Desk-Key": NOBODY})
+                if line.getresponse().status == 401:
+                    return
+            time.sleep(0.2)
+        raise Failure(f"the desk does not answer on port {PORT}: journalctl -u desk says why")
+
+    def start_site(self, settings):
+        """Until nginx serves this agency's site."""
+        run("systemctl", "reload-or-restart", SITE)
+        end = time.monotonic() + SECONDS_OF_SITE
+        while time.monotonic() < end:
+            with contextlib.suppress(OSError, ValueError):
+                if agency_at(int(settings["port"]), settings["name"]) == settings["agency"]:
+                    return
+            time.sleep(0.2)
+        raise Failure(f"nginx does not serve the site on port {settings['port']}: journalctl -u nginx says why")
+
+    def stop_new(self):
+        """Ends and disables what was not enabled before."""
+        new = [it for it, was in self.enabled.items() if not was]
+        if new:
+            subprocess.run(["systemctl", "--quiet", "disable", "--now", *new], check=False, capture_output=True)
+
+    def go_back(self):
+        """Has what ran before run again, by the files that are there again."""
+        old = [it for it, was in self.enabled.items() if was]
+        words = [["daemon-reload"], ["enable", "--now", *old] if old else [], ["restart", DESK] if self.was_up else []]
+        for it in filter(None, [*words, ["try-reload-or-restart", SITE]]):
+            subprocess.run(["systemctl", "--quiet", *it], check=False, capture_output=True)

@@ -1,0 +1,111 @@
+"""What desk-setup is told: by words, by an earlier run, or by answers; and what of it is refused."""
+import json
+import os
+import re
+import sys
+
+SETTINGS, ZONES = "/etc/desk/setup.json", "/usr/share/zoneinfo"
+NAME = re.compile(r"(?=.{1,253}$)[a-z0-9]([a-z0-9-]*[a-z0-9])?(\.[a-z0-9]([a-z0-9-]*[a-z0-9])?)*")
+OWN_PORTS = 80, 8436, 8437
+# What may run by itself, and the files without which it does not.
+NIGHTLY = {
+    "backup": [],
+    "worklist": [],
+    "standing-orders": [
+        "/etc/desk/standing-orders.csv",
+        "/etc/desk/keys/standing-orders",
+        "/etc/desk/keys/standing-orders-dispatcher",
+    ],
+}
+QUESTIONS = {
+    "agency": ("The agency's name", None),
+    "zone": ("Its zone, such as America/New_York", None),
+    "name": ("The site's name on the net, such as desk.example.org", None),
+    "port": ("The site's port", "443"),
+    "nightly": (f"What runs each night: {', '.join(NIGHTLY)}, or none", "backup, worklist"),
+}
+
+
+class Failure(Exception):
+    """What keeps the setup from going on, in one sentence."""
+
+
+def rule_of(zone):
+    """The POSIX rule of an IANA zone, which is the last line of its file."""
+    path = os.path.realpath(f"{ZONES}/{zone}")
+    try:
+        with open(path, "rb") as file:
+            content = file.read()
+    except OSError:
+        content = b""
+    if not path.startswith(f"{ZONES}/") or not content.startswith(b"TZif") or not content.endswith(b"\n"):
+        raise Failure(f"{zone!r} is no zone that this machine knows, such as America/New_York")
+    return content.rstrip(b"\n").rpartition(b"\n")[2].decode("ascii")
+
+
+def nightly_in(text):
+    """What is to run each night, in the order of NIGHTLY."""
+    words = [it for it in re.split(r"[ ,]+", text) if it]
+    if words == ["none"]:
+        return "none"
+    wrong = [it for it in words if it not in NIGHTLY]
+    if wrong or not words:
+        raise Failure(f"{' '.join(wrong)!r} does not run each night: {', '.join(NIGHTLY)} may, or none")
+    if "worklist" in words and "backup" not in words:
+        raise Failure("worklist reads the night's backup, so it goes with backup")
+    for name in words:
+        for path in NIGHTLY[name]:
+            if not os.path.exists(path):
+                raise Failure(f"{name} takes {path}, which is not there: see STANDING-ORDERS.md, and run this again")
+    return ", ".join(it for it in NIGHTLY if it in words)
+
+
+def judged(name, text):
+    """The value of a setting, or a failure that says what is wrong with it."""
+    text = text.strip()
+    if name == "zone":
+        rule_of(text)
+    elif name == "name" and not NAME.fullmatch(text):
+        raise Failure(f"{text!r} is no name of a machine on the net, such as desk.example.org")
+    elif name == "port" and not (
+        text.isascii() and text.isdigit() and 1 <= int(text) <= 65_535 and int(text) not in OWN_PORTS
+    ):
+        raise Failure(f"{text!r} is no port for the site: 1 to 65535, and not 80, 8436 or 8437, which it has besides")
+    elif name == "agency" and (not text or not text.isprintable() or len(text) > 100):
+        raise Failure("the agency's name is one line of 1 to 100 signs")
+    return nightly_in(text) if name == "nightly" else text
+
+
+def before():
+    """What an earlier run was told."""
+    try:
+        with open(SETTINGS, encoding="utf-8") as file:
+            return {name: str(value) for name, value in json.load(file).items()}
+    except (OSError, ValueError, AttributeError):
+        return {}
+
+
+def asked(given):
+    """The settings: by words, else by questions, where an earlier answer or a usual one is offered."""
+    earlier, settings = before(), {}
+    for name, (question, usual) in QUESTIONS.items():
+        offered = earlier.get(name, usual)
+        if getattr(given, name) is not None:
+            settings[name] = judged(name, getattr(given, name))
+            continue
+        if not sys.stdin.isatty():
+            if offered is None:
+                raise Failure(f"--{name} is missing, and there is nobody to ask")
+            settings[name] = judged(name, offered)
+            continue
+        while name not in settings:
+            answer = input(f"{question}{f' [{offered}]' if offered else ''}: ").strip() or offered or ""
+            try:
+                settings[name] = judged(name, answer)
+            except Failure as failure:
+                print(failure)
+    return settings
+
+
+def text_of(settings):
+    return json.dumps(settings, indent=1, ensure_ascii=False) + "\n"
