@@ -46,10 +46,11 @@ def opened(program, file, key):
     return Cost(time.monotonic() - began, usage.ru_utime + usage.ru_stime), usage.ru_maxrss / 1_000
 
 
-def held(process):
-    """Megabytes that a process has in memory now."""
+def held(process, most=False):
+    """Megabytes that a process has in memory now, or had at most."""
+    line_of = "VmHWM:" if most else "VmRSS:"
     with open(f"/proc/{process.pid}/status", encoding="ascii") as status:
-        return next(int(line.split()[1]) for line in status if line.startswith("VmRSS:")) / 1_000
+        return next(int(line.split()[1]) for line in status if line.startswith(line_of)) / 1_000
 
 
 def has_deployed_allocator():
