@@ -68,6 +68,7 @@ class Copy:
         check_file(path)
         place = urllib.parse.quote(os.path.abspath(path))
         self.connection = sqlite3.connect(f"file:{place}?mode=ro&immutable=1", uri=True)
+        self.check_whole()
         self.version = self.read_version()
         self.policy = Policy(*self.rows("SELECT min_missed, percent, span_days FROM desk")[0])
 
@@ -81,13 +82,22 @@ class Copy:
         """The rows of a query."""
         try:
             return self.connection.execute(query, values).fetchall()
-        except (sqlite3.Error, OverflowError) as error:
-            raise Wrong(f"{self.path} is no sound copy of a desk's file: {error}") from None
+        except (sqlite3.Error, OverflowError, UnicodeError) as error:
+            raise self.unsound(error) from None
+
+    def unsound(self, said):
+        return Wrong(f"{self.path} is no sound copy of a desk's file: {said}")
+
+    def check_whole(self):
+        """SQLite finds nothing wrong: no page is lost, no column is empty, and each has what its table asks for."""
+        said = self.rows("PRAGMA quick_check(1)")
+        if said != [("ok",)]:
+            raise self.unsound(str(said[0][0]).splitlines()[-1] if said else "it can't be checked")
 
     def read_version(self):
         versions = self.rows("SELECT version FROM desk")
         if len(versions) != 1:
-            raise Wrong(f"{self.path} is no sound copy of a desk's file: its table desk has {len(versions)} rows")
+            raise self.unsound(f"its table desk has {len(versions)} rows")
         if versions[0][0] not in VERSIONS:
             raise Wrong(f"{self.path} has tables of version {versions[0][0]!r}, and versions 1 and 2 are read here")
         return versions[0][0]
@@ -95,7 +105,7 @@ class Copy:
     def status_of(self, trip, number):
         """How a trip ended, in words."""
         if number not in range(len(STATUSES)):
-            raise Wrong(f"{self.path} is no sound copy of a desk's file: trip {trip} has the status {number!r}")
+            raise self.unsound(f"trip {trip} has the status {number!r}")
         return STATUSES[number]
 
     def check_days(self):
@@ -116,7 +126,7 @@ class Copy:
                 f"SELECT rider, place, kind, day, author, a, b, conditions, words FROM entries {only} "
                 "ORDER BY rider, place", *values):
             if kind not in range(len(ENTRIES)):
-                raise Wrong(f"{self.path} is no sound copy of a desk's file: an entry of the kind {kind!r}")
+                raise self.unsound(f"an entry of the kind {kind!r}")
             files[number].append(Entry(place, ENTRIES[kind], *rest))
         return files
 

@@ -5,7 +5,7 @@ import collections
 import heapq
 import itertools
 
-from moving.limits import LAST_MINUTE, Wrong
+from moving.limits import LAST_MINUTE
 from paperwork import copies
 from paperwork.copies import day_of
 
@@ -91,8 +91,7 @@ class Plans:
         return self.tables[self.days[at - 1]] if at else Drives({})
 
     def unsound(self, vehicle, day):
-        return Wrong(f"{self.copy.path} is no sound copy of a desk's file: vehicle {vehicle} can't drive its stops of "
-                     f"{day_of(day)} in time")
+        return self.copy.unsound(f"vehicle {vehicle} can't drive its stops of {day_of(day)} in time")
 
 
 def visit_of(trip, kind):
