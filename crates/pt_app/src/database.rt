@@ -6,12 +6,12 @@ ghost use Rattle.pt_base.specs.Codes.{memory_refused};
 ghost use Rattle.pt_base.specs.Fault.{fault};
 ghost use Rattle.pt_desk_rules.specs.Sound.{IsSound};
 
-use crate::task::{Task, do_task};
 use pt_base::fault::MEMORY;
-use pt_base::{Day, Fault, RiderId, Wish};
-use pt_commands::{Outcome, STORE_REFUSED, print_done};
-use pt_requests::Read;
-use pt_serve::moment_at;
+use pt_base::{Fault, Moment};
+use pt_command_line::Task;
+use pt_commands::{Outcome, STORE_REFUSED, do_task, print_done};
+use pt_serve::{Port, moment_at, serve};
+use pt_store::Keeper;
 use pt_tables::{adopt, create, migrate};
 use pt_tables_keeper::SqlKeeper;
 use pt_tables_opening::OpenFault;
@@ -32,11 +32,25 @@ const FILE_EXISTS: u16 = 7;
 #[derive(Drop)]
 enum Work<'a> {
     /// It becomes that of a desk whose admin has this key.
-    Make { key: &'a str },
+    Make {
+        key: &'a str,
+    },
     /// It becomes one of this version.
     Migrate,
-    /// It is opened, and its desk does this.
-    Open(Task<'a>),
+    /// Its desk answers so many connections on a port, by the clocks of a zone.
+    Serve {
+        zone: &'a str,
+        port: u16,
+        count: u32,
+    },
+    /// Its desk does a task at this moment, as the caller with this key. The text is that of the file that the task
+    /// names, if any.
+    Ask {
+        now: Moment,
+        key: &'a str,
+        task: &'a Task<'a>,
+        text: Vec<u8>,
+    },
 }
 
 /// The fault where a database is not opened; the row is the number of the table at fault.
@@ -50,7 +64,7 @@ fn fault_of_opening(refused: OpenFault) -> Fault
     }
 }
 
-/// The fault where a database is not opened, whose store is handed back and let go of.
+/// The fault where a database is not opened. The store, which is handed back, is dropped.
 fn fault_of_refusal<S: Drop>(refusal: (S, OpenFault)) -> Fault {
     let (_store, refused) = refusal;
     fault_of_opening(refused)
@@ -128,6 +142,20 @@ fn adopt_desk<S: Alter + Drop>(alloc: Global, conn: Connection<S>) -> Result<Sql
     }
 }
 
+/// Answers so many connections on a port, one after the other, and says on standard error how many failed.
+fn serve_on<K: Keeper>(
+    rt: &HostRuntime,
+    keeper: &mut K,
+    zone: &str,
+    port: u16,
+    count: u32,
+) -> Result<Outcome, Fault> {
+    let mut port = Port::open(rt, port, count)?;
+    let failed = serve(rt, rt.alloc(), keeper, zone, &mut port)?;
+    let _shown = eprintln!(rt; "connections: {count}, failed: {failed}");
+    Ok(Outcome::Done)
+}
+
 /// Does this with the database of a connection.
 ///
 /// Whatever its store is: so what is done is proved once, and for a file in one place alone (`over_file`).
@@ -139,9 +167,20 @@ fn do_work<S: Alter + Drop>(
     match work {
         Work::Make { key } => make_desk(rt.alloc(), conn, key),
         Work::Migrate => migrate_desk(rt, conn),
-        Work::Open(task) => {
+        Work::Serve { zone, port, count } => {
             let mut keeper = adopt_desk(rt.alloc(), conn)?;
-            do_task(rt, &mut keeper, task)
+            serve_on(rt, &mut keeper, zone, port, count)
+        }
+        Work::Ask {
+            now,
+            key,
+            task,
+            text,
+        } => {
+            let mut keeper = adopt_desk(rt.alloc(), conn)?;
+            let alloc = rt.alloc();
+            let (key, text) = (key.as_bytes(), text.as_slice());
+            do_task(alloc, &mut keeper, now, key, task, text, &mut rt.stdout())
         }
     }
 }
@@ -181,19 +220,7 @@ pub(crate) fn serve_file(
     count: u32,
 ) -> Result<Outcome, Fault> {
     moment_at(rt, zone)?;
-    over_known_file(rt, file, Work::Open(Task::Serve { zone, port, count }))
-}
-
-/// Asks the desk in a file for a text, and prints it.
-pub(crate) fn print_read(
-    rt: &HostRuntime,
-    file: &str,
-    zone: &str,
-    key: &str,
-    read: Read,
-) -> Result<Outcome, Fault> {
-    let now = moment_at(rt, zone)?;
-    over_known_file(rt, file, Work::Open(Task::Read { now, key, read }))
+    over_known_file(rt, file, Work::Serve { zone, port, count })
 }
 
 /// The bytes of a file that should be there.
@@ -206,65 +233,30 @@ fn read_file(rt: &HostRuntime, path: &str) -> Result<Vec<u8>, Fault>
     }
 }
 
-/// Gives the desk in a file the driving times of a CSV file, which hold from a day on.
-pub(crate) fn put_times(
-    rt: &HostRuntime,
-    file: &str,
-    zone: &str,
-    caller: (&str, u32),
-    day: Day,
-    csv: &str,
-) -> Result<Outcome, Fault> {
-    let now = moment_at(rt, zone)?;
-    let text = read_file(rt, csv)?;
-    let (key, number) = caller;
-    let task = Task::Travel {
-        now,
-        key,
-        number,
-        day,
-        text,
-    };
-    over_known_file(rt, file, Work::Open(task))
+/// The bytes of the file that a task names; none where it names none.
+fn text_for(rt: &HostRuntime, task: &Task<'_>) -> Result<Vec<u8>, Fault> {
+    match task {
+        Task::Travel { csv, .. } => read_file(rt, csv),
+        Task::Audit { log, .. } => read_file(rt, log),
+        _ => Ok(Vec::new(rt.alloc())),
+    }
 }
 
-/// Prints the log of a refusal from the desk in a file, with few writes.
-pub(crate) fn print_refusal(
+/// Has the desk in a file do a task, as the caller with this key.
+pub(crate) fn ask_file(
     rt: &HostRuntime,
     file: &str,
     zone: &str,
     key: &str,
-    rider: RiderId,
-    wish: &Wish,
+    task: &Task<'_>,
 ) -> Result<Outcome, Fault> {
     let now = moment_at(rt, zone)?;
-    let task = Task::Explain {
+    let text = text_for(rt, task)?;
+    let work = Work::Ask {
         now,
         key,
-        rider,
-        wish,
-    };
-    over_known_file(rt, file, Work::Open(task))
-}
-
-/// Prints whether the log in a file shows, of the desk in another, that no vehicle can take the trip.
-pub(crate) fn print_verdict(
-    rt: &HostRuntime,
-    log: &str,
-    file: &str,
-    zone: &str,
-    key: &str,
-    rider: RiderId,
-    wish: &Wish,
-) -> Result<Outcome, Fault> {
-    let now = moment_at(rt, zone)?;
-    let text = read_file(rt, log)?;
-    let task = Task::Audit {
-        now,
-        key,
-        rider,
-        wish,
+        task,
         text,
     };
-    over_known_file(rt, file, Work::Open(task))
+    over_known_file(rt, file, work)
 }

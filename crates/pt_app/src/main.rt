@@ -1,20 +1,16 @@
 //! The program `desk`: its words, standard input and standard output.
 #![tactic(auto)]
 
-use crate::database::{
-    init, migrate_file, print_read, print_refusal, print_verdict, put_times, serve_file,
-};
+use crate::database::{ask_file, init, migrate_file, serve_file};
 use pt_base::Fault;
 use pt_base::fault::MEMORY;
 use pt_command_line::{Line, WRONG_WORDS, line, matches_in};
 use pt_commands::{Outcome, exit_status, outcome_of, outcome_of_refusal, rehearse_with_key};
-use pt_requests::Read;
 use std::io::ErrorKind;
 use std::process::ExitCode;
 use std::{env, io};
 
 mod database;
-mod task;
 
 /// The words that the program was started with, its own name first.
 ///
@@ -55,48 +51,12 @@ fn do_asked(rt: &HostRuntime, asked: &Line<'_>) -> Result<Outcome, Fault> {
             port,
             count,
         } => serve_file(rt, file, zone, *port, *count),
-        Line::Travel {
+        Line::Ask {
             file,
             zone,
             key,
-            number,
-            day,
-            csv,
-        } => put_times(rt, file, zone, (key, *number), *day, csv),
-        Line::Manifest {
-            file,
-            zone,
-            key,
-            vehicle,
-            day,
-        } => {
-            let read = Read::Manifest {
-                vehicle: *vehicle,
-                day: *day,
-            };
-            print_read(rt, file, zone, key, read)
-        }
-        Line::Trips {
-            file,
-            zone,
-            key,
-            day,
-        } => print_read(rt, file, zone, key, Read::Export(*day)),
-        Line::Explain {
-            file,
-            zone,
-            key,
-            rider,
-            wish,
-        } => print_refusal(rt, file, zone, key, *rider, wish),
-        Line::Audit {
-            log,
-            file,
-            zone,
-            key,
-            rider,
-            wish,
-        } => print_verdict(rt, log, file, zone, key, *rider, wish),
+            task,
+        } => ask_file(rt, file, zone, key, task),
     }
 }
 

@@ -21,7 +21,7 @@ pub refused_by_faults : {T : Type 0} (app : App) (words : List Text) (read : Res
     → FailsBy (fault_of desk_words words) read
 refused_by_faults app words read is kinds = (rw is at kinds) desk_is_free
 
--- where the words have no fault, they are refused for want of memory alone
+-- where the words have no fault, only memory refuses them
 pub memory_alone : (kinds : Kinds) (error : Error) → kinds ≡ [] → HasKind kinds error → kind_of error ≡ OutOfMemory
 memory_alone kinds error none (inl memory) = memory
 memory_alone kinds error none (inr among) = absurd (subst (IsAmong (kind_of error)) none among)

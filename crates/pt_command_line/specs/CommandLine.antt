@@ -58,7 +58,7 @@ explain_words = command (codes "explain") question_places
 abbrev pub audit_words : App
 audit_words = command (codes "audit") (codes "LOG" ∷ question_places)
 
--- desk before its commands are named, one of which may not be left out; it tells its version
+-- the program itself: it needs a command, and `--version` prints its version
 abbrev pub program_words : App
 program_words = on_top (λ top. record top {
   has_version = true;

@@ -17,6 +17,37 @@ const MOST_CONNECTIONS: u32 = 1_000_000;
 /// The most companions that a wish may name.
 const MOST_COMPANIONS: u32 = 255;
 
+/// What is asked of the desk in a file.
+#[derive(Clone, Copy)]
+pub enum Task<'a> {
+    /// To take the driving times of a CSV file, which hold from a day on, as the caller's request of this number.
+    Travel {
+        number: u32,
+        day: Day,
+        csv: &'a str,
+    },
+    /// To print the manifest of a vehicle on a day.
+    Manifest {
+        vehicle: VehicleId,
+        day: Day,
+    },
+    /// To print the trips of a day.
+    Trips {
+        day: Day,
+    },
+    /// To print the log of a refusal: that no vehicle can take this wish of the rider's.
+    Explain {
+        rider: RiderId,
+        wish: Wish,
+    },
+    /// To check the log in a file.
+    Audit {
+        log: &'a str,
+        rider: RiderId,
+        wish: Wish,
+    },
+}
+
 /// What the program is asked to do.
 #[derive(Clone, Copy)]
 pub enum Line<'a> {
@@ -40,46 +71,12 @@ pub enum Line<'a> {
         port: u16,
         count: u32,
     },
-    /// To give the driving times that hold from a day on, as the caller's request of this number.
-    Travel {
+    /// To ask the desk in a file, as the caller with a key, by the clocks of a zone.
+    Ask {
         file: &'a str,
         zone: &'a str,
         key: &'a str,
-        number: u32,
-        day: Day,
-        csv: &'a str,
-    },
-    /// To print the manifest of a vehicle on a day.
-    Manifest {
-        file: &'a str,
-        zone: &'a str,
-        key: &'a str,
-        vehicle: VehicleId,
-        day: Day,
-    },
-    /// To print the trips of a day.
-    Trips {
-        file: &'a str,
-        zone: &'a str,
-        key: &'a str,
-        day: Day,
-    },
-    /// To print the log of a refusal: that no vehicle can take this wish of the rider's.
-    Explain {
-        file: &'a str,
-        zone: &'a str,
-        key: &'a str,
-        rider: RiderId,
-        wish: Wish,
-    },
-    /// To check such a log.
-    Audit {
-        log: &'a str,
-        file: &'a str,
-        zone: &'a str,
-        key: &'a str,
-        rider: RiderId,
-        wish: Wish,
+        task: Task<'a>,
     },
 }
 
@@ -212,13 +209,15 @@ fn travel_line<'a>(words: &ArgMatches<'a>) -> Option<Line<'a>>
     ensures none { IsNone result → (asked : Line)
         → ¬ (Asks (codes "travel") (rows_of (found_of words.now)) asked) }
 {
-    Some(Line::Travel {
+    Some(Line::Ask {
         file: word_at(words, "FILE")?,
         zone: word_at(words, "ZONE")?,
         key: word_at(words, "KEY")?,
-        number: number_at(words, "NUMBER", 0, u32::MAX)?,
-        day: day_at(words, "DAY")?,
-        csv: word_at(words, "CSV")?,
+        task: Task::Travel {
+            number: number_at(words, "NUMBER", 0, u32::MAX)?,
+            day: day_at(words, "DAY")?,
+            csv: word_at(words, "CSV")?,
+        },
     })
 }
 
@@ -228,12 +227,14 @@ fn manifest_line<'a>(words: &ArgMatches<'a>) -> Option<Line<'a>>
     ensures none { IsNone result → (asked : Line)
         → ¬ (Asks (codes "manifest") (rows_of (found_of words.now)) asked) }
 {
-    Some(Line::Manifest {
+    Some(Line::Ask {
         file: word_at(words, "FILE")?,
         zone: word_at(words, "ZONE")?,
         key: word_at(words, "KEY")?,
-        vehicle: VehicleId::of(number_at(words, "VEHICLE", 1, u32::MAX)?)?,
-        day: day_at(words, "DAY")?,
+        task: Task::Manifest {
+            vehicle: VehicleId::of(number_at(words, "VEHICLE", 1, u32::MAX)?)?,
+            day: day_at(words, "DAY")?,
+        },
     })
 }
 
@@ -243,11 +244,13 @@ fn trips_line<'a>(words: &ArgMatches<'a>) -> Option<Line<'a>>
     ensures none { IsNone result → (asked : Line)
         → ¬ (Asks (codes "trips") (rows_of (found_of words.now)) asked) }
 {
-    Some(Line::Trips {
+    Some(Line::Ask {
         file: word_at(words, "FILE")?,
         zone: word_at(words, "ZONE")?,
         key: word_at(words, "KEY")?,
-        day: day_at(words, "DAY")?,
+        task: Task::Trips {
+            day: day_at(words, "DAY")?,
+        },
     })
 }
 
@@ -257,12 +260,14 @@ fn explain_line<'a>(words: &ArgMatches<'a>) -> Option<Line<'a>>
     ensures none { IsNone result → (asked : Line)
         → ¬ (Asks (codes "explain") (rows_of (found_of words.now)) asked) }
 {
-    Some(Line::Explain {
+    Some(Line::Ask {
         file: word_at(words, "FILE")?,
         zone: word_at(words, "ZONE")?,
         key: word_at(words, "KEY")?,
-        rider: id_at(words, "RIDER")?,
-        wish: wish_at(words)?,
+        task: Task::Explain {
+            rider: id_at(words, "RIDER")?,
+            wish: wish_at(words)?,
+        },
     })
 }
 
@@ -272,13 +277,15 @@ fn audit_line<'a>(words: &ArgMatches<'a>) -> Option<Line<'a>>
     ensures none { IsNone result → (asked : Line)
         → ¬ (Asks (codes "audit") (rows_of (found_of words.now)) asked) }
 {
-    Some(Line::Audit {
-        log: word_at(words, "LOG")?,
+    Some(Line::Ask {
         file: word_at(words, "FILE")?,
         zone: word_at(words, "ZONE")?,
         key: word_at(words, "KEY")?,
-        rider: id_at(words, "RIDER")?,
-        wish: wish_at(words)?,
+        task: Task::Audit {
+            log: word_at(words, "LOG")?,
+            rider: id_at(words, "RIDER")?,
+            wish: wish_at(words)?,
+        },
     })
 }
 

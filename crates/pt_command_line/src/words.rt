@@ -28,12 +28,12 @@ const ABOUT: &str = "The office system of a transit agency that gives complement
 const VERSION: &str = "0.9.0";
 
 const EXIT_STATUS: &str = "Exit status: 0 done, 1 denied, `possible` or `no`, 2 wrong words, \
-3 want of memory or the store, 4 another fault. With 3 and 4 standard error has the line \
+3 out of memory or the store failed, 4 another fault. With 3 and 4 standard error has the line \
 `fault C row R`.\n\
 A file of version 1 is refused with fault 30: `desk migrate FILE` turns it into one of this version.";
 
 const REHEARSE: &str = "Answers HTTP requests from standard input, on a desk in memory that \
-begins with one admin. Before each request stands a line `@ YYYY-MM-DD M`: its day, and the \
+begins with one admin. Each request comes after a line `@ YYYY-MM-DD M`: its day, and the \
 minute of that day. Replies go to standard output. For example: desk rehearse KEY < requests";
 
 const INIT: &str = "Makes a new database with one caller, the admin, who has number 1. \
@@ -263,8 +263,8 @@ fn refusal_of(reason: ErrorKind) -> Fault
     }
 }
 
-/// What the words ask for, the program's own name first. Words that are no command's, or one that is not the number or
-/// the day that its place asks for, are the fault `WRONG_WORDS`; the other fault is want of memory.
+/// What the words ask for, the program's own name first. The fault is `WRONG_WORDS` where they are no command's, or one
+/// is not the number or the day that its place asks for; else it is out of memory.
 pub fn line<'a>(alloc: Global, words: &'a [String]) -> Result<asked::Line<'a>, Fault>
     ensures line { IfOk result (IsLine (map string_bytes words.now)) }
     ensures wrong { result ≡ Err (fault wrong_words) → (asked : Line) → ¬ (IsLine (map string_bytes words.now) asked) }

@@ -1,8 +1,7 @@
 -- What an audit of a refusal shows, and how commands that ask for it end.
-use Rattle.std.proofs.Common.{◌≡◌, ℕ, true, false, List, Option, Some, None, Result, Ok, Any, subst}
-use Rattle.std.proofs.KnownBytes.{Appends-kept}
+use Rattle.std.proofs.Common.{◌≡◌, ◌∙◌, ℕ, true, false, List, [], Option, Some, None, Result, Ok, Any, subst}
 use Rattle.std.proofs.lemmas.List.Elements.{All-map}
-use Rattle.std.specs.Io.KnownBytes.{Keeps}
+use Rattle.std.specs.Io.KnownBytes.{Appends}
 use Rattle.std.specs.Prelude.{is_some, IfNone, IfSome}
 use Rattle.pt_audit.specs.RightLog.{IsNowherePossible}
 use Rattle.pt_base.specs.declared.fault.Fault.{Fault}
@@ -75,18 +74,20 @@ pub nowhere : (minutes : ℕ → ℕ → Option ℕ) (duties : List Duty) (asked
 nowhere minutes duties asked None there none = none
 nowhere minutes duties asked (Some chosen) there none = absurd (cc)
 
--- a log that was written stands written
-pub log_stays : (minutes : ℕ → ℕ → Option ℕ) (duties : List Duty) (asked of_refusal : Asked)
-    (old new seen : Option (List ℕ)) → asked ≡ of_refusal → WritesRightLog minutes duties asked old new → Keeps new seen
-    → WritesRightLog minutes duties of_refusal old seen
-log_stays minutes duties asked of_refusal old new seen is writes keeps =
-    let written = subst (λ (a : Asked). WritesRightLog minutes duties a old new) is writes in
+-- a right log that was made whole in memory is written as it is
+pub log_is_printed : (minutes : ℕ → ℕ → Option ℕ) (duties : List Duty) (asked of_refusal : Asked) (begun text shown : List ℕ)
+    (old new : Option (List ℕ)) → asked ≡ of_refusal → begun ≡ []
+    → WritesRightLog minutes duties asked (Some begun) (Some text) → shown ≡ text → Appends old new shown
+    → WritesRightLog minutes duties of_refusal old new
+log_is_printed minutes duties asked of_refusal begun text shown old new is none writes same printed =
+    let written = subst (λ (a : Asked). WritesRightLog minutes duties a (Some []) (Some text)) is
+    (subst (λ (held : List ℕ). WritesRightLog minutes duties asked (Some held) (Some text)) none writes) in
     record {
       lines = written.lines;
       text = written.text;
       right = written.right;
       is_text = written.is_text;
-      appended = Appends-kept old new seen written.text written.appended keeps;
+      appended = subst (λ (held : List ℕ). Appends old new held) (same ∙ written.appended) printed;
     }
 
 -- where no vehicle can, the wish is denied so, and by no other rule

@@ -1,4 +1,5 @@
 pub mod Refusals
 pub mod Rehearsal
 pub mod Status
+pub mod Tasks
 pub mod Told

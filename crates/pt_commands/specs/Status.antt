@@ -14,7 +14,7 @@ abbrev pub is_of_store : ℕ → Bool
 is_of_store code =
     code == memory_refused || code == tables_refused || code == rows_refused || code == store_refused
 
--- the exit status: 0 done, 1 denied, 2 wrong words, 3 want of memory or the store, 4 any other fault
+-- the exit status: 0 done, 1 denied, 2 wrong words, 3 out of memory or the store failed, 4 any other fault
 abbrev pub status_of : Outcome → ℕ
 status_of Done = 0
 status_of Denied = 1

@@ -1,12 +1,10 @@
-ghost use Rattle.std.specs.Prelude.{◌≡◌, ◌⊎◌, ◌++◌, codes, IfErr, IfOk, OnOk, Ok, Result};
+ghost use Rattle.std.specs.Prelude.{◌≡◌, ◌⊎◌, ◌++◌, codes, IfErr, IfOk, OnOk, Ok};
 ghost use Rattle.std.specs.Io.KnownBytes.{Appends};
 ghost use Rattle.pt_commands.specs.declared.outcome.Outcome.TheVariants.{Done};
+ghost use Rattle.pt_commands.specs.Tasks.{Prints};
 ghost use Rattle.pt_commands.specs.Told.{EndsBy, ending_of, fault_of, told_text};
 ghost use Rattle.pt_base.specs.Codes.{memory_refused, write_failed};
 ghost use Rattle.pt_base.specs.Fault.{fault};
-ghost use Rattle.pt_store.specs.Store.{Answers};
-ghost use Rattle.pt_desk_rules.specs.Step.{IsOutcome};
-ghost use Rattle.pt_store.specs.declared.keeper.StoreFault.{StoreFault};
 ghost use Rattle.pt_requests.specs.declared.request.Answer.{Answer};
 
 use crate::outcome::{Outcome, STORE_REFUSED};
@@ -74,7 +72,7 @@ pub(crate) fn print<W: Write>(text: &[u8], out: &mut W) -> Result<(), Fault>
 
 /// Says that what was asked for is done.
 ///
-/// The error is want of memory, or a write that failed: it is done all the same.
+/// The error is out of memory, or a write that failed: it is done all the same.
 pub fn print_done<W: Write>(alloc: Global, out: &mut W) -> Result<Outcome, Fault>
     ensures done { IfOk result (λ outcome. outcome ≡ Done) }
     ensures printed { OnOk result (Appends (W.contents out.old) (W.contents out.new) (codes "done\n")) }
@@ -103,7 +101,7 @@ fn print_reply<W: Write>(alloc: Global, reply: &Reply, out: &mut W) -> Result<Ou
 
 /// Asks the desk as the caller with this key, and prints what it tells.
 ///
-/// The number is the caller's for a write; a read has none, and takes 0. The error is want of memory, a store that
+/// The number is the caller's for a write; a read has none, and takes 0. The error is out of memory, a store that
 /// failed, or a write that failed: what was asked for may then be done all the same.
 pub fn ask<K: Keeper, W: Write>(
     alloc: Global,
@@ -114,11 +112,8 @@ pub fn ask<K: Keeper, W: Write>(
     request: &Request,
     out: &mut W,
 ) -> Result<Outcome, Fault>
-    ensures asked { (reply : Result Answer StoreFault)
-        × Answers (K.store keeper.old) (K.store keeper.new) (IsOutcome key.now now number request.now) reply
-        × EndsBy reply result
-        × ((told : Answer) → reply ≡ Ok told
-        → OnOk result (Appends (W.contents out.old) (W.contents out.new) (told_text told))) }
+    ensures asked { Prints key.now now number request.now (K.store keeper.old) (K.store keeper.new)
+        (W.contents out.old) (W.contents out.new) result }
 {
     let reply = answer(alloc, keeper, now, key, number, request);
     print_reply(alloc, &reply, out)

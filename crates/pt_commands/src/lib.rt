@@ -5,8 +5,10 @@ pub use asking::{ask, fault_of, print_done};
 pub use outcome::{Outcome, STORE_REFUSED, exit_status, outcome_of, outcome_of_refusal};
 pub use refusals::{audit_refusal, explain_refusal};
 pub use rehearsal::rehearse_with_key;
+pub use tasks::do_task;
 
 mod asking;
 mod outcome;
 mod refusals;
 mod rehearsal;
+mod tasks;

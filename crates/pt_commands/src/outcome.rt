@@ -52,7 +52,7 @@ pub fn outcome_of_refusal(reason: ErrorKind, is_shown: bool) -> Outcome
     }
 }
 
-/// Whether this code tells want of memory, or a fault of the store.
+/// Whether this code is that of memory or of the store.
 fn is_of_store(code: u16) -> bool
     ensures { result ≡ is_of_store code }
 {

@@ -1,15 +1,12 @@
-ghost use Rattle.std.specs.Prelude.{◌≡◌, ℕ, Option, Ok, Result};
+ghost use Rattle.std.specs.Prelude.{◌≡◌, ℕ, Option, Ok};
 ghost use Rattle.pt_base.specs.Rule.{name_of};
 ghost use Rattle.pt_base.specs.declared.rule.Rule.TheVariants.{NoVehicle};
-ghost use Rattle.pt_commands.specs.Refusals.{EndsByFacts, IsAuditedFrom, IsDeniedBy, IsExplainedFrom};
+ghost use Rattle.pt_commands.specs.Refusals.{IsAuditedFrom, IsDeniedBy, IsExplainedFrom};
+ghost use Rattle.pt_commands.specs.Tasks.{Inquires};
 ghost use Rattle.pt_commands.specs.declared.outcome.Outcome.TheVariants.{Done};
-ghost use Rattle.pt_desk.specs.Refusals.{IsFacts};
-ghost use Rattle.pt_store.specs.Store.{Answers};
-ghost use Rattle.pt_store.specs.declared.keeper.StoreFault.{StoreFault};
 ghost use Rattle.pt_desk_rules.specs.Sound.{IsSound};
 ghost use Rattle.pt_desk_rules.specs.State.{State};
 ghost use Rattle.pt_desk_rules.specs.Step.{IsOutcome};
-ghost use Rattle.pt_desk_reads.specs.declared.explaining.Inquiry.{Inquiry};
 ghost use Rattle.pt_requests.specs.declared.request.Answer.{Answer};
 ghost use Rattle.pt_requests.specs.declared.request.Answer.TheVariants as answer;
 ghost use Rattle.pt_requests.specs.declared.request.Request.TheVariants.{Explain};
@@ -17,7 +14,7 @@ ghost use Rattle.pt_requests.specs.declared.request.Request.TheVariants.{Explain
 use crate::asking::{line_of, print};
 use crate::{Outcome, fault_of};
 use pt_audit::{Log, check};
-use pt_base::fault::WRITE_FAILED;
+use pt_base::fault::MEMORY;
 use pt_base::{Fault, Moment, RiderId, Rule, Wish};
 use pt_desk::facts;
 use pt_desk_reads::{Inquiry, RefusalFacts};
@@ -50,11 +47,15 @@ fn print_refusal<W: Write>(
         print(b"possible\n", out)?;
         return Ok(Outcome::Denied);
     }
-    explain(lent, asked, times, out)?;
-    if out.flush().is_err() {
-        return Err(Fault::of(WRITE_FAILED));
+    let mut log = Vec::new(alloc);
+    match explain(lent, asked, times, &mut log) {
+        Ok(()) => {
+            print(log.as_slice(), out)?;
+            Ok(Outcome::Done)
+        }
+        // A vector takes all bytes for which there is memory.
+        Err(_) => Err(Fault::of(MEMORY)),
     }
-    Ok(Outcome::Done)
 }
 
 /// Prints whether the log shows that no vehicle can take the trip.
@@ -78,7 +79,8 @@ fn print_verdict<W: Write>(
 /// Asks as the caller with this key why a rider's wish would be denied `no vehicle`, and prints the log of the refusal;
 /// else that it is possible, or the rule by which it is denied.
 ///
-/// The error is want of memory, a store that failed, or a write that failed: of a log, a part may then be written.
+/// The log is made whole before a byte of it is written. The error is that memory was refused, a store that failed, or
+/// a write that failed: then a part of the log may be written.
 pub fn explain_refusal<K: Keeper, W: Write>(
     alloc: Global,
     keeper: &mut K,
@@ -88,9 +90,8 @@ pub fn explain_refusal<K: Keeper, W: Write>(
     wish: &Wish,
     out: &mut W,
 ) -> Result<Outcome, Fault>
-    ensures asked { (found : Result Inquiry StoreFault)
-        × Answers (K.store keeper.old) (K.store keeper.new) (IsFacts key.now now rider wish.now) found
-        × EndsByFacts IsExplainedFrom found (W.contents out.old) (W.contents out.new) result }
+    ensures asked { Inquires IsExplainedFrom key.now now rider wish.now (K.store keeper.old) (K.store keeper.new)
+        (W.contents out.old) (W.contents out.new) result }
     // Where a log is printed, a booking with this wish is denied for want of a vehicle, and by no other rule.
     ensures refused { result ≡ Ok Done → (K.store keeper.new).doubt ≡ 0 → IsSound (K.store keeper.old).content
         → (number : ℕ) (told : Answer) (left : Option State)
@@ -107,7 +108,7 @@ pub fn explain_refusal<K: Keeper, W: Write>(
 /// Asks the same, and prints whether the log shows that no vehicle can take the trip, whoever made it; or the rule by
 /// which the wish is denied before any vehicle is looked at.
 ///
-/// The error is want of memory, a store that failed, or a write that failed.
+/// The error is out of memory, a store that failed, or a write that failed.
 pub fn audit_refusal<K: Keeper, W: Write>(
     alloc: Global,
     keeper: &mut K,
@@ -118,9 +119,8 @@ pub fn audit_refusal<K: Keeper, W: Write>(
     log: &Log,
     out: &mut W,
 ) -> Result<Outcome, Fault>
-    ensures asked { (found : Result Inquiry StoreFault)
-        × Answers (K.store keeper.old) (K.store keeper.new) (IsFacts key.now now rider wish.now) found
-        × EndsByFacts (IsAuditedFrom log.now.lines.items) found (W.contents out.old) (W.contents out.new) result }
+    ensures asked { Inquires (IsAuditedFrom log.now.lines.items) key.now now rider wish.now (K.store keeper.old)
+        (K.store keeper.new) (W.contents out.old) (W.contents out.new) result }
     // A yes means that this very question in this very state is answered `no vehicle`, whoever made the log.
     ensures refused { result ≡ Ok Done → (K.store keeper.new).doubt ≡ 0 → IsSound (K.store keeper.old).content
         → (number : ℕ) (told : Answer) (left : Option State)

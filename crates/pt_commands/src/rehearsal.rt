@@ -14,7 +14,7 @@ use std::io::{Read, Write};
 
 /// Answers the messages of the input in turn, on a new desk in memory whose admin has the key.
 ///
-/// The error is want of memory, or what ended the rehearsal before its end.
+/// The error is out of memory, or what ended the rehearsal before its end.
 pub fn rehearse_with_key<R: Read + Drop, W: Write>(
     alloc: Global,
     key: &[u8],

@@ -1,4 +1,4 @@
-use Rattle.std.proofs.Common.{◌≡◌, ◌∙◌, ◌+◌, ◌<◌, ℕ, List, add-one, ap, ap₂, drop, drop-cons, get_or, length, map, refl}
+use Rattle.std.proofs.Common.{◌≡◌, ◌∙◌, ◌+◌, ◌<◌, ℕ, List, add-one, ap, drop, drop-cons, get_or, length, map, refl}
 use Rattle.clap.specs.Words.{App, app_of, with_subcommand}
 use Rattle.pt_command_line.specs.CommandLine.{command, with_commands}
 use Rattle.pt_command_line.proofs.words.with_commands.Goals as goal

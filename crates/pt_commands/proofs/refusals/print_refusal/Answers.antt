@@ -1,6 +1,6 @@
 use Rattle.std.proofs.Common.{ap, ◌∙◌, sym}
 use Rattle.pt_booking.specs.Planning.{on_duty}
-use Rattle.pt_commands.proofs.RefusalLemmas.{log_stays, none_can, nowhere, some_can}
+use Rattle.pt_commands.proofs.RefusalLemmas.{log_is_printed, none_can, nowhere, some_can}
 use Rattle.pt_commands.proofs.refusals.print_refusal.Goals as goal
 use Rattle.pt_travel.specs.Times.{time_in}
 
@@ -17,8 +17,8 @@ explain-requires-clause-nowhere g c =
     nowhere (time_in c.times-times.result.now) c.as_slice-lent.result.now c.asked-asked.result.now c.best.result
     (sym c.is_some.ensures ∙ c.if-is_some.false) c.best.ensures.none
 
-pub returns : goal.returns
-returns g c =
+pub returns-in-Ok : goal.returns-in-Ok
+returns-in-Ok g c =
     let minutes = time_in c.times-times.result.now in
     let duties = c.as_slice-lent.result.now in
     let same = ap on_duty c.as_slice-lent.ensures.value ∙ c.in_ok-duties.ensures.vehicles in
@@ -31,8 +31,7 @@ returns g c =
         c.times-times.ensures.least,
         duties,
         same,
-        log_stays minutes duties c.asked-asked.result.now c.args.found.now.asked (g.W.Write.contents c.args.out.now)
-            (g.W.Write.contents c.explain.new.out) (g.W.Write.contents c.flush.new.self) c.asked-asked.ensures.value
-            c.in_ok-explain.ensures.log c.flush.ensures.bytes,
+        log_is_printed minutes duties c.asked-asked.result.now c.args.found.now.asked _ _ _ _ _ c.asked-asked.ensures.value
+            c.new-log.ensures.items c.in-Ok.ensures.log c.as_slice.ensures.value c.in_ok-print-in-Ok.ensures.written,
       ),
     )

@@ -1,0 +1,108 @@
+ghost use Rattle.pt_commands.specs.Tasks.{AuditsLog, DoesTask, PutsTimes, ReadsTimes};
+
+use crate::asking::{ask, fault_of};
+use crate::outcome::Outcome;
+use crate::refusals::{audit_refusal, explain_refusal};
+use pt_audit::read_log;
+use pt_base::{Day, Fault, Moment, RiderId, Wish};
+use pt_command_line::Task;
+use pt_desk::place_ids;
+use pt_requests::{Read, Request, Write as Change};
+use pt_store::Keeper;
+use pt_travel::Raw;
+use std::alloc::Global;
+use std::io::Write;
+
+/// Reads a travel table for the places of a desk.
+fn times_for<K: Keeper>(alloc: Global, keeper: &mut K, text: &[u8]) -> Result<Raw, Fault>
+    ensures read { ReadsTimes text.now (K.store keeper.old) (K.store keeper.new) result }
+{
+    match place_ids(alloc, keeper) {
+        Ok(places) => Raw::read(alloc, text, places.as_slice()),
+        Err(failed) => Err(fault_of(failed)),
+    }
+}
+
+/// Puts the driving times of a CSV text, which hold from a day on, as the caller's request of this number.
+fn put_times<K: Keeper, W: Write>(
+    alloc: Global,
+    keeper: &mut K,
+    now: Moment,
+    key: &[u8],
+    number: u32,
+    day: Day,
+    text: &[u8],
+    out: &mut W,
+) -> Result<Outcome, Fault>
+    ensures put { PutsTimes K.store key.now now number day text.now keeper.old keeper.new (W.contents out.old)
+        (W.contents out.new) result }
+{
+    let rows = times_for(alloc, keeper, text)?;
+    let request = Request::Write(Change::Travel { day, rows });
+    ask(alloc, keeper, now, key, number, &request, out)
+}
+
+/// Prints whether the log of this text shows that no vehicle can take the trip.
+fn audit_text<K: Keeper, W: Write>(
+    alloc: Global,
+    keeper: &mut K,
+    now: Moment,
+    key: &[u8],
+    rider: RiderId,
+    wish: &Wish,
+    text: &[u8],
+    out: &mut W,
+) -> Result<Outcome, Fault>
+    ensures audited { AuditsLog key.now now rider wish.now text.now (K.store keeper.old) (K.store keeper.new)
+        (W.contents out.old) (W.contents out.new) result }
+{
+    let log = read_log(alloc, text)?;
+    audit_refusal(alloc, keeper, now, key, rider, wish, &log, out)
+}
+
+/// Does a task of the desk, at a moment of the agency's clocks, as the caller with this key. The text is that of the
+/// file that the task names, if it names one.
+///
+/// The error is a text that is not what it should be, or as in `ask` and `explain_refusal`.
+pub fn do_task<K: Keeper, W: Write>(
+    alloc: Global,
+    keeper: &mut K,
+    now: Moment,
+    key: &[u8],
+    task: &Task<'_>,
+    text: &[u8],
+    out: &mut W,
+) -> Result<Outcome, Fault>
+    ensures done { DoesTask K.store key.now now task.now text.now keeper.old keeper.new (W.contents out.old)
+        (W.contents out.new) result }
+{
+    match task {
+        Task::Travel { number, day, .. } => {
+            put_times(alloc, keeper, now, key, *number, *day, text, out)
+        }
+        Task::Manifest { vehicle, day } => {
+            let read = Read::Manifest {
+                vehicle: *vehicle,
+                day: *day,
+            };
+            ask(alloc, keeper, now, key, 0, &Request::Read(read), out)
+        }
+        Task::Trips { day } => {
+            ask(
+                alloc,
+                keeper,
+                now,
+                key,
+                0,
+                &Request::Read(Read::Export(*day)),
+                out,
+            )
+        }
+        Task::Explain { rider, wish } => {
+            explain_refusal(alloc, keeper, now, key, *rider, wish, out)
+        }
+        Task::Audit { rider, wish, .. } => {
+            audit_text(alloc, keeper, now, key, *rider, wish, text, out)
+        }
+    }
+}

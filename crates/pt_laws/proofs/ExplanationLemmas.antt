@@ -1,0 +1,64 @@
+-- A wish that is denied in a sound state fails the rule that is named, first of all its rules.
+use Rattle.std.proofs.Common.{◌≡◌, ◌∙◌, ℕ, List, Option, Some, None, ap, inl, inr, refl, subst, sym}
+use Rattle.pt_base.specs.declared.moment.Moment.{Moment}
+use Rattle.pt_base.specs.declared.rule.Rule.{Rule}
+use Rattle.pt_base.specs.declared.trip.Wish.{Wish}
+use Rattle.pt_booking.specs.Planning.{OnDuty, booking_rules}
+use Rattle.pt_booking.specs.Request.{Request}
+use Rattle.pt_booking.specs.Rules.{IsFirstFailing}
+use Rattle.pt_desk_laws.proofs.DutyLemmas.{has_routes}
+use Rattle.pt_desk_laws.specs.Laws.{IsFirstOfBooking}
+use Rattle.pt_desk_rules.specs.Booking.{IsAnswered, routes_for}
+use Rattle.pt_desk_rules.specs.Explaining.{IsExplainedAfter, IsToldPossible, next_trip}
+use Rattle.pt_desk_rules.specs.Facts.{wish_facts}
+use Rattle.pt_desk_rules.specs.Rules.{explain_rules}
+use Rattle.pt_desk_rules.specs.Step.{IsOutcomeBy}
+use Rattle.pt_desk_rules.specs.declared.facts.WriteFacts.{WriteFacts}
+use Rattle.pt_laws.specs.Explanations.{ExplanationsAreRight, IsFirstOfWish}
+use Rattle.pt_requests.specs.declared.caller.Caller.{Caller}
+use Rattle.pt_requests.specs.declared.request.Answer.TheVariants as answer
+use Rattle.pt_requests.specs.declared.request.Request.TheVariants as request
+use Rattle.pt_rights.specs.Rules.{first_failing}
+use Rattle.pt_scheduling.specs.Scheduling.{AreRoutes, IsScheduled}
+use Rattle.pt_scheduling.specs.declared.scheduling.Scheduled.{Scheduled}
+use Rattle.pt_scheduling.specs.declared.scheduling.Scheduled.TheVariants as scheduled
+
+-- what is denied where the vehicles have routes fails that rule first
+denied_first : (minutes : ℕ → ℕ → Option ℕ) (vehicles : List OnDuty) (asked : Request) (rule : Rule)
+    → AreRoutes asked.trip vehicles → IsScheduled minutes vehicles asked (scheduled.Denied rule)
+    → IsFirstFailing (booking_rules minutes vehicles asked) (Some rule)
+denied_first minutes vehicles asked rule are (inl first) = first
+denied_first minutes vehicles asked rule are (inr (none, is)) = absurd (none are)
+
+first_of_booking : (wish : Wish) (today : ℕ) (facts : WriteFacts) (rule : Rule) (found : Scheduled)
+    → AreRoutes (next_trip facts) (routes_for (next_trip facts) wish facts)
+    → IsAnswered (next_trip facts) None today wish facts found → IsToldPossible found (answer.Denied rule)
+    → IsFirstOfBooking facts (next_trip facts) None today wish rule
+first_of_booking wish today facts rule (scheduled.Booked trip plan) routes answered told = absurd (cc)
+first_of_booking wish today facts rule (scheduled.Denied first) routes (asked, by, (driving, are, is)) told =
+    let vehicles = routes_for (next_trip facts) wish facts in
+    let same : first ≡ rule = cc in
+    let fails = denied_first driving vehicles asked first (subst (λ n. AreRoutes n vehicles) (sym by.trip) routes) is in
+    record {
+      request = asked;
+      of_wish = by;
+      minutes = driving;
+      times = are;
+      first = subst (λ r. IsFirstFailing (booking_rules driving vehicles asked) (Some r)) same fails;
+    }
+
+first_of_wish : (first : Option Rule) (wish : Wish) (me : Caller) (now : Moment) (facts : WriteFacts) (rule : Rule)
+    → AreRoutes (next_trip facts) (routes_for (next_trip facts) wish facts)
+    → first_failing (explain_rules wish me facts) ≡ first
+    → IsExplainedAfter first wish now.day facts (answer.Denied rule) → IsFirstOfWish wish me now facts rule
+first_of_wish (Some first) wish me now facts rule routes fails told =
+    let same : first ≡ rule = cc in inl (fails ∙ ap (λ r. Some r) same)
+first_of_wish None wish me now facts rule routes fails (found, answered, told) =
+    inr (fails, first_of_booking wish now.day facts rule found routes answered told)
+
+pub explanations_are_right : ExplanationsAreRight
+explanations_are_right key now number rider wish me s rule left sound by outcome =
+    let facts = wish_facts rider wish None s in
+    let told = subst (λ c. IsOutcomeBy c now number (request.Explain rider wish) s (answer.Denied rule) left) by outcome in
+    first_of_wish (first_failing (explain_rules wish me facts)) wish me now facts rule
+    (has_routes s sound (next_trip facts) wish.day) refl told.0

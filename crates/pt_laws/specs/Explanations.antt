@@ -1,0 +1,32 @@
+-- What a dispatcher is answered who asks whether a wish could be booked.
+use Rattle.std.specs.Prelude.{◌≡◌, ◌⊎◌, ℕ, List, Option, Some, None}
+use Rattle.pt_base.specs.declared.moment.Moment.{Moment}
+use Rattle.pt_base.specs.declared.rule.Rule.{Rule}
+use Rattle.pt_base.specs.declared.trip.Wish.{Wish}
+use Rattle.pt_desk_laws.specs.Laws.{IsFirstOfBooking}
+use Rattle.pt_desk_rules.specs.Explaining.{next_trip}
+use Rattle.pt_desk_rules.specs.Facts.{wish_facts}
+use Rattle.pt_desk_rules.specs.Rules.{explain_rules}
+use Rattle.pt_desk_rules.specs.Sound.{IsSound}
+use Rattle.pt_desk_rules.specs.State.{State}
+use Rattle.pt_desk_rules.specs.Step.{IsOutcome, sender}
+use Rattle.pt_desk_rules.specs.declared.facts.WriteFacts.{WriteFacts}
+use Rattle.pt_requests.specs.declared.caller.Caller.{Caller}
+use Rattle.pt_requests.specs.declared.request.Answer.TheVariants as answer
+use Rattle.pt_requests.specs.declared.request.Request.TheVariants as request
+use Rattle.pt_rights.specs.Rules.{first_failing}
+
+-- of all rules of a wish this is the first to fail: of those before its trip's, and where they all hold, of its trip's
+abbrev pub IsFirstOfWish : Wish → Caller → Moment → WriteFacts → Rule → Type 0
+IsFirstOfWish wish me now facts rule =
+    (first_failing (explain_rules wish me facts) ≡ Some rule)
+    ⊎ ((first_failing (explain_rules wish me facts) ≡ None)
+    × IsFirstOfBooking facts (next_trip facts) None now.day wish rule)
+
+-- a wish that is denied fails this rule first
+abbrev pub ExplanationsAreRight : Type 0
+ExplanationsAreRight =
+    (key : List ℕ) (now : Moment) (number rider : ℕ) (wish : Wish) (me : Caller) (s : State) (rule : Rule)
+    (left : Option State) → IsSound s → sender key s ≡ Some me →
+    IsOutcome key now number (request.Explain rider wish) s (answer.Denied rule) left →
+    IsFirstOfWish wish me now (wish_facts rider wish None s) rule
