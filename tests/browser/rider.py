@@ -70,7 +70,7 @@ def the_pages_are_spanish_for_who_reads_spanish(at):
     show(at, 1001, "Su número de pasajero", "Mostrar mis páginas")
     at.browser.sees("martes, 11 de marzo de 2025", "Recogida entre")
     at.browser.press("Reservar un viaje", "link")
-    at.browser.sees("Hora deseada de la recogida", "Recogida de regreso")
+    at.browser.sees("Reservar un viaje para el pasajero 1001", "Hora deseada de la recogida", "Recogida de regreso")
     at.browser.fill("Idioma", "en")
     at.browser.sees("Wished time of the pickup")
 
