@@ -82,8 +82,9 @@ export function makeScreen({ state: first, draw, class: kind = "stack" }) {
 
     const every = (/** @type {number} */ milliseconds, /** @type {() => void} */ act) => whileShown(place, milliseconds, act);
     const onNewDay = (/** @type {() => void} */ act) => newDay(place, act);
+    const onMedia = (/** @type {string} */ query) => whileMatched(place, query, show);
     show();
-    return { element: place, get state() { return state; }, change, every, onNewDay };
+    return { element: place, get state() { return state; }, change, every, onNewDay, onMedia };
 }
 
 /** Does something again and again while an element is on the page and the window is seen.
@@ -98,4 +99,19 @@ export function whileShown(place, milliseconds, act) {
             if (!document.hidden) act();
         } else if (shown) clearInterval(clock);
     }, milliseconds);
+}
+
+/** Does something where a phone is turned, or the page zoomed, past what a query of media says, as long as an element is on the page.
+ * @param {HTMLElement} place
+ * @param {string} query @param {() => void} act
+ */
+function whileMatched(place, query, act) {
+    const media = matchMedia(query);
+    let shown = false;
+    const changed = () => {
+        shown ||= place.isConnected;
+        if (place.isConnected) act();
+        else if (shown) media.removeEventListener("change", changed);
+    };
+    media.addEventListener("change", changed);
 }

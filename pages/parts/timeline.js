@@ -47,7 +47,7 @@ const wholeHours = ([first, last]) => Array.from({ length: last - first + 1 }, (
 /** @param {[number, number]} hours @param {Across} across @param {number} width @param {number | null} now */
 function axis(hours, across, width, now) {
     return part("svg", { class: "axis", width, height: 22, "aria-hidden": "true" }, wholeHours(hours).map((hour) => part("text",
-        { x: across(hour * HOUR), y: 15, "text-anchor": "middle" }, clock(hour % 24 * HOUR))), nowLine(now, across, 22));
+        { x: across(hour * HOUR), y: 15, "text-anchor": "middle" }, clock(hour % 24 * HOUR).replace(/:00(?=\s)/, ""))), nowLine(now, across, 22));
 }
 
 /** @type {Record<string, (x: number) => string>} */

@@ -166,6 +166,7 @@ export function dayTrips() {
     const acts = actsOf(screen, renew);
     filter.control.addEventListener("input", () => screen.change({ typed: filter.control.value }));
     screen.every(RENEWED, () => { if (!screen.state.bulk?.running) renew(); });
+    screen.onMedia(NARROW);
     screen.onNewDay(() => {
         screen.change({ ended: true });
         renew();

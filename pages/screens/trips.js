@@ -132,6 +132,7 @@ export function tripsOfRider(rider, { heading, cards = false, purpose = "standin
         screen.change({ answers: { [trip.trip]: answer }, changing: null }, { focus: `answer-${trip.trip}` });
     };
     screen.every(RENEWED, () => screen.change({}));
+    screen.onMedia(NARROW);
     screen.onNewDay(refresh);
     refresh();
     const known = async () => {

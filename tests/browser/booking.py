@@ -374,3 +374,15 @@ def a_ticket_is_printed_in_the_riders_language_too(at):
     for text in ["Rosa Álvarez (1001)", "Pickup", "Recogida", "Example Town Transit", "555-0100"]:
         holds(f"the paper has no {text}: {paper.text}", text in paper.text)
     same("pages", 1, paper.pages)
+
+
+@check
+def trips_are_cards_as_soon_as_the_page_is_zoomed(at):
+    begin(at, "1001")
+    at.browser.sees("Trips of Rosa Álvarez (1001)", "Book again")
+    count = "return [document.querySelectorAll('table.trips').length, document.querySelectorAll('ul.cards').length]"
+    same("tables and lists on a wide screen", [1, 0], at.browser.script(count))
+    with at.browser.zoomed():
+        # (half a minute later they would be drawn anew in any case)
+        until("there are no cards", lambda: at.browser.script(count) == [0, 1], 10)
+        same("what can be moved sideways", 0, at.browser.sideways()[0])
