@@ -32,6 +32,13 @@ return low;
 """
 
 
+# What has a name, and no role that may have one.
+NAMED_NOTHING = """
+return [...document.querySelectorAll("[aria-label], [aria-labelledby]")].filter((it) => !it.hasAttribute("role")
+    && ["DIV", "SPAN", "P", "PRE", "SMALL", "STRONG"].includes(it.tagName)).map((it) => it.outerHTML.slice(0, 80));
+"""
+
+
 def nameless(browser):
     nodes = browser.devtools("Accessibility.getFullAXTree")["nodes"]
     return [node["role"]["value"] for node in nodes if not node["ignored"] and node["role"]["value"] in CONTROLS
@@ -55,6 +62,7 @@ def each_part(at, screen, language="en"):
 def looked_at(at, address):
     """Names, contrast and axe; light, dark and forced, which differ in colors alone."""
     same(f"controls without a name in {address}", [], nameless(at.browser))
+    same(f"names of what has no role in {address}", [], at.browser.script(NAMED_NOTHING))
     for shades in ["light", "dark"]:
         with at.browser.media(prefers_color_scheme=shades, prefers_reduced_motion="reduce"):
             same(f"contrast in {address}, {shades}", [], at.browser.script(CONTRAST))

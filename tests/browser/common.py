@@ -239,3 +239,22 @@ def nothing_is_loaded_from_elsewhere(at):
     holds("no request is seen", len(asked) > 20)
     strange = [it for it in asked if it and not it.startswith((at.town.origin, "blob:", "data:", "chrome", "about:"))]
     same("what is loaded from elsewhere", [], strange)
+
+
+LOADED = """
+return performance.getEntriesByType("resource").filter((it) => it.name.startsWith(location.origin))
+    .map((it) => [it.name, it.transferSize, it.decodedBodySize]);
+"""
+MOST_BYTES_OF_SIGNING_IN = 75_000
+
+
+@check
+def the_files_of_the_pages_come_compressed_and_few_before_somebody_signs_in(at):
+    at.browser.devtools("Network.clearBrowserCache")
+    at.browser.fresh()
+    at.browser.find("button", "Sign in")
+    loaded = at.browser.script(LOADED)
+    plain = [it for it in loaded if it[2] > 3000 and it[1] > it[2] * 0.7]
+    same("what does not come compressed", [], plain)
+    sent = sum(it[1] for it in loaded)
+    holds(f"{len(loaded)} files of {sent} bytes are loaded to sign in", 0 < sent <= MOST_BYTES_OF_SIGNING_IN)

@@ -171,7 +171,9 @@ def the_rider_is_named_in_heading_button_and_ticket(at):
     show(at, 1003)
     at.browser.sees("Book a trip for Henry Park (1003)", "Trips of Henry Park (1003)")
     book(at, Day="Monday, March 17, 2025")
-    at.browser.sees("is booked for Henry Park (1003)")
+    number = booked(at)
+    ticket = at.browser.find("heading", re.compile(f"^Trip {number} "))
+    same("the heading of the ticket", f"Trip {number} is booked for Henry Park (1003)", at.browser.text(ticket))
 
 
 @check
