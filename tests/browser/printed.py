@@ -35,9 +35,9 @@ def cut_boxes(at):
     """What has a scrollbar, or is cut, where it is printed."""
     with at.browser.media("print"):
         return at.browser.script("""return [...document.querySelectorAll('body *')].filter((it) => it.checkVisibility()
-            && getComputedStyle(it).overflowX !== 'visible' && it.clientWidth > 1
-            && it.scrollWidth > it.clientWidth + 1)
-            .map((it) => it.tagName + ' ' + it.className)""")
+            && it.clientWidth > 1 && (getComputedStyle(it).overflowX !== 'visible' && it.scrollWidth > it.clientWidth + 1
+            || getComputedStyle(it).overflowY !== 'visible' && it.scrollHeight > it.clientHeight + 1))
+            .map((it) => it.tagName + ' ' + it.getAttribute('class'))""")
 
 
 def is_printed_whole(at, screen):
