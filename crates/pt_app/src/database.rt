@@ -10,6 +10,7 @@ use pt_base::fault::MEMORY;
 use pt_base::{Fault, Moment};
 use pt_command_line::Task;
 use pt_commands::{Outcome, STORE_REFUSED, do_task, print_done};
+use pt_http_request::desk_router;
 use pt_serve::{Port, moment_at, serve};
 use pt_store::Keeper;
 use pt_tables::{adopt, create, migrate};
@@ -150,8 +151,11 @@ fn serve_on<K: Keeper>(
     port: u16,
     count: u32,
 ) -> Result<Outcome, Fault> {
+    let Ok(router) = desk_router(rt.alloc()) else {
+        return Err(Fault::of(MEMORY));
+    };
     let mut port = Port::open(rt, port, count)?;
-    let failed = serve(rt, rt.alloc(), keeper, zone, &mut port)?;
+    let failed = serve(rt, rt.alloc(), &router, keeper, zone, &mut port)?;
     let _shown = eprintln!(rt; "connections: {count}, failed: {failed}");
     Ok(Outcome::Done)
 }

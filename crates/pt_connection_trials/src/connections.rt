@@ -2,6 +2,7 @@
 use crate::requests::{DONE, PUT_CLERK, eight_in_the_morning, has_clerk};
 use pt_base::Fault;
 use pt_base::fault::{READ_FAILED, WRITE_FAILED};
+use pt_http_request::desk_router;
 use pt_serve::{MOST_DROPPED, Waits, answer_in_time, drop_rest, serve_one};
 use pt_store::ListKeeper;
 use std::alloc::Global;
@@ -194,7 +195,8 @@ fn answered<'c>(
         course,
     };
     let now = eight_in_the_morning(rt);
-    let (writer, told) = answer_in_time(course, alloc, keeper, now, reader, writer);
+    let router = desk_router(alloc).expect(rt, "memory");
+    let (writer, told) = answer_in_time(course, alloc, &router, keeper, now, reader, writer);
     (writer.stream, told)
 }
 
@@ -269,7 +271,9 @@ fn served<R: Abort + Clock>(
     stream: &TcpStream,
 ) -> (Result<(), Fault>, bool) {
     let mut keeper = ListKeeper::new(alloc, b"abc").expect(rt, "memory");
-    let told = serve_one(rt, alloc, &mut keeper, eight_in_the_morning(rt), stream);
+    let router = desk_router(alloc).expect(rt, "memory");
+    let now = eight_in_the_morning(rt);
+    let told = serve_one(rt, alloc, &router, &mut keeper, now, stream);
     (told, has_clerk(rt, &mut keeper))
 }
 

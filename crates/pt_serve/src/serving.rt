@@ -7,6 +7,7 @@ ghost use Rattle.pt_clock.specs.LocalTime.{IsZoneRule};
 ghost use Rattle.pt_store.specs.Store.{Store};
 ghost use Rattle.pt_http.specs.Answering.{GoesOn};
 ghost use Rattle.pt_http.specs.Exchange.{desk_of};
+ghost use Rattle.pt_http_request.specs.Targets.{desk_routes};
 ghost use Rattle.pt_serve.specs.Port.{left_of};
 ghost use Rattle.pt_serve.specs.Serving.{EndsServing, IsMomentIn, ServesATurn, ServesInTurn, ServesOne, Turn};
 ghost use Rattle.pt_serve.specs.Serving.{failures_in};
@@ -15,9 +16,11 @@ use crate::closing::let_go;
 use crate::connection::serve_one;
 use crate::listening::Port;
 use jiff::Timestamp;
+use matchit::Router;
 use pt_base::fault::{DATE_OUT_OF_RANGE, MEMORY, READ_FAILED};
 use pt_base::{Fault, Moment};
 use pt_clock::{moment_of, now_in};
+use pt_http_request::Path;
 use pt_store::Keeper;
 use std::alloc::Global;
 use std::io;
@@ -54,10 +57,12 @@ pub fn moment_at<C: Clock>(clock: &C, zone: &str) -> Result<Moment, Fault>
 fn serve_next<C: Clock, K: Keeper>(
     clock: &C,
     alloc: Global,
+    router: &Router<Path>,
     keeper: &mut K,
     zone: &str,
     connection: io::Result<TcpStream>,
 ) -> Result<Option<Fault>, Fault>
+    requires { router.now ≡ desk_routes }
     ensures turn { (K.store keeper.new).doubt ≡ 0
         → IfOk result (λ failed.
         ServesATurn zone.now failed (desk_of (K.store keeper.old)) (desk_of (K.store keeper.new))) }
@@ -79,7 +84,7 @@ fn serve_next<C: Clock, K: Keeper>(
         return Ok(Some(Fault::of(READ_FAILED)));
     };
     let now = moment_at(clock, zone)?;
-    match serve_one(clock, alloc, keeper, now, &stream) {
+    match serve_one(clock, alloc, router, keeper, now, &stream) {
         Ok(()) => {
             let_go(clock, &stream);
             Ok(None)
@@ -89,19 +94,22 @@ fn serve_next<C: Clock, K: Keeper>(
     }
 }
 
-/// Answers all connections that the port is still open to, one after the other, one request each, by the rules as of
-/// the moment after each was accepted, on the clocks of a zone. Standard error has one line for each that failed, and
+/// Takes the connections that the port still accepts, in turn, and answers one request on each by the desk's routes, as
+/// of the moment after it was accepted on the clocks of a zone. Standard error has one line for each that failed, and
 /// the result says how many did.
 ///
-/// The error is want of memory, or a zone or a clock that gives no moment: the connection at which it came is let go of
-/// unanswered, and later ones wait. A connection that fails counts, and the next is answered.
+/// The error is out of memory, or a zone or a clock that gives no moment: that connection is dropped unanswered, and
+/// later ones wait. A connection that fails counts, and the next is answered. The contract does not say that a client
+/// got its reply.
 pub fn serve<R: Clock + Eprint, K: Keeper>(
     rt: &R,
     alloc: Global,
+    router: &Router<Path>,
     keeper: &mut K,
     zone: &str,
     port: &mut Port,
 ) -> Result<u32, Fault>
+    requires { router.now ≡ desk_routes }
     // Each connection whose reply was not wholly written is counted; each of the others was answered.
     ensures served { (K.store keeper.new).doubt ≡ 0
         → IfOk result (λ failed. (turns : List Turn) × (length turns ≡ left_of port.old)
@@ -120,7 +128,9 @@ pub fn serve<R: Clock + Eprint, K: Keeper>(
 {
     let mut failed = 0;
     while let Some(connection) = port.accept() {
-        if let Some(Fault { code, row }) = serve_next(rt, alloc, keeper, zone, connection)? {
+        if let Some(Fault { code, row }) = serve_next(
+            rt, alloc, router, keeper, zone, connection,
+        )? {
             failed += 1;
             let _shown = eprintln!(rt; "connection: fault {code} row {row}");
         }

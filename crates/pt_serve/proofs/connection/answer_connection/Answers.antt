@@ -1,7 +1,7 @@
 use Rattle.std.proofs.Common.{◌≡◌, ◌∙◌, ℕ, List, ◌++◌, Some, ap, inl, refl, sym}
 use Rattle.pt_base.specs.Codes.{memory_refused}
 use Rattle.pt_base.specs.Fault.{fault}
-use Rattle.pt_http.proofs.AnsweringLemmas.{answers_none, answers_otherwise, handed}
+use Rattle.pt_http.proofs.AnsweringLemmas.{answers_failed, answers_none, answers_otherwise, answers_told, handed}
 use Rattle.pt_serve.specs.Connection.{AnswersFrom, IsAnsweredFrom}
 use Rattle.pt_serve.proofs.connection.answer_connection.Goals as goal
 
@@ -17,16 +17,40 @@ returns-in_err-inbox g c =
           (answers_none _ _ store c.args.now written _ (fault memory_refused) (inl refl) (refl, refl));
     }
 
-pub returns : goal.returns
-returns g c =
+pub returns-in_err-exchange : goal.returns-in_err-exchange
+returns-in_err-exchange g c =
     let remaining = g.R.Read.remaining in
-    let store = g.K.Keeper.store in
+    let contents = g.W.Write.contents in
+    let old = g.K.Keeper.store c.args.keeper.now in
+    let new = g.K.Keeper.store c.exchange.new.keeper in
     record {
-      answers = answers_otherwise _ (λ input. remaining c.args.reader ≡ Some input) _
-          (IsAnsweredFrom (store c.args.keeper.now) (store c.answer_bytes.new.keeper) c.args.now) _ _ _ _ _ _ _ _
-          (λ bytes known. record {
+      answers = handed
+          (λ result. AnswersFrom (remaining c.args.reader) old new c.args.now (contents c.args.out.now)
+          (contents c.exchange.new.out) ((c.exchange.new.keeper ≡ c.args.keeper.now) × (c.exchange.new.out ≡ c.args.out.now))
+          result) c.in_err-exchange.field-0.0 c.from_residual-in_err-exchange.result c.from_residual-in_err-exchange.ensures.1
+          (answers_otherwise _ (λ input. remaining c.args.reader ≡ Some input) _ (IsAnsweredFrom old new c.args.now)
+          _ _ _ _ _ _ _ _ (λ bytes known. record {
             left = bytes;
             known = ap remaining c.in_ok-inbox.ensures.reader ∙ known;
             whole = sym (ap (λ (held : List ℕ). held ++ bytes) c.in_ok-inbox.ensures.empty);
-          }) (λ input reply found. (found.0, found.2)) (λ same. same) c.answer_bytes.ensures.answers;
+          }) (λ input reply found. (found.0, found.2)) (λ same. same)
+          (answers_failed remaining _ c.exchange.new.inbox old new c.args.now (contents c.args.out.now)
+          (contents c.exchange.new.out) _ c.in_err-exchange.field-0.0 c.in_err-exchange.ensures.exchange));
+    }
+
+pub returns : goal.returns
+returns g c =
+    let remaining = g.R.Read.remaining in
+    let contents = g.W.Write.contents in
+    let old = g.K.Keeper.store c.args.keeper.now in
+    let new = g.K.Keeper.store c.exchange.new.keeper in
+    record {
+      answers = answers_otherwise _ (λ input. remaining c.args.reader ≡ Some input) _ (IsAnsweredFrom old new c.args.now)
+          _ _ _ _ _ _ _ _ (λ bytes known. record {
+            left = bytes;
+            known = ap remaining c.in_ok-inbox.ensures.reader ∙ known;
+            whole = sym (ap (λ (held : List ℕ). held ++ bytes) c.in_ok-inbox.ensures.empty);
+          }) (λ input reply found. (found.0, found.2)) (λ same. same)
+          (answers_told remaining _ c.exchange.new.inbox old new c.args.now (contents c.args.out.now)
+          (contents c.exchange.new.out) _ c.in_ok-exchange.field-0 tt c.in_ok-exchange.ensures.exchange);
     }

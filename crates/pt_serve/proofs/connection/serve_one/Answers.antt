@@ -1,7 +1,7 @@
-use Rattle.std.proofs.Common.{◌≡◌, ap}
+use Rattle.std.proofs.Common.{ap}
 use Rattle.std.proofs.lemmas.Result.{IfErr-weaker, on_ok_weaker}
 use Rattle.pt_http.proofs.AnsweringLemmas.{tells_more}
-use Rattle.pt_http.specs.Exchange.{IsUnanswered, desk_of}
+use Rattle.pt_http.specs.Exchange.{desk_of}
 use Rattle.pt_serve.proofs.ConnectionLemmas.{same_or_answered}
 use Rattle.pt_serve.proofs.connection.serve_one.Goals as goal
 
