@@ -79,7 +79,8 @@ function placeShape(place, foot) {
 function placeNameShape(place, foot, mark, room) {
     const text = [place.name, mark].filter(Boolean).join(" · "), [x, north] = pointOf(place), y = -north;
     const choices = /** @type {[number, number, string][]} */ ([[x + 11 * foot, y + 15 * foot, "start"], [x + 11 * foot, y - 8 * foot, "start"],
-        [x - 11 * foot, y + 15 * foot, "end"], [x - 11 * foot, y - 8 * foot, "end"], [x, y + 22 * foot, "middle"], [x, y - 14 * foot, "middle"]]);
+        [x - 11 * foot, y + 15 * foot, "end"], [x - 11 * foot, y - 8 * foot, "end"],
+        ...[22, -14, 26, -18, 32, -24].map((down) => [x, y + down * foot, "middle"])]);
     return text ? nameShape(text, choices, NAME * foot, room, { always: Boolean(mark) }) : [];
 }
 
