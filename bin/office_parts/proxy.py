@@ -11,7 +11,7 @@ from functools import partial
 from http.server import BaseHTTPRequestHandler, ThreadingHTTPServer
 
 DESKS_PATHS = re.compile(r"/(callers|policy|places|routes|vehicles|riders|trips|days)(/|$)")
-TALLY = re.compile(r"/tally/(denials|stops)")
+TALLY = re.compile(r"/tally/(denials|stops|cancellations)")
 TALLY_WORDS = re.compile(r"[A-Za-z0-9=&:.,%()_-]{1,300}")
 OWN = re.compile(r"/own/([1-9][0-9]*)/places\.json")
 OF_VEHICLE = re.compile(r"/drivers/([1-9][0-9]*)/(roster\.csv|places\.json)")

@@ -4,6 +4,7 @@
 import { plus, today } from "../parts/clock.js";
 import * as desk from "../parts/desk.js";
 import { DAYS_AHEAD, LAST_MINUTE, MOST_DURATION } from "../parts/limits.js";
+import { cancelTrip } from "../parts/tally.js";
 import { manifestsIn, rowsIn } from "../parts/texts.js";
 
 /** @typedef {import("../types").Trip} Trip */
@@ -148,7 +149,7 @@ async function newcomers(plan) {
  * @param {Plan} begun @param {Keep} keep
  */
 export async function carryOut(begun, keep) {
-    const cancelled = await each({ ...begun, stopped: null }, { ready: "booked", under: "cancelling", send: ({ old }) => desk.cancel(old.trip),
+    const cancelled = await each({ ...begun, stopped: null }, { ready: "booked", under: "cancelling", send: ({ old }) => cancelTrip(old.trip, "agency"),
         after: ({ denied }) => ({ step: denied === undefined ? "cancelled" : "kept", denied: denied ?? null }) }, keep);
     let { plan } = cancelled;
     if (cancelled.stop) return keep({ ...plan, stopped: cancelled.stop });

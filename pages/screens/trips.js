@@ -8,6 +8,7 @@ import { denialOf } from "../parts/denials.js";
 import { button, part } from "../parts/element.js";
 import { riderLabel } from "../parts/roster.js";
 import { makeScreen } from "../parts/screen.js";
+import { cancelTrip } from "../parts/tally.js";
 import { t } from "../parts/words.js";
 import { changeFor, statusOf } from "./booking.js";
 import { dollars, party, printTickets, windowOf } from "./ticket.js";
@@ -126,7 +127,7 @@ export function tripsOfRider(rider, { heading, cards = false, purpose = "standin
     const change = (/** @type {Trip} */ trip) => screen.change({ changing: trip.trip, answers: {} }, { focus: `change-${trip.trip}` });
     const cancel = async (/** @type {Trip} */ trip) => {
         if (!await sureToCancel(rider, trip)) return;
-        const reply = await desk.cancel(trip.trip);
+        const reply = await cancelTrip(trip.trip, "rider");
         const answer = reply.denied !== undefined ? denialOf(reply, "cancel") : part("p", { class: "good" }, t("booking.cancelled-now", { trip: trip.trip, rider: riderLabel(rider) }));
         await refresh();
         screen.change({ answers: { [trip.trip]: answer }, changing: null }, { focus: `answer-${trip.trip}` });
