@@ -75,7 +75,8 @@ def told(done, before, all_costs, seconds):
     here = sum(all_costs[it] for it in done if it not in before)
     left = sum(cost for it, cost in all_costs.items() if it not in done)
     if here >= LEAST_SHARE * (here + left) and left:
-        line += f", some {max(round(seconds * left / here / 60), 1)} minutes left"
+        minutes = max(round(seconds * left / here / 60), 1)
+        line += f", about {minutes} minute{'s' if minutes > 1 else ''} left"
     return line
 
 

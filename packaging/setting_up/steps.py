@@ -117,7 +117,7 @@ def make_site(changes, settings, lines):
     found = re.search(r"worker_connections (\d+);", whole)
     if found and int(found[1]) < CONNECTIONS:
         changes.write(NGINX, whole.replace(found[0], f"worker_connections {CONNECTIONS};"))
-        changes.write(FILES_OF_NGINX, "worker_rlimit_nofile 40000;\n")
+    changes.write(FILES_OF_NGINX, "worker_rlimit_nofile 40000;\n")
     run("nginx", "-t")
 
 
