@@ -52,7 +52,7 @@ def keep_counts(top, log):
     counts, crate = read(f"{top}/{COUNTS}"), None
     with open(log, encoding="utf-8", errors="replace") as file:
         for line in file:
-            named, proved = re.match(r"crate (\w+):", line), re.match(r"logic=proved functions=(\d+)", line)
+            named, proved = re.match(r"(?:== |crate )(\w+)\b", line), re.match(r"logic=proved functions=(\d+)", line)
             crate = named[1] if named else crate
             if proved and crate:
                 counts[crate], crate = int(proved[1]), None
