@@ -95,7 +95,8 @@ def chosen_file(at, content):
 @check
 def what_was_put_here_is_saved_into_the_servers_file_or_forgotten(at):
     at.browser.sign_in(at.keys["admin"], "admin", "names")
-    at.browser.sees("The server has the file of the example town.", "This browser has names that the file on the server has not.")
+    at.browser.sees("The server has the file of the example town.",
+                    "This browser has names that the file on the server has not.")
     at.browser.fill_all({"Of a": "vehicle", "Number": "3", "Name": "Van 3, red"}, at.browser.find("region", "A name"))
     at.browser.press("Keep the name")
     at.browser.sees("Kept in this browser.")

@@ -51,7 +51,7 @@ def wait_for(at, what, script):
 
 
 def begin(at, number=None, holder="second clerk"):
-    """The clerk's first screen, as it is after signing in; with a number, that rider's. (Trips beside it are the other clerk's.)"""
+    """The clerk's first screen, as it is after signing in; with a number, that rider's."""
     at.browser.sign_in(at.keys[holder], "clerk", "trips")
     wait_for(at, "the clerk's screen", "!!document.querySelector('.roster') && document.activeElement.id === 'main'")
     keys = Keystrokes(at.browser)

@@ -194,8 +194,8 @@ def what_waits_leads_to_the_case(at):
         holds(f"{words} is not on the paper", words in paper.text)
     at.browser.press("Show rider 1001")
     at.browser.sees("The case of Rosa Álvarez (1001)", "Missed trips of rider 1001")
-    for key, screen, title in [("examiner", "examiner", "Applications to decide"), ("dispatcher", "dispatcher", "Trips without an outcome")]:
-        at.browser.sign_in(at.keys[key], screen, "waits")
+    for screen, title in [("examiner", "Applications to decide"), ("dispatcher", "Trips without an outcome")]:
+        at.browser.sign_in(at.keys[screen], screen, "waits")
         at.browser.sees(title)
 
 
@@ -207,7 +207,8 @@ def a_work_list_that_is_missing_wrong_or_not_for_this_key_is_told(at):
                                  "<script>document.title = 'x'</script><table><tbody><tr><td><form>1001")
     at.browser.sign_in(at.keys["officer"], "officer", "waits")
     at.browser.sees("Old.", "Two bold")
-    same("markup of the file", 0, at.browser.script("return document.querySelectorAll('main img, main b, main script, main form').length"))
+    markup = at.browser.script("return document.querySelectorAll('main img, main b, main script, main form').length")
+    same("markup of the file", 0, markup)
     at.town.write_file(WORKLIST, None)
     at.browser.sign_in(at.keys["officer"], "officer", "waits")
     at.browser.sees("This site has no work list.")

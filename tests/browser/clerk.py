@@ -119,7 +119,8 @@ def twenty_thousand_riders_are_opened_and_searched_at_once(at):
     at.browser.driver.find_element(By.ID, "roster-file").send_keys(path)
     at.browser.sees(f"From many riders.csv: {MANY:,} riders.")
     loading = until("it was not measured", lambda: at.browser.script("return window.loading"))
-    searching = at.browser.driver.execute_async_script(SEARCHES, ["g", "garcia", "nunez 5", "555-0012345", "19999", "zz"])
+    typed = ["g", "garcia", "nunez 5", "555-0012345", "19999", "zz"]
+    searching = at.browser.driver.execute_async_script(SEARCHES, typed)
     holds(f"it took {loading:.2f} s to load", loading <= MOST_LOADING)
     holds(f"a search took {searching:.1f} ms", searching <= MOST_SEARCHING * 1000)
     told(at, f"{MANY} riders load in {loading:.2f} s, the slowest search takes {searching:.1f} ms")
@@ -205,11 +206,12 @@ def nothing_is_offered_where_the_key_may_not_or_nobody_is_there(at):
 @check
 def nothing_is_entered_for_nobody_and_for_a_visitor(at):
     at.browser.sign_in(at.keys["clerk"], "clerk", "file")
-    for number, words in [("1999", "There is no rider of this number."), ("1008", "This rider is a visitor, who has no case file.")]:
+    for number, words in [("1999", "There is no rider of this number."),
+                          ("1008", "This rider is a visitor, who has no case file.")]:
         at.browser.fill("Rider number", number)
         at.browser.press("Show")
         at.browser.sees(words)
-        same("what may be entered", [], at.browser.script("return [...document.querySelectorAll('.entry')].map((it) => it.textContent)"))
+        same("entries that are offered", 0, at.browser.script("return document.querySelectorAll('.entry').length"))
     at.browser.sees("may ride on Monday, March 10, 2025")
 
 

@@ -448,8 +448,9 @@ def book_a_busy_day(at):
     at.town.set_clock(DAY, "06:00")
     goals, booked = [2, 6, 7, 9, 3, 8], 0
     for number in range(3 * CLOSED_TRIPS):
-        fields = {"rider": TRAVELERS[number % len(TRAVELERS)], "day": BUSY, "wish": 420 + number * 37 % 780, "attendant": False,
-                  "from": goals[number % 6], "to": goals[(number + 1 + number // 6 % 5) % 6], "companions": 0}
+        fields = {"rider": TRAVELERS[number % len(TRAVELERS)], "day": BUSY, "wish": 420 + number * 37 % 780,
+                  "from": goals[number % 6], "to": goals[(number + 1 + number // 6 % 5) % 6],
+                  "attendant": False, "companions": 0}
         booked += "trip" in at.town.post("third clerk", "/trips", fields)
         if booked == CLOSED_TRIPS:
             return
@@ -482,4 +483,5 @@ def a_day_of_ninety_six_trips_is_closed_in_twenty_clicks(at):
         until(f"{names[van]} is not closed", lambda: f"{names[van]}: {many}." in at.browser.text())
     holds(f"{clicks} clicks", clicks <= MOST_CLICKS)
     states = [row["status"] for row in rows_of(at, BUSY)]
-    same("how the trips ended", [CLOSED_TRIPS - 2, 1, 1], [states.count(it) for it in ["ridden", "missed-rider", "missed-operator"]])
+    same("how the trips ended", [CLOSED_TRIPS - 2, 1, 1],
+         [states.count(it) for it in ["ridden", "missed-rider", "missed-operator"]])
