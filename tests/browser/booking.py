@@ -210,6 +210,8 @@ def the_answer_to_a_cancel_is_where_its_button_was_and_has_the_focus(at):
     holds("it can be seen", at.browser.script(
         "const it = document.activeElement.getBoundingClientRect(); return it.top >= 0 && it.bottom <= innerHeight"))
     holds("it is not offered again", not at.browser.is_there("button", f"Cancel trip {trip} of Ana María Núñez (1006)"))
+    counted = [it for it in at.browser.requests() if "/tally/cancellations?" in it]
+    same("it is counted once, as the rider's own", [True], [f"trip={trip}&by=rider&at=" in it for it in counted])
 
 
 @check
