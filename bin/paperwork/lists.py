@@ -224,4 +224,13 @@ def standing_told(copy, rider, entries, now):
         sentences.append("Suspended today.")
     if not entries:
         sentences.append("The case file has no entry.")
-    return sentences
+    return [*sentences, *missed_told(copy, rider, now)]
+
+
+def missed_told(copy, rider, now):
+    """Each trip that the rider missed in the days of the policy, on which an officer decides."""
+    found = copy.rows(
+        "SELECT id, day, origin, goal, window_from, window_to FROM trips WHERE rider = ? AND status = ? AND day >= ? "
+        "AND day < ? ORDER BY day, window_from, id", rider, copies.MISSED_BY_RIDER, now - copy.policy.span_days, now)
+    return [f"Missed by the rider on {day_of(day)}: trip {trip} from place {origin} to place {goal}, "
+            f"window {clock(begins)} to {clock(ends)}." for trip, day, origin, goal, begins, ends in found]
