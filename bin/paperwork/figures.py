@@ -1,4 +1,4 @@
-"""The figures of months, as a table and as a page that prints. docs/REPORTS.md says what each means."""
+"""The figures of months, as a table and as a page that prints. docs/WORKLIST.md, "Reports", says what each means."""
 import collections
 import datetime
 
