@@ -1,9 +1,5 @@
 """Cases: standing, letters, applications, appeals, suspensions, and what waits."""
-import contextlib
-import glob
 import re
-import shutil
-import sqlite3
 import subprocess
 
 from checks import check, holds, same
@@ -148,15 +144,8 @@ def a_suspension_is_of_thirty_days_at_most(at):
 
 def make_worklist(at, today):
     """Of a copy of the desk's file, as each night's unit makes it."""
-    folder, file = at.town.folder, at.town.desk.file
-    at.town.stop_desk()
-    for path in glob.glob(f"{glob.escape(file)}*"):
-        shutil.copy(path, f"{folder}/halted{path.removeprefix(file)}")
-    at.town.start_desk()
-    with contextlib.closing(sqlite3.connect(f"{folder}/halted")) as halted:
-        with contextlib.closing(sqlite3.connect(f"{folder}/copy.db")) as copy:
-            halted.backup(copy)
-    words = [f"{ROOT}/bin/worklist", f"{folder}/copy.db", "--html", f"{folder}/site/{WORKLIST}", "--today", today,
+    folder = at.town.folder
+    words = [f"{ROOT}/bin/worklist", at.town.copied(), "--html", f"{folder}/site/{WORKLIST}", "--today", today,
              "--agency", f"{folder}/source-agency.json", "--roster", f"{folder}/source-roster.csv"]
     made = subprocess.run(words, capture_output=True, text=True)
     if made.returncode:

@@ -1,8 +1,11 @@
 """A town to try the pages in: a desk, the site before it, the files of the site, and a clock that both read."""
 import contextlib
+import glob
 import http.client
 import json
 import os
+import shutil
+import sqlite3
 import ssl
 import subprocess
 import time
@@ -69,6 +72,17 @@ class Town:
 
     def stop_desk(self):
         self.desk.stop()
+
+    def copied(self):
+        """A copy of the desk's file, as a backup makes it of the halted desk."""
+        file, halted, copy = self.desk.file, f"{self.folder}/halted", f"{self.folder}/copy.db"
+        self.stop_desk()
+        for path in glob.glob(f"{glob.escape(file)}*"):
+            shutil.copy(path, f"{halted}{path.removeprefix(file)}")
+        self.start_desk()
+        with contextlib.closing(sqlite3.connect(halted)) as old, contextlib.closing(sqlite3.connect(copy)) as new:
+            old.backup(new)
+        return copy
 
     def start_site(self):
         clock = "".join(f" env {name};" for name in ["LD_PRELOAD", "TZ", "FAKETIME_TIMESTAMP_FILE", "FAKETIME_NO_CACHE",
