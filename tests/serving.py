@@ -88,6 +88,14 @@ def free_port():
             return number
 
 
+def forget_clock(number):
+    """Removes what libfaketime leaves in shared memory of a killed process. A later process of the same number would have
+    the machine's own clock."""
+    for name in f"faketime_shm_{number}", f"sem.faketime_sem_{number}":
+        with contextlib.suppress(OSError):
+            os.unlink(f"/dev/shm/{name}")
+
+
 class Desk:
     """A desk that serves a file. It is killed, as by a fall of the power, when it is left."""
 
@@ -112,6 +120,7 @@ class Desk:
         self.process.kill()
         self.process.wait()
         self.process.stderr.close()
+        forget_clock(self.process.pid)
 
     def connected(self):
         return socket.create_connection(("127.0.0.1", self.port), SECONDS)
