@@ -1,4 +1,4 @@
--- What a refusal for want of a vehicle stands on, and what an audit of it shows.
+-- The facts behind a denial `no vehicle`, and what an audit of them shows.
 use Rattle.std.specs.Prelude.{◌≡◌, ℕ, List, Option, Some, None}
 use Rattle.pt_base.specs.declared.rule.Rule.TheVariants as rule
 use Rattle.pt_base.specs.declared.trip.Wish.{Wish}
@@ -18,18 +18,18 @@ use Rattle.pt_requests.specs.declared.request.Answer.{Answer}
 use Rattle.pt_requests.specs.declared.request.Answer.TheVariants as answer
 use Rattle.pt_requests.specs.declared.request.Request.TheVariants as request
 
--- the same of a question by whoever has the key: it commits nothing
+-- the result for a caller who has the key, if there is one; the question commits nothing
 abbrev pub IsInquiryBy : Option Caller → Moment → ℕ → Wish → State → Inquiry → Option State → Type 0
 IsInquiryBy None now rider wish s found left = (found ≡ inquiry.Denied rule.Key) × (left ≡ None)
 IsInquiryBy (Some me) now rider wish s found left =
     IsInquiry wish me now (wish_facts rider wish None s) found × (left ≡ None)
 
--- what comes of asking with this key for the facts of a refusal of a rider's wish at this moment
+-- the result of asking with this key, at this moment, for the facts of a refusal of a rider's wish
 abbrev pub IsFacts : List ℕ → Moment → ℕ → Wish → State → Inquiry → Option State → Type 0
 IsFacts key now rider wish s found left = IsInquiryBy (sender key s) now rider wish s found left
 
--- Where no vehicle of the facts has a place for the asked trip, whoever asks with that key in that sound state whether
--- the wish could be booked is told that there is no vehicle, and nothing else.
+-- Suppose that no vehicle of the facts has a place for the trip. Then anyone who asks with that key in that sound state
+-- whether the wish could be booked gets the answer `no vehicle`, and no other.
 abbrev pub RefusalsAreTold : Type 0
 RefusalsAreTold = (key : List ℕ) (now : Moment) (number rider : ℕ) (wish : Wish) (s : State) (found : Refusal)
     (left after : Option State) (minutes : ℕ → ℕ → Option ℕ) (told : Answer) → IsSound s →

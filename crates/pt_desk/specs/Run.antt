@@ -16,43 +16,43 @@ use Rattle.pt_store.specs.declared.keeper.StoreFault.{StoreFault}
 use Rattle.pt_store.specs.declared.keeper.StoreFault.TheVariants.{Memory, Store}
 use Rattle.pt_desk.specs.declared.running.Call.{Call}
 
--- a request that only asks
+-- a request that only reads
 abbrev pub IsRead : Request → Type 0
 IsRead (Read asked) = Unit {0}
 IsRead (Explain rider wish) = Unit {0}
 IsRead (Write asked) = ⊥
 
--- a reply that names the rule by which a request is denied
+-- a reply that names the rule that denies a request
 abbrev pub IsDenial : Result Answer StoreFault → Type 0
 IsDenial (Ok (Denied rule)) = Unit {0}
 IsDenial _ = ⊥
 
--- the call is denied, or is a read that is answered
+-- the call is denied, or it is a read with an answer
 abbrev pub IsOnlyTold : Call → Result Answer StoreFault → Type 0
 IsOnlyTold call reply = IsDenial reply ⊎ (IsRead call.request × IsOk reply)
 
--- each of these calls is so
+-- each of these calls is denied or is a read with an answer
 abbrev pub AreOnlyTold : List Call → List (Result Answer StoreFault) → Type 0
 AreOnlyTold [] [] = Unit {0}
 AreOnlyTold (call ∷ calls) (reply ∷ replies) = IsOnlyTold call reply × AreOnlyTold calls replies
 AreOnlyTold _ _ = ⊥
 
--- what a call is told by the rules, and the state that it commits, if any
+-- the rules give this call this answer, and it commits this state, if any
 abbrev pub IsOutcomeOf : Call → State → Answer → Option State → Type 0
 IsOutcomeOf call s told left = IsOutcome call.key.items call.now call.number call.request s told left
 
--- the call is answered by the rules, or is refused for want of memory and changes nothing
+-- the rules answer the call, or the error is out of memory and nothing changes
 abbrev pub AnswersCall : Call → State → State → Result Answer StoreFault → Type 0
 AnswersCall call old new reply = TellsBy old new (IsOutcomeOf call) reply
 
--- the store has failed, and each of these calls is told so
+-- the store has failed, and the reply to each of these calls says so
 abbrev pub AreRefused : List Call → List (Result Answer StoreFault) → Type 0
 AreRefused [] [] = Unit {0}
 AreRefused (call ∷ calls) (reply ∷ replies) = (reply ≡ Err Store) × AreRefused calls replies
 AreRefused _ _ = ⊥
 
--- Each reply is by the rules, or it is for want of memory and changes nothing. Once the store has failed each reply
--- says so, and nothing is said of what is left.
+-- Each reply is the rules' answer, or it is out of memory and nothing changes. Once the store has failed, each reply
+-- says so, and nothing is claimed about the state that is left.
 abbrev pub Runs : State → List Call → List (Result Answer StoreFault) → State → Type 0
 Runs old [] [] new = new ≡ old
 Runs old (call ∷ calls) (Err Store ∷ replies) new = AreRefused calls replies
@@ -62,7 +62,7 @@ Runs old (call ∷ calls) (Ok told ∷ replies) new =
 Runs old [] (reply ∷ replies) new = ⊥
 Runs old (call ∷ calls) [] new = ⊥
 
--- a call that was answered, as the laws over lists of calls speak of it: told so, and committing this, if anything
+-- an answered call as the laws over lists of calls see it, with its answer and the state that it commits, if any
 abbrev pub made : Call → Answer → Option State → Made
 made call told left = record {
   key = call.key.items;
@@ -73,7 +73,7 @@ made call told left = record {
   left = left;
 }
 
--- the calls that were answered, each told what its reply says; those that memory or the store refused are left out
+-- the answered calls with the answers in their replies; calls that failed or ran out of memory are left out
 abbrev pub AreAnswered : List Call → List (Result Answer StoreFault) → List Made → Type 0
 AreAnswered [] [] [] = Unit {0}
 AreAnswered (call ∷ calls) (Err fault ∷ replies) answered = AreAnswered calls replies answered
@@ -86,11 +86,11 @@ abbrev pub TellOfFailure : List (Result Answer StoreFault) → Type 0
 TellOfFailure [] = ⊥
 TellOfFailure (reply ∷ replies) = (reply ≡ Err Store) ⊎ TellOfFailure replies
 
--- the store answered, or memory was refused
+-- the reply is an answer, or out of memory
 abbrev pub IsServed : Result Answer StoreFault → Type 0
 IsServed reply = reply ≢ Err Store
 
--- the calls of a run that were answered, and the state that they leave
+-- the answered calls of a run, and the state that they leave
 pub record IsRunOf (old new : State) (calls : List Call) (replies : List (Result Answer StoreFault)) : Type 0 where
   pub answered : List Made
   pub after : State
@@ -98,13 +98,13 @@ pub record IsRunOf (old new : State) (calls : List Call) (replies : List (Result
   pub by_rules : AreCalls old answered after
   pub left : Each IsServed replies → new ≡ after
 
--- The calls that a run answered are a list of calls by the rules, each told what its reply says, and where the store
--- has not failed the state that they leave is what is left. So what holds of every list of calls holds of every run.
+-- The answered calls of a run are a list of calls by the rules, with the answers in their replies. If the store has not
+-- failed, they leave the state that the run leaves. So each law over lists of calls holds for every run.
 abbrev pub RunsAreCalls : Type 0
 RunsAreCalls = (old new : State) (calls : List Call) (replies : List (Result Answer StoreFault)) →
     Runs old calls replies new → IsRunOf old new calls replies
 
--- So the state that a run leaves, where the store has not failed, is what its accepted writes alone leave, each once.
+-- If the store has not failed, a run's accepted writes alone, each made once, leave the same state as the run.
 abbrev pub RunsLeaveAcceptedWrites : Type 0
 RunsLeaveAcceptedWrites = (old new : State) (calls : List Call) (replies : List (Result Answer StoreFault)) →
     Runs old calls replies new → Each IsServed replies →
@@ -116,15 +116,15 @@ pub record IsServing (s : Kept) : Type 0 where
   pub serves : s.shut ≡ 0
   pub whole : s.failures ≡ 0
 
--- A settled store with a sound content answers a call, and serves. An opening after a crash finds what the call left: a
--- call that comes again there at the same moment is told the same and changes nothing.
+-- A settled store with a sound content answers a call and still serves. An opening after a crash finds what the call
+-- left. If the call comes again there at the same moment, it gets the same answer and changes nothing.
 abbrev pub IsToldAfterACrash : Kept → Kept → Type 0
 IsToldAfterACrash before after = (call : Call) (told again : Answer) (opened : State) (left : Option State) →
     IsSound before.content → IsSettled before → IsServing after → Answers before after (IsOutcomeOf call) (Ok told) →
     after.found (Some opened) → IsOutcomeOf call opened again left →
     IsToldAgain call.key.items call.request before.content opened told again × (left ≡ None)
 
--- how a run goes on where the store has failed so often
+-- how a run continues after this number of failures
 pub record GoesOn (failures : ℕ) (old : State) (calls : List Call) (replies : List (Result Answer StoreFault))
     (new : State) : Type 0 where
   pub runs : failures ≡ 0 → Runs old calls replies new

@@ -46,7 +46,7 @@ fn answer_explain<K: Keeper>(
     Ok(explain(alloc, &facts, me, now, wish)?)
 }
 
-/// Tells what was decided, and commits the change of an accepted write.
+/// Returns the decision's answer, and commits the change of an accepted write.
 fn carry_out<K: Keeper>(keeper: &mut K, decision: Decision) -> Reply
     ensures goes { Goes (K.store keeper.old) (K.store keeper.new) (told_of decision)
         (left_of decision (K.store keeper.old).content) result }
@@ -99,7 +99,7 @@ fn answer_write<K: Keeper>(
     }
 }
 
-/// Answers one request where the store may serve.
+/// Answers one request if the store has not failed.
 fn answer_by_rules<K: Keeper>(
     alloc: Global,
     keeper: &mut K,
@@ -124,9 +124,9 @@ fn answer_by_rules<K: Keeper>(
 
 /// Answers one request by the rules.
 ///
-/// `now` is the moment at which it comes, `key` the caller's key, and `number` the caller's number for it, which
-/// only a write needs. The error is the store's, or want of memory, and then nothing is changed. Where the store is
-/// shut as the call ends, it has failed, or the error is want of memory and the store serves no more.
+/// `now` is the moment at which it comes, `key` the caller's key, and `number` the caller's number for it, which only a
+/// write needs. The error is the store's, or out of memory; then the content is unchanged. If the store is shut when
+/// the call ends, it has failed, or the error is out of memory and the store serves no more.
 pub fn answer<K: Keeper>(
     alloc: Global,
     keeper: &mut K,
@@ -137,10 +137,11 @@ pub fn answer<K: Keeper>(
 ) -> Reply
     ensures goes { Answers (K.store keeper.old) (K.store keeper.new) (IsOutcome key.now now number request.now) result }
     ensures fails { Fails (K.store keeper.old).failures (K.store keeper.new).failures result }
-    // A denial changes nothing. Nor does a read, whatever it is told.
+    // A denial changes nothing. A read changes nothing either, whatever its answer.
     ensures denied { IsDenial result → ChangesNothing (K.store keeper.old) (K.store keeper.new) result }
     ensures read { IsRead request.now → ChangesNothing (K.store keeper.old) (K.store keeper.new) result }
-    // What commits nothing, whatever it is told, leaves just the state before at a crash.
+    // If no outcome of the request commits a state, an opening after a crash finds only what it would have found
+    // before.
     ensures quiet { ((told : Answer) (left : Option State) →
         IsOutcome key.now now number request.now (K.store keeper.old).content told left → left ≡ None)
         → (o : Option State) → (K.store keeper.new).doubt ≡ 0 → (K.store keeper.new).found o

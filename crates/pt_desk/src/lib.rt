@@ -1,5 +1,5 @@
-//! The desk over a store: what a request needs is gathered, the rules decide with no store in sight, and one commit
-//! makes the change.
+//! The desk over a store: it reads the facts for a request, the rules decide without the store, and one commit makes
+//! the change.
 #![tactic(auto)]
 
 pub use answering::answer;

@@ -8,7 +8,7 @@ use pt_base::{Place, PlaceId};
 use pt_store::{Keeper, StoreFault};
 use std::alloc::{AllocError, Global};
 
-/// The numbers of these places.
+/// The numbers of these places. The error is out of memory.
 fn ids_of(alloc: Global, places: &[Place]) -> Result<Vec<PlaceId>, AllocError>
     ensures value { IfOk result (λ ids. ids.items ≡ map place_key places.now) }
 {
@@ -19,9 +19,9 @@ fn ids_of(alloc: Global, places: &[Place]) -> Result<Vec<PlaceId>, AllocError>
     Ok(ids)
 }
 
-/// The numbers of all places, rising, such as a travel table may name.
+/// The numbers of all places, in rising order: the places that a travel table may name.
 ///
-/// The error is the store's, or want of memory; nothing is ever changed.
+/// The error is the store's, or out of memory. Nothing is ever changed.
 pub fn place_ids<K: Keeper>(alloc: Global, keeper: &mut K) -> Result<Vec<PlaceId>, StoreFault>
     ensures reads { Reads (K.store keeper.old) (K.store keeper.new) (λ s. map place_key s.places) (numbers_in result) }
     ensures rising { IfOk result (λ ids. IsStrictlyIncreasing ids.items) }

@@ -8,7 +8,7 @@ use pt_requests::{Caller, Digest};
 use pt_store::{Keeper, StoreFault, gather_wish};
 use std::alloc::Global;
 
-/// What the refusal of a rider's wish would stand on, by what is planned.
+/// The facts of a refusal of a rider's wish, by the current plans.
 fn inquire<K: Keeper>(
     alloc: Global,
     keeper: &mut K,
@@ -24,7 +24,7 @@ fn inquire<K: Keeper>(
     Ok(refusal_facts(alloc, &facts, me, now, wish)?)
 }
 
-/// The same of whoever has the key, where the store may serve.
+/// The same for the caller who has the key, if the store has not failed.
 fn inquire_by_key<K: Keeper>(
     alloc: Global,
     keeper: &mut K,
@@ -41,11 +41,11 @@ fn inquire_by_key<K: Keeper>(
     inquire(alloc, keeper, &me, now, rider, wish)
 }
 
-/// What the refusal of a rider's wish stands on for want of a vehicle: the vehicles on duty that day with their routes,
-/// the trip that is asked of them, and the least driving times; or the first rule by which a caller with this key is
-/// denied before any vehicle is looked at.
+/// The facts of a refusal of a rider's wish: the vehicles on duty that day with their routes, the trip that they are
+/// asked for, and the least driving times. Otherwise the first rule that denies the caller with this key before any
+/// vehicle is looked at.
 ///
-/// `now` is the moment at which it is asked. The error is the store's, or want of memory; nothing is ever changed.
+/// `now` is the moment of the question. The error is the store's, or out of memory. Nothing is ever changed.
 pub fn facts<K: Keeper>(
     alloc: Global,
     keeper: &mut K,
@@ -56,7 +56,7 @@ pub fn facts<K: Keeper>(
 ) -> Result<Inquiry, StoreFault>
     ensures goes { Answers (K.store keeper.old) (K.store keeper.new) (IsFacts key.now now rider wish.now) result }
     ensures fails { Fails (K.store keeper.old).failures (K.store keeper.new).failures result }
-    // what comes of it is by the content, where the store is clean
+    // the result is by the content, if the store is clean
     ensures found { (K.store keeper.new).doubt ≡ 0 → IfOk result (λ found.
         IsFacts key.now now rider wish.now (K.store keeper.old).content found None) }
     ensures unchanged { ChangesNothing (K.store keeper.old) (K.store keeper.new) result }

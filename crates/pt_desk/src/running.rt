@@ -8,12 +8,12 @@ use pt_requests::Request;
 use pt_store::{Keeper, Reply};
 use std::alloc::{AllocError, Global};
 
-/// A request as it comes in: at its moment, with the caller's key and the caller's number for it.
+/// A request as it comes: its moment, the caller's key, and the caller's number for it.
 #[derive(Drop)]
 pub struct Call {
     pub now: Moment,
     pub key: Vec<u8>,
-    /// Counts a caller's writes upwards; a read's number is not looked at.
+    /// A caller's writes have rising numbers. The number of a read is ignored.
     pub number: u32,
     pub request: Request,
 }
@@ -37,10 +37,11 @@ fn answer_call<K: Keeper>(alloc: Global, keeper: &mut K, call: &Call) -> Reply
     )
 }
 
-/// Answers calls in turn, each over what the one before it left.
+/// Answers calls in turn, each in the state that the call before it left.
 ///
-/// The list of replies is made first: where there is no memory for it, no call was answered. Where the
-/// store is shut as the run ends, it has failed, or a reply is want of memory and the store serves no more.
+/// The list of replies is allocated first. If that fails, no call is answered. If the store is shut when the run ends,
+/// it has failed, or a reply is out of memory and the store serves no more. No program calls this; it states for a list
+/// what `answer` states for a request.
 pub fn run<K: Keeper>(
     alloc: Global,
     keeper: &mut K,
@@ -49,9 +50,9 @@ pub fn run<K: Keeper>(
     ensures runs { (K.store keeper.new).doubt ≡ 0
         → IfOk result (λ replies. GoesOn (K.store keeper.old).failures (K.store keeper.old).content calls.now
         replies.items (K.store keeper.new).content) }
-    // A reply that the store has failed comes only where it has, in that call or before it.
+    // A reply says that the store has failed only if it failed in that call or earlier.
     ensures told { IfOk result (λ replies. TellOfFailure replies.items → 0 < (K.store keeper.new).failures) }
-    // A run of denials, and of reads that are answered, changes nothing.
+    // A run of only denials and answered reads changes nothing.
     ensures only_told { IfOk result (λ replies. AreOnlyTold calls.now replies.items
         → ChangesNothing (K.store keeper.old) (K.store keeper.new) result) }
     ensures clean { (K.store keeper.old).doubt ≤ (K.store keeper.new).doubt }

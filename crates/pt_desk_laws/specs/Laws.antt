@@ -23,13 +23,13 @@ use Rattle.pt_desk_rules.specs.Request.TheVariants as request
 use Rattle.pt_desk_rules.specs.Write.{Write}
 use Rattle.pt_desk_rules.specs.Write.TheVariants as write
 
--- a request leaves a sound state where it finds one
+-- a request in a sound state leaves a sound state
 abbrev pub OutcomesOfSoundStatesAreSound : Type 0
 OutcomesOfSoundStatesAreSound =
     (key : List ℕ) (now : Moment) (number : ℕ) (asked : Request) (s : State) (told : Answer) (left : Option State) →
     IsSound s → IsOutcome key now number asked s told left → IsSound (state_after left s)
 
--- of the rules of a booking, for a wish under this number and by the driving times of its day, this one fails first
+-- this is the first rule of a booking to fail, for a wish under this number and by the driving times of its day
 pub record IsFirstOfBooking (facts : WriteFacts) (number : ℕ) (left_out : Option ℕ) (today : ℕ) (wish : Wish)
     (rule : Rule) : Type 0 where
   pub request : TripRequest
@@ -38,21 +38,21 @@ pub record IsFirstOfBooking (facts : WriteFacts) (number : ℕ) (left_out : Opti
   pub times : AreTimes (rows_of facts.booking.day.travel) minutes
   pub first : IsFirstFailing (booking_rules minutes (routes_for number wish facts) request) (Some rule)
 
--- the same of the trip that a write asks for, if it does
+-- the same for the trip that a write asks for, if it asks for one
 abbrev pub IsFirstOfTrip : Write → ℕ → WriteFacts → Rule → Type 0
 IsFirstOfTrip (write.Book rider wish) today facts rule =
     IsFirstOfBooking facts (facts.booking.last_trip + 1) None today wish rule
 IsFirstOfTrip (write.Change trip wish) today facts rule = IsFirstOfBooking facts trip (Some trip) today wish rule
 IsFirstOfTrip _ today facts rule = ⊥
 
--- of all rules of a write this is the first to fail: of its own, and where they all hold, of those of its trip
+-- this is the first of all rules of a write to fail: first its own rules, then those of its trip
 abbrev pub IsFirstOfAll : Write → Caller → Moment → State → Rule → Type 0
 IsFirstOfAll asked me now s rule =
     (first_failing (rules_of asked me now (facts_of asked s)) ≡ Some rule)
     ⊎ ((first_failing (rules_of asked me now (facts_of asked s)) ≡ None)
     × IsFirstOfTrip asked now.day (facts_of asked s) rule)
 
--- a new write that is denied is told the first of all its rules to fail
+-- a new write that is denied is denied by the first of all its rules to fail
 abbrev pub DenialsAreRight : Type 0
 DenialsAreRight =
     (key : List ℕ) (now : Moment) (number : ℕ) (asked : Write) (me : Caller) (s : State) (rule : Rule)

@@ -8,16 +8,16 @@ use Rattle.pt_desk_rules.specs.Step.{state_after, IsOutcome}
 use Rattle.pt_desk_rules.specs.Answer.{Answer}
 use Rattle.pt_desk_rules.specs.Request.{Request}
 
--- Two outcomes of one call in one sound state are one: the same is told, and the same is committed, if anything. So the
--- rules settle each answer, the place and the window of a trip too.
+-- A call has at most one outcome in a sound state: one reply, and one committed state or none. So the rules determine
+-- each answer, including the place and the window of a trip.
 abbrev pub OutcomesAreOne : Type 0
 OutcomesAreOne = (key : List ℕ) (now : Moment) (number : ℕ) (asked : Request) (s : State) (told other : Answer)
     (left also : Option State) → IsSound s → IsOutcome key now number asked s told left →
     IsOutcome key now number asked s other also → IsSameAnswer told other × (left ≡ also)
 
--- A crash finds a request's state before it or after it. In both the request, made again at the same moment with its
--- key and number, is told what it was told, and leaves what it left. But where it gave its caller another key and is
--- found made, it has to be sent again with that one.
+-- A crash leaves the state before a request or the state after it. In both, the request is made again at the same
+-- moment with its key and number. It gets the same answer and leaves the same state. If it gave its caller another key
+-- before the crash, it must be sent with that key.
 abbrev pub RequestsOutliveCrashes : Type 0
 RequestsOutliveCrashes = (key : List ℕ) (now : Moment) (number : ℕ) (asked : Request) (s found : State)
     (told again : Answer) (left after : Option State) → IsSound s → IsOutcome key now number asked s told left →

@@ -1,4 +1,4 @@
--- What decides what is told of a rider's trips, and that nothing else does.
+-- The answer about a rider's trips depends on a few facts, and on nothing else.
 use Rattle.std.specs.Prelude.{◌≡◌, ℕ, List, Option}
 use Rattle.pt_desk_rules.specs.Moment.{Moment}
 use Rattle.pt_desk_rules.specs.Planned.{trips_of}
@@ -8,13 +8,13 @@ use Rattle.pt_desk_rules.specs.Answer.{Answer}
 use Rattle.pt_desk_rules.specs.Read.TheVariants as read
 use Rattle.pt_desk_rules.specs.Request.TheVariants as request
 
--- two states agree on the caller with the key, or have none, and on the rider's record and trips
+-- two states agree on the caller who has the key, if any, and on the rider's record and trips
 pub record AgreeOnTrips (key : List ℕ) (rider : ℕ) (s other : State) : Type 0 where
   pub caller : sender key s ≡ sender key other
   pub record_of_rider : rider_of rider s ≡ rider_of rider other
   pub trips : trips_of rider s.trips ≡ trips_of rider other.trips
 
--- whoever asks for a rider's trips is told the same in any two states that agree on them
+-- a question about a rider's trips gets the same answer in any two states that agree on them
 abbrev pub TripsArePrivate : Type 0
 TripsArePrivate = (key : List ℕ) (now : Moment) (number rider : ℕ) (s other : State) (told also : Answer)
     (left and_left : Option State) → AgreeOnTrips key rider s other →

@@ -1,4 +1,4 @@
-//! What follows from the rules for whole lists of requests: laws, each of which is a public function with no body whose
+//! What follows from the rules for whole lists of requests. Each law is a public function with an empty body, and its
 //! contract is the theorem.
 #![tactic(auto)]
 
@@ -14,19 +14,19 @@ ghost use Rattle.pt_desk_rules.specs.Sound.{IsSound};
 ghost use Rattle.pt_desk_rules.specs.State.{State};
 ghost use Rattle.pt_desk_rules.specs.Tours.{HasTours, ShowStandingTrips};
 
-/// A law: in a sound state the vehicles of every day have routes, so a wish that is denied fails the rule that is told,
-/// first of all rules.
+/// A law: in a sound state the vehicles of every day have routes. So the rule that a denial names is the first of all
+/// rules to fail.
 pub fn sound_states_have_routes()
     ensures { (s : State) → IsSound s → HasRoutes s }
 {}
 
-/// A law: a request leaves a sound state where it finds one.
+/// A law: a request in a sound state leaves a sound state.
 pub fn outcomes_of_sound_states_are_sound()
     ensures { OutcomesOfSoundStatesAreSound }
 {}
 
-/// A law: in a sound state a new write that is denied is told the first of all its rules to fail. Where it asks for a
-/// trip, these are its own rules, and then those of a booking.
+/// A law: in a sound state a new write that is denied is denied by the first of all its rules to fail. If it asks for a
+/// trip, these are its own rules and then those of a booking.
 pub fn denials_are_right()
     ensures { DenialsAreRight }
 {}
@@ -36,22 +36,22 @@ pub fn sound_states_have_tours()
     ensures { (s : State) → IsSound s → HasTours s }
 {}
 
-/// A law: in a sound state a manifest shows no stop but those of trips that stand in its vehicle on its day.
+/// A law: in a sound state a manifest shows only stops of trips in its vehicle on its day that are not cancelled.
 pub fn manifests_show_standing_trips()
     ensures { (s : State) → IsSound s → ShowStandingTrips s }
 {}
 
-/// A law: what is told of a rider's trips depends on the caller, the rider's record and the rider's trips alone.
+/// A law: the answer about a rider's trips depends only on the caller, the rider's record and the rider's trips.
 pub fn trips_are_private()
     ensures { TripsArePrivate }
 {}
 
-/// A law: an accepted write is kept as its caller's last one, and its number is above that of the one before.
+/// A law: an accepted write is stored as its caller's last one, and its number is above the earlier one's.
 pub fn accepted_writes_are_kept()
     ensures { AcceptedWritesAreKept }
 {}
 
-/// A law: a caller's last accepted write, sent again, is told what it was told and changes nothing.
+/// A law: a caller's last accepted write, sent again, gets its first reply and changes nothing.
 pub fn repeats_are_told_the_same()
     ensures { RepeatsAreToldTheSame }
 {}
@@ -61,19 +61,19 @@ pub fn accepted_numbers_rise()
     ensures { AcceptedNumbersRise }
 {}
 
-/// A law: what is kept of a caller is its last accepted write.
+/// A law: a caller's kept request is its last accepted write.
 pub fn last_accepted_is_kept()
     ensures { LastAcceptedIsKept }
 {}
 
-/// A law: the state that calls leave is what their accepted writes alone leave, each of them once. Reads, denials and
-/// repeats leave no trace.
+/// A law: the accepted writes alone, each made once, leave the same state as all calls. Reads, denials and repeats
+/// leave no trace.
 pub fn accepted_writes_make_the_state()
     ensures { AcceptedWritesMakeTheState }
 {}
 
-/// A law: whoever does not know whether a write was accepted may send it again, under any key that is still the
-/// caller's: nothing happens twice.
+/// A law: a caller who does not know whether a write was accepted may send it again, under any key that is still the
+/// caller's. Nothing happens twice.
 pub fn writes_may_be_sent_again()
     ensures { WritesMayBeSentAgain }
 {}
@@ -83,26 +83,26 @@ pub fn denials_are_the_same_again()
     ensures { DenialsAreTheSameAgain }
 {}
 
-/// A law: a read that comes again at the same moment, with nothing between, is told the same.
+/// A law: a read that comes again at the same moment, with nothing between, gets the same answer.
 pub fn reads_are_the_same_again()
     ensures { ReadsAreTheSameAgain }
 {}
 
-/// A law: any request that comes again at the same moment, with nothing between, is told the same and changes nothing,
-/// unless it put its own caller under another key: then the key that it came with is nobody's any more.
+/// A law: any request that comes again at the same moment, with nothing between, gets the same reply and changes
+/// nothing. If it gave its own caller another key, nobody has the old key any longer.
 pub fn requests_are_the_same_again()
     ensures { RequestsAreTheSameAgain }
 {}
 
-/// A law: two outcomes of one call in one sound state are one. The rules settle each answer, the place and the window
-/// of a trip too.
+/// A law: a call has at most one outcome in a sound state. The rules determine each answer, including the place and the
+/// window of a trip.
 pub fn outcomes_are_one()
     ensures { OutcomesAreOne }
 {}
 
-/// A law: a request that is made again after a crash, at the same moment, is told what it was told and leaves what it
-/// left, whether the crash found it made or not. But one that put its own caller under another key, and is found made,
-/// has to come with that one.
+/// A law: a request that is sent again after a crash, at the same moment, gets the same reply and leaves the same
+/// state, whether the crash lost it or not. If it gave its own caller another key before the crash, it must come with
+/// that key.
 pub fn requests_outlive_crashes()
     ensures { RequestsOutliveCrashes }
 {}

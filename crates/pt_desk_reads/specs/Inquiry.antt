@@ -1,4 +1,4 @@
--- What comes of asking for what the refusal of a wish stands on.
+-- The result of asking for the facts behind a denial `no vehicle`.
 use Rattle.std.specs.Prelude.{◌≡◌, ◌≢◌, ℕ, Vec, map, Option, Some, None}
 use Rattle.std.specs.declared.alloc.Global.{Global}
 use Rattle.pt_base.specs.declared.rule.Rule.{Rule}
@@ -22,8 +22,8 @@ use Rattle.pt_desk_reads.specs.declared.explaining.Inquiry.{Inquiry}
 use Rattle.pt_desk_reads.specs.declared.explaining.Inquiry.TheVariants as inquiry
 use Rattle.pt_desk_reads.specs.Refusal.{AreWithout, Refusal}
 
--- What a refusal stands on: none of the rules before vehicles fails, and these are the vehicles on duty on the wish's
--- day with their stops, the trip that is asked of them under the next number, and the rows of driving times that hold.
+-- The facts of a refusal. None of the rules before vehicles fails. The facts are the vehicles on duty on the wish's day
+-- with their stops, the trip that they are asked for under the next number, and the rows of driving times.
 pub record AreFactsOf (wish : Wish) (today : ℕ) (facts : WriteFacts) (found : Refusal) : Type 0 where
   pub request : Request
   pub of_wish : IsRequestBy facts (next_trip facts) None today wish request
@@ -32,31 +32,31 @@ pub record AreFactsOf (wish : Wish) (today : ℕ) (facts : WriteFacts) (found : 
   pub rows : found.rows ≡ rows_of facts.booking.day.travel
   pub asked : (minutes : ℕ → ℕ → Option ℕ) → AreTimes found.rows minutes → found.asked ≡ asked_for minutes request
 
--- That a denial comes before vehicles are looked at is said where the vehicles of the day have routes.
+-- The denial comes before any vehicle is looked at. This is claimed only if the vehicles of the day have routes.
 abbrev pub IsBeforeVehicles : Wish → WriteFacts → Rule → Type 0
 IsBeforeVehicles wish facts first =
     AreRoutes (next_trip facts) (routes_for (next_trip facts) wish facts) → first ≢ rule.NoVehicle
 
--- the routes that are found of the vehicles on duty; none where they are not all routes without the trip
+-- the routes of the vehicles on duty; None if some are not routes without the trip
 abbrev pub AreRoutesOf : WriteFacts → ℕ → Wish → Option (Vec DayRoute Global) → Type 0
 AreRoutesOf facts trip wish (Some routes) =
     (map day_route routes.items ≡ routes_for trip wish facts) × AreWithout trip (map day_route routes.items)
 AreRoutesOf facts trip wish None = ¬ AreRoutes trip (routes_for trip wish facts)
 
--- What comes of asking for them where none of the rules before the trip's own fails.
+-- The result of asking for the facts, if none of the rules before the trip's own fails.
 abbrev pub IsInquiryAfter : Wish → ℕ → WriteFacts → Inquiry → Type 0
 IsInquiryAfter wish today facts (inquiry.Facts found) = AreFactsOf wish today facts found
 IsInquiryAfter wish today facts (inquiry.Denied first) =
     IsExplainedAfter None wish today facts (answer.Denied first) × IsBeforeVehicles wish facts first
 
--- What comes of asking for the facts of a refusal: the facts, or the first rule by which the wish is denied.
+-- The result of asking for the facts of a refusal: the facts, or the first rule that denies the wish.
 abbrev pub IsInquiry : Wish → Caller → Moment → WriteFacts → Inquiry → Type 0
 IsInquiry wish me now facts (inquiry.Facts found) =
     (first_failing (explain_rules wish me facts) ≡ None) × AreFactsOf wish now.day facts found
 IsInquiry wish me now facts (inquiry.Denied first) =
     IsExplained wish me now facts (answer.Denied first) × IsBeforeVehicles wish facts first
 
--- Where no vehicle of the facts has a place for the asked trip, the wish is denied `no vehicle`.
+-- If no vehicle of the facts has a place for the trip, the wish is denied `no vehicle`.
 abbrev pub RefusalsAreShown : Type 0
 RefusalsAreShown = (wish : Wish) (me : Caller) (now : Moment) (facts : WriteFacts) (found : Refusal)
     (minutes : ℕ → ℕ → Option ℕ) → IsInquiry wish me now facts (inquiry.Facts found) → AreTimes found.rows minutes →

@@ -1,17 +1,17 @@
--- What the refusal of a wish stands on.
+-- The facts behind a denial `no vehicle`: a refusal.
 use Rattle.std.specs.Prelude.{ℕ, ◌<◌, List, All, AllPairs}
 use Rattle.pt_booking.specs.Planning.{OnDuty}
 use Rattle.pt_insertion.specs.Insertion.{IsWithout}
 use Rattle.pt_insertion.specs.declared.asked.Asked.{Asked}
 use Rattle.pt_travel.specs.Chain.{Row}
 
--- the vehicles on duty on the day with their stops, the trip that is asked of them, and the rows of driving times
+-- the vehicles on duty on the day with their stops, the trip that they are asked for, and the rows of driving times
 pub record Refusal : Type 0 where
   pub vehicles : List OnDuty
   pub asked : Asked
   pub rows : List Row
 
--- the vehicles stand by rising number, and none has a stop of this trip
+-- the vehicles are in order of rising number, and none has a stop of this trip
 pub record AreWithout (trip : ℕ) (vehicles : List OnDuty) : Type 0 where
   pub rising : AllPairs (λ first second. first.vehicle.id < second.vehicle.id) vehicles
   pub new_trip : All (λ duty. IsWithout trip duty.stops) vehicles

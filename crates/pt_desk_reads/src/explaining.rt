@@ -24,10 +24,10 @@ use pt_travel::Closed;
 use std::alloc::{AllocError, Global};
 use std::marker::Model;
 
-/// What the refusal of a wish stands on.
+/// The facts of a refusal.
 ///
-/// A contract sees the vehicles on duty on the wish's day, by rising number, with their stops; the trip that is asked
-/// of them; and the rows of driving times that hold on the day.
+/// A contract sees the vehicles on duty on the wish's day, by rising number, with their stops; the trip that they are
+/// asked for; and the rows of driving times for the day.
 #[derive(Drop)]
 pub struct RefusalFacts {
     routes: Vec<DayRoute>,
@@ -52,7 +52,8 @@ impl Model for RefusalFacts {
 }
 
 impl RefusalFacts {
-    /// The vehicles on duty with their routes, by rising number; no route has a stop of the asked trip.
+    /// The vehicles on duty with their routes, by rising number. No route has a stop of the asked trip. The error is
+    /// out of memory.
     pub fn duties(&self, alloc: Global) -> Result<Vec<Duty<'_>>, AllocError>
         ensures vehicles { IfOk result (λ duties. on_duty duties.items ≡ self.now.vehicles) }
         ensures rising { IfOk result (λ duties.
@@ -63,7 +64,7 @@ impl RefusalFacts {
         duties_of(alloc, &self.routes)
     }
 
-    /// The trip that is asked of the vehicles, under the number that it would get.
+    /// The trip that the vehicles are asked for, under the number that it would get.
     pub fn asked(&self) -> &Asked
         ensures value { result.now ≡ self.now.asked }
     {
@@ -78,16 +79,16 @@ impl RefusalFacts {
     }
 }
 
-/// What comes of asking for the facts of a refusal.
+/// The result of asking for the facts of a refusal.
 #[derive(Drop)]
 pub enum Inquiry {
-    /// What the refusal stands on, if the wish is refused for want of a vehicle.
+    /// The facts, if the wish is refused because no vehicle can serve it.
     Facts(RefusalFacts),
-    /// The first rule that fails before any vehicle is looked at.
+    /// The first rule to fail before any vehicle is looked at.
     Denied(Rule),
 }
 
-/// The first rule by which an explanation is denied, before the rules of the trip itself.
+/// The first rule that denies an explanation, before the rules of the trip itself.
 fn explain_denial(facts: &WriteFacts, me: &Caller, wish: &Wish) -> Option<Rule>
     ensures value { result ≡ first_failing (explain_rules wish.now me.now facts.now) }
 {
@@ -109,7 +110,7 @@ fn next_trip(facts: &WriteFacts) -> TripId
     TripId::of(facts.booking.last_trip + 1).unwrap()
 }
 
-/// What is told where a booking would end so.
+/// The answer, if a booking would end like this.
 fn told_of(found: &Scheduled) -> Answer
     ensures { IsToldPossible found.now result }
 {
@@ -119,7 +120,8 @@ fn told_of(found: &Scheduled) -> Answer
     }
 }
 
-/// Tells a caller whether a rider's wish could be booked at the moment `now`, or by which rule it would be denied.
+/// Says whether a rider's wish could be booked at the moment `now`, or which rule would deny it. The error is out of
+/// memory.
 pub fn explain(
     alloc: Global,
     facts: &WriteFacts,
@@ -146,7 +148,7 @@ fn table_of(alloc: Global, facts: &WriteFacts, day: Day) -> Result<TravelTable, 
     }
 }
 
-/// The vehicles on duty on the wish's day with their routes without this trip; `None` where the stops of one are no
+/// The vehicles on duty on the wish's day with their routes without this trip; `None` if the stops of one are not a
 /// route.
 fn routes_of(
     alloc: Global,
@@ -171,7 +173,7 @@ fn routes_of(
     Ok(Some(routes))
 }
 
-/// The facts by which a wish would be refused for want of a vehicle, where none of its other rules fails.
+/// The facts of a refusal, if none of the wish's other rules fails.
 fn inquire(
     alloc: Global,
     facts: &WriteFacts,
@@ -202,8 +204,8 @@ fn inquire(
     }
 }
 
-/// What the refusal of a rider's wish at the moment `now` would stand on, or the first rule by which the wish is denied
-/// to the caller before any vehicle is looked at.
+/// The facts of a refusal of a rider's wish at the moment `now`, or the first rule that denies the wish before any
+/// vehicle is looked at. The error is out of memory.
 pub fn refusal_facts(
     alloc: Global,
     facts: &WriteFacts,

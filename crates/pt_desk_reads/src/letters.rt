@@ -10,7 +10,7 @@ use pt_requests::{Answer, Caller, Determination, Letter};
 use pt_rights::{CaseFile, Entered};
 use std::alloc::AllocError;
 
-/// The letter of an entry; `None` where its kind has none.
+/// The letter of an entry; `None` if its kind has none. The error is out of memory.
 fn letter_of(rider: &Rider, entered: &Entered) -> Result<Option<Letter>, AllocError>
     ensures { IfOk result (λ letter. letter ≡ letter_of rider.now entered.now) }
 {
@@ -41,7 +41,7 @@ fn letter_at(
     }
 }
 
-/// What is told of the letter of an entry.
+/// The answer about the letter of an entry.
 pub(crate) fn tell_letter(
     facts: &ReadFacts,
     me: &Caller,

@@ -1,5 +1,4 @@
-//! What a read is told, and a question whether a wish could be booked; and what a refusal for want of a vehicle stands
-//! on.
+//! The answers to reads and to questions whether a wish could be booked, and the facts behind a denial `no vehicle`.
 #![tactic(auto)]
 
 pub use explaining::{Inquiry, RefusalFacts, explain, refusal_facts};

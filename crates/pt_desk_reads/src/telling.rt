@@ -23,7 +23,7 @@ fn visitor_may_use(alloc: Global, trips: &[Trip], day: Day) -> Result<bool, Allo
     Ok(visitor_may(uses.as_slice(), day))
 }
 
-/// What is told of a rider of this kind on a day.
+/// The answer about a rider of this kind on a day.
 fn told_of_kind(
     alloc: Global,
     kind: Residence,
@@ -44,7 +44,7 @@ fn told_of_kind(
     }
 }
 
-/// What is told of the rider's standing on a day.
+/// The answer about the rider's standing on a day.
 fn tell_standing(
     alloc: Global,
     facts: &ReadFacts,
@@ -64,7 +64,7 @@ fn tell_standing(
     }
 }
 
-/// What is told of the rider's trips.
+/// The answer about the rider's trips.
 fn tell_trips(facts: ReadFacts, me: &Caller, rider: RiderId) -> Answer
     ensures { (now : Moment) → IsTold (Trips rider) me.now now facts result }
 {
@@ -77,7 +77,7 @@ fn tell_trips(facts: ReadFacts, me: &Caller, rider: RiderId) -> Answer
     }
 }
 
-/// What is told of the trips of a day.
+/// The answer about the trips of a day.
 fn tell_export(facts: ReadFacts, me: &Caller) -> Answer
     ensures { (now : Moment) (day : ℕ) → IsTold (Export day) me.now now facts result }
 {
@@ -87,7 +87,7 @@ fn tell_export(facts: ReadFacts, me: &Caller) -> Answer
     Answer::Export(facts.trips)
 }
 
-/// What a read by this caller is told at the moment `now`.
+/// The answer to a read by this caller at the moment `now`. The error is out of memory.
 pub fn tell(
     alloc: Global,
     facts: ReadFacts,

@@ -26,7 +26,7 @@ use pt_requests::{Answer, Caller, DaySheet, Tour, TourStop, VehicleSheet};
 use pt_scheduling::route_on;
 use std::alloc::{AllocError, Global};
 
-/// The window that was promised for a pickup; `None` at a drop.
+/// The promised window of a pickup; `None` at a drop.
 fn window_of(kind: StopKind, trip: &Trip) -> Option<Window>
     ensures { result ≡ window_of kind trip.now }
 {
@@ -39,7 +39,7 @@ fn window_of(kind: StopKind, trip: &Trip) -> Option<Window>
     }
 }
 
-/// Where a stop of a trip is.
+/// The place of a trip's stop.
 fn place_of(kind: StopKind, trip: &Trip) -> PlaceId
     ensures { result ≡ place_of kind trip.now }
 {
@@ -49,7 +49,7 @@ fn place_of(kind: StopKind, trip: &Trip) -> PlaceId
     }
 }
 
-/// A service time, as a minute of the day in which its window ends.
+/// A service time as a minute of the day. It is at most `latest`, the end of its window.
 fn minute_of(time: u16, latest: Minute) -> Minute
     requires { time ≤ latest }
     ensures { result ≡ time }
@@ -123,7 +123,7 @@ fn tour_at(
     })
 }
 
-/// The tour of a vehicle over its route, by the driving times of a table; `None` where it has none.
+/// The tour of a vehicle over its route, by the driving times of a table; `None` if it has none.
 fn tour_of(
     alloc: Global,
     route: &Route,
@@ -144,7 +144,7 @@ fn tour_of(
     }
 }
 
-/// The tour of a vehicle on duty on a day; `None` where it has none.
+/// The tour of a vehicle on duty on a day; `None` if it has none.
 fn tour_on(
     alloc: Global,
     day: Day,
@@ -164,7 +164,7 @@ fn tour_on(
     tour_of(alloc, &route, &facts.trips, vehicle, &table)
 }
 
-/// What a vehicle on duty does on a day.
+/// The sheet of a vehicle on duty on a day.
 fn sheet_of(
     alloc: Global,
     day: Day,
@@ -180,7 +180,7 @@ fn sheet_of(
     })
 }
 
-/// What a vehicle does on a day, on duty or not.
+/// The sheet of a vehicle on a day, on duty or not.
 fn manifest_of(
     alloc: Global,
     id: VehicleId,
@@ -199,7 +199,7 @@ fn manifest_of(
     }
 }
 
-/// What each of these vehicles does on a day.
+/// The sheet of each of these vehicles on a day.
 fn sheets_of(
     alloc: Global,
     day: Day,
@@ -215,7 +215,7 @@ fn sheets_of(
     Ok(sheets)
 }
 
-/// How many of the trips stand.
+/// The number of trips that are not cancelled.
 fn standing_count(trips: &[Trip]) -> usize
     ensures { result ≡ standing_count trips.now }
 {
@@ -228,7 +228,7 @@ fn standing_count(trips: &[Trip]) -> usize
     count
 }
 
-/// What all vehicles on duty do on a day.
+/// The sheets of all vehicles on duty on a day.
 fn day_sheet_of(alloc: Global, day: Day, facts: &ReadFacts) -> Result<DaySheet, AllocError>
     ensures { IfOk result (λ sheet. IsDaySheet day facts.now.vehicles facts.now.day sheet) }
 {
@@ -240,7 +240,7 @@ fn day_sheet_of(alloc: Global, day: Day, facts: &ReadFacts) -> Result<DaySheet, 
     })
 }
 
-/// What is told of what a vehicle does on a day.
+/// The answer about a vehicle's manifest on a day.
 pub(crate) fn tell_manifest(
     alloc: Global,
     facts: &ReadFacts,
@@ -260,7 +260,7 @@ pub(crate) fn tell_manifest(
     Ok(Answer::Manifest { day, sheet })
 }
 
-/// What is told of what all vehicles on duty do on a day.
+/// The answer about the day sheet of all vehicles on duty.
 pub(crate) fn tell_day_sheet(
     alloc: Global,
     facts: &ReadFacts,

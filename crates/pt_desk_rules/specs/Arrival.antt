@@ -1,11 +1,11 @@
--- How a write comes in beside its caller's last accepted one.
+-- How a write's number relates to its caller's last accepted write.
 use Rattle.std.specs.Prelude.{ℕ, ◌==◌, ◌&&◌, nat_lt, if◌then◌else◌, bytes_eq, List, Option, Some, None}
 use Rattle.pt_desk_rules.specs.declared.kept.Arrival.{Arrival}
 use Rattle.pt_desk_rules.specs.declared.kept.Arrival.TheVariants.{New, Repeated, Stale}
 use Rattle.pt_desk_rules.specs.declared.kept.Kept.{Kept}
 
--- A caller's numbers rise: a write is new with a number above that of the last accepted one. With that one's number and
--- its spelling it is the same write again. Where none was accepted, each number but 0 is new.
+-- A caller's numbers rise. A write is new if its number is above that of the last accepted one. It is repeated if it
+-- has that one's number and spelling. If none was accepted, each number but 0 is new.
 abbrev pub arrival_of : ℕ → List ℕ → Option Kept → Arrival
 arrival_of number request None = if nat_lt 0 number then New else Stale
 arrival_of number request (Some kept) =

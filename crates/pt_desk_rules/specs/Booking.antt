@@ -1,4 +1,4 @@
--- What is decided of a trip that is asked for, by the facts alone.
+-- The decision on a trip that is asked for, from the facts alone.
 use Rattle.std.specs.Prelude.{◌≡◌, ℕ, List, [], Option, Some, None}
 use Rattle.pt_base.specs.declared.trip.Trip.{Trip}
 use Rattle.pt_base.specs.declared.trip.Wish.{Wish}
@@ -25,8 +25,8 @@ use Rattle.pt_desk_rules.specs.declared.facts.WriteFacts.{WriteFacts}
 use Rattle.pt_requests.specs.declared.request.Answer.TheVariants as answer
 use Rattle.pt_requests.specs.declared.request.Confirmation.{Confirmation}
 
--- the request that the facts make of a wish, for a trip of this number; an old trip that it stands for is left out of a
--- visitor's days of use
+-- The request that the facts make of a wish, for a trip of this number. If it changes an old trip, that trip is left
+-- out of a visitor's days of use.
 pub record IsRequestBy (facts : WriteFacts) (number : ℕ) (left_out : Option ℕ) (today : ℕ) (wish : Wish)
     (request : Request) : Type 0 where
   pub trip : request.trip ≡ number
@@ -40,7 +40,7 @@ pub record IsRequestBy (facts : WriteFacts) (number : ℕ) (left_out : Option �
   pub day : request.today ≡ today
   pub wished : request.wish ≡ wish
 
--- what a request is made of beside these facts
+-- what a request needs in addition to these facts
 pub record IsAsking (left_out : Option ℕ) (wish : Wish) (facts : WriteFacts) (asking : Asking) : Type 0 where
   pub rider : facts.rider ≡ Some asking.rider
   pub from : record_at place_key wish.from facts.places ≡ Some asking.from
@@ -56,32 +56,32 @@ rows_of (Some table) = table.rows
 abbrev pub AreTimes : List Row → (ℕ → ℕ → Option ℕ) → Type 0
 AreTimes rows minutes = (from to : ℕ) → IsTime rows from to (minutes from to)
 
--- the vehicles on duty on the wish's day, with their stops but for those of this trip
+-- the vehicles on duty on the wish's day, with their stops except those of this trip
 abbrev pub routes_for : ℕ → Wish → WriteFacts → List OnDuty
 routes_for number wish facts =
     routes_without number wish.day facts.booking.day.trips facts.booking.day.plans (on_duty wish.day facts.vehicles)
 
--- the same of a state
+-- the same for a state
 abbrev pub routes_on : ℕ → ℕ → State → List OnDuty
 routes_on number day s =
     routes_without number day (trips_on day s.trips) (planned_on day s.planned) (on_duty day s.vehicles)
 
--- the vehicles of every day have routes, which is what the first failing rule of a denial is said for
+-- The vehicles of every day have routes. Only then do the contracts say which rule of a denied trip fails first.
 abbrev pub HasRoutes : State → Type 0
 HasRoutes s = (number day : ℕ) → AreRoutes number (routes_on number day s)
 
--- a denial is told; a trip that is booked is confirmed, and changes the tables so
+-- the decision of a scheduled trip: a denial, or a confirmation and this change of the tables
 abbrev pub IsToldOf : (Trip → Plan → Change) → Scheduled → Decision → Type 0
 IsToldOf change (scheduled.Denied rule) decided = decided ≡ Denied rule
 IsToldOf change (scheduled.Booked trip plan) decided =
     (told : Confirmation) × IsConfirmation trip told × (decided ≡ Accepted (answer.Booked told) (change trip plan))
 
--- what comes of a request by the driving times of these rows
+-- the result of a request, by the driving times of these rows
 abbrev pub IsScheduledBy : List Row → List OnDuty → Request → Scheduled → Type 0
 IsScheduledBy rows vehicles request scheduled =
     (minutes : ℕ → ℕ → Option ℕ) × AreTimes rows minutes × IsScheduled minutes vehicles request scheduled
 
--- what comes of a wish for a trip of this number
+-- the result of a wish for a trip of this number
 abbrev pub IsAnswered : ℕ → Option ℕ → ℕ → Wish → WriteFacts → Scheduled → Type 0
 IsAnswered number left_out today wish facts scheduled =
     (request : Request) × IsRequestBy facts number left_out today wish request

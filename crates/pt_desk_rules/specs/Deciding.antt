@@ -1,4 +1,4 @@
--- What the rules make of a request, by the facts alone.
+-- The decision on a request, from the facts alone.
 use Rattle.std.specs.Prelude.{◌≡◌, ℕ, ◌+◌, ◌<◌, ◌↔◌, Bool, IsTrue, List, length, Option, Some, None, is_some}
 use Rattle.std.specs.Option.{unwrap_or}
 use Rattle.pt_base.specs.declared.rider.Residence.{Residence}
@@ -46,16 +46,16 @@ use Rattle.pt_requests.specs.declared.request.Read.TheVariants as read
 use Rattle.pt_requests.specs.declared.request.Write.{Write}
 use Rattle.pt_requests.specs.declared.request.Write.TheVariants as write
 
--- what is kept of a write by this caller, once it is told so
+-- the kept request of this caller after a write with this reply
 abbrev pub kept_by : ℕ → Sent → KeptReply → Kept
 kept_by caller sent reply =
     record { caller = caller; number = sent.number; request = sent.request; reply = reply }
 
--- what is put of the write once it is told this
+-- the edit that stores the kept request of a write with this answer
 abbrev pub kept_of : ℕ → Sent → Answer → Edit Kept
 kept_of caller sent told = puts_one (kept_by caller sent (unwrap_or (reply_of told) reply.Done))
 
--- the decision with what is kept of the write: an accepted one is kept with what it is told
+-- the decision together with its kept request: an accepted write is stored with its answer
 abbrev pub with_kept : ℕ → Sent → Decision → Decision
 with_kept caller sent (Denied first) = Denied first
 with_kept caller sent (Accepted told change) =
@@ -77,19 +77,19 @@ no_change = record {
   last_trip = None;
 }
 
--- what is made of a trip that is booked: the next number is given to it
+-- the change for a trip that is booked: it gets the next number
 abbrev pub booked : Trip → Plan → Change
 booked trip plan = record no_change { trips = puts_one trip; planned = puts_one plan; last_trip = Some trip.id }
 
--- of one that is changed: its stops are taken from where they were
+-- for one that is changed: its old stops are removed
 abbrev pub changed : Trip → Option Plan → Trip → Plan → Change
 changed old left new plan = record no_change { trips = puts_one new; planned = moves_to old left plan }
 
--- and of one that is cancelled
+-- for one that is cancelled
 abbrev pub given_up : Trip → Option Plan → Change
 given_up trip left = record no_change { trips = puts_one (cancelled trip); planned = gives_up trip left }
 
--- the change of a trip that is there: it is asked for anew under its number, as if it were not booked
+-- the change of a trip that exists: it is asked for anew under its number, as if it were not booked
 abbrev pub IsChangeDecided : Option Trip → Wish → ℕ → WriteFacts → Decision → Type 0
 IsChangeDecided None wish today facts decided = ⊥
 IsChangeDecided (Some trip) wish today facts decided =
@@ -99,14 +99,14 @@ abbrev pub IsCancelDecided : Option Trip → WriteFacts → Decision → Type 0
 IsCancelDecided None facts decided = ⊥
 IsCancelDecided (Some trip) facts decided = decided ≡ Accepted answer.Done (given_up trip facts.booking.plan)
 
--- the outcome of a trip that is there
+-- the outcome of a trip that exists
 abbrev pub IsEndDecided : Option Trip → Outcome → Decision → Type 0
 IsEndDecided None outcome decided = ⊥
 IsEndDecided (Some trip) outcome decided =
     decided ≡ Accepted answer.Done (record no_change { trips = puts_one (ended outcome trip) })
 
--- What is decided on a write by this author on the day today where none of its own rules fails: what it is told, and
--- what it changes beside what is kept of it. The rules of a trip that is asked for come after those.
+-- The decision on a write by this author on the day today, if none of the write's own rules fails: its answer, and its
+-- change except the kept request. The rules of a trip that is asked for come after the write's own.
 abbrev pub IsDecidedBy : Write → ℕ → ℕ → WriteFacts → Decision → Type 0
 IsDecidedBy (write.PutCaller new) author today facts decided =
     decided ≡ Accepted answer.Done (record no_change { callers = puts_one new })
@@ -139,7 +139,7 @@ IsDecidedBy (write.Change trip wish) author today facts decided =
 IsDecidedBy (write.Cancel trip) author today facts decided = IsCancelDecided facts.booking.trip facts decided
 IsDecidedBy (write.Outcome trip outcome) author today facts decided = IsEndDecided facts.booking.trip outcome decided
 
--- where none of its own rules fails, what a trip needs is there
+-- if none of its own rules fails, what a trip needs is there
 abbrev pub IsReady : Write → WriteFacts → Type 0
 IsReady (write.Book rider wish) facts =
     IsTrue (is_some facts.rider) × IsTrue (has_ends wish facts.places) × (facts.booking.last_trip < last_trip_number)
@@ -149,7 +149,7 @@ IsReady (write.Cancel trip) facts = IsTrue (is_some facts.booking.trip)
 IsReady (write.Outcome trip outcome) facts = IsTrue (is_some facts.booking.trip)
 IsReady _ facts = Unit {0}
 
--- the decision where the first failing of a write's own rules, if any, is this one
+-- the decision, if this is the first of the write's own rules to fail, or none fails
 abbrev pub IsDecisionAfter : Option Rule → Write → Caller → Moment → Sent → WriteFacts → Decision → Type 0
 IsDecisionAfter (Some first) asked me now sent facts decided = decided ≡ Denied first
 IsDecisionAfter None asked me now sent facts decided =
@@ -160,13 +160,13 @@ abbrev pub IsDecision : Write → Caller → Moment → Sent → WriteFacts → 
 IsDecision asked me now sent facts decided =
     IsDecisionAfter (first_failing (rules_of asked me now facts)) asked me now sent facts decided
 
--- what an accepted write puts keeps to the ranges of its records
+-- the records that an accepted write puts are in their ranges
 abbrev pub PutsInRangeIf : Decision → Type 0
 PutsInRangeIf (Denied first) = Unit {0}
 PutsInRangeIf (Accepted told change) = PutsInRange change
 
--- what is told of a rider of this kind on a day: of a visitor, whether the day may be used beside the days of the
--- visitor's trips (37.127(e)); of a resident, what the case file gives
+-- The answer about a rider of this kind on a day. For a visitor: whether the day may be used in addition to the days of
+-- the visitor's trips (37.127(e)). For a resident: what the case file gives.
 abbrev pub IsToldOfKind : Residence → List Entered → List Trip → ℕ → ℕ → Answer → Type 0
 IsToldOfKind Visitor file trips today day told =
     (uses : List ℕ) × AreUses None trips uses × (may_use : Bool) × (IsTrue may_use ↔ MayUse uses day)
@@ -174,12 +174,12 @@ IsToldOfKind Visitor file trips today day told =
 IsToldOfKind Resident file trips today day told =
     told ≡ answer.Standing (standing_of file today day) (is_suspended file day)
 
--- what is told of the standing of a rider, who is there
+-- the answer about the standing of a rider, who must exist
 abbrev pub IsToldStanding : Option Rider → List Entered → List Trip → ℕ → ℕ → Answer → Type 0
 IsToldStanding None file trips today day told = ⊥
 IsToldStanding (Some there) file trips today day told = IsToldOfKind there.kind file trips today day told
 
--- what a read is told on the day today, where no rule fails
+-- the answer to a read on the day today, if no rule fails
 abbrev pub IsToldRead : Read → ℕ → ReadFacts → Answer → Type 0
 IsToldRead (read.Standing rider day) today facts told =
     IsToldStanding facts.rider facts.file facts.trips today day told
@@ -192,11 +192,11 @@ IsToldRead (read.DaySheet day) today facts told =
     (sheet : DaySheet) × IsDaySheet day facts.vehicles facts.day sheet × (told ≡ answer.DaySheet sheet)
 IsToldRead (read.Export day) today facts told = told ≡ answer.Export facts.trips
 
--- what a read is told where the first failing rule, if any, is this one
+-- the answer to a read, if this rule is the first to fail, or none fails
 abbrev pub IsToldAfter : Option Rule → Read → ℕ → ReadFacts → Answer → Type 0
 IsToldAfter (Some first) asked today facts told = told ≡ answer.Denied first
 IsToldAfter None asked today facts told = IsToldRead asked today facts told
 
--- what a read by this caller is told at this moment
+-- the answer to a read by this caller at this moment
 abbrev pub IsTold : Read → Caller → Moment → ReadFacts → Answer → Type 0
 IsTold asked me now facts told = IsToldAfter (first_failing (read_rules asked me facts)) asked now.day facts told

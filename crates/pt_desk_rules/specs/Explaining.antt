@@ -1,4 +1,4 @@
--- What a dispatcher is told who asks whether a wish could be booked.
+-- The answer to a dispatcher who asks whether a wish could be booked.
 use Rattle.std.specs.Prelude.{◌≡◌, ℕ, ◌+◌, Option, Some, None}
 use Rattle.pt_base.specs.declared.rule.Rule.{Rule}
 use Rattle.pt_base.specs.declared.trip.Wish.{Wish}
@@ -17,18 +17,18 @@ use Rattle.pt_requests.specs.declared.request.Answer.TheVariants as answer
 abbrev pub next_trip : WriteFacts → ℕ
 next_trip facts = facts.booking.last_trip + 1
 
--- what is told where a booking would end so: a trip that could be booked is possible
+-- the answer, if a booking would end like this: a trip that could be booked is possible
 abbrev pub IsToldPossible : Scheduled → Answer → Type 0
 IsToldPossible (scheduled.Booked trip plan) told = told ≡ answer.Possible
 IsToldPossible (scheduled.Denied rule) told = told ≡ answer.Denied rule
 
--- what is told on the day today where the first failing rule before the trip's own, if any, is this one
+-- the answer on the day today, if this rule before the trip's own is the first to fail, or none fails
 abbrev pub IsExplainedAfter : Option Rule → Wish → ℕ → WriteFacts → Answer → Type 0
 IsExplainedAfter (Some first) wish today facts told = told ≡ answer.Denied first
 IsExplainedAfter None wish today facts told =
     (found : Scheduled) × IsAnswered (next_trip facts) None today wish facts found × IsToldPossible found told
 
--- what this caller is told of a wish at this moment
+-- the answer to this caller about a wish at this moment
 abbrev pub IsExplained : Wish → Caller → Moment → WriteFacts → Answer → Type 0
 IsExplained wish me now facts told =
     IsExplainedAfter (first_failing (explain_rules wish me facts)) wish now.day facts told

@@ -1,4 +1,4 @@
--- What the rules look at.
+-- The facts that the rules read.
 use Rattle.std.specs.Prelude.{ℕ, Bool, true, false, List, [], length, Option, Some, None, is_some}
 use Rattle.pt_base.specs.declared.policy.Policy.{Policy}
 use Rattle.pt_base.specs.declared.rider.Residence.{Residence}
@@ -29,7 +29,7 @@ use Rattle.pt_requests.specs.declared.request.Read.TheVariants as read
 use Rattle.pt_requests.specs.declared.request.Write.{Write}
 use Rattle.pt_requests.specs.declared.request.Write.TheVariants as write
 
--- nothing planned
+-- nothing is planned
 abbrev pub no_day : DayFacts
 no_day = record { travel = None; trips = []; plans = [] }
 
@@ -67,13 +67,13 @@ no_facts policy = record {
   booking = no_booking;
 }
 
--- the rider or the vehicle that a role speaks of is there
+-- the rider or the vehicle that a role names exists
 abbrev pub has_subject : Role → List Rider → List Vehicle → Bool
 has_subject (role.Rider rider) riders vehicles = is_some (record_at rider_key rider riders)
 has_subject (role.Driver vehicle) riders vehicles = has_version vehicle vehicles
 has_subject _ riders vehicles = true
 
--- what every booking looks at
+-- the facts that every booking reads
 abbrev pub agency_facts : State → WriteFacts
 agency_facts s = record (no_facts s.policy) { places = s.places; vehicles = s.vehicles }
 
@@ -82,17 +82,17 @@ abbrev pub plan_for : Option Trip → State → Option Plan
 plan_for None s = None
 plan_for (Some trip) s = plan_of trip.vehicle trip.wish.day s
 
--- a visitor's days of use are those of the visitor's trips (37.127(e)); of a resident no days are counted
+-- A visitor's days of use are those of the visitor's trips (37.127(e)). No days are counted for a resident.
 abbrev pub counted_trips : Residence → List Trip → List Trip
 counted_trips Visitor trips = trips
 counted_trips Resident trips = []
 
--- the trips by which the days of this rider, if there is one, are counted
+-- the trips that count as days of use for this rider, if there is one
 abbrev pub trips_counted_for : Option Rider → List Trip → List Trip
 trips_counted_for None trips = []
 trips_counted_for (Some rider) trips = counted_trips rider.kind (trips_of rider.id trips)
 
--- what the wish of this rider for a day looks at, where it stands for this trip, if any
+-- the facts for this rider's wish for a day; `old` is the trip that it changes, if any
 abbrev pub booking_facts : Option Rider → ℕ → Option Trip → State → BookingFacts
 booking_facts rider day old s = record {
   trip = old;
@@ -110,12 +110,12 @@ wish_facts rider wish old s = record (agency_facts s) {
   booking = booking_facts (rider_of rider s) wish.day old s;
 }
 
--- what the change of a trip looks at, if it is there
+-- the facts for the change of a trip, if it exists
 abbrev pub change_facts : Option Trip → Wish → State → WriteFacts
 change_facts None wish s = agency_facts s
 change_facts (Some trip) wish s = wish_facts trip.rider wish (Some trip) s
 
--- and what its cancellation looks at
+-- the facts for its cancellation
 abbrev pub cancel_facts : Option Trip → State → WriteFacts
 cancel_facts None s = no_facts s.policy
 cancel_facts (Some trip) s = record (no_facts s.policy) {
@@ -123,16 +123,16 @@ cancel_facts (Some trip) s = record (no_facts s.policy) {
   booking = record no_booking { trip = Some trip; plan = plan_for (Some trip) s };
 }
 
--- a notice looks at the outcomes of the rider's trips (37.125(h)), and no other entry does
+-- only a notice reads the outcomes of the rider's trips (37.125(h))
 abbrev pub tallies_for : Entry → ℕ → State → List Tally
 tallies_for (entry.Notice basis) rider s = tallies_of (trips_of rider s.trips)
 tallies_for _ rider s = []
 
--- what an outcome looks at: its trip
+-- the facts for an outcome: its trip
 abbrev pub trip_facts : ℕ → State → WriteFacts
 trip_facts trip s = record (no_facts s.policy) { booking = record no_booking { trip = trip_of trip s } }
 
--- what the state says on what a write's rules look at
+-- the facts that a write's rules read in a state
 abbrev pub facts_of : Write → State → WriteFacts
 facts_of (write.PutCaller new) s = record (no_facts s.policy) {
   has_subject = has_subject new.role s.riders s.vehicles;
@@ -170,11 +170,11 @@ facts_of (write.Outcome trip outcome) s = trip_facts trip s
 abbrev pub no_read_facts : ReadFacts
 no_read_facts = record { rider = None; file = []; trips = []; vehicles = []; day = no_day }
 
--- what manifests look at
+-- the facts for manifests
 abbrev pub tour_facts : ℕ → State → ReadFacts
 tour_facts day s = record no_read_facts { vehicles = s.vehicles; day = day_of day s }
 
--- and on what a read's rules look at
+-- the facts that a read's rules read in a state
 abbrev pub read_facts_of : Read → State → ReadFacts
 read_facts_of (read.Standing rider day) s = record no_read_facts {
   rider = rider_of rider s;

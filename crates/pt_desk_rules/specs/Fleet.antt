@@ -1,4 +1,4 @@
--- The agency's vehicles, each from day to day: a version of a vehicle is in force from its day until the next one's.
+-- The agency's vehicles and their versions. A version is in force from its day until the next version's day.
 use Rattle.std.specs.Prelude.{ℕ, ◌+◌, ◌≤◌, ◌==◌, ◌&&◌, nat_le, nat_lt, Bool, false, not, if◌then◌else◌, List, []}
 use Rattle.std.specs.Prelude.{◌∷◌, filter, find, slice_get, Option}
 use Rattle.std.specs.Option.{unwrap_or}
@@ -7,7 +7,7 @@ use Rattle.pt_base.specs.Day.{weekday_of}
 use Rattle.pt_base.specs.Ranges.{last_minute}
 use Rattle.pt_base.specs.declared.vehicle.Vehicle.{Vehicle}
 
--- it is back by the last minute of the day
+-- the vehicle is back by the last minute of the day
 abbrev pub ClosesInDay : Vehicle → Type 0
 ClosesInDay version = version.closes ≤ last_minute
 
@@ -15,7 +15,7 @@ ClosesInDay version = version.closes ≤ last_minute
 abbrev pub has_version : ℕ → List Vehicle → Bool
 has_version id vehicles = list_any (λ version. version.id == id) vehicles
 
--- how many vehicles these are versions of: each is counted at the last of its versions
+-- the number of different vehicles in the list: each is counted at the last of its versions
 abbrev pub vehicle_count : List Vehicle → ℕ
 vehicle_count [] = 0
 vehicle_count (version ∷ later) = if has_version version.id later then vehicle_count later else vehicle_count later + 1
@@ -36,15 +36,15 @@ abbrev pub is_newer : ℕ → Vehicle → Vehicle → Bool
 is_newer day version other =
     other.id == version.id && nat_lt version.from_day other.from_day && nat_le other.from_day day
 
--- the version's day has come, and that of no later version of its vehicle
+-- the version's day has come, and no later version's day has come
 abbrev pub is_in_force : ℕ → List Vehicle → Vehicle → Bool
 is_in_force day vehicles version = nat_le version.from_day day && not (list_any (is_newer day version) vehicles)
 
--- it has the day's weekday
+-- the version runs on the day's weekday
 abbrev pub has_weekday : ℕ → Vehicle → Bool
 has_weekday day version = unwrap_or (slice_get version.days (weekday_of day)) false
 
--- a version is on duty on a day when it is in force then, and has its weekday
+-- a version is on duty on a day if it is in force and runs on that weekday
 abbrev pub is_on_duty : ℕ → List Vehicle → Vehicle → Bool
 is_on_duty day vehicles version = is_in_force day vehicles version && has_weekday day version
 

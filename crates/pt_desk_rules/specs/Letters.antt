@@ -14,12 +14,12 @@ letter_of rider entered =
     option_map (λ decision. record { rider = rider; day = entered.day; decision = decision })
     (decision_of entered.entry)
 
--- the letter of the entry at this position of a rider's case file, if there are a rider, an entry and a letter
+-- the letter of the entry at this position of a rider's case file; None without rider, entry or letter
 abbrev pub letter_at : Option Rider → List Entered → ℕ → Option Letter
 letter_at None file position = None
 letter_at (Some rider) file position = option_and_then (letter_of rider) (slice_get file position)
 
--- the letter is told, where there is one
+-- the answer is the letter; it must exist
 abbrev pub IsToldLetter : Option Letter → Answer → Type 0
 IsToldLetter None told = ⊥
 IsToldLetter (Some letter) told = told ≡ answer.Letter letter

@@ -1,4 +1,4 @@
--- How trips end, and which of a rider's trips count in a pattern of missed ones (49 CFR 37.125(h)).
+-- How trips end, and which of a rider's trips count as a pattern of missed trips (49 CFR 37.125(h)).
 use Rattle.std.specs.Prelude.{ℕ, nat_le, Bool, false, List, Option, Some, None}
 use Rattle.std.specs.List.{filter_map}
 use Rattle.std.specs.Option.{option_map}
@@ -10,27 +10,27 @@ use Rattle.pt_rights.specs.declared.tally.Outcome.TheVariants as outcome
 use Rattle.pt_rights.specs.declared.tally.Tally.{Tally}
 use Rattle.pt_desk_rules.specs.Trips.{is_booked}
 
--- how far a trip has come that ended so
+-- the status of a trip with this outcome
 abbrev pub status_of : Outcome → TripStatus
 status_of outcome.Ridden = status.Ridden
 status_of outcome.MissedRider = status.MissedRider
 status_of outcome.MissedOperator = status.MissedOperator
 
--- the trip, ended so
+-- the trip with this outcome
 abbrev pub ended : Outcome → Trip → Trip
 ended end trip = record trip { status = status_of end }
 
--- a trip that is there awaits its outcome: it is booked, and has neither ended nor been cancelled
+-- a trip that exists awaits its outcome: it is booked, and has neither ended nor been cancelled
 abbrev pub awaits_outcome : Option Trip → Bool
 awaits_outcome None = false
 awaits_outcome (Some trip) = is_booked trip.status
 
--- the day of a trip that is there has come
+-- the day of a trip that exists has come
 abbrev pub has_come : ℕ → Option Trip → Bool
 has_come today None = false
 has_come today (Some trip) = nat_le trip.wish.day today
 
--- the outcome of a trip that has come so far, if it has one
+-- the outcome of a trip with this status, if it has one
 abbrev pub outcome_of : TripStatus → Option Outcome
 outcome_of status.Booked = None
 outcome_of status.Cancelled = None

@@ -1,5 +1,5 @@
--- The tables that hold records: what each holds, where it stands in a state and in a change, and its key. Whatever is said
--- of all of them is said of a part.
+-- The tables that hold records: what each holds, its place in a state and in a change, and its key. A definition over
+-- all of them speaks of a part.
 use Rattle.std.specs.Prelude.{ℕ, List}
 use Rattle.pt_base.specs.declared.place.Place.{Place}
 use Rattle.pt_base.specs.declared.rider.Rider.{Rider}
@@ -28,7 +28,7 @@ pub data Part : Type 0 where
   trips : Part
   planned : Part
 
--- what its records are
+-- the type of its records
 abbrev pub record_in : Part → Type 0
 record_in callers = Caller
 record_in kept = Kept
@@ -54,7 +54,7 @@ records_of travel s = s.travel
 records_of trips s = s.trips
 records_of planned s = s.planned
 
--- what a change makes of it
+-- its edit in a change
 abbrev pub edit_of : (p : Part) → Change → Edit (record_in p)
 edit_of callers change = change.callers
 edit_of kept change = change.kept
@@ -67,7 +67,7 @@ edit_of travel change = change.travel
 edit_of trips change = change.trips
 edit_of planned change = change.planned
 
--- the key that orders it
+-- its key
 abbrev pub key_in : (p : Part) → record_in p → ℕ
 key_in callers = caller_key
 key_in kept = kept_key

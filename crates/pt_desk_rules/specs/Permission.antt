@@ -7,27 +7,27 @@ use Rattle.pt_rights.specs.declared.entry.Entry.TheVariants as entry
 use Rattle.pt_requests.specs.declared.caller.Role.{Role}
 use Rattle.pt_requests.specs.declared.caller.Role.TheVariants as role
 
--- the caller is the admin
+-- the caller is an admin
 abbrev pub is_admin : Role → Bool
 is_admin role.Admin = true
 is_admin _ = false
 
--- a clerk
+-- the caller is a clerk
 abbrev pub is_clerk : Role → Bool
 is_clerk role.Clerk = true
 is_clerk _ = false
 
--- a dispatcher
+-- the caller is a dispatcher
 abbrev pub is_dispatcher : Role → Bool
 is_dispatcher role.Dispatcher = true
 is_dispatcher _ = false
 
--- an examiner
+-- the caller is an examiner
 abbrev pub is_examiner : Role → Bool
 is_examiner role.Examiner = true
 is_examiner _ = false
 
--- an officer
+-- the caller is an officer
 abbrev pub is_officer : Role → Bool
 is_officer role.Officer = true
 is_officer _ = false
@@ -84,12 +84,12 @@ may_run vehicle (role.Driver own) = own == vehicle
 may_run vehicle role.Dispatcher = true
 may_run vehicle _ = false
 
--- a trip that is not there is nobody's own
+-- a driver may end only a trip that exists
 abbrev pub may_end : Option Trip → Role → Bool
 may_end None role = is_dispatcher role
 may_end (Some trip) role = may_run trip.vehicle role
 
--- a trip that is not there is nobody's own
+-- a rider may change or cancel only a trip that exists
 abbrev pub may_alter : Option Trip → Option Rider → Role → Bool
 may_alter None found role = is_counter role
 may_alter (Some trip) found role = may_book trip.rider found role

@@ -1,5 +1,5 @@
--- What the fields of records keep to, where definitions see no more than numbers and lists: a number of a record is one
--- of 32 bits from 1 on, a day is a day, a minute one of a day. Ranges that a record keeps itself are not said again.
+-- The ranges of the fields of records, which definitions see only as numbers and lists. A record's number has 32 bits
+-- and is at least 1; days and minutes are in range. Ranges that a record's own type states are not repeated here.
 use Rattle.std.specs.Prelude.{ℕ, ◌≤◌, ◌<◌, ◌^◌, IfSome}
 use Rattle.pt_base.specs.Day.{IsDay}
 use Rattle.pt_base.specs.Ranges.{last_minute}
@@ -59,7 +59,7 @@ pub record FitsPlan (plan : Plan) : Type 0 where
   pub day : IsDay plan.day
   pub stops : Each FitsStop plan.stops
 
--- one row of a travel table, a drive
+-- one row of a travel table, which is a drive
 abbrev pub FitsDrive : Row → Type 0
 FitsDrive drive = IsId drive.0 × IsId drive.1 × (drive.2 < 2 ^ 16)
 
@@ -68,7 +68,7 @@ pub record FitsTravel (dated : DatedTable) : Type 0 where
   pub drives : Each FitsDrive dated.rows
   pub table : IsTable dated.rows
 
--- what a record of a table keeps to
+-- the ranges of a table's records
 abbrev pub FitsIn : (p : Part) → record_in p → Type 0
 FitsIn part.callers = IsCaller
 FitsIn part.kept = FitsKept
@@ -81,12 +81,12 @@ FitsIn part.travel = FitsTravel
 FitsIn part.trips = FitsTrip
 FitsIn part.planned = FitsPlan
 
--- each record of the state keeps to its ranges, and so does the number that was last given to a trip
+-- each record of the state is in its ranges, and so is the number of the last trip
 pub record KeepsRanges (s : State) : Type 0 where
   pub parts : (p : Part) → Each (FitsIn p) (records_of p s)
   pub last_trip : IsWord s.last_trip
 
--- and so does each record that a change puts
+-- each record that a change puts is in its ranges, and so is its trip number
 pub record PutsInRange (change : Change) : Type 0 where
   pub parts : (p : Part) → Each (FitsIn p) (edit_of p change).puts
   pub last_trip : IfSome change.last_trip IsWord

@@ -1,4 +1,4 @@
--- The rules of each request by whoever sent it, in the order in which they are tried.
+-- The rules of each request by its sender, in the order in which they are tried.
 use Rattle.std.specs.Prelude.{ℕ, Bool, true, not, ◌==◌, ◌&&◌, ◌||◌, nat_lt, List, [], ◌∷◌, length}
 use Rattle.std.specs.Prelude.{Option, Some, None, is_some}
 use Rattle.std.specs.List.{list_all}
@@ -31,18 +31,18 @@ use Rattle.pt_requests.specs.declared.request.Read.TheVariants as read
 use Rattle.pt_requests.specs.declared.request.Write.{Write}
 use Rattle.pt_requests.specs.declared.request.Write.TheVariants as write
 
--- each place of the rows is among these
+-- both places of each row are in the list
 abbrev pub are_there : List Row → List Place → Bool
 are_there rows places =
     list_all (λ row. is_some (record_at place_key row.0 places) && is_some (record_at place_key row.1 places)) rows
 
--- what stands beside a new version of a vehicle leaves room for it
+-- the other vehicles, and the earlier versions of this one, leave room for a new version
 abbrev pub has_room_for : Vehicle → List Vehicle → Bool
 has_room_for new vehicles =
     nat_lt (length (versions_before new.id new.from_day vehicles)) most_versions
     && nat_lt (vehicle_count (versions_of_others new.id vehicles)) most_vehicles
 
--- nobody, or the caller of this number
+-- there is no such caller, or it is the caller of this number
 abbrev pub is_nobody_else : ℕ → Option Caller → Bool
 is_nobody_else id None = true
 is_nobody_else id (Some there) = there.id == id
@@ -52,26 +52,26 @@ abbrev pub is_of_kind : Residence → Rider → Bool
 is_of_kind Resident there = is_resident there.kind
 is_of_kind Visitor there = not (is_resident there.kind)
 
--- nobody, or a rider of this kind
+-- there is no such rider, or the rider is of this kind
 abbrev pub is_nobody_of_another_kind : Residence → Option Rider → Bool
 is_nobody_of_another_kind kind None = true
 is_nobody_of_another_kind kind (Some there) = is_of_kind kind there
 
--- an entry's own rules, by this author on the day today, for the rider who was found
+-- the rules of an entry by this author on the day today, for the rider with this record
 abbrev pub entry_rules : Option Rider → Entry → ℕ → ℕ → WriteFacts → List (Rule × Bool)
 entry_rules None entry today author facts = []
 entry_rules (Some there) entry today author facts =
     admission_rules facts.file there entry today author facts.tallies facts.policy
 
--- what a rider's wish needs before the rules of the trip itself: the rider and both places are there, and there is a
--- number for the trip
+-- What a rider's wish needs before the rules of the trip itself: the rider and both places exist, and a trip number is
+-- left.
 abbrev pub wish_rules : Wish → WriteFacts → List (Rule × Bool)
 wish_rules wish facts =
     (rule.Unknown, is_some facts.rider && has_ends wish facts.places)
     ∷ (rule.Full, nat_lt facts.booking.last_trip last_trip_number)
     ∷ []
 
--- the rules of an explanation by this caller: dispatchers ask for it, and it is tried as a booking from there on
+-- the rules of an explanation: only a dispatcher may ask, and the rest are those of a booking
 abbrev pub explain_rules : Wish → Caller → WriteFacts → List (Rule × Bool)
 explain_rules wish me facts = (rule.Caller, is_dispatcher me.role) ∷ wish_rules wish facts
 

@@ -1,4 +1,4 @@
--- The states that the desk may be in: its limits, its orders and its references are kept.
+-- The states that the desk may be in: they keep its limits, its orders and its references.
 use Rattle.std.specs.List.{list_any}
 use Rattle.std.specs.Prelude.{◌≡◌, ℕ, ◌+◌, ◌<◌, ◌≤◌, ◌==◌, IsTrue, List, [], ◌∷◌, length, Any, Option, Some, is_some}
 use Rattle.pt_base.specs.Day.{IsDay}
@@ -30,35 +30,35 @@ use Rattle.pt_requests.specs.declared.caller.Caller.{Caller}
 use Rattle.pt_desk_rules.specs.declared.kept.Kept.{Kept}
 use Rattle.pt_desk_rules.specs.declared.change.FiledEntry.{FiledEntry}
 
--- a record with this key is there
+-- a record with this key is in the list
 abbrev pub IsIn : {A : Type 0} → (A → ℕ) → List A → ℕ → Type 0
 IsIn key xs k = IsTrue (is_some (record_at key k xs))
 
--- no two callers have one digest
+-- no two callers have the same digest
 abbrev pub HasOneHolder : List Caller → Caller → Type 0
 HasOneHolder callers a = Each (λ b. a.digest ≡ b.digest → a.id ≡ b.id) callers
 
--- the rider or the vehicle that a caller's role speaks of is there
+-- the rider or the vehicle that a caller's role names exists
 abbrev pub HasSubject : List Rider → List Vehicle → Caller → Type 0
 HasSubject riders vehicles caller = IsTrue (has_subject caller.role riders vehicles)
 
 abbrev pub IsOfCaller : List Caller → Kept → Type 0
 IsOfCaller callers kept = IsIn caller_key callers kept.caller
 
--- an accepted write: its number is one, and its bytes spell a request that may be asked
+-- an accepted write: its number is at least 1, and its bytes spell a valid request
 pub record IsKeptWrite (kept : Kept) : Type 0 where
   pub numbered : 0 < kept.number
   pub spelled : IsSpelling kept.request
 
--- the rider in whose case file an entry is, is there
+-- the rider of the entry's case file exists
 abbrev pub HasFiledRider : List Rider → FiledEntry → Type 0
 HasFiledRider riders filed = IsIn rider_key riders filed.rider
 
--- who entered it is a caller
+-- the author of the entry is a caller
 abbrev pub HasAuthor : List Caller → FiledEntry → Type 0
 HasAuthor callers filed = IsIn caller_key callers filed.entered.author
 
--- the positions of these entries count up from this number, with no gap
+-- the positions of these entries count up from n with no gap
 abbrev pub AreNumberedFrom : ℕ → List FiledEntry → Type 0
 AreNumberedFrom n [] = Unit {0}
 AreNumberedFrom n (filed ∷ later) = (filed.position ≡ n) × AreNumberedFrom (n + 1) later
@@ -68,11 +68,11 @@ pub record IsSoundFile (entries : List FiledEntry) : Type 0 where
   pub numbered : AreNumberedFrom 0 entries
   pub within : length entries ≤ most_entries
 
--- a version's first day is a day
+-- a version's first day is in the range of days
 abbrev pub HasFirstDay : Vehicle → Type 0
 HasFirstDay version = IsDay version.from_day
 
--- its depot is there
+-- its depot exists
 abbrev pub HasDepot : List Place → Vehicle → Type 0
 HasDepot places version = IsIn place_key places version.depot
 
@@ -81,41 +81,41 @@ pub record IsFleet (vehicles : List Vehicle) : Type 0 where
   pub few : vehicle_count vehicles ≤ most_vehicles
   pub few_versions : (id : ℕ) → length (versions_of id vehicles) ≤ most_versions
 
--- the rows of a travel table name places that are there
+-- the places in the rows of a travel table exist
 abbrev pub IsOfPlaces : List Place → DatedTable → Type 0
 IsOfPlaces places table = IsTrue (are_there table.rows places)
 
--- a trip has a number that was given
+-- a trip's number is at most the last number given
 abbrev pub IsNumberedTo : ℕ → Trip → Type 0
 IsNumberedTo last trip = trip.id ≤ last
 
--- the rider of a trip is there
+-- the rider of a trip exists
 abbrev pub IsOfRider : List Rider → Trip → Type 0
 IsOfRider riders trip = IsIn rider_key riders trip.rider
 
--- and so are both its places
+-- both places of a trip exist
 abbrev pub HasPlaces : List Place → Trip → Type 0
 HasPlaces places trip = IsIn place_key places trip.wish.from × IsIn place_key places trip.wish.to
 
--- the trip of this number stands in the vehicle and on the day of this key
+-- the trip of this number is not cancelled, and its vehicle and day have this key
 abbrev pub StandsIn : List Trip → ℕ → ℕ → Type 0
 StandsIn trips key number =
     (trip : Trip) × (record_at trip_key number trips ≡ Some trip) × IsTrue (stands trip.status)
     × (pair_key trip.vehicle trip.wish.day ≡ key)
 
--- the stops of a plan are those of trips that stand in its vehicle on its day
+-- the stops of a plan are those of trips in its vehicle on its day that are not cancelled
 abbrev pub HasStandingTrips : List Trip → Plan → Type 0
 HasStandingTrips trips plan = Each (λ stop. StandsIn trips (plan_key plan) stop.trip) plan.stops
 
--- the day of a trip is a day
+-- the day of a trip is in the range of days
 abbrev pub HasDay : Trip → Type 0
 HasDay trip = IsDay trip.wish.day
 
--- and so is that of a plan
+-- the day of a plan is in the range of days
 abbrev pub IsOnDay : Plan → Type 0
 IsOnDay plan = IsDay plan.day
 
--- where a trip stands, the plan of its vehicle on its day has it
+-- if a trip is not cancelled, the plan of its vehicle on its day has it
 abbrev pub IsPlanned : List Plan → Trip → Type 0
 IsPlanned plans trip = IsTrue (stands trip.status) →
     IsTrue (list_any (λ stop. stop.trip == trip.id) (planned_stops trip.vehicle trip.wish.day plans))
@@ -129,7 +129,7 @@ abbrev pub CanDrive : List Row → List Stop → Vehicle → Type 0
 CanDrive rows stops vehicle =
     (minutes : ℕ → ℕ → Option ℕ) × AreTimes rows minutes × IsFeasible minutes vehicle stops
 
--- by the driving times of these rows there are service times at which the vehicle keeps its limits at the stops
+-- by the driving times of these rows there are service times that keep the vehicle's limits at the stops
 abbrev pub HasTimes : List Row → List Stop → Vehicle → Type 0
 HasTimes rows stops vehicle =
     (minutes : ℕ → ℕ → Option ℕ) × AreTimes rows minutes × (b : List ℕ) × TimesFit minutes vehicle stops b
@@ -144,13 +144,12 @@ DrivesIn vehicles travel trips plan =
     HoldsOnDuty (HasTimes (rows_of (table_on plan.day travel)) (stops_among trips plan.stops))
     vehicles plan.vehicle plan.day
 
--- and has seats and wheelchair places for all who are aboard after each of them
+-- the vehicle has seats and wheelchair places for all who are aboard after each stop
 abbrev pub LoadsFitIn : List Vehicle → List Trip → Plan → Type 0
 LoadsFitIn vehicles trips plan =
     HoldsOnDuty (λ version. LoadsFit version (stops_among trips plan.stops)) vehicles plan.vehicle plan.day
 
--- Each line but the first speaks of the tables that it needs and of no other, so that a write of another table leaves
--- it as it is.
+-- Each line but the first speaks only of the tables that it needs. So a write to another table keeps that line true.
 pub record IsSound (s : State) : Type 0 where
   pub ranges : KeepsRanges s
   pub callers : IsTable caller_key most_callers s.callers

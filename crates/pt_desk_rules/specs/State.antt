@@ -1,4 +1,4 @@
--- What the desk keeps, how much of it, and what a change makes of it.
+-- The desk's tables, their limits, and the result of a change.
 use Rattle.std.specs.Prelude.{ℕ, List, [], ◌∷◌, Option, bytes_eq, find, map, take}
 use Rattle.std.specs.Option.{unwrap_or}
 use Rattle.pt_base.specs.declared.place.Place.{Place}
@@ -19,7 +19,7 @@ use Rattle.pt_desk_rules.specs.declared.kept.Kept.{Kept}
 use Rattle.pt_desk_rules.specs.declared.change.Change.{Change}
 use Rattle.pt_desk_rules.specs.declared.change.FiledEntry.{FiledEntry}
 
--- each table in the order of its keys
+-- each table is in the order of its keys
 pub record State : Type 0 where
   pub callers : List Caller
   -- the last accepted write of each caller that has one
@@ -28,13 +28,13 @@ pub record State : Type 0 where
   pub places : List Place
   pub routes : List Route
   pub riders : List Rider
-  -- the entries of all case files, by their riders and their positions in the file
+  -- the entries of all case files, ordered by rider and by position in the file
   pub entries : List FiledEntry
-  -- each vehicle as it is from a day on
+  -- each vehicle as it is from a day on, as versions
   pub vehicles : List Vehicle
   pub travel : List DatedTable
   pub trips : List Trip
-  -- the routes of the vehicles from day to day, with the stops of the trips that stand
+  -- the routes of the vehicles from day to day, with the stops of the trips that are not cancelled
   pub planned : List Plan
   -- the number that was last given to a trip
   pub last_trip : ℕ
@@ -56,7 +56,7 @@ new_state callers policy = record {
   last_trip = 0;
 }
 
--- the most of each table
+-- the limits of the tables
 abbrev pub most_callers : ℕ
 most_callers = 1_000
 
@@ -72,7 +72,7 @@ most_riders = 100_000
 abbrev pub most_vehicles : ℕ
 most_vehicles = 50
 
--- of one vehicle
+-- the limit of one vehicle's versions
 abbrev pub most_versions : ℕ
 most_versions = 20
 
@@ -86,7 +86,7 @@ last_trip_number = 4_294_967_295
 abbrev pub no_edit : {A : Type 0} → Edit A
 no_edit = record { away = []; puts = [] }
 
--- these are taken away, and one is put
+-- an edit that removes the records in a span and puts one
 abbrev pub replaces : {A : Type 0} → Span → A → Edit A
 replaces span new = record { away = span ∷ []; puts = new ∷ [] }
 
@@ -143,7 +143,7 @@ rider_of id s = record_at rider_key id s.riders
 abbrev pub trip_of : ℕ → State → Option Trip
 trip_of id s = record_at trip_key id s.trips
 
--- the route of a vehicle on a day, where it has stops
+-- the route of a vehicle on a day, if it has stops
 abbrev pub plan_of : ℕ → ℕ → State → Option Plan
 plan_of vehicle day s = record_at plan_key (pair_key vehicle day) s.planned
 
@@ -159,23 +159,23 @@ entries_of rider entries = within entry_key (span_of rider) entries
 abbrev pub file_with : List FiledEntry → List Entered
 file_with entries = map (λ filed. filed.entered) (take most_entries entries)
 
--- a rider's case file, empty where nothing was entered
+-- a rider's case file, empty if nothing was entered
 abbrev pub file_of : ℕ → State → List Entered
 file_of rider s = file_with (entries_of rider s.entries)
 
--- the keys of a vehicle's versions of a day and later
+-- the keys of a vehicle's versions of this day and later
 abbrev pub versions_from : ℕ → ℕ → Span
 versions_from id day = record { from = pair_key id day; to = pair_key id 4_294_967_295 }
 
--- the keys of travel tables of a day and later
+-- the keys of travel tables of this day and later
 abbrev pub tables_from : ℕ → Span
 tables_from day = record { from = day; to = 4_294_967_295 }
 
--- the travel tables that stay where one of this day is put
+-- the travel tables that stay when one of this day is put
 abbrev pub tables_before : ℕ → List DatedTable → List DatedTable
 tables_before day tables = take_away travel_key (tables_from day) tables
 
--- the state with the change made
+-- the state after the change
 abbrev pub applied : Change → State → State
 applied change s = record {
   callers = edited caller_key change.callers s.callers;

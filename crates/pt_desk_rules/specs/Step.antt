@@ -1,4 +1,4 @@
--- What each request is told, and what it leaves.
+-- The answer to each request, and the state that it commits.
 use Rattle.std.specs.Prelude.{◌≡◌, ℕ, List, Option, Some, None}
 use Rattle.sha2.specs.Sha256.{sha256}
 use Rattle.pt_base.specs.declared.rule.Rule.TheVariants as rule
@@ -25,47 +25,47 @@ use Rattle.pt_requests.specs.declared.request.Request.{Request}
 use Rattle.pt_requests.specs.declared.request.Request.TheVariants as request
 use Rattle.pt_requests.specs.declared.request.Write.{Write}
 
--- the state where this is committed, if anything
+-- the state after a commit, or the old state if there was none
 abbrev pub state_after : Option State → State → State
 state_after None s = s
 state_after (Some new) s = new
 
--- what a write is told where the rules decide so
+-- the answer to a write with this decision
 abbrev pub told_of : Decision → Answer
 told_of (Denied first) = answer.Denied first
 told_of (Accepted told change) = told
 
--- and the state that it commits, if any: a denial changes nothing
+-- the state that it commits, if any: a denial changes nothing
 abbrev pub left_of : Decision → State → Option State
 left_of (Denied first) s = None
 left_of (Accepted told change) s = Some (applied change s)
 
--- what comes with a write of this number
+-- a write's number and spelling
 abbrev pub sent_with : ℕ → Write → Sent
 sent_with number asked = record { number = number; request = spelling asked }
 
--- what a read is told, and that it commits nothing
+-- a read has this answer and commits nothing
 abbrev pub IsReadOutcome : Read → Caller → Moment → State → Answer → Option State → Type 0
 IsReadOutcome asked me now s told left = IsTold asked me now (read_facts_of asked s) told × (left ≡ None)
 
--- what is told of a rider's wish, and that it commits nothing
+-- a question about a rider's wish has this answer and commits nothing
 abbrev pub IsExplainOutcome : ℕ → Wish → Caller → Moment → State → Answer → Option State → Type 0
 IsExplainOutcome rider wish me now s told left =
     IsExplained wish me now (wish_facts rider wish None s) told × (left ≡ None)
 
--- what a write that may be asked is told by the rules, and what it commits
+-- the answer that the rules give to a valid write, and the state that it commits
 abbrev pub IsDecidedOutcome : Write → Caller → Moment → ℕ → State → Answer → Option State → Type 0
 IsDecidedOutcome asked me now number s told left =
     (decided : Decision) × IsDecision asked me now (sent_with number asked) (facts_of asked s) decided
     × (PutsInRangeIf decided × IsRequest asked)
     × (told ≡ told_of decided) × (left ≡ left_of decided s)
 
--- how a write with this number comes in beside the caller's last accepted one
+-- how a write with this number relates to the caller's last accepted one
 abbrev pub arrival_in : State → Write → Caller → ℕ → Arrival
 arrival_in s asked me number = arrival_of number (spelling asked) (kept_of me.id s)
 
--- A new write is decided by the rules. The last accepted one is told again what it was told, whatever has changed
--- since, and does nothing. Any other is denied.
+-- The rules decide on a new write. The caller's last accepted write gets its first reply again and does nothing,
+-- whatever changed since. Any other used number is denied.
 abbrev pub IsOutcomeAs : Arrival → Write → Caller → Moment → ℕ → State → Answer → Option State → Type 0
 IsOutcomeAs New asked me now number s told left = IsDecidedOutcome asked me now number s told left
 IsOutcomeAs (Repeated reply) asked me now number s told left = (told ≡ answer_of reply) × (left ≡ None)
@@ -75,7 +75,7 @@ abbrev pub IsWriteOutcome : Write → Caller → Moment → ℕ → State → An
 IsWriteOutcome asked me now number s told left =
     IsOutcomeAs (arrival_in s asked me number) asked me now number s told left
 
--- the same of a request by whoever has the key
+-- the outcome of a request by the caller who has the key, if there is one
 abbrev pub IsOutcomeBy : Option Caller → Moment → ℕ → Request → State → Answer → Option State → Type 0
 IsOutcomeBy None now number asked s told left = (told ≡ answer.Denied rule.Key) × (left ≡ None)
 IsOutcomeBy (Some me) now number (request.Read read) s told left = IsReadOutcome read me now s told left
@@ -83,10 +83,10 @@ IsOutcomeBy (Some me) now number (request.Write write) s told left = IsWriteOutc
 IsOutcomeBy (Some me) now number (request.Explain rider wish) s told left =
     IsExplainOutcome rider wish me now s told left
 
--- the caller who holds the key
+-- the caller who has the key
 abbrev pub sender : List ℕ → State → Option Caller
 sender key s = caller_with (sha256 key) s
 
--- what a request is told that comes with this key and number at this moment, and the state that it commits, if any
+-- the answer to a request with this key and number at this moment, and the state that it commits, if any
 abbrev pub IsOutcome : List ℕ → Moment → ℕ → Request → State → Answer → Option State → Type 0
 IsOutcome key now number asked s told left = IsOutcomeBy (sender key s) now number asked s told left

@@ -31,7 +31,7 @@ all_tables =
     ∷ table.Entries ∷ table.Trips ∷ table.Stops ∷ table.Travel ∷ table.RiderChairs ∷ table.VehicleChairs
     ∷ table.TripChairs ∷ []
 
--- the part whose records are a table's, if it has records of its own
+-- the part that holds a table's records, if the table has records of its own
 abbrev pub part_of : TableName → Option Part
 part_of table.Desk = None
 part_of table.Callers = Some part.callers

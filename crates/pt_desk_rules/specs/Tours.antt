@@ -29,17 +29,17 @@ use Rattle.pt_desk_rules.specs.Sound.{CanDrive}
 use Rattle.pt_desk_rules.specs.State.{State, trip_key}
 use Rattle.pt_desk_rules.specs.declared.facts.DayFacts.{DayFacts}
 
--- a pickup has the window that was promised, a drop has none
+-- a pickup has the promised window, a drop has none
 abbrev pub window_of : StopKind → Trip → Option Window
 window_of Pickup trip = Some (record { from = trip.window_from; to = trip.window_to })
 window_of Drop trip = None
 
--- where a stop of a trip is
+-- the place of a trip's stop
 abbrev pub place_of : StopKind → Trip → ℕ
 place_of Pickup trip = trip.wish.from
 place_of Drop trip = trip.wish.to
 
--- a stop of a trip as the driver reads it, where service begins at this minute and this load is aboard after it
+-- a trip's stop as the driver reads it: service begins at this minute, and this load is aboard afterwards
 abbrev pub tour_stop : StopKind → Trip → ℕ → Load → TourStop
 tour_stop kind trip minute aboard = record {
   minute = minute;
@@ -50,7 +50,7 @@ tour_stop kind trip minute aboard = record {
   aboard = aboard;
 }
 
--- what is shown of the stop of this number: its trip, when its service begins, and who is aboard after it
+-- what is shown of stop number k: its trip, the start of its service, and the load aboard afterwards
 pub record IsShownAt (trips : List Trip) (stops : List Stop) (b : List ℕ) (k : ℕ) (shown : TourStop) : Type 0 where
   pub stop : Stop
   pub trip : Trip
@@ -78,33 +78,33 @@ IsTour rows vehicle trips stops tour =
     (minutes : ℕ → ℕ → Option ℕ) × AreTimes rows minutes
     × (b : List ℕ) × IsLeastSchedule minutes vehicle stops b × IsTourAt vehicle trips stops b tour
 
--- A vehicle has a tour where it has stops, and they are a route that it can drive. In a sound state they always are.
+-- A vehicle has a tour if it has stops and can drive them as a route. In a sound state it can.
 pub record HasTour (rows : List Row) (vehicle : Vehicle) (stops : List Stop) : Type 0 where
   pub some : 0 < length stops
   pub route : IsRoute stops
   pub can_drive : CanDrive rows stops vehicle
 
--- a vehicle's tour, or that it has none
+-- a vehicle's tour, or None if it has none
 abbrev pub IsTourOrNone : List Row → Vehicle → List Trip → List Stop → Option Tour → Type 0
 IsTourOrNone rows vehicle trips stops None = ¬ HasTour rows vehicle stops
 IsTourOrNone rows vehicle trips stops (Some tour) = HasTour rows vehicle stops × IsTour rows vehicle trips stops tour
 
--- what a vehicle on duty does on a day
+-- the sheet of a vehicle on duty on a day
 pub record IsSheetOf (day : ℕ) (facts : DayFacts) (vehicle : Vehicle) (sheet : VehicleSheet) : Type 0 where
   pub number : sheet.vehicle ≡ vehicle.id
   pub tour : IsTourOrNone (rows_of facts.travel) vehicle facts.trips (stops_on day facts.trips facts.plans vehicle.id)
       sheet.tour
 
--- the manifest of a vehicle: what it does on duty, or that it has no tour
+-- the manifest of a vehicle: its sheet if it is on duty, and no tour otherwise
 abbrev pub IsManifestOf : ℕ → ℕ → DayFacts → Option Vehicle → VehicleSheet → Type 0
 IsManifestOf id day facts None sheet = sheet ≡ record { vehicle = id; tour = None }
 IsManifestOf id day facts (Some version) sheet = IsSheetOf day facts version sheet
 
--- how many trips stand
+-- the number of trips that are not cancelled
 abbrev pub standing_count : List Trip → ℕ
 standing_count trips = length (filter (λ trip. stands trip.status) trips)
 
--- what all vehicles on duty do on a day, and how many of its trips stand
+-- the sheets of all vehicles on duty on a day, and the number of the day's trips that are not cancelled
 pub record IsDaySheet (day : ℕ) (vehicles : List Vehicle) (facts : DayFacts) (sheet : DaySheet) : Type 0 where
   pub on_day : sheet.day ≡ day
   pub sheets : AllZip (IsSheetOf day facts) (on_duty day vehicles) sheet.vehicles.items
@@ -115,13 +115,13 @@ abbrev pub HasTours : State → Type 0
 HasTours s = (id day : ℕ) (sheet : VehicleSheet) → IsDay day → 0 < length (planned_stops id day s.planned)
     → IsManifestOf id day (day_of day s) (duty_of id day s.vehicles) sheet → IsTrue (is_some sheet.tour)
 
--- the trip of this number stands, in this vehicle on this day
+-- the trip of this number is in this vehicle on this day, and is not cancelled
 abbrev pub StandsOn : State → ℕ → ℕ → ℕ → Type 0
 StandsOn s id day number =
     (trip : Trip) × (record_at trip_key number s.trips ≡ Some trip) × IsTrue (stands trip.status)
     × (trip.vehicle ≡ id) × (trip.wish.day ≡ day)
 
--- a manifest shows no stop but those of trips that stand in its vehicle on its day
+-- a manifest shows only stops of trips in its vehicle on its day that are not cancelled
 abbrev pub ShowStandingTrips : State → Type 0
 ShowStandingTrips s = (id day : ℕ) (sheet : VehicleSheet) (tour : Tour) (k : ℕ) (shown : TourStop) → IsDay day
     → IsManifestOf id day (day_of day s) (duty_of id day s.vehicles) sheet → sheet.tour ≡ Some tour

@@ -17,7 +17,7 @@ use Rattle.pt_scheduling.specs.declared.planned.PlannedStop.{PlannedStop}
 use Rattle.pt_desk_rules.specs.State.{place_key}
 use Rattle.pt_requests.specs.declared.request.Confirmation.{Confirmation}
 
--- both places of a wish are there
+-- both places of a wish exist
 abbrev pub has_ends : Wish → List Place → Bool
 has_ends wish places = is_some (record_at place_key wish.from places) && is_some (record_at place_key wish.to places)
 
@@ -30,14 +30,14 @@ abbrev pub is_changeable : ℕ → Option Trip → Bool
 is_changeable today None = false
 is_changeable today (Some trip) = is_booked trip.status && nat_lt today trip.wish.day
 
--- and cancelled until its promised window begins
+-- a booked trip may be cancelled until its promised window begins
 abbrev pub is_cancellable : Moment → Option Trip → Bool
 is_cancellable now None = false
 is_cancellable now (Some trip) =
     is_booked trip.status
     && (nat_lt now.day trip.wish.day || (now.day == trip.wish.day && nat_lt now.minute trip.window_from))
 
--- what is told of a trip that is booked
+-- the confirmation of a booked trip
 pub record IsConfirmation (trip : Trip) (told : Confirmation) : Type 0 where
   pub number : told.trip ≡ trip.id
   pub vehicle : told.vehicle ≡ trip.vehicle
@@ -46,28 +46,28 @@ pub record IsConfirmation (trip : Trip) (told : Confirmation) : Type 0 where
   pub fare : told.fare ≡ trip.fare
   pub due : told.due ≡ due_of trip.fare (party_of trip.wish)
 
--- the trip is given up
+-- the trip with the status cancelled
 abbrev pub cancelled : Trip → Trip
 cancelled trip = record trip { status = Cancelled }
 
--- the key of the plan that has a trip's stops
+-- the key of the plan that has a trip's stops, as a span
 abbrev pub plan_span : Trip → Span
 plan_span trip = record { from = pair_key trip.vehicle trip.wish.day; to = pair_key trip.vehicle trip.wish.day }
 
--- a plan of these stops in a trip's vehicle on its day, if there are any
+-- a plan of these stops in a trip's vehicle on its day; no plan if there are no stops
 abbrev pub plan_of_stops : Trip → List PlannedStop → List Plan
 plan_of_stops trip [] = []
 plan_of_stops trip (stop ∷ stops) =
     record { vehicle = trip.vehicle; day = trip.wish.day; stops = stop ∷ stops } ∷ []
 
--- a trip's stops are taken out of the plan that has them
+-- an edit that removes a trip's stops from their plan
 abbrev pub gives_up : Trip → Option Plan → Edit Plan
 gives_up trip plan = record {
   away = plan_span trip ∷ [];
   puts = plan_of_stops trip (without trip.id (stops_of_plan plan));
 }
 
--- and a new plan is put beside what is left
+-- an edit that removes them and puts a new plan
 abbrev pub moves_to : Trip → Option Plan → Plan → Edit Plan
 moves_to trip plan new = record {
   away = plan_span trip ∷ [];

@@ -21,7 +21,7 @@ use pt_requests::Answer;
 use pt_scheduling::{DayPlans, PlannedRoute, Scheduled, days_of_use, schedule};
 use std::alloc::{AllocError, Global};
 
-/// Schedules a request over what is planned for its day.
+/// Schedules a request over the plans of its day. The error is out of memory.
 fn schedule_on(
     alloc: Global,
     day: &DayFacts,
@@ -53,7 +53,7 @@ fn place_at(places: &Rows<Place>, id: PlaceId) -> Place
     *places.find(&Key::of(id.number())).unwrap()
 }
 
-/// What a request is made of beside the facts: the rider, the places of both ends, and a visitor's days of use.
+/// What a request needs in addition to the facts: the rider, both places, and a visitor's days of use.
 #[derive(Drop)]
 pub struct Asking {
     pub rider: Rider,
@@ -64,7 +64,7 @@ pub struct Asking {
 }
 
 impl Asking {
-    /// The same of the facts; the trip that is left out makes no day of use.
+    /// Takes them from the facts. The trip `left_out` makes no day of use. The error is out of memory.
     pub fn of(
         alloc: Global,
         facts: &WriteFacts,
@@ -111,7 +111,7 @@ impl Asking {
     }
 }
 
-/// Schedules a wish for a trip of this number; the trip that is left out makes no day of use.
+/// Schedules a wish for a trip of this number. The trip `left_out` makes no day of use. The error is out of memory.
 pub fn answer_wish(
     alloc: Global,
     facts: &WriteFacts,
@@ -130,7 +130,7 @@ pub fn answer_wish(
     schedule_on(alloc, &facts.booking.day, &vehicles, &request)
 }
 
-/// A trip that is booked is confirmed.
+/// Accepts with the confirmation of a booked trip.
 fn confirmed(trip: &Trip, change: Change) -> Decision
     ensures { (told : Confirmation) × IsConfirmation trip.now told × (result ≡ Accepted (Booked told) change) }
 {

@@ -20,7 +20,7 @@ pub struct FiledEntry {
     pub entered: Entered,
 }
 
-/// What one write makes of the tables, all of it or nothing.
+/// The edits of one write, made all together or not at all.
 #[derive(Drop)]
 pub struct Change {
     pub callers: Edits<Caller>,
@@ -35,7 +35,7 @@ pub struct Change {
     pub travel: Edits<TravelTable>,
     pub trips: Edits<Trip>,
     pub planned: Edits<PlannedRoute>,
-    /// The number that is given to a new trip.
+    /// The number of a new trip.
     pub last_trip: Option<TripId>,
 }
 
@@ -61,7 +61,7 @@ impl Change {
     }
 }
 
-/// One record that is put.
+/// An edit that puts one record. The error is out of memory.
 pub(crate) fn one<T: Keyed + Drop>(alloc: Global, new: T) -> Result<Edits<T>, AllocError>
     ensures { IfOk result (λ edits. edits ≡ puts_one new) }
 {
@@ -70,7 +70,7 @@ pub(crate) fn one<T: Keyed + Drop>(alloc: Global, new: T) -> Result<Edits<T>, Al
     Ok(edits)
 }
 
-/// One record that is put in place of those with these keys.
+/// An edit that puts one record instead of those in the span. The error is out of memory.
 pub(crate) fn replacing<T: Keyed + Drop>(
     alloc: Global,
     span: Span,

@@ -21,12 +21,12 @@ use pt_spelling::KeptReply;
 use pt_travel::Raw;
 use std::alloc::{AllocError, Global};
 
-/// What the rules make of a write.
+/// The rules' decision on a write.
 #[derive(Drop)]
 pub enum Decision {
     /// The first rule that it breaks.
     Denied(Rule),
-    /// What it is told, and what it changes.
+    /// Its answer, and its change of the tables.
     Accepted { answer: Answer, change: Change },
 }
 
@@ -41,7 +41,7 @@ fn versions_from(new: &Vehicle) -> Span
     }
 }
 
-/// The keys of the travel tables that one of this day replaces.
+/// The keys of the travel tables that a table of this day replaces.
 fn tables_from(day: Day) -> Span
     ensures value { result ≡ tables_from day }
     ensures day { IsDay day }
@@ -52,7 +52,7 @@ fn tables_from(day: Day) -> Span
     }
 }
 
-/// A write that is accepted, and told no more than that it is done.
+/// Accepts a write whose answer is just `Done`.
 fn done(change: Change) -> Decision
     ensures { result ≡ Accepted Done change }
 {
@@ -203,7 +203,7 @@ fn decide_by(
     }
 }
 
-/// What is kept of the write once it is told this.
+/// The edit that stores the kept request of a write with this answer.
 fn kept_of(
     alloc: Global,
     answer: &Answer,
@@ -216,7 +216,7 @@ fn kept_of(
     one(alloc, sent.kept(me, reply))
 }
 
-/// The decision with what is kept of the write, if it is accepted.
+/// The decision together with the kept request of the write, if it is accepted.
 fn with_kept(
     alloc: Global,
     made: Decision,
@@ -237,7 +237,7 @@ fn with_kept(
     }
 }
 
-/// What an accepted write puts is in its ranges, as the types of its records have it.
+/// Shows that the records of an accepted write are in their ranges, which their types ensure.
 fn puts_in_range_if(decided: &Decision)
     ensures { PutsInRangeIf decided.now }
 {
@@ -246,7 +246,7 @@ fn puts_in_range_if(decided: &Decision)
     }
 }
 
-/// Decides a write with a new number by the rules, for this caller at the moment `now`.
+/// Decides a write with a new number by the rules, for this caller at the moment `now`. The error is out of memory.
 pub fn decide(
     alloc: Global,
     facts: &WriteFacts,

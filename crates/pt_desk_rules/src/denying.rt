@@ -24,7 +24,7 @@ use pt_requests::{Caller, Write};
 use pt_rights::Entry;
 use pt_travel::Row;
 
-/// Whether each place of the rows is there.
+/// Whether both places of each row exist.
 fn are_there(rows: &[Row], places: &Rows<Place>) -> bool
     ensures value { result ≡ are_there rows.now places.now }
 {
@@ -36,14 +36,14 @@ fn are_there(rows: &[Row], places: &Rows<Place>) -> bool
     true
 }
 
-/// Whether the place of this number is there.
+/// Whether the place of this number exists.
 pub(crate) fn is_there(id: PlaceId, places: &Rows<Place>) -> bool
     ensures value { result ≡ is_some (record_at place_key id places.now) }
 {
     places.find(&Key::of(id.number())).is_some()
 }
 
-/// Whether what stands beside a new version of a vehicle leaves room for it.
+/// Whether the other vehicles, and the earlier versions of this one, leave room for a new version.
 fn has_room_for(new: &Vehicle, vehicles: &[Vehicle]) -> bool
     ensures value { result ≡ has_room_for new.now vehicles.now }
 {
@@ -51,7 +51,7 @@ fn has_room_for(new: &Vehicle, vehicles: &[Vehicle]) -> bool
         && other_vehicle_count(vehicles, new.id) < MOST_VEHICLES
 }
 
-/// Whether there is nobody, or the caller of this number.
+/// Whether there is no such caller, or it is the caller of this number.
 fn is_nobody_else(id: CallerId, found: Option<Caller>) -> bool
     ensures value { result ≡ is_nobody_else id found }
 {
@@ -61,7 +61,7 @@ fn is_nobody_else(id: CallerId, found: Option<Caller>) -> bool
     }
 }
 
-/// Whether there is nobody, or a rider of this kind.
+/// Whether there is no such rider, or the rider is of this kind.
 fn is_nobody_of_another_kind(kind: Residence, found: Option<Rider>) -> bool
     ensures value { result ≡ is_nobody_of_another_kind kind found }
 {
@@ -71,7 +71,7 @@ fn is_nobody_of_another_kind(kind: Residence, found: Option<Rider>) -> bool
     }
 }
 
-/// The first rule by which an entry is denied.
+/// The first rule that denies an entry.
 fn entry_denial(
     facts: &WriteFacts,
     me: &Caller,
@@ -100,8 +100,7 @@ fn entry_denial(
     )
 }
 
-/// The first rule by which a write with a new number is denied to the caller at the moment `now`; `None` where it is
-/// accepted.
+/// The first rule that denies a write with a new number to the caller at the moment `now`; `None` if it is accepted.
 pub fn denial(facts: &WriteFacts, me: &Caller, now: Moment, write: &Write) -> Option<Rule>
     ensures value { result ≡ first_failing (rules_of write.now me.now now facts.now) }
 {

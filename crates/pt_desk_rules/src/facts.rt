@@ -10,62 +10,62 @@ use pt_rights::CaseFile;
 use pt_scheduling::PlannedRoute;
 use std::alloc::Global;
 
-/// What the rules of a write look at. What a write has no use for is left at nothing.
+/// The facts that a write's rules read. Facts that the write does not need are empty.
 #[derive(Drop)]
 pub struct WriteFacts {
     /// The agency's policy.
     pub policy: Policy,
-    /// The rider of whom the write speaks.
+    /// The rider whom the write names.
     pub rider: Option<Rider>,
     pub rider_count: usize,
     /// That rider's case file.
     pub file: CaseFile,
     /// How that rider's trips ended.
     pub tallies: Tallies,
-    /// The caller of the number that the write gives.
+    /// The caller whose number the write gives.
     pub caller: Option<Caller>,
-    /// The caller who has the digest that the write gives.
+    /// The caller whose key has the digest that the write gives.
     pub holder: Option<Caller>,
     pub caller_count: usize,
-    /// Whether the place of the number that the write gives is there.
+    /// Whether the place whose number the write gives exists.
     pub has_place: bool,
     pub place_count: usize,
-    /// Whether the fixed route of the number that the write gives is there.
+    /// Whether the fixed route whose number the write gives exists.
     pub has_route: bool,
     pub route_count: usize,
-    /// Whether the rider or the vehicle is there that a new caller's role speaks of.
+    /// Whether the rider or the vehicle that a new caller's role names exists.
     pub has_subject: bool,
     /// All places.
     pub places: Rows<Place>,
     /// All vehicles with their versions.
     pub vehicles: Rows<Vehicle>,
-    /// How many travel tables stay beside a new one.
+    /// The number of travel tables that stay when the write puts a new one.
     pub tables_before: usize,
-    /// Whether some trip that stands depends on what the write replaces.
+    /// Whether a trip that is not cancelled depends on what the write replaces.
     pub is_booked: bool,
-    /// What trips stand on.
+    /// The facts about trips.
     pub booking: BookingFacts,
 }
 
-/// What the rules of a trip look at.
+/// The facts that the rules of a trip read.
 #[derive(Drop)]
 pub struct BookingFacts {
-    /// The trip of which the write speaks.
+    /// The trip that the write names.
     pub trip: Option<Trip>,
-    /// What is planned for that trip's vehicle on its day.
+    /// The plan of that trip's vehicle on its day.
     pub plan: Option<PlannedRoute>,
     /// All fixed routes.
     pub routes: Rows<FixedRoute>,
-    /// The number that was last given to a trip; 0 before the first.
+    /// The number of the last trip; 0 before the first.
     pub last_trip: u32,
-    /// The trips of the rider of whom the write speaks, if that is a visitor, whose days of use they count.
+    /// The trips of the rider whom the write names, if that is a visitor. They count the visitor's days of use.
     pub trips: Rows<Trip>,
-    /// What is planned for the day that is wished for.
+    /// The plans and trips of the day that is wished for.
     pub day: DayFacts,
 }
 
 impl BookingFacts {
-    /// Nothing.
+    /// No facts.
     pub fn none(alloc: Global) -> Self
         ensures value { result ≡ no_booking }
     {
@@ -80,7 +80,7 @@ impl BookingFacts {
     }
 }
 
-/// What the desk has for a day: the driving times, the trips, and the stops that are planned.
+/// The facts about a day: the driving times, the trips, and the planned stops.
 #[derive(Drop)]
 pub struct DayFacts {
     /// The travel table that holds on the day.
@@ -92,7 +92,7 @@ pub struct DayFacts {
 }
 
 impl DayFacts {
-    /// Nothing.
+    /// No facts.
     fn none(alloc: Global) -> Self
         ensures value { result ≡ no_day }
     {
@@ -105,7 +105,7 @@ impl DayFacts {
 }
 
 impl WriteFacts {
-    /// The policy alone.
+    /// The policy and no other facts.
     pub fn none(alloc: Global, policy: Policy) -> Self
         ensures value { result ≡ no_facts policy }
     {
@@ -132,23 +132,23 @@ impl WriteFacts {
     }
 }
 
-/// What the rules of a read look at, and what it is told. What a read has no use for is left at nothing.
+/// The facts that a read's rules and its answer need. Facts that the read does not need are empty.
 #[derive(Drop)]
 pub struct ReadFacts {
-    /// The rider of whom it speaks.
+    /// The rider whom the read names.
     pub rider: Option<Rider>,
     /// That rider's case file.
     pub file: CaseFile,
-    /// The trips of which it speaks, by rising number; of a standing those that count a visitor's days of use.
+    /// The trips that the read asks for, by rising number; for a standing, those that count a visitor's days of use.
     pub trips: Rows<Trip>,
     /// All vehicles with their versions.
     pub vehicles: Rows<Vehicle>,
-    /// What is planned for the day of which it speaks.
+    /// The plans and trips of the day that the read names.
     pub day: DayFacts,
 }
 
 impl ReadFacts {
-    /// Nothing.
+    /// No facts.
     pub fn none(alloc: Global) -> Self
         ensures value { result ≡ no_read_facts }
     {

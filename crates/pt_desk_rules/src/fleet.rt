@@ -19,7 +19,7 @@ pub fn has_version(vehicles: &[Vehicle], id: VehicleId) -> bool
     false
 }
 
-/// How many versions of the vehicle hold from a day before this one.
+/// The number of versions of the vehicle whose first day is before this day.
 pub(crate) fn version_count_before(vehicles: &[Vehicle], id: VehicleId, day: Day) -> usize
     ensures value { result ≡ length (versions_before id day vehicles.now) }
 {
@@ -39,7 +39,7 @@ fn is_last_of_another(version: &Vehicle, later: &[Vehicle], id: VehicleId) -> bo
     version.id != id && !has_version(later, version.id)
 }
 
-/// How many other vehicles there are.
+/// The number of other vehicles.
 pub(crate) fn other_vehicle_count(vehicles: &[Vehicle], id: VehicleId) -> usize
     ensures value { result ≡ vehicle_count (versions_of_others id vehicles.now) }
 {
@@ -53,7 +53,7 @@ pub(crate) fn other_vehicle_count(vehicles: &[Vehicle], id: VehicleId) -> usize
     count
 }
 
-/// Whether a later version of the same vehicle has come by the day.
+/// Whether the day of a later version of the same vehicle has come by `day`.
 fn has_newer(vehicles: &[Vehicle], version: &Vehicle, day: Day) -> bool
     ensures value { result ≡ list_any (is_newer day version.now) vehicles.now }
 {
@@ -86,7 +86,7 @@ pub fn duty_of(vehicles: &[Vehicle], id: VehicleId, day: Day) -> Option<&Vehicle
     None
 }
 
-/// The vehicles on duty on a day, each as it is then, in order of their numbers.
+/// The vehicles on duty on a day, each in its version of that day, by rising number. The error is out of memory.
 pub fn on_duty(alloc: Global, vehicles: &[Vehicle], day: Day) -> Result<Vec<Vehicle>, AllocError>
     ensures value { IfOk result (λ found. found.items ≡ on_duty day vehicles.now) }
 {

@@ -7,7 +7,7 @@ use pt_base::CallerId;
 use pt_records::{Key, Keyed};
 use pt_spelling::{KeptReply, Spelling};
 
-/// What comes with a write: the caller's number for it, and its spelling.
+/// The caller's number for a write, and the write's spelling.
 #[derive(Drop)]
 pub struct Sent {
     pub number: u32,
@@ -15,7 +15,7 @@ pub struct Sent {
 }
 
 impl Sent {
-    /// What is kept of the write once it is accepted and told so.
+    /// The kept request of an accepted write with this reply.
     pub(crate) fn kept(self, caller: CallerId, reply: KeptReply) -> Kept
         ensures value { result ≡ kept_by caller self reply }
     {
@@ -28,13 +28,13 @@ impl Sent {
     }
 }
 
-/// The last accepted write of a caller.
+/// A caller's last accepted write: the kept request.
 #[derive(Drop)]
 pub struct Kept {
     pub caller: CallerId,
     pub number: u32,
     pub request: Spelling,
-    /// What its sender was told.
+    /// The reply to it.
     pub reply: KeptReply,
 }
 
@@ -46,19 +46,19 @@ impl Keyed for Kept {
     }
 }
 
-/// How a write comes in beside the caller's last accepted one.
+/// How a write's number relates to the caller's last accepted write.
 #[derive(Clone, Copy)]
 pub enum Arrival {
-    /// Its number is above that one's.
+    /// The number is above that one's.
     New,
-    /// It is that one again, with its number and its spelling. This was told then.
+    /// It has that one's number and spelling: it is the same write again. This was the reply.
     Repeated(KeptReply),
-    /// It is another one, and its number is not above that one's.
+    /// It is another write, and its number is not above that one's.
     Stale,
 }
 
 impl Arrival {
-    /// How a write with this number and spelling comes in; the last accepted one is `None` where there is none.
+    /// How a write with this number and spelling arrives. `last` is `None` if no write was accepted.
     pub fn of(number: u32, request: &Spelling, last: Option<&Kept>) -> Self
         ensures value { result ≡ arrival_of number request.now (option_copied last.entry) }
     {

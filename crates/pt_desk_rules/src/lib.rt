@@ -1,4 +1,4 @@
-//! What the desk keeps, what may be asked of it, and what the rules make of each request, with no store in sight.
+//! The desk's tables, the requests to it, and what the rules decide on each request. This crate has no store.
 #![tactic(auto)]
 
 pub use booking::{Asking, answer_wish};

@@ -12,7 +12,7 @@ use pt_requests::Answer;
 use pt_rights::Outcome;
 use std::alloc::{AllocError, Global};
 
-/// Whether the trip is there and booked, so that it has no outcome yet.
+/// Whether the trip exists and is booked, so that it has no outcome yet.
 pub(crate) fn awaits_outcome(trip: &Option<Trip>) -> bool
     ensures { result ≡ awaits_outcome trip.now }
 {
@@ -22,7 +22,7 @@ pub(crate) fn awaits_outcome(trip: &Option<Trip>) -> bool
     }
 }
 
-/// Whether the trip is there and its day has come.
+/// Whether the trip exists and its day has come.
 pub(crate) fn has_come(today: Day, trip: &Option<Trip>) -> bool
     ensures { result ≡ has_come today trip.now }
 {
@@ -32,7 +32,7 @@ pub(crate) fn has_come(today: Day, trip: &Option<Trip>) -> bool
     }
 }
 
-/// How far a trip has come that ended so.
+/// The status of a trip with this outcome.
 fn status_of(outcome: Outcome) -> TripStatus
     ensures { result ≡ status_of outcome }
 {
@@ -43,7 +43,7 @@ fn status_of(outcome: Outcome) -> TripStatus
     }
 }
 
-/// The trip, ended so.
+/// The trip with this outcome.
 fn ended(trip: &Trip, wish: Wish, outcome: Outcome) -> Trip
     requires { wish ≡ trip.now.wish }
     ensures { result ≡ ended outcome trip.now }

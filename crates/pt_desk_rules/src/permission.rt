@@ -107,8 +107,8 @@ pub fn may_book(role: Role, rider: RiderId, found: &Option<Rider>) -> bool
     }
 }
 
-/// Whether the caller may change or cancel the trip, whose rider's record is given. A trip that is not there is
-/// nobody's own.
+/// Whether the caller may change or cancel the trip, whose rider's record is given. A rider may do so only to a trip
+/// that exists.
 pub(crate) fn may_alter(role: Role, trip: &Option<Trip>, found: &Option<Rider>) -> bool
     ensures { result ≡ may_alter trip.now found.now role }
 {
@@ -118,7 +118,7 @@ pub(crate) fn may_alter(role: Role, trip: &Option<Trip>, found: &Option<Rider>) 
     }
 }
 
-/// Whether the caller drives the vehicle, or dispatches.
+/// Whether the caller is the vehicle's driver or a dispatcher.
 pub fn may_run(role: Role, vehicle: VehicleId) -> bool
     ensures value { result ≡ may_run vehicle role }
 {
@@ -129,7 +129,7 @@ pub fn may_run(role: Role, vehicle: VehicleId) -> bool
     }
 }
 
-/// Whether the caller may say how the trip ended. A trip that is not there is nobody's own.
+/// Whether the caller may report how the trip ended. A driver may do so only for a trip that exists.
 pub(crate) fn may_end(role: Role, trip: &Option<Trip>) -> bool
     ensures { result ≡ may_end trip.now role }
 {

@@ -1,7 +1,7 @@
-//! How many records the desk keeps of each table, and that their fields are in their ranges, as their types have it.
+//! The limits of the desk's tables, and the ranges of the fields of records, which their types ensure.
 //!
-//! Definitions see a day, a minute or the number of a record as a bare number. That it keeps to its range is known
-//! where its type is in sight, so these functions look at each field, and say no more than that.
+//! Definitions see a day, a minute or a record's number as a bare number. Only its type shows that it is in its range.
+//! So these functions look at each field, and show no more than that.
 ghost use Rattle.std.specs.Prelude.{All};
 ghost use Rattle.pt_records.specs.Records.{Each};
 ghost use Rattle.pt_rights.specs.Conditions.{IsCondition};
@@ -18,25 +18,25 @@ use pt_scheduling::{PlannedRoute, PlannedStop};
 use pt_spelling::{days_byte, spell_reply};
 use pt_travel::Row;
 
-/// The most callers that the desk keeps.
+/// The most callers that the desk holds.
 pub const MOST_CALLERS: usize = 1_000;
 
-/// The most places that the desk keeps.
+/// The most places that the desk holds.
 pub const MOST_PLACES: usize = 100;
 
-/// The most fixed routes that the desk keeps.
+/// The most fixed routes that the desk holds.
 pub const MOST_ROUTES: usize = 50;
 
-/// The most riders that the desk keeps.
+/// The most riders that the desk holds.
 pub const MOST_RIDERS: usize = 100_000;
 
-/// The most vehicles that the desk keeps.
+/// The most vehicles that the desk holds.
 pub const MOST_VEHICLES: usize = 50;
 
 /// The most versions of one vehicle.
 pub const MOST_VERSIONS: usize = 20;
 
-/// The most travel tables that the desk keeps.
+/// The most travel tables that the desk holds.
 pub const MOST_TABLES: usize = 50;
 
 /// The last number that a trip can have.
@@ -46,12 +46,12 @@ pub const LAST_TRIP_NUMBER: u32 = 4_294_967_295;
 trait Fitting {
     ghost Fits: { Self → Type 0 };
 
-    /// Its fields are in their ranges, as their types have it.
+    /// Shows that its fields are in their ranges, which their types ensure.
     fn fits(&self)
         ensures fits { Fits self.now };
 }
 
-/// The fields of each of the records are in their ranges, as their types have it.
+/// Shows that the fields of each record are in their ranges, which their types ensure.
 fn all_fit<T: Fitting>(records: &[T])
     ensures fit { Each T.Fits records.now }
 {
@@ -133,7 +133,7 @@ impl Fitting for Rider {
     }
 }
 
-/// A condition's months and feet are such.
+/// Shows that a condition's months and feet are in their ranges.
 fn fits_condition(condition: Condition)
     ensures { IsCondition condition }
 {
@@ -156,7 +156,7 @@ fn fit_conditions(conditions: &[Condition])
     }
 }
 
-/// A grant's last day and conditions are such.
+/// Shows that a grant's last day and conditions are in their ranges.
 fn fits_grant(grant: &Grant)
     ensures { IsGrant grant.now }
 {
@@ -286,7 +286,7 @@ impl Fitting for PlannedRoute {
     }
 }
 
-/// The records that a change puts are in their ranges, as their types have it.
+/// Shows that the records that a change puts are in their ranges, which their types ensure.
 fn parts_fit(change: &Change)
     ensures { (p : Part) → Each (FitsIn p) (edit_of p change.now).puts }
 {
@@ -302,7 +302,7 @@ fn parts_fit(change: &Change)
     all_fit(change.planned.puts());
 }
 
-/// All that a change puts is in its ranges, as the types of its records have it.
+/// Shows that everything that a change puts is in its ranges, which the types of its records ensure.
 pub fn puts_in_range(change: &Change)
     ensures { PutsInRange change.now }
 {

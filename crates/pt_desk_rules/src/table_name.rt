@@ -1,11 +1,11 @@
 ghost use Rattle.std.specs.Prelude.{◌≡◌, ◌≤◌, ◌↔◌, IsSome, IfSome};
 
-/// A table of the desk's database, in their order.
+/// A table of the desk's database, in the order of the tables' numbers.
 ///
-/// A condition over several tables is that of the last of them.
+/// A condition over several tables belongs to the last of them.
 #[derive(Clone, Copy)]
 pub enum TableName {
-    /// The policy and the last trip's number: whatever they are, they are sound.
+    /// The policy and the number of the last trip: every value of them is sound.
     Desk,
     Callers,
     Kept,
@@ -17,9 +17,9 @@ pub enum TableName {
     Trips,
     Stops,
     Travel,
-    /// Who comes in a wheelchair: whoever does, it is sound.
+    /// Which riders come in a wheelchair: every value is sound.
     RiderChairs,
-    /// How many wheelchair places the vehicles have: however many, it is sound.
+    /// The vehicles' wheelchair places: every value is sound.
     VehicleChairs,
     TripChairs,
 }

@@ -6,7 +6,7 @@ use pt_rights::{Outcome, Tally};
 use std::alloc::{AllocError, Global};
 use std::marker::Model;
 
-/// How a rider's trips ended, seen as the list of their outcomes.
+/// The outcomes of a rider's trips. A contract sees them as a list.
 #[derive(Drop)]
 pub struct Tallies {
     tallies: Vec<Tally>,
@@ -31,7 +31,7 @@ impl Tallies {
         }
     }
 
-    /// The outcomes of those trips that have one. The error is want of memory.
+    /// The outcomes of those trips that have one. The error is out of memory.
     pub fn of(alloc: Global, trips: &[Trip]) -> Result<Self, AllocError>
         ensures value { IfOk result (λ tallies. tallies ≡ tallies_of trips.now) }
     {
@@ -52,7 +52,7 @@ impl Tallies {
     }
 }
 
-/// The outcome of a trip that has come so far, if it has one.
+/// The outcome of a trip with this status, if it has one.
 fn outcome_of(status: TripStatus) -> Option<Outcome>
     ensures { result ≡ outcome_of status }
 {
@@ -64,7 +64,7 @@ fn outcome_of(status: TripStatus) -> Option<Outcome>
     }
 }
 
-/// The outcome of the trip with its day, if it has one.
+/// The trip's outcome with its day, if it has one.
 fn tally_of(trip: &Trip) -> Option<Tally>
     ensures { result ≡ tally_of trip.now }
 {

@@ -12,7 +12,7 @@ use pt_travel::{Closed, Raw, Row};
 use std::alloc::{AllocError, Global};
 use std::marker::Model;
 
-/// The agency's travel table from a day on, with the driving times that it gives, worked out once.
+/// The agency's travel table from a day on, with its driving times, which are computed once.
 ///
 /// A contract sees its day and its rows.
 #[derive(Drop)]
@@ -53,7 +53,7 @@ impl TravelTable {
         })
     }
 
-    /// A table of no rows, by which no way leads from one place to another.
+    /// A table of no rows: it gives no driving time between different places.
     pub fn none(alloc: Global, from_day: Day) -> Result<Self, AllocError>
         ensures value { IfOk result (λ table. table ≡ record { from_day = from_day; rows = [] }) }
     {
@@ -72,7 +72,7 @@ impl TravelTable {
         })
     }
 
-    /// From which day on it holds.
+    /// Its first day.
     pub fn from_day(&self) -> Day
         ensures value { result ≡ self.now.from_day }
     {
@@ -87,7 +87,7 @@ impl TravelTable {
         self.rows.rows()
     }
 
-    /// The driving times by the least chains of its rows.
+    /// The driving times, by the shortest chains of its rows.
     pub fn times(&self) -> &Closed
         ensures least { (from to : ℕ) → IsTime self.now.rows from to (time_in result.now from to) }
     {
@@ -103,7 +103,7 @@ impl Keyed for TravelTable {
     }
 }
 
-/// Whether a later table has come by the day.
+/// Whether the day of a later table has come by `day`.
 fn has_newer(tables: &[TravelTable], table: &TravelTable, day: Day) -> bool
     ensures value { result ≡ list_any (is_newer day table.now) tables.now }
 {

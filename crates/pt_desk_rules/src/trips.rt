@@ -13,7 +13,7 @@ use pt_requests::Confirmation;
 use pt_scheduling::PlannedRoute;
 use std::alloc::{AllocError, Global};
 
-/// Whether both places of the wish are there.
+/// Whether both places of the wish exist.
 pub fn has_ends(wish: &Wish, places: &Rows<Place>) -> bool
     ensures value { result ≡ has_ends wish.now places.now }
 {
@@ -49,7 +49,7 @@ fn is_to_come(now: Moment, trip: &Trip) -> bool
     day < trip.wish.day || (day == trip.wish.day && minute < trip.window_from)
 }
 
-/// What is told of a trip that is booked.
+/// The confirmation of a booked trip.
 pub(crate) fn confirmation_of(trip: &Trip) -> Confirmation
     ensures { IsConfirmation trip.now result }
 {
@@ -63,7 +63,7 @@ pub(crate) fn confirmation_of(trip: &Trip) -> Confirmation
     }
 }
 
-/// The trip, given up.
+/// The trip with the status cancelled. `wish` is the trip's own wish.
 pub(crate) fn cancelled(trip: &Trip, wish: Wish) -> Trip
     requires { wish ≡ trip.now.wish }
     ensures { result ≡ cancelled trip.now }
@@ -83,7 +83,7 @@ pub(crate) fn cancelled(trip: &Trip, wish: Wish) -> Trip
     }
 }
 
-/// The key of the plan that has the trip's stops.
+/// The key of the plan that has the trip's stops, as a span.
 fn plan_span(trip: &Trip) -> Span
     ensures { result ≡ plan_span trip.now }
 {
@@ -93,7 +93,7 @@ fn plan_span(trip: &Trip) -> Span
     }
 }
 
-/// Takes the trip's stops out of the plan that has them.
+/// An edit that removes the trip's stops from their plan. The error is out of memory.
 pub(crate) fn giving_up(
     alloc: Global,
     trip: &Trip,
@@ -116,7 +116,7 @@ pub(crate) fn giving_up(
     Ok(edits)
 }
 
-/// The same, with a new plan beside what is left.
+/// An edit that removes them and puts a new plan. The error is out of memory.
 pub(crate) fn moving(
     alloc: Global,
     trip: &Trip,

@@ -1,4 +1,4 @@
--- What a dispatcher is answered who asks whether a wish could be booked.
+-- The answer to a dispatcher who asks whether a wish could be booked.
 use Rattle.std.specs.Prelude.{◌≡◌, ◌⊎◌, ℕ, List, Option, Some, None}
 use Rattle.pt_base.specs.declared.moment.Moment.{Moment}
 use Rattle.pt_base.specs.declared.rule.Rule.{Rule}
@@ -16,14 +16,14 @@ use Rattle.pt_requests.specs.declared.request.Answer.TheVariants as answer
 use Rattle.pt_requests.specs.declared.request.Request.TheVariants as request
 use Rattle.pt_rights.specs.Rules.{first_failing}
 
--- of all rules of a wish this is the first to fail: of those before its trip's, and where they all hold, of its trip's
+-- this is the first of all rules of a wish to fail: first those before its trip's, then its trip's
 abbrev pub IsFirstOfWish : Wish → Caller → Moment → WriteFacts → Rule → Type 0
 IsFirstOfWish wish me now facts rule =
     (first_failing (explain_rules wish me facts) ≡ Some rule)
     ⊎ ((first_failing (explain_rules wish me facts) ≡ None)
     × IsFirstOfBooking facts (next_trip facts) None now.day wish rule)
 
--- a wish that is denied fails this rule first
+-- if a wish is denied, this rule is the first to fail
 abbrev pub ExplanationsAreRight : Type 0
 ExplanationsAreRight =
     (key : List ℕ) (now : Moment) (number rider : ℕ) (wish : Wish) (me : Caller) (s : State) (rule : Rule)

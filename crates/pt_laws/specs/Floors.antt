@@ -1,4 +1,4 @@
--- Old service times are floors for those of a route with one trip more.
+-- Service times of an old route are lower bounds for those of the route with one more trip.
 use Rattle.std.specs.Prelude.{◌≤◌, ℕ, List, Option}
 use Rattle.pt_base.specs.Ranges.{last_minute}
 use Rattle.pt_base.specs.declared.vehicle.Vehicle.{Vehicle}
@@ -9,8 +9,8 @@ use Rattle.pt_insertion.specs.Removal.{times_without_trip}
 use Rattle.pt_insertion.specs.TravelTimes.{KeepsTriangleLaw}
 use Rattle.pt_insertion.specs.declared.asked.Asked.{Asked}
 
--- where times fit a route with a trip put in, none of those at its old stops is earlier than in the least schedule of
--- the route without it
+-- Times that fit a route with an added trip are, at the old stops, never earlier than the least schedule without the
+-- trip.
 abbrev pub OldSchedulesAreFloors : Type 0
 OldSchedulesAreFloors =
     (minutes : ℕ → ℕ → Option ℕ) (vehicle : Vehicle) (asked : Asked) (i j : ℕ) (stops : List Stop) (least b : List ℕ) →

@@ -3,10 +3,11 @@ use Rattle.std.specs.Prelude.{◌≡◌, ℕ, ◌<◌, ◌==◌, if◌then◌els
 use Rattle.pt_desk_rules.specs.State.{most_entries}
 use Rattle.pt_desk_rules.specs.declared.change.FiledEntry.{FiledEntry}
 
--- the position that a rider's next entry takes, where the next one of this rider takes this
+-- the position of the next entry of this rider, if the last entry was of rider `last` and `next` is the position after
+-- it
 abbrev pub next_position : ℕ → ℕ → ℕ → ℕ
 next_position last next rider = if rider == last then next else 0
 
--- the entry stands at this position, which a file has
+-- the entry has this position, and a file may have it
 abbrev pub IsAt : ℕ → FiledEntry → Type 0
 IsAt position filed = (filed.position ≡ position) × (position < most_entries)

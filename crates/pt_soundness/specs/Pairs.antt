@@ -1,4 +1,4 @@
--- A trip's stops in a plan, as they come.
+-- A trip's stops in a plan, in their order.
 use Rattle.std.specs.Prelude.{◌≡◌, ℕ, ◌==◌, if◌then◌else◌, List, [], ◌∷◌, Option, Some, None}
 use Rattle.pt_feasible.specs.declared.stop.StopKind.{StopKind}
 use Rattle.pt_feasible.specs.declared.stop.StopKind.TheVariants.{Pickup, Drop}
@@ -7,17 +7,17 @@ use Rattle.pt_scheduling.specs.declared.planned.PlannedStop.{PlannedStop}
 use Rattle.pt_soundness.specs.declared.pairs.Met.{Met}
 use Rattle.pt_soundness.specs.declared.pairs.Met.TheVariants as met
 
--- with one more stop of the trip, if it may come
+-- after one more stop of the trip; None if it may not come here
 abbrev pub met_with : Met → StopKind → Option Met
 met_with met.Nothing Pickup = Some met.Pickup
 met_with met.Pickup Drop = Some met.Both
 met_with _ _ = None
 
--- with one more stop of any trip
+-- after one more stop of any trip
 abbrev pub met_after : ℕ → Met → PlannedStop → Option Met
 met_after trip met stop = if stop.trip == trip then met_with met stop.kind else Some met
 
--- what may still come of the trip's stops
+-- what the rest of the trip's stops may be
 abbrev pub IsRestAfter : Met → List PlannedStop → Type 0
 IsRestAfter met.Nothing stops = IsPair stops
 IsRestAfter met.Pickup [] = ⊥

@@ -1,5 +1,5 @@
--- The tables of the database, and what a sound state keeps in each: beside the ranges of its records each line stands
--- with the greatest of the tables that it speaks of.
+-- The tables of the database, and what a sound state requires of each. These are the ranges of its records, and each
+-- line of soundness whose last table it is.
 use Rattle.std.specs.Prelude.{ℕ, Bool, true, IsTrue, List, Option, None, Some, is_some, ◌-◌, take}
 use Rattle.pt_base.specs.declared.place.Place.{Place}
 use Rattle.pt_base.specs.declared.rider.Rider.{Rider}
@@ -28,12 +28,12 @@ use Rattle.pt_spelling.specs.Ranges.{IsWord}
 use Rattle.pt_desk_rules.specs.declared.table_name.TableName.{TableName}
 use Rattle.pt_desk_rules.specs.declared.table_name.TableName.TheVariants as table
 
--- the vehicle is there of which a role speaks, if it speaks of one
+-- the vehicle that a role names exists, if it names one
 abbrev pub has_driven : Role → List Vehicle → Bool
 has_driven (role.Driver vehicle) vehicles = has_version vehicle vehicles
 has_driven _ vehicles = true
 
--- and so is the rider
+-- the rider that a role names exists, if it names one
 abbrev pub has_rider : Role → List Rider → Bool
 has_rider (role.Rider rider) riders = is_some (record_at rider_key rider riders)
 has_rider _ riders = true
@@ -92,28 +92,29 @@ pub record AreSoundPlans (trips : List Trip) (plans : List Plan) : Type 0 where
   pub have_stops : Each HasStops plans
   pub standing_planned : Each (IsPlanned plans) trips
 
--- the travel tables, and that by their times the vehicles can drive what is planned for them
+-- the travel tables are sound, and by their times the vehicles can drive their plans
 pub record AreSoundTables (places : List Place) (vehicles : List Vehicle) (trips : List Trip) (plans : List Plan)
     (travel : List DatedTable) : Type 0 where
   pub table : IsTable travel_key most_tables travel
   pub of_places : Each (IsOfPlaces places) travel
   pub drive : Each (DrivesIn vehicles travel trips) plans
 
--- what takes the last tables too, the wheelchair places and who takes them: that the vehicles have room for all aboard
+-- The vehicles have room for all aboard. This needs the last tables too: the wheelchair places and the riders and trips
+-- that take them.
 abbrev pub AreSoundLoads : List Vehicle → List Trip → List Plan → Type 0
 AreSoundLoads vehicles trips plans = Each (LoadsFitIn vehicles trips) plans
 
--- the records of a part keep to their ranges
+-- the records of a part are in their ranges
 abbrev pub keeps_ranges : State → Option Part → Type 0
 keeps_ranges s None = Unit {0}
 keeps_ranges s (Some p) = Each (FitsIn p) (records_of p s)
 
--- and so do those of a table
+-- the records of a table are in their ranges
 abbrev pub KeepsRangesIn : State → TableName → Type 0
 KeepsRangesIn s table.Desk = IsWord s.last_trip
 KeepsRangesIn s t = keeps_ranges s (part_of t)
 
--- the other lines of soundness that are a table's
+-- the other lines of soundness that belong to a table
 abbrev pub KeepsLinesIn : State → TableName → Type 0
 KeepsLinesIn s table.Desk = Unit {0}
 KeepsLinesIn s table.Callers = AreSoundCallers s.callers
@@ -130,14 +131,14 @@ KeepsLinesIn s table.RiderChairs = Unit {0}
 KeepsLinesIn s table.VehicleChairs = Unit {0}
 KeepsLinesIn s table.TripChairs = AreSoundLoads s.vehicles s.trips s.planned
 
--- what a sound state keeps in a table
+-- what a sound state requires of a table
 abbrev pub IsSoundIn : State → TableName → Type 0
 IsSoundIn s table = KeepsRangesIn s table × KeepsLinesIn s table
 
--- the first so many tables are sound
+-- the first `number` tables are sound
 abbrev pub IsSoundTo : ℕ → State → Type 0
 IsSoundTo number s = Each (IsSoundIn s) (take number all_tables)
 
--- and so each table before this one
+-- each table before this one is sound
 abbrev pub IsSoundBefore : State → TableName → Type 0
 IsSoundBefore s table = IsSoundTo (number_of table - 1) s

@@ -7,28 +7,28 @@ use pt_desk_rules::ranges::MOST_CALLERS;
 use pt_records::Table;
 use pt_requests::Caller;
 
-/// Whether the two are one caller or have two digests.
+/// Whether the two are the same caller, or have different digests.
 fn differ(first: &Caller, second: &Caller) -> bool
     ensures { IsTrue result ↔ (first.now.digest ≡ second.now.digest → first.now.id ≡ second.now.id) }
 {
     first.id == second.id || first.digest != second.digest
 }
 
-/// Whether none of these but the caller has the caller's digest.
+/// Whether no other caller in the list has the caller's digest.
 fn has_one_holder(callers: &[Caller], caller: &Caller) -> bool
     ensures { IsTrue result ↔ HasOneHolder callers.now caller.now }
 {
     callers.iter().all(|other| differ(caller, other))
 }
 
-/// Whether no two callers have one digest.
+/// Whether no two callers have the same digest.
 fn have_one_holder_each(callers: &[Caller]) -> bool
     ensures { IsTrue result ↔ Each (HasOneHolder callers.now) callers.now }
 {
     callers.iter().all(|caller| has_one_holder(callers, caller))
 }
 
-/// Whether the callers are those of a sound state, so far as they speak of no other table.
+/// Whether the callers are those of a sound state, as far as no other table matters.
 pub(crate) fn are_sound_callers(callers: &Table<Caller>) -> bool
     ensures { IsTrue result ↔ AreSoundCallers callers.now.items }
 {

@@ -14,8 +14,8 @@ use pt_desk_rules::TableName;
 use pt_store::ListKeeper;
 use std::alloc::{AllocError, Global};
 
-/// Whether the records of a table are those of a sound state, where all tables before it are sound. That records keep
-/// to their ranges is known of those that were read from rows.
+/// Whether the records of a table are those of a sound state, if all tables before it are sound. Records that were read
+/// from rows are known to be in their ranges. The error is out of memory.
 pub fn is_sound_in(
     alloc: Global,
     content: &ListKeeper,

@@ -9,14 +9,14 @@ use pt_desk_rules::FiledEntry;
 use pt_records::{Key, Table};
 use pt_requests::Caller;
 
-/// Whether the rider in whose case file the entry is, is there.
+/// Whether the rider of the entry's case file exists.
 fn has_rider(riders: &Table<Rider>, filed: &FiledEntry) -> bool
     ensures { IsTrue result ↔ HasFiledRider riders.now.items filed.now }
 {
     riders.find(&Key::of(filed.rider.number())).is_some()
 }
 
-/// Whether who entered it is there.
+/// Whether the author of the entry is a caller.
 fn has_author(callers: &Table<Caller>, filed: &FiledEntry) -> bool
     ensures { IsTrue result ↔ HasAuthor callers.now.items filed.now }
 {
@@ -25,21 +25,21 @@ fn has_author(callers: &Table<Caller>, filed: &FiledEntry) -> bool
         .is_some()
 }
 
-/// Whether the riders in whose case files the entries are, are there.
+/// Whether the riders of the entries' case files exist.
 fn have_riders(riders: &Table<Rider>, entries: &[FiledEntry]) -> bool
     ensures { IsTrue result ↔ Each (HasFiledRider riders.now.items) entries.now }
 {
     entries.iter().all(|filed| has_rider(riders, filed))
 }
 
-/// Whether all who entered them are there.
+/// Whether the authors of the entries are callers.
 fn have_authors(callers: &Table<Caller>, entries: &[FiledEntry]) -> bool
     ensures { IsTrue result ↔ Each (HasAuthor callers.now.items) entries.now }
 {
     entries.iter().all(|filed| has_author(callers, filed))
 }
 
-/// Whether the entries are those of a sound state, with the callers and the riders.
+/// Whether the entries are those of a sound state with these callers and riders.
 pub(crate) fn are_sound_entries(
     callers: &Table<Caller>,
     riders: &Table<Rider>,

@@ -10,7 +10,7 @@ use pt_rights::MOST_ENTRIES;
 /// Nobody's number.
 const NOBODY: u32 = 0;
 
-/// The position that an entry has to take, where the next one of the last rider takes this one.
+/// The position that an entry must have, if the last entry was of rider `last` and `next` is the position after it.
 fn next_position(last: u32, next: u32, filed: &FiledEntry) -> u32
     ensures { result ≡ next_position last next filed.now.rider }
 {
@@ -21,14 +21,14 @@ fn next_position(last: u32, next: u32, filed: &FiledEntry) -> u32
     }
 }
 
-/// Whether the entry stands at this position, which a file has.
+/// Whether the entry has this position, and a file may have it.
 fn is_at(position: u32, filed: &FiledEntry) -> bool
     ensures { IsTrue result ↔ IsAt position filed.now }
 {
     filed.position == position && (position as usize) < MOST_ENTRIES
 }
 
-/// Whether the entries of each rider count up from 0, with no gap, and are no more than 200.
+/// Whether the entries of each rider count up from 0 with no gap, and are at most 200.
 pub(crate) fn are_sound_files(entries: &[FiledEntry]) -> bool
     requires order { IsInOrder entry_key entries.now }
     ensures { IsTrue result ↔ AreSoundFiles entries.now }

@@ -138,7 +138,7 @@ fn all_drive(
     Ok(true)
 }
 
-/// Whether the travel tables are those of a sound state, and by them the vehicles can drive what is planned for them.
+/// Whether the travel tables are those of a sound state, and by their times the vehicles can drive their plans.
 pub(crate) fn are_sound_tables(
     alloc: Global,
     places: &Table<Place>,

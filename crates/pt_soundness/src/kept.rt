@@ -9,21 +9,21 @@ use pt_requests::Caller;
 use pt_spelling_reading::is_spelling;
 use std::alloc::{AllocError, Global};
 
-/// Whether the caller of a kept write is there.
+/// Whether the caller of a kept request exists.
 fn is_of_caller(callers: &Table<Caller>, kept: &Kept) -> bool
     ensures { IsTrue result ↔ IsOfCaller callers.now.items kept.now }
 {
     callers.find(&Key::of(kept.caller.number())).is_some()
 }
 
-/// Whether the callers of the kept writes are there.
+/// Whether the callers of the kept requests exist.
 fn are_of_callers(callers: &Table<Caller>, kept: &[Kept]) -> bool
     ensures { IsTrue result ↔ Each (IsOfCaller callers.now.items) kept.now }
 {
     kept.iter().all(|one| is_of_caller(callers, one))
 }
 
-/// Whether it has a number, and its bytes spell a request that may be asked.
+/// Whether its number is at least 1, and its bytes spell a valid request.
 fn is_kept_write(alloc: Global, kept: &Kept) -> Result<bool, AllocError>
     ensures { IfOk result (λ is_write. IsTrue is_write ↔ IsKeptWrite kept.now) }
 {
@@ -45,7 +45,7 @@ fn are_kept_writes(alloc: Global, kept: &[Kept]) -> Result<bool, AllocError>
     Ok(true)
 }
 
-/// Whether the kept writes are those of a sound state.
+/// Whether the kept requests are those of a sound state.
 pub(crate) fn are_sound_kept(
     alloc: Global,
     callers: &Table<Caller>,

@@ -1,4 +1,4 @@
-//! Whether content that was read is that of a state that the desk may be in, table by table.
+//! Whether content that was read from a database is a sound state of the desk, table by table.
 #![tactic(auto)]
 
 pub use content::is_sound_in;

@@ -6,7 +6,7 @@ use pt_base::TripId;
 use pt_feasible::{MAX_STOPS, StopKind};
 use pt_scheduling::{PlannedRoute, PlannedStop};
 
-/// What came so far of a trip's stops.
+/// The stops of a trip that have come so far.
 #[derive(Clone, Copy)]
 pub(crate) enum Met {
     Nothing,
@@ -17,7 +17,7 @@ pub(crate) enum Met {
 impl Met {
     ghost use Rattle.pt_soundness.specs.Pairs.{met_after, met_with, IsRestAfter};
 
-    /// With one more stop of the trip; `None` where none of this kind may come.
+    /// After one more stop of the trip; `None` if it may not come here.
     fn with(self, kind: StopKind) -> Option<Met>
         ensures { result ≡ met_with self kind }
     {
@@ -28,7 +28,7 @@ impl Met {
         }
     }
 
-    /// With one more stop of any trip.
+    /// After one more stop of any trip.
     fn after(self, trip: TripId, stop: &PlannedStop) -> Option<Met>
         ensures { result ≡ met_after trip self stop.now }
     {
@@ -39,7 +39,7 @@ impl Met {
         }
     }
 
-    /// Whether no more stops need to come.
+    /// Whether the trip needs no further stop.
     fn is_whole(self) -> bool
         ensures { IsTrue result ↔ IsRestAfter self [] }
     {

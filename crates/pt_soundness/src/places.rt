@@ -22,7 +22,7 @@ pub(crate) fn are_sound_routes(routes: &Table<FixedRoute>) -> bool
     routes.as_slice().len() <= MOST_ROUTES
 }
 
-/// Whether the rider is there of whom the caller's role speaks, if it speaks of one.
+/// Whether the rider that the caller's role names exists, if it names one.
 fn has_rider(riders: &Table<Rider>, caller: &Caller) -> bool
     ensures { IsTrue result ↔ HasRider riders.now.items caller.now }
 {
@@ -32,14 +32,14 @@ fn has_rider(riders: &Table<Rider>, caller: &Caller) -> bool
     }
 }
 
-/// Whether the riders are there who are callers.
+/// Whether the riders that the callers' roles name exist.
 fn have_riders(riders: &Table<Rider>, callers: &[Caller]) -> bool
     ensures { IsTrue result ↔ Each (HasRider riders.now.items) callers.now }
 {
     callers.iter().all(|caller| has_rider(riders, caller))
 }
 
-/// Whether the riders are those of a sound state, with the callers who are riders.
+/// Whether the riders are those of a sound state, together with the callers who are riders.
 pub(crate) fn are_sound_riders(callers: &Table<Caller>, riders: &Table<Rider>) -> bool
     ensures { IsTrue result ↔ AreSoundRiders callers.now.items riders.now.items }
 {

@@ -14,7 +14,7 @@ use pt_records::{Key, Keyed, Table};
 use pt_scheduling::{PlannedRoute, PlannedStop};
 use std::cmp::Ordering;
 
-/// Whether a trip stands in the vehicle and on the day of a plan.
+/// Whether a trip is not cancelled, and is in the vehicle and on the day of a plan.
 fn is_standing_in(plan: &PlannedRoute, trip: &Trip) -> bool
     ensures { IsTrue result ↔ (IsTrue (stands trip.now.status)
         × (pair_key trip.now.vehicle trip.now.wish.day ≡ plan_key plan.now)) }
@@ -23,7 +23,7 @@ fn is_standing_in(plan: &PlannedRoute, trip: &Trip) -> bool
     trip.status.stands() && key.compare(&plan.key()) == Ordering::Equal
 }
 
-/// Whether the trip of a stop stands in the vehicle and on the day of the plan.
+/// Whether the trip of a stop is not cancelled, and is in the vehicle and on the day of the plan.
 fn stands_in(trips: &Table<Trip>, plan: &PlannedRoute, stop: &PlannedStop) -> bool
     ensures { IsTrue result ↔ StandsIn trips.now.items (plan_key plan.now) stop.now.trip }
 {
@@ -33,7 +33,7 @@ fn stands_in(trips: &Table<Trip>, plan: &PlannedRoute, stop: &PlannedStop) -> bo
     }
 }
 
-/// Whether the trips of these stops stand in the vehicle and on the day of the plan.
+/// Whether the trips of these stops are not cancelled, and are in the vehicle and on the day of the plan.
 fn stand_in(trips: &Table<Trip>, plan: &PlannedRoute, stops: &[PlannedStop]) -> bool
     ensures { IsTrue result ↔ Each (λ stop. StandsIn trips.now.items (plan_key plan.now) stop.trip) stops.now }
 {
@@ -45,7 +45,7 @@ fn stand_in(trips: &Table<Trip>, plan: &PlannedRoute, stops: &[PlannedStop]) -> 
     true
 }
 
-/// Whether the stops of a plan are those of trips that stand in it.
+/// Whether the stops of a plan are those of trips in its vehicle on its day that are not cancelled.
 fn has_standing_trips(trips: &Table<Trip>, plan: &PlannedRoute) -> bool
     ensures { IsTrue result ↔ HasStandingTrips trips.now.items plan.now }
 {
@@ -59,7 +59,7 @@ fn has_trip(stops: &[PlannedStop], trip: TripId) -> bool
     stops.iter().any(|stop| stop.trip == trip)
 }
 
-/// Whether the trip is in the plan of its vehicle on its day, where it stands.
+/// Whether the trip, if it is not cancelled, is in the plan of its vehicle on its day.
 fn is_planned(plans: &Table<PlannedRoute>, trip: &Trip) -> bool
     ensures { IsTrue result ↔ IsPlanned plans.now.items trip.now }
 {
@@ -72,21 +72,21 @@ fn is_planned(plans: &Table<PlannedRoute>, trip: &Trip) -> bool
     }
 }
 
-/// Whether the stops of the plans are those of trips that stand in them.
+/// Whether the stops of each plan are those of trips in its vehicle on its day that are not cancelled.
 fn have_standing_trips(trips: &Table<Trip>, plans: &[PlannedRoute]) -> bool
     ensures { IsTrue result ↔ Each (HasStandingTrips trips.now.items) plans.now }
 {
     plans.iter().all(|plan| has_standing_trips(trips, plan))
 }
 
-/// Whether the trips that stand are planned.
+/// Whether the trips that are not cancelled are planned.
 fn are_planned(plans: &Table<PlannedRoute>, trips: &[Trip]) -> bool
     ensures { IsTrue result ↔ Each (IsPlanned plans.now.items) trips.now }
 {
     trips.iter().all(|trip| is_planned(plans, trip))
 }
 
-/// Whether the plans are those of a sound state, with the trips, so far as they speak of no travel table.
+/// Whether the plans are those of a sound state with these trips, as far as no travel table matters.
 pub(crate) fn are_sound_plans(trips: &Table<Trip>, plans: &Table<PlannedRoute>) -> bool
     ensures { IsTrue result ↔ AreSoundPlans trips.now.items plans.now.items }
 {

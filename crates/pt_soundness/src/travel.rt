@@ -9,14 +9,14 @@ use pt_desk_rules::TravelTable;
 use pt_records::{Key, Table};
 use pt_travel::Row;
 
-/// Whether the place of this number is there.
+/// Whether the place of this number exists.
 fn is_there(places: &Table<Place>, id: PlaceId) -> bool
     ensures { result ≡ is_some (record_at place_key id places.now.items) }
 {
     places.find(&Key::of(id.number())).is_some()
 }
 
-/// Whether each place of the rows is there.
+/// Whether both places of each row exist.
 fn are_there(places: &Table<Place>, rows: &[Row]) -> bool
     ensures { result ≡ are_there rows.now places.now.items }
 {
@@ -28,14 +28,14 @@ fn are_there(places: &Table<Place>, rows: &[Row]) -> bool
     true
 }
 
-/// Whether the rows of a table name places that are there.
+/// Whether the places in the rows of a table exist.
 fn is_of_places(places: &Table<Place>, table: &TravelTable) -> bool
     ensures { IsTrue result ↔ IsOfPlaces places.now.items table.now }
 {
     are_there(places, table.rows())
 }
 
-/// Whether the rows of the tables name places that are there.
+/// Whether the places in the rows of the tables exist.
 pub(crate) fn are_of_places(places: &Table<Place>, tables: &[TravelTable]) -> bool
     ensures { IsTrue result ↔ Each (IsOfPlaces places.now.items) tables.now }
 {

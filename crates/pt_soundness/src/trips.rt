@@ -6,21 +6,21 @@ ghost use Rattle.pt_soundness.specs.Tables.{AreSoundTrips};
 use pt_base::{Place, Rider, Trip};
 use pt_records::{Key, Table};
 
-/// Whether the trip has a number that was given.
+/// Whether the trip's number is at most the last number given.
 fn is_numbered_to(last: u32, trip: &Trip) -> bool
     ensures { IsTrue result ↔ IsNumberedTo last trip.now }
 {
     trip.id.number() <= last
 }
 
-/// Whether the rider of the trip is there.
+/// Whether the rider of the trip exists.
 fn is_of_rider(riders: &Table<Rider>, trip: &Trip) -> bool
     ensures { IsTrue result ↔ IsOfRider riders.now.items trip.now }
 {
     riders.find(&Key::of(trip.rider.number())).is_some()
 }
 
-/// Whether both places of the trip are there.
+/// Whether both places of the trip exist.
 fn has_places(places: &Table<Place>, trip: &Trip) -> bool
     ensures { IsTrue result ↔ HasPlaces places.now.items trip.now }
 {
@@ -28,28 +28,28 @@ fn has_places(places: &Table<Place>, trip: &Trip) -> bool
         && places.find(&Key::of(trip.wish.to.number())).is_some()
 }
 
-/// Whether the trips have numbers that were given.
+/// Whether the trips' numbers are at most the last number given.
 fn are_numbered_to(last: u32, trips: &[Trip]) -> bool
     ensures { IsTrue result ↔ Each (IsNumberedTo last) trips.now }
 {
     trips.iter().all(|trip| is_numbered_to(last, trip))
 }
 
-/// Whether the riders of the trips are there.
+/// Whether the riders of the trips exist.
 fn are_of_riders(riders: &Table<Rider>, trips: &[Trip]) -> bool
     ensures { IsTrue result ↔ Each (IsOfRider riders.now.items) trips.now }
 {
     trips.iter().all(|trip| is_of_rider(riders, trip))
 }
 
-/// Whether the places of the trips are there.
+/// Whether the places of the trips exist.
 fn have_places(places: &Table<Place>, trips: &[Trip]) -> bool
     ensures { IsTrue result ↔ Each (HasPlaces places.now.items) trips.now }
 {
     trips.iter().all(|trip| has_places(places, trip))
 }
 
-/// Whether the trips are those of a sound state, with the places and the riders.
+/// Whether the trips are those of a sound state with these places and riders.
 pub(crate) fn are_sound_trips(
     places: &Table<Place>,
     riders: &Table<Rider>,

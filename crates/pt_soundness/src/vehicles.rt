@@ -11,7 +11,7 @@ use pt_desk_rules::ranges::{MOST_VEHICLES, MOST_VERSIONS};
 use pt_records::{Key, Span, Table};
 use pt_requests::{Caller, Role};
 
-/// Whether the depot of a version is there.
+/// Whether the depot of a version exists.
 fn has_depot(places: &Table<Place>, version: &Vehicle) -> bool
     ensures { IsTrue result ↔ HasDepot places.now.items version.now }
 {
@@ -36,7 +36,7 @@ pub(crate) fn versions_of(vehicles: &Table<Vehicle>, id: VehicleId) -> &[Vehicle
     vehicles.within(&keys_of(id))
 }
 
-/// Whether some version of the vehicle is there.
+/// Whether some version of the vehicle exists.
 pub(crate) fn has_version(vehicles: &Table<Vehicle>, id: VehicleId) -> bool
     requires days { Each HasFirstDay vehicles.now.items }
     ensures { result ≡ has_version id vehicles.now.items }
@@ -71,7 +71,7 @@ fn have_few_versions(vehicles: &Table<Vehicle>) -> bool
     are_few_versions(vehicles, vehicles.as_slice())
 }
 
-/// Whether a version of the same vehicle is among the later ones: the next one is.
+/// Whether a version of the same vehicle is among the later ones; if so, the next one is.
 fn has_later(version: &Vehicle, later: &[Vehicle]) -> bool
     requires order { IsInOrder vehicle_key (version.now ∷ later.now) }
     requires days { Each HasFirstDay (version.now ∷ later.now) }
@@ -83,7 +83,7 @@ fn has_later(version: &Vehicle, later: &[Vehicle]) -> bool
     }
 }
 
-/// How many vehicles there are.
+/// The number of vehicles.
 fn vehicle_count(versions: &[Vehicle]) -> usize
     requires order { IsInOrder vehicle_key versions.now }
     requires days { Each HasFirstDay versions.now }
@@ -107,7 +107,7 @@ fn is_fleet(vehicles: &Table<Vehicle>) -> bool
     vehicle_count(vehicles.as_slice()) <= MOST_VEHICLES && have_few_versions(vehicles)
 }
 
-/// Whether the vehicle is there of which the caller's role speaks, if it speaks of one.
+/// Whether the vehicle that the caller's role names exists, if it names one.
 fn has_driven(vehicles: &Table<Vehicle>, caller: &Caller) -> bool
     requires days { Each HasFirstDay vehicles.now.items }
     ensures { IsTrue result ↔ HasDriven vehicles.now.items caller.now }
@@ -118,14 +118,14 @@ fn has_driven(vehicles: &Table<Vehicle>, caller: &Caller) -> bool
     }
 }
 
-/// Whether the depots are there.
+/// Whether the depots exist.
 fn have_depots(places: &Table<Place>, versions: &[Vehicle]) -> bool
     ensures { IsTrue result ↔ Each (HasDepot places.now.items) versions.now }
 {
     versions.iter().all(|version| has_depot(places, version))
 }
 
-/// Whether the vehicles of the drivers are there.
+/// Whether the vehicles of the drivers exist.
 fn are_driven(vehicles: &Table<Vehicle>, callers: &[Caller]) -> bool
     requires days { Each HasFirstDay vehicles.now.items }
     ensures { IsTrue result ↔ Each (HasDriven vehicles.now.items) callers.now }
@@ -133,7 +133,7 @@ fn are_driven(vehicles: &Table<Vehicle>, callers: &[Caller]) -> bool
     callers.iter().all(|caller| has_driven(vehicles, caller))
 }
 
-/// Whether the vehicles are those of a sound state, with the callers who are drivers.
+/// Whether the vehicles are those of a sound state, together with the callers who are drivers.
 pub(crate) fn are_sound_vehicles(
     callers: &Table<Caller>,
     places: &Table<Place>,

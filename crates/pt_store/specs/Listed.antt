@@ -1,9 +1,9 @@
--- What a list keeper has.
+-- What a list keeper holds.
 use Rattle.std.specs.Prelude.{ℕ, ◌≤◌, [], length}
 use Rattle.pt_desk_rules.specs.State.{State}
 use Rattle.pt_desk_rules.specs.declared.change.Change.{Change}
 
--- how many more records there is room for, in each table
+-- the room for more records in each table
 pub record Room : Type 0 where
   pub callers : ℕ
   pub kept : ℕ
@@ -35,8 +35,8 @@ pub record Listed : Type 0 where
   pub content : State
   pub room : Room
 
--- What a keeper over a database knows in memory: the settings. What is kept of writes, riders, entries, trips and
--- planned routes it asks its tables for.
+-- The settings, which a keeper over a database holds in memory. It reads the kept requests, riders, entries, trips and
+-- planned routes from its tables.
 abbrev pub known_of : State → State
 known_of s = record s { kept = []; riders = []; entries = []; trips = []; planned = [] }
 

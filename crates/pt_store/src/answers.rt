@@ -1,4 +1,4 @@
-//! What is answered of records, wherever they stand.
+//! Look-ups in lists of records, whoever holds the lists.
 ghost use Rattle.std.specs.Prelude.{◌≡◌, ◌<◌, ◌++◌, ◌∷◌, [], IfOk, OnOk, bytes_eq, find, length};
 ghost use Rattle.pt_desk_rules.specs.Planned.{is_booked_from, is_standing_from, planned_on, trips_of, trips_on};
 ghost use Rattle.pt_desk_rules.specs.State.{file_with, most_entries, tables_before, trip_key};
@@ -25,7 +25,7 @@ pub fn find_caller(callers: &[Caller], digest: &Digest) -> Option<Caller>
     None
 }
 
-/// How many travel tables hold from a day before this one.
+/// The number of travel tables whose first day is before this day.
 pub fn table_count_before(tables: &[TravelTable], day: Day) -> usize
     ensures value { result ≡ length (tables_before day tables.now) }
 {
@@ -38,7 +38,7 @@ pub fn table_count_before(tables: &[TravelTable], day: Day) -> usize
     count
 }
 
-/// Whether the trip stands on the day or later, and is the vehicle's where one is named.
+/// Whether the trip is not cancelled, is on the day or later, and is in the vehicle if one is given.
 fn stands_from(trip: &Trip, vehicle: &Option<VehicleId>, day: Day) -> bool
     ensures value { result ≡ is_standing_from vehicle.now day trip.now }
 {
@@ -49,7 +49,7 @@ fn stands_from(trip: &Trip, vehicle: &Option<VehicleId>, day: Day) -> bool
     trip.status.stands() && day <= trip.wish.day && is_of
 }
 
-/// Whether some trip stands on the day or later.
+/// Whether some trip is not cancelled, is on the day or later, and is in the vehicle if one is given.
 pub fn is_booked_from(trips: &[Trip], vehicle: &Option<VehicleId>, day: Day) -> bool
     ensures value { result ≡ is_booked_from vehicle.now day trips.now }
 {
@@ -111,7 +111,7 @@ pub(crate) fn planned_on(
     Ok(Rows::of(found))
 }
 
-/// Adds a copy of the entry at the end of the file.
+/// Adds a copy of the entry at the end of the file. The error is out of memory.
 fn push_copy(file: &mut CaseFile, new: &Entered) -> Result<(), AllocError>
     requires { length file.old < most_entries }
     ensures value { OnOk result (file.new ≡ file.old ++ new.now ∷ []) }
@@ -123,7 +123,7 @@ fn push_copy(file: &mut CaseFile, new: &Entered) -> Result<(), AllocError>
     }
 }
 
-/// The entries as a case file, so far as it has room.
+/// The entries as a case file, as far as it has room for them. The error is out of memory.
 pub fn file_with(alloc: Global, entries: &[FiledEntry]) -> Result<CaseFile, AllocError>
     ensures value { IfOk result (λ file. file ≡ file_with entries.now) }
 {

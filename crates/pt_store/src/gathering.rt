@@ -19,7 +19,7 @@ use pt_rights::{CaseFile, Entry};
 use pt_scheduling::PlannedRoute;
 use std::alloc::Global;
 
-/// Whether the rider or the vehicle is there that a role speaks of.
+/// Whether the rider or the vehicle that a role names exists.
 fn has_subject<K: Keeper>(keeper: &mut K, role: Role) -> Result<bool, StoreFault>
     ensures reads { Reads (K.store keeper.old) (K.store keeper.new)
         (λ s. has_subject role s.riders s.vehicles) result }
@@ -31,7 +31,7 @@ fn has_subject<K: Keeper>(keeper: &mut K, role: Role) -> Result<bool, StoreFault
     }
 }
 
-/// No more than the policy.
+/// The policy and no other facts.
 fn gather_policy<K: Keeper>(alloc: Global, keeper: &mut K) -> Result<WriteFacts, StoreFault>
     ensures reads { Reads (K.store keeper.old) (K.store keeper.new) (λ s. no_facts s.policy) result }
 {
@@ -108,7 +108,7 @@ fn rider_with_file<K: Keeper>(
     Ok((keeper.rider(rider)?, keeper.case_file(alloc, rider)?))
 }
 
-/// The trips by which the days of this rider, if there is one, are counted: those of a visitor, and none of a resident.
+/// The trips that count as days of use for this rider, if there is one: those of a visitor, and none for a resident.
 fn gather_counted<K: Keeper>(
     alloc: Global,
     keeper: &mut K,
@@ -126,7 +126,7 @@ fn gather_counted<K: Keeper>(
     }
 }
 
-/// The outcomes that an entry looks at.
+/// The outcomes that an entry's rules read.
 fn gather_tallies<K: Keeper>(
     alloc: Global,
     keeper: &mut K,
@@ -192,7 +192,7 @@ fn gather_travel<K: Keeper>(
     })
 }
 
-/// What every booking looks at.
+/// The facts that every booking reads.
 fn gather_agency<K: Keeper>(alloc: Global, keeper: &mut K) -> Result<WriteFacts, StoreFault>
     ensures reads { Reads (K.store keeper.old) (K.store keeper.new) agency_facts result }
 {
@@ -203,7 +203,7 @@ fn gather_agency<K: Keeper>(alloc: Global, keeper: &mut K) -> Result<WriteFacts,
     })
 }
 
-/// What is planned for a day.
+/// The facts about a day: its travel table, trips and plans.
 fn gather_day<K: Keeper>(alloc: Global, keeper: &mut K, day: Day) -> Result<DayFacts, StoreFault>
     ensures reads { Reads (K.store keeper.old) (K.store keeper.new) (day_of day) result }
 {
@@ -217,7 +217,7 @@ fn gather_day<K: Keeper>(alloc: Global, keeper: &mut K, day: Day) -> Result<DayF
     })
 }
 
-/// What is planned for the vehicle of a trip on its day, if there is one.
+/// The plan of the trip's vehicle on its day, if there is a trip.
 fn gather_plan<K: Keeper>(
     alloc: Global,
     keeper: &mut K,
@@ -231,7 +231,7 @@ fn gather_plan<K: Keeper>(
     }
 }
 
-/// What the wish of this rider for a day looks at, where it stands for a trip that is there, if any.
+/// The facts for this rider's wish for a day. `old` is the trip that it changes, if any.
 fn gather_booking<K: Keeper>(
     alloc: Global,
     keeper: &mut K,
@@ -256,7 +256,7 @@ fn gather_booking<K: Keeper>(
     })
 }
 
-/// What a rider's wish looks at, where it stands for a trip that is there, if any.
+/// The facts for a rider's wish. `old` is the trip that it changes, if any. The error is the store's or out of memory.
 pub fn gather_wish<K: Keeper>(
     alloc: Global,
     keeper: &mut K,
@@ -276,7 +276,7 @@ pub fn gather_wish<K: Keeper>(
     })
 }
 
-/// What the change of a trip looks at.
+/// The facts for the change of a trip.
 fn gather_change<K: Keeper>(
     alloc: Global,
     keeper: &mut K,
@@ -293,7 +293,7 @@ fn gather_change<K: Keeper>(
     }
 }
 
-/// What the cancellation of a trip looks at.
+/// The facts for the cancellation of a trip.
 fn gather_cancel<K: Keeper>(
     alloc: Global,
     keeper: &mut K,
@@ -308,7 +308,7 @@ fn gather_cancel<K: Keeper>(
     }
 }
 
-/// What the cancellation of this trip looks at.
+/// The facts for the cancellation of this trip.
 fn gather_there<K: Keeper>(
     alloc: Global,
     keeper: &mut K,
@@ -331,7 +331,7 @@ fn gather_there<K: Keeper>(
     })
 }
 
-/// What the outcome of a trip looks at.
+/// The facts for the outcome of a trip.
 fn gather_trip<K: Keeper>(
     alloc: Global,
     keeper: &mut K,
@@ -348,7 +348,7 @@ fn gather_trip<K: Keeper>(
     })
 }
 
-/// All that the rules of the write look at.
+/// All facts that the rules of the write read. The error is the store's or out of memory.
 pub fn gather<K: Keeper>(
     alloc: Global,
     keeper: &mut K,
@@ -431,7 +431,7 @@ fn gather_export<K: Keeper>(
     })
 }
 
-/// What manifests look at.
+/// The facts for manifests.
 fn gather_tours<K: Keeper>(alloc: Global, keeper: &mut K, day: Day) -> Result<ReadFacts, StoreFault>
     ensures reads { Reads (K.store keeper.old) (K.store keeper.new) (tour_facts day) result }
 {
@@ -444,7 +444,7 @@ fn gather_tours<K: Keeper>(alloc: Global, keeper: &mut K, day: Day) -> Result<Re
     })
 }
 
-/// All that the rules of the read look at, and what it is told.
+/// All facts that the read's rules and its answer need. The error is the store's or out of memory.
 pub fn gather_read<K: Keeper>(
     alloc: Global,
     keeper: &mut K,

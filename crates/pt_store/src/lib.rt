@@ -1,4 +1,4 @@
-//! The store that a desk asks: what it promises, and what the rules of each request look at, read from it.
+//! The store under a desk: what it promises, and how the facts that the rules of each request read are read from it.
 #![tactic(auto)]
 
 pub use answers::{file_with, find_caller, is_booked_from, table_count_before};
