@@ -28,11 +28,11 @@ minute_of (raise.Drive k n) = n
 minute_of (raise.Ride k n) = n
 minute_of (raise.Duration n) = n
 
--- the bounds after a raise: that of its visit is the larger of what it was and the raise's minute
+-- the bounds after a raise: its visit's bound becomes the larger of its old value and the raise's minute
 abbrev pub raised : (ℕ → ℕ) → Raise → ℕ → ℕ
 raised bound line k = if k == visit_of line then max (bound k) (minute_of line) else bound k
 
--- the vehicle leaves the visit before for the visit k no earlier than the bound and the service there, and drives on
+-- the vehicle arrives at the visit from the one before at minute n or later: after the bound, the service and the drive
 abbrev pub ArrivesFrom : (ℕ → ℕ → Option ℕ) → Vehicle → List Stop → (ℕ → ℕ) → ℕ → ℕ → Type 0
 ArrivesFrom minutes vehicle stops bound zero n = ⊥
 ArrivesFrom minutes vehicle stops bound (suc before) n =
@@ -40,7 +40,7 @@ ArrivesFrom minutes vehicle stops bound (suc before) n =
     IsSomeAnd (slice_get (visits vehicle stops) (suc before)) (λ next.
     IsSomeAnd (minutes this.place next.place) (λ drive. n ≤ bound before + this.service + drive)))
 
--- a pickup, and its drop, which is at most the ride limit after the end of the pickup
+-- the visit is a pickup and begins at minute n or later: its drop, by its bound, would else come after the ride limit
 abbrev pub RidesTo : List Stop → (ℕ → ℕ) → ℕ → ℕ → Type 0
 RidesTo stops bound zero n = ⊥
 RidesTo stops bound (suc i) n = (j : ℕ) × (pickup : Stop) × (drop : Stop)
@@ -48,7 +48,7 @@ RidesTo stops bound (suc i) n = (j : ℕ) × (pickup : Stop) × (drop : Stop)
     × IsTrue (is_pickup pickup) × IsTrue (is_drop drop) × (pickup.trip ≡ drop.trip)
     × (n + pickup.service + pickup.ride ≤ bound (j + 1))
 
--- a raise is right by the bounds that stand before it: no fitting service time at its visit is below its minute
+-- a raise is right by the bounds before it: no fitting service time at its visit is below its minute
 abbrev pub IsRightRaise : (ℕ → ℕ → Option ℕ) → Vehicle → List Stop → (ℕ → ℕ) → Raise → Type 0
 IsRightRaise minutes vehicle stops bound (raise.Window k n) =
     IsSomeAnd (slice_get (visits vehicle stops) k) (λ visit. n ≤ visit.lo)
@@ -56,7 +56,7 @@ IsRightRaise minutes vehicle stops bound (raise.Drive k n) = ArrivesFrom minutes
 IsRightRaise minutes vehicle stops bound (raise.Ride k n) = RidesTo stops bound k n
 IsRightRaise minutes vehicle stops bound (raise.Duration n) = n + vehicle.duration ≤ bound (length stops + 1)
 
--- an end is right by the bounds that stand before it: a constraint is broken whatever the service times
+-- an end is right by the bounds before it: a constraint is broken whatever the service times
 abbrev pub IsRightEnd : (ℕ → ℕ → Option ℕ) → Vehicle → List Stop → (ℕ → ℕ) → End → Type 0
 IsRightEnd minutes vehicle stops bound (end.Late k) =
     IsSomeAnd (slice_get (visits vehicle stops) k) (λ visit. visit.hi < bound k)
@@ -67,7 +67,7 @@ IsRightEnd minutes vehicle stops bound (end.NoWay k) =
     IsSomeAnd (slice_get (visits vehicle stops) (k + 1)) (λ next. minutes this.place next.place ≡ None))
 IsRightEnd minutes vehicle stops bound end.TooLong = most_stops < length stops
 
--- each raise is right by the bounds that stand before it, and so is the end
+-- each raise is right by the bounds before it, and so is the end
 abbrev pub AreRight : (ℕ → ℕ → Option ℕ) → Vehicle → List Stop → (ℕ → ℕ) → List Raise → End → Type 0
 AreRight minutes vehicle stops bound [] end = IsRightEnd minutes vehicle stops bound end
 AreRight minutes vehicle stops bound (raise ∷ raises) end =

@@ -19,7 +19,7 @@ pub record Case : Type 0 where
 abbrev pub case_at : Asked → Vehicle → List Stop → ℕ → ℕ → Case
 case_at asked vehicle stops i j = record { vehicle = vehicle; pickup = i; drop = j; stops = with_trip asked i j stops }
 
--- so many numbers in turn, from the first on
+-- `count` successive numbers, from the first on
 abbrev pub numbers_from : ℕ → ℕ → List ℕ
 numbers_from first zero = []
 numbers_from first (suc count) = first ∷ numbers_from (first + 1) count

@@ -1,4 +1,4 @@
--- A route with a trip put in, as the check looks at it.
+-- A route with a trip put in, as the check reads it.
 use Rattle.std.specs.Prelude.{List}
 use Rattle.pt_feasible.specs.declared.stop.Stop.{Stop}
 use Rattle.pt_feasible.specs.declared.visit.Visit as planned
@@ -12,7 +12,7 @@ use Rattle.pt_audit.specs.declared.insertion.Visit.{Visit}
 abbrev pub inserted_stops : Insertion → List Stop
 inserted_stops insertion = with_trip insertion.asked.now insertion.i insertion.j (stops_of insertion.route.now)
 
--- a visit as planning knows it
+-- a visit as a visit of the planning crates
 abbrev pub visit_as : Visit → planned.Visit
 visit_as visit = record { place = visit.place; lo = visit.lo; hi = visit.hi; service = visit.service }
 

@@ -1,4 +1,4 @@
--- A line of a log by its first letter, which tells how many numbers follow: those of a line are all told apart by it.
+-- A line of a log by its first letter, which gives the line's kind and how many numbers follow.
 use Rattle.std.specs.Prelude.{ℕ, ◌==◌, ◌||◌, ◌&&◌, if◌then◌else◌, Option, None, Some}
 use Rattle.pt_audit.specs.declared.line.Line.{Line}
 use Rattle.pt_audit.specs.declared.line.Line.TheVariants as line
@@ -19,7 +19,7 @@ line_with_one letter k =
     else if letter == 76 then Some (line.End (end.Overloaded k))
     else if letter == 77 then Some (line.End (end.NoWay k)) else None
 
--- the line of this first letter with two numbers, of which that of a duration's first is 0
+-- the line of this first letter with two numbers; a duration's first number is 0
 abbrev pub line_with_two : ℕ → ℕ → ℕ → Option Line
 line_with_two letter k n =
     if letter == 70 then Some (line.Raise (raise.Window k n))

@@ -1,4 +1,4 @@
--- Right logs: each case of a day ends in a constraint that no service times keep.
+-- Right logs: each case of a day ends in a constraint that no service times meet.
 use Rattle.std.specs.Prelude.{◌≡◌, ℕ, ◌⊎◌, List, [], ◌∷◌, ◌++◌, map, All, Option, None}
 use Rattle.pt_feasible.specs.Route.{stops_of}
 use Rattle.pt_insertion.specs.declared.asked.Asked.{Asked}
@@ -19,7 +19,7 @@ case_line case = line.Case case.vehicle.id case.pickup case.drop
 abbrev pub lines_of : Case → List Raise → End → List Line
 lines_of case raises end = case_line case ∷ map line.Raise raises ++ line.End end ∷ []
 
--- the lines are those of these cases in turn, where all bounds of a case begin at 0, and then the rest
+-- the lines are those of these cases in turn, and then the rest; in each case all bounds begin at 0
 abbrev pub BeginsWithCases : (ℕ → ℕ → Option ℕ) → List Case → List Line → List Line → Type 0
 BeginsWithCases minutes [] lines rest = lines ≡ rest
 BeginsWithCases minutes (case ∷ cases) lines rest = (raises : List Raise) × (end : End) × (after : List Line)
@@ -27,7 +27,7 @@ BeginsWithCases minutes (case ∷ cases) lines rest = (raises : List Raise) × (
     × AreRight minutes case.vehicle case.stops (λ _. 0) raises end
     × BeginsWithCases minutes cases after rest
 
--- the log has one line, where there is no way from the origin to the goal, or else the lines of each case of the day
+-- the log has one line, and there is no way from the origin to the goal; or it has the lines of each case of the day
 abbrev pub IsRightLog : (ℕ → ℕ → Option ℕ) → List Duty → Asked → List Line → Type 0
 IsRightLog minutes duties asked lines =
     ((lines ≡ line.NoDirect ∷ []) × (minutes asked.origin asked.goal ≡ None))
@@ -38,7 +38,7 @@ abbrev pub IsNowherePossible : (ℕ → ℕ → Option ℕ) → List Duty → As
 IsNowherePossible minutes duties asked = All (λ duty. (i j : ℕ) →
     ¬ IsPossible minutes duty.vehicle.now (stops_of duty.route.now) asked i j) duties
 
--- whoever made a right log, nothing is possible
+-- if a log is right, whoever made it, the trip has no place in any of the routes
 abbrev pub RightLogRefuses : Type 0
 RightLogRefuses = (minutes : ℕ → ℕ → Option ℕ) (duties : List Duty) (asked : Asked) (lines : List Line) →
     IsRightLog minutes duties asked lines → IsNowherePossible minutes duties asked

@@ -33,11 +33,11 @@ numbers_of (line.End (end.Overloaded k)) = k ∷ []
 numbers_of (line.End (end.NoWay k)) = k ∷ []
 numbers_of (line.End end.TooLong) = []
 
--- the largest number of a log
+-- the number is in the range of a log
 abbrev pub IsNumber : ℕ → Type 0
 IsNumber number = number ≤ 4_294_967_295
 
--- each number of the line may stand in a log
+-- each number of the line is in the range of a log
 abbrev pub IsInForm : Line → Type 0
 IsInForm line = All IsNumber (numbers_of line)
 
@@ -45,11 +45,11 @@ IsInForm line = All IsNumber (numbers_of line)
 abbrev pub number_text : ℕ → List ℕ
 number_text number = 32 ∷ decimal number
 
--- the line without its end
+-- the line without its newline
 abbrev pub words_of : Line → List ℕ
 words_of line = keyword_of line ++ flat_map number_text (numbers_of line)
 
--- the line
+-- the line with its newline
 abbrev pub line_text : Line → List ℕ
 line_text line = words_of line ++ 10 ∷ []
 
@@ -68,7 +68,7 @@ IsLogText text lines = All IsInForm lines × (text ≡ opening ++ flat_map line_
 abbrev pub row_number : ℕ → ℕ
 row_number row = min row (2 ^ 32 - 1)
 
--- so many lines in form stand before the row, where neither a further one stands nor the end of the log
+-- all lines before the row are in form, and the row is neither another line in form nor the end of the log
 pub record IsOutOfForm (text : List ℕ) (row : ℕ) : Type 0 where
   pub before : List Line
   pub rest : List ℕ

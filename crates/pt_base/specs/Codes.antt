@@ -1,7 +1,7 @@
 -- The codes of faults.
 use Rattle.std.specs.Prelude.{ℕ}
 
--- memory was refused
+-- out of memory
 abbrev pub memory_refused : ℕ
 memory_refused = 0
 
@@ -13,7 +13,7 @@ no_such_date = 1
 abbrev pub date_out_of_range : ℕ
 date_out_of_range = 2
 
--- a fixed route's points, width, coordinate and hours
+-- the faults of a fixed route: its number of points, its width, a coordinate, its hours
 abbrev pub points_refused : ℕ
 points_refused = 10
 
@@ -26,7 +26,7 @@ coordinate_refused = 12
 abbrev pub hours_refused : ℕ
 hours_refused = 13
 
--- a travel table's record, header, place, minutes, repeated pair and number of places
+-- the faults of a travel table: a record, the header, a place, minutes, a repeated pair, too many places
 abbrev pub record_refused : ℕ
 record_refused = 20
 
@@ -57,6 +57,6 @@ write_failed = 47
 abbrev pub moment_line_refused : ℕ
 moment_line_refused = 48
 
--- a line that no log of refusals has
+-- a line that is not in the form of a log of refusals
 abbrev pub log_line_refused : ℕ
 log_line_refused = 50

@@ -6,7 +6,7 @@ use Rattle.pt_base.specs.Ranges.{first_day, last_day}
 abbrev pub IsDay : ℕ → Type 0
 IsDay n = (first_day ≤ n) × (n ≤ last_day)
 
--- the day number lies before them or after them
+-- the day number lies before 2000-01-01 or after 2099-12-31
 abbrev pub IsOutside : ℤ → Type 0
 IsOutside number = (number <ℤ pos first_day) ⊎ (pos last_day <ℤ number)
 

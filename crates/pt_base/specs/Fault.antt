@@ -2,7 +2,7 @@
 use Rattle.std.specs.Prelude.{ℕ}
 use Rattle.pt_base.specs.declared.fault.Fault.{Fault}
 
--- the fault of this code, found in no row
+-- the fault of this code, in no row
 abbrev pub fault : ℕ → Fault
 fault code = record { code = code; row = 0 }
 

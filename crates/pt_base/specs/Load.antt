@@ -7,7 +7,7 @@ use Rattle.pt_base.specs.declared.vehicle.Vehicle.{Vehicle}
 abbrev pub no_load : Load
 no_load = record { seats = 0; chairs = 0 }
 
--- both together
+-- the sum of both loads
 abbrev pub load_sum : Load → Load → Load
 load_sum a b = record { seats = a.seats + b.seats; chairs = a.chairs + b.chairs }
 
@@ -15,12 +15,12 @@ load_sum a b = record { seats = a.seats + b.seats; chairs = a.chairs + b.chairs 
 abbrev pub load_difference : Load → Load → Load
 load_difference a b = record { seats = a.seats - b.seats; chairs = a.chairs - b.chairs }
 
--- no more than the room, in both parts
+-- the load is at most the room, in seats and in wheelchair places
 pub record IsWithin (load room : Load) : Type 0 where
   pub seats : load.seats ≤ room.seats
   pub chairs : load.chairs ≤ room.chairs
 
--- no more than the program counts
+-- the load is in the range that the program counts
 abbrev pub IsLoad : Load → Type 0
 IsLoad load = IsWithin load (record { seats = 65_535; chairs = 65_535 })
 

@@ -6,7 +6,7 @@ use Rattle.pt_base.specs.declared.rule.Rule.TheVariants.{Booked, Full, Residents
 use Rattle.pt_base.specs.declared.rule.Rule.TheVariants.{Suspension, Standing, VisitorDays, Conditions, Party}
 use Rattle.pt_base.specs.declared.rule.Rule.TheVariants.{BookingDays, Area, Hours, NoVehicle}
 
--- the name in ASCII: the desk's own, or the section of 49 CFR Part 37
+-- the rule's name in ASCII: the desk's own name, or the section of 49 CFR Part 37
 abbrev pub name_of : Rule → List ℕ
 name_of Key = codes "desk.key"
 name_of Number = codes "desk.number"

@@ -12,11 +12,11 @@ use Rattle.pt_base.specs.SpelledNumber.{is_within}
 abbrev pub SpellsDay : List ℕ → ℕ → Type 0
 SpellsDay text day = IsDay day × IsDateText (pos day) text
 
--- the number that one digit of a text writes
+-- the value of the digit at this place of a text
 abbrev pub digit_at : List ℕ → ℕ → ℕ
 digit_at text place = slice_index text place - 48
 
--- the year, the month and the day of the month at their places in such a text
+-- the year, the month and the day of the month at their places in a text `YYYY-MM-DD`
 abbrev pub year_in : List ℕ → ℕ
 year_in text = digit_at text 0 * 1000 + digit_at text 1 * 100 + digit_at text 2 * 10 + digit_at text 3
 
@@ -31,18 +31,18 @@ abbrev pub has_date : ℕ → ℕ → ℕ → Bool
 has_date year month day =
     nat_le year 9_999 && is_within 1 12 month && is_within 1 (days_in_month (pos year) month) day
 
--- the number of a day, where it is of the years 2000 to 2099
+-- the day's number if it lies in the years 2000 to 2099, else None
 abbrev pub of_century : ℤ → Option ℕ
 of_century (pos day) = if is_within first_day last_day day then Some day else None
 of_century (negsuc before) = None
 
--- the day of a year, month and day of the month, where the text is theirs
+-- the number of this date if the text spells it and the calendar has it in 2000 to 2099, else None
 abbrev pub day_of_date : List ℕ → ℕ → ℕ → ℕ → Option ℕ
 day_of_date text year month day =
     if bytes_eq (text_of year month day) text && has_date year month day then of_century (days_from_civil (pos year)
     month day)
     else None
 
--- the day that a text spells
+-- the day that a text `YYYY-MM-DD` spells, else None
 unfoldable pub day_from : List ℕ → Option ℕ
 day_from text = day_of_date text (year_in text) (month_in text) (date_in text)

@@ -14,6 +14,6 @@ number_of Friday = 4
 number_of Saturday = 5
 number_of Sunday = 6
 
--- the set, seen as whether it has each weekday from Monday on, has the one that comes so many days after Monday
+-- the set includes the weekday with this number; the list says of each weekday, from Monday on, whether it is in
 abbrev pub Includes : List Bool → ℕ → Type 0
 Includes days number = slice_get days number ≡ Some true

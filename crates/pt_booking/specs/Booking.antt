@@ -32,7 +32,7 @@ planned_pickup chosen = slice_index chosen.schedule.items (chosen.i + 1)
 abbrev pub promised_at : Request → Chosen → Window
 promised_at request chosen = promised_window (wished_window request.wish.pickup) (planned_pickup chosen)
 
--- the trip as it is kept: the wish, and what is settled now for a vehicle and a promised window
+-- the trip as it is stored: the wish, and what is fixed at booking, with a vehicle and a promised window
 pub record IsTripIn (minutes : ℕ → ℕ → Option ℕ) (request : Request) (vehicle : ℕ) (promised : Window)
     (trip : Trip) : Type 0 where
   pub number : trip.id ≡ request.trip
@@ -60,13 +60,13 @@ pub record IsNewRoute (minutes : ℕ → ℕ → Option ℕ) (duty : OnDuty) (tr
   pub loads : LoadsFit duty.vehicle stops
   pub schedule : IsLeastSchedule minutes duty.vehicle stops chosen.schedule.items
 
--- the trip is booked, or only memory for its new route was refused
+-- the trip is booked, or the call ran out of memory; no rule denies it
 abbrev pub IsAllowed : {E : Type 0} → Result Decision E → Type 0
 IsAllowed (Ok (Booked booking)) = Unit {0}
 IsAllowed (Ok (Denied rule)) = ⊥
 IsAllowed (Err error) = Unit {0}
 
--- a fact of what is booked
+-- P holds for the booking, if there is one
 abbrev pub IfBooked : {E : Type 0} → Result Decision E → (Booking → Type 0) → Type 0
 IfBooked (Ok (Booked booking)) P = P booking
 IfBooked (Ok (Denied rule)) P = Unit {0}

@@ -26,8 +26,8 @@ pub record OnDuty : Type 0 where
 abbrev pub on_duty : List Duty → List OnDuty
 on_duty duties = map (λ duty. record { vehicle = duty.vehicle.now; stops = stops_of duty.route.now }) duties
 
--- the most minutes of the ride: the direct time and the policy's extra minutes (our choice); with no way, only the
--- latter
+-- the most minutes of the ride: the direct time plus the policy's extra minutes (our choice); only the extra minutes if
+-- there is no way
 abbrev pub ride_limit : (ℕ → ℕ → Option ℕ) → Request → ℕ
 ride_limit minutes request = unwrap_or (minutes request.wish.from request.wish.to) 0 + request.policy.extra_ride
 
@@ -46,7 +46,7 @@ asked_for minutes request = record {
   load = load_of (party_of request.wish) request.rider.wheelchair;
 }
 
--- a booked trip as its vehicle's route has it: its pickup in the promised window, and what was settled when it was
+-- a booked trip as its vehicle's route has it: its pickup in the promised window, and what was fixed when it was
 -- booked
 abbrev pub asked_of : Trip → Asked
 asked_of trip = record {
@@ -73,7 +73,7 @@ pub record IsBestPlace (minutes : ℕ → ℕ → Option ℕ) (vehicles : List O
   pub possible : Any (λ duty. IsChosenIn minutes duty.vehicle duty.stops asked chosen) vehicles
   pub least : All (λ duty. IsBestIn minutes duty.vehicle duty.stops asked chosen) vehicles
 
--- all rules of a booking: vehicles come last
+-- all rules of a booking; the rule on vehicles comes last
 abbrev pub booking_rules : (ℕ → ℕ → Option ℕ) → List OnDuty → Request → List (Rule × Type 0)
 booking_rules minutes vehicles request =
     riders_rules request ++ (NoVehicle, SomeVehicleCan minutes vehicles (asked_for minutes request)) ∷ []

@@ -1,4 +1,4 @@
--- A trip that is asked for, with all that its rules look at but vehicles and driving times.
+-- A requested trip, with all that its rules use except vehicles and driving times.
 use Rattle.std.specs.Prelude.{ℕ, List}
 use Rattle.pt_base.specs.declared.place.Place.{Place}
 use Rattle.pt_base.specs.declared.policy.Policy.{Policy}
@@ -23,7 +23,7 @@ pub record Request : Type 0 where
   pub today : ℕ
   pub wish : Wish
 
--- what a request lends
+-- the values that a request borrows
 abbrev pub request_of : TripRequest → Request
 request_of lent = record {
   trip = lent.trip;

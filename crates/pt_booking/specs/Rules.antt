@@ -15,7 +15,7 @@ use Rattle.pt_rights.specs.declared.case_file.Standing.TheVariants as standing
 use Rattle.pt_visitors.specs.Periods.{MayUse}
 use Rattle.pt_booking.specs.Request.{Request, party_of}
 
--- the first rule that does not hold, of an ordered list of rules, each beside what it asks; None where all hold
+-- the first rule that does not hold, of an ordered list of rules, each with its condition; None if all hold
 abbrev pub IsFirstFailing : List (Rule × Type 0) → Option Rule → Type 0
 IsFirstFailing [] found = found ≡ None
 IsFirstFailing (rule ∷ rules) found = (¬ rule.1 × (found ≡ Some rule.0)) ⊎ (rule.1 × IsFirstFailing rules found)
@@ -24,7 +24,7 @@ IsFirstFailing (rule ∷ rules) found = (¬ rule.1 × (found ≡ Some rule.0)) �
 abbrev pub standing_for : Request → Standing
 standing_for request = standing_of request.file request.today request.wish.day
 
--- a resident has standing (49 CFR 37.125(c), (e), (g)); a visitor's period has the day left (37.127(e))
+-- a resident has standing (49 CFR 37.125(c), (e), (g)); a visitor has a day left in the period (37.127(e))
 abbrev pub entitlement : Residence → Request → Rule × Type 0
 entitlement Resident request = (rule.Standing, standing_for request ≢ standing.None)
 entitlement Visitor request = (rule.VisitorDays, MayUse request.uses request.wish.day)
@@ -42,7 +42,7 @@ abbrev pub IsCovered : Residence → Request → Type 0
 IsCovered Resident request = IsUnder (standing_for request) request
 IsCovered Visitor request = Unit {0}
 
--- the rules before any vehicle is looked at
+-- the rules that need no vehicle
 abbrev pub riders_rules : Request → List (Rule × Type 0)
 riders_rules request =
     entitlement request.rider.kind request

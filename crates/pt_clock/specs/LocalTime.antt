@@ -4,7 +4,7 @@ use Rattle.jiff.specs.Placed.{IsPosixZone}
 use Rattle.jiff.specs.Types.{DateTime, TimeZone}
 use Rattle.jiff.specs.Words.{read_whole, civil_nanos, epoch_day, nanos_of_seconds, offset_at}
 
--- the text is the rule of a zone, as POSIX has it in the variable TZ (IEEE Std 1003.1, section 8.3)
+-- the text is a time zone rule in the form of the POSIX variable TZ (IEEE Std 1003.1, section 8.3)
 abbrev pub IsZoneRule : List ℕ → Type 0
 IsZoneRule text = IsSome (read_whole text)
 

@@ -10,18 +10,18 @@ use Rattle.pt_rights.specs.declared.conditions.Condition.TheVariants.{Always, Mo
 abbrev pub numbers_text : List ℕ → List ℕ
 numbers_text numbers = join_with_byte 44 (map decimal numbers)
 
--- a condition: its months, or its feet, after its name
+-- the text of a condition: its name, and then its months or feet if it has them
 abbrev pub condition_text : Condition → List ℕ
 condition_text Always = codes "always"
 condition_text (Months months) = codes "months:" ++ numbers_text (numbers_of months)
 condition_text (Farther feet) = codes "farther:" ++ decimal feet
 condition_text NoLift = codes "nolift"
 
--- the text is that of the condition
+-- the text is the condition's, and the condition is in its range
 abbrev pub SpellsCondition : List ℕ → Condition → Type 0
 SpellsCondition text condition = IsCondition condition × (text ≡ condition_text condition)
 
--- no two conditions have one text
+-- no two conditions have the same text
 abbrev pub TextTellsCondition : Type 0
 TextTellsCondition = (one other : Condition) → IsCondition one → IsCondition other
     → condition_text one ≡ condition_text other → one ≡ other

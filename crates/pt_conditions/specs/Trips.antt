@@ -14,8 +14,8 @@ use Rattle.pt_rights.specs.declared.conditions.Condition.TheVariants as conditio
 abbrev pub IsInMonths : List ℕ → ℕ → Type 0
 IsInMonths months day = (month : ℕ) × Contains months month × IsInMonth (pos day) month
 
--- every route that runs then is farther than so many feet from the point: whether its place is in a core area does
--- not matter
+-- every route that runs then is farther than this many feet from the point, whether or not the place is in a core
+-- area
 abbrev pub IsFarther : List Route → ℕ → ℕ → ℕ → Point → Type 0
 IsFarther routes day minute feet point =
     All (λ route. IsRunning day minute route → ¬ IsNearLine feet point route.points) routes
@@ -33,6 +33,6 @@ HoldsFor routes day minute from to (condition.Farther feet) =
     IsFarther routes day minute feet from.at ⊎ IsFarther routes day minute feet to.at
 HoldsFor routes day minute from to condition.NoLift = ¬ HasLift routes day minute from to
 
--- a trip qualifies where at least one of the listed conditions holds for it
+-- a trip qualifies if at least one of the listed conditions holds for it
 abbrev pub Qualifies : List Condition → List Route → ℕ → ℕ → Place → Place → Type 0
 Qualifies conditions routes day minute from to = Any (HoldsFor routes day minute from to) conditions

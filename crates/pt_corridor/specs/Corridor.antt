@@ -11,7 +11,7 @@ use Rattle.pt_corridor.specs.Route.{Route}
 abbrev pub LiesInCorridor : Place → Route → Type 0
 LiesInCorridor place route = IsNearLine route.width place.at route.points ⊎ IsTrue place.core
 
--- the route runs on that weekday, and the minute is none before its first or after its last (49 CFR 37.131(e))
+-- the route runs on that weekday, and the minute lies from its first to its last, both included (49 CFR 37.131(e))
 pub record IsRunning (day minute : ℕ) (route : Route) : Type 0 where
   pub weekday : Includes route.days (weekday_of day)
   pub begun : route.first ≤ minute

@@ -1,4 +1,4 @@
--- Fixed routes, and what refuses one.
+-- Fixed routes, and the faults for which one is refused.
 use Rattle.std.specs.Prelude.{◌≡◌, ℕ, ◌≤◌, Bool, List, [], ◌∷◌, length, ◌⊎◌, All}
 use Rattle.std.specs.Int.{IsInRange}
 use Rattle.pt_base.specs.Place.{IsOnPlane}
@@ -33,18 +33,18 @@ HasWidth route = IsInRange 3_960 7_920 route.width
 abbrev pub IsRouteOnPlane : Route → Type 0
 IsRouteOnPlane route = All (λ p. IsOnPlane p.x p.y) route.points
 
--- the route does not end its day before it begins it
+-- the route's first minute is not after its last
 abbrev pub HasHours : Route → Type 0
 HasHours route = route.first ≤ route.last
 
--- what every fixed route keeps
+-- the limits that every fixed route meets
 pub record IsFixedRoute (route : Route) : Type 0 where
   pub points : HasPoints route
   pub width : HasWidth route
   pub on_plane : IsRouteOnPlane route
   pub hours : HasHours route
 
--- the first in a list of codes, each with what makes it stand
+-- the code is the first of the list whose condition holds
 abbrev pub IsFirst : List (ℕ × Type 0) → ℕ → Type 0
 IsFirst [] code = ⊥
 IsFirst (f ∷ later) code = ((code ≡ f.0) × f.1) ⊎ (¬ f.1 × IsFirst later code)

@@ -9,8 +9,8 @@ use Rattle.pt_feasible.specs.Limits.{AreInWindows, StandFor}
 use Rattle.pt_feasible.specs.ServiceTimes.{TimesFit, IsNeverLater}
 use Rattle.pt_feasible.specs.Visit.{visits}
 
--- a line has a bound and limits for each visit: bounds within the windows that no fitting times come before, and limits
--- that stand for what these keep
+-- A line has a lower bound and limits for each visit. The bounds lie in the windows, and no fitting time is earlier.
+-- The limits are equivalent to what fitting times keep.
 pub record IsLineOf (minutes : ℕ → ℕ → Option ℕ) (vehicle : Vehicle) (stops : List Stop) (line : Line) : Type 0 where
   pub count : length line.earliest.items ≡ length stops + 2
   pub count_limits : length line.limits.items ≡ length stops + 2

@@ -1,4 +1,4 @@
--- The stops of a route: at most so many, and pickups and drops in pairs (Cordeau and Laporte 2003): a vehicle that
+-- The stops of a route: a limited number, with pickups and drops in pairs (Cordeau and Laporte 2003). A vehicle that
 -- picks a party up drops it later.
 use Rattle.std.specs.Prelude.{◌≡◌, ℕ, ◌<◌, Bool, ◌==◌, ◌&&◌, if◌then◌else◌, IsTrue, List, Some, slice_get}
 use Rattle.std.specs.List.{list_any}
@@ -21,7 +21,7 @@ pub record IsPickupThenDrop (first second : Stop) : Type 0 where
 abbrev pub is_partner : Stop → Stop → Bool
 is_partner stop other = (stop.trip == other.trip) && (if is_pickup stop then is_drop other else is_pickup other)
 
--- each trip has one pickup and one later drop: no trip has two stops but these, and no stop is alone
+-- each trip has one pickup and one later drop, and no other stop
 pub record IsPaired (stops : List Stop) : Type 0 where
   pub in_order : (i j : ℕ) (first second : Stop) → i < j →
       slice_get stops i ≡ Some first → slice_get stops j ≡ Some second →

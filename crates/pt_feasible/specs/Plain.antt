@@ -20,7 +20,7 @@ north place = place % 1000
 abbrev pub across : ℕ → ℕ → ℕ
 across a b = max (apart (east a) (east b)) (apart (north a) (north b))
 
--- there is no way between two plains, which the digits before those six tell apart
+-- there is no way between two plains; the digits before those six number the plain
 abbrev pub plain_minutes : ℕ → ℕ → Option ℕ
 plain_minutes a b = if a / 1_000_000 == b / 1_000_000 then Some (across a b) else None
 
@@ -42,7 +42,7 @@ across-triangle a b c = apart-triangle (east a) (east b) (east c) (north a) (nor
 pub plain-stays : (a : ℕ) → plain_minutes a a ≡ Some 0
 plain-stays a = rw (eq-eqb (a / 1_000_000) (a / 1_000_000) refl) (ap Some (across-self a))
 
--- a way that is there has the minutes across
+-- if there is a way, it takes the minutes across
 some-across : (same : Bool) (a b m : ℕ) → (if same then Some (across a b) else None) ≡ Some m →
     (same ≡ true) × (across a b ≡ m)
 some-across true a b m way = (refl, same_Some (across a b) m way)

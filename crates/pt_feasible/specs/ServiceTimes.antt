@@ -13,20 +13,20 @@ abbrev pub KeepsTimeWindows : List Visit → List ℕ → Type 0
 KeepsTimeWindows all b = (k : ℕ) (visit : Visit) → slice_get all k ≡ Some visit →
     (visit.lo ≤ slice_index b k) × (slice_index b k ≤ visit.hi)
 
--- driving: between neighbours there is a way, and time for the service and the drive
+-- driving: from each visit to the next there is a way, and time for the service and the drive
 abbrev pub KeepsDrivingTimes : (ℕ → ℕ → Option ℕ) → List Visit → List ℕ → Type 0
 KeepsDrivingTimes minutes all b = (k : ℕ) (this next : Visit) →
     slice_get all k ≡ Some this → slice_get all (k + 1) ≡ Some next →
     IsSomeAnd (minutes this.place next.place) (λ drive. slice_index b k + this.service + drive ≤ slice_index b (k + 1))
 
--- ride time: from the end of a trip's pickup to its drop no more minutes pass than its ride limit
+-- ride time: from the end of a trip's pickup to its drop, at most its ride limit passes
 abbrev pub KeepsRideLimits : List Stop → List ℕ → Type 0
 KeepsRideLimits stops b = (i j : ℕ) (pickup drop : Stop) →
     slice_get stops i ≡ Some pickup → slice_get stops j ≡ Some drop →
     IsTrue (is_pickup pickup) → IsTrue (is_drop drop) → pickup.trip ≡ drop.trip →
     slice_index b (j + 1) - (slice_index b (i + 1) + pickup.service) ≤ pickup.ride
 
--- route duration: the vehicle is back within so many minutes of leaving
+-- route duration: the vehicle is back within its duration, in minutes after it leaves
 abbrev pub KeepsRouteDuration : Vehicle → List Stop → List ℕ → Type 0
 KeepsRouteDuration vehicle stops b = slice_index b (length stops + 1) - slice_index b 0 ≤ vehicle.duration
 

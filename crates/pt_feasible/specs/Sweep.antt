@@ -6,8 +6,8 @@ use Rattle.pt_feasible.specs.declared.sweep.Pass.TheVariants.{Stayed, Raised, Br
 use Rattle.pt_feasible.specs.Limits.{KeepsAll, AreInWindows}
 use Rattle.pt_feasible.specs.ServiceTimes.{IsNeverLater}
 
--- the bounds never fall, and stay below all times that keep the limits, and within their windows; a pass that raised
--- none changed nothing, one that raised some has a larger sum, and where one is broken no times keep the limits
+-- The bounds never fall, stay within their windows, and stay at or below all times that keep the limits. A pass that
+-- raised none changed nothing; one that raised some has a larger sum. If a limit is broken, no times keep the limits.
 pub record Raises (limits : List Limits) (old new : List ℕ) (done : Pass) : Type 0 where
   pub count : length new ≡ length old
   pub rises : IsNeverLater old new
@@ -17,7 +17,7 @@ pub record Raises (limits : List Limits) (old new : List ℕ) (done : Pass) : Ty
   pub raised : done ≡ Raised → sum old < sum new
   pub broken : done ≡ Broken → (b : List ℕ) → IsNeverLater old b → ¬ KeepsAll limits b
 
--- the limits of the first so many visits are kept from the old bounds to the new ones
+-- the limits of the first `count` visits hold from the old bounds to the new ones
 abbrev pub IsWalkedTo : List Limits → List ℕ → List ℕ → ℕ → Type 0
 IsWalkedTo limits old new count = (k : ℕ) (d : Limits) → k < count → k < length limits →
     (slice_index old k ≤ slice_index new (slice_index_or limits k d).since.visit

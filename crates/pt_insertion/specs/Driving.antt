@@ -1,4 +1,4 @@
--- The driving minutes of a route: the driving times between neighbours, from the depot and back to it.
+-- The driving minutes of a route: the driving times from each visit to the next, from the depot and back to it.
 use Rattle.std.specs.Prelude.{◌≡◌, ℕ, ◌+◌, ◌-◌, List, [], ◌∷◌, ◌++◌, map, Option, Some, slice_get, unwrap_or}
 use Rattle.pt_base.specs.declared.vehicle.Vehicle.{Vehicle}
 use Rattle.pt_feasible.specs.declared.stop.Stop.{Stop}
@@ -27,7 +27,7 @@ leg minutes from to = unwrap_or (minutes from to) 0
 abbrev pub detour : (ℕ → ℕ → Option ℕ) → (from place to : ℕ) → ℕ
 detour minutes from place to = leg minutes from place + leg minutes place to - leg minutes from to
 
--- so many minutes more take the drives between the k-th visit and the next one with this place between them
+-- the drives from the k-th visit to the next one take this many minutes more by way of this place
 abbrev pub IsDetour : (ℕ → ℕ → Option ℕ) → Vehicle → List Stop → (k place more : ℕ) → Type 0
 IsDetour minutes vehicle stops k place more = (here next : Visit) →
     slice_get (visits vehicle stops) k ≡ Some here → slice_get (visits vehicle stops) (k + 1) ≡ Some next →

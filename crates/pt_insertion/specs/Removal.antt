@@ -15,7 +15,8 @@ is_of_another trip stop = not (stop.trip == trip)
 abbrev pub without_trip : ℕ → List Stop → List Stop
 without_trip trip stops = filter (is_of_another trip) stops
 
--- of times that begin with one for each of these stops, those at the stops of other trips, and all later ones
+-- of a list of times that begins with one for each of these stops: those at the stops of other trips, and all later
+-- ones
 abbrev pub times_at_others : ℕ → List Stop → List ℕ → List ℕ
 times_at_others trip [] b = b
 times_at_others trip (stop ∷ stops) [] = []

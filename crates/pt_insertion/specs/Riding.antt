@@ -1,4 +1,4 @@
--- The ride of a trip that is put into a route: who rides with it, and how long it takes at least.
+-- The ride of a trip that is put into a route: who rides with it, and its least length.
 use Rattle.std.specs.Prelude.{◌≡◌, ℕ, ◌+◌, ◌≤◌, List, length, take, Option, Some, slice_get, slice_index}
 use Rattle.pt_base.specs.declared.vehicle.Vehicle.{Vehicle}
 use Rattle.pt_feasible.specs.declared.stop.Stop.{Stop}
@@ -10,8 +10,8 @@ use Rattle.pt_insertion.specs.declared.asked.Asked.{Asked}
 use Rattle.pt_insertion.specs.declared.riding.Riding.{Riding}
 use Rattle.pt_insertion.specs.Insertion.{with_trip}
 
--- with the pickup after i old stops and the drop after j or more, the later of the pickup and the j-th visit is at this
--- place, and when its service ends the ride has taken at least so many minutes
+-- With the pickup after i old stops and the drop after j or more, the later of the pickup and the j-th visit is at this
+-- place. When its service ends, the ride has taken at least `ridden` minutes.
 abbrev pub IsRiddenFor : (ℕ → ℕ → Option ℕ) → Vehicle → List Stop → Asked → (i j place ridden : ℕ) → Type 0
 IsRiddenFor minutes vehicle stops asked i j place ridden = (later : ℕ) (b : List ℕ) (last : Visit) →
     j ≤ later → later ≤ length stops → TimesFit minutes vehicle (with_trip asked i later stops) b →
@@ -19,7 +19,7 @@ IsRiddenFor minutes vehicle stops asked i j place ridden = (later : ℕ) (b : Li
     (last.place ≡ place) × (slice_index b (i + 1) + asked.service + ridden ≤ slice_index b (j + 1) + last.service)
 
 -- with the pickup after i old stops and the drop after j or more, service at the later of the pickup and the j-th visit
--- ends no sooner than at this minute
+-- ends at this minute or later
 abbrev pub IsServedUntil : (ℕ → ℕ → Option ℕ) → Vehicle → List Stop → Asked → (i j leaves : ℕ) → Type 0
 IsServedUntil minutes vehicle stops asked i j leaves = (later : ℕ) (b : List ℕ) (last : Visit) →
     j ≤ later → later ≤ length stops → TimesFit minutes vehicle (with_trip asked i later stops) b →

@@ -1,4 +1,4 @@
--- A route that is lent with a trip put in, as the list of its stops.
+-- A borrowed route with a trip put in, as the list of its stops.
 use Rattle.std.specs.Prelude.{List}
 use Rattle.pt_feasible.specs.declared.stop.Stop.{Stop}
 use Rattle.pt_feasible.specs.Route.{stops_of}

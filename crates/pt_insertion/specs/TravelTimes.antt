@@ -1,4 +1,4 @@
--- The laws of driving times that taking stops out of a route stands on.
+-- The law of driving times on which the removal of stops from a route depends.
 use Rattle.std.specs.Prelude.{◌≡◌, ℕ, ◌+◌, ◌≤◌, Option, Some, IsSomeAnd}
 
 -- a way over a third place is never shorter than the driving time, within a day

@@ -22,7 +22,7 @@ abbrev pub IsStep : (ℕ → ℕ → Option ℕ) → Vehicle → List Stop → (
 IsStep minutes vehicle stops bound (step.Raise raise) = Raises minutes vehicle stops bound raise
 IsStep minutes vehicle stops bound (step.End end) = IsRightEnd minutes vehicle stops bound end
 
--- the bound of visit k, or the start of its window, is no earlier than the vehicle arrives there
+-- the vehicle can arrive at visit k by its bound, unless the bound is before its window or at the limit of a number
 abbrev pub IsDriven : (ℕ → ℕ → Option ℕ) → Vehicle → List Stop → (ℕ → ℕ) → ℕ → Type 0
 IsDriven minutes vehicle stops bound k = (before drive : ℕ) (this next : Visit) → k ≡ before + 1 →
     slice_get (visits vehicle stops) before ≡ Some this → slice_get (visits vehicle stops) k ≡ Some next →
@@ -39,7 +39,7 @@ pub record IsRide (stops : List Stop) (i j : ℕ) : Type 0 where
   pub drops : IsTrue (is_drop drop)
   pub same : pickup.trip ≡ drop.trip
 
--- the drop of a pickup at visit k is no later than its ride limit says
+-- the drop of a pickup at visit k is no later than its ride limit allows
 abbrev pub IsRidden : List Stop → (ℕ → ℕ) → ℕ → Type 0
 IsRidden stops bound k = (i j : ℕ) (pickup drop : Stop) → k ≡ i + 1 →
     slice_get stops i ≡ Some pickup → slice_get stops j ≡ Some drop →
@@ -60,22 +60,22 @@ pub record IsKeptAt (minutes : ℕ → ℕ → Option ℕ) (vehicle : Vehicle) (
 abbrev pub AreKeptBefore : (ℕ → ℕ → Option ℕ) → Vehicle → List Stop → (ℕ → ℕ) → ℕ → Type 0
 AreKeptBefore minutes vehicle stops bound n = (k : ℕ) → k < n → IsKeptAt minutes vehicle stops bound k
 
--- so do those before visit rest but visit first
+-- the visits before visit `rest`, except visit `first`, keep their constraints
 abbrev pub AreKeptBut : (ℕ → ℕ → Option ℕ) → Vehicle → List Stop → (ℕ → ℕ) → ℕ → ℕ → Type 0
 AreKeptBut minutes vehicle stops bound first rest =
     (k : ℕ) → k < rest → k ≢ first → IsKeptAt minutes vehicle stops bound k
 
--- a raise at visit k, or an end
+-- the step is a raise at visit k, or an end
 abbrev pub IsAt : ℕ → Step → Type 0
 IsAt k (step.Raise raise) = visit_of raise ≡ k
 IsAt k (step.End end) = ⊤
 
--- the visits before that of a raise keep their constraints
+-- if the step is a raise, the visits before its visit keep their constraints
 abbrev pub IsFirst : (ℕ → ℕ → Option ℕ) → Vehicle → List Stop → (ℕ → ℕ) → Step → Type 0
 IsFirst minutes vehicle stops bound (step.Raise raise) = AreKeptBefore minutes vehicle stops bound (visit_of raise)
 IsFirst minutes vehicle stops bound (step.End end) = ⊤
 
--- an end that is right whatever the bounds are
+-- the end is right whatever the bounds are
 abbrev pub IsLasting : (ℕ → ℕ → Option ℕ) → Vehicle → List Stop → End → Type 0
 IsLasting minutes vehicle stops end = IsRightEnd minutes vehicle stops (λ _. 0) end
 

@@ -1,4 +1,4 @@
--- What was written of a log.
+-- What has been written of a log.
 use Rattle.std.specs.Prelude.{ℕ, List, ◌++◌, All, Option}
 use Rattle.std.specs.List.{flat_map}
 use Rattle.std.specs.Io.KnownBytes.{Appends}

@@ -4,7 +4,7 @@ use Rattle.pt_base.specs.declared.policy.Policy.{Policy}
 use Rattle.pt_party.specs.declared.party.Party.{Party}
 use Rattle.pt_party.specs.Party.{payers_of}
 
--- the highest of each fare of a policy, in cents
+-- the most that each fare of a policy may be, in cents
 abbrev pub highest_fare : ℕ
 highest_fare = 100_000
 

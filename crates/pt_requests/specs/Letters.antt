@@ -1,11 +1,11 @@
--- The decisions that riders are told by letter (49 CFR 37.125(d), (e), (g), (h)).
+-- The decisions that riders get by letter (49 CFR 37.125(d), (e), (g), (h)).
 use Rattle.std.specs.Prelude.{Option, None, Some}
 use Rattle.pt_rights.specs.declared.entry.Entry.{Entry}
 use Rattle.pt_rights.specs.declared.entry.Entry.TheVariants as entry
 use Rattle.pt_requests.specs.declared.letters.Determination.{Determination}
 use Rattle.pt_requests.specs.declared.letters.Determination.TheVariants as decision
 
--- the decision that an entry of a case file makes: the other kinds have no letter
+-- the decision that an entry of a case file makes; None for the kinds that have no letter
 abbrev pub decision_of : Entry → Option Determination
 decision_of entry.Complete = None
 decision_of (entry.Grant grant) = Some (decision.Granted grant)

@@ -32,7 +32,7 @@ rules_of file (kind.Refuse reasons) today author tallies policy = (rule.Applicat
 rules_of file (kind.Appeal against) today author tallies policy = (rule.Appeal, may_appeal file today against) ∷ []
 -- an appeal is heard once (37.125(g))
 rules_of file kind.Heard today author tallies policy = (rule.Appeal, awaits_hearing file) ∷ []
--- another decides the appeal than the one who decided before (37.125(g))
+-- the appeal is decided by somebody other than the author of the disputed entry (37.125(g))
 rules_of file (kind.AppealGranted grant) today author tallies policy =
     (rule.Appeal, may_decide file (kind.AppealGranted grant) author) ∷ (rule.LastDay, nat_le today grant.until) ∷ []
 rules_of file (kind.AppealDenied reasons) today author tallies policy =

@@ -23,16 +23,16 @@ disputed file _ = None
 abbrev pub disputes : (Entered → Bool) → List Entered → Entry → Bool
 disputes test file entry = option_map_or test (disputed file entry) false
 
--- some appeal that passes the test is pending: no decision of an appeal stands after it
+-- some appeal that passes the test is pending: no later entry decides an appeal
 abbrev pub some_pending : (Entry → Bool) → List Entered → Bool
 some_pending appeals file = some_position (is_open (λ e. appeals e.entry) (λ e. decides_appeal e.entry)) file
 
--- some such appeal is pending, and an entry that passes the second test stands after it
+-- some such appeal is pending, and a later entry passes the second test
 abbrev pub some_pending_with : (Entry → Bool) → (Entered → Bool) → List Entered → Bool
 some_pending_with appeals follows file =
     some_position (is_followed (λ e. appeals e.entry) (λ e. decides_appeal e.entry) follows) file
 
--- an entry may be appealed against when it is a refusal or a suspension, within 60 days, the 60th among them
+-- an entry may be appealed against if it is a refusal or a suspension, within 60 days, the 60th included
 abbrev pub is_appealable : ℕ → Entered → Bool
 is_appealable today entered = (is_refusal entered.entry || is_suspension entered.entry)
     && nat_le today (entered.day + days_to_appeal)
@@ -48,27 +48,27 @@ may_appeal file today position =
     option_map_or (is_appealable today) (slice_get file position) false
     && (not (is_appealed file position) && not (some_pending is_appeal file))
 
--- an appeal is pending that was not heard
+-- an appeal is pending and was not heard
 abbrev pub awaits_hearing : List Entered → Bool
 awaits_hearing file =
     some_position (is_open (λ e. is_appeal e.entry) (λ e. decides_appeal e.entry || is_hearing e.entry)) file
 
--- a decision of an appeal may answer it for what is appealed against: a refusal is granted or denied, a suspension
--- overturned or denied
+-- the decision fits the entry that is appealed against: the appeal against a refusal is granted or denied, and the one
+-- against a suspension overturns it or is denied
 abbrev pub may_answer : Entry → Entry → Bool
 may_answer (kind.AppealGranted grant) against = is_refusal against
 may_answer (kind.AppealDenied reasons) against = is_refusal against || is_suspension against
 may_answer kind.Overturn against = is_suspension against
 may_answer _ against = false
 
--- an appeal that was heard is pending, and what it is against is of the decision's kind and of another author
+-- an appeal that was heard is pending; the decision fits the disputed entry, whose author is somebody else
 abbrev pub may_decide : List Entered → Entry → ℕ → Bool
 may_decide file decision author =
     some_pending_with
     (disputes (λ e. may_answer decision e.entry && not (e.author == author)) file)
     (λ e. is_hearing e.entry) file
 
--- an appeal was heard on the entry's day, which is 30 days before today or earlier
+-- the entry says that an appeal was heard, 30 days before today or earlier
 abbrev pub is_heard_by : ℕ → Entered → Bool
 is_heard_by today entered = is_hearing entered.entry && nat_le (entered.day + days_to_decide) today
 
@@ -76,11 +76,11 @@ is_heard_by today entered = is_hearing entered.entry && nat_le (entered.day + da
 abbrev pub is_overdue : List Entered → ℕ → Bool
 is_overdue file today = some_pending_with (disputes (λ e. is_refusal e.entry) file) (is_heard_by today) file
 
--- the first decision of an appeal among the entries, if there is one, overturns
+-- the first decision of an appeal among the entries overturns; false if there is none
 abbrev pub is_first_overturned : List Entered → Bool
 is_first_overturned file = option_map_or (λ e. is_overturn e.entry) (find (λ e. decides_appeal e.entry) file) false
 
--- what stands at the position is overturned: the first decision after an appeal against it overturns
+-- the entry at the position is overturned: the first decision after an appeal against it overturns
 abbrev pub is_overturned : List Entered → ℕ → Bool
 is_overturned file position =
     some_position (λ entered later. appeals_against position entered.entry && is_first_overturned later) file

@@ -6,7 +6,7 @@ use Rattle.pt_rights.specs.Kinds.{is_complete, is_decision, grant_of, is_refusal
 use Rattle.pt_rights.specs.Kinds.{is_overturn, decides_appeal, suspends}
 use Rattle.pt_rights.specs.Limits.{days_to_decide, days_to_presumption}
 
--- an application stands at the position, and no decision stands after it
+-- the entry at the position completes an application, and no later entry decides one
 pub record IsUnansweredAt (file : List Entered) (position : ℕ) (application : Entered) : Type 0 where
   pub here : slice_get file position ≡ Some application
   pub completes : is_complete application.entry ≡ true
@@ -23,7 +23,7 @@ IsPresumed file today =
     (position : ℕ) × (application : Entered) × IsUnansweredAt file position application
     × (application.day + days_to_presumption ≤ today)
 
--- this is granted at the position, and nothing is granted after it
+-- the entry at the position grants this, and no later entry grants anything
 pub record IsLastGrantAt (file : List Entered) (position : ℕ) (granting : Entered) (grant : Grant) : Type 0 where
   pub here : slice_get file position ≡ Some granting
   pub grants : grant_of granting.entry ≡ Some grant
@@ -35,8 +35,7 @@ abbrev pub IsGrantedFor : List Entered → ℕ → Grant → Type 0
 IsGrantedFor file day grant =
     (position : ℕ) × (granting : Entered) × IsLastGrantAt file position granting grant × (day ≤ grant.until)
 
--- an appeal against the entry at the position `against` stands at the position, and no decision of an appeal stands
--- after it
+-- the entry at `position` is an appeal against the entry at `against`, and no later entry decides an appeal
 pub record IsPendingAt (file : List Entered) (position against : ℕ) (appeal : Entered) : Type 0 where
   pub here : slice_get file position ≡ Some appeal
   pub appeals : against_of appeal.entry ≡ Some against
@@ -52,7 +51,7 @@ abbrev pub IsRefusedAt : List Entered → ℕ → Type 0
 IsRefusedAt file position = (refusal : Entered) × (slice_get file position ≡ Some refusal)
     × (is_refusal refusal.entry ≡ true)
 
--- an appeal was heard after the position, on a day that is 30 days before today or earlier
+-- a later entry says that an appeal was heard, on a day that is 30 days before today or earlier
 abbrev pub IsHeardAfter : List Entered → ℕ → ℕ → Type 0
 IsHeardAfter file position today =
     (later : ℕ) × (hearing : Entered) × (position < later) × (slice_get file later ≡ Some hearing)
@@ -64,8 +63,8 @@ IsOverdue file today =
     (position : ℕ) × (against : ℕ) × (appeal : Entered)
     × IsPendingAt file position against appeal × IsRefusedAt file against × IsHeardAfter file position today
 
--- an appeal against the entry at the position `against` stands at the position, and the first decision of an appeal
--- after it, at the position `decided`, overturns
+-- the entry at `position` is an appeal against the entry at `against`, and the first decision of an appeal after it,
+-- at `decided`, overturns
 pub record IsOverturnedAt (file : List Entered) (position against : ℕ) (appeal : Entered) (decided : ℕ)
     (decision : Entered) : Type 0 where
   pub here : slice_get file position ≡ Some appeal
@@ -76,7 +75,7 @@ pub record IsOverturnedAt (file : List Entered) (position against : ℕ) (appeal
   pub first : (between : ℕ) (entered : Entered) → position < between → between < decided
       → slice_get file between ≡ Some entered → decides_appeal entered.entry ≡ false
 
--- what stands at the position is overturned
+-- the entry at the position is overturned
 abbrev pub IsOverturned : List Entered → ℕ → Type 0
 IsOverturned file against =
     (position : ℕ) × (appeal : Entered) × (decided : ℕ) × (decision : Entered)

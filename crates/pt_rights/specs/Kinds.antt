@@ -15,7 +15,7 @@ is_decision (kind.Grant grant) = true
 is_decision (kind.Refuse reasons) = true
 is_decision _ = false
 
--- what the entry grants: a grant does so, and an appeal that is granted
+-- what the entry grants, if it is a grant or grants an appeal
 abbrev pub grant_of : Entry → Option Grant
 grant_of (kind.Grant grant) = Some grant
 grant_of (kind.AppealGranted grant) = Some grant
@@ -68,7 +68,7 @@ abbrev pub is_suspension : Entry → Bool
 is_suspension (kind.Suspend starts ends reasons) = true
 is_suspension _ = false
 
--- the entry suspends the rider from a first day to a last, of which the day is one
+-- the entry suspends the rider on this day: it is from the first to the last day of the suspension
 abbrev pub suspends : ℕ → Entry → Bool
 suspends day (kind.Suspend starts ends reasons) = nat_le starts day && nat_le day ends
 suspends day _ = false

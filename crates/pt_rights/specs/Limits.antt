@@ -1,11 +1,11 @@
 -- How much a case file holds, and the days of 49 CFR 37.125.
 use Rattle.std.specs.Prelude.{ℕ}
 
--- entries of a case file
+-- the most entries of a case file
 abbrev pub most_entries : ℕ
 most_entries = 200
 
--- conditions of a grant
+-- the most conditions of a grant
 abbrev pub most_conditions : ℕ
 most_conditions = 4
 

@@ -1,4 +1,4 @@
--- What a case file keeps beside its entries.
+-- What a case file stores together with its entries.
 use Rattle.std.specs.Prelude.{◌≡◌, ℕ, Bool, ◌+◌, ◌≤◌, false, List, length, Option, Some, None, is_some, nat_le, min}
 use Rattle.std.specs.Option.{option_map_or}
 use Rattle.pt_rights.specs.declared.entry.Grant.{Grant}
@@ -9,11 +9,11 @@ use Rattle.pt_rights.specs.Appeals.{is_overdue}
 use Rattle.pt_rights.specs.Standing.{is_waiting, is_presumed, last_grant}
 use Rattle.pt_rights.specs.Limits.{days_to_decide, days_to_presumption, most_entries}
 
--- today is so many days after the day of the mark, or later; never where there is no mark
+-- today is `days` days after the day of the mark, or later; false if there is no mark
 abbrev pub has_come : ℕ → Option ℕ → ℕ → Bool
 has_come days since today = option_map_or (λ day. nat_le (day + days) today) since false
 
--- the marks say what standing and admission ask of the entries
+-- the marks hold what standing and admission need of the entries
 pub record AreMarks (file : List Entered) (waiting : Option ℕ) (granted : Option Grant) (heard : Option ℕ)
     : Type 0 where
   pub within : length file ≤ most_entries
@@ -22,7 +22,7 @@ pub record AreMarks (file : List Entered) (waiting : Option ℕ) (granted : Opti
   pub grants : last_grant file ≡ granted
   pub overdue : (today : ℕ) → is_overdue file today ≡ has_come days_to_decide heard today
 
--- the earlier of a day, if there is one, and another
+-- the earlier of two days, or the second if there is no first
 abbrev pub earlier : Option ℕ → ℕ → Option ℕ
 earlier None day = Some day
 earlier (Some before) day = Some (min before day)

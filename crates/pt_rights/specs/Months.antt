@@ -3,7 +3,7 @@ use Rattle.std.specs.Prelude.{◌≡◌, ℕ, ◌+◌, ◌≤◌, Bool, true, fa
 use Rattle.std.specs.Int.{IsInRange}
 use Rattle.std.specs.List.Sorted.{IsStrictlyIncreasing}
 
--- the numbers of the marks that stand, where the first mark has this number
+-- the numbers of the marks that are true, if the first mark has this number
 abbrev pub numbers_from : ℕ → List Bool → List ℕ
 numbers_from number [] = []
 numbers_from number (true ∷ marks) = number ∷ numbers_from (number + 1) marks
@@ -13,11 +13,11 @@ numbers_from number (false ∷ marks) = numbers_from (number + 1) marks
 abbrev pub numbers_of : List Bool → List ℕ
 numbers_of marks = numbers_from 1 marks
 
--- twelve marks, some of which stands
+-- twelve marks, at least one of them true
 abbrev pub IsMonthSet : List Bool → Type 0
 IsMonthSet marks = (length marks ≡ 12) × (1 ≤ length (numbers_of marks))
 
--- some month, from 1 for January to 12, rising and each once
+-- at least one month, from 1 for January to 12, in rising order, each once
 pub record AreMonths (numbers : List ℕ) : Type 0 where
   pub some : 1 ≤ length numbers
   pub in_range : All (IsInRange 1 12) numbers

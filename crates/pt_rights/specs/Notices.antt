@@ -15,7 +15,7 @@ abbrev pub is_missed : Outcome → Bool
 is_missed outcome.MissedRider = true
 is_missed _ = false
 
--- the day is one of the so many days before today
+-- the day is one of the `span` days before today
 abbrev pub is_recent : ℕ → ℕ → ℕ → Bool
 is_recent span today day = nat_le today (day + span) && nat_le (day + 1) today
 
@@ -28,20 +28,20 @@ abbrev pub missed : List Tally → Policy → ℕ → ℕ
 missed tallies policy today =
     count_by (λ tally. is_recent policy.span_days today tally.day && is_missed tally.outcome) tallies
 
--- those that the rider missed are enough, by number and by share
+-- the trips that the rider missed make a pattern, by their number and by their share
 abbrev pub is_pattern : List Tally → Policy → ℕ → Bool
 is_pattern tallies policy today =
     nat_le policy.min_missed (missed tallies policy today)
     && nat_le (policy.percent * recent tallies policy today) (100 * missed tallies policy today)
 
--- a notice has no hearing, no suspension and no notice after it
+-- some notice is followed by no hearing, no suspension and no notice
 abbrev pub awaits_notice_hearing : List Entered → Bool
 awaits_notice_hearing file =
     some_position
     (is_open (λ e. is_notice e.entry)
     (λ e. is_notice_hearing e.entry || (is_suspension e.entry || is_notice e.entry))) file
 
--- a notice has a hearing after it, and no suspension and no notice
+-- some notice is followed by a hearing, and by no suspension and no notice
 abbrev pub may_suspend : List Entered → Bool
 may_suspend file =
     some_position

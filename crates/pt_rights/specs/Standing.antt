@@ -1,4 +1,4 @@
--- A rider's standing (49 CFR 37.125(c), (e) and (g)), by the entries of the case file and what stands after each.
+-- A rider's standing (49 CFR 37.125(c), (e) and (g)), by each entry of the case file and those after it.
 use Rattle.std.specs.Prelude.{ℕ, ◌+◌, Bool, ◌&&◌, not, List, Option, Some, None, nat_le, if◌then◌else◌}
 use Rattle.std.specs.List.{list_any, filter_map, last_or}
 use Rattle.pt_rights.specs.declared.entry.Grant.{Grant}
@@ -10,7 +10,7 @@ use Rattle.pt_rights.specs.Kinds.{is_complete, is_decision, grant_of}
 use Rattle.pt_rights.specs.Positions.{some_position}
 use Rattle.pt_rights.specs.Limits.{days_to_presumption}
 
--- an application is unanswered when no decision stands after it
+-- an application is unanswered if no later entry decides one
 abbrev pub is_unanswered : Entered → List Entered → Bool
 is_unanswered entered later =
     is_complete entered.entry && not (list_any (λ e. is_decision e.entry) later)

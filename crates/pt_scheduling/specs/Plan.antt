@@ -1,4 +1,4 @@
--- What is planned for a vehicle on a day: the stops of the trips that stand, each named by its trip.
+-- What is planned for a vehicle on a day: the stops of the trips that are not cancelled, each named by its trip.
 use Rattle.std.specs.Prelude.{◌≡◌, ℕ, ◌==◌, ◌≤◌, not, List, [], ◌∷◌, length, filter, Option, Some, None}
 use Rattle.pt_base.specs.declared.trip.Trip.{Trip}
 use Rattle.pt_feasible.specs.Pairing.{most_stops}
@@ -34,7 +34,7 @@ planned_stops vehicle day plans = stops_of_plan (record_at plan_key (pair_key ve
 abbrev pub without : ℕ → List PlannedStop → List PlannedStop
 without trip stops = filter (λ stop. not (stop.trip == trip)) stops
 
--- a trip's stop of this kind, with all that was settled when the trip was booked
+-- a trip's stop of this kind, with all that was fixed when the trip was booked
 abbrev pub trip_stop : StopKind → Trip → Stop
 trip_stop Pickup trip = pickup_stop (asked_of trip)
 trip_stop Drop trip = drop_stop (asked_of trip)
@@ -43,7 +43,7 @@ abbrev pub after_stop : Option Trip → StopKind → List Stop → List Stop
 after_stop None kind later = later
 after_stop (Some trip) kind later = trip_stop kind trip ∷ later
 
--- the stops of those trips that are among these
+-- the planned stops whose trips are in the list, with all their fields
 abbrev pub stops_among : List Trip → List PlannedStop → List Stop
 stops_among trips [] = []
 stops_among trips (stop ∷ later) =
@@ -64,12 +64,12 @@ IsPair (stop ∷ []) = ⊥
 IsPair (first ∷ second ∷ []) = (first.kind ≡ Pickup) × (second.kind ≡ Drop)
 IsPair (first ∷ second ∷ third ∷ later) = ⊥
 
--- no more stops than a route has room for, and of each trip none, or its pickup and then its drop (Cordeau and Laporte
--- 2003)
+-- at most as many stops as a route may have; each trip has no stop, or its pickup and then its drop (Cordeau and
+-- Laporte 2003)
 pub record IsPlannedRoute (stops : List PlannedStop) : Type 0 where
   pub few : length stops ≤ most_stops
   pub paired : (trip : ℕ) → IsPair (stops_of_trip trip stops)
 
--- the stops of the plan are a route
+-- the stops of the plan form a route
 abbrev pub IsRoutePlan : Plan → Type 0
 IsRoutePlan plan = IsPlannedRoute plan.stops

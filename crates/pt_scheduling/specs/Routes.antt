@@ -15,7 +15,7 @@ use Rattle.pt_scheduling.specs.Plan.{Plan, planned_stops, stops_among, without}
 abbrev pub stops_on : ℕ → List Trip → List Plan → ℕ → List Stop
 stops_on day trips plans vehicle = stops_among trips (planned_stops vehicle day plans)
 
--- the same but for those of this trip
+-- the stops of a vehicle on a day, without those of this trip
 abbrev pub stops_without : ℕ → ℕ → List Trip → List Plan → ℕ → List Stop
 stops_without trip day trips plans vehicle = stops_among trips (without trip (planned_stops vehicle day plans))
 
@@ -24,7 +24,7 @@ abbrev pub routes_without : ℕ → ℕ → List Trip → List Plan → List Veh
 routes_without trip day trips plans vehicles =
     map (λ vehicle. record { vehicle = vehicle; stops = stops_without trip day trips plans vehicle.id }) vehicles
 
--- no more stops than a route has room for, each pickup with its later drop
+-- at most as many stops as a route may have, each pickup with its later drop
 pub record IsRoute (stops : List Stop) : Type 0 where
   pub few : length stops ≤ most_stops
   pub paired : IsPaired stops
@@ -35,6 +35,6 @@ pub record IsFeasible (minutes : ℕ → ℕ → Option ℕ) (vehicle : Vehicle)
   pub loads : LoadsFit vehicle stops
   pub times : (b : List ℕ) × TimesFit minutes vehicle stops b
 
--- what is lent of a vehicle and its route
+-- a day's vehicle and route, as a vehicle on duty and its stops
 abbrev pub day_route : DayRoute → OnDuty
 day_route there = record { vehicle = there.vehicle; stops = stops_of there.route }

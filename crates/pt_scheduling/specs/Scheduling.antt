@@ -1,5 +1,4 @@
--- What comes of a trip that is asked for: a plan with the trip at the best place of the day, or the first rule that
--- fails.
+-- The result of a request for a trip: a plan with the trip at the best place of the day, or the first rule that fails.
 use Rattle.std.specs.Prelude.{◌≡◌, ◌⊎◌, ℕ, ◌<◌, List, map, Any, All, AllPairs, Option, Some, None}
 use Rattle.pt_base.specs.declared.rule.Rule.TheVariants.{NoVehicle}
 use Rattle.pt_base.specs.declared.trip.Trip.{Trip}
@@ -34,12 +33,12 @@ pub record IsBookedAt (minutes : ℕ → ℕ → Option ℕ) (vehicles : List On
   pub trip_of : IsTripOf minutes request chosen trip
   pub plan_of : Any (λ duty. IsPlanWith minutes duty trip chosen plan) vehicles
 
--- the same at some place
+-- the trip and the plan of its vehicle, at some best place of the day
 abbrev pub IsBookedIn : (ℕ → ℕ → Option ℕ) → List OnDuty → Request → Trip → Plan → Type 0
 IsBookedIn minutes vehicles request trip plan = (chosen : Chosen) × IsBookedAt minutes vehicles request trip plan chosen
 
--- Booked at the best place where no rule fails, or denied by the first rule that fails. Where not each of the vehicles
--- has a route without the trip, there is no vehicle.
+-- Booked at the best place if no rule fails, or denied by the first rule that fails. If the vehicles and their stops
+-- are not routes without the trip (`AreRoutes`), the rule is `NoVehicle`.
 abbrev pub IsScheduled : (ℕ → ℕ → Option ℕ) → List OnDuty → Request → Scheduled → Type 0
 IsScheduled minutes vehicles request (Denied rule) =
     IsFirstFailing (booking_rules minutes vehicles request) (Some rule)

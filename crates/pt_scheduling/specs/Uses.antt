@@ -12,12 +12,12 @@ is_used Booked = true
 is_used Ridden = true
 is_used _ = false
 
--- it is no trip that is left out
+-- the trip is not the one that is left out
 abbrev pub is_other : Option ℕ → ℕ → Bool
 is_other None trip = true
 is_other (Some left_out) trip = not (trip == left_out)
 
--- the trip makes the day one of use
+-- the trip makes the day a day of use
 abbrev pub is_use_of : Option ℕ → ℕ → Trip → Bool
 is_use_of left_out day trip = (is_other left_out trip.id && is_used trip.status) && trip.wish.day == day
 

@@ -20,7 +20,7 @@ signed_bytes z = number_bytes (cast_unsigned w32 z)
 abbrev pub truth_bytes : Bool → List ℕ
 truth_bytes value = from_bool value ∷ []
 
--- 1 where a set of weekdays has the one that comes so many days after Monday, else 0
+-- 1 if the set of weekdays has the weekday with this number, counted from 0 for Monday; else 0
 abbrev pub day_bit : List Bool → ℕ → ℕ
 day_bit days number = from_bool (unwrap_or (slice_get days number) false)
 

@@ -1,4 +1,4 @@
--- What the types of a request keep to, where definitions see no more than numbers and lists.
+-- The ranges of the fields of a request. The types keep them, but definitions see only numbers and lists.
 use Rattle.std.specs.Prelude.{◌≡◌, ℕ, ◌^◌, ◌<◌, ◌≤◌, List, Bool, length, All, IfSome}
 use Rattle.pt_base.specs.Day.{IsDay}
 use Rattle.pt_base.specs.Ranges.{last_minute}
@@ -23,7 +23,7 @@ use Rattle.pt_travel.specs.Table.{IsTable}
 abbrev pub IsWord : ℕ → Type 0
 IsWord n = n < 2 ^ 32
 
--- a set of weekdays is seen as whether it has each of the seven
+-- a set of weekdays is a list that says of each of the seven whether it is in the set
 abbrev pub IsWeek : List Bool → Type 0
 IsWeek days = length days ≡ 7
 
@@ -77,8 +77,8 @@ pub record IsWish (wish : Wish) : Type 0 where
   pub by : IfSome wish.by (λ minute. minute ≤ last_minute)
   pub companions : wish.companions < 2 ^ 8
 
--- a request that may be asked, as the program can hold it; what a record keeps itself, as the ranges of a policy, is
--- not said again
+-- The fields of the request are in their ranges. Ranges that the record states itself, such as those of a policy, are
+-- not repeated here.
 abbrev pub IsRequest : Write → Type 0
 IsRequest (write.PutCaller caller) = IsCaller caller
 IsRequest (write.PutPolicy policy) = Unit {0}

@@ -1,4 +1,4 @@
--- How what the sender of an accepted request is told is spelled in bytes.
+-- How the reply to an accepted request is spelled in bytes.
 use Rattle.std.specs.Prelude.{◌≡◌, ℕ, ◌^◌, ◌<◌, ◌≤◌, List, [], ◌∷◌, Option, None, Some}
 use Rattle.pt_base.specs.Ranges.{last_minute}
 use Rattle.pt_requests.specs.declared.request.Answer.{Answer}
@@ -8,24 +8,24 @@ use Rattle.pt_spelling.specs.Fields.{number_bytes, numbers_bytes}
 use Rattle.pt_spelling.specs.declared.replies.KeptReply.{KeptReply}
 use Rattle.pt_spelling.specs.declared.replies.KeptReply.TheVariants.{Done, Entered, Booked}
 
--- the numbers that tell of a booked trip
+-- the numbers of the reply to a booking
 abbrev pub numbers_told : Confirmation → List ℕ
 numbers_told told = told.trip ∷ told.vehicle ∷ told.window_from ∷ told.window_to ∷ told.fare ∷ told.due ∷ []
 
--- a reply: how it is told apart, and its numbers
+-- a reply: the number of its kind, and its own numbers
 abbrev pub reply_spelling : KeptReply → List ℕ
 reply_spelling Done = 0 ∷ []
 reply_spelling (Entered position) = 1 ∷ number_bytes position
 reply_spelling (Booked told) = 2 ∷ numbers_bytes (numbers_told told)
 
--- what is kept of what the desk answers: nothing of a denial or of what a read is told
+-- the reply that is stored for an answer; None for a denial and for the answer to a read
 abbrev pub reply_of : Answer → Option KeptReply
 reply_of answer.Done = Some Done
 reply_of (answer.Entered position) = Some (Entered position)
 reply_of (answer.Booked told) = Some (Booked told)
 reply_of _ = None
 
--- what the desk answers where the reply was kept
+-- the answer that a stored reply gives again
 abbrev pub answer_of : KeptReply → Answer
 answer_of Done = answer.Done
 answer_of (Entered position) = answer.Entered position
@@ -35,7 +35,8 @@ answer_of (Booked told) = answer.Booked told
 abbrev pub IsId : ℕ → Type 0
 IsId id = (1 ≤ id) × (id < 2 ^ 32)
 
--- a trip and a vehicle have numbers, and the window lies within a day; the ranges of the fares are part of what is told
+-- The trip and the vehicle have record numbers, and the window lies within a day. `Confirmation` itself has the ranges
+-- of the fares.
 abbrev pub IsTold : Confirmation → Type 0
 IsTold told = IsId told.trip × IsId told.vehicle × (told.window_from ≤ last_minute) × (told.window_to ≤ last_minute)
 

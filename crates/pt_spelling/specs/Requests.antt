@@ -65,7 +65,7 @@ route_bytes route =
     numbers_bytes (route.id ∷ route.width ∷ []) ++ list_bytes point_bytes route.points ++ truth_bytes route.accessible
     ++ days_byte route.days ∷ [] ++ numbers_bytes (route.first ∷ route.last ∷ [])
 
--- a vehicle's wheelchair places are spelled where it has some
+-- a vehicle's wheelchair places are spelled only if it has some
 abbrev pub chairs_bytes : ℕ → List ℕ
 chairs_bytes chairs = if chairs == 0 then [] else number_bytes chairs
 
@@ -84,7 +84,7 @@ abbrev pub kind_number : Residence → ℕ
 kind_number Resident = 0
 kind_number Visitor = 1
 
--- a wheelchair is spelled where the rider has one
+-- a wheelchair is spelled only if the rider has one
 abbrev pub wheelchair_bytes : Bool → List ℕ
 wheelchair_bytes false = []
 wheelchair_bytes true = 1 ∷ []
@@ -114,7 +114,7 @@ entry_number (entry.Notice basis) = 8
 entry_number entry.NoticeHeard = 9
 entry_number (entry.Suspend starts ends reasons) = 10
 
--- what an entry has beside its kind
+-- what an entry has besides its kind
 abbrev pub particulars_of : Entry → List ℕ
 particulars_of (entry.Grant grant) = grant_bytes grant
 particulars_of (entry.Refuse reasons) = text_bytes reasons
@@ -142,7 +142,7 @@ outcome_number outcome.MissedOperator = 2
 
 -- ---- requests
 
--- what tells the kinds of requests apart
+-- the number of the request's kind
 abbrev pub tag_of : Write → ℕ
 tag_of (write.PutCaller caller) = 1
 tag_of (write.PutPolicy policy) = 2

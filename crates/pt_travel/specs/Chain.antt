@@ -1,7 +1,7 @@
 -- Chains of rows of a travel table, and the driving times that they give.
 use Rattle.std.specs.Prelude.{◌≡◌, ℕ, ◌<◌, ◌≤◌, List, [], ◌∷◌, Option, None, Some, Contains, sum_by}
 
--- a row of a travel table: from one place to another in so many minutes
+-- a row of a travel table: from one place, to another, and the minutes of the drive
 abbrev pub Row : Type 0
 Row = ℕ × ℕ × ℕ
 
@@ -15,14 +15,13 @@ IsChain table from to (row ∷ rows) = Contains table row × (row.0 ≡ from) ×
 abbrev pub total_of : List Row → ℕ
 total_of chain = sum_by (λ row. row.2) chain
 
--- so many minutes are the total of a chain than which none has less
+-- some chain between the places takes these minutes in total, and none takes less
 abbrev pub IsLeastTotal : List Row → ℕ → ℕ → ℕ → Type 0
 IsLeastTotal table from to minutes =
     ((chain : List Row) × IsChain table from to chain × (total_of chain ≡ minutes))
     × ((chain : List Row) → IsChain table from to chain → minutes ≤ total_of chain)
 
--- the driving time by a table's chains: their least total, and none where each chain, if there is one, takes longer
--- than 1439 minutes
+-- the driving time by a table's chains: their least total, or None if no chain takes 1439 minutes or less
 abbrev pub IsTime : List Row → ℕ → ℕ → Option ℕ → Type 0
 IsTime table from to None = (chain : List Row) → IsChain table from to chain → 1439 < total_of chain
 IsTime table from to (Some minutes) = (minutes ≤ 1439) × IsLeastTotal table from to minutes

@@ -1,13 +1,13 @@
--- What a closed table answers.
+-- The driving times that a closed table returns.
 use Rattle.std.specs.Prelude.{ℕ, List, Option, None, Some, ◌==◌, nat_le, if◌then◌else◌}
 use Rattle.std.specs.List.{position}
 use Rattle.pt_travel.specs.Matrix.{entry}
 
--- minutes within a day
+-- the minutes if they are within a day, else None
 abbrev pub within_a_day : ℕ → Option ℕ
 within_a_day minutes = if nat_le minutes 1439 then Some minutes else None
 
--- the entry at two positions, where both are known
+-- the entry at two positions; None if one is unknown or the entry is not within a day
 abbrev pub entry_at : List (List ℕ) → Option ℕ → Option ℕ → Option ℕ
 entry_at lines None j = None
 entry_at lines (Some i) None = None

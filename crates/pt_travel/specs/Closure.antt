@@ -1,10 +1,10 @@
--- The closure of a travel table by middle places: what a matrix has reached once the first places have served as
--- middle ones.
+-- The closure of a travel table by middle places: what a matrix holds after its first places were tried as middle
+-- places.
 use Rattle.std.specs.Prelude.{◌≡◌, ℕ, ◌<◌, ◌≤◌, List, [], ◌∷◌, length, slice_index}
 use Rattle.pt_travel.specs.Chain.{Row, IsChain, total_of}
 use Rattle.pt_travel.specs.Matrix.{entry, IsCapped}
 
--- each place between the ends of a chain is one of these
+-- each place between the ends of a chain is one of the places `Is`
 abbrev pub Via : (ℕ → Type 0) → List Row → Type 0
 Via Is [] = Unit {0}
 Via Is (row ∷ []) = Unit {0}
@@ -15,7 +15,7 @@ abbrev pub IsBelow : List Row → (ℕ → Type 0) → ℕ → ℕ → ℕ → T
 IsBelow table Is from to minutes = (chain : List Row) → IsChain table from to chain → Via Is chain
     → minutes ≤ total_of chain
 
--- some chain takes so many minutes, where they are within a day
+-- some chain takes exactly these minutes, if they are within a day
 abbrev pub IsAttained : List Row → ℕ → ℕ → ℕ → Type 0
 IsAttained table from to minutes = minutes < 1440
     → (chain : List Row) × IsChain table from to chain × (total_of chain ≡ minutes)

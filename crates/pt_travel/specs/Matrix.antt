@@ -10,12 +10,12 @@ entry lines i j = slice_index (slice_index_or lines i []) j
 abbrev pub HasTriangles : ℕ → List (List ℕ) → Type 0
 HasTriangles n lines = (i j k : ℕ) → i < n → j < n → k < n → entry lines i j ≤ entry lines i k + entry lines k j
 
--- each entry is at most 1440, which stands for no way within a day
+-- each entry is at most 1440, which means no way within a day
 abbrev pub IsCapped : List (List ℕ) → Type 0
 IsCapped lines = (i j : ℕ) → i < length lines → j < 100 → entry lines i j ≤ 1440
 
--- a row of the table stands in the matrix: no entry has grown, that of the row's places is at most its minutes, and
--- no other entry has changed
+-- a row of the table is put into the matrix: no entry grows, the entry of the row's places becomes at most its minutes,
+-- and no other entry changes
 pub record PutsRow (places : List ℕ) (row : Row) (old new : List (List ℕ)) : Type 0 where
   pub size : length new ≡ length old
   pub shrinks : (i j : ℕ) → i < length old → j < 100 → entry new i j ≤ entry old i j

@@ -1,12 +1,12 @@
--- What the rows of a travel table keep to.
+-- The limits on the rows of a travel table.
 use Rattle.std.specs.Prelude.{◌≡◌, ℕ, ◌+◌, ◌<◌, ◌≤◌, ◌⊎◌, List, length, slice_index_or, All, Contains}
 use Rattle.pt_travel.specs.Chain.{Row}
 
--- one row comes before another by the place where it begins, and then by the place where it ends
+-- rows are ordered by the place where they begin, and then by the place where they end
 abbrev pub ComesBefore : Row → Row → Type 0
 ComesBefore row other = (row.0 < other.0) ⊎ ((row.0 ≡ other.0) × (row.1 < other.1))
 
--- each row comes before the next, so that no pair of places stands twice
+-- each row comes before the next, so no pair of places occurs twice
 abbrev pub Rises : List Row → Type 0
 Rises rows = (k : ℕ) → k + 1 < length rows
     → ComesBefore (slice_index_or rows k (0, 0, 0)) (slice_index_or rows (k + 1) (0, 0, 0))

@@ -1,4 +1,4 @@
--- A travel table as a text of CSV: a header row, and a row of the table in each record below it.
+-- A travel table as CSV: a header row, and below it one record for each row of the table.
 use Rattle.std.specs.Prelude.{◌≡◌, ◌≢◌, ℕ, ◌+◌, ◌-◌, ◌*◌, ◌^◌, ◌<◌, ◌≤◌, ◌⊎◌, ◌↔◌, List, [], ◌∷◌, ◌++◌, length}
 use Rattle.std.specs.Prelude.{map, min, codes, slice_index_or, All, Contains}
 use Rattle.std.specs.List.{fold}
@@ -15,7 +15,7 @@ use Rattle.pt_travel.specs.Table.{Rises}
 abbrev pub Record : Type 0
 Record = List (List ℕ)
 
--- these are all the records of a text, of which a byte order mark at its start is no part
+-- these are all the records of a text, without a byte order mark at its start
 abbrev pub HasRecords : List ℕ → List Record → Type 0
 HasRecords text records = AreRecords default_config state.StartRecord (strip_bom text) records
 
@@ -28,7 +28,7 @@ BeginsWith text records = (after : State) × (rest : List ℕ)
 abbrev pub header : Record
 header = codes "from" ∷ codes "to" ∷ codes "minutes" ∷ []
 
--- a field is one to so many decimal digits
+-- a field has 1 to `most` decimal digits
 abbrev pub IsDigits : ℕ → List ℕ → Type 0
 IsDigits most field = (1 ≤ length field) × (length field ≤ most) × All (λ byte. (48 ≤ byte) × (byte ≤ 57)) field
 
@@ -52,11 +52,11 @@ field fields i = slice_index_or fields i []
 abbrev pub NamesPlaces : List ℕ → Record → Type 0
 NamesPlaces places fields = IsPlace places (field fields 0) × IsPlace places (field fields 1)
 
--- a record reads as a row: it has three fields, which name two places of the list and the minutes between them
+-- a record is a row: its three fields name two places of the list and the minutes between them
 abbrev pub IsSound : List ℕ → Record → Type 0
 IsSound places fields = (length fields ≡ 3) × NamesPlaces places fields × IsMinutes (field fields 2)
 
--- the row that a record reads as
+-- the row that a record spells
 abbrev pub row_of : Record → Row
 row_of fields = (number_of (field fields 0), number_of (field fields 1), number_of (field fields 2))
 
@@ -64,7 +64,7 @@ row_of fields = (number_of (field fields 0), number_of (field fields 1), number_
 abbrev pub Conflicts : Row → Row → Type 0
 Conflicts row other = (row.0 ≡ other.0) × (row.1 ≡ other.1) × (row.2 ≢ other.2)
 
--- the records below the header all read as rows, and no two conflict
+-- the records below the header are all rows, and no two conflict
 abbrev pub AreSound : List ℕ → List Record → Type 0
 AreSound places records =
     All (IsSound places) records × ((row other : Row) → Contains (map row_of records) row
@@ -89,7 +89,7 @@ IsReadSoFar places seen rows =
     ((seen ≡ []) × (rows ≡ []))
     ⊎ ((records : List Record) × (seen ≡ header ∷ records) × AreSound places records × IsSortedFrom records rows)
 
--- the number that a fault gives of the record after so many: the last number is 2^32 - 1
+-- the row number in a fault, for the record after `count` others; it is 2^32 - 1 from there on
 abbrev pub number_after : ℕ → ℕ
 number_after count = min (count + 1) (2 ^ 32 - 1)
 

@@ -12,13 +12,13 @@ pub record IsLeastFrom (days : List ℕ) (bound day : ℕ) : Type 0 where
   pub from : bound ≤ day
   pub least : (other : ℕ) → Contains days other → bound ≤ other → day ≤ other
 
--- the opening days are a chain: the least of all the days, and each time the least that is not below the former plus
--- 365
+-- the opening days are a chain: the least of all the days, and then each time the least day that is 365 days or more
+-- after the last opening day
 pub data IsOpening (days : List ℕ) : ℕ → Type 0 where
   first : (opening : ℕ) → IsLeastFrom days 0 opening → IsOpening days opening
   next : (former opening : ℕ) → IsOpening days former → IsLeastFrom days (former + 365) opening → IsOpening days opening
 
--- the period of the day is opened by the greatest opening day that is not above it
+-- the period of a day is opened by the last opening day that is not after it
 pub record OpensPeriodOf (days : List ℕ) (day opening : ℕ) : Type 0 where
   pub opens : IsOpening days opening
   pub begun : opening ≤ day
@@ -32,7 +32,7 @@ is_in_period opening day = nat_le opening day && nat_lt day (opening + 365)
 abbrev pub days_of_period : ℕ → List ℕ → ℕ
 days_of_period opening days = count_by (is_in_period opening) days
 
--- a visitor may use the day when its period, the day among the uses, has at most 21 days of use
+-- a visitor may use the day if its period has at most 21 days of use, this day included
 abbrev pub MayUse : List ℕ → ℕ → Type 0
 MayUse uses day =
     (opening : ℕ) × OpensPeriodOf (days_with uses day) day opening × (days_of_period opening (days_with uses day) ≤ 21)
