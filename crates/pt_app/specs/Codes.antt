@@ -1,10 +1,10 @@
 -- The codes of faults of the program's files.
 use Rattle.std.specs.Prelude.{ℕ}
 
--- a file that is not there, or cannot be read
+-- the file does not exist, or cannot be read
 abbrev pub no_such_file : ℕ
 no_such_file = 5
 
--- a file to be made that is there already
+-- the file to make exists already
 abbrev pub file_exists : ℕ
 file_exists = 7

@@ -1,4 +1,4 @@
-//! Commands over the database in a file.
+//! Commands over a database file.
 ghost use Rattle.std.specs.Prelude.{◌≡◌, ◌⊎◌, IfErr, IfOk};
 ghost use Rattle.pt_app.specs.Codes.{file_exists, no_such_file};
 ghost use Rattle.pt_app.specs.Opening.{IsStoreFault};
@@ -23,29 +23,28 @@ use std::alloc::Global;
 use std::io::ErrorKind;
 use std::{fs, io};
 
-/// A file that is not there, or cannot be read.
+/// The file does not exist, or cannot be read.
 const NO_SUCH_FILE: u16 = 5;
 
-/// A file to be made that is there already.
+/// The file to make exists already.
 const FILE_EXISTS: u16 = 7;
 
-/// What is done with the database in a file.
+/// A task for a database file.
 #[derive(Drop)]
 enum Work<'a> {
-    /// It becomes that of a desk whose admin has this key.
+    /// Makes it the database of a desk whose admin has this key.
     Make {
         key: &'a str,
     },
-    /// It becomes one of this version.
+    /// Migrates it to this version.
     Migrate,
-    /// Its desk answers so many connections on a port, by the clocks of a zone.
+    /// Serves this number of connections on a port, in a time zone.
     Serve {
         zone: &'a str,
         port: u16,
         count: u32,
     },
-    /// Its desk does a task at this moment, as the caller with this key. The text is that of the file that the task
-    /// names, if any.
+    /// Does a task at this moment, as the caller with this key. `text` is that of the file that the task names, if any.
     Ask {
         now: Moment,
         key: &'a str,
@@ -54,7 +53,7 @@ enum Work<'a> {
     },
 }
 
-/// The fault where a database is not opened; the row is the number of the table at fault.
+/// The fault for a database that is not opened; `row` is the number of the bad table.
 fn fault_of_opening(refused: OpenFault) -> Fault
     ensures code { result.code ≡ refused.code }
     ensures row { result.row ≡ refused.table }
@@ -65,13 +64,13 @@ fn fault_of_opening(refused: OpenFault) -> Fault
     }
 }
 
-/// The fault where a database is not opened. The store, which is handed back, is dropped.
+/// The fault for a database that is not opened. Drops the returned store.
 fn fault_of_refusal<S: Drop>(refusal: (S, OpenFault)) -> Fault {
     let (_store, refused) = refusal;
     fault_of_opening(refused)
 }
 
-/// The fault where the store does not open a file.
+/// The fault if the store cannot open a file.
 fn fault_of_store(error: &Error) -> Fault
     ensures { IsStoreFault result }
 {
@@ -81,7 +80,7 @@ fn fault_of_store(error: &Error) -> Fault
     }
 }
 
-/// The fault where a file that should be there is not read.
+/// The fault if a file cannot be read.
 fn fault_of_reading(error: &io::Error) -> Fault
     ensures { (result ≡ fault memory_refused) ⊎ (result ≡ fault no_such_file) }
 {
@@ -91,7 +90,7 @@ fn fault_of_reading(error: &io::Error) -> Fault
     }
 }
 
-/// The fault where a file is not made.
+/// The fault if a file cannot be made.
 fn fault_of_making(error: &io::Error) -> Fault
     ensures { (result ≡ fault file_exists) ⊎ IsStoreFault result }
 {
@@ -102,7 +101,7 @@ fn fault_of_making(error: &io::Error) -> Fault
     }
 }
 
-/// A connection to the database in a file.
+/// A connection to a database file.
 fn connected(rt: &HostRuntime, file: &str) -> Result<Connection<FileStore<File>>, Fault>
     ensures fault { IfErr result IsStoreFault }
 {
@@ -124,7 +123,7 @@ fn make_desk<S: Alter + Drop>(
     }
 }
 
-/// Makes the tables of the first version those of this one, and prints `done`.
+/// Migrates the tables of the first version to this version, and prints `done`.
 fn migrate_desk<S: Alter + Drop>(rt: &HostRuntime, conn: Connection<S>) -> Result<Outcome, Fault> {
     let mut conn = conn;
     match migrate(rt.alloc(), &mut conn) {
@@ -133,7 +132,7 @@ fn migrate_desk<S: Alter + Drop>(rt: &HostRuntime, conn: Connection<S>) -> Resul
     }
 }
 
-/// The desk in the database.
+/// The desk in the database, which must be in a sound state.
 fn adopt_desk<S: Alter + Drop>(alloc: Global, conn: Connection<S>) -> Result<SqlKeeper<S>, Fault>
     ensures sound { IfOk result (λ keeper. IsSound keeper.content) }
 {
@@ -143,7 +142,7 @@ fn adopt_desk<S: Alter + Drop>(alloc: Global, conn: Connection<S>) -> Result<Sql
     }
 }
 
-/// Answers so many connections on a port, one after the other, and says on standard error how many failed.
+/// Serves this number of connections on a port, one after the other, and prints to standard error how many failed.
 fn serve_on<K: Keeper>(
     rt: &HostRuntime,
     keeper: &mut K,
@@ -160,9 +159,9 @@ fn serve_on<K: Keeper>(
     Ok(Outcome::Done)
 }
 
-/// Does this with the database of a connection.
+/// Does this task with the database of a connection.
 ///
-/// Whatever its store is: so what is done is proved once, and for a file in one place alone (`over_file`).
+/// It works over any store. So one proof covers all stores, and only `over_file` speaks of a file.
 fn do_work<S: Alter + Drop>(
     rt: &HostRuntime,
     conn: Connection<S>,
@@ -189,12 +188,12 @@ fn do_work<S: Alter + Drop>(
     }
 }
 
-/// Does this with the database in a file.
+/// Does this task with a database file.
 fn over_file(rt: &HostRuntime, file: &str, work: Work<'_>) -> Result<Outcome, Fault> {
     do_work(rt, connected(rt, file)?, work)
 }
 
-/// The same of a file that should be there.
+/// The same for a file that must exist.
 fn over_known_file(rt: &HostRuntime, file: &str, work: Work<'_>) -> Result<Outcome, Fault> {
     if let Err(error) = fs::open(rt, file) {
         return Err(fault_of_reading(&error));
@@ -210,12 +209,12 @@ pub(crate) fn init(rt: &HostRuntime, file: &str, key: &str) -> Result<Outcome, F
     over_file(rt, file, Work::Make { key })
 }
 
-/// Makes the tables of the first version in a file those of this one, and prints `done`.
+/// Migrates the tables of the first version in a file to this version, and prints `done`.
 pub(crate) fn migrate_file(rt: &HostRuntime, file: &str) -> Result<Outcome, Fault> {
     over_known_file(rt, file, Work::Migrate)
 }
 
-/// Answers so many connections on a port of 127.0.0.1, one after the other, by the clocks of a zone.
+/// Serves this number of connections on a port of 127.0.0.1, one after the other, in a time zone.
 pub(crate) fn serve_file(
     rt: &HostRuntime,
     file: &str,
@@ -227,7 +226,7 @@ pub(crate) fn serve_file(
     over_known_file(rt, file, Work::Serve { zone, port, count })
 }
 
-/// The bytes of a file that should be there.
+/// The bytes of a file that must exist.
 fn read_file(rt: &HostRuntime, path: &str) -> Result<Vec<u8>, Fault>
     ensures fault { IfErr result (λ error. (error ≡ fault memory_refused) ⊎ (error ≡ fault no_such_file)) }
 {
@@ -237,7 +236,7 @@ fn read_file(rt: &HostRuntime, path: &str) -> Result<Vec<u8>, Fault>
     }
 }
 
-/// The bytes of the file that a task names; none where it names none.
+/// The bytes of the file that a task names; empty if it names none.
 fn text_for(rt: &HostRuntime, task: &Task<'_>) -> Result<Vec<u8>, Fault> {
     match task {
         Task::Travel { csv, .. } => read_file(rt, csv),
@@ -246,7 +245,7 @@ fn text_for(rt: &HostRuntime, task: &Task<'_>) -> Result<Vec<u8>, Fault> {
     }
 }
 
-/// Has the desk in a file do a task, as the caller with this key.
+/// Does a task with the desk in a file, as the caller with this key.
 pub(crate) fn ask_file(
     rt: &HostRuntime,
     file: &str,

@@ -12,15 +12,15 @@ use std::{env, io};
 
 mod database;
 
-/// The words that the program was started with, its own name first.
+/// The words of the program's command line, its own name first.
 ///
-/// The library gives words as text: where one is not UTF-8 this is an error, so a key is always text.
+/// The library returns words as text. A word that is not UTF-8 is an error, so a key is always text.
 fn given_words(rt: &HostRuntime) -> io::Result<Vec<String>> {
     let words = env::args(rt)?.collect(rt.alloc())?;
     Ok(words)
 }
 
-/// Says what is wrong with words that are refused, or shows the help or the version that they ask for.
+/// Prints what is wrong with refused words, or the help or the version that they ask for.
 fn refuse(rt: &HostRuntime, words: &[String]) -> Outcome {
     match matches_in(rt.alloc(), words) {
         Ok(_) => {
@@ -36,7 +36,7 @@ fn refuse(rt: &HostRuntime, words: &[String]) -> Outcome {
     }
 }
 
-/// Does what was asked for.
+/// Does the task.
 fn do_asked(rt: &HostRuntime, asked: &Line<'_>) -> Result<Outcome, Fault> {
     match asked {
         Line::Rehearse { key } => {
@@ -60,7 +60,7 @@ fn do_asked(rt: &HostRuntime, asked: &Line<'_>) -> Result<Outcome, Fault> {
     }
 }
 
-/// Does what the words ask for.
+/// Does the task that the words name.
 fn do_line(rt: &HostRuntime, words: &[String]) -> Outcome {
     match line(rt.alloc(), words) {
         Ok(asked) => outcome_of(do_asked(rt, &asked)),

@@ -1,6 +1,6 @@
--- The code of the fault of the program's words.
+-- The code of a fault in the program's words.
 use Rattle.std.specs.Prelude.{ℕ}
 
--- words that are no command's, or one that is not the number or the day that its place asks for
+-- the words name no command, or a word is not the number or the day that its place needs
 abbrev pub wrong_words : ℕ
 wrong_words = 8

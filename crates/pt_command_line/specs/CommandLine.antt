@@ -1,9 +1,9 @@
--- The words that the program takes.
+-- The words of the program.
 use Rattle.std.specs.Prelude.{List, [], ◌∷◌, codes, fold, true}
 use Rattle.clap.specs.Words.{App, Rule, Text, new_app, new_rule, with_rule, with_subcommand}
 use Rattle.clap.specs.Simple.{on_top}
 
--- a place for a word, which may not be left out
+-- a place for a word, which is required
 abbrev pub place : Text → Rule
 place name = record (new_rule name) { required = true }
 
@@ -45,7 +45,7 @@ manifest_words = command (codes "manifest")
 abbrev pub trips_words : App
 trips_words = command (codes "trips") (codes "FILE" ∷ codes "ZONE" ∷ codes "KEY" ∷ codes "DAY" ∷ [])
 
--- the places of a question about a rider's wish: whom it is put to, and what it is
+-- the places of a question about a rider's wish: the desk and the caller, and then the wish
 abbrev pub question_places : List Text
 question_places = codes "FILE" ∷ codes "ZONE" ∷ codes "KEY" ∷ codes "RIDER" ∷ codes "DAY" ∷ codes "WISH"
     ∷ codes "FROM" ∷ codes "TO" ∷ codes "BY" ∷ codes "ATTENDANT" ∷ codes "COMPANIONS" ∷ []

@@ -1,4 +1,4 @@
--- What the program is asked to do, by the words at the places of its commands.
+-- The task that the words at the places of a command name.
 use Rattle.std.specs.Prelude.{◌≡◌, ◌≢◌, ◌≤◌, ℕ, All, Bool, List, [], ◌∷◌, codes, Option, None, Some, slice_get}
 use Rattle.std.specs.Int.{from_bool}
 use Rattle.clap.specs.Words.{Row, Text, fault_of, first_of, subcommand_of}
@@ -11,23 +11,23 @@ use Rattle.pt_command_line.specs.declared.asked.Line.{Line}
 use Rattle.pt_command_line.specs.declared.asked.Line.TheVariants as line
 use Rattle.pt_command_line.specs.declared.asked.Task.TheVariants as task
 
--- this word stands at this place of a command
+-- this word is at this place of a command
 abbrev pub HasWord : List Row → Text → Text → Type 0
 HasWord rows place word = first_of place rows ≡ Some word
 
--- a word of which this holds stands there
+-- the word at this place has this property
 abbrev pub HasWordThat : List Row → Text → (Text → Type 0) → Type 0
 HasWordThat rows place Fits = (word : Text) × HasWord rows place word × Fits word
 
--- one to ten digits spell this number, which lies in this range
+-- one to ten digits spell this number, which is in this range
 abbrev pub IsNumberWord : ℕ → ℕ → Text → ℕ → Type 0
 IsNumberWord least most word number = SpellsNumber 10 most word number × (least ≤ number)
 
--- such a number stands there
+-- this number is at this place
 abbrev pub HasNumber : List Row → Text → ℕ → ℕ → ℕ → Type 0
 HasNumber rows place least most number = HasWordThat rows place (λ word. IsNumberWord least most word number)
 
--- this day stands there
+-- this day is at this place
 abbrev pub HasDay : List Row → Text → ℕ → Type 0
 HasDay rows place day = HasWordThat rows place (λ word. SpellsDay word day)
 
@@ -43,20 +43,20 @@ IsRecordWord word number = IsNumberWord 1 last_number word number
 abbrev pub IsMinuteWord : Text → ℕ → Type 0
 IsMinuteWord word minute = IsNumberWord 0 last_minute word minute
 
--- the minute by which the rider has to be there, or `none` where there is none
+-- the minute by which the rider must be there, or `none`
 abbrev pub IsByWord : Text → Option ℕ → Type 0
 IsByWord word (Some minute) = IsMinuteWord word minute
 IsByWord word None = word ≡ codes "none"
 
--- 1 where an attendant comes along, else 0
+-- 1 if an attendant comes along, 0 if not
 abbrev pub IsAttendantWord : Text → Bool → Type 0
 IsAttendantWord word attendant = IsNumberWord 0 1 word (from_bool attendant)
 
--- how many companions come along
+-- the number of companions
 abbrev pub IsCompanionsWord : Text → ℕ → Type 0
 IsCompanionsWord word companions = IsNumberWord 0 255 word companions
 
--- this wish stands at its places
+-- this wish is at its places
 abbrev pub HasWish : List Row → Wish → Type 0
 HasWish rows wish =
     HasDay rows (codes "DAY") wish.day
@@ -67,7 +67,7 @@ HasWish rows wish =
     × HasWordThat rows (codes "ATTENDANT") (λ word. IsAttendantWord word wish.attendant)
     × HasWordThat rows (codes "COMPANIONS") (λ word. IsCompanionsWord word wish.companions)
 
--- the command of this name, with these words at its places, asks for this
+-- the command of this name, with these words at its places, names this task
 abbrev pub Asks : Text → List Row → Line → Type 0
 Asks name rows (line.Rehearse key) = (name ≡ codes "rehearse") × HasWord rows (codes "KEY") key.now
 Asks name rows (line.Init file key) =
@@ -96,11 +96,11 @@ Asks name rows (line.Ask file zone key (task.Audit log rider wish)) =
     × HasWord rows (codes "ZONE") zone.now × HasWord rows (codes "KEY") key.now
     × HasWordThat rows (codes "RIDER") (λ word. IsRecordWord word rider) × HasWish rows wish
 
--- what the command that was found asks for
+-- the command that was found names this task
 abbrev pub AsksOf : Option (Text × List Row) → Line → Type 0
 AsksOf found asked = (name : Text) × (rows : List Row) × (found ≡ Some (name, rows)) × Asks name rows asked
 
--- the words are those of a command, each in the range of its place, which asks for this
+-- the words are a command with each word in the range of its place, and name this task
 abbrev pub IsLine : List Text → Line → Type 0
 IsLine words asked = (fault_of desk_words words ≡ []) × AsksOf (subcommand_of desk_words words) asked
 
@@ -108,7 +108,7 @@ IsLine words asked = (fault_of desk_words words ≡ []) × AsksOf (subcommand_of
 abbrev pub IsPlainWord : Text → Type 0
 IsPlainWord word = slice_get word 0 ≢ Some 45
 
--- the words are a rider's number and wish: the day, the minute, from where to where, by when, and who comes along
+-- the words are a rider's number and wish: the day, the minute, the two places, the latest minute, and who comes along
 abbrev pub SpellsWish : List Text → ℕ → Wish → Type 0
 SpellsWish words rider wish =
     (who day pickup from to by attendant companions : Text)
@@ -117,8 +117,8 @@ SpellsWish words rider wish =
     × IsRecordWord from wish.from × IsRecordWord to wish.to × IsByWord by wish.by
     × IsAttendantWord attendant wish.attendant × IsCompanionsWord companions wish.companions
 
--- the words are the program's name, a command and the words at its places, none of which begins with a hyphen, and
--- ask for this
+-- The words are the program's name, a command and the words at its places, and name this task. No word at a place
+-- begins with a hyphen.
 abbrev pub SpellsLine : List Text → Line → Type 0
 SpellsLine words (line.Rehearse key) =
     (program : Text) × (words ≡ program ∷ codes "rehearse" ∷ key.now ∷ []) × IsPlainWord key.now
@@ -155,7 +155,7 @@ SpellsLine words (line.Ask file zone key (task.Audit log rider wish)) =
     × (words ≡ program ∷ codes "audit" ∷ log.now ∷ file.now ∷ zone.now ∷ key.now ∷ asked)
     × All IsPlainWord (log.now ∷ file.now ∷ zone.now ∷ key.now ∷ asked) × SpellsWish asked rider wish
 
--- both ask for the same
+-- both name the same task
 abbrev pub IsSameLine : Line → Line → Type 0
 IsSameLine (line.Rehearse key) (line.Rehearse read_key) = read_key.now ≡ key.now
 IsSameLine (line.Init file key) (line.Init read_file read_key) = (read_file.now ≡ file.now) × (read_key.now ≡ key.now)

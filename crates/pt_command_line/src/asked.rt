@@ -11,36 +11,36 @@ use pt_base::{Day, Id, LAST_MINUTE, Minute, RiderId, VehicleId, Wish, day_from, 
 /// The last port.
 const LAST_PORT: u32 = 65_535;
 
-/// The most connections that one command answers.
+/// The most connections that one command serves.
 const MOST_CONNECTIONS: u32 = 1_000_000;
 
-/// The most companions that a wish may name.
+/// The most companions of a wish.
 const MOST_COMPANIONS: u32 = 255;
 
-/// What is asked of the desk in a file.
+/// A task for the desk in a file.
 #[derive(Clone, Copy)]
 pub enum Task<'a> {
-    /// To take the driving times of a CSV file, which hold from a day on, as the caller's request of this number.
+    /// Sends the driving times of a CSV file, which hold from a day on, under this number of the caller.
     Travel {
         number: u32,
         day: Day,
         csv: &'a str,
     },
-    /// To print the manifest of a vehicle on a day.
+    /// Prints the manifest of a vehicle on a day.
     Manifest {
         vehicle: VehicleId,
         day: Day,
     },
-    /// To print the trips of a day.
+    /// Prints the trips of a day.
     Trips {
         day: Day,
     },
-    /// To print the log of a refusal: that no vehicle can take this wish of the rider's.
+    /// Prints the log of a refusal, which shows that no vehicle can take this wish of the rider.
     Explain {
         rider: RiderId,
         wish: Wish,
     },
-    /// To check the log in a file.
+    /// Checks the log in a file.
     Audit {
         log: &'a str,
         rider: RiderId,
@@ -48,30 +48,30 @@ pub enum Task<'a> {
     },
 }
 
-/// What the program is asked to do.
+/// A task for the program.
 #[derive(Clone, Copy)]
 pub enum Line<'a> {
-    /// To answer requests from standard input, on a desk in memory whose admin has the key.
+    /// Answers requests from standard input, on a desk in memory whose admin has the key.
     Rehearse {
         key: &'a str,
     },
-    /// To make a database whose admin has the key.
+    /// Makes a database whose admin has the key.
     Init {
         file: &'a str,
         key: &'a str,
     },
-    /// To make a database of the first version one of this version.
+    /// Migrates a database of the first version to this version.
     Migrate {
         file: &'a str,
     },
-    /// To answer so many connections on a port, by the clocks of a zone.
+    /// Serves this number of connections on a port, in a time zone.
     Serve {
         file: &'a str,
         zone: &'a str,
         port: u16,
         count: u32,
     },
-    /// To ask the desk in a file, as the caller with a key, by the clocks of a zone.
+    /// Asks the desk in a file, as the caller with a key, in a time zone.
     Ask {
         file: &'a str,
         zone: &'a str,
@@ -129,7 +129,7 @@ fn minute_at(words: &ArgMatches<'_>, place: &str) -> Option<Minute>
     Minute::of(number_at(words, place, 0, LAST_MINUTE)?)
 }
 
-/// The minute by which the rider has to be there, if by any: where the word is `none`, by none.
+/// The minute by which the rider must be there, if there is one; the word `none` means that there is none.
 fn by_at(words: &ArgMatches<'_>) -> Option<Option<Minute>>
     ensures by { IfSome result (λ by.
         HasWordThat (rows_of (found_of words.now)) (codes "BY") (λ word. IsByWord word by)) }
@@ -158,7 +158,7 @@ fn wish_at(words: &ArgMatches<'_>) -> Option<Wish>
     })
 }
 
-/// What `rehearse` asks for with these words.
+/// The task of `rehearse` with these words.
 fn rehearse_line<'a>(words: &ArgMatches<'a>) -> Option<Line<'a>>
     ensures line { IfSome result (Asks (codes "rehearse") (rows_of (found_of words.now))) }
     ensures none { IsNone result → (asked : Line)
@@ -168,7 +168,7 @@ fn rehearse_line<'a>(words: &ArgMatches<'a>) -> Option<Line<'a>>
     Some(Line::Rehearse { key })
 }
 
-/// What `init` asks for with these words.
+/// The task of `init` with these words.
 fn init_line<'a>(words: &ArgMatches<'a>) -> Option<Line<'a>>
     ensures line { IfSome result (Asks (codes "init") (rows_of (found_of words.now))) }
     ensures none { IsNone result → (asked : Line)
@@ -179,7 +179,7 @@ fn init_line<'a>(words: &ArgMatches<'a>) -> Option<Line<'a>>
     Some(Line::Init { file, key })
 }
 
-/// What `migrate` asks for with these words.
+/// The task of `migrate` with these words.
 fn migrate_line<'a>(words: &ArgMatches<'a>) -> Option<Line<'a>>
     ensures line { IfSome result (Asks (codes "migrate") (rows_of (found_of words.now))) }
     ensures none { IsNone result → (asked : Line)
@@ -189,7 +189,7 @@ fn migrate_line<'a>(words: &ArgMatches<'a>) -> Option<Line<'a>>
     Some(Line::Migrate { file })
 }
 
-/// What `serve` asks for with these words.
+/// The task of `serve` with these words.
 fn serve_line<'a>(words: &ArgMatches<'a>) -> Option<Line<'a>>
     ensures line { IfSome result (Asks (codes "serve") (rows_of (found_of words.now))) }
     ensures none { IsNone result → (asked : Line)
@@ -203,7 +203,7 @@ fn serve_line<'a>(words: &ArgMatches<'a>) -> Option<Line<'a>>
     })
 }
 
-/// What `travel` asks for with these words.
+/// The task of `travel` with these words.
 fn travel_line<'a>(words: &ArgMatches<'a>) -> Option<Line<'a>>
     ensures line { IfSome result (Asks (codes "travel") (rows_of (found_of words.now))) }
     ensures none { IsNone result → (asked : Line)
@@ -221,7 +221,7 @@ fn travel_line<'a>(words: &ArgMatches<'a>) -> Option<Line<'a>>
     })
 }
 
-/// What `manifest` asks for with these words.
+/// The task of `manifest` with these words.
 fn manifest_line<'a>(words: &ArgMatches<'a>) -> Option<Line<'a>>
     ensures line { IfSome result (Asks (codes "manifest") (rows_of (found_of words.now))) }
     ensures none { IsNone result → (asked : Line)
@@ -238,7 +238,7 @@ fn manifest_line<'a>(words: &ArgMatches<'a>) -> Option<Line<'a>>
     })
 }
 
-/// What `trips` asks for with these words.
+/// The task of `trips` with these words.
 fn trips_line<'a>(words: &ArgMatches<'a>) -> Option<Line<'a>>
     ensures line { IfSome result (Asks (codes "trips") (rows_of (found_of words.now))) }
     ensures none { IsNone result → (asked : Line)
@@ -254,7 +254,7 @@ fn trips_line<'a>(words: &ArgMatches<'a>) -> Option<Line<'a>>
     })
 }
 
-/// What `explain` asks for with these words.
+/// The task of `explain` with these words.
 fn explain_line<'a>(words: &ArgMatches<'a>) -> Option<Line<'a>>
     ensures line { IfSome result (Asks (codes "explain") (rows_of (found_of words.now))) }
     ensures none { IsNone result → (asked : Line)
@@ -271,7 +271,7 @@ fn explain_line<'a>(words: &ArgMatches<'a>) -> Option<Line<'a>>
     })
 }
 
-/// What `audit` asks for with these words.
+/// The task of `audit` with these words.
 fn audit_line<'a>(words: &ArgMatches<'a>) -> Option<Line<'a>>
     ensures line { IfSome result (Asks (codes "audit") (rows_of (found_of words.now))) }
     ensures none { IsNone result → (asked : Line)
@@ -289,7 +289,7 @@ fn audit_line<'a>(words: &ArgMatches<'a>) -> Option<Line<'a>>
     })
 }
 
-/// What the command of this name asks for with these words.
+/// The task of the command of this name with these words.
 fn line_of<'a>(name: &str, words: &ArgMatches<'a>) -> Option<Line<'a>>
     ensures line { IfSome result (Asks name.now (rows_of (found_of words.now))) }
     ensures none { IsNone result → (asked : Line) → ¬ (Asks name.now (rows_of (found_of words.now)) asked) }
@@ -308,7 +308,7 @@ fn line_of<'a>(name: &str, words: &ArgMatches<'a>) -> Option<Line<'a>>
     }
 }
 
-/// What the command that was found asks for.
+/// The task of the command that was found.
 pub(crate) fn found_line<'a>(matches: &ArgMatches<'a>) -> Option<Line<'a>>
     ensures line { IfSome result (AsksOf (subcommand_rows_of matches.now)) }
     ensures none { IsNone result → (asked : Line) → ¬ (AsksOf (subcommand_rows_of matches.now) asked) }

@@ -1,4 +1,4 @@
-//! The words of the program `desk`: what it takes, and what they ask for.
+//! The words of the program `desk`: which words it takes, and which task they name.
 #![tactic(auto)]
 
 pub use asked::{Line, Task};

@@ -18,7 +18,7 @@ use pt_base::Fault;
 use pt_base::fault::MEMORY;
 use std::alloc::{AllocError, Global};
 
-/// Words that are no command's, or one that is not the number or the day that its place asks for.
+/// The code of a fault in the words: they name no command, or a word is not the number or the day that its place needs.
 pub const WRONG_WORDS: u16 = 8;
 
 const ABOUT: &str = "The office system of a transit agency that gives complementary paratransit \
@@ -62,7 +62,7 @@ const AUDIT: &str = "Prints `yes` where the log shows that no vehicle can take t
 or the denial. For example: \
 desk audit refusal.log desk.db EST5EDT,M3.2.0,M11.1.0 KEY 7 2025-03-11 540 2 3 none 0 0";
 
-/// A place for a word: its name, and what the help says of it.
+/// A place for a word: its name, and its text in the help.
 type Place<'a> = (&'a str, &'a str);
 
 const ADMIN_KEY: Place = (
@@ -128,10 +128,10 @@ const QUESTION_PLACES: [Place; 11] = [
     FILE, ZONE, KEY, RIDER, DAY, WISH, FROM, TO, BY, ATTENDANT, COMPANIONS,
 ];
 
-/// A command: its name, what the help says of it, and the places for its words.
+/// A command: its name, its text in the help, and the places for its words.
 type Words<'a> = (&'a str, &'a str, &'a [Place<'a>]);
 
-/// The commands in the order of the help, but for `audit`, which comes last and asks for a log too.
+/// The commands in the order of the help. `audit` comes last and is made apart, since it also needs a log.
 const COMMANDS: [Words; 8] = [
     ("rehearse", REHEARSE, &[ADMIN_KEY]),
     ("init", INIT, &[NEW_FILE, ADMIN_KEY]),
@@ -143,7 +143,7 @@ const COMMANDS: [Words; 8] = [
     ("explain", EXPLAIN, &QUESTION_PLACES),
 ];
 
-/// The command with one more place for a word, which may not be left out.
+/// The command with one more place for a word, which is required. The error is out of memory.
 fn with_place<'a>(
     alloc: Global,
     command: Command<'a>,
@@ -174,7 +174,7 @@ fn with_places<'a>(
     Ok(command)
 }
 
-/// The command with these places, of which `about` is said in its help.
+/// The command with these places; `about` is its text in the help.
 fn command_of<'a>(
     alloc: Global,
     name: &'a str,
@@ -197,7 +197,7 @@ fn audit_command<'a>(alloc: Global) -> Result<Command<'a>, AllocError>
     with_places(alloc, command, &QUESTION_PLACES)
 }
 
-/// The program's words before its commands are named, one of which may not be left out.
+/// The program's words without its commands. A command is required.
 fn program_command<'a>(alloc: Global) -> Command<'a>
     ensures { app_of result ≡ program_words }
 {
@@ -233,7 +233,7 @@ fn with_commands<'a>(
     Ok(program)
 }
 
-/// The words that the program takes.
+/// The words of the program. The error is out of memory.
 fn desk_command<'a>(alloc: Global) -> Result<Command<'a>, AllocError>
     ensures app { IfOk result (λ command. app_of command ≡ desk_words) }
 {
@@ -241,9 +241,9 @@ fn desk_command<'a>(alloc: Global) -> Result<Command<'a>, AllocError>
     with_command(desk, audit_command(alloc)?)
 }
 
-/// What stands at the places of the command that the words name, the program's own name first.
+/// The words at the places of the command that the words name. The program's own name comes first in `words`.
 ///
-/// The error is the text for the user: what is wrong with the words, or the help or the version that they ask for.
+/// The error is a text for the user: the fault in the words, or the help or the version that they ask for.
 pub fn matches_in<'a>(alloc: Global, words: &'a [String]) -> Result<ArgMatches<'a>, Error>
     ensures matches { IfOk result (HasMatchesOf desk_words (map string_bytes words.now)) }
     ensures refused { FailsBy (fault_of desk_words (map string_bytes words.now)) result }
@@ -251,7 +251,7 @@ pub fn matches_in<'a>(alloc: Global, words: &'a [String]) -> Result<ArgMatches<'
     desk_command(alloc)?.try_get_matches_from(words)
 }
 
-/// The fault where words are refused for this reason.
+/// The fault for words that are refused for this reason.
 fn refusal_of(reason: ErrorKind) -> Fault
     ensures memory { reason ≡ OutOfMemory → result ≡ fault memory_refused }
     ensures wrong { result ≡ fault wrong_words → reason ≢ OutOfMemory }
@@ -263,12 +263,12 @@ fn refusal_of(reason: ErrorKind) -> Fault
     }
 }
 
-/// What the words ask for, the program's own name first. The fault is `WRONG_WORDS` where they are no command's, or one
-/// is not the number or the day that its place asks for; else it is out of memory.
+/// The task that the words name; the program's own name comes first. The fault is `WRONG_WORDS` if they name no
+/// command, or a word is not the number or the day that its place needs. Otherwise it is out of memory.
 pub fn line<'a>(alloc: Global, words: &'a [String]) -> Result<asked::Line<'a>, Fault>
     ensures line { IfOk result (IsLine (map string_bytes words.now)) }
     ensures wrong { result ≡ Err (fault wrong_words) → (asked : Line) → ¬ (IsLine (map string_bytes words.now) asked) }
-    // Words that do not begin with a hyphen are read as they stand.
+    // Words that do not begin with a hyphen are read unchanged.
     ensures plain { (asked : Line) → SpellsLine (map string_bytes words.now) asked → result ≢ Err (fault wrong_words) }
     ensures same { (asked : Line) → SpellsLine (map string_bytes words.now) asked → IfOk result (IsSameLine asked) }
     ensures fault { IfErr result (λ error. (error ≡ fault memory_refused) ⊎ (error ≡ fault wrong_words)) }

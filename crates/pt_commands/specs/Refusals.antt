@@ -1,4 +1,4 @@
--- What `explain` and `audit` print of a refusal, and how they end.
+-- What `explain` and `audit` print about a refusal, and their outcomes.
 use Rattle.std.specs.Prelude.{◌≡◌, ◌⊎◌, ℕ, List, ◌++◌, Option, Result, Ok, Err, codes}
 use Rattle.std.specs.Io.KnownBytes.{Appends}
 use Rattle.pt_audit.specs.RightLog.{IsRightLog}
@@ -19,22 +19,22 @@ use Rattle.pt_commands.specs.Told.{fault_of}
 use Rattle.pt_commands.specs.declared.outcome.Outcome.{Outcome}
 use Rattle.pt_commands.specs.declared.outcome.Outcome.TheVariants.{Done, Denied}
 
--- this is so of the vehicles of a refusal, lent with their routes, by the driving times of its rows
+-- this holds for the vehicles of a refusal, borrowed with their routes, by the driving times of its rows
 abbrev pub OfRefusal : ((ℕ → ℕ → Option ℕ) → List Duty → Type 0) → Refusal → Type 0
 OfRefusal P found =
     (minutes : ℕ → ℕ → Option ℕ) × AreTimes found.rows minutes
     × (duties : List Duty) × (on_duty duties ≡ found.vehicles) × P minutes duties
 
--- a right log of the refusal was written
+-- a correct log of the refusal was written
 abbrev pub WritesRefusal : Refusal → Option (List ℕ) → Option (List ℕ) → Type 0
 WritesRefusal found old new =
     OfRefusal (λ minutes duties. WritesRightLog minutes duties found.asked old new) found
 
--- these are the lines of a right log of the refusal
+-- these are the lines of a correct log of the refusal
 abbrev pub IsLogOf : Refusal → List Line → Type 0
 IsLogOf found lines = OfRefusal (λ minutes duties. IsRightLog minutes duties found.asked lines) found
 
--- and these are not
+-- these are not the lines of a correct log of the refusal
 abbrev pub IsNoLogOf : Refusal → List Line → Type 0
 IsNoLogOf found lines = OfRefusal (λ minutes duties. ¬ IsRightLog minutes duties found.asked lines) found
 
@@ -43,35 +43,35 @@ abbrev pub SomeCan : Refusal → Type 0
 SomeCan found =
     (minutes : ℕ → ℕ → Option ℕ) × AreTimes found.rows minutes × SomeVehicleCan minutes found.vehicles found.asked
 
--- no vehicle can
+-- no vehicle can take the trip
 abbrev pub NoneCan : Refusal → Type 0
 NoneCan found =
     (minutes : ℕ → ℕ → Option ℕ) × AreTimes found.rows minutes × ¬ SomeVehicleCan minutes found.vehicles found.asked
 
--- a command ends by a fault that has nothing to do with the desk
+-- the faults of a command that do not come from the desk
 abbrev pub IsOwnFault : Fault → Type 0
 IsOwnFault error = (error ≡ fault memory_refused) ⊎ (error ≡ fault write_failed)
 
--- how `explain` ends by what a refusal stands on: with its log, or with the word that the wish is possible
+-- the outcome of `explain` by the facts of a refusal: its log, or the word that the wish is possible
 abbrev pub IsExplainedFrom : Refusal → Option (List ℕ) → Option (List ℕ) → Result Outcome Fault → Type 0
 IsExplainedFrom found old new (Ok Done) = NoneCan found × WritesRefusal found old new
 IsExplainedFrom found old new (Ok Denied) = SomeCan found × Appends old new (codes "possible\n")
 IsExplainedFrom found old new (Ok outcome) = ⊥
 IsExplainedFrom found old new (Err error) = IsOwnFault error
 
--- and `audit` of a log of these lines
+-- the outcome of `audit` for a log of these lines
 abbrev pub IsAuditedFrom : List Line → Refusal → Option (List ℕ) → Option (List ℕ) → Result Outcome Fault → Type 0
 IsAuditedFrom lines found old new (Ok Done) = NoneCan found × IsLogOf found lines × Appends old new (codes "yes\n")
 IsAuditedFrom lines found old new (Ok Denied) = IsNoLogOf found lines × Appends old new (codes "no\n")
 IsAuditedFrom lines found old new (Ok outcome) = ⊥
 IsAuditedFrom lines found old new (Err error) = IsOwnFault error
 
--- a denial is printed by the name of its rule
+-- a denial is printed as the name of its rule
 abbrev pub IsDeniedBy : List ℕ → Option (List ℕ) → Option (List ℕ) → Result Outcome Fault → Type 0
 IsDeniedBy name old new (Ok outcome) = (outcome ≡ Denied) × Appends old new (name ++ codes "\n")
 IsDeniedBy name old new (Err error) = IsOwnFault error
 
--- how a command ends by what comes of asking for the facts of a refusal
+-- the outcome of a command by the reply to a question for the facts of a refusal
 abbrev pub EndsByFacts : (Refusal → Option (List ℕ) → Option (List ℕ) → Result Outcome Fault → Type 0)
     → Result Inquiry StoreFault → Option (List ℕ) → Option (List ℕ) → Result Outcome Fault → Type 0
 EndsByFacts Ends (Err failed) old new result = result ≡ Err (fault_of failed)

@@ -1,11 +1,11 @@
--- A rehearsal from its beginning.
+-- A rehearsal from a new desk.
 use Rattle.std.specs.Prelude.{◌≡◌, ℕ, List}
 use Rattle.pt_store.specs.LeastState.{IsLeastState}
 use Rattle.pt_http.specs.Exchange.{Desk}
 use Rattle.pt_rehearsal.specs.Rehearsal.{Exchanged, Rehearses}
 
--- a desk that never failed and has nothing but an admin with this key goes through these messages at the front of the
--- bytes, writes these bytes in reply, and leaves this rest
+-- A desk that never failed, and has only an admin with this key, answers these messages at the front of the bytes. It
+-- writes these bytes in reply, and leaves this rest.
 abbrev pub RehearsesFromLeast : List ℕ → List Exchanged → List ℕ → List ℕ → List ℕ → Type 0
 RehearsesFromLeast key messages bytes written rest =
     (least after : Desk) × IsLeastState key least.content × (least.failures ≡ 0)

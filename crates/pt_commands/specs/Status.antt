@@ -1,4 +1,4 @@
--- How the program ends.
+-- The outcome and the exit status of the program.
 use Rattle.std.specs.Prelude.{ℕ, ◌==◌, ◌||◌, Bool, true, false, if◌then◌else◌}
 use Rattle.clap.specs.declared.error.kind.ErrorKind.{ErrorKind}
 use Rattle.clap.specs.declared.error.kind.ErrorKind.TheVariants.{DisplayHelp, DisplayVersion, OutOfMemory}
@@ -8,8 +8,8 @@ use Rattle.pt_tables_opening.specs.Faults.{rows_refused, store_refused, tables_r
 use Rattle.pt_commands.specs.declared.outcome.Outcome.{Outcome}
 use Rattle.pt_commands.specs.declared.outcome.Outcome.TheVariants.{Done, Denied, WrongWords, Failed}
 
--- memory was refused, or the store: its tables are not the desk's, its rows are those of no sound state, or it refused
--- or failed
+-- Out of memory, or a fault of the store: its tables are not the desk's, its rows are not a sound state, or it refused
+-- or failed.
 abbrev pub is_of_store : ℕ → Bool
 is_of_store code =
     code == memory_refused || code == tables_refused || code == rows_refused || code == store_refused
@@ -21,8 +21,8 @@ status_of Denied = 1
 status_of WrongWords = 2
 status_of (Failed error) = if is_of_store error.code then 3 else 4
 
--- words that were not taken are wrong, but where memory was refused, or help or the version was asked for: that is done
--- once it is shown
+-- Refused words are wrong words, with two exceptions. Out of memory is a failure. Help and the version are done if they
+-- were shown, and a failed write if not.
 abbrev pub refusal_outcome : ErrorKind → Bool → Outcome
 refusal_outcome OutOfMemory is_shown = Failed (fault memory_refused)
 refusal_outcome DisplayHelp true = Done

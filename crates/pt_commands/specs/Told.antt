@@ -1,4 +1,4 @@
--- What a command is told by the desk, what it prints of that, and how it ends.
+-- The desk's reply to a command, the text that the command prints, and its outcome.
 use Rattle.std.specs.Prelude.{◌≡◌, ◌⊎◌, ℕ, List, [], ◌++◌, Result, Ok, Err, codes}
 use Rattle.pt_base.specs.Codes.{memory_refused, write_failed}
 use Rattle.pt_base.specs.Fault.{fault}
@@ -14,8 +14,8 @@ use Rattle.pt_tables_opening.specs.Faults.{store_refused}
 use Rattle.pt_commands.specs.declared.outcome.Outcome.{Outcome}
 use Rattle.pt_commands.specs.declared.outcome.Outcome.TheVariants.{Done, Denied}
 
--- what is printed: a word on a line of its own for what is done, the name of the rule for what is denied, and else the
--- text that was asked for
+-- The printed text: a word on its own line for what is done, the name of the rule for a denial, and otherwise the text
+-- that was asked for.
 abbrev pub told_text : Answer → List ℕ
 told_text answer.Done = codes "done\n"
 told_text (answer.Denied rule) = name_of rule ++ codes "\n"
@@ -23,17 +23,17 @@ told_text (answer.Manifest day sheet) = manifest_text day sheet
 told_text (answer.Export trips) = trips_text trips
 told_text _ = []
 
--- how a command ends that is told this
+-- the outcome of a command with this answer
 abbrev pub ending_of : Answer → Outcome
 ending_of (answer.Denied rule) = Denied
 ending_of _ = Done
 
--- the fault of the program where the desk's store fails
+-- the program's fault for a fault of the desk's store
 abbrev pub fault_of : StoreFault → Fault
 fault_of Memory = fault memory_refused
 fault_of Store = fault store_refused
 
--- how a command ends by this reply
+-- the outcome of a command with this reply
 abbrev pub EndsBy : Result Answer StoreFault → Result Outcome Fault → Type 0
 EndsBy (Ok told) (Ok outcome) = outcome ≡ ending_of told
 EndsBy (Ok told) (Err error) = (error ≡ fault memory_refused) ⊎ (error ≡ fault write_failed)

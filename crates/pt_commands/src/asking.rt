@@ -17,7 +17,7 @@ use pt_store::{Keeper, Reply, StoreFault};
 use std::alloc::{AllocError, Global};
 use std::io::Write;
 
-/// The fault of the program where the desk's store fails.
+/// The program's fault for a fault of the desk's store.
 pub fn fault_of(failed: StoreFault) -> Fault
     ensures { result ≡ fault_of failed }
 {
@@ -36,7 +36,7 @@ pub(crate) fn line_of(alloc: Global, word: &str) -> Result<Vec<u8>, AllocError>
     Ok(line)
 }
 
-/// What a command prints that is told this.
+/// The text that a command prints for this answer. The error is out of memory.
 fn text_of(alloc: Global, told: &Answer) -> Result<Vec<u8>, AllocError>
     ensures text { IfOk result (λ text. text.items ≡ told_text told.now) }
 {
@@ -49,7 +49,7 @@ fn text_of(alloc: Global, told: &Answer) -> Result<Vec<u8>, AllocError>
     }
 }
 
-/// How a command ends that is told this.
+/// The outcome of a command with this answer.
 fn ending_of(told: &Answer) -> Outcome
     ensures { result ≡ ending_of told.now }
 {
@@ -59,7 +59,7 @@ fn ending_of(told: &Answer) -> Outcome
     }
 }
 
-/// Writes a text, and sees it off. The error is a write that failed.
+/// Writes and flushes a text. The error is a failed write.
 pub(crate) fn print<W: Write>(text: &[u8], out: &mut W) -> Result<(), Fault>
     ensures written { OnOk result (Appends (W.contents out.old) (W.contents out.new) text.now) }
     ensures fault { IfErr result (λ error. error ≡ fault write_failed) }
@@ -70,9 +70,9 @@ pub(crate) fn print<W: Write>(text: &[u8], out: &mut W) -> Result<(), Fault>
     Ok(())
 }
 
-/// Says that what was asked for is done.
+/// Prints that the task is done.
 ///
-/// The error is out of memory, or a write that failed: it is done all the same.
+/// The error is out of memory or a failed write. The task is done all the same.
 pub fn print_done<W: Write>(alloc: Global, out: &mut W) -> Result<Outcome, Fault>
     ensures done { IfOk result (λ outcome. outcome ≡ Done) }
     ensures printed { OnOk result (Appends (W.contents out.old) (W.contents out.new) (codes "done\n")) }
@@ -83,7 +83,7 @@ pub fn print_done<W: Write>(alloc: Global, out: &mut W) -> Result<Outcome, Fault
     Ok(Outcome::Done)
 }
 
-/// Prints what a reply tells.
+/// Prints the answer in a reply.
 fn print_reply<W: Write>(alloc: Global, reply: &Reply, out: &mut W) -> Result<Outcome, Fault>
     ensures ends { EndsBy reply.now result }
     ensures printed { (told : Answer) → reply.now ≡ Ok told
@@ -99,10 +99,10 @@ fn print_reply<W: Write>(alloc: Global, reply: &Reply, out: &mut W) -> Result<Ou
     }
 }
 
-/// Asks the desk as the caller with this key, and prints what it tells.
+/// Asks the desk as the caller with this key, and prints its answer.
 ///
-/// The number is the caller's for a write; a read has none, and takes 0. The error is out of memory, a store that
-/// failed, or a write that failed: what was asked for may then be done all the same.
+/// `number` is the caller's number for a write, and 0 for a read. The error is out of memory, a failed store or a
+/// failed write. The request may be done even if there is an error.
 pub fn ask<K: Keeper, W: Write>(
     alloc: Global,
     keeper: &mut K,

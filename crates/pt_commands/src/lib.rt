@@ -1,4 +1,4 @@
-//! What a command of the program `desk` asks the desk, prints and ends with, and the exit status that tells it.
+//! The commands of the program `desk`: what each asks the desk and prints, its outcome, and the exit status.
 #![tactic(auto)]
 
 pub use asking::{ask, fault_of, print_done};

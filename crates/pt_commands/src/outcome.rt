@@ -6,25 +6,25 @@ use clap::error::ErrorKind;
 use pt_base::Fault;
 use pt_base::fault::{MEMORY, WRITE_FAILED};
 
-/// The database has other tables than the desk's, or those of another version.
+/// The tables of the database are not the desk's, or are of another version.
 const TABLES_REFUSED: u16 = 30;
 
-/// The rows of the database are those of no sound state.
+/// The rows of the database are not a sound state.
 const ROWS_REFUSED: u16 = 31;
 
 /// The store refused or failed.
 pub const STORE_REFUSED: u16 = 32;
 
-/// How the program ended.
+/// How the program ends.
 #[derive(Clone, Copy)]
 pub enum Outcome {
-    /// It did what the words asked for.
+    /// It did what the words ask for.
     Done,
-    /// The words ask for nothing that there is.
+    /// The words name no task.
     WrongWords,
-    /// The desk denied what was asked for, and standard output names the rule.
+    /// The desk denied the request, and standard output has the name of the rule.
     Denied,
-    /// Memory was refused, or the store or what the program reads or writes ended it.
+    /// Out of memory, or a fault of the store, of the input or of the output.
     Failed(Fault),
 }
 
@@ -38,7 +38,7 @@ pub fn outcome_of(done: Result<Outcome, Fault>) -> Outcome
     }
 }
 
-/// The outcome where the words were not taken for this reason, and the user was shown it or was not.
+/// The outcome for words that are refused for this reason. `is_shown` says whether the text for the user was written.
 pub fn outcome_of_refusal(reason: ErrorKind, is_shown: bool) -> Outcome
     ensures { result ≡ refusal_outcome reason is_shown }
 {
@@ -52,14 +52,14 @@ pub fn outcome_of_refusal(reason: ErrorKind, is_shown: bool) -> Outcome
     }
 }
 
-/// Whether this code is that of memory or of the store.
+/// Whether this code is out of memory or a fault of the store.
 fn is_of_store(code: u16) -> bool
     ensures { result ≡ is_of_store code }
 {
     matches!(code, MEMORY | TABLES_REFUSED | ROWS_REFUSED | STORE_REFUSED)
 }
 
-/// The exit status that tells an outcome.
+/// The exit status of an outcome.
 pub fn exit_status(outcome: Outcome) -> u8
     ensures { result ≡ status_of outcome }
 {

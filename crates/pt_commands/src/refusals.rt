@@ -24,7 +24,7 @@ use pt_store::Keeper;
 use std::alloc::Global;
 use std::io::Write;
 
-/// Prints the rule by which a question is denied.
+/// Prints the rule that denies a question.
 fn print_denial<W: Write>(alloc: Global, rule: Rule, out: &mut W) -> Result<Outcome, Fault>
     ensures { IsDeniedBy (name_of rule) (W.contents out.old) (W.contents out.new) result }
 {
@@ -53,7 +53,7 @@ fn print_refusal<W: Write>(
             print(log.as_slice(), out)?;
             Ok(Outcome::Done)
         }
-        // A vector takes all bytes for which there is memory.
+        // Writing to a vector fails only if memory runs out.
         Err(_) => Err(Fault::of(MEMORY)),
     }
 }
@@ -76,11 +76,11 @@ fn print_verdict<W: Write>(
     Ok(Outcome::Denied)
 }
 
-/// Asks as the caller with this key why a rider's wish would be denied `no vehicle`, and prints the log of the refusal;
-/// else that it is possible, or the rule by which it is denied.
+/// Asks, as the caller with this key, why a rider's wish would be denied `no vehicle`, and prints the log of the
+/// refusal. Otherwise it prints that the wish is possible, or the rule that denies it.
 ///
-/// The log is made whole before a byte of it is written. The error is that memory was refused, a store that failed, or
-/// a write that failed: then a part of the log may be written.
+/// The log is complete before a byte of it is written. The error is out of memory, a failed store or a failed write.
+/// After a failed write, a part of the log may be written.
 pub fn explain_refusal<K: Keeper, W: Write>(
     alloc: Global,
     keeper: &mut K,
@@ -92,7 +92,7 @@ pub fn explain_refusal<K: Keeper, W: Write>(
 ) -> Result<Outcome, Fault>
     ensures asked { Inquires IsExplainedFrom key.now now rider wish.now (K.store keeper.old) (K.store keeper.new)
         (W.contents out.old) (W.contents out.new) result }
-    // Where a log is printed, a booking with this wish is denied for want of a vehicle, and by no other rule.
+    // If a log is printed, a booking with this wish is denied `no vehicle`, and by no other rule.
     ensures refused { result ≡ Ok Done → (K.store keeper.new).doubt ≡ 0 → IsSound (K.store keeper.old).content
         → (number : ℕ) (told : Answer) (left : Option State)
         → IsOutcome key.now now number (Explain rider wish.now) (K.store keeper.old).content told left
@@ -105,10 +105,10 @@ pub fn explain_refusal<K: Keeper, W: Write>(
     }
 }
 
-/// Asks the same, and prints whether the log shows that no vehicle can take the trip, whoever made it; or the rule by
-/// which the wish is denied before any vehicle is looked at.
+/// Asks the same, and prints whether the log shows that no vehicle can take the trip, whoever made it. Otherwise it
+/// prints the rule that denies the wish before any vehicle is looked at.
 ///
-/// The error is out of memory, a store that failed, or a write that failed.
+/// The error is out of memory, a failed store or a failed write.
 pub fn audit_refusal<K: Keeper, W: Write>(
     alloc: Global,
     keeper: &mut K,
@@ -121,7 +121,7 @@ pub fn audit_refusal<K: Keeper, W: Write>(
 ) -> Result<Outcome, Fault>
     ensures asked { Inquires (IsAuditedFrom log.now.lines.items) key.now now rider wish.now (K.store keeper.old)
         (K.store keeper.new) (W.contents out.old) (W.contents out.new) result }
-    // A yes means that this very question in this very state is answered `no vehicle`, whoever made the log.
+    // A yes means that the desk answers this very question in this very state with `no vehicle`, whoever made the log.
     ensures refused { result ≡ Ok Done → (K.store keeper.new).doubt ≡ 0 → IsSound (K.store keeper.old).content
         → (number : ℕ) (told : Answer) (left : Option State)
         → IsOutcome key.now now number (Explain rider wish.now) (K.store keeper.old).content told left

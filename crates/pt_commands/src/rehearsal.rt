@@ -14,7 +14,7 @@ use std::io::{Read, Write};
 
 /// Answers the messages of the input in turn, on a new desk in memory whose admin has the key.
 ///
-/// The error is out of memory, or what ended the rehearsal before its end.
+/// The error is out of memory, or the fault that ended the rehearsal before the end of its input.
 pub fn rehearse_with_key<R: Read + Drop, W: Write>(
     alloc: Global,
     key: &[u8],
@@ -26,7 +26,7 @@ pub fn rehearse_with_key<R: Read + Drop, W: Write>(
         × RehearsesFromLeast key.now messages bytes written rest
         × Appends (W.contents out.old) (W.contents out.new) written × IsFinished messages rest
         × (length messages ≤ most_messages)) }
-    // Else the desk stood after the last message that was answered, whose reply may not be wholly written.
+    // On an error the desk was in the state after the last answered message, whose reply may not be wholly written.
     ensures stopped { (bytes : List ℕ) → R.remaining input ≡ Some bytes
         → IfErr result (λ error. error ≢ fault memory_refused
         → (messages : List Exchanged) × (written : List ℕ) × (rest : List ℕ)

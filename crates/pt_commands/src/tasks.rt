@@ -23,7 +23,7 @@ fn times_for<K: Keeper>(alloc: Global, keeper: &mut K, text: &[u8]) -> Result<Ra
     }
 }
 
-/// Puts the driving times of a CSV text, which hold from a day on, as the caller's request of this number.
+/// Sends the driving times of a CSV text, which hold from a day on, under this number of the caller.
 fn put_times<K: Keeper, W: Write>(
     alloc: Global,
     keeper: &mut K,
@@ -60,10 +60,10 @@ fn audit_text<K: Keeper, W: Write>(
     audit_refusal(alloc, keeper, now, key, rider, wish, &log, out)
 }
 
-/// Does a task of the desk, at a moment of the agency's clocks, as the caller with this key. The text is that of the
-/// file that the task names, if it names one.
+/// Does a task of the desk, at a moment of the agency's clocks, as the caller with this key. `text` is that of the file
+/// that the task names, if it names one.
 ///
-/// The error is a text that is not what it should be, or as in `ask` and `explain_refusal`.
+/// The error is a fault in the text, or an error of `ask` or `explain_refusal`.
 pub fn do_task<K: Keeper, W: Write>(
     alloc: Global,
     keeper: &mut K,

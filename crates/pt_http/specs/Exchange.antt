@@ -1,4 +1,4 @@
--- How the desk answers what begins some bytes.
+-- How the desk answers the message at the front of some bytes.
 use Rattle.std.specs.Prelude.{◌≡◌, ◌⊎◌, ℕ, Bool, true, false, List, Option, Some, None, Result, Ok, option_map}
 use Rattle.pt_base.specs.Fault.{fault}
 use Rattle.pt_base.specs.declared.fault.Fault.{Fault}
@@ -22,7 +22,7 @@ use Rattle.std.specs.Io.KnownBytes.{Appends}
 use Rattle.pt_http.specs.Input.{HasInput}
 use Rattle.pt_http.specs.Message.{BeginsWithMessage, BeginsWithFault}
 
--- the desk as it stands: what it keeps, and whether its store has failed
+-- the desk: its content, and whether its store has failed
 pub record Desk : Type 0 where
   pub content : State
   pub failures : ℕ
@@ -30,59 +30,59 @@ pub record Desk : Type 0 where
 abbrev pub desk_of : Store → Desk
 desk_of store = record { content = store.content; failures = store.failures }
 
--- a message with this key is answered by the rules; one with no key is denied, whoever the callers are, and changes
--- nothing
+-- The rules answer a message with this key. A message without a key is denied and changes nothing, whoever the callers
+-- are.
 abbrev pub AnswersWith : Option (List ℕ) → Moment → Message → Desk → Desk → Result Answer StoreFault → Type 0
 AnswersWith (Some key) now message old new told =
     TellsBy old.content new.content (IsOutcome key now message.number message.request) told
     × Fails old.failures new.failures told
 AnswersWith None now message old new told = (told ≡ Ok (Denied Key)) × (new ≡ old)
 
--- the message is answered so at this moment
+-- the message gets this answer at this moment
 abbrev pub AnswersMessage : Moment → Message → Desk → Desk → Result Answer StoreFault → Type 0
 AnswersMessage now message old new told =
     AnswersWith (option_map (λ key. key.items) message.key) now message old new told
 
--- the reply to what begins the bytes, and what it leaves: a message is answered, and a fault changes nothing
+-- The reply to the front of the bytes, and what it leaves: a message is answered, and a fault changes nothing.
 abbrev pub Exchanges : Moment → List ℕ → Desk → Desk → Response → List ℕ → Type 0
 Exchanges now bytes old new (response.Answered told) rest =
     (message : Message) × BeginsWithMessage bytes message rest × AnswersMessage now message old new told
 Exchanges now bytes old new (response.Refused why) rest = BeginsWithFault bytes why rest × (new ≡ old)
 
--- whatever came in, the reply is the desk's to some message at this moment, or to bytes that begin with none, which
--- change nothing
+-- The reply is the desk's reply to some message at this moment, or a fault, which changes nothing. The message need not
+-- be the one that came in.
 abbrev pub Serves : Moment → Desk → Desk → Response → Type 0
 Serves now old new (response.Answered told) = (message : Message) × AnswersMessage now message old new told
 Serves now old new (response.Refused why) = new ≡ old
 
--- the same of a desk over a store, as it stood and as it stands
+-- the same for a desk over a store, before and after
 abbrev pub ServesOver : Store → Store → Moment → Response → Type 0
 ServesOver old new now reply = Serves now (desk_of old) (desk_of new) reply
 
--- memory was refused, or a read failed or was one too many: nothing was answered
+-- Out of memory, a failed read or too many reads: nothing was answered.
 abbrev pub IsUnanswered : Fault → Type 0
 IsUnanswered error = (error ≡ fault memory_refused) ⊎ (error ≡ fault read_failed)
 
--- after a head or a length that is not taken, where the next message begins is not known
+-- after a bad head or a bad length, the start of the next message is not known
 abbrev pub is_last : Response → Bool
 is_last (response.Refused Head) = true
 is_last (response.Refused Length) = true
 is_last _ = false
 
--- what begins the input is answered so, and the inbox has what comes after it, for which it counts reads anew
+-- the front of the input gets this reply, and the inbox holds what follows it and counts reads anew
 abbrev pub IsExchanged : {R : Type 0} → (R → Option (List ℕ)) → Moment → List ℕ → Desk → Desk → Inbox R → Response
     → Type 0
 IsExchanged remaining now input old new inbox reply =
     (rest : List ℕ) × HasInput remaining inbox rest × Exchanges now input old new reply rest
     × (is_last reply ≡ false → reads_of inbox ≡ 0)
 
--- the same of a desk over a store, as it stood and as it stands
+-- the same for a desk over a store, before and after
 abbrev pub IsExchangedOver : {R : Type 0} → (R → Option (List ℕ)) → Store → Store → Moment → List ℕ → Inbox R
     → Response
     → Type 0
 IsExchangedOver remaining old new now input inbox reply =
     IsExchanged remaining now input (desk_of old) (desk_of new) inbox reply
 
--- the bytes of the reply come to the end of what was written
+-- the bytes of the reply are appended to what was written
 abbrev pub IsWritten : Response → Option (List ℕ) → Option (List ℕ) → Type 0
 IsWritten reply old new = (text : List ℕ) × IsReplyText reply text × Appends old new text

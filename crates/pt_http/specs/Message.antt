@@ -1,4 +1,4 @@
--- What begins some bytes: a message, or the first fault that keeps them from beginning with one.
+-- The front of some bytes: a message, or the first fault in it.
 use Rattle.std.specs.Prelude.{ℕ, ◌<◌, List, length}
 use Rattle.httparse.specs.Grammar.{RequestHead}
 use Rattle.pt_http_inbox.specs.Head.{BeginsWithHead, HasNoHead}
@@ -10,28 +10,28 @@ use Rattle.pt_http_request.specs.Targets.{desk_routes}
 use Rattle.pt_http_request.specs.declared.message.Message.{Message}
 use Rattle.pt_http.specs.Parts.{lines_of, BeginsWithParts}
 
--- the bytes begin with this message, and the rest comes after it
+-- the bytes begin with this message, and the rest follows it
 pub record BeginsWithMessage (bytes : List ℕ) (message : Message) (rest : List ℕ) : Type 0 where
   pub head : RequestHead
   pub body : List ℕ
   pub parts : BeginsWithParts bytes head body rest
   pub spelled : SpellsMessage desk_routes head.method head.target (lines_of head) body message
 
--- after a head, fewer bytes come than its fields say, or the fields give no length that is taken
+-- fewer bytes follow a head than its fields say, or the fields give no length in the limits
 pub record HasNoBody (bytes : List ℕ) : Type 0 where
   pub head : RequestHead
   pub after : List ℕ
   pub begins : BeginsWithHead bytes head after
   pub short : (size : ℕ) → IsBodyLength (lines_of head) size → length after < size
 
--- the bytes begin with the parts of a request, which is refused for this fault, and the rest comes after them
+-- the bytes begin with the parts of a request that has this fault, and the rest follows them
 pub record BeginsWithRefused (bytes : List ℕ) (why : RequestFault) (rest : List ℕ) : Type 0 where
   pub head : RequestHead
   pub body : List ℕ
   pub parts : BeginsWithParts bytes head body rest
   pub refused : IsMessageFault desk_routes head.method head.target (lines_of head) body why
 
--- this fault is the first that keeps the bytes from beginning with a message
+-- this is the first fault in the message at the front of the bytes
 abbrev pub BeginsWithFault : List ℕ → RequestFault → List ℕ → Type 0
 BeginsWithFault bytes fault.Head rest = HasNoHead bytes
 BeginsWithFault bytes fault.Length rest = HasNoBody bytes

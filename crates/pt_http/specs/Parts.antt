@@ -10,13 +10,13 @@ use Rattle.pt_http_request.specs.Headers.{IsBodyLength}
 abbrev pub lines_of : RequestHead → List (List ℕ × List ℕ)
 lines_of head = map name_and_value head.fields
 
--- what was found are the parts of this head, and they are within its bytes
+-- the parts that were found are those of this head, and they are within its bytes
 pub record AreParts (bytes : List ℕ) (found : Head) (head : RequestHead) : Type 0 where
   pub well_formed : IsRequestHead head
   pub parts : HasParts bytes found head
   pub inside : IsHeadWithin (length bytes) found
 
--- the bytes begin with this head and this body, and the rest comes after them
+-- the bytes begin with this head and this body, and the rest follows them
 pub record BeginsWithParts (bytes : List ℕ) (head : RequestHead) (body rest : List ℕ) : Type 0 where
   pub begins : BeginsWithHead bytes head (body ++ rest)
   pub body_length : IsBodyLength (lines_of head) (length body)

@@ -1,4 +1,4 @@
--- What was received from some bytes.
+-- The result of reading a request from some bytes.
 use Rattle.std.specs.Prelude.{◌≡◌, ℕ, Bool, false, List}
 use Rattle.pt_base.specs.declared.moment.Moment.{Moment}
 use Rattle.pt_http_reply.specs.declared.response.Response.{Response}
@@ -12,24 +12,24 @@ use Rattle.pt_http.specs.Parts.{lines_of}
 use Rattle.pt_http.specs.declared.received.Received.{Received}
 use Rattle.pt_http.specs.declared.received.Received.TheVariants as received
 
--- a head and a body spell this message, or are refused for this fault
+-- a head and a body spell this message, or have this fault
 abbrev pub IsSpelledBy : RequestHead → List ℕ → Received → Type 0
 IsSpelledBy head body (received.Message message) =
     SpellsMessage desk_routes head.method head.target (lines_of head) body message
 IsSpelledBy head body (received.Refused why) =
     IsMessageFault desk_routes head.method head.target (lines_of head) body why
 
--- where the next message begins is not known
+-- the start of the next message is not known
 abbrev pub is_end : Received → Bool
 is_end (received.Message message) = false
 is_end (received.Refused why) = is_last (response.Refused why)
 
--- the bytes begin with this message, or what begins them is refused for this fault
+-- the bytes begin with this message, or with one that has this fault
 abbrev pub BeginsWith : List ℕ → Received → List ℕ → Type 0
 BeginsWith bytes (received.Message message) rest = BeginsWithMessage bytes message rest
 BeginsWith bytes (received.Refused why) rest = BeginsWithFault bytes why rest
 
--- the desk's response to what was received: an answer, or the fault, which changes nothing
+-- the desk's response to what was received: an answer; or the fault, which changes nothing
 abbrev pub Responds : Moment → Received → Desk → Desk → Response → Type 0
 Responds now (received.Message message) old new (response.Answered told) =
     AnswersMessage now message old new told

@@ -42,7 +42,7 @@ fn respond<K: Keeper>(alloc: Global, keeper: &mut K, now: Moment, received: &Rec
     }
 }
 
-/// Writes a reply, and sees it off. The error is a write that failed.
+/// Writes and flushes a reply. The error is a failed write.
 fn write_reply<W: Write>(reply: &ReplyBytes, out: &mut W) -> Result<(), Fault>
     ensures written { OnOk result (Appends (W.contents out.old) (W.contents out.new) (bytes_of reply.now)) }
     ensures fault { IfErr result (λ error. error ≡ fault write_failed) }
@@ -56,8 +56,7 @@ fn write_reply<W: Write>(reply: &ReplyBytes, out: &mut W) -> Result<(), Fault>
     Ok(())
 }
 
-/// Reads one request, answers it by these routes and writes the reply, which it tells. Errors are those of
-/// `answer_bytes`.
+/// Reads one request, answers it by these routes, writes the reply and returns it. Errors are those of `answer_bytes`.
 pub fn exchange<K: Keeper, R: Read + Drop, W: Write>(
     alloc: Global,
     router: &Router<Path>,
@@ -80,8 +79,8 @@ pub fn exchange<K: Keeper, R: Read + Drop, W: Write>(
 
 /// Reads one request, answers it by the rules as of this moment, and writes the reply.
 ///
-/// Later bytes stay in the inbox. The error is want of memory, a read that failed or was one too many (then nothing is
-/// changed, and the same bytes can be asked again), or a write that failed (then the request is answered all the same).
+/// Later bytes stay in the inbox. On out of memory, a failed read or too many reads, nothing changes, and the same
+/// bytes can be asked again. On a failed write, the request is answered all the same.
 pub fn answer_bytes<K: Keeper, R: Read + Drop, W: Write>(
     alloc: Global,
     keeper: &mut K,

@@ -1,4 +1,4 @@
-//! The desk in bytes: requests from a reader, replies to a writer, one after another.
+//! The desk over HTTP bytes: requests from a reader, replies to a writer, one after another.
 #![tactic(auto)]
 
 pub use exchanging::{answer_bytes, exchange};

@@ -6,8 +6,8 @@ ghost use Rattle.pt_http_reply.specs.declared.response.Response.TheVariants as r
 ghost use Rattle.pt_http_request.specs.Messages.{IsSameMessage};
 ghost use Rattle.pt_http_request.specs.declared.message.Message.{Message};
 
-/// A law: bytes begin with one message or have one first fault, and not both. After a head or a length that is not
-/// taken no rest is said.
+/// A law: bytes begin with one message or have one first fault, and not both. After a bad head or a bad length, nothing
+/// is claimed about the rest.
 pub fn bytes_spell_one_message()
     ensures one { (bytes rest more : List ℕ) (message other : Message) → BeginsWithMessage bytes message rest
         → BeginsWithMessage bytes other more

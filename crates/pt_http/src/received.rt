@@ -17,16 +17,16 @@ use pt_http_request::{Message, MessageFault, Path, RequestFault, body_length, me
 use std::alloc::Global;
 use std::io::Read;
 
-/// What came in.
+/// The result of reading a request.
 #[derive(Drop)]
 pub(crate) enum Received {
-    /// A message to be answered.
+    /// A message to answer.
     Message(Message),
-    /// Bytes that are none.
+    /// Bytes that are not a message.
     Refused(RequestFault),
 }
 
-/// What a head, whose bytes are given, and its body spell. The error is want of memory.
+/// The message or the fault in a head, whose bytes are given, and its body. The error is out of memory.
 fn received_from(
     alloc: Global,
     router: &Router<Path>,
@@ -48,9 +48,9 @@ fn received_from(
     }
 }
 
-/// Reads one request and lets go of its bytes. Where its head or its length is not taken, they stay.
+/// Reads one request and drops its bytes. After a bad head or a bad length, they stay.
 ///
-/// The error is want of memory, or a read that failed or was one too many.
+/// The error is out of memory, a failed read, or too many reads.
 pub(crate) fn receive<R: Read + Drop>(
     alloc: Global,
     router: &Router<Path>,

@@ -4,15 +4,15 @@ use Rattle.httparse.specs.Grammar.{RequestHead, ReadsRequest, print_request}
 use Rattle.httparse.specs.Spans.{IsWithin, IsHeaderWithin, span_bytes, header_bytes, name_and_value}
 use Rattle.pt_http_inbox.specs.declared.head.Head.{Head}
 
--- bytes of a head
+-- the most bytes of a head
 abbrev pub longest_head : ℕ
 longest_head = 8_192
 
--- header lines of a head
+-- the most header lines of a head
 abbrev pub most_fields : ℕ
 most_fields = 64
 
--- the bytes begin with this head, which is short and has few fields, and the rest comes after it
+-- the bytes begin with this head, which is in the limits, and the rest follows it
 pub record BeginsWithHead (bytes : List ℕ) (head : RequestHead) (rest : List ℕ) : Type 0 where
   pub reads : ReadsRequest bytes head rest
   pub short : length (print_request head) ≤ longest_head
@@ -24,13 +24,13 @@ pub record HasParts (bytes : List ℕ) (found : Head) (head : RequestHead) : Typ
   pub target : span_bytes bytes found.target ≡ head.target
   pub lines : map (header_bytes bytes) found.lines.items ≡ map name_and_value head.fields
 
--- all those parts are within so many bytes
+-- all those parts are within the first `count` bytes
 pub record IsHeadWithin (count : ℕ) (found : Head) : Type 0 where
   pub method : IsWithin count found.method
   pub target : IsWithin count found.target
   pub lines : All (IsHeaderWithin count) found.lines.items
 
--- such a head was found at the front of the bytes
+-- this head was found at the front of the bytes
 pub record IsHead (bytes : List ℕ) (found : Head) : Type 0 where
   pub head : RequestHead
   pub begins : BeginsWithHead bytes head (drop found.length bytes)
@@ -38,10 +38,10 @@ pub record IsHead (bytes : List ℕ) (found : Head) : Type 0 where
   pub inside : IsHeadWithin found.length found
   pub within : found.length ≤ length bytes
 
--- the bytes begin with no such head
+-- the bytes begin with no head in the limits
 abbrev pub HasNoHead : List ℕ → Type 0
 HasNoHead bytes = (head : RequestHead) (rest : List ℕ) → ¬ (BeginsWithHead bytes head rest)
 
--- nor do they, whatever bytes follow
+-- the bytes begin with no head in the limits, whatever bytes follow
 abbrev pub NeverHasHead : List ℕ → Type 0
 NeverHasHead bytes = (more : List ℕ) → HasNoHead (bytes ++ more)

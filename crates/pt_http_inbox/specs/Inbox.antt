@@ -1,4 +1,4 @@
--- What a clause sees of an inbox.
+-- What a contract sees of an inbox.
 use Rattle.std.specs.Prelude.{◌≡◌, ℕ, ◌+◌, ◌*◌, ◌≤◌, List, ◌++◌, length, Option}
 use Rattle.std.specs.Io.KnownBytes.{Consumes}
 use Rattle.pt_http_inbox.specs.declared.inbox.Inbox.{Inbox}
@@ -12,11 +12,12 @@ held inbox = inbox.bytes.value.items
 abbrev pub reader_of : {R : Type 0} → Inbox R → R
 reader_of inbox = inbox.reader
 
--- the reads since the last request was let go of
+-- the reads since the last request was dropped
 abbrev pub reads_of : {R : Type 0} → Inbox R → ℕ
 reads_of inbox = inbox.reads
 
--- bytes of the reader, where what it has left is known, have come to the end of those held, and each read was counted
+-- The inbox holds more bytes of the reader at its end, and each read was counted. This speaks of the reader's bytes if
+-- they are known.
 pub record ReadsOn {R : Type 0} (remaining : R → Option (List ℕ)) (old new : Inbox R) : Type 0 where
   pub more : List ℕ
   pub consumed : Consumes (remaining (reader_of old)) (remaining (reader_of new)) more

@@ -1,10 +1,10 @@
--- How many reads a request may take.
+-- The limit of reads for a request.
 use Rattle.std.specs.Prelude.{ℕ}
 
--- reads of a request, those of the moment line before it among them
+-- the most reads for a request, including those of the moment line before it
 abbrev pub most_reads : ℕ
 most_reads = 65_536
 
--- bytes that one read asks for at most
+-- the most bytes that one read asks for
 abbrev pub longest_piece : ℕ
 longest_piece = 4_096

@@ -5,10 +5,10 @@ use arrayvec::ArrayVec;
 use httparse::Status;
 use httparse::spans::{EMPTY_HEADER_SPAN, HeaderSpan, RequestSpans, Span, parse_request};
 
-/// How many bytes a head has at most, its empty line among them.
+/// The most bytes of a head, including its empty line.
 pub const LONGEST_HEAD: usize = 8_192;
 
-/// How many fields a head has at most.
+/// The most header lines of a head.
 pub const MOST_FIELDS: usize = 64;
 
 /// Where the parts of a head are in its bytes.
@@ -18,12 +18,12 @@ pub struct Head {
     pub target: Span,
     /// The names and values of its header lines.
     pub lines: ArrayVec<HeaderSpan, MOST_FIELDS>,
-    /// How many bytes it has, its empty line among them.
+    /// The number of its bytes, including its empty line.
     pub length: usize,
 }
 
 impl Head {
-    /// The head of these spans, its lines the first of these.
+    /// The head of these spans. Its lines are the first `spans.headers` of `headers`.
     fn of(spans: RequestSpans, headers: [HeaderSpan; MOST_FIELDS]) -> Self
         ensures method { result.method ≡ spans.method }
         ensures target { result.target ≡ spans.path }
@@ -41,12 +41,12 @@ impl Head {
     }
 }
 
-/// What stands at the front of some bytes.
+/// What is at the front of some bytes.
 #[derive(Drop)]
 pub(crate) enum Front {
     /// A head.
     Head(Head),
-    /// No head yet: more bytes may end one.
+    /// No head yet: further bytes may complete one.
     Open,
     /// No head, whatever follows.
     Never,

@@ -16,24 +16,24 @@ use std::alloc::{AllocError, Global};
 use std::io;
 use std::io::{ErrorKind, Read};
 
-/// How many bytes a body has at most.
+/// The most bytes of a body.
 pub const LONGEST_BODY: usize = 16_384;
 
-/// How many reads a request may take.
+/// The most reads for a request.
 pub const MOST_READS: u32 = 65_536;
 
-/// The room for a request.
+/// The room for a request, in bytes.
 const ROOM: usize = LONGEST_HEAD + LONGEST_BODY;
 
-/// How many bytes a read asks for at most.
+/// The most bytes that a read asks for.
 const PIECE: usize = 4_096;
 
-/// A reader, and what has come from it and was not yet consumed. It takes memory once, for one whole request.
+/// A reader, with its bytes that have come and are not yet consumed. It allocates once, for one whole request.
 #[derive(Drop)]
 pub struct Inbox<R> {
     reader: R,
     bytes: Box<ArrayVec<u8, ROOM>>,
-    /// The reads since the last request was let go of.
+    /// The reads since the last request was dropped.
     reads: u32,
     ghost few_reads: { reads ≤ most_reads },
 }
@@ -41,7 +41,7 @@ pub struct Inbox<R> {
 impl<R: Read + Drop> Inbox<R> {
     ghost use Rattle.pt_http_inbox.specs.Inbox.{held, reader_of, reads_of, ReadsOn};
 
-    /// An inbox that holds nothing yet.
+    /// An inbox that holds nothing yet. The error is out of memory.
     pub fn new(alloc: Global, reader: R) -> Result<Self, AllocError>
         ensures empty { IfOk result (λ inbox. held inbox ≡ []) }
         ensures reader { IfOk result (λ inbox. reader_of inbox ≡ reader) }
@@ -55,7 +55,7 @@ impl<R: Read + Drop> Inbox<R> {
         })
     }
 
-    /// The bytes that have come and were not yet consumed.
+    /// The bytes that have come and are not yet consumed.
     pub fn held(&self) -> &[u8]
         ensures value { result.now ≡ held self.now }
         ensures within { length result.now ≤ ROOM }
@@ -63,7 +63,7 @@ impl<R: Read + Drop> Inbox<R> {
         self.bytes.as_slice()
     }
 
-    /// Reads once; `false` at the end of the input. The error is a read that failed or was one too many.
+    /// Reads once; `false` at the end of the input. The error is a failed read, or too many reads.
     pub fn read_more(&mut self) -> Result<bool, Fault>
         requires { length (held self.old) < ROOM }
         ensures reads { ReadsOn R.remaining self.old self.new }
@@ -83,7 +83,7 @@ impl<R: Read + Drop> Inbox<R> {
         Ok(count > 0)
     }
 
-    /// Asks the reader once, which counts as a read whatever it gives: nothing else asks it.
+    /// Reads from the reader once. It counts as a read, whatever the result: no other function reads.
     fn ask_once(&mut self, piece: &mut [u8]) -> io::Result<usize>
         requires { reads_of self.old < most_reads }
         ensures counted { reads_of self.new ≡ reads_of self.old + 1 }
@@ -96,8 +96,7 @@ impl<R: Read + Drop> Inbox<R> {
         self.reader.read(piece)
     }
 
-    /// Asks the reader, and again for as long as it is interrupted: the error is an interruption only where no
-    /// read is left.
+    /// Reads, and again while the reader is interrupted. The error is an interruption only if no read is left.
     fn read_piece(&mut self, piece: &mut [u8]) -> io::Result<usize>
         ensures bytes { ReadConsumes (R.remaining (reader_of self.old)) (R.remaining (reader_of self.new))
             result piece.new }
@@ -117,8 +116,8 @@ impl<R: Read + Drop> Inbox<R> {
         Err(ErrorKind::Interrupted.into())
     }
 
-    /// Reads until a head stands at the front, and tells where its parts are; `None` where what comes begins
-    /// with no head. The error is a read that failed or was one too many.
+    /// Reads until a head is at the front, and returns where its parts are; `None` if the input begins with no head.
+    /// The error is a failed read, or too many reads.
     pub fn read_head(&mut self) -> Result<Option<Head>, Fault>
         ensures reads { ReadsOn R.remaining self.old self.new }
         ensures head { IfOk result (λ found. IfSome found (IsHead (held self.new))) }
@@ -140,8 +139,8 @@ impl<R: Read + Drop> Inbox<R> {
         Err(Fault::of(READ_FAILED))
     }
 
-    /// Reads until so many bytes are held; `false` where the input ends before. The error is a read that failed
-    /// or was one too many.
+    /// Reads until `count` bytes are held; `false` if the input ends before. The error is a failed read, or too many
+    /// reads.
     pub fn read_up_to(&mut self, count: usize) -> Result<bool, Fault>
         requires { count ≤ ROOM }
         ensures reads { ReadsOn R.remaining self.old self.new }
@@ -161,7 +160,7 @@ impl<R: Read + Drop> Inbox<R> {
         Err(Fault::of(READ_FAILED))
     }
 
-    /// Lets go of the first so many bytes, which lead a request: reads go on being counted.
+    /// Drops the first `count` bytes, which come before a request. The count of reads continues.
     pub fn consume(&mut self, count: usize)
         requires { count ≤ length (held self.old) }
         ensures rest { held self.new ≡ drop count (held self.old) }
@@ -173,7 +172,7 @@ impl<R: Read + Drop> Inbox<R> {
         self.bytes.truncate(rest);
     }
 
-    /// Lets go of the first so many bytes, a whole request: reads are counted anew.
+    /// Drops the first `count` bytes, which are a whole request. The count of reads begins anew.
     pub fn finish_request(&mut self, count: usize)
         requires { count ≤ length (held self.old) }
         ensures rest { held self.new ≡ drop count (held self.old) }

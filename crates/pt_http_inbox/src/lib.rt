@@ -1,4 +1,4 @@
-//! The inbox of a desk that is asked over HTTP: bytes of a reader, held until whole requests have come.
+//! The inbox of a desk over HTTP: the bytes of a reader, held until a whole request has come.
 #![tactic(auto)]
 
 pub use head::{Head, LONGEST_HEAD, MOST_FIELDS};

@@ -1,4 +1,4 @@
--- Bodies of replies: compact JSON, keys in byte order, and the texts that are carried and sent.
+-- Bodies of replies: compact JSON with keys in byte order, and texts such as manifests and letters.
 use Rattle.std.specs.Prelude.{◌≡◌, ℕ, List, ◌++◌, Bool, true, false, map, codes, decimal, pos, Ok, Err}
 use Rattle.std.specs.List.{join_with_byte}
 use Rattle.pt_base.specs.DateText.{IsDateText}
@@ -30,18 +30,18 @@ condition_json condition = quoted (condition_text condition)
 abbrev pub conditions_text : List Condition → List ℕ
 conditions_text members = join_with_byte 44 (map condition_json members)
 
--- a standing that has no more than a name
+-- a standing that has only a name
 abbrev pub named_standing_body : List ℕ → Bool → List ℕ
 named_standing_body name suspended =
     codes "{\"standing\":\"" ++ name ++ codes "\",\"suspended\":" ++ truth_text suspended ++ codes "}"
 
--- a grant, where `until` is the text of its last day
+-- a grant; `until` is the text of its last day
 abbrev pub granted_body : Grant → Bool → List ℕ → List ℕ
 granted_body grant suspended until =
     codes "{\"conditions\":[" ++ conditions_text grant.conditions ++ codes "],\"standing\":\"granted\",\"suspended\":"
     ++ truth_text suspended ++ codes ",\"until\":\"" ++ until ++ codes "\"}"
 
--- the body tells a resident's standing
+-- the body with a resident's standing
 abbrev pub IsStandingBody : Standing → Bool → List ℕ → Type 0
 IsStandingBody standing.Presumed suspended body = body ≡ named_standing_body (codes "presumed") suspended
 IsStandingBody standing.AppealOverdue suspended body = body ≡ named_standing_body (codes "appeal-overdue") suspended
@@ -49,16 +49,16 @@ IsStandingBody standing.None suspended body = body ≡ named_standing_body (code
 IsStandingBody (standing.Granted grant) suspended body =
     (until : List ℕ) × IsDateText (pos grant.until) until × (body ≡ granted_body grant suspended until)
 
--- a visitor's standing: whether the visitor may use the day (49 CFR 37.127(e)); none is suspended
+-- a visitor's standing: whether the visitor may use the day (49 CFR 37.127(e)); no visitor is suspended
 abbrev pub visitor_body : Bool → List ℕ
 visitor_body true = named_standing_body (codes "visitor") false
 visitor_body false = named_standing_body (codes "visitor-used") false
 
--- a denial by name
+-- a denial with the name of its rule
 abbrev pub denial_body : List ℕ → List ℕ
 denial_body name = codes "{\"denied\":\"" ++ name ++ codes "\"}"
 
--- the body tells what the rules make of a request
+-- the body with the answer to a request
 abbrev pub IsAnswerBody : Answer → List ℕ → Type 0
 IsAnswerBody answer.Done body = body ≡ codes "{\"done\":true}"
 IsAnswerBody (answer.Entered place) body = body ≡ codes "{\"entered\":" ++ decimal place ++ codes "}"
@@ -73,7 +73,7 @@ IsAnswerBody (answer.DaySheet sheet) body = body ≡ day_sheet_text sheet
 IsAnswerBody (answer.Export trips) body = body ≡ trips_text trips
 IsAnswerBody (answer.Denied rule) body = body ≡ denial_body (name_of rule)
 
--- bytes that are no request: of a field, its name too
+-- the body for a fault in the request; a bad field is named
 abbrev pub fault_body : RequestFault → List ℕ
 fault_body (fault.Field name) =
     codes "{\"denied\":\"http.field\",\"field\":\"" ++ field_name name ++ codes "\"}"

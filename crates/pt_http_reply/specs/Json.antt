@@ -11,7 +11,7 @@ abbrev pub truth_text : Bool → List ℕ
 truth_text true = codes "true"
 truth_text false = codes "false"
 
--- a text of characters that need no escape
+-- a text whose characters need no escape
 abbrev pub quoted : List ℕ → List ℕ
 quoted text = codes "\"" ++ text ++ codes "\""
 
@@ -23,23 +23,23 @@ member name value = quoted (field_name name) ++ codes ":" ++ value
 abbrev pub object : List (List ℕ) → List ℕ
 object members = codes "{" ++ join_with_byte 44 members ++ codes "}"
 
--- a value as it is handed to the writer of objects
+-- a value that the writer of objects takes, as JSON
 abbrev pub value_text : MemberValue → List ℕ
 value_text value.Null = codes "null"
 value_text (value.Truth truth) = truth_text truth
 value_text (value.Number number) = decimal number
 value_text (value.Text text) = quoted text.now
 
--- a member as it is handed to it
+-- a member that it takes, as JSON
 abbrev pub member_text : FieldName × MemberValue → List ℕ
 member_text part = member part.0 (value_text part.1)
 
--- a text of a member has 15 bytes at most
+-- the text of a value has at most 15 bytes
 abbrev pub IsShortValue : MemberValue → Type 0
 IsShortValue (value.Text text) = length text.now ≤ 15
 IsShortValue _ = Unit {0}
 
--- so has each of these
+-- the text of each value has at most 15 bytes
 abbrev pub AreShort : List (FieldName × MemberValue) → Type 0
 AreShort [] = Unit {0}
 AreShort (part ∷ parts) = IsShortValue part.1 × AreShort parts

@@ -1,4 +1,4 @@
--- How a reply is held before it is written.
+-- A reply before it is written.
 use Rattle.std.specs.Prelude.{◌≡◌, ◌≤◌, ◌⊎◌, ℕ, List, ◌++◌, length, Bool, true, false, Ok, Err}
 use Rattle.pt_store.specs.declared.keeper.StoreFault.TheVariants.{Memory}
 use Rattle.pt_requests.specs.declared.request.Answer.{Answer}
@@ -9,7 +9,7 @@ use Rattle.pt_http_reply.specs.declared.reply_bytes.ReplyBytes.{ReplyBytes}
 use Rattle.pt_http_reply.specs.declared.response.Response.{Response}
 use Rattle.pt_http_reply.specs.declared.response.Response.TheVariants as response
 
--- what a read is told, where no rule fails: it may be of any length
+-- the answer to a read that no rule denies: it may be of any length
 abbrev pub is_of_read : Answer → Bool
 is_of_read (answer.Standing standing suspended) = true
 is_of_read (answer.Visitor may_use) = true
@@ -29,12 +29,12 @@ abbrev pub bytes_in : Body → List ℕ
 bytes_in (Fixed text) = text
 bytes_in (Grown text) = text.items
 
--- one in fixed room leaves room for a head
+-- a body in a fixed buffer leaves room for a head
 abbrev pub IsShort : Body → Type 0
 IsShort (Fixed text) = length text ≤ 200
 IsShort (Grown text) = Unit {0}
 
--- it stands in fixed room
+-- the body is in a fixed buffer
 abbrev pub IsFixed : Body → Type 0
 IsFixed (Fixed text) = Unit {0}
 IsFixed (Grown text) = ⊥
@@ -43,6 +43,6 @@ IsFixed (Grown text) = ⊥
 abbrev pub bytes_of : ReplyBytes → List ℕ
 bytes_of reply = reply.front ++ reply.rest.items
 
--- the response goes out, or, in place of what a read is told, that memory was wanting
+-- the response is sent; or, instead of the answer to a read, the reply that memory ran out
 abbrev pub IsSent : Response → Response → Type 0
 IsSent asked sent = (sent ≡ asked) ⊎ ((is_told asked ≡ true) × (sent ≡ response.Answered (Err Memory)))

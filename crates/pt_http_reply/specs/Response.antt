@@ -20,7 +20,7 @@ status_of (response.Answered (Ok told)) = 200
 status_of (response.Answered (Err failed)) = 503
 status_of (response.Refused refused) = status_of_fault refused
 
--- what the body of a reply is written in
+-- the media type of a reply's body
 abbrev pub type_of : Response → ContentType
 type_of (response.Answered (Ok (answer.Letter letter))) = Text
 type_of (response.Answered (Ok (answer.Manifest day sheet))) = Text
@@ -32,13 +32,13 @@ type_of reply = Json
 abbrev pub line : List ℕ → List ℕ
 line text = text ++ codes "\r\n"
 
--- the lines that some replies have: 401 says which key is wanted, 405 which method
+-- the extra lines of some replies: 401 names the key's header, 405 the allowed method
 abbrev pub own_lines : Response → List ℕ
 own_lines (response.Answered (Ok (answer.Denied Key))) = line (codes "WWW-Authenticate: Desk-Key")
 own_lines (response.Refused (fault.Method allowed)) = line (codes "Allow: " ++ method_name allowed)
 own_lines _ = []
 
--- the lines of a head, the empty one last, before a body of so many bytes
+-- the lines of a head before a body of this length; the last line is empty
 abbrev pub head_text : Response → ℕ → List ℕ
 head_text reply body_length =
     line (codes "HTTP/1.1 " ++ status_text (status_of reply))
@@ -52,7 +52,7 @@ head_text reply body_length =
 abbrev pub reply_text : Response → List ℕ → List ℕ
 reply_text reply body = head_text reply (length body) ++ body
 
--- the bytes are the reply's
+-- the bytes are those of the reply
 pub record IsReplyText (reply : Response) (bytes : List ℕ) : Type 0 where
   pub body : List ℕ
   pub told : IsBody reply body

@@ -1,9 +1,10 @@
--- Statuses of denials (RFC 9110, section 15), by their codes.
+-- Status codes of denials (RFC 9110, section 15).
 use Rattle.std.specs.Prelude.{ℕ}
 use Rattle.pt_base.specs.declared.rule.Rule.{Rule}
 use Rattle.pt_base.specs.declared.rule.Rule.TheVariants as rule
 
--- a key, a number, a caller and an absent record have their own, every other rule has 422, Unprocessable Entity
+-- A wrong key, number or caller and a missing record have their own status. Every other rule has 422, Unprocessable
+-- Entity.
 abbrev pub status_of_rule : Rule → ℕ
 status_of_rule rule.Key = 401
 status_of_rule rule.Number = 409

@@ -1,4 +1,4 @@
--- What is told of trips: compact JSON, keys in byte order.
+-- Trips in replies: compact JSON with keys in byte order.
 use Rattle.std.specs.Prelude.{◌≡◌, ℕ, List, [], ◌∷◌, ◌++◌, Option, Some, None, codes, decimal, pos}
 use Rattle.std.specs.List.{join_with_byte}
 use Rattle.pt_base.specs.DateText.{IsDateText}
@@ -11,7 +11,7 @@ use Rattle.pt_http_request.specs.declared.field_name.FieldName.TheVariants as fi
 use Rattle.pt_party.specs.Fare.{due_of}
 use Rattle.pt_http_reply.specs.Json.{truth_text, quoted, member, object}
 
--- how far a trip has come
+-- the name of a trip's status
 abbrev pub status_name : TripStatus → List ℕ
 status_name status.Booked = codes "booked"
 status_name status.Cancelled = codes "cancelled"
@@ -19,12 +19,12 @@ status_name status.Ridden = codes "ridden"
 status_name status.MissedRider = codes "missed-rider"
 status_name status.MissedOperator = codes "missed-operator"
 
--- a minute, or null where there is none
+-- a minute, or null if there is none
 abbrev pub minute_or_null : Option ℕ → List ℕ
 minute_or_null None = codes "null"
 minute_or_null (Some minute) = decimal minute
 
--- a trip that is booked: what its party owes, the fare of one person, in cents, its vehicle and the promised window
+-- a booked trip: what its party owes and the fare of one person, in cents; its vehicle and the promised window
 abbrev pub confirmation_body : Confirmation → List ℕ
 confirmation_body told = object (
     member field.Due (decimal told.due)
@@ -35,7 +35,7 @@ confirmation_body told = object (
     ∷ member field.WindowTo (decimal told.window_to)
     ∷ [])
 
--- one of a rider's trips, where `day` is the text of its day
+-- one of a rider's trips; `day` is the text of its day
 abbrev pub trip_object : Trip → List ℕ → List ℕ
 trip_object trip day = object (
     member field.Attendant (truth_text trip.wish.attendant)
@@ -54,7 +54,7 @@ trip_object trip day = object (
     ∷ member field.Wish (decimal trip.wish.pickup)
     ∷ [])
 
--- the text is the trip's
+-- the text is that of the trip
 abbrev pub IsTripText : Trip → List ℕ → Type 0
 IsTripText trip text = (day : List ℕ) × IsDateText (pos trip.wish.day) day × (text ≡ trip_object trip day)
 
@@ -68,7 +68,7 @@ AreTripTexts _ _ = ⊥
 abbrev pub IsTripList : List Trip → List ℕ → Type 0
 IsTripList trips text = (texts : List (List ℕ)) × AreTripTexts trips texts × (text ≡ join_with_byte 44 texts)
 
--- the body tells a rider's trips
+-- the body with a rider's trips
 abbrev pub IsTripsBody : List Trip → List ℕ → Type 0
 IsTripsBody trips body =
     (text : List ℕ) × IsTripList trips text × (body ≡ codes "{\"trips\":[" ++ text ++ codes "]}")

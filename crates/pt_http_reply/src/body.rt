@@ -15,13 +15,13 @@ use std::alloc::{AllocError, Global};
 /// The body of a reply.
 #[derive(Drop)]
 pub(crate) enum Body {
-    /// In room that is there.
+    /// In a fixed buffer.
     Fixed(ReplyBuffer),
-    /// What a read is told, of any length.
+    /// The answer to a read, of any length.
     Grown(Vec<u8>),
 }
 
-/// The body of the reply. The error is want of memory for what a read is told.
+/// The body of the reply. The error is out of memory for the answer to a read.
 pub(crate) fn body_of(alloc: Global, response: &Response) -> Result<Body, AllocError>
     ensures text { IfOk result (λ body. IsBody response.now (bytes_in body)) }
     ensures short { IfOk result IsShort }
@@ -72,7 +72,7 @@ pub(crate) fn body_of(alloc: Global, response: &Response) -> Result<Body, AllocE
     }
 }
 
-/// The body that tells at which position an entry stands.
+/// The body with the position of a new entry.
 fn entered_body(position: u32) -> ReplyBuffer
     ensures text { result ≡ codes "{\"entered\":" ++ decimal position ++ codes "}" }
     ensures short { length result ≤ 22 }
@@ -83,7 +83,7 @@ fn entered_body(position: u32) -> ReplyBuffer
     body
 }
 
-/// The body of a denial by name.
+/// The body of a denial with this name.
 pub(crate) fn denial_body(name: &str) -> ReplyBuffer
     requires { length name.now ≤ 20 }
     ensures text { result ≡ denial_body name.now }
@@ -95,7 +95,7 @@ pub(crate) fn denial_body(name: &str) -> ReplyBuffer
     body
 }
 
-/// The body for bytes that are no request.
+/// The body for a fault in the request.
 fn fault_body(fault: RequestFault) -> ReplyBuffer
     ensures text { result ≡ fault_body fault }
     ensures short { length result ≤ 50 }

@@ -4,10 +4,10 @@ ghost use Rattle.pt_http_reply.specs.declared.buffer.TheConstants.{LONGEST_REPLY
 use arrayvec::ArrayVec;
 use std::marker::Model;
 
-/// How many bytes a reply in fixed room has at most.
+/// The most bytes of a reply in a fixed buffer.
 pub const LONGEST_REPLY: usize = 512;
 
-/// A reply in bytes, or a part of one, in fixed room. It takes no memory.
+/// A reply or a part of one in a fixed buffer. It allocates nothing.
 #[derive(Drop)]
 pub struct ReplyBuffer {
     bytes: ArrayVec<u8, LONGEST_REPLY>,
@@ -22,7 +22,7 @@ impl Model for ReplyBuffer {
 }
 
 impl ReplyBuffer {
-    /// A buffer with no byte.
+    /// An empty buffer.
     pub fn new() -> Self
         ensures { result ≡ [] }
     {

@@ -1,7 +1,7 @@
 ghost use Rattle.std.specs.Prelude.{◌≡◌, ◌≤◌, length};
 ghost use Rattle.pt_http_reply.specs.ContentType.{type_text};
 
-/// What the body of a reply is written in.
+/// The format of a reply's body.
 #[derive(Clone, Copy)]
 pub enum ContentType {
     Json,
@@ -12,7 +12,7 @@ pub enum ContentType {
 }
 
 impl ContentType {
-    /// The media type, as a header line has it.
+    /// The media type, as in a header line.
     pub fn text(self) -> &'static str
         ensures value { result.now ≡ type_text self }
         ensures short { length result.now ≤ 16 }

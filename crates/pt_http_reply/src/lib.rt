@@ -1,5 +1,5 @@
-//! Replies in bytes: what the desk tells over HTTP. What a read is told may be of any length; every other reply is
-//! formed in fixed room.
+//! Replies in bytes: what the desk sends over HTTP. The answer to a read may be of any length; every other reply is
+//! made in a fixed buffer.
 #![tactic(auto)]
 
 pub use buffer::{LONGEST_REPLY, ReplyBuffer};

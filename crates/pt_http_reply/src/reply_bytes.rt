@@ -8,23 +8,23 @@ use crate::{ReplyBuffer, Response};
 use pt_store::StoreFault;
 use std::alloc::Global;
 
-/// A reply in bytes, formed before any of them is written.
+/// A reply in bytes, complete before any of them is written.
 #[derive(Drop)]
 pub struct ReplyBytes {
-    /// The head, and a body that needs no more room than is there.
+    /// The head, and the body if it is in a fixed buffer.
     pub front: ReplyBuffer,
-    /// What a read is told, of any length.
+    /// The answer to a read, of any length.
     pub rest: Vec<u8>,
 }
 
-/// The bytes of the reply, and the response that they are: the one that was asked for, or, where there is no memory for
-/// what a read is told, the one that says so.
+/// The bytes of the reply, and the response in them. It is the given one; or, if there is no memory for the answer to a
+/// read, the one that says so.
 pub fn reply_to(alloc: Global, response: Response) -> (Response, ReplyBytes)
     ensures text { IsReplyText result.0 (bytes_of result.1) }
-    // No other bytes are the reply.
+    // No other bytes are this reply.
     ensures only { (bytes : List ℕ) → IsReplyText result.0 bytes → bytes_of result.1 ≡ bytes }
     ensures sent { IsSent response result.0 }
-    // The reply to a write, and a denial, takes no memory.
+    // The reply to a write, and a denial, allocate nothing.
     ensures fixed { is_told response ≡ false → result.1.rest.items ≡ [] }
 {
     match body_of(alloc, &response) {
@@ -41,7 +41,7 @@ pub fn reply_to(alloc: Global, response: Response) -> (Response, ReplyBytes)
     }
 }
 
-/// The body behind its head.
+/// The body after its head.
 fn with_head(alloc: Global, response: &Response, body: Body) -> ReplyBytes
     requires { IsShort body }
     ensures text { bytes_of result ≡ head_text response.now (length (bytes_in body)) ++ bytes_in body }

@@ -12,17 +12,17 @@ use pt_http_request::RequestFault;
 use pt_requests::Answer;
 use pt_store::Reply;
 
-/// What goes out in reply to the bytes that came in.
+/// The reply to the bytes of a request.
 #[derive(Drop)]
 pub enum Response {
-    /// They were a request, which the desk answered.
+    /// They were a request, and this is the desk's answer.
     Answered(Reply),
-    /// They were no request.
+    /// They were not a request.
     Refused(RequestFault),
 }
 
 impl Response {
-    /// The status that the reply has.
+    /// The status of the reply.
     pub fn status(&self) -> StatusCode
         ensures { result ≡ status_of self.now }
     {
@@ -34,7 +34,7 @@ impl Response {
         }
     }
 
-    /// What the body of the reply is written in.
+    /// The format of the reply's body.
     pub fn content_type(&self) -> ContentType
         ensures { result ≡ type_of self.now }
     {
@@ -48,7 +48,7 @@ impl Response {
     }
 }
 
-/// The lines of the head before a body of so many bytes.
+/// Writes the lines of the head before a body of this length.
 pub(crate) fn write_head(response: &Response, body_length: usize, out: &mut ReplyBuffer)
     requires { out.old ≡ [] }
     ensures text { out.new ≡ head_text response.now body_length }
@@ -62,7 +62,7 @@ pub(crate) fn write_head(response: &Response, body_length: usize, out: &mut Repl
     out.push(b"\r\n");
 }
 
-/// The line that begins a reply.
+/// Adds the first line of a reply.
 fn write_status_line(status: StatusCode, out: &mut ReplyBuffer)
     requires room { length out.old ≤ 400 }
     requires short { length (unwrap_or (reason_phrase status) (codes "<unknown status code>")) ≤ 31 }
@@ -81,7 +81,7 @@ fn write_status_line(status: StatusCode, out: &mut ReplyBuffer)
     out.push(b"\r\n");
 }
 
-/// The line that tells what the body is written in.
+/// Adds the line with the format of the body.
 fn write_type_line(content_type: ContentType, out: &mut ReplyBuffer)
     requires { length out.old ≤ 400 }
     ensures text { out.new ≡ out.old ++ line (codes "Content-Type: " ++ type_text content_type) }
@@ -92,7 +92,7 @@ fn write_type_line(content_type: ContentType, out: &mut ReplyBuffer)
     out.push(b"\r\n");
 }
 
-/// The line that tells how long the body is.
+/// Adds the line with the length of the body.
 fn write_length_line(body_length: usize, out: &mut ReplyBuffer)
     requires { length out.old ≤ 400 }
     ensures text { out.new ≡ out.old ++ line (codes "Content-Length: " ++ decimal body_length) }
@@ -103,7 +103,7 @@ fn write_length_line(body_length: usize, out: &mut ReplyBuffer)
     out.push(b"\r\n");
 }
 
-/// The lines that this reply has and others do not.
+/// Adds the lines that only some replies have.
 fn write_own_lines(response: &Response, out: &mut ReplyBuffer)
     requires { length out.old ≤ 400 }
     ensures text { out.new ≡ out.old ++ own_lines response.now }

@@ -8,7 +8,7 @@ use pt_conditions::condition_text;
 use pt_rights::{Condition, Conditions, Grant, Standing};
 use std::alloc::{AllocError, Global};
 
-/// The body that tells a resident's standing.
+/// The body with a resident's standing. The error is out of memory.
 pub(crate) fn standing_body(
     alloc: Global,
     standing: &Standing,
@@ -24,7 +24,7 @@ pub(crate) fn standing_body(
     }
 }
 
-/// The body that tells whether a visitor may use the day.
+/// The body that says whether a visitor may use the day. The error is out of memory.
 pub(crate) fn visitor_body(alloc: Global, may_use: bool) -> Result<Vec<u8>, AllocError>
     ensures { IfOk result (λ body. body.items ≡ visitor_body may_use) }
 {
@@ -32,7 +32,7 @@ pub(crate) fn visitor_body(alloc: Global, may_use: bool) -> Result<Vec<u8>, Allo
     named_body(alloc, name, false)
 }
 
-/// The body that tells a standing by its name alone.
+/// The body of a standing that has only a name.
 fn named_body(alloc: Global, name: &str, suspended: bool) -> Result<Vec<u8>, AllocError>
     ensures { IfOk result (λ body. body.items ≡ named_standing_body name.now suspended) }
 {
@@ -45,7 +45,7 @@ fn named_body(alloc: Global, name: &str, suspended: bool) -> Result<Vec<u8>, All
     Ok(body)
 }
 
-/// The body that tells of a grant.
+/// The body of a grant.
 fn granted_body(alloc: Global, grant: &Grant, suspended: bool) -> Result<Vec<u8>, AllocError>
     ensures { IfOk result (λ body. (until : List ℕ) × IsDateText (pos grant.now.until) until
         × (body.items ≡ granted_body grant.now suspended until)) }
@@ -61,7 +61,7 @@ fn granted_body(alloc: Global, grant: &Grant, suspended: bool) -> Result<Vec<u8>
     Ok(body)
 }
 
-/// The conditions as JSON texts, with a comma between each two.
+/// Adds the conditions as JSON texts, with a comma between each two.
 fn write_conditions(conditions: &Conditions, out: &mut Vec<u8>) -> Result<(), AllocError>
     ensures { OnOk result (out.new.items ≡ out.old.items ++ conditions_text conditions.now) }
 {
@@ -74,7 +74,7 @@ fn write_conditions(conditions: &Conditions, out: &mut Vec<u8>) -> Result<(), Al
     Ok(())
 }
 
-/// One condition as a JSON text.
+/// Adds one condition as a JSON text.
 fn write_condition(condition: Condition, out: &mut Vec<u8>) -> Result<(), AllocError>
     ensures { OnOk result (out.new.items ≡ out.old.items ++ condition_json condition) }
 {

@@ -4,7 +4,7 @@ ghost use Rattle.pt_http_reply.specs.Status.{status_of_rule};
 use http::StatusCode;
 use pt_base::Rule;
 
-/// The status of a denial by the rule.
+/// The status of a denial by this rule.
 pub(crate) fn status_of_rule(rule: Rule) -> StatusCode
     ensures { result ≡ status_of_rule rule }
 {

@@ -13,7 +13,7 @@ use pt_records::Rows;
 use pt_requests::Confirmation;
 use std::alloc::{AllocError, Global};
 
-/// The body that tells of a trip that is booked.
+/// The body with the confirmation of a booked trip.
 pub(crate) fn confirmation_body(told: &Confirmation) -> ReplyBuffer
     ensures text { result ≡ confirmation_body told.now }
     ensures short { length result ≤ 200 }
@@ -37,7 +37,7 @@ pub(crate) fn confirmation_body(told: &Confirmation) -> ReplyBuffer
     ])
 }
 
-/// The body that tells a rider's trips.
+/// The body with a rider's trips. The error is out of memory.
 pub(crate) fn trips_body(alloc: Global, trips: &Rows<Trip>) -> Result<Vec<u8>, AllocError>
     ensures { IfOk result (λ body. IsTripsBody trips.now body.items) }
 {
@@ -48,7 +48,7 @@ pub(crate) fn trips_body(alloc: Global, trips: &Rows<Trip>) -> Result<Vec<u8>, A
     Ok(body)
 }
 
-/// The trips as JSON objects, with a comma between each two.
+/// Adds the trips as JSON objects, with a comma between each two.
 fn write_trips(alloc: Global, trips: &[Trip], out: &mut Vec<u8>) -> Result<(), AllocError>
     ensures { OnOk result ((text : List ℕ) × IsTripList trips.now text
         × (out.new.items ≡ out.old.items ++ text)) }
@@ -65,7 +65,7 @@ fn write_trips(alloc: Global, trips: &[Trip], out: &mut Vec<u8>) -> Result<(), A
     Ok(())
 }
 
-/// A trip as a JSON object, where `day` is the text of its day.
+/// A trip as a JSON object; `day` is the text of its day.
 fn trip_object(trip: &Trip, day: &[u8]) -> ReplyBuffer
     requires { length day.now ≤ 10 }
     ensures { result ≡ trip_object trip.now day.now }
@@ -105,7 +105,7 @@ fn trip_object(trip: &Trip, day: &[u8]) -> ReplyBuffer
     ])
 }
 
-/// A minute, or `null` where there is none.
+/// A minute, or `null` if there is none.
 fn minute_or_null(minute: Option<Minute>) -> MemberValue<'static>
     ensures text { value_text result ≡ minute_or_null minute }
     ensures short { IsShortValue result }
@@ -116,7 +116,7 @@ fn minute_or_null(minute: Option<Minute>) -> MemberValue<'static>
     }
 }
 
-/// How far a trip has come, as a reply names it.
+/// The name of a trip's status in a reply.
 fn status_name(status: TripStatus) -> &'static str
     ensures text { result.now ≡ status_name status }
     ensures short { length result.now ≤ 15 }

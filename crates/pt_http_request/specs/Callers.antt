@@ -1,4 +1,4 @@
--- The caller that a body spells, field by field: the first field that is not as it should be is the fault.
+-- The caller that a body spells. Fields are read in order, and the first bad field is the fault.
 use Rattle.std.specs.Prelude.{◌==◌, ℕ, List, codes, bytes_eq, Result, Ok, Err, if◌then◌else◌}
 use Rattle.pt_requests.specs.declared.caller.Caller.{Caller}
 use Rattle.pt_requests.specs.declared.caller.Role.{Role}
@@ -14,7 +14,7 @@ role_with_subject of body = do
   subject ← id_at field.Subject body
   Ok (of subject)
 
--- a role of nobody in particular, whose subject is written as 0
+-- a role that names nobody: its subject must be 0
 abbrev pub role_alone : Role → Data → Result Role FieldName
 role_alone plain body = do
   subject ← whole_at field.Subject body

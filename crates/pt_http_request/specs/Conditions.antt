@@ -7,13 +7,13 @@ use Rattle.pt_rights.specs.declared.conditions.Condition.{Condition}
 use Rattle.pt_rights.specs.declared.conditions.Condition.TheVariants.{Always, Months, Farther, NoLift}
 use Rattle.pt_conditions.specs.Texts.{condition_text}
 
--- each set of so many marks
+-- all lists of this number of marks
 abbrev pub mark_sets : ℕ → List (List Bool)
 mark_sets zero = [] ∷ []
 mark_sets (suc rest) =
     map (λ marks. true ∷ marks) (mark_sets rest) ++ map (λ marks. false ∷ marks) (mark_sets rest)
 
--- each set of months
+-- each set of at least one month
 unfoldable pub month_sets : List (List Bool)
 month_sets = filter (λ marks. nat_le 1 (length (numbers_of marks))) (mark_sets 12)
 

@@ -1,5 +1,4 @@
--- The entry of a case file that a body spells, field by field: the first field that is not as it should be is the
--- fault.
+-- The entry of a case file that a body spells. Fields are read in order, and the first bad field is the fault.
 use Rattle.std.specs.Prelude.{ℕ, List, length, codes, bytes_eq, Option, Some, None, Result, Ok, if◌then◌else◌}
 use Rattle.std.specs.Prelude.{option_and_then}
 use Rattle.pt_rights.specs.Limits.{most_conditions}
@@ -46,7 +45,7 @@ kind_in body = do
 abbrev pub condition_in : Data → Option Condition
 condition_in value = option_and_then condition_from (as_str value)
 
--- the conditions, where they are one to four
+-- the conditions, if they are one to four
 abbrev pub few : List Condition → Option (List Condition)
 few members = if is_within 1 most_conditions (length members) then Some members else None
 
@@ -66,7 +65,7 @@ grant_in body = do
   conditions ← needed (conditions_at body) field.Conditions
   Ok (record { until = until; conditions = conditions })
 
--- the position in a case file that an appeal is against
+-- the position of the entry that an appeal is against
 abbrev pub place_in_file : Data → Result ℕ FieldName
 place_in_file body = number_within field.Against 0 last_position body
 

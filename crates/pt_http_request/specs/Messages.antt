@@ -1,5 +1,4 @@
--- What a message asks, from the parts of its head and its body: the first part that is not as it should be is the
--- fault.
+-- The request in a message, from its head and body. Parts are read in order, and the first bad part is the fault.
 use Rattle.std.specs.Prelude.{◌≡◌, ℕ, List, [], ◌∷◌, codes, bytes_eq, Option, Some, None, is_some, Result, Ok, Err}
 use Rattle.std.specs.Prelude.{option_map, option_and_then, if◌then◌else◌}
 use Rattle.std.specs.Str.{is_utf8}
@@ -37,12 +36,12 @@ use Rattle.pt_http_request.specs.declared.targets.Target.TheVariants as target
 use Rattle.pt_http_request.specs.declared.targets.WriteTarget.{WriteTarget}
 use Rattle.pt_http_request.specs.declared.targets.WriteTarget.TheVariants as writes
 
--- the text of a body: an empty body stands for an object without members
+-- the text of a body; an empty body means an empty object
 abbrev pub body_text : List ℕ → List ℕ
 body_text [] = codes "{}"
 body_text (byte ∷ bytes) = byte ∷ bytes
 
--- the value, where it is an object
+-- the value, if it is an object
 abbrev pub object_of : Data → Option Data
 object_of found = if is_some (as_object found) then Some found else None
 
@@ -50,7 +49,7 @@ object_of found = if is_some (as_object found) then Some found else None
 abbrev pub object_from : List ℕ → Option Data
 object_from text = if is_utf8 text then option_and_then object_of (read text) else None
 
--- the write to where a path leads that the fields of a body spell, or the first field at fault
+-- the write to this target that the fields of a body spell, or the first bad field
 abbrev pub write_in : WriteTarget → Data → Result Write FieldName
 write_in writes.Callers body = result_map write.PutCaller (caller_in body)
 write_in writes.Policy body = result_map write.PutPolicy (policy_in body)
@@ -66,25 +65,25 @@ write_in (writes.Outcome trip) body = result_map (write.Outcome trip) (outcome_i
 
 -- ---- whole messages
 
--- what a message sends: the caller's key, the number for a write, and the request
+-- the content of a message: the caller's key, the number for a write, and the request
 abbrev pub Sent : Type 0
 Sent = Option (List ℕ) × ℕ × Request
 
 abbrev pub sent : Message → Sent
 sent message = (option_map (λ key. key.items) message.key, message.number, message.request)
 
--- a fault of a field as one of the message
+-- a fault of a field as a fault of the message
 abbrev pub by_field : {A : Type 0} → Result A FieldName → Result A RequestFault
 by_field (Ok value) = Ok value
 by_field (Err name) = Err (fault.Field name)
 
--- what header lines send with a read: key
+-- the content of a read: the key is read
 abbrev pub read_with : List (List ℕ × List ℕ) → Read → Result Sent FieldName
 read_with lines asked = do
   key ← key_in lines
   Ok (key, 0, request.Read asked)
 
--- what header lines and an object send to where a write goes: key, number, fields
+-- the content of a write with this object: key, number and fields are read in this order
 abbrev pub write_with : List (List ℕ × List ℕ) → WriteTarget → Data → Result Sent FieldName
 write_with lines asked found = do
   key ← key_in lines
@@ -92,36 +91,36 @@ write_with lines asked found = do
   write ← write_in asked found
   Ok (key, number, request.Write write)
 
--- what header lines and a body send to where a write goes: JSON first
+-- the content of a write with this body: JSON is checked first
 abbrev pub write_from : List (List ℕ × List ℕ) → WriteTarget → List ℕ → Result Sent RequestFault
 write_from lines asked body = do
   found ← needed (object_from (body_text body)) fault.Json
   by_field (write_with lines asked found)
 
--- what a message sends to what its path names: method first
+-- the content of a message to this target: the method is checked first
 abbrev pub request_in : List ℕ → List (List ℕ × List ℕ) → List ℕ → Target → Result Sent RequestFault
 request_in method lines body (target.Read asked) =
     if bytes_eq method (codes "GET") then by_field (read_with lines asked) else Err (fault.Method way.Get)
 request_in method lines body (target.Write asked) =
     if bytes_eq method (codes "POST") then write_from lines asked body else Err (fault.Method way.Post)
 
--- what the parts of a message send: path first
+-- the content of a message: the path is checked first
 abbrev pub message_in : RowsOf (RouteOf Path) → List ℕ → List ℕ → List (List ℕ × List ℕ) → List ℕ
     → Result Sent RequestFault
 message_in routes method whole lines body = do
   asked ← needed (target_in routes (path_of whole)) fault.Path
   request_in method lines body asked
 
--- they spell this message
+-- the parts spell this message
 abbrev pub SpellsMessage : RowsOf (RouteOf Path) → List ℕ → List ℕ → List (List ℕ × List ℕ) → List ℕ → Message → Type 0
 SpellsMessage routes method whole lines body message = message_in routes method whole lines body ≡ Ok (sent message)
 
--- the fault is the first that keeps them from spelling one
+-- this is the first fault in the parts
 abbrev pub IsMessageFault : RowsOf (RouteOf Path) → List ℕ → List ℕ → List (List ℕ × List ℕ) → List ℕ → RequestFault
     → Type 0
 IsMessageFault routes method whole lines body why = message_in routes method whole lines body ≡ Err why
 
--- ---- what is read
+-- ---- results of reading
 
 -- the same key, number and request
 pub record IsSameMessage (one other : Message) : Type 0 where
@@ -129,13 +128,13 @@ pub record IsSameMessage (one other : Message) : Type 0 where
   pub number : one.number ≡ other.number
   pub request : one.request ≡ other.request
 
--- what is read is this message, where memory was not wanting
+-- the result is this message, or the error is out of memory
 abbrev pub IsMessageRead : Message → Result Message MessageFault → Type 0
 IsMessageRead message (Ok read) = IsSameMessage read message
 IsMessageRead message (Err (Refused why)) = ⊥
 IsMessageRead message (Err Memory) = Unit {0}
 
--- it is refused for this fault, where memory was not wanting
+-- the result is this fault, or the error is out of memory
 abbrev pub IsRefusedFor : RequestFault → Result Message MessageFault → Type 0
 IsRefusedFor fault (Ok read) = ⊥
 IsRefusedFor fault (Err (Refused why)) = why ≡ fault

@@ -1,4 +1,4 @@
--- How methods, fields and faults of a request are named.
+-- The names of methods, fields and faults of a request.
 use Rattle.std.specs.Prelude.{ℕ, List, codes}
 use Rattle.pt_http_request.specs.declared.fault.AllowedMethod.{AllowedMethod}
 use Rattle.pt_http_request.specs.declared.fault.AllowedMethod.TheVariants.{Get, Post}
@@ -7,12 +7,12 @@ use Rattle.pt_http_request.specs.declared.field_name.FieldName.TheVariants as fi
 use Rattle.pt_http_request.specs.declared.fault.RequestFault.{RequestFault}
 use Rattle.pt_http_request.specs.declared.fault.RequestFault.TheVariants as fault
 
--- a method as HTTP spells it
+-- the name of a method in HTTP
 abbrev pub method_name : AllowedMethod → List ℕ
 method_name Get = codes "GET"
 method_name Post = codes "POST"
 
--- a header of a request, or a field of a body, as it is spelled
+-- the name of a header of a request, or of a field of a body
 abbrev pub field_name : FieldName → List ℕ
 field_name field.DeskKey = codes "Desk-Key"
 field_name field.DeskNumber = codes "Desk-Number"
@@ -79,7 +79,7 @@ fault_name (fault.Method allowed) = codes "http.method"
 fault_name fault.Json = codes "http.json"
 fault_name (fault.Field name) = codes "http.field"
 
--- the status of a fault: Bad Request, Not Found, or Method Not Allowed
+-- the HTTP status of a fault: Bad Request, Not Found, or Method Not Allowed
 abbrev pub status_of_fault : RequestFault → ℕ
 status_of_fault fault.Head = 400
 status_of_fault fault.Length = 400

@@ -1,4 +1,4 @@
--- The place that a body spells, field by field: the first field that is not as it should be is the fault.
+-- The place that a body spells. Fields are read in order, and the first bad field is the fault.
 use Rattle.std.specs.Prelude.{◌≡◌, ℤ, pos, neg_ℤ, int_le, ◌&&◌, Bool, true, Option, Some, None, Result, Ok}
 use Rattle.std.specs.Prelude.{option_and_then, if◌then◌else◌}
 use Rattle.std.proofs.lemmas.Bool.{and_parts}
@@ -13,7 +13,7 @@ use Rattle.pt_http_request.specs.Names.{field_name}
 use Rattle.pt_http_request.specs.declared.field_name.FieldName.{FieldName}
 use Rattle.pt_http_request.specs.declared.field_name.FieldName.TheVariants as field
 
--- whether a coordinate is of the plane
+-- whether a coordinate is on the plane; it is in feet
 abbrev pub is_on_plane : ℤ → Bool
 is_on_plane feet = int_le (neg_ℤ (pos 1_000_000)) feet && int_le feet (pos 1_000_000)
 
@@ -26,7 +26,7 @@ abbrev pub coordinate_from : Data → Option ℤ
 coordinate_from value =
     option_and_then (λ feet. if is_on_plane feet then Some feet else None) (integer_from value)
 
--- a coordinate that is known to be of the plane
+-- a coordinate with the proof that it is on the plane
 pub record Coordinate : Type 0 where
   pub feet : ℤ
   pub on_plane : IsCoordinate feet
@@ -39,7 +39,7 @@ on_plane feet test =
     let both = and_parts _ _ test in
     (le_z_yes (T_from_true _ both.0), le_z_yes (T_from_true _ both.1))
 
--- the coordinate that a field holds
+-- the coordinate of a field
 abbrev pub coordinate_at : FieldName → Data → Result Coordinate FieldName
 coordinate_at name body = do
   feet ← needed (option_and_then integer_from (get (field_name name) body)) name

@@ -1,4 +1,4 @@
--- The policy that a body spells, field by field: the first field that is not as it should be is the fault.
+-- The policy that a body spells. Fields are read in order, and the first bad field is the fault.
 use Rattle.std.specs.Prelude.{Result, Ok}
 use Rattle.pt_base.specs.declared.policy.Policy.{Policy}
 use Rattle.serde_json.specs.Data.{Data}

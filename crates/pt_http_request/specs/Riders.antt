@@ -1,4 +1,4 @@
--- The rider's record that a body spells, field by field: the first field that is not as it should be is the fault.
+-- The rider's record that a body spells. Fields are read in order, and the first bad field is the fault.
 use Rattle.std.specs.Prelude.{ℕ, List, codes, bytes_eq, Option, Some, None, Result, Ok, if◌then◌else◌}
 use Rattle.pt_base.specs.declared.rider.Residence.{Residence}
 use Rattle.pt_base.specs.declared.rider.Residence.TheVariants as residence

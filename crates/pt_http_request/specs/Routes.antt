@@ -1,4 +1,4 @@
--- The fixed route that a body spells, field by field: the first field that is not as it should be is the fault.
+-- The fixed route that a body spells. Fields are read in order, and the first bad field is the fault.
 use Rattle.std.specs.Prelude.{ℕ, ◌-◌, nat_le, ◌==◌, ◌&&◌, ◌||◌, Bool, false, List, [], ◌∷◌, length, Option, Some, None}
 use Rattle.std.specs.Prelude.{Result, Ok, Err, option_map, option_and_then, if◌then◌else◌, ⊤}
 use Rattle.pt_base.specs.declared.place.Point.{Point}
@@ -19,7 +19,7 @@ values_in (item value values) = value ∷ values_in values
 abbrev pub values_of : Data → Option (List Data)
 values_of value = option_map values_in (as_array value)
 
--- what the values spell, where each of them spells something
+-- the results of all values; None if one of them has none
 abbrev pub each : {A : Type 0} → (Data → Option A) → List Data → Option (List A)
 each from [] = Some []
 each from (value ∷ values) =
@@ -35,7 +35,7 @@ point_of _ = None
 abbrev pub point_from : Data → Option Point
 point_from value = option_and_then point_of (values_of value)
 
--- the points, where they are 2 to 200
+-- the points, if they are 2 to 200
 abbrev pub enough : List Point → Option (List Point)
 enough points = if nat_le 2 (length points) && nat_le (length points) 200 then Some points else None
 
@@ -50,18 +50,18 @@ abbrev pub weekday_from : Data → Option ℕ
 weekday_from value =
     option_map (λ number. number - 1) (option_and_then (within 1 7) (option_and_then as_u64 (as_number value)))
 
--- whether the day is among these
+-- whether the day is in the list
 abbrev pub is_among : List ℕ → ℕ → Bool
 is_among [] day = false
 is_among (first ∷ days) day = first == day || is_among days day
 
--- the set of these days, seen as whether it has each weekday from Monday on
+-- the set of these days, as a mark for each weekday from Monday on
 abbrev pub set_of : List ℕ → List Bool
 set_of days =
     is_among days 0 ∷ is_among days 1 ∷ is_among days 2 ∷ is_among days 3 ∷ is_among days 4 ∷ is_among days 5 ∷
     is_among days 6 ∷ []
 
--- the set of the weekdays that a body lists, in any order, none or some more than once
+-- the set of the weekdays that a body lists; the order is free, the list may be empty, and a day may come twice
 abbrev pub days_at : Data → Option (List Bool)
 days_at body =
     option_map set_of (option_and_then (each weekday_from) (option_and_then values_of (get (field_name field.Days)

@@ -1,4 +1,4 @@
--- What the path of a request names, by the routes of the desk as `matchit` finds them.
+-- The target of a request's path, by the desk's routes as `matchit` finds them.
 use Rattle.std.specs.Prelude.{◌==◌, ℕ, List, [], ◌∷◌, codes, map, slice_get, Option, Some, None, Result, Ok, Err}
 use Rattle.std.specs.Prelude.{IsUtf8}
 use Rattle.std.specs.Prelude.{option_and_then, option_map, if◌then◌else◌}
@@ -20,17 +20,17 @@ use Rattle.pt_http_request.specs.declared.targets.Target.{Target}
 use Rattle.pt_http_request.specs.declared.targets.Target.TheVariants as target
 use Rattle.pt_http_request.specs.declared.targets.WriteTarget.TheVariants as writes
 
--- the rows with one route more
+-- the rows with one more route, unless the route has an error
 abbrev pub with_route : Result Scan InsertError → Path → RowsOf (RouteOf Path) → RowsOf (RouteOf Path)
 with_route (Ok scanned) value rows = placed (scanned.pattern, route_from scanned value) rows
 with_route (Err error) value rows = rows
 
--- the rows with each of these routes put in, the first of them first
+-- the rows with these routes added, in order
 abbrev pub with_routes : List (List ℕ × Path) → RowsOf (RouteOf Path) → RowsOf (RouteOf Path)
 with_routes [] rows = rows
 with_routes (route ∷ later) rows = with_routes later (with_route (parse_route route.0) route.1 rows)
 
--- the paths of the desk, each with the route that it is
+-- the paths of the desk, each with its route
 abbrev pub desk_paths : List (List ℕ × Path)
 desk_paths =
     (codes "/callers", path.Callers) ∷ (codes "/policy", path.Policy) ∷ (codes "/places", path.Places)
@@ -55,7 +55,7 @@ abbrev pub AreTexts : List (List ℕ × List ℕ) → Type 0
 AreTexts [] = Unit {0}
 AreTexts (part ∷ parts) = IsUtf8 part.1 × AreTexts parts
 
--- the number of a record, the position in a case file, or the day, that a part spells, if it is there
+-- the number of a record, the position in a case file, or the day, that a part spells, if the part exists
 abbrev pub id_in : Option (List ℕ) → Option ℕ
 id_in part = option_and_then id_from part
 
@@ -65,7 +65,7 @@ position_in part = option_and_then position_from part
 abbrev pub day_in : Option (List ℕ) → Option ℕ
 day_in part = option_and_then day_from part
 
--- what a route names by the first two of its parts
+-- the target of a route with these first two parts
 abbrev pub target_from : Path → Option (List ℕ) → Option (List ℕ) → Option Target
 target_from path.Callers one two = Some (target.Write writes.Callers)
 target_from path.Policy one two = Some (target.Write writes.Policy)
@@ -89,14 +89,14 @@ target_from path.Manifest one two =
 target_from path.DaySheet one two = option_map (λ day. target.Read (read.DaySheet day)) (day_in one)
 target_from path.Export one two = option_map (λ day. target.Read (read.Export day)) (day_in one)
 
--- what a path names by the route that it takes
+-- the target of a path by the route that it takes
 abbrev pub target_by : List ℕ → RouteOf Path → Option Target
 target_by text route = target_from route.value (slice_get (parts_of route text) 0) (slice_get (parts_of route text) 1)
 
--- what a path of ASCII names
+-- the target of a path, which must be ASCII
 abbrev pub target_in : RowsOf (RouteOf Path) → List ℕ → Option Target
 target_in routes text = if list_all is_ascii text then option_and_then (target_by text) (first routes text) else None
 
--- the path of a request's target: what stands before the first `?`
+-- the path of a request's target: the bytes before the first `?`
 abbrev pub path_of : List ℕ → List ℕ
 path_of whole = before_first (λ byte. byte == 63) whole

@@ -1,5 +1,4 @@
--- The trip that a body wishes, or how it ended, field by field: the first field that is not as it should be is the
--- fault.
+-- The wish or the outcome of a trip that a body spells. Fields are read in order, and the first bad field is the fault.
 use Rattle.std.specs.Prelude.{ℕ, List, codes, bytes_eq, Option, Some, None, Result, Ok}
 use Rattle.std.specs.Prelude.{if◌then◌else◌}
 use Rattle.pt_base.specs.declared.trip.Wish.{Wish}
@@ -12,7 +11,7 @@ use Rattle.pt_http_request.specs.Names.{field_name}
 use Rattle.pt_http_request.specs.declared.field_name.FieldName.{FieldName}
 use Rattle.pt_http_request.specs.declared.field_name.FieldName.TheVariants as field
 
--- the minute of the day that a field holds, if it holds anything
+-- the minute of the day of a field; None if it is missing or null
 abbrev pub minute_if_any_at : FieldName → Data → Result (Option ℕ) FieldName
 minute_if_any_at name body =
     if holds_nothing (get (field_name name) body) then Ok None

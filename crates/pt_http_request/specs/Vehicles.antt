@@ -1,4 +1,4 @@
--- The vehicle that a body spells, field by field: the first field that is not as it should be is the fault.
+-- The vehicle that a body spells. Fields are read in order, and the first bad field is the fault.
 use Rattle.std.specs.Prelude.{nat_le, if◌then◌else◌, Result, Ok, refl}
 use Rattle.std.proofs.lemmas.Bool.{leb-true}
 use Rattle.pt_base.specs.declared.vehicle.Vehicle.{Vehicle}
@@ -11,13 +11,13 @@ use Rattle.pt_http_request.specs.Names.{field_name}
 use Rattle.pt_http_request.specs.declared.field_name.FieldName.{FieldName}
 use Rattle.pt_http_request.specs.declared.field_name.FieldName.TheVariants as field
 
--- how many wheelchair places a body gives a vehicle, none where it does not say
+-- the number of a vehicle's wheelchair places; 0 if the field is missing or null
 abbrev pub chairs_at : Data → Result (Ranged 0 10) FieldName
 chairs_at body =
     if holds_nothing (get (field_name field.Chairs) body) then Ok (ranged 0 (in_range 0 10 0 refl))
     else ranged_at field.Chairs 0 10 body
 
--- the vehicle that a body spells; it may leave its depot no later than it has to be back
+-- the vehicle that a body spells; it must leave its depot no later than it is due back
 abbrev pub vehicle_in : Data → Result Vehicle FieldName
 vehicle_in body = do
   id ← id_at field.Id body

@@ -8,7 +8,7 @@ use crate::fields::{digest_at, id_at, text_at, whole_at};
 use pt_requests::{Caller, Role};
 use serde_json::Value;
 
-/// A role of nobody in particular, whose subject is written as 0.
+/// A role that names nobody: its subject must be 0.
 fn role_alone(role: Role, body: &Value) -> Result<Role, FieldName>
     ensures { result ≡ role_alone role (view body.now) }
 {

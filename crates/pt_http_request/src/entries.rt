@@ -50,7 +50,7 @@ fn kind_named(name: &str) -> Option<EntryKind>
     }
 }
 
-/// The kind of the entry that an object spells, or that field as a fault.
+/// The kind of the entry that an object spells, or the field as the fault.
 fn kind_of(body: &Value) -> Result<EntryKind, FieldName>
     ensures { result ≡ kind_in (view body.now) }
 {
@@ -66,7 +66,7 @@ fn grant_of(body: &Value) -> Result<Grant, FieldName>
     Ok(Grant { until, conditions })
 }
 
-/// The place in a case file that an appeal is against.
+/// The position in a case file that an appeal is against.
 fn place_of(body: &Value) -> Result<u8, FieldName>
     ensures { result ≡ place_in_file (view body.now) }
 {
@@ -74,7 +74,7 @@ fn place_of(body: &Value) -> Result<u8, FieldName>
     Ok(place as u8)
 }
 
-/// The reasons at a field of an object, or the field as a fault.
+/// The reasons at a field of an object, or the field as the fault.
 fn reasons_at(alloc: Global, body: &Value, name: FieldName) -> Result<Reasons, MessageFault>
     ensures reasons { IfOk result (λ reasons. reasons_at name (view body.now) ≡ Ok reasons) }
     ensures fault { IfErr result (OnRefused (OnField (λ bad. reasons_at name (view body.now) ≡ Err bad))) }

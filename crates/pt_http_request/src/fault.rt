@@ -5,7 +5,7 @@ use crate::FieldName;
 use http::StatusCode;
 use std::alloc::AllocError;
 
-/// A method that a path takes.
+/// The one method that a path takes.
 #[derive(Clone, Copy)]
 pub enum AllowedMethod {
     Get,
@@ -13,7 +13,7 @@ pub enum AllowedMethod {
 }
 
 impl AllowedMethod {
-    /// The method as HTTP spells it.
+    /// The name of the method in HTTP.
     pub fn name(self) -> &'static str
         ensures value { result.now ≡ method_name self }
         ensures short { length result.now ≤ 4 }
@@ -25,25 +25,25 @@ impl AllowedMethod {
     }
 }
 
-/// Why bytes are no request that the desk could answer.
+/// Why bytes are not a request to the desk.
 #[derive(Clone, Copy)]
 pub enum RequestFault {
     /// The head cannot be read.
     Head,
-    /// The body is not of a length that is taken.
+    /// The headers give no length in the limits, or the body is shorter than its length.
     Length,
-    /// The path is none of the desk's.
+    /// No route of the desk has the path.
     Path,
-    /// The path takes this method alone.
+    /// The path takes only this method.
     Method(AllowedMethod),
-    /// The body is no JSON object.
+    /// The body is not a JSON object.
     Json,
     /// This header or field is missing, of another kind or out of range.
     Field(FieldName),
 }
 
 impl RequestFault {
-    /// The name that a reply gives.
+    /// The name in a reply.
     pub fn name(self) -> &'static str
         ensures value { result.now ≡ fault_name self }
         ensures short { length result.now ≤ 11 }
@@ -58,7 +58,7 @@ impl RequestFault {
         }
     }
 
-    /// The status of the reply that names it.
+    /// The HTTP status of the reply with this fault.
     pub fn status(self) -> StatusCode
         ensures { result ≡ status_of_fault self }
     {
@@ -73,12 +73,12 @@ impl RequestFault {
     }
 }
 
-/// Why no request is read from a message.
+/// Why reading a message returned no request.
 #[derive(Clone, Copy)]
 pub enum MessageFault {
-    /// It is none: the first fault that stands.
+    /// It is not a request: the first fault.
     Refused(RequestFault),
-    /// Memory was refused.
+    /// Out of memory.
     Memory,
 }
 

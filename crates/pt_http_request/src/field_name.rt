@@ -1,7 +1,7 @@
 ghost use Rattle.std.specs.Prelude.{◌≡◌, ◌≤◌, length};
 ghost use Rattle.pt_http_request.specs.Names.{field_name};
 
-/// A header of a request, which must have it in a given form, or a field of a body, of a request or of a reply.
+/// A header of a request, or a field of a body in a request or a reply.
 #[derive(Clone, Copy)]
 pub enum FieldName {
     /// The header with the caller's key.
@@ -64,7 +64,7 @@ pub enum FieldName {
 }
 
 impl FieldName {
-    /// The name as it is spelled.
+    /// Its spelling.
     pub fn text(self) -> &'static str
         ensures value { result.now ≡ field_name self }
         ensures short { length result.now ≤ 11 }

@@ -46,7 +46,7 @@ pub(crate) fn holds_nothing(object: &Value, name: FieldName) -> bool
     }
 }
 
-/// The truth value at a field of an object, or the field as a fault. A field that is missing or null has false.
+/// The truth value at a field of an object, or the field as a fault. It is false if the field is missing or null.
 pub(crate) fn truth_if_any_at(object: &Value, name: FieldName) -> Result<bool, FieldName>
     ensures { result ≡ truth_if_any_at name (view object.now) }
 {
@@ -56,7 +56,7 @@ pub(crate) fn truth_if_any_at(object: &Value, name: FieldName) -> Result<bool, F
     truth_at(object, name)
 }
 
-/// The number, where it may number a record.
+/// The number, if a record may have it.
 fn id_from<Kind>(number: u64) -> Option<Id<Kind>>
     ensures { result ≡ id_of number }
 {
@@ -109,7 +109,7 @@ pub(crate) fn number_within(
     Ok(number as u32)
 }
 
-/// The same, for a type that keeps the range.
+/// The same for a type that keeps the range.
 pub(crate) fn ranged_at(
     object: &Value,
     name: FieldName,

@@ -18,7 +18,7 @@ enum Given<'b> {
     Repeated,
 }
 
-/// Whether two header names are the same but for the case of letters.
+/// Whether two header names are the same, apart from the case of letters.
 fn same_name(one: &[u8], other: &[u8]) -> bool
     ensures { result ≡ same_name one.now other.now }
 {
@@ -43,7 +43,7 @@ fn value_of<'b>(headers: &[HeaderSpan], bytes: &'b [u8], name: &[u8]) -> Given<'
     }
 }
 
-/// The length of a message's body by its headers; `None` where they give none that is taken.
+/// The length of a message's body by its headers; `None` if they give no length in the limits.
 pub fn body_length(headers: &[HeaderSpan], bytes: &[u8]) -> Option<u64>
     requires { All (IsHeaderWithin (length bytes.now)) headers.now }
     ensures length { IfSome result (IsBodyLength (map (header_bytes bytes.now) headers.now)) }
@@ -59,7 +59,7 @@ pub fn body_length(headers: &[HeaderSpan], bytes: &[u8]) -> Option<u64>
     }
 }
 
-/// The caller's key, where the headers give one.
+/// The caller's key, if the headers give one.
 pub(crate) fn key_of(
     alloc: Global,
     headers: &[HeaderSpan],

@@ -1,4 +1,4 @@
-//! Requests to the desk as HTTP messages: what the bytes of a message ask, or the first fault in them.
+//! Requests to the desk as HTTP messages: the request in a message, or its first fault.
 #![tactic(auto)]
 
 pub use fault::{AllowedMethod, MessageFault, RequestFault};

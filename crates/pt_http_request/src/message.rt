@@ -28,12 +28,12 @@ use serde_json::Value;
 use std::alloc::Global;
 use std::str;
 
-/// A request with what its headers give.
+/// A request, with the values of its headers.
 #[derive(Drop)]
 pub struct Message {
-    /// The caller's key, where a header gives one.
+    /// The caller's key, if a header gives one.
     pub key: Option<Vec<u8>>,
-    /// The caller's number for a write; 0 for a read, which has none.
+    /// The caller's number for a write; 0 for a read, which needs none.
     pub number: u32,
     pub request: Request,
 }
@@ -56,7 +56,7 @@ fn object_from(alloc: Global, body: &[u8]) -> Result<Value, MessageFault>
     }
 }
 
-/// The write to where a path leads that the fields of a body spell.
+/// The write to this target that the fields of a body spell.
 fn fields_from(alloc: Global, target: WriteTarget, body: &Value) -> Result<Write, MessageFault>
     ensures write { IfOk result (λ write. write_in target (view body.now) ≡ Ok write) }
     ensures fault { IfErr result (OnRefused (OnField (λ name. write_in target (view body.now) ≡ Err name))) }
@@ -161,7 +161,7 @@ fn post_from(
     write_from(alloc, target, headers, bytes, body)
 }
 
-/// The message to what a path names that a method, header lines and a body spell.
+/// The message to this target that a method, header lines and a body spell.
 fn message_to(
     alloc: Global,
     target: Target,
@@ -182,7 +182,7 @@ fn message_to(
     }
 }
 
-/// The request that the parts of a message spell: the method and the target of its head, the header lines as spans of
+/// The request that the parts of a message spell: the method and target of its head, its header lines as spans of
 /// `bytes`, and its body.
 pub fn message_from(
     alloc: Global,

@@ -4,7 +4,7 @@ ghost use Rattle.pt_http_request.specs.Numbers.{id_from, position_from};
 use pt_base::{Id, number_from};
 use pt_rights::MOST_ENTRIES;
 
-/// The last position that a case file may have, counted from 0.
+/// The last position in a case file, counted from 0.
 pub(crate) const LAST_POSITION: u32 = MOST_ENTRIES as u32 - 1;
 
 /// The number of a record that one to ten digits spell.

@@ -31,16 +31,16 @@ pub enum Path {
     Export,
 }
 
-/// What the path of a request names.
+/// The target of a request's path.
 #[derive(Clone, Copy)]
 pub enum Target {
-    /// What is read there; the path says all of it.
+    /// A read; the path gives all of it.
     Read(Read),
-    /// What is written there; the body says the rest.
+    /// A write; the body gives the rest.
     Write(WriteTarget),
 }
 
-/// Where a write goes.
+/// The target of a write.
 #[derive(Clone, Copy)]
 pub enum WriteTarget {
     /// The callers of the desk.
@@ -59,15 +59,15 @@ pub enum WriteTarget {
     Entries(RiderId),
     /// The trips of riders.
     Trips,
-    /// A booked trip, for what its rider wishes instead.
+    /// A booked trip, with a new wish of its rider.
     Change(TripId),
-    /// A booked trip that is given up.
+    /// A booked trip that its rider cancels.
     Cancel(TripId),
     /// A booked trip that has ended.
     Outcome(TripId),
 }
 
-/// The paths of the desk, each with the route that it is. A new one stands last.
+/// The paths of the desk, each with its route. Add new ones at the end.
 const PATHS: [(&str, Path); 17] = [
     ("/callers", Path::Callers),
     ("/policy", Path::Policy),
@@ -106,7 +106,7 @@ pub fn desk_router(alloc: Global) -> Result<Router<Path>, InsertError>
     router_over(alloc, &PATHS)
 }
 
-/// The first two parts of a path that parameters took.
+/// The first two parts of a path that its route's parameters took.
 fn first_two<'v>(mut params: ParamsIter<'_, '_, 'v>) -> (Option<&'v str>, Option<&'v str>)
     ensures one { AreTexts params.entry → option_copied result.0 ≡ slice_get (map (λ part. part.1) params.entry) 0 }
     ensures two { AreTexts params.entry → option_copied result.1 ≡ slice_get (map (λ part. part.1) params.entry) 1 }
@@ -120,7 +120,7 @@ fn first_two<'v>(mut params: ParamsIter<'_, '_, 'v>) -> (Option<&'v str>, Option
     (Some(one), Some(two))
 }
 
-/// What a route names by the first two parts of its path.
+/// The target of a route with these first two parts.
 fn target_from(path: Path, one: Option<&str>, two: Option<&str>) -> Option<Target>
     ensures { result ≡ target_from path (option_copied one.entry) (option_copied two.entry) }
 {
@@ -157,7 +157,7 @@ fn target_from(path: Path, one: Option<&str>, two: Option<&str>) -> Option<Targe
     }
 }
 
-/// What a path names by these routes.
+/// The target of a path by these routes.
 fn target_of(router: &Router<Path>, path: &str) -> Option<Target>
     ensures { result ≡ target_in router.now path.now }
 {
@@ -171,7 +171,7 @@ fn target_of(router: &Router<Path>, path: &str) -> Option<Target>
     target_from(*found.value, one, two)
 }
 
-/// What stands before the first `?`.
+/// The text before the first `?`.
 fn path_from(whole: &str) -> &str
     ensures { result.now ≡ path_of whole.now }
 {
@@ -181,7 +181,7 @@ fn path_from(whole: &str) -> &str
     }
 }
 
-/// What the target of a request names by these routes, by what stands before its first `?`.
+/// The target of a request by these routes. Only the text before the first `?` counts.
 pub(crate) fn target_at(router: &Router<Path>, whole: &[u8]) -> Option<Target>
     requires { IsUtf8 whole.now }
     ensures { result ≡ target_in router.now (path_of whole.now) }

@@ -8,7 +8,8 @@ use pt_base::{Minute, RiderId, Wish};
 use pt_rights::Outcome;
 use serde_json::Value;
 
-/// The minute of the day at a field of an object, or the field as a fault. A field that is missing or null has none.
+/// The minute of the day at a field of an object, or the field as a fault. It is `None` if the field is missing or
+/// null.
 fn minute_if_any_at(body: &Value, name: FieldName) -> Result<Option<Minute>, FieldName>
     ensures { result ≡ minute_if_any_at name (view body.now) }
 {
@@ -61,7 +62,7 @@ fn outcome_named(name: &str) -> Option<Outcome>
     }
 }
 
-/// The outcome that an object spells, or that field as a fault.
+/// The outcome that an object spells, or the field as the fault.
 pub(crate) fn outcome_of(body: &Value) -> Result<Outcome, FieldName>
     ensures { result ≡ outcome_in (view body.now) }
 {

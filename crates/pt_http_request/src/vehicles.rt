@@ -10,8 +10,7 @@ use crate::routes::days_of;
 use pt_base::Vehicle;
 use serde_json::Value;
 
-/// How many wheelchair places an object gives a vehicle, or the field as a fault. A field that is missing or null has
-/// none.
+/// The number of a vehicle's wheelchair places, or the field as a fault. It is 0 if the field is missing or null.
 fn chairs_of(body: &Value) -> Result<u32, FieldName>
     ensures value { IfOk result (λ number. (in_range : IsInRange 0 10 number)
         × (chairs_at (view body.now) ≡ Ok (ranged number in_range))) }

@@ -1,16 +1,16 @@
--- Dates of days, by the civil calendar.
+-- Dates of days in the Gregorian calendar.
 use Rattle.std.specs.Prelude.{ℕ, zero, suc, ◌+◌, nat_lt, if◌then◌else◌, List, pos}
 use Rattle.jiff_core.specs.Calendar.{days_in_month}
 use Rattle.pt_base.specs.DateText.{IsDateText, text_of}
 use Rattle.pt_base.specs.Day.{IsDay}
 
--- a date from 1970 on, its month from 1 for January
+-- a date from 1970 on; month 1 is January
 pub record CivilDate : Type 0 where
   pub year : ℕ
   pub month : ℕ
   pub day : ℕ
 
--- the next date: of the month, of the year, or the first of the next year
+-- the next date: in the same month, in the next month, or in the next year
 abbrev pub next_date : CivilDate → CivilDate
 next_date date =
     if nat_lt date.day (days_in_month (pos date.year) date.month) then record date { day = date.day + 1 }
@@ -26,6 +26,6 @@ date_of (suc day) = next_date (date_of day)
 unfoldable pub day_text : ℕ → List ℕ
 day_text day = text_of (date_of day).year (date_of day).month (date_of day).day
 
--- it is the one text of that day in the civil calendar
+-- the text is the one date of that day in the calendar
 abbrev pub DayTextIsDate : Type 0
 DayTextIsDate = (day : ℕ) → IsDay day → IsDateText (pos day) (day_text day)

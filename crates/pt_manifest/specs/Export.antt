@@ -13,7 +13,7 @@ use Rattle.pt_booking.specs.Request.{party_of}
 use Rattle.pt_party.specs.Fare.{due_of}
 use Rattle.pt_manifest.specs.Days.{day_text}
 
--- how far a trip has come
+-- the word for a trip's status
 abbrev pub status_text : TripStatus → List ℕ
 status_text Booked = codes "booked"
 status_text Cancelled = codes "cancelled"
@@ -41,7 +41,7 @@ trip_fields trip =
     ∷ status_text trip.status
     ∷ []
 
--- a trip: a comma (byte 44) between each two fields
+-- a trip: its fields with a comma (byte 44) between each two, and a newline
 abbrev pub trip_line : Trip → List ℕ
 trip_line trip = join_with_byte 44 (trip_fields trip) ++ codes "\n"
 
@@ -49,11 +49,11 @@ trip_line trip = join_with_byte 44 (trip_fields trip) ++ codes "\n"
 abbrev pub trips_text : List Trip → List ℕ
 trips_text trips = header ++ flat_map trip_line trips
 
--- what a writer of csv has written: what it handed on, and what it still holds
+-- the bytes of a CSV writer: those that it passed on, and those that it still holds
 abbrev pub written : Writer (Vec ℕ) → List ℕ
 written writer = (writer_under writer).items ++ writer_pending writer
 
--- it has csv's own settings, and stands at the beginning of a record
+-- the writer has the default settings of CSV, and is at the beginning of a record
 pub record IsBetweenRows (writer : Writer (Vec ℕ)) : Type 0 where
   pub setup : writer_setup writer ≡ default_writer
   pub no_field : fields_written writer ≡ 0

@@ -1,4 +1,4 @@
--- Letters that tell riders decisions (49 CFR 37.125(d), (e), (g), (h)): every line ends with a newline.
+-- Letters that give riders decisions (49 CFR 37.125(d), (e), (g), (h)). Every line ends with a newline.
 use Rattle.std.specs.Prelude.{ℕ, List, [], ◌++◌, Bool, true, false, codes, decimal}
 use Rattle.std.specs.List.{join_by}
 use Rattle.pt_conditions.specs.Texts.{condition_text}
@@ -35,11 +35,11 @@ grant_lines grant attendant =
     ++ codes "\nCONDITIONS " ++ conditions_text grant.conditions
     ++ codes "\nATTENDANT " ++ yes_or_no attendant ++ codes "\n"
 
--- why it was decided so
+-- the reasons for a decision
 abbrev pub reasons_line : List ℕ → List ℕ
 reasons_line reasons = codes "REASONS " ++ reasons ++ codes "\n"
 
--- what else the letter tells of a decision, by whether the rider's record names an attendant
+-- the lines that depend on the decision, and on whether the rider's record has an attendant
 abbrev pub particulars : Determination → Bool → List ℕ
 particulars (decision.Granted grant) attendant = grant_lines grant attendant
 particulars (decision.Refused reasons) attendant = reasons_line reasons

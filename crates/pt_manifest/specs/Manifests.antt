@@ -1,4 +1,4 @@
--- What drivers carry: every line ends with a newline.
+-- The texts for drivers. Every line ends with a newline.
 use Rattle.std.specs.Prelude.{ℕ, ◌/◌, ◌%◌, ◌==◌, if◌then◌else◌, List, [], ◌++◌, Option, None, Some, codes, decimal}
 use Rattle.std.specs.List.{flat_map}
 use Rattle.jiff_fmt.specs.Text.{pad2}
@@ -23,12 +23,12 @@ abbrev pub window_text : Option Window → List ℕ
 window_text (Some window) = codes " window " ++ minute_text window.from ++ codes "-" ++ minute_text window.to
 window_text None = []
 
--- who is aboard: how many on seats, and in a vehicle with wheelchair places how many on these
+-- the load aboard: the number on seats and, if the vehicle has wheelchair places, the number on these
 abbrev pub load_text : ℕ → Load → List ℕ
 load_text chairs load =
     codes " load " ++ decimal load.seats ++ (if chairs == 0 then [] else codes " chairs " ++ decimal load.chairs)
 
--- a stop of a vehicle with so many wheelchair places, with who is aboard after it
+-- a stop of a vehicle with this number of wheelchair places, with the load aboard afterwards
 abbrev pub stop_line : ℕ → TourStop → List ℕ
 stop_line chairs stop =
     minute_text stop.minute ++ stop_word stop.window
@@ -36,18 +36,18 @@ stop_line chairs stop =
     ++ codes " place " ++ decimal stop.place ++ load_text chairs stop.aboard
     ++ window_text stop.window ++ codes "\n"
 
--- the depot, when the vehicle leaves it or is back
+-- the depot, with the minute when the vehicle leaves it or is back
 abbrev pub depot_line : ℕ → ℕ → List ℕ
 depot_line minute depot = minute_text minute ++ codes " DEPOT " ++ decimal depot ++ codes "\n"
 
--- a tour from the depot and back, or that there is none
+-- a tour from the depot and back, or the line for no tour
 abbrev pub tour_text : Option Tour → List ℕ
 tour_text None = codes "NO STOPS\n"
 tour_text (Some tour) =
     depot_line tour.leaves tour.depot ++ flat_map (stop_line tour.chairs) tour.stops.items
     ++ depot_line tour.returns tour.depot
 
--- what a vehicle does on a day
+-- the manifest of a vehicle on a day
 abbrev pub manifest_text : ℕ → VehicleSheet → List ℕ
 manifest_text day sheet =
     codes "VEHICLE " ++ decimal sheet.vehicle ++ codes " DAY " ++ day_text day ++ codes "\n" ++ tour_text sheet.tour

@@ -28,7 +28,7 @@ const FIELDS: [&[u8]; 11] = [
     b"status",
 ];
 
-/// The trips as CSV under a header, in the order given: by rising number. Cancelled trips are told like others.
+/// The trips as CSV under a header, in the order given. Cancelled trips are included. The error is out of memory.
 pub fn trips_csv(alloc: Global, trips: &[Trip]) -> Result<Vec<u8>, AllocError>
     ensures value { IfOk result (λ bytes. bytes.items ≡ spec.trips_text trips.now) }
 {
@@ -81,7 +81,7 @@ fn write_trip(alloc: Global, trip: &Trip, writer: &mut Writer<Vec<u8>>) -> Resul
     write_row(&row, writer)
 }
 
-/// Adds the fields of a trip, of which the day comes as text.
+/// Adds the fields of a trip; `day` is its day as text.
 fn push_trip(trip: &Trip, day: &[u8], row: &mut ByteRecord) -> Result<(), AllocError>
     requires whole { partial_of row.old ≡ [] }
     requires day { day.now ≡ day_text trip.now.wish.day }
@@ -132,7 +132,7 @@ fn write_row(row: &ByteRecord, writer: &mut Writer<Vec<u8>>) -> Result<(), Alloc
     }
 }
 
-/// The word for how far a trip has come.
+/// The word for a trip's status.
 pub fn status_text(status: TripStatus) -> &'static str
     ensures { result.now ≡ spec.status_text status }
 {

@@ -22,7 +22,7 @@ fn words_of(decision: &Determination) -> &'static [u8]
     }
 }
 
-/// The letter that tells a rider a decision (49 CFR 37.125(d), (e), (g), (h)).
+/// The letter that gives a rider a decision (49 CFR 37.125(d), (e), (g), (h)). The error is out of memory.
 pub fn decision_letter(alloc: Global, letter: &Letter) -> Result<Vec<u8>, AllocError>
     ensures value { IfOk result (λ bytes. bytes.items ≡ spec.letter_text letter.now) }
 {
@@ -36,7 +36,7 @@ pub fn decision_letter(alloc: Global, letter: &Letter) -> Result<Vec<u8>, AllocE
     Ok(out)
 }
 
-/// Adds the lines that tell more of the decision.
+/// Adds the lines that depend on the decision.
 fn write_particulars(
     decision: &Determination,
     attendant: bool,

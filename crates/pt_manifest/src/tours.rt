@@ -9,7 +9,7 @@ use pt_base::{Day, Load, Minute, PlaceId, Window};
 use pt_requests::{DaySheet, Tour, TourStop, VehicleSheet};
 use std::alloc::{AllocError, Global};
 
-/// What the vehicle's driver carries on the day.
+/// The manifest of the vehicle's driver on the day. The error is out of memory.
 pub fn manifest(alloc: Global, day: Day, sheet: &VehicleSheet) -> Result<Vec<u8>, AllocError>
     ensures value { IfOk result (λ bytes. bytes.items ≡ manifest_text day sheet.now) }
 {
@@ -18,7 +18,7 @@ pub fn manifest(alloc: Global, day: Day, sheet: &VehicleSheet) -> Result<Vec<u8>
     Ok(out)
 }
 
-/// The manifests of all vehicles on duty on a day, and the number of its trips.
+/// The manifests of all vehicles on duty on a day, and the number of its trips. The error is out of memory.
 pub fn day_sheet(alloc: Global, sheet: &DaySheet) -> Result<Vec<u8>, AllocError>
     ensures value { IfOk result (λ bytes. bytes.items ≡ day_sheet_text sheet.now) }
 {
@@ -75,7 +75,7 @@ fn write_depot(minute: Minute, depot: PlaceId, out: &mut Vec<u8>) -> Result<(), 
     Ok(())
 }
 
-/// Adds the lines of the stops of a vehicle with so many wheelchair places.
+/// Adds the lines of the stops of a vehicle with this number of wheelchair places.
 fn write_stops(stops: &[TourStop], chairs: u16, out: &mut Vec<u8>) -> Result<(), AllocError>
     ensures text { OnOk result (out.new.items ≡ out.old.items ++ flat_map (stop_line chairs) stops.now) }
 {
@@ -100,7 +100,7 @@ fn write_stop(stop: &TourStop, chairs: u16, out: &mut Vec<u8>) -> Result<(), All
     Ok(())
 }
 
-/// Adds how many sit on seats, and in a vehicle with wheelchair places how many take these.
+/// Adds the number on seats and, if the vehicle has wheelchair places, the number on these.
 fn write_load(load: Load, chairs: u16, out: &mut Vec<u8>) -> Result<(), AllocError>
     ensures text { OnOk result (out.new.items ≡ out.old.items ++ load_text chairs load) }
 {

@@ -1,4 +1,4 @@
--- The line that leads each message of a rehearsal, and gives the moment at which the message comes.
+-- The line before each message of a rehearsal, which gives the message's moment.
 use Rattle.std.specs.Prelude.{◌≡◌, ◌≢◌, ℕ, List, ◌∷◌, ◌++◌, codes, All}
 use Rattle.std.specs.Str.Lines.{strip_carriage_return}
 use Rattle.pt_base.specs.SpelledDay.{SpellsDay}
@@ -22,7 +22,7 @@ pub record BeginsWithLine (bytes line rest : List ℕ) : Type 0 where
   pub begins : bytes ≡ line ++ 10 ∷ rest
   pub one_line : All (λ byte. byte ≢ 10) line
 
--- the bytes begin with a line that gives this moment, where one carriage return before its newline does not count
+-- the bytes begin with a line with this moment; one carriage return before its newline is ignored
 pub record BeginsWithMoment (bytes : List ℕ) (day minute : ℕ) (rest : List ℕ) : Type 0 where
   pub line : List ℕ
   pub first : BeginsWithLine bytes line rest

@@ -1,4 +1,4 @@
--- Rehearsals: messages one after another, each led by a line that gives its moment.
+-- Rehearsals: messages one after another, each after a line with its moment.
 use Rattle.std.specs.Prelude.{◌≡◌, ◌≢◌, ◌⊎◌, ℕ, true, List, [], ◌∷◌, ◌++◌}
 use Rattle.pt_base.specs.Fault.{fault}
 use Rattle.pt_base.specs.declared.moment.Moment.{Moment}
@@ -9,45 +9,45 @@ use Rattle.pt_http_reply.specs.Response.{IsReplyText}
 use Rattle.pt_http_reply.specs.declared.response.Response.{Response}
 use Rattle.pt_http.specs.Exchange.{Desk, Exchanges, IsUnanswered, is_last}
 
--- messages of a rehearsal
+-- the most messages of a rehearsal
 abbrev pub most_messages : ℕ
 most_messages = 100_000
 
--- a message of a rehearsal: the moment at which it came, the reply, and the reply's bytes
+-- a message of a rehearsal: its moment, the reply, and the reply's bytes
 pub record Exchanged : Type 0 where
   pub now : Moment
   pub reply : Response
   pub text : List ℕ
 
--- the bytes begin with this message's moment and then with what it answers, and leave this rest and this state
+-- the bytes begin with this message's moment and then the message, and leave this rest and this state
 pub record IsStep (one : Exchanged) (bytes : List ℕ) (old : Desk) (rest : List ℕ) (new : Desk) : Type 0 where
   pub after : List ℕ
   pub moment : BeginsWithMoment bytes one.now.day one.now.minute after
   pub exchanged : Exchanges one.now after old new one.reply rest
   pub replied : IsReplyText one.reply one.text
 
--- the desk goes through these messages at the front of the bytes, writes these bytes in reply, and comes to this rest
--- and this state
+-- The desk answers these messages at the front of the bytes, and writes these bytes in reply. It leaves this rest and
+-- this state.
 abbrev pub Rehearses : List Exchanged → List ℕ → Desk → List ℕ → List ℕ → Desk → Type 0
 Rehearses [] bytes old written rest new = (rest ≡ bytes) × (new ≡ old) × (written ≡ [])
 Rehearses (one ∷ later) bytes old written rest new =
     (left : List ℕ) × (mid : Desk) × (more : List ℕ) × IsStep one bytes old left mid
     × (is_last one.reply ≡ true → later ≡ []) × Rehearses later left mid more rest new × (written ≡ one.text ++ more)
 
--- the input is used up, or the last message ended it
+-- the input is used up, or the last message ended the rehearsal
 abbrev pub IsFinished : List Exchanged → List ℕ → Type 0
 IsFinished messages rest =
     (rest ≡ []) ⊎ ((front : List Exchanged) × (one : Exchanged) × (messages ≡ front ++ one ∷ [])
     × (is_last one.reply ≡ true))
 
--- no line with a moment begins the bytes
+-- the bytes do not begin with a line with a moment
 abbrev pub HasNoMoment : List ℕ → Type 0
 HasNoMoment bytes = (day minute : ℕ) (rest : List ℕ) → ¬ (BeginsWithMoment bytes day minute rest)
 
--- the input goes on, and not with a line that gives a moment: its end is no bad line
+-- the input continues, but not with a line with a moment; the end of the input is not a bad line
 abbrev pub HasBadLine : List ℕ → Type 0
 HasBadLine bytes = (bytes ≢ []) × HasNoMoment bytes
 
--- what ends a rehearsal before its end: no memory, a read or a write that failed, a bad line, or too many messages
+-- the errors of a rehearsal: out of memory, a failed read or write, a bad line, or too many messages
 abbrev pub IsRehearsalFault : Fault → Type 0
 IsRehearsalFault error = IsUnanswered error ⊎ (error ≡ fault write_failed) ⊎ (error ≡ fault moment_line_refused)

@@ -1,4 +1,4 @@
-//! Rehearsals: messages from a reader one after another, each led by a line that says when it comes.
+//! Rehearsals: messages from a reader one after another, each after a line with its moment.
 #![tactic(auto)]
 
 pub use rehearsal::{MOST_MESSAGES, rehearse};

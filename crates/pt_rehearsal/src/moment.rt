@@ -5,14 +5,14 @@ ghost use Rattle.pt_rehearsal.specs.Moment.{IsMoment, AreParts, BeginsWithLine, 
 use pt_base::{Minute, Moment, day_from, number_from};
 use std::str;
 
-/// The most bytes that a line with a moment has, its newline among them.
+/// The most bytes of a line with a moment, including its newline.
 pub(crate) const LONGEST_MOMENT_LINE: usize = 19;
 
 /// The moment that a line gives.
 #[derive(Clone, Copy)]
 pub(crate) struct MomentLine {
     pub moment: Moment,
-    /// The number of bytes of the line, its newline among them.
+    /// The number of bytes of the line, including its newline.
     pub end: usize,
 }
 
@@ -65,7 +65,7 @@ fn moment_from(line: &[u8]) -> Option<Moment>
     })
 }
 
-/// The moment that the line at the front of the bytes gives; `None` where no such line is there.
+/// The moment in the line at the front of the bytes; `None` if no line with a moment is there.
 pub(crate) fn moment_at(bytes: &[u8]) -> Option<MomentLine>
     ensures moment { IfSome result (λ found. BeginsWithMoment bytes.now found.moment.day
         found.moment.minute (drop found.end bytes.now)) }

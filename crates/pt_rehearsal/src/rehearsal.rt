@@ -26,7 +26,7 @@ use std::io::{Read, Write};
 /// The most messages of a rehearsal.
 pub const MOST_MESSAGES: u32 = 100_000;
 
-/// The moment that leads the next message; `None` at the end of the input.
+/// The moment before the next message; `None` at the end of the input.
 fn next_moment<R: Read + Drop>(inbox: &mut Inbox<R>) -> Result<Option<Moment>, Fault>
     ensures next { (input : List ℕ) → HasInput R.remaining inbox.old input
         → IfOk result (IsNext R.remaining inbox.new input) }
@@ -72,7 +72,7 @@ fn go_through<K: Keeper, R: Read + Drop, W: Write>(
         × Rehearses messages input (desk_of (K.store keeper.old)) written rest (desk_of (K.store keeper.new))
         × Appends (W.contents out.old) (W.contents out.new) written × IsFinished messages rest
         × (length messages ≤ most_messages)) }
-    // Else it stands after the last message that was answered, whose reply may not be wholly written.
+    // On an error the desk is in the state after the last answered message, whose reply may not be wholly written.
     ensures stopped { (K.store keeper.new).doubt ≡ 0
         → (input : List ℕ) → HasInput R.remaining inbox.old input
         → IfErr result (λ error. (messages : List Exchanged) × (written : List ℕ) × (rest : List ℕ)
@@ -100,10 +100,10 @@ fn go_through<K: Keeper, R: Read + Drop, W: Write>(
     Ok(())
 }
 
-/// Answers messages in turn, each at the moment that the line before it gives, until the input ends.
+/// Answers messages in turn, each at the moment in the line before it, until the input ends.
 ///
-/// It ends as well after the reply to a head or to a length that is not taken. The error is want of memory, a read that
-/// failed or one or a message too many, a write that failed, or a line that gives no moment.
+/// It also ends after the reply to a bad head or a bad length. The error is out of memory, a failed read or write, too
+/// many reads or messages, or a line without a moment.
 pub fn rehearse<K: Keeper, R: Read + Drop, W: Write>(
     alloc: Global,
     keeper: &mut K,
@@ -116,7 +116,7 @@ pub fn rehearse<K: Keeper, R: Read + Drop, W: Write>(
         × Rehearses messages input (desk_of (K.store keeper.old)) written rest (desk_of (K.store keeper.new))
         × Appends (W.contents out.old) (W.contents out.new) written × IsFinished messages rest
         × (length messages ≤ most_messages)) }
-    // Else it stands after the last message that was answered, whose reply may not be wholly written.
+    // On an error the desk is in the state after the last answered message, whose reply may not be wholly written.
     ensures stopped { (K.store keeper.new).doubt ≡ 0
         → (input : List ℕ) → HasInput R.remaining inbox.old input
         → IfErr result (λ error. (messages : List Exchanged) × (written : List ℕ) × (rest : List ℕ)
