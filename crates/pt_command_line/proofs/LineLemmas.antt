@@ -1,4 +1,4 @@
--- What words at the places of a command ask for.
+-- The task that words at the places of a command name.
 use Rattle.std.proofs.Common.{◌≡◌, ◌∙◌, ◌==◌, ◌+◌, ℕ, List, ap, codes, eq-eqb, false, refl, sym, true≢false}
 use Rattle.std.specs.Prelude.{slice_index}
 use Rattle.clap.specs.Words.{Row, Text}
@@ -9,7 +9,7 @@ use Rattle.pt_command_line.specs.declared.asked.Task.{Task}
 use Rattle.pt_command_line.specs.declared.asked.Line.TheVariants as line
 use Rattle.pt_command_line.specs.declared.asked.Task.TheVariants as task
 
--- the name of the command that asks the desk for this
+-- the name of the command of this task
 abbrev pub task_name : Task → Text
 task_name (task.Travel number day csv) = codes "travel"
 task_name (task.Manifest vehicle day) = codes "manifest"
@@ -17,7 +17,7 @@ task_name (task.Trips day) = codes "trips"
 task_name (task.Explain rider wish) = codes "explain"
 task_name (task.Audit log rider wish) = codes "audit"
 
--- the name of the command that asks for this
+-- the name of the command of this line
 abbrev pub name_of : Line → Text
 name_of (line.Rehearse key) = codes "rehearse"
 name_of (line.Init file key) = codes "init"
@@ -36,7 +36,7 @@ named name rows (line.Ask file zone key (task.Trips day)) asks = asks.0
 named name rows (line.Ask file zone key (task.Explain rider wish)) asks = asks.0
 named name rows (line.Ask file zone key (task.Audit log rider wish)) asks = asks.0
 
--- a number that tells the names of the commands apart
+-- a number that distinguishes the names of the commands
 abbrev mark : Text → ℕ
 mark name = slice_index name 0 + slice_index name 3
 
@@ -51,12 +51,12 @@ served_apart (task.Trips day) = refl
 served_apart (task.Explain rider wish) = refl
 served_apart (task.Audit log rider wish) = refl
 
--- this is no task of the desk
+-- this is not a task of the desk
 abbrev pub IsNoTask : Line → Type 0
 IsNoTask (line.Ask file zone key asked) = ⊥
 IsNoTask _ = Unit {0}
 
--- what is no task has another name than a task
+-- a line that is not a task has another name than a task
 pub apart : (asked : Line) (t : Task) → IsNoTask asked → (mark (name_of asked) == mark (task_name t)) ≡ false
 apart (line.Rehearse key) (task.Travel number day csv) is = refl
 apart (line.Rehearse key) (task.Manifest vehicle day) is = refl

@@ -1,4 +1,4 @@
--- What clap makes of plain words at the places of a command.
+-- How clap reads plain words at the places of a command.
 use Rattle.std.proofs.Common.{◌≡◌, ◌∙◌, ◌+◌, ◌==◌, ◌++◌, ℕ, List, [], ◌∷◌, Option, None, Some, ap, append_assoc, append-nil, false, inl, inr, map, refl, sym, true, true≢false}
 use Rattle.std.proofs.lemmas.Bool.Decides.{eqb_tells}
 use Rattle.std.specs.Prelude.{◌&&◌, ◌||◌, Bool, find, fold, is_some, min, option_map}
@@ -38,12 +38,12 @@ no_hyphen byte rest plain = elim (eqb_tells byte 45) [
   | inr other ↦ other.0
 ]
 
--- a plain word is one
+-- a plain word is not an option
 pub plain : (word : Text) → IsPlainWord word → IsNoOption word
 plain [] is = record { none = refl; dashes = refl }
 plain (byte ∷ rest) is = record { none = rw (no_hyphen byte rest is) refl; dashes = rw (no_hyphen byte rest is) refl }
 
--- no fault comes of a level where none comes of its parts
+-- a level has no fault if its parts have none
 pub no_fault : (words below end given wanted : Kinds) → words ≡ [] → below ≡ [] → end ≡ [] → given ≡ [] → wanted ≡ []
     → or_else words (or_else below (or_else end (or_else given wanted))) ≡ []
 no_fault words below end given wanted one two three four five = rw (one, two, three, four, five) refl
@@ -59,7 +59,7 @@ never false = refl
 abbrev pub placed : ℕ → Text → Rule
 placed index name = with_index index (filled (place name))
 
--- the names of places with the words there, each at its own place from this one on, and none twice
+-- the names of places with their words, each at its own place from this one on, and none twice
 abbrev pub ArePlaces : List Rule → List Row → ℕ → List (Text × Text) → Type 0
 ArePlaces rules rows index [] = Unit
 ArePlaces rules rows index (pair ∷ rest) =
@@ -70,7 +70,7 @@ ArePlaces rules rows index (pair ∷ rest) =
 abbrev pub words_of : List (Text × Text) → List Text
 words_of pairs = map (λ p. p.1) pairs
 
--- where clap stands when it has read a word for a place, and comes to the next place
+-- clap's state after it read a word for a place, before the next place
 abbrev pub stand : List Row → ℕ → Text × Text → Walk
 stand rows index last = record {
   held = record { rows = rows; pending = Some (last.0, last.1 ∷ []); skip = 0 };
@@ -80,7 +80,7 @@ stand rows index last = record {
   stopped = None;
 }
 
--- where it stands when it has read the rest
+-- clap's state after it read the rest
 abbrev pub stand_after : List Row → ℕ → Text × Text → List (Text × Text) → Walk
 stand_after rows index last [] = stand rows index last
 stand_after rows index last (next ∷ rest) =
@@ -135,7 +135,7 @@ stands rules rows before index last (next ∷ rest) by_id new places are =
     ∙ stands rules (rows ++ row last.0 last.1 ∷ []) index (min (index + 1) usize_max) next rest places.1 places.2
     places.3 are.1
 
--- and finds no fault
+-- clap finds no fault
 faultless : (s : Shape) (rows : List Row) (before index : ℕ) (last : Text × Text) (rest : List (Text × Text))
     → arg_by_id s.rules last.0 ≡ Some (placed before last.0) → has_row last.0 rows ≡ false
     → ArePlaces s.rules (rows ++ row last.0 last.1 ∷ []) index rest → AllByRecursion IsPlainWord (words_of rest)
@@ -152,7 +152,7 @@ faultless s rows before index last (next ∷ rest) by_id new places are =
     (ap (λ (w : Walk). walk_fault s [] w (words_of rest)) (step s.rules rows before index last next by_id new places.0 is)
     ∙ then)
 
--- where clap stands when it has read plain words for all places
+-- clap's state after it read plain words for all places
 pub all_stand : (rules : List Rule) (first : Text × Text) (rest : List (Text × Text))
     → ArePlaces rules [] 1 (first ∷ rest) → AllByRecursion IsPlainWord (words_of (first ∷ rest))
     → walk rules [] nothing_held (words_of (first ∷ rest)) ≡ stand_after [] 2 first rest
@@ -161,7 +161,7 @@ all_stand rules first rest places are =
     ap (λ (w : Walk). fold (walked rules []) w (words_of rest)) (first_step rules first places.0 is)
     ∙ stands rules [] 1 2 first rest places.1 refl places.3 are.1
 
--- no fault comes of such words
+-- these words have no fault
 all_faultless : (s : Shape) (first : Text × Text) (rest : List (Text × Text))
     → ArePlaces s.rules [] 1 (first ∷ rest) → AllByRecursion IsPlainWord (words_of (first ∷ rest))
     → walk_fault s [] (walk_from nothing_held) (words_of (first ∷ rest)) ≡ []
@@ -174,7 +174,7 @@ all_faultless s first rest places are =
     (ap (λ (w : Walk). walk_fault s [] w (words_of rest)) (first_step s.rules first places.0 is)
     ∙ faultless s [] 1 2 first rest places.1 refl places.3 are.1)
 
--- what is left when all words are read has no fault
+-- the rest after all words has no fault
 pub record IsEnd (s : Shape) (end : Walk) : Type 0 where
   pub settles : settle_fault s.rules s.args_override_self end.held ≡ []
   pub given : defaults_fault (settled s.rules end.held).rows s.rules ≡ []
@@ -191,7 +191,7 @@ level_taken s first rest places are end =
     (ap (λ (w : Walk). defaults_fault (settled s.rules w.held).rows s.rules) stands ∙ end.given)
     (ap (λ (w : Walk). check_fault s (finished s.rules w.held) false) stands ∙ end.wanted)
 
--- where clap stands when it has met the name of a command, with the words after it
+-- clap's state after the name of a command, with the words after it
 abbrev pub stop : Text → List Text → Walk
 stop name words = record (walk_from nothing_held) { stopped = Some (name, words) }
 
@@ -209,7 +209,7 @@ unfolding walk_fault walked
 stop_faultless s names name before [] = refl
 stop_faultless s names name before (word ∷ words) = stop_faultless s names name (before ++ word ∷ []) words
 
--- the program has a command of this name, which reads words by this shape, and no fault of its own before it
+-- the program has a command of this name, which reads words by this shape, and has no fault before it
 pub record HasCommand (a : App) (name : Text) (s : Shape) : Type 0 where
   pub step : walked a.top.rules (names_of a) (walk_from nothing_held) name ≡ stop name []
   pub turn : turn_fault a.top (names_of a) (walk_from nothing_held) name ≡ []
@@ -239,7 +239,7 @@ met_faultless a name s words has =
     (ap (λ (w : Walk). walk_fault a.top (names_of a) w words) has.step
     ∙ stop_faultless a.top (names_of a) name [] words)
 
--- the words of a command have no fault where they have none at its own level
+-- the words of a command have no fault if they have none at its own level
 pub command_taken : (a : App) (name : Text) (s : Shape) (words : List Text) → HasCommand a name s
     → level_fault s [] nothing_held words false [] ≡ [] → built_fault a nothing_held (name ∷ words) ≡ []
 command_taken a name s words has level =

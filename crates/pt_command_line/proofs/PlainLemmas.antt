@@ -1,4 +1,4 @@
--- What clap makes of commands whose words are plain.
+-- How clap reads commands whose words are plain.
 use Rattle.std.proofs.Common.{◌≡◌, ◌∙◌, List, [], ◌∷◌, Some, ap, codes, map, refl, subst}
 use Rattle.std.proofs.lemmas.List.Elements.{recursion_from_All}
 use Rattle.std.specs.List.{AllByRecursion}
@@ -15,11 +15,11 @@ use Rattle.pt_command_line.specs.declared.asked.Line.{Line}
 use Rattle.pt_command_line.specs.declared.asked.Line.TheVariants as line
 use Rattle.pt_command_line.specs.declared.asked.Task.TheVariants as task
 
--- what clap finds at places where these words stand
+-- the rows that clap finds at places with these words
 abbrev rows_for : List (Text × Text) → List Row
 rows_for pairs = map (λ p. row p.0 p.1) pairs
 
--- the program has this command, at whose places clap reads these words without a fault
+-- the program has this command, and clap reads these words at its places without a fault
 record IsRead (name : Text) (command : App) (first : Text × Text) (rest : List (Text × Text)) : Type 0 where
   known : HasCommand (built desk_words) name (built_leaf command.top)
   places : ArePlaces (built_leaf command.top).rules [] 1 (first ∷ rest)
@@ -45,7 +45,7 @@ read_taken program name command first rest is plain =
     command_taken (built desk_words) name shape (words_of (first ∷ rest)) is.known
     (level_taken shape first rest is.places plain is.end)
 
--- plain words of a command are a line, where they ask for it
+-- plain words of a command are a line, if they name its task
 read_line : {name : Text} {command : App} {first : Text × Text} {rest : List (Text × Text)}
     → IsRead name command first rest → (program : Text) (asked : Line)
     → AllByRecursion IsPlainWord (words_of (first ∷ rest)) → Asks name (rows_for (first ∷ rest)) asked

@@ -1,4 +1,4 @@
--- Words ask for one thing at most.
+-- Words name at most one task.
 use Rattle.std.proofs.Common.{◌≡◌, ◌∙◌, List, [], None, Some, ap, arith, codes, false, refl, subst, sym, true}
 use Rattle.std.specs.Int.{from_bool}
 use Rattle.std.specs.Prelude.{Bool, ℕ, Option, unwrap_or}
@@ -29,7 +29,7 @@ same_day rows place day read has also =
     let two : day_from has.0 ≡ Some read = day_from-known has.0 read (subst (λ text. SpellsDay text read) word also.2) in
     cc (one, two)
 
--- `none` is no number
+-- `none` is not a number
 never_none : (minute : ℕ) → IsMinuteWord (codes "none") minute → ⊥
 never_none minute is = let digit = is.0.0.1.0 in omega (arith, digit)
 
@@ -146,6 +146,6 @@ same_of found asked read asks reads =
     same_asked asks.0 asks.1 asked read asks.3
     (subst (λ (text : Text). Asks text asks.1 read) name (subst (λ (held : List Row). Asks reads.0 held read) rows reads.3))
 
--- what was read is what the words ask for
+-- the task that was read is the one that the words name
 pub same_line : (words : List Text) (asked read : Line) → IsLine words asked → IsLine words read → IsSameLine asked read
 same_line words asked read asks reads = same_of _ asked read asks.1 reads.1

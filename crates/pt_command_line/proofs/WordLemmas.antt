@@ -1,4 +1,4 @@
--- What clap makes of the program's words.
+-- How clap reads the program's words.
 use Rattle.std.proofs.Common.{◌≡◌, List, [], Result, inl, inr, refl, subst, true}
 use Rattle.clap.specs.Words.{App, FailsBy, HasKind, IsAmong, Text, fault_of, is_simple, is_simple_and_free, kind_of}
 use Rattle.clap.specs.declared.error.kind.ErrorKind.TheVariants.{OutOfMemory}
@@ -15,13 +15,13 @@ pub desk_is_free : is_simple_and_free desk_words ≡ true
 unfolding clap_on_literals
 desk_is_free = refl
 
--- a command of the program's words is refused by their faults
+-- words are refused exactly by their faults
 pub refused_by_faults : {T : Type 0} (app : App) (words : List Text) (read : Result T Error) → app ≡ desk_words
     → (is_simple_and_free app ≡ true → FailsBy (fault_of app words) read)
     → FailsBy (fault_of desk_words words) read
 refused_by_faults app words read is kinds = (rw is at kinds) desk_is_free
 
--- where the words have no fault, only memory refuses them
+-- if the words have no fault, only out of memory refuses them
 pub memory_alone : (kinds : Kinds) (error : Error) → kinds ≡ [] → HasKind kinds error → kind_of error ≡ OutOfMemory
 memory_alone kinds error none (inl memory) = memory
 memory_alone kinds error none (inr among) = absurd (subst (IsAmong (kind_of error)) none among)

@@ -1,4 +1,4 @@
--- What an audit of a refusal shows, and how commands that ask for it end.
+-- What an audit of a refusal shows, and the outcomes of its commands.
 use Rattle.std.proofs.Common.{◌≡◌, ◌∙◌, ℕ, true, false, List, [], Option, Some, None, Result, Ok, Any, subst}
 use Rattle.std.proofs.lemmas.List.Elements.{All-map}
 use Rattle.std.specs.Io.KnownBytes.{Appends}
@@ -41,7 +41,7 @@ lent duty = record { vehicle = duty.vehicle.now; stops = stops_of duty.route.now
 abbrev Can : (ℕ → ℕ → Option ℕ) → Asked → OnDuty → Type 0
 Can minutes asked duty = (i : ℕ) × (j : ℕ) × IsPossible minutes duty.vehicle duty.stops asked i j
 
--- where no vehicle that is lent has a place, none of the refusal's has
+-- if no borrowed vehicle has a place, no vehicle of the refusal has
 pub none_can : (found : Refusal) (minutes : ℕ → ℕ → Option ℕ) (duties : List Duty) (asked : Asked)
     → AreTimes found.rows minutes → on_duty duties ≡ found.vehicles → asked ≡ found.asked
     → IsNowherePossible minutes duties asked → NoneCan found
@@ -54,7 +54,7 @@ none_can found minutes duties asked times same is never =
           (subst (λ (v : List OnDuty). ¬ SomeVehicleCan minutes v asked) same none),
     )
 
--- and where one has the best place, some vehicle of the refusal can
+-- if one has the best place, some vehicle of the refusal can take the trip
 pub some_can : (found : Refusal) (minutes : ℕ → ℕ → Option ℕ) (duties : List Duty) (asked : Asked)
     (best : Option Chosen) → AreTimes found.rows minutes → on_duty duties ≡ found.vehicles → asked ≡ found.asked
     → is_some best ≡ true → IfSome best (λ chosen. Any (λ duty. IsChosenIn minutes duty.vehicle.now
@@ -74,7 +74,7 @@ pub nowhere : (minutes : ℕ → ℕ → Option ℕ) (duties : List Duty) (asked
 nowhere minutes duties asked None there none = none
 nowhere minutes duties asked (Some chosen) there none = absurd (cc)
 
--- a right log that was made whole in memory is written as it is
+-- a correct log that was completed in memory is written unchanged
 pub log_is_printed : (minutes : ℕ → ℕ → Option ℕ) (duties : List Duty) (asked of_refusal : Asked) (begun text shown : List ℕ)
     (old new : Option (List ℕ)) → asked ≡ of_refusal → begun ≡ []
     → WritesRightLog minutes duties asked (Some begun) (Some text) → shown ≡ text → Appends old new shown
@@ -90,7 +90,7 @@ log_is_printed minutes duties asked of_refusal begun text shown old new is none 
       appended = subst (λ (held : List ℕ). Appends old new held) (same ∙ written.appended) printed;
     }
 
--- where no vehicle can, the wish is denied so, and by no other rule
+-- if no vehicle can, the wish is denied `no vehicle`, and by no other rule
 told_none : (key : List ℕ) (now : Moment) (rider : ℕ) (wish : Wish) (s : State) (found : Refusal) → NoneCan found
     → IsFacts key now rider wish s (inquiry.Facts found) None → IsSound s → (number : ℕ) (told : Answer)
     (left : Option State) → IsOutcome key now number (Explain rider wish) s told left → told ≡ answer.Denied NoVehicle

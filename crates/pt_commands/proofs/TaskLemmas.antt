@@ -1,4 +1,4 @@
--- What reading the text of a file comes to.
+-- The results of reading the text of a file.
 use Rattle.std.proofs.Common.{◌≡◌, ◌⊎◌, ℕ, List, Result, Ok, Err, ap, subst, sym}
 use Rattle.std.specs.Prelude.{IfErr, IfOk, IsErrAnd}
 use Rattle.pt_base.specs.Codes.{memory_refused}
@@ -14,12 +14,12 @@ pub times_read : (text places : List ℕ) (rows : Result (List Row) Fault) → I
 times_read text places (Ok rows) reads faulty = reads
 times_read text places (Err error) reads faulty = faulty
 
--- where the desk's places are these
+-- the result for these places is the result for the desk's places
 pub times_read_by : (text places : List ℕ) (told : Result (List ℕ) StoreFault) (rows : Result (List Row) Fault)
     → told ≡ Ok places → IsTimesRead text places rows → IsTimesReadBy text told rows
 times_read_by text places told rows is read = subst (λ t. IsTimesReadBy text t rows) (sym is) read
 
--- an error that is handed on is that error
+-- an error that is returned further is that error
 pub error_handed : {T : Type 0} (result : Result T Fault) (error : Fault) → IsErrAnd result (λ e. e ≡ error)
     → result ≡ Err error
 error_handed (Ok x) error is = absurd is

@@ -12,7 +12,7 @@ use Rattle.pt_store.proofs.StoreLemmas.{reads_then, read_tells, leaves_nothing}
 abbrev Outcome : Type 0 → Type 1
 Outcome X = State → X → Option State → Type 0
 
--- what was read before calls that then answer
+-- a read before calls that then answer
 pub read_then : {X Y : Type 0} (a b c : Store) (x v : X) (Is Is' : Outcome Y) (r : Result Y StoreFault) → Goes a b v None (Ok x) → Answers b c Is r
     → (x ≡ v → (w : Y) (left : Option State) → Is a.content w left → Is' a.content w left) → Answers a c Is' r
 read_then a b c x v Is Is' r first (told, left, goes, by) gives = (
@@ -29,7 +29,7 @@ read_then a b c x v Is Is' r first (told, left, goes, by) gives = (
       ]),
 )
 
--- what was read, and is told
+-- a read whose result is the answer
 pub read_told : {X Y : Type 0} (a b : Store) (x v : X) (w : Y) (Is : Outcome Y) → Goes a b v None (Ok x) → (x ≡ v → Is a.content w None) → Answers a b Is (Ok w)
 read_told a b x v w Is first is = (w, None, reads_map a b v x (λ _. w) first, (λ clean. inl (is (first.holds clean).tells.0)))
 
@@ -37,7 +37,7 @@ read_told a b x v w Is first is = (w, None, reads_map a b v x (λ _. w) first, (
 pub read_fault : {X Y : Type 0} (a b : Store) (v : X) (w : Y) (e : StoreFault) (Is : Outcome Y) → Goes {X = X} a b v None (Err e) → Answers {X = Y} a b Is (Err e)
 read_fault a b v w e Is first = (w, None, fault_of a b v w e first, (λ _. inr (tt, refl)))
 
--- memory that is refused after something was read
+-- out of memory after a read
 pub read_memory : {X Y : Type 0} (a b : Store) (x v : X) (w : Y) (Is : Outcome Y) → Goes a b v None (Ok x) → Answers {X = Y} a b Is (Err Memory)
 read_memory {X} {Y} a b x v w Is first =
     let fine : (◌≡◌ {A = Result Y StoreFault} (Err Memory) (Err failed) → ⊥) = λ same. absurd (cc) in
@@ -56,11 +56,11 @@ read_memory {X} {Y} a b x v w Is first =
       (λ _. inr (tt, refl)),
     )
 
--- calls that go as one outcome has it
+-- calls with the answer and commit of one outcome
 pub goes_by : {X : Type 0} (a b : Store) (told : X) (left : Option State) (Is : Outcome X) (r : Result X StoreFault) → Goes a b told left r → Is a.content told left → Answers a b Is r
 goes_by a b told left Is r goes is = (told, left, goes, λ _. inl is)
 
--- what they tell, where the store is clean
+-- their answer, if the store is clean
 pub tells_by : {X : Type 0} (a b : Store) (Is : Outcome X) (r : Result X StoreFault) → Answers a b Is r → b.doubt ≡ 0 → TellsBy a.content b.content Is r
 tells_by a b Is r (told, left, goes, by) clean = (told, left, (goes.holds clean).tells, by clean)
 
@@ -72,7 +72,7 @@ stays : {X : Type 0} (old new : State) (told : X) (left : Option State) (r : Res
 stays old new told left (Ok x) none tells = tells.1 ∙ ap (λ left. state_after left old) none
 stays old new told left (Err fault) none tells = tt
 
--- where each outcome that agrees with what is told commits nothing, nothing is changed
+-- nothing changes, if each outcome with this answer commits nothing
 pub changes_nothing : {X : Type 0} (a b : Store) (Is : Outcome X) (r : Result X StoreFault) → Answers a b Is r
     → ((told : X) (left : Option State) → IfOk r (λ x. x ≡ told) → Is a.content told left → left ≡ None) → ChangesNothing a b r
 changes_nothing a b Is r (told, left, goes, by) none_by =
@@ -86,12 +86,12 @@ changes_nothing a b Is r (told, left, goes, by) none_by =
       found = λ clean o found. leaves_nothing a b told left r o goes (none clean) clean found;
     }
 
--- a fault as `?` hands it on
+-- a fault as `?` returns it
 pub handed : {Y : Type 0} (P : Result Y StoreFault → Type 0) (e : StoreFault) (r : Result Y StoreFault) → IsErrAnd r (λ error. error ≡ e) → P (Err e) → P r
 handed P e (Ok y) is holds = absurd is
 handed {Y} P e (Err error) is holds = subst (λ (f : StoreFault). P (Err f)) (sym is) holds
 
--- memory that is refused before anything is asked
+-- out of memory before anything is asked
 pub no_memory : {X : Type 0} (a : Store) (w : X) (Is : Outcome X) → Answers {X = X} a a Is (Err Memory)
 no_memory {X} a w Is =
     let fine : (◌≡◌ {A = Result X StoreFault} (Err Memory) (Err failed) → ⊥) = λ same. absurd (cc) in (

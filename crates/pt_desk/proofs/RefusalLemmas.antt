@@ -26,7 +26,7 @@ pub inquiry_commits_nothing : (by : Option Caller) (now : Moment) (rider : ℕ) 
 inquiry_commits_nothing None now rider wish s found left is = is.1
 inquiry_commits_nothing (Some me) now rider wish s found left is = is.1
 
--- what is found is by the content
+-- the result is by the content
 pub found_by : (a b : Store) (key : List ℕ) (now : Moment) (rider : ℕ) (wish : Wish) (r : Result Inquiry StoreFault)
     → Answers a b (IsFacts key now rider wish) r → b.doubt ≡ 0
     → IfOk r (λ found. IsFacts key now rider wish a.content found None)
@@ -40,7 +40,7 @@ found_by a b key now rider wish (Ok found) (told, left, goes, by) clean = elim (
   | inr (fault, none) ↦ absurd fault
 ]
 
--- it is denied so
+-- the wish is denied `no vehicle`
 shown_by : (by : Option Caller) (now : Moment) (number rider : ℕ) (wish : Wish) (s : State) (found : Refusal)
     (left : Option State) (minutes : ℕ → ℕ → Option ℕ) → IsInquiryBy by now rider wish s (inquiry.Facts found) left
     → AreTimes found.rows minutes → ¬ SomeVehicleCan minutes found.vehicles found.asked

@@ -1,4 +1,4 @@
--- One call more of a run.
+-- One more call of a run.
 use Rattle.std.proofs.Common.{◌≡◌, ℕ, zero, suc, ◌<◌, ◌≤◌, ◌⊎◌, ◌++◌, List, [], ◌∷◌, Some, None, Result, Ok, Err, length, drop, get_or, drop-cons, add-one, ◌+◌, arith, refl, sym, ap, ◌∙◌, subst, inl, inr}
 use Rattle.std.proofs.lemmas.List.{drop_all}
 use Rattle.pt_desk_rules.specs.State.{State}
@@ -19,7 +19,7 @@ use Rattle.std.proofs.lemmas.Option.{same_Some}
 abbrev Reply : Type 0
 Reply = Result Answer StoreFault
 
--- an answer goes before a run
+-- an answer before a run
 answered : (call : Call) (calls : List Call) (reply : Reply) (replies : List Reply) (old mid new : State) → AnswersCall call old mid reply → (◌≡◌ {A = Reply} reply (Err failed) → ⊥) → Runs mid calls replies new
     → Runs old (call ∷ calls) (reply ∷ replies) new
 answered call calls (Err failed) replies old mid new told fine rest = absurd (fine refl)
@@ -31,7 +31,7 @@ answered call calls (Ok answer) replies old mid new (told, left, tells, (inr fau
 refused : (call : Call) (calls : List Call) (reply : Reply) (replies : List Reply) (old new : State) → ◌≡◌ {A = Reply} reply (Err failed) → AreRefused calls replies → Runs old (call ∷ calls) (reply ∷ replies) new
 refused call calls reply replies old new is rest = subst (λ r. Runs old (call ∷ calls) (r ∷ replies) new) (sym is) rest
 
--- one call more, with its answer
+-- one more call, with its answer
 pub goes_on : (call : Call) (calls : List Call) (reply : Reply) (replies : List Reply) (old mid new : State) (before now : ℕ) → Fails before now reply
     → AnswersCall call old mid reply → GoesOn now mid calls replies new → GoesOn before old (call ∷ calls) (reply ∷ replies) new
 goes_on call calls reply replies old mid new before zero fails told rest =
@@ -67,7 +67,7 @@ told_at_last [] reply (inr none) = absurd none
 told_at_last (first ∷ replies) reply (inl is) = inl (inl is)
 told_at_last (first ∷ replies) reply (inr later) = elim (told_at_last replies reply later) [ inl some ↦ inl (inr some) | inr last ↦ inr last ]
 
--- one reply more: where one says that the store has failed, it has
+-- one more reply: if one says that the store has failed, it has
 pub failure_told : (replies longer : List Reply) (reply : Reply) (before after : ℕ) → longer ≡ replies ++ reply ∷ [] → before ≤ after
     → (TellOfFailure replies → 0 < before) → (◌≡◌ {A = Reply} reply (Err failed) → 0 < after) → TellOfFailure longer → 0 < after
 failure_told replies longer reply before after is grows so_far now some =
@@ -76,7 +76,7 @@ failure_told replies longer reply before after is grows so_far now some =
       | inr last ↦ now last
     ]
 
--- where the store is clean, the content is as it was, and a crash leaves no more
+-- if the store is clean, the content is unchanged, and a crash leaves only what was there
 abbrev pub IsSame : Store → Store → Type 0
 IsSame before after = ChangesNothing {X = Unit {0}} {E = StoreFault} before after (Ok tt)
 
@@ -89,14 +89,14 @@ same_then call (Ok answer) a b c up first changes told =
     }
 same_then call (Err fault) a b c up first changes told = absurd (elim told [ inl denial ↦ denial | inr read ↦ absurd (cc (read.1)) ])
 
--- one call more that is only told
+-- one more call that is a denial or an answered read
 pub only_told_at : (calls : List Call) (i : ℕ) (call : Call) (reply : Reply) (replies : List Reply) (a b c : Store) → i < length calls → call ≡ get_or calls i call → b.doubt ≤ c.doubt
     → (IsOnlyTold call reply → ChangesNothing b c reply) → IsSame a b × AreOnlyTold (drop i calls) (reply ∷ replies) → IsSame a c × AreOnlyTold (drop (i + 1) calls) replies
 only_told_at calls i call reply replies a b c lt here up changes (first, told) =
     let these = subst (λ cs. AreOnlyTold cs (reply ∷ replies)) (next calls i call lt here) told in
     (same_then call reply a b c up first changes these.0, these.1)
 
--- where each call is refused, none is answered
+-- if each call is refused, none is answered
 none_answered : (calls : List Call) (replies : List Reply) → AreRefused calls replies → AreAnswered calls replies []
 none_answered [] [] refused = tt
 none_answered [] (reply ∷ replies) refused = refused
@@ -104,7 +104,7 @@ none_answered (call ∷ calls) [] refused = refused
 none_answered (call ∷ calls) (reply ∷ replies) (is, rest) =
     subst (λ r. AreAnswered (call ∷ calls) (r ∷ replies) []) (sym is) (none_answered calls replies rest)
 
--- the calls that a run answered are calls by the rules
+-- the answered calls of a run are calls by the rules
 pub runs_are_calls : RunsAreCalls
 runs_are_calls old new [] [] is = record {
   answered = [];

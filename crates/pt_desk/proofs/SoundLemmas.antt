@@ -1,4 +1,4 @@
--- An answer leaves a sound state so.
+-- An answer in a sound state leaves a sound state.
 use Rattle.std.proofs.Common.{◌≡◌, ◌⊎◌, ℕ, List, Option, None, Result, Ok, Err, arith, refl, sym, subst, inl, inr}
 use Rattle.pt_base.specs.declared.moment.Moment.{Moment}
 use Rattle.pt_desk_rules.specs.State.{State}

@@ -1,4 +1,4 @@
--- What is told where a request comes again with nothing between.
+-- The answer to a request that comes again with nothing between.
 use Rattle.std.proofs.Common.{◌≡◌, ◌∙◌, ℕ, List, []}
 use Rattle.std.proofs.Common.{inl, inr, Option, Some, None, refl, sym, ap, subst}
 use Rattle.std.specs.Option.{option_map}
@@ -49,7 +49,7 @@ denials_are_the_same_again key now number asked s rule told left after sound one
     (subst (λ t. IsOutcome key now number asked t told after) stays two) in
     (sym same.0, sym same.1 ∙ nothing)
 
--- one that was accepted comes again, under a key that is still its caller's
+-- a request that was accepted comes again, under a key that is still its caller's
 accepted_again : (me : Caller) (holds : Option Caller) (key : List ℕ) (now : Moment) (number : ℕ) (asked : Write)
     (s new : State) (told again : Answer) (after : Option State) → sender key s ≡ Some me → sender key new ≡ holds
     → option_map (λ caller. caller.id) holds ≡ Some me.id
@@ -66,7 +66,7 @@ accepted_again me (Some holder) key now number asked s new told again after by h
       none_since = refl;
     }) has (same_Some holder.id me.id same) two
 
--- or under one that is nobody's any more
+-- it comes again under a key that nobody has any longer
 nobody_told : (holds : Option Caller) (now : Moment) (number : ℕ) (asked : Request) (s : State) (again : Answer)
     (after : Option State) → option_map (λ caller. caller.id) holds ≡ None
     → IsOutcomeBy holds now number asked s again after → (again ≡ answer.Denied rule.Key) × (after ≡ None)
@@ -103,7 +103,7 @@ requests_are_the_same_again key now number asked s told again (Some new) after s
     committed_again (sender key s) key now number asked s new told again after sound
     (request_sound key now number asked s told (Some new) sound one) refl one two
 
--- what a crash leaves of a request is the state before it or after it, and in both it ends as it would have
+-- a crash leaves the state before a request or the state after it, and in both it has the same outcome
 pub requests_outlive_crashes : RequestsOutliveCrashes
 requests_outlive_crashes key now number asked s found told again left after sound one (inl before) two =
     let same = outcomes_are_one key now number asked s told again left after sound one

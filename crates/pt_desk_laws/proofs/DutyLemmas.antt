@@ -33,7 +33,7 @@ each_one (x ∷ xs) = (
 not_both : (b : Bool) → b ≡ true → b ≡ false → ⊥
 not_both b is other = let same : true ≡ false = sym is ∙ other in cc
 
--- of two versions on duty the second is another vehicle's, of a higher number
+-- of two versions on duty, the second is of another vehicle with a higher number
 rises : (day id first other from : ℕ) → first ≤ 47_481 → from ≤ 47_481 → pair_key id first < pair_key other from → nat_le from day ≡ true
     → ((((other == id) && nat_lt first from) && nat_le from day) ≡ true → ⊥) → id < other
 rises day id first other from low high lt come no_newer = grind (arith, nat_tests)
@@ -56,7 +56,7 @@ holds_of : (test : Vehicle → Bool) (P : Vehicle → Type 0) (x : Vehicle) (ys 
 holds_of test P x ys true is gives rest = (gives is, rest)
 holds_of test P x ys false is gives rest = rest
 
--- what passing gives holds of each that passes
+-- a property that follows from a test holds for each that passes it
 Each-passes : (test : Vehicle → Bool) (P : Vehicle → Type 0) (xs : List Vehicle) → Each (λ y. test y ≡ true → P y) xs → Each P (filter test xs)
 Each-passes test P [] each = tt
 Each-passes test P (x ∷ xs) each = holds_of test P x (filter test xs) (test x) refl each.0 (Each-passes test P xs each.1)

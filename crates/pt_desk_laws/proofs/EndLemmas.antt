@@ -1,4 +1,4 @@
--- A sound state stays sound where a trip that is booked gets its outcome.
+-- A sound state stays sound when a booked trip gets its outcome.
 use Rattle.std.proofs.Common.{rules, ◌≡◌, ℕ, true, IsTrue, List, [], ◌∷◌, Option, Some, refl, sym, ap, ◌∙◌, subst, inl, inr}
 use Rattle.std.proofs.lemmas.Option.{same_Some}
 use Rattle.pt_desk_rules.specs.TripStatuses.{stands}
@@ -26,7 +26,7 @@ use Rattle.pt_desk_laws.proofs.FitLemmas.{each_drive, each_load, planned_fit, Ca
 use Rattle.pt_desk_laws.proofs.PlannedLemmas.{put_stands, still_stands}
 use Rattle.pt_desk_rules.specs.Ranges.{KeepsRanges}
 
--- whatever came of a trip that was not cancelled, it stands
+-- a trip with an outcome is not cancelled
 ended_stands : (end : Outcome) → stands (status_of end) ≡ true
 ended_stands outcome.Ridden = refl
 ended_stands outcome.MissedRider = refl
@@ -36,7 +36,7 @@ booked_stands : (status : TripStatus) → IsTrue (is_booked status) → IsTrue (
 booked_stands Booked booked = refl
 booked_stands status booked = absurd (cc)
 
--- and does so in its vehicle on its day
+-- it is still in its vehicle on its day
 stands_on : (end : Outcome) (trip : Trip) (trips : List Trip) (key number : ℕ) → record_at trip_key trip.id trips ≡ Some trip → StandsIn trips key number → StandsIn (put trip_key (ended end trip) trips) key number
 stands_on end trip trips key number here (there, found, standing, at) = elim (same_or_other number trip.id) [
   | inl same ↦
@@ -56,7 +56,7 @@ same_stop : (kind : StopKind) (end : Outcome) (trip : Trip) → trip_stop kind (
 same_stop Pickup end trip = refl
 same_stop Drop end trip = refl
 
--- the stops of all routes are as they were
+-- the stops of all routes are unchanged
 pub ended_stops : (end : Outcome) (trip : Trip) (trips : List Trip) → record_at trip_key trip.id trips ≡ Some trip → (stops : List PlannedStop) → stops_among (put trip_key (ended end trip) trips) stops ≡ stops_among trips stops
 ended_stops end trip trips here [] = refl
 ended_stops end trip trips here (stop ∷ later) =

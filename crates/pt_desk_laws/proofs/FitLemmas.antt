@@ -91,7 +91,7 @@ filter_both p q (x ∷ xs) = step p x (filter q xs) (filter (λ y. q y && p y) x
     step p x ys zs true same = ap (λ rest. cond (p x) (x ∷ rest) rest) same
     step p x ys zs false same = same
 
--- what holds of one of a list
+-- the property holds for one of a list
 abbrev pub Some_of : {A : Type 0} → (A → Type 0) → List A → Type 0
 Some_of P [] = ⊥
 Some_of P (x ∷ xs) = P x ⊎ Some_of P xs
@@ -131,7 +131,7 @@ some_passed P test (x ∷ xs) some = passed P x (filter test xs) xs (test x) (so
     passed P x ys xs true rest (inr some) = inr (rest some)
     passed P x ys xs false rest some = inr (rest some)
 
--- where the same elements pass a test, what holds of one that passes holds of one in each list
+-- if the same elements pass a test, a property of one that passes holds for one in each list
 any_moves : {A : Type 0} (P : A → Type 0) (test : A → Bool) → ((x : A) → P x → test x ≡ true) → (xs ys : List A)
     → filter test xs ≡ filter test ys → Any P xs → Any P ys
 any_moves P test gives xs ys same (k, a, within, at, holds) =
@@ -159,7 +159,7 @@ none_above P id x [] own above some = some
 none_above P id x (y ∷ ys) own above (inl (is, holds)) = absurd (omega (arith, above.0, is, own))
 none_above P id x (y ∷ ys) own above (inr rest) = none_above P id x ys own above.1 rest
 
--- of vehicles by rising number, what holds of one of this number and what holds of one hold of the same
+-- if vehicle numbers rise, two properties of the vehicle with this number hold for the same vehicle
 one_both : (P Q : Vehicle → Type 0) (id : ℕ) (xs : List Vehicle) → IsInOrder id_of xs
     → Some_of (λ v. (v.id ≡ id) × P v) xs → Some_of (λ v. (v.id ≡ id) × Q v) xs
     → Some_of (λ v. (v.id ≡ id) × (P v × Q v)) xs
@@ -188,7 +188,7 @@ both_fit vehicles travel trips plan days order (k, first, within, at, drives) (l
     (some_at (λ (v : Vehicle). (v.id ≡ plan.vehicle) × HasTimes rows stops v) duty k first within at drives)
     (some_at (λ (v : Vehicle). (v.id ≡ plan.vehicle) × LoadsFit v stops) duty l second below is loads)))
 
--- and so does each plan of a sound state
+-- each plan of a sound state fits
 pub planned_fit : (s : State) → IsSound s → Each (FitsIn s.vehicles s.travel s.trips) s.planned
 planned_fit s sound =
     Each-both (DrivesIn s.vehicles s.travel s.trips) (LoadsFitIn s.vehicles s.trips) (FitsIn s.vehicles s.travel s.trips)
@@ -209,7 +209,7 @@ each_drive vehicles travel trips plans each =
     let (b, fit) = feasible.times in (own, (minutes, times, b, fit))) (on_duty plan.day vehicles) fits)
     plans each
 
--- and has room
+-- the vehicle of a plan that fits has room
 pub each_load : (vehicles : List Vehicle) (travel : List DatedTable) (trips : List Trip) (plans : List Plan)
     → Each (FitsIn vehicles travel trips) plans → Each (LoadsFitIn vehicles trips) plans
 each_load vehicles travel trips plans each =
@@ -232,7 +232,7 @@ second_no false b fails = refl
 not_come : (day from : ℕ) → day < from → nat_le from day ≡ false
 not_come day from lt = grind (arith, nat_tests)
 
--- A table that is put leaves those of earlier days in force.
+-- A table that is put does not change those of earlier days.
 
 all_units : {A : Type 0} (xs : List A) → Each (λ x. Unit {0}) xs
 all_units [] = tt
@@ -265,7 +265,7 @@ table_stays new day tables lt =
     (kept_tables (holds_on day tables) new tables (λ table from. first_no _ _
     (not_come day table.from_day (omega arith))))
 
--- A version that is put leaves those of other vehicles and of earlier days on duty.
+-- A version that is put leaves other vehicles, and earlier days, unchanged.
 
 pub is_no : (n k : ℕ) → (n ≡ k → ⊥) → (n == k) ≡ false
 is_no n k other = grind (arith, nat_tests)
@@ -364,7 +364,7 @@ first_trip s plan (stop ∷ later) sound on some each =
     in
     (trip, stop.trip, there, standing, place.0, place.1)
 
--- so a plan of a vehicle that is not booked from a day on is of an earlier day
+-- so a plan of a vehicle without bookings from a day on is of an earlier day
 before_free : (s : State) (plan : Plan) (id from : ℕ) → IsSound s → IsOnDay plan → HasStops plan
     → HasStandingTrips s.trips plan → is_booked_from (Some id) from s.trips ≡ false → plan.vehicle ≡ id
     → plan.day < from
@@ -376,7 +376,7 @@ before_free s plan id from sound on some standing free same =
     fails (vehicle ∙ same) in
     omega arith
 
--- and so is each plan where no vehicle is
+-- if no vehicle has bookings from a day on, each plan is of an earlier day
 before_all_free : (s : State) (plan : Plan) (from : ℕ) → IsSound s → IsOnDay plan → HasStops plan
     → HasStandingTrips s.trips plan → is_booked_from None from s.trips ≡ false → plan.day < from
 before_all_free s plan from sound on some standing free =
@@ -403,7 +403,7 @@ sound_plans s sound =
     (λ plan standing fits. (standing, fits)) s.planned
     sound.planned_trips_stand (planned_fit s sound)))
 
--- each plan fits still where a version is put whose vehicle is free
+-- each plan still fits after a version is put whose vehicle has no bookings
 pub vehicle_fits : (new : Vehicle) (s : State) → IsSound s → HasFirstDay new
     → is_booked_from (Some new.id) new.from_day s.trips ≡ false
     → Each (FitsIn (fleet_with new s.vehicles) s.travel s.trips) s.planned
@@ -414,7 +414,7 @@ vehicle_fits new s sound day free =
     (λ same. before_free s plan new.id new.from_day sound is.0 is.1 is.2 free same) is.3) s.planned
     (sound_plans s sound)
 
--- and where a table is put and no vehicle is booked
+-- each plan still fits after a table is put, if no vehicle has bookings
 pub travel_fits : (new : DatedTable) (s : State) → IsSound s → is_booked_from None new.from_day s.trips ≡ false
     → Each (FitsIn s.vehicles (tables_with new s.travel) s.trips) s.planned
 travel_fits new s sound free =
@@ -425,7 +425,7 @@ travel_fits new s sound free =
     (sym (table_stays new plan.day s.travel (before_all_free s plan new.from_day sound is.0 is.1 is.2 free))) is.3)
     s.planned (sound_plans s sound)
 
--- A plan fits still where a trip is put that has no stop of it.
+-- A plan still fits after a trip is put that has no stop in it.
 other_fits : (vehicles : List Vehicle) (travel : List DatedTable) (trips : List Trip) (new : Trip) (plan : Plan)
     → Each (λ stop. stop.trip ≡ new.id → ⊥) plan.stops → FitsIn vehicles travel trips plan
     → FitsIn vehicles travel (put trip_key new trips) plan
@@ -435,7 +435,7 @@ other_fits vehicles travel trips new plan others fits =
 past_last : (last number next : ℕ) → number ≤ last → next ≡ last + 1 → number ≡ next → ⊥
 past_last last number next below is same = omega arith
 
--- where a trip with the next number is put, all plans fit still
+-- all plans still fit after a trip with the next number is put
 pub fit_after : (new : Trip) (s : State) → IsSound s → new.id ≡ s.last_trip + 1
     → Each (FitsIn s.vehicles s.travel (put trip_key new s.trips)) s.planned
 fit_after new s sound is =
@@ -448,7 +448,7 @@ fit_after new s sound is =
     is_sound.3)
     s.planned (sound_plans s sound)
 
--- where a trip is put over another and the other's plan is taken away, so do the plans that are left
+-- the other plans still fit after a trip is put over another and the other's plan is removed
 pub fit_beside : (old new : Trip) (s : State) → IsSound s → new.id ≡ old.id
     → record_at trip_key old.id s.trips ≡ Some old
     → Each (FitsIn s.vehicles s.travel (put trip_key new s.trips)) (take_away plan_key (plan_span old) s.planned)
@@ -462,7 +462,7 @@ fit_beside old new s sound is there =
     (place_of_old s.trips old plan stop (same ∙ is) there on) left) plan.stops is_sound.2) is_sound.3)
     s.planned (sound_plans s sound)
 
--- what is left of a plan without a trip fits
+-- the rest of a plan without a trip fits
 without_fits : (s : State) (plan : Plan) (k : ℕ) → IsSound s → IsRoutePlan plan
     → CanServe s.vehicles s.travel plan.vehicle plan.day (stops_among s.trips plan.stops)
     → CanServe s.vehicles s.travel plan.vehicle plan.day (stops_among s.trips (without k plan.stops))
@@ -514,7 +514,7 @@ left_of_plan old new s (Some plan) sound day is found =
     (subst (λ (d : ℕ). CanServe s.vehicles s.travel old.vehicle d (stops_among s.trips left)) (sym place.1)
     (subst (λ (v : ℕ). CanServe s.vehicles s.travel v plan.day (stops_among s.trips left)) (sym place.0) fits)))
 
--- what is left where a trip's stops are given up fits
+-- the rest fits after a trip's stops are removed
 pub left_fits : (old new : Trip) (s : State) → IsSound s → HasDay old → new.id ≡ old.id
     → Each (FitsIn s.vehicles s.travel (put trip_key new s.trips))
     (plan_of_stops old (without old.id (planned_stops old.vehicle old.wish.day s.planned)))
@@ -530,7 +530,7 @@ pub has_stops : (k : ℕ) (stops : List PlannedStop) → has_trip k stops ≡ tr
 has_stops k [] some = absurd (cc)
 has_stops k (stop ∷ later) some = omega arith
 
--- a trip that stands is among those of its day and stays where another is put
+-- a trip that is not cancelled is among those of its day, and stays when another is put
 in_both : (new : Trip) (number vehicle day : ℕ) (s : State) (stop : PlannedStop) → IsSound s → IsDay day
     → new.id ≡ number → StandsIn s.trips (pair_key vehicle day) stop.trip → not (stop.trip == number) ≡ true
     → IsInBoth (trips_on day s.trips) (put trip_key new s.trips) stop.trip

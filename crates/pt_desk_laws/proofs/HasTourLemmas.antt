@@ -40,7 +40,7 @@ find_both p q (x ∷ xs) = step p x (find (λ y. p y && q y) xs) (filter q xs) (
     step p x rest ys false true is same = same ∙ ap (λ b. cond b (Some x) (find p ys)) (sym is)
     step p x rest ys false false is same = same
 
--- of vehicles by rising number, one of this number is the one that is found
+-- if vehicle numbers rise, the vehicle with this number is the one that is found
 find_one : (Q : Vehicle → Type 0) (id : ℕ) (ys : List Vehicle) → IsInOrder id_of ys
     → Some_of (λ v. (v.id ≡ id) × Q v) ys → (v : Vehicle) × (find (λ (y : Vehicle). y.id == id) ys ≡ Some v) × Q v
 find_one Q id [] order some = absurd some
@@ -59,7 +59,7 @@ find_one Q id (y ∷ ys) order (inr some) =
       holds,
     )
 
--- the trips of a plan that stand in it are those of its day
+-- the trips of a plan are those of its day
 same_stops : (day : ℕ) (plan : Plan) (trips : List Trip) (stops : List PlannedStop) → Each HasDay trips
     → IsOnDay plan → plan.day ≡ day → Each (λ stop. StandsIn trips (plan_key plan) stop.trip) stops
     → stops_among (trips_on day trips) stops ≡ stops_among trips stops
@@ -75,7 +75,7 @@ same_stops day plan trips (stop ∷ later) days on is each =
     ∙ ap (λ rest. after_stop (record_at trip_key stop.trip trips) stop.kind rest)
     (same_stops day plan trips later days on is each.1)
 
--- a plan with stops, whose trips stand in it, has stops to drive
+-- a plan with stops, whose trips are in it and not cancelled, has stops to drive
 some_stops : (trips : List Trip) (key : ℕ) (stops : List PlannedStop)
     → Each (λ stop. StandsIn trips key stop.trip) stops → 0 < length stops → 0 < length (stops_among trips stops)
 some_stops trips key [] each some = some

@@ -1,4 +1,4 @@
--- Who holds a key after a request.
+-- The holder of a key after a request.
 use Rattle.std.proofs.Common.{◌≡◌, ◌≢◌, ◌⊎◌, inl, inr, ◌∙◌, ℕ, ◌<◌, Bool, true, false, List, [], ◌∷◌, cond}
 use Rattle.std.proofs.Common.{Some, None, arith, refl, sym, ap, subst}
 use Rattle.std.specs.Prelude.{bytes_eq, find}
@@ -35,7 +35,7 @@ find_here p x xs passes = ap (λ b. cond b (Some x) (find p xs)) passes
 find_past : {A : Type 0} (p : A → Bool) (x : A) (xs : List A) → p x ≡ false → find p (x ∷ xs) ≡ find p xs
 find_past p x xs fails = ap (λ b. cond b (Some x) (find p xs)) fails
 
--- what holds of each that passes holds of the first that does
+-- a property of each that passes holds for the first that passes
 found_holds : {A : Type 0} (P : A → Type 0) (p : A → Bool) (a : A) (xs : List A)
     → Each (λ x. p x ≡ true → P x) xs → find p xs ≡ Some a → P a
 found_holds P p a [] each found = absurd (cc)
@@ -52,7 +52,7 @@ none_found : {A : Type 0} (p : A → Bool) (xs : List A) → Each (λ x. p x ≡
 none_found p [] each = refl
 none_found p (x ∷ xs) each = find_past p x xs each.0 ∙ none_found p xs each.1
 
--- what holds of each with a new record among them held of each before, where it holds of the one in whose place it came
+-- a property of all after a put held for all before it, if it holds for the replaced one
 Each-before : {A : Type 0} (P : A → Type 0) (key : A → ℕ) (new : A) (xs : List A)
     → ((x : A) → key x ≡ key new → P x) → Each P (put key new xs) → Each P xs
 Each-before P key new [] own each = tt
@@ -63,7 +63,7 @@ Each-before P key new (x ∷ xs) own each = elim (compared (key x) (key new)) [
   | inr (inr gt) ↦ let now = subst (Each P) (put_before key new x xs gt) each in now.1
 ]
 
--- the first that passes is still there where a record that does not pass comes in another's place
+-- the first that passes is still the first after a put over another record, if the new one does not pass
 found_still : {A : Type 0} (p : A → Bool) (key : A → ℕ) (new a : A) (xs : List A) → p new ≡ false
     → key a ≢ key new → find p xs ≡ Some a → find p (put key new xs) ≡ Some a
 found_still p key new a [] fails other found = absurd (cc)
@@ -82,7 +82,7 @@ found_still p key new a (x ∷ xs) fails other found = elim (compared (key x) (k
   | inr (inr gt) ↦ ap (find p) (put_before key new x xs gt) ∙ find_past p new (x ∷ xs) fails ∙ found
 ]
 
--- where all that pass have the new record's key, and it passes, it is the first that does
+-- if all that pass have the new record's key, and it passes, it is the first
 found_new : {A : Type 0} (p : A → Bool) (key : A → ℕ) (new : A) (xs : List A) → p new ≡ true
     → Each (λ x. p x ≡ true → key x ≡ key new) xs → find p (put key new xs) ≡ Some new
 found_new p key new [] passes each = find_here p new [] passes
@@ -95,7 +95,7 @@ found_new p key new (x ∷ xs) passes each = elim (compared (key x) (key new)) [
   | inr (inr gt) ↦ ap (find p) (put_before key new x xs gt) ∙ find_here p new (x ∷ xs) passes
 ]
 
--- where all that pass have its key, and it does not pass, none passes any more
+-- if all that pass have its key, and it does not pass, none passes any longer
 fails_above : {A : Type 0} (p : A → Bool) (key : A → ℕ) (new : A) (xs : List A) → Each (λ x. key new < key x) xs
     → Each (λ x. p x ≡ true → key x ≡ key new) xs → find p xs ≡ None
 fails_above p key new [] above each = refl
@@ -129,7 +129,7 @@ none_passes p key new (x ∷ xs) fails order each = elim (compared (key x) (key 
 abbrev has_digest : List ℕ → Caller → Bool
 has_digest digest caller = bytes_eq caller.digest digest
 
--- where no two callers have one digest, all who have a caller's digest have the caller's number
+-- if no two callers have the same digest, all with a caller's digest have the caller's number
 of_holder : (digest : List ℕ) (me : Caller) (callers : List Caller) → me.digest ≡ digest
     → Each (λ b. me.digest ≡ b.digest → me.id ≡ b.id) callers
     → Each (λ b. has_digest digest b ≡ true → b.id ≡ me.id) callers
@@ -137,7 +137,7 @@ of_holder digest me callers has each =
     Each-weaker (λ b. me.digest ≡ b.digest → me.id ≡ b.id) (λ b. has_digest digest b ≡ true → b.id ≡ me.id)
     (λ b one is. sym (one (has ∙ sym ((bytes_eq-Decides b.digest digest).0 is)))) callers each
 
--- any that is found has what all have
+-- the one that is found has the property of all
 found_one : {A : Type 0} (P : A → Type 0) (p : A → Bool) (a : A) (xs : List A) → Each P xs → find p xs ≡ Some a → P a
 found_one P p a xs each found =
     found_holds P p a xs (Each-weaker P (λ x. p x ≡ true → P x) (λ x holds passes. holds) xs each) found
@@ -148,7 +148,7 @@ digest_of digest me callers found =
     (bytes_eq-Decides me.digest digest).0 (found_holds (λ c. has_digest digest c ≡ true) (has_digest digest) me callers
     (each_passes (has_digest digest) callers) found)
 
--- where no two callers have one digest once this one is put, all who have its digest before have its number
+-- if no two callers have the same digest after a put, all with the new one's digest had its number
 before_put : (digest : List ℕ) (new : Caller) (callers : List Caller)
     → Each (HasOneHolder (put caller_key new callers)) (put caller_key new callers) → has_digest digest new ≡ true
     → Each (λ b. has_digest digest b ≡ true → b.id ≡ new.id) callers
@@ -166,7 +166,7 @@ put_holds new callers one =
     let itself = (bytes_eq-Decides new.digest new.digest).1 refl in
     found_new (has_digest new.digest) caller_key new callers itself (before_put new.digest new callers one itself)
 
--- what is put of the callers keeps the key with its caller, or the caller is put under another
+-- the put callers leave the key with its caller, or give the caller another key
 abbrev StaysOrIsLost : List ℕ → Caller → Caller → List Caller → Type 0
 StaysOrIsLost digest me new callers =
     (option_map (λ (c : Caller). c.id) (find (has_digest digest) (put caller_key new callers)) ≡ Some me.id)

@@ -1,4 +1,4 @@
--- The numbers of accepted writes, what is kept of them, and what a write is told that is sent again.
+-- The numbers of accepted writes, kept requests, and the answer to a write that is sent again.
 use Rattle.std.proofs.Common.{◌≡◌, ◌≢◌, inl, inr, ◌∙◌, ℕ, zero, suc, ◌+◌, ◌<◌, nat_lt, Bool, true, false, IsTrue}
 use Rattle.std.proofs.Common.{List, [], ◌∷◌, map, Option, Some, None, arith, cond, refl, sym, ap, subst}
 use Rattle.std.specs.Prelude.{◌==◌, ◌&&◌, bytes_eq, is_some, slice_index}
@@ -54,12 +54,12 @@ use Rattle.pt_desk_rules.specs.Request.TheVariants as request
 use Rattle.pt_desk_rules.specs.Write.{Write}
 use Rattle.pt_desk_rules.specs.Write.TheVariants as write
 
--- what an accepted write makes of the callers
+-- the callers that an accepted write puts
 abbrev pub callers_by : Write → Edit Caller
 callers_by (write.PutCaller new) = puts_one new
 callers_by _ = no_edit
 
--- an acceptance makes this of the callers, and nothing of what is kept
+-- an accepted write puts these callers and no kept request
 abbrev pub Makes : Edit Caller → Decision → Type 0
 Makes callers (decision.Denied first) = Unit {0}
 Makes callers (decision.Accepted told change) = (change.kept ≡ no_edit) × (change.callers ≡ callers)
@@ -102,7 +102,7 @@ decided_makes (write.Outcome trip outcome) author today facts decided is =
     end_makes facts.booking.trip outcome decided is
 decided_makes asked author today facts decided is = subst (Makes (callers_by asked)) (sym is) (refl, refl)
 
--- and with what is kept of the write, this of its own caller
+-- an accepted write puts these callers and its own caller's kept request
 abbrev Keeps : Edit Caller → ℕ → Sent → Decision → Type 0
 Keeps callers me sent (decision.Denied first) = Unit {0}
 Keeps callers me sent (decision.Accepted told change) =
@@ -121,14 +121,14 @@ decision_keeps None asked me now sent facts decided (made, is, keeps) =
     subst (Keeps (callers_by asked) me.id sent) (sym keeps)
     (made_keeps (callers_by asked) me.id sent made (decided_makes asked me.id now.day facts made is))
 
--- what an accepted write is told can be kept
+-- the answer to an accepted write can be stored
 told_again : (told : Answer) → is_of_write told ≡ true → told ≡ answer_of (unwrap_or (reply_of told) reply.Done)
 told_again Done is = refl
 told_again (Entered position) is = refl
 told_again (Booked told) is = refl
 told_again _ is = absurd (cc)
 
--- a number that is new is above that of the write that is kept
+-- a new number is above that of the kept request
 new_where : (b : Bool) (other : Arrival) → (other ≡ New → ⊥) → cond b New other ≡ New → IsTrue b
 new_where true other not is = refl
 new_where false other not is = absurd (not is)
@@ -145,7 +145,7 @@ new_is_above number bytes (Some kept) is =
     below_is kept.number number (new_where (nat_lt kept.number number) _
     (repeated_is_not_new (kept.number == number && bytes_eq kept.request bytes) kept.reply) is)
 
--- what is kept of each caller once this is put
+-- the kept request of each caller after this one is put
 kept_same : (kept : Kept) (s new : State) → new.kept ≡ put kept_key kept s.kept → kept_of kept.caller new ≡ Some kept
 kept_same kept s new is = ap (record_at kept_key kept.caller) is ∙ record_at-put_same kept_key kept s.kept
 
@@ -188,7 +188,7 @@ write_is_kept New asked me now number s new told comes (decided, is, made, tells
     (decision_is first asked me now sent facts decided is)
     (decision_keeps first asked me now sent facts decided is) tells leaves
 
--- what an accepted write leaves of the callers
+-- the callers after an accepted write
 callers_after : (asked : Write) (me : ℕ) (sent : Sent) (s new : State) (decided : Decision)
     → Keeps (callers_by asked) me sent decided → Some new ≡ left_of decided s
     → new.callers ≡ edited caller_key (callers_by asked) s.callers
@@ -214,7 +214,7 @@ accepted_writes_are_kept key now number asked me s new told by outcome =
     write_is_kept (arrival_in s asked me number) asked me now number s new told refl
     (subst (λ c. IsOutcomeBy c now number (request.Write asked) s told (Some new)) by outcome)
 
--- a write with the number and the spelling of the one that is kept is that one
+-- a write with the number and spelling of the kept request is that request
 same_again : (told : KeptReply) (below same equal : Bool) → below ≡ false → same ≡ true → equal ≡ true
     → cond below New (cond (same && equal) (Repeated told) Stale) ≡ Repeated told
 same_again told true same equal level one other = absurd (cc)
@@ -242,7 +242,7 @@ repeats_are_told_the_same key now asked me kept s told left by found same outcom
     ap (λ o. arrival_of kept.number (spelling asked) o) found ∙ comes_again kept (spelling asked) same in
     subst (λ a. IsOutcomeAs a asked me now kept.number s told left) comes written
 
--- What a call makes of what is kept of a caller: nothing, or it is a write that is accepted.
+-- The effect of a call on a caller's kept request: none, or the call is an accepted write.
 abbrev Moves : ℕ → State → State → Option Kept → Type 0
 Moves id s after None = kept_of id after ≡ kept_of id s
 Moves id s after (Some kept) = (kept_of id after ≡ Some kept) × (last_number id s < kept.number)
@@ -272,7 +272,7 @@ own_moves me now number (request.Write asked) s told (Some new) outcome =
     own_write me number asked told s new
     (write_is_kept (arrival_in s asked me number) asked me now number s new told refl outcome)
 
--- and one by another
+-- a call by another caller
 other_moves : (id : ℕ) (me : Caller) (now : Moment) (number : ℕ) (asked : Request) (s : State) (told : Answer)
     (left : Option State) → id ≢ me.id → IsOutcomeBy (Some me) now number asked s told left
     → Moves id s (state_after left s) None
@@ -305,7 +305,7 @@ call_moves : (id : ℕ) (call : Call) (s : State)
     → Moves id s (state_after call.left s) (kept_from id (sender call.key s) call)
 call_moves id call s outcome = call_moves_by id (sender call.key s) call s outcome
 
--- the last of a list with one more before it
+-- the last of a list with one more element before it
 last_moves : (id : ℕ) (s next : State) (one : Option Kept) (later : List Kept) (found : Option Kept)
     → Moves id s next one → found ≡ last_or (kept_of id next) later
     → found ≡ last_or (kept_of id s) (cons_option one later)
@@ -319,7 +319,7 @@ last_accepted_is_kept id s after (call ∷ later) (outcome, rest) =
     (accepted_writes id (state_after call.left s) later) (kept_of id after) (call_moves id call s outcome)
     (last_accepted_is_kept id (state_after call.left s) after later rest)
 
--- a number below the first of rising ones rises with them
+-- a number below the first of a rising list makes a rising list with it
 rises_one : (n : ℕ) → IsStrictlyIncreasing (n ∷ [])
 rises_one n k within = absurd (omega arith)
 
@@ -356,7 +356,7 @@ commits_by_write (Some me) now number (request.Explain rider wish) s told left n
     absurd (let none = sym is ∙ outcome.1 in cc)
 commits_by_write (Some me) now number (request.Write asked) s told left new is outcome = tt
 
--- what committed nothing was kept of nobody
+-- a call that committed nothing leaves no kept request
 none_kept : (id : ℕ) (found : Option Caller) (call : Call) → call.left ≡ None → kept_from id found call ≡ None
 none_kept id None call is = refl
 none_kept id (Some me) call is =
@@ -402,7 +402,7 @@ accepted_writes_make_the_state s after (call ∷ later) (outcome, rest) =
     made_with s after call later (committed later) call.left refl outcome
     (accepted_writes_make_the_state (state_after call.left s) after later rest)
 
--- what was kept of the write is still kept where no other was accepted
+-- the kept request stays if no other write was accepted
 still_kept : (id : ℕ) (s after : State) (calls : List Call) → AreCalls s calls after → accepted_writes id s calls ≡ []
     → kept_of id after ≡ kept_of id s
 still_kept id s after calls are none =

@@ -66,7 +66,7 @@ use Rattle.pt_booking.proofs.RuleLemmas.{first-unique}
 use Rattle.pt_desk_rules.specs.Explaining.{next_trip, IsExplainedAfter, IsToldPossible}
 use Rattle.pt_desk_laws.proofs.ReadLemmas.{bool_one, least_one, like, read_one, uses_one}
 
--- the facts make one request of a wish
+-- the facts determine the request of a wish
 request_one : (facts : WriteFacts) (number : ℕ) (left_out : Option ℕ) (today : ℕ) (wish : Wish) (a b : Request)
     → IsRequestBy facts number left_out today wish a → IsRequestBy facts number left_out today wish b → a ≡ b
 request_one facts number left_out today wish a b one two =
@@ -93,7 +93,7 @@ request_one facts number left_out today wish a b one two =
       wish = wish i;
     }
 
--- of things by rising numbers one has a number
+-- if numbers rise, a number determines its element
 numbered_one : {A : Type 0} (number : A → ℕ) (xs : List A) → AllPairs (λ x y. number x < number y) xs → (x y : A)
     → Contains xs x → Contains xs y → number x ≡ number y → x ≡ y
 numbered_one {A} number xs rising x y (j, below_j, at_j) (k, below_k, at_k) same =
@@ -121,7 +121,7 @@ duty_one : (trip : ℕ) (vehicles : List OnDuty) (x y : OnDuty) → AreRoutes tr
 duty_one trip vehicles x y routes at here same =
     numbered_one (λ (duty : OnDuty). duty.vehicle.id) vehicles routes.rising x y at here same
 
--- no possible place comes before the best, and so the best place is one
+-- no possible place is before the best one, so the best place is determined
 no_worse : (minutes : ℕ → ℕ → Option ℕ) (vehicles : List OnDuty) (asked : Asked) (a b : Chosen)
     → IsBestPlace minutes vehicles asked a → IsBestPlace minutes vehicles asked b
     → IsNoWorseThan b a.added a.vehicle a.i a.j
@@ -145,7 +145,7 @@ place_one minutes vehicles asked a b one two =
     = omega (arith, x.then_drop added vehicle pickup, y.then_drop (sym added) (sym vehicle) (sym pickup)) in
     (vehicle, pickup, drop)
 
--- its pickup is planned for one minute
+-- its pickup minute is determined
 pickup_one : (minutes : ℕ → ℕ → Option ℕ) (trip : ℕ) (vehicles : List OnDuty) (asked : Asked) (a b : Chosen)
     → AreRoutes trip vehicles → IsBestPlace minutes vehicles asked a → IsBestPlace minutes vehicles asked b
     → planned_pickup a ≡ planned_pickup b
@@ -165,7 +165,7 @@ pickup_one minutes trip vehicles asked a b routes one two =
     chosen.schedule moved (a.i + 1)
     ∙ ap (λ (i : ℕ). slice_index b.schedule.items (i + 1)) pickup
 
--- the trip that is kept is one
+-- the stored trip is determined
 fare_one : (asked : Request) (a b : ℕ) → IsFare asked a → IsFare asked b → a ≡ b
 fare_one asked a b (joined, is, costs) (also, it, cost) =
     costs ∙ ap (fare_of asked.policy) (bool_one joined also (λ yes. it.1 (is.0 yes)) (λ yes. is.1 (it.0 yes)))
@@ -206,7 +206,7 @@ trip_one minutes asked vehicle promised a b one two =
       ride_in_range = is_prop→PathP (λ j. ride j ≤ 1_679) (λ j. at_most-prop _ _) a.ride_in_range b.ride_in_range i;
     }
 
--- and so is the new plan of its vehicle
+-- the new plan of its vehicle is determined
 abbrev plan_with : ℕ → Trip → List Stop → Plan
 plan_with vehicle trip stops =
     record { vehicle = vehicle; day = trip.wish.day; stops = map planned_stop stops }
@@ -241,7 +241,7 @@ booked_one minutes vehicles asked trip also plan other routes (a, one) (b, two) 
     (subst (λ t. Any (λ duty. IsPlanWith minutes duty t b other) vehicles) (sym trips) two.plan_of) in
     λ i. scheduled.Booked (trips i) (plans i)
 
--- what is denied where the vehicles have routes fails that rule first
+-- if the vehicles have routes, a denial names the first rule to fail
 pub denied_first : (minutes : ℕ → ℕ → Option ℕ) (vehicles : List OnDuty) (asked : Request) (rule : Rule)
     → AreRoutes asked.trip vehicles → IsScheduled minutes vehicles asked (scheduled.Denied rule)
     → IsFirstFailing (booking_rules minutes vehicles asked) (Some rule)
@@ -259,7 +259,7 @@ came_first minutes vehicles asked (scheduled.Denied rule) routes is =
     denied_first minutes vehicles asked rule routes is
 came_first minutes vehicles asked (scheduled.Booked trip plan) routes is = is.0
 
--- one thing comes of a request, and of a wish
+-- a request has one result, and so has a wish
 came_one : (minutes : ℕ → ℕ → Option ℕ) (vehicles : List OnDuty) (asked : Request) (a b : Scheduled)
     → AreRoutes asked.trip vehicles → denial_of a ≡ denial_of b → IsScheduled minutes vehicles asked a
     → IsScheduled minutes vehicles asked b → a ≡ b
@@ -286,7 +286,7 @@ wish_one number left_out today wish facts a b routes (asked, by, (minutes, times
     (came_first minutes vehicles asked a there is) (came_first minutes vehicles asked b there moved) in
     came_one minutes vehicles asked a b there first is moved
 
--- a trip is confirmed in one way
+-- a trip has one confirmation
 confirmed_one : (trip : Trip) (a b : Confirmation) → IsConfirmation trip a → IsConfirmation trip b → a ≡ b
 confirmed_one trip a b one two =
     let number = one.number ∙ sym two.number in
@@ -350,7 +350,7 @@ decided_one (write.Outcome trip outcome) author today s d e routes one two =
     end_one facts.booking.trip outcome d e one two
 decided_one asked author today s d e routes one two = one ∙ sym two
 
--- a new write is decided in one way
+-- a new write has one decision
 decision_one : (first : Option Rule) (asked : Write) (me : Caller) (now : Moment) (sent : Sent) (s : State)
     (d e : Decision) → HasRoutes s → IsDecisionAfter first asked me now sent (facts_of asked s) d
     → IsDecisionAfter first asked me now sent (facts_of asked s) e → d ≡ e
@@ -372,7 +372,7 @@ write_one New asked me now number s told other left also routes (d, is, made, te
     let same = decision_one first asked me now (sent_with number asked) s d e routes is it in
     (tells ∙ ap told_of same ∙ sym tell, leaves ∙ ap (λ d. left_of d s) same ∙ sym leave)
 
--- an explanation is told one thing
+-- an explanation has one answer
 possible_one : (found : Scheduled) (told other : Answer) → IsToldPossible found told → IsToldPossible found other
     → told ≡ other
 possible_one (scheduled.Booked trip plan) told other one two = one ∙ sym two

@@ -30,14 +30,14 @@ use Rattle.pt_desk_rules.specs.Request.TheVariants as request
 use Rattle.pt_desk_rules.specs.Write.{Write}
 use Rattle.pt_desk_rules.specs.Write.TheVariants as write
 
--- what an accepted write is told
+-- the answers to accepted writes
 abbrev pub is_of_write : Answer → Bool
 is_of_write Done = true
 is_of_write (Entered position) = true
 is_of_write (Booked told) = true
 is_of_write _ = false
 
--- an acceptance is told as that of a write
+-- an accepted decision has the answer of a write
 abbrev pub IsOfWrite : Decision → Type 0
 IsOfWrite (decision.Denied first) = Unit {0}
 IsOfWrite (decision.Accepted told change) = is_of_write told ≡ true
@@ -66,7 +66,7 @@ decided_is (write.Cancel trip) author today facts decided is = cancel_is facts.b
 decided_is (write.Outcome trip outcome) author today facts decided is = end_is facts.booking.trip outcome decided is
 decided_is _ author today facts decided is = subst IsOfWrite (sym is) refl
 
--- what is kept with it is not told
+-- the kept request does not change the answer
 kept_is : (me : ℕ) (sent : Sent) (made : Decision) → IsOfWrite made → IsOfWrite (with_kept me sent made)
 kept_is me sent (decision.Denied first) is = tt
 kept_is me sent (decision.Accepted told change) is = is
@@ -90,7 +90,7 @@ write_commits_nothing New asked me now number s told left (decided, is, made, te
     leaves
     ∙ denial_changes_nothing decided s (decision_is (first_failing (rules_of asked me now facts)) asked me now (sent_with number asked) facts decided is) (ap is_of_write (sym tells) ∙ other)
 
--- what is not told as an accepted write is, as a denial, commits nothing
+-- a request whose answer is not that of an accepted write commits nothing
 pub commits_nothing : (caller : Option Caller) (now : Moment) (number : ℕ) (asked : Request) (s : State) (told : Answer) (left : Option State)
     → IsOutcomeBy caller now number asked s told left → is_of_write told ≡ false → left ≡ None
 commits_nothing None now number asked s told left (tells, leaves) other = leaves
@@ -99,7 +99,7 @@ commits_nothing (Some me) now number (request.Explain rider wish) s told left (t
 commits_nothing (Some me) now number (request.Write asked) s told left outcome other =
     write_commits_nothing (arrival_in s asked me number) asked me now number s told left outcome other
 
--- nor does a read
+-- a read commits nothing
 pub read_commits_nothing : (caller : Option Caller) (now : Moment) (number : ℕ) (asked : Read) (s : State) (told : Answer) (left : Option State)
     → IsOutcomeBy caller now number (request.Read asked) s told left → left ≡ None
 read_commits_nothing None now number asked s told left (tells, leaves) = leaves

@@ -1,4 +1,4 @@
--- A rider's trips are told by nothing but the caller, the rider's record and the trips.
+-- The answer about a rider's trips depends only on the caller, the rider's record and the trips.
 use Rattle.std.proofs.Common.{◌≡◌, ℕ, List, Option, Some, None, refl, sym, ◌∙◌, subst}
 use Rattle.pt_desk_rules.specs.Rule.{Rule}
 use Rattle.pt_desk_rules.specs.Moment.{Moment}
@@ -15,7 +15,7 @@ use Rattle.pt_desk_rules.specs.Answer.{Answer}
 use Rattle.pt_desk_rules.specs.Read.TheVariants as read
 use Rattle.pt_desk_rules.specs.Request.TheVariants as request
 
--- one thing is told of one rider's trips
+-- a question about a rider's trips has one answer
 told_once : (first : Option Rule) (rider today : ℕ) (facts : ReadFacts) (told also : Answer) → IsToldAfter first (read.Trips rider) today facts told → IsToldAfter first (read.Trips rider) today facts also
     → told ≡ also
 told_once (Some rule) rider today facts told also one two = one ∙ sym two

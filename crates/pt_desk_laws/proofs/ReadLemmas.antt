@@ -1,4 +1,4 @@
--- A read in one state is told one thing.
+-- A read in one state has one answer.
 use Rattle.std.proofs.Common.{◌≡◌, ◌↔◌, ◌∙◌, ℕ, zero, suc, ◌+◌, Bool, true, false, IsTrue, List, [], ◌∷◌, length}
 use Rattle.std.proofs.Common.{inl, inr, take, Option, Some, None, arith, refl, sym, ap, subst}
 use Rattle.std.specs.List.{AllZip}
@@ -52,7 +52,7 @@ use Rattle.std.specs.List.Sorted.{IsStrictlyIncreasing}
 use Rattle.std.proofs.lemmas.Bool.Decides.{eqb_tells, nat_tests}
 use Rattle.pt_scheduling.specs.Uses.{AreUses}
 
--- rising numbers with the same members are the same
+-- two rising lists with the same members are the same
 abbrev has : ℕ → List ℕ → Bool
 has d xs = list_any (λ u. u == d) xs
 

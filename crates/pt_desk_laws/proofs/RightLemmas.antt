@@ -1,4 +1,4 @@
--- What is denied in a sound state fails the rule that is told, first of all rules.
+-- In a sound state, the rule that a denial names is the first of all rules to fail.
 use Rattle.std.proofs.Common.{◌≡◌, ◌∙◌, ◌+◌, inl, inr, ℕ, Option, Some, None, refl, sym, ap, subst}
 use Rattle.pt_desk_rules.specs.Rule.{Rule}
 use Rattle.pt_desk_rules.specs.Trip.{Trip}
@@ -48,7 +48,7 @@ end_is_accepted : (found : Option Trip) (outcome : Outcome) (rule : Rule) (d : D
 end_is_accepted None outcome rule d denied is = is
 end_is_accepted (Some trip) outcome rule d denied is = absurd (cc)
 
--- an acceptance is not told as a denial
+-- the answer to an accepted write is not a denial
 told_denied : (rule : Rule) (d : Decision) → IsOfWrite d → answer.Denied rule ≡ told_of d → d ≡ decision.Denied rule
 told_denied rule (decision.Denied first) of is = cc
 told_denied rule (decision.Accepted told change) of is = absurd (let same = ap is_of_write is ∙ of in cc)
@@ -102,7 +102,7 @@ first_of_trip (write.Outcome trip outcome) author today s rule decided routes de
     end_is_accepted facts.booking.trip outcome rule decided denied is
 first_of_trip _ author today s rule decided routes denied is = absurd (cc)
 
--- nor is what is decided a denial with what is kept alone
+-- the kept request does not turn a decision into a denial
 denied_made : (me : ℕ) (sent : Sent) (rule : Rule) (made : Decision) → with_kept me sent made ≡ decision.Denied rule
     → made ≡ decision.Denied rule
 denied_made me sent rule (decision.Denied first) is = is

@@ -1,4 +1,4 @@
--- In a sound state the manifest of a vehicle shows none but the trips that stand in it on the day.
+-- In a sound state the manifest of a vehicle shows only its trips of the day that are not cancelled.
 use Rattle.std.proofs.Common.{◌≡◌, ℕ, List, [], ◌∷◌, Option, Some, None, refl, sym, ap, ◌∙◌, subst}
 use Rattle.std.specs.Prelude.{◌==◌, slice_get}
 use Rattle.pt_desk_rules.specs.Load.{Load}
@@ -41,7 +41,7 @@ after_of P trips stop (Some trip) rest found holds each = (
   each,
 )
 
--- what holds of the trips of planned stops holds of the trips of the stops that are taken from them
+-- a property of the trips of planned stops holds for the trips of the stops that are selected from them
 each_among : (P : ℕ → Type 0) (trips : List Trip) (stops : List PlannedStop)
     → Each (λ (stop : PlannedStop). P stop.trip) stops → Each (λ (s : Stop). P s.trip) (stops_among trips stops)
 each_among P trips [] each = tt
@@ -49,7 +49,7 @@ each_among P trips (stop ∷ later) each =
     after_of P trips stop (record_at trip_key stop.trip trips) (stops_among trips later) refl each.0
     (each_among P trips later each.1)
 
--- a trip that stands in the vehicle and on the day of a plan
+-- a trip in the vehicle and on the day of a plan that is not cancelled
 stands_on : (s : State) (id day vehicle number : ℕ) → IsSound s → IsDay day → vehicle ≡ id
     → StandsIn s.trips (pair_key vehicle day) number → StandsOn s id day number
 stands_on s id day vehicle number sound is_day own (trip, found, standing, place) =
@@ -74,7 +74,7 @@ stop_stands s vehicle day k stop sound at =
     (each_among (StandsIn s.trips (pair_key vehicle day)) (trips_on day s.trips) planned
     (standing_at s.trips vehicle day (planned_on day s.planned) plans)) k stop at
 
--- what is shown of a stop has the number of its trip
+-- the shown stop has the number of its trip
 number_of : (trips : List Trip) (stop : Stop) (trip : Trip) (minute : ℕ) (aboard : Load) (shown : TourStop)
     → record_at trip_key stop.trip trips ≡ Some trip → shown ≡ tour_stop stop.kind trip minute aboard
     → shown.trip ≡ stop.trip
@@ -111,7 +111,7 @@ by_duty s id day (Some version) sheet tour k shown sound is_day of shows is at =
     let own : version.id ≡ id = found_key id_of id version (on_duty day s.vehicles) found in
     shown_stands s id day version sheet.tour tour k shown sound is_day own shows.tour is at
 
--- in a sound state manifests show no trip but those that stand
+-- in a sound state manifests show only trips that are not cancelled
 pub show_standing_trips : (s : State) → IsSound s → ShowStandingTrips s
 show_standing_trips s sound id day sheet tour k shown is_day shows is at =
     by_duty s id day (duty_of id day s.vehicles) sheet tour k shown sound is_day refl shows is at

@@ -1,4 +1,4 @@
--- What a request leaves is sound where what it found is.
+-- A request in a sound state leaves a sound state.
 use Rattle.std.proofs.Common.{rules, ◌≡◌, ℕ, ◌+◌, ◌<◌, ◌≤◌, ◌||◌, nat_lt, Bool, true, false, not, IsTrue, List, [], ◌∷◌, ◌++◌, length, take, min, Option, Some, None, is_some, arith, cond, refl, sym, ap, ◌∙◌, subst, inl, inr}
 use Rattle.std.specs.Prelude.{◌&&◌, ◌==◌, find, filter, bytes_eq}
 use Rattle.std.proofs.lemmas.Bool.Decides.{nat_tests}
@@ -91,14 +91,14 @@ held_by new x xs true is one free rest =
 held_by new x xs false is one free rest =
     ((λ same. absurd (let yes = (bytes_eq-Decides x.digest new.digest).1 (sym same) in cc)), rest free)
 
--- whoever has the digest has the number
+-- every caller with the digest has the number
 holders_are : (new : Caller) (callers : List Caller) → Each (HasOneHolder callers) callers → IsTrue (is_nobody_else new.id (find (λ caller. bytes_eq caller.digest new.digest) callers))
     → Each (λ other. new.digest ≡ other.digest → new.id ≡ other.id) callers
 holders_are new [] one free = tt
 holders_are new (x ∷ xs) one free = held_by new x xs (bytes_eq x.digest new.digest) refl one free
     (λ free. holders_are new xs (Each-weaker (HasOneHolder (x ∷ xs)) (HasOneHolder xs) (λ a holds. holds.1) xs one.1) free)
 
--- no two callers have one digest, the new one among them
+-- no two callers have the same digest, including the new one
 one_holder-put : (new : Caller) (callers : List Caller) → Each (HasOneHolder callers) callers → Each (λ other. new.digest ≡ other.digest → new.id ≡ other.id) callers
     → Each (HasOneHolder (put caller_key new callers)) (put caller_key new callers)
 one_holder-put new callers one are =
@@ -137,7 +137,7 @@ hold_both true true is also = refl
 hold_both true false is also = also
 hold_both false b is also = absurd (cc)
 
--- places that are there stay there
+-- places that exist still exist
 rows_stay : (new : Place) (places : List Place) (rows : List Row) → IsTrue (are_there rows places) → IsTrue (are_there rows (put place_key new places))
 rows_stay new places [] are = refl
 rows_stay new places (row ∷ rows) are =
@@ -188,7 +188,7 @@ below_length n (x ∷ xs) numbered =
     let rest = below_length (n + 1) xs numbered.1 in
     (omega arith, Each-weaker (λ filed. filed.position < n + 1 + length xs) (λ filed. filed.position < n + length (x ∷ xs)) (λ filed lt. omega arith) xs rest)
 
--- one entry more after the others
+-- one more entry after the others
 numbered-more : (n : ℕ) (xs : List FiledEntry) (new : FiledEntry) → AreNumberedFrom n xs → new.position ≡ n + length xs → AreNumberedFrom n (xs ++ new ∷ [])
 numbered-more n [] new numbered at = (omega arith, tt)
 numbered-more n (x ∷ xs) new numbered at = (numbered.0, numbered-more (n + 1) xs new numbered.1 (omega arith))
@@ -243,7 +243,7 @@ whole_file rider s room =
     let taken : length (take 200 xs) ≡ min 200 (length xs) = length-take 200 xs in
     omega arith
 
--- what is kept is a write of a caller who is there
+-- a kept request is a write of a caller who exists
 abbrev IsKeptIn : List Caller → Kept → Type 0
 IsKeptIn callers kept = IsIn caller_key callers kept.caller × IsKeptWrite kept
 
@@ -328,7 +328,7 @@ accepted_sound s decided told change before is puts sound =
 numbered_on : (last next : ℕ) → last ≤ next → (trips : List Trip) → Each (IsNumberedTo last) trips → Each (IsNumberedTo next) trips
 numbered_on last next le trips numbered = Each-weaker (IsNumberedTo last) (IsNumberedTo next) (λ trip below. omega arith) trips numbered
 
--- the records that a trip speaks of are there
+-- the records that a trip names exist
 abbrev IsThere : State → Trip → Type 0
 IsThere s trip = IsOfRider s.riders trip × HasPlaces s.places trip
 
@@ -357,7 +357,7 @@ put_all_order : (plans : List Plan) (there : List Plan) → IsInOrder plan_key t
 put_all_order [] there order = order
 put_all_order (plan ∷ plans) there order = put_all_order plans (put plan_key plan there) (IsInOrder-put plan_key plan there order)
 
--- what is left of a plan is a route, and so is a plan that is put beside it
+-- the rest of a plan is a route, and so is a plan that is put with it
 left_routes : (trip : Trip) (stops : List PlannedStop) → IsPlannedRoute stops → Each IsRoutePlan (plan_of_stops trip stops)
 left_routes trip [] route = tt
 left_routes trip (stop ∷ later) route = (route, tt)
@@ -388,7 +388,7 @@ edit_sound trip away plans s sound below there new standing beside planned_all s
     let ends = Each-put (HasPlaces s.places) trip_key trip s.trips sound.trip_places_there there.1 in
     search rules
 
--- the stops that stand of a plan without a trip
+-- the stops of a plan without a trip are a route
 left_there : (trip : Trip) (s : State) → IsSound s → IsPlannedRoute (without trip.id (stops_of_plan (plan_for (Some trip) s)))
 left_there trip s sound = left_route trip.id (stops_of_plan (plan_for (Some trip) s)) (planned_route trip.vehicle trip.wish.day s.planned sound.planned_routes)
 
@@ -400,7 +400,7 @@ booked_there minutes number day request trip plan s sound is booked =
     (Each-filter IsRoutePlan (λ plan. plan.day == day) s.planned sound.planned_routes)
     (subst (λ (n : ℕ). IsBookedIn minutes (routes_on n day s) request trip plan) (sym is) booked)
 
--- the trips of its plan stand
+-- the trips of its plan are not cancelled
 booked_stand : (minutes : ℕ → ℕ → Option ℕ) (number day : ℕ) (request : request_of.Request) (trip : Trip) (plan : Plan) (s : State) → IsSound s → request.trip ≡ number → trip.wish.day ≡ day
     → IsBookedIn minutes (routes_on number day s) request trip plan → HasStandingTrips (put trip_key trip s.trips) plan
 booked_stand minutes number day request trip plan s sound is on booked =
@@ -413,7 +413,7 @@ booked_stand minutes number day request trip plan s sound is on booked =
     (Each-filter (HasStandingTrips s.trips) (λ plan. plan.day == day) s.planned sound.planned_trips_stand)))
     (subst (λ (n : ℕ). IsBookedIn minutes (routes_on n day s) request trip plan) (sym is) booked)
 
--- what a booked trip speaks of is there
+-- the records that a booked trip names exist
 booked_is_there : (minutes : ℕ → ℕ → Option ℕ) (number day rider : ℕ) (wish : Wish) (request : request_of.Request) (trip : Trip) (plan : Plan) (s : State) → request.trip ≡ number
     → rider_of rider s ≡ Some request.rider → record_at place_key wish.from s.places ≡ Some request.from → record_at place_key wish.to s.places ≡ Some request.to → request.wish ≡ wish
     → IsBookedIn minutes (routes_on number day s) request trip plan → IsThere s trip
@@ -423,7 +423,7 @@ booked_is_there minutes number day rider wish request trip plan s is there from 
       subst (λ (w : Wish). IsIn place_key s.places w.from × IsIn place_key s.places w.to) (sym of_request) (ap is_some from, ap is_some to),
     )
 
--- what is known of each trip that is kept
+-- the facts about each stored trip
 abbrev IsKept : State → Trip → Type 0
 IsKept s trip = (record_at trip_key trip.id s.trips ≡ Some trip) × HasDay trip × IsPlanned s.planned trip × IsNumberedTo s.last_trip trip
 
@@ -436,7 +436,7 @@ kept_each s sound =
     (Each-both (IsPlanned s.planned) (IsNumberedTo s.last_trip) (λ (t : Trip). IsPlanned s.planned t × IsNumberedTo s.last_trip t) (λ t planned below. (planned, below)) s.trips
     sound.standing_planned sound.trips_numbered))
 
--- the plan of a trip that is booked has each trip that stood in its vehicle on its day
+-- the plan of a booked trip has each other trip of its vehicle and day that is not cancelled
 booked_keeps_others : (minutes : ℕ → ℕ → Option ℕ) (number day : ℕ) (request : request_of.Request) (trip : Trip) (plan : Plan) (s : State) (other : Trip) → IsSound s → request.trip ≡ number → trip.id ≡ number
     → trip.wish.day ≡ day → IsDay day → (other.id ≡ trip.id → ⊥) → IsKept s other → IsTrue (stands other.status) → IsBookedIn minutes (routes_on number day s) request trip plan
     → pair_key other.vehicle other.wish.day ≡ plan_key plan → has_trip other.id plan.stops ≡ true
@@ -452,7 +452,7 @@ booked_keeps_others minutes number day request trip plan s other sound is own on
     (left_has other.id request.trip (planned_stops plan.vehicle day (planned_on day s.planned)) (λ alike. differ (alike ∙ is ∙ sym own)) (has_on plan.vehicle day other.id s.planned is_day (planned_days s sound) there))
     (subst (λ (n : ℕ). IsBookedIn minutes (routes_on n day s) request trip plan) (sym is) booked)
 
--- and the trip itself
+-- it has the trip itself
 booked_has_own : (minutes : ℕ → ℕ → Option ℕ) (number day : ℕ) (request : request_of.Request) (trip : Trip) (plan : Plan) (s : State) → request.trip ≡ number → trip.id ≡ number
     → IsBookedIn minutes (routes_on number day s) request trip plan → has_trip trip.id plan.stops ≡ true
 booked_has_own minutes number day request trip plan s is own booked =
@@ -465,7 +465,7 @@ key_of_plan trip plan vehicle day = rw (vehicle, day) refl
 next_number : (last id next : ℕ) → id ≤ last → next ≡ last + 1 → id ≡ next → ⊥
 next_number last id next below is same = omega arith
 
--- with a trip that is booked, each trip that stands is planned
+-- with a booked trip, each trip that is not cancelled is planned
 book_planned : (minutes : ℕ → ℕ → Option ℕ) (day : ℕ) (request : request_of.Request) (trip : Trip) (plan : Plan) (s : State) → IsSound s → request.trip ≡ s.last_trip + 1 → trip.id ≡ s.last_trip + 1
     → trip.wish.day ≡ day → IsDay day → IsBookedIn minutes (routes_on (s.last_trip + 1) day s) request trip plan → Each (IsPlanned (put plan_key plan s.planned)) (put trip_key trip s.trips)
 book_planned minutes day request trip plan s sound is own on is_day booked =
@@ -485,7 +485,7 @@ one_more_put old (stop ∷ later) plan there = refl
 abbrev left_of_trip : Trip → State → List PlannedStop
 left_of_trip old s = without old.id (planned_stops old.vehicle old.wish.day s.planned)
 
--- the same with a trip that is changed
+-- the same with a changed trip
 change_planned : (minutes : ℕ → ℕ → Option ℕ) (day : ℕ) (request : request_of.Request) (old trip : Trip) (plan : Plan) (s : State) → IsSound s → HasDay old → request.trip ≡ old.id → trip.id ≡ old.id
     → trip.wish.day ≡ day → IsDay day → IsBookedIn minutes (routes_on old.id day s) request trip plan
     → Each (IsPlanned (put_all plan_key (plan_of_stops old (left_of_trip old s) ++ plan ∷ []) (take_away plan_key (plan_span old) s.planned))) (put trip_key trip s.trips)
@@ -501,7 +501,7 @@ change_planned minutes day request old trip plan s sound old_day is own on is_da
     s.trips (kept_each s sound))
     (λ standing. put_planned trip plan there (key_of_plan trip plan vehicle of_day) (booked_has_own minutes old.id day request trip plan s is own booked)))
 
--- and where one is cancelled
+-- the same with a cancelled trip
 cancel_planned : (trip : Trip) (s : State) → IsSound s → HasDay trip
     → Each (IsPlanned (put_all plan_key (plan_of_stops trip (left_of_trip trip s)) (take_away plan_key (plan_span trip) s.planned))) (put trip_key (cancelled trip) s.trips)
 cancel_planned trip s sound day =
@@ -588,7 +588,7 @@ outcome_sound outcome None id s decided sound puts found booked ends = absurd en
 outcome_sound outcome (Some trip) id s decided sound puts found booked is =
     accepted_sound s decided _ _ sound is puts (λ ranges. end_sound outcome id trip s sound found booked ranges)
 
--- the facts of a change and of a cancellation have the trip that is there
+-- the facts of a change and of a cancellation have the trip, if it exists
 pub change_trip : (found : Option Trip) (wish : Wish) (s : State) → (change_facts found wish s).booking.trip ≡ found
 change_trip None wish s = refl
 change_trip (Some trip) wish s = refl
@@ -597,7 +597,7 @@ pub cancel_trip : (found : Option Trip) (s : State) → (cancel_facts found s).b
 cancel_trip None s = refl
 cancel_trip (Some trip) s = refl
 
--- what an accepted write makes of a sound state
+-- an accepted write leaves a sound state
 decided_sound : (asked : Write) (me : Caller) (now : Moment) (s : State) (made : Decision) → IsSound s → IsIn caller_key s.callers me.id → AllHold (rules_of asked me now (facts_of asked s))
     → IsDecidedBy asked me.id now.day (facts_of asked s) made → IsRequest asked → PutsInRangeIf made → IsSound (state_after (left_of made s) s)
 decided_sound (write.PutCaller new) me now s made sound there hold is asked puts =
@@ -631,12 +631,12 @@ decided_sound (write.Cancel trip) me now s made sound there hold is asked puts =
 decided_sound (write.Outcome trip outcome) me now s made sound there hold is asked puts =
     outcome_sound outcome (trip_of trip s) trip s made sound puts refl hold.1.1.0 is
 
--- a caller who is there stays there
+-- a caller who exists still exists
 caller_stays : (asked : Write) (id : ℕ) (callers : List Caller) → IsIn caller_key callers id → IsIn caller_key (edited caller_key (callers_by asked) callers) id
 caller_stays (write.PutCaller new) id callers there = stays_there caller_key id new callers there
 caller_stays _ id callers there = there
 
--- what is kept of the write leaves it sound: no more than that is changed
+-- the kept request leaves a sound state, since nothing else changes
 kept_sound : (asked : Write) (me : ℕ) (sent : Sent) (s : State) (made : Decision) → IsIn caller_key s.callers me → ((reply : KeptReply) → IsKeptWrite (kept_by me sent reply))
     → Makes (callers_by asked) made → PutsInRangeIf (with_kept me sent made) → IsSound (state_after (left_of made s) s) → IsSound (state_after (left_of (with_kept me sent made) s) s)
 kept_sound asked me sent s (Denied first) there write makes puts sound = sound
@@ -678,6 +678,6 @@ by_sound digest (Some me) now number (request.Explain rider wish) s told left is
 by_sound digest (Some me) now number (request.Write asked) s told left is sound outcome =
     write_sound asked me now number s (arrival_in s asked me number) told left sound (found_by_key caller_key (λ caller. bytes_eq caller.digest digest) me s.callers is) refl outcome
 
--- a request leaves a sound state where it finds one
+-- a request in a sound state leaves a sound state
 pub request_sound : (key : List ℕ) (now : Moment) (number : ℕ) (asked : Request) (s : State) (told : Answer) (left : Option State) → IsSound s → IsOutcome key now number asked s told left → IsSound (state_after left s)
 request_sound key now number asked s told left sound outcome = by_sound (sha256 key) (sender key s) now number asked s told left refl sound outcome

@@ -1,4 +1,4 @@
--- Each trip that stands is in the plan of its vehicle on its day.
+-- Each trip that is not cancelled is in the plan of its vehicle on its day.
 use Rattle.std.proofs.Common.{◌≡◌, ℕ, ◌<◌, ◌≤◌, Bool, true, false, List, [], ◌∷◌, Option, Some, None, cond, refl, sym, ap, ◌∙◌, inl, inr, arith}
 use Rattle.std.specs.Prelude.{◌==◌, filter}
 use Rattle.std.proofs.lemmas.Bool.Decides.{nat_tests}
@@ -34,11 +34,11 @@ record_at-filter key k x test (y ∷ ys) holds found =
 pub is_same : (n k : ℕ) → n ≡ k → (n == k) ≡ true
 is_same n k same = grind (arith, nat_tests)
 
--- the trips of its day have a trip
+-- a trip is found among the trips of its day
 pub trip_on : (day : ℕ) (trip : Trip) (trips : List Trip) → trip.wish.day ≡ day → record_at trip_key trip.id trips ≡ Some trip → record_at trip_key trip.id (trips_on day trips) ≡ Some trip
 trip_on day trip trips on found = record_at-filter trip_key trip.id trip (λ t. t.wish.day == day) trips (is_same trip.wish.day day on) found
 
--- a vehicle and a day are told by their key
+-- a key determines its vehicle and its day
 pub same_vehicle : (v d w e : ℕ) → d ≤ 47_481 → e ≤ 47_481 → pair_key v d ≡ pair_key w e → v ≡ w
 same_vehicle v d w e low high same = omega arith
 
@@ -52,7 +52,7 @@ plan_on vehicle day k plans (Some plan) is days found some =
     let on : plan.day ≡ day = same_day plan.vehicle plan.day vehicle day (Each-found IsOnDay plan_key (pair_key vehicle day) plan plans days found).1 is.1 (found_key plan_key (pair_key vehicle day) plan plans found) in
     ap (λ f. has_trip k (stops_of_plan f)) (record_at-filter plan_key (pair_key vehicle day) plan (λ p. p.day == day) plans (is_same plan.day day on) found) ∙ some
 
--- the plans of a day have what its plans have
+-- a trip in the plans is in those of its day
 pub has_on : (vehicle day k : ℕ) (plans : List Plan) → IsDay day → Each IsOnDay plans → has_trip k (planned_stops vehicle day plans) ≡ true → has_trip k (planned_stops vehicle day (planned_on day plans)) ≡ true
 has_on vehicle day k plans is days some = plan_on vehicle day k plans (record_at plan_key (pair_key vehicle day) plans) is days refl some
 
@@ -71,7 +71,7 @@ each_found (x ∷ xs) order = (
       (λ y above found. record_at-past trip_key y.id x xs (λ same. omega arith) ∙ found) xs order.0 (each_found xs order.1),
 )
 
--- what holds of all records but those of its key, and of a new one, holds with it put
+-- a property of all records with other keys, and of a new one, holds for all after the new one is put
 pub Each-put_over : {A : Type 0} (P : A → Type 0) (key : A → ℕ) (new : A) (xs : List A) → IsInOrder key xs → Each (λ x. (key x ≡ key new → ⊥) → P x) xs → P new → Each P (put key new xs)
 Each-put_over P key new [] order each holds = (holds, tt)
 Each-put_over P key new (x ∷ xs) order each holds = elim (compared (key x) (key new)) [
@@ -88,7 +88,7 @@ outside k key other = grind (arith, nat_tests)
 taken_elsewhere : (old : Trip) (plans : List Plan) (k : ℕ) → (k ≡ pair_key old.vehicle old.wish.day → ⊥) → record_at plan_key k (take_away plan_key (plan_span old) plans) ≡ record_at plan_key k plans
 taken_elsewhere old plans k other = record_at-take_other plan_key k (plan_span old) plans (outside k (pair_key old.vehicle old.wish.day) other)
 
--- what is left of the plans where a trip's stops are given up
+-- the plans after a trip's stops are removed
 abbrev pub plans_left : Trip → List PlannedStop → List Plan → List Plan
 plans_left old left plans = put_all plan_key (plan_of_stops old left) (take_away plan_key (plan_span old) plans)
 
@@ -103,7 +103,7 @@ left_there old [] plans k some = absurd (cc)
 left_there old (stop ∷ later) plans k some =
     ap (has_trip k) (put_key (record { vehicle = old.vehicle; day = old.wish.day; stops = stop ∷ later }) (take_away plan_key (plan_span old) plans) (pair_key old.vehicle old.wish.day) refl) ∙ some
 
--- where a trip's stops are given up, another trip keeps its own
+-- when a trip's stops are removed, another trip keeps its own
 pub stays_planned : (old trip : Trip) (plans : List Plan) → HasDay old → HasDay trip → (trip.id ≡ old.id → ⊥) → has_trip trip.id (planned_stops trip.vehicle trip.wish.day plans) ≡ true
     → has_trip trip.id (planned_stops trip.vehicle trip.wish.day (plans_left old (without old.id (planned_stops old.vehicle old.wish.day plans)) plans)) ≡ true
 stays_planned old trip plans old_day day other some = elim (same_or_other (pair_key trip.vehicle trip.wish.day) (pair_key old.vehicle old.wish.day)) [
@@ -115,7 +115,7 @@ stays_planned old trip plans old_day day other some = elim (same_or_other (pair_
       ap (λ f. has_trip trip.id (stops_of_plan f)) (left_elsewhere old (without old.id (planned_stops old.vehicle old.wish.day plans)) plans (pair_key trip.vehicle trip.wish.day) elsewhere) ∙ some
 ]
 
--- where a plan is put that has the trips which were in its vehicle on its day, each trip keeps its stops
+-- when a plan is put that has the trips of its vehicle and day, each trip keeps its stops
 pub stays_beside : (trip : Trip) (plan : Plan) (plans : List Plan) → (pair_key trip.vehicle trip.wish.day ≡ plan_key plan → has_trip trip.id plan.stops ≡ true)
     → has_trip trip.id (planned_stops trip.vehicle trip.wish.day plans) ≡ true → has_trip trip.id (planned_stops trip.vehicle trip.wish.day (put plan_key plan plans)) ≡ true
 stays_beside trip plan plans gives some = elim (same_or_other (pair_key trip.vehicle trip.wish.day) (plan_key plan)) [
@@ -128,7 +128,7 @@ pub put_planned : (trip : Trip) (plan : Plan) (plans : List Plan) → pair_key t
     → has_trip trip.id (planned_stops trip.vehicle trip.wish.day (put plan_key plan plans)) ≡ true
 put_planned trip plan plans same some = ap (has_trip trip.id) (put_key plan plans (pair_key trip.vehicle trip.wish.day) same) ∙ some
 
--- a trip of the vehicle and day of a plan is one of its own vehicle and day
+-- a trip with the key of a plan has the plan's vehicle and day
 pub same_place : (trip : Trip) (plan : Plan) → HasDay trip → IsOnDay plan → pair_key trip.vehicle trip.wish.day ≡ plan_key plan → (trip.vehicle ≡ plan.vehicle) × (trip.wish.day ≡ plan.day)
 same_place trip plan day on same = (
   same_vehicle trip.vehicle trip.wish.day plan.vehicle plan.day day.1 on.1 same,

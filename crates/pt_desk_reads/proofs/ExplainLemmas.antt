@@ -1,4 +1,4 @@
--- What explanations are told, and what a refusal stands on.
+-- The answers to explanations, and the facts of a refusal.
 use Rattle.std.proofs.Common.{◌≡◌, inl, inr, ◌∙◌, ℕ, ◌<◌, Bool, true, false, List, [], ◌∷◌, Option, Some, None}
 use Rattle.std.proofs.Common.{map, All, AllPairs, refl, sym, ap, subst}
 use Rattle.std.specs.Prelude.{◌≢◌, ◌&&◌, nat_lt, is_some, IfOk, IfSome, IfNone, Vec, Result, Ok, Err}
@@ -69,7 +69,7 @@ before_vehicles request first (inr (a, inr (b, inr (c, inr (d, inr (e, inr (g, i
 before_vehicles request first (inr (a, inr (b, inr (c, inr (d, inr (e, inr (g, inr (h, none)))))))) =
     absurd (cc)
 
--- and so do those before them
+-- the rules before them come before vehicles too
 limits_first : (dispatcher there room : Bool) (first : Rule)
     → first_failing ((rule.Caller, dispatcher) ∷ (rule.Unknown, there) ∷ (rule.Full, room) ∷ []) ≡ Some first
     → first ≢ rule.NoVehicle
@@ -100,7 +100,7 @@ inquired wish me now facts (inquiry.Facts found) none is = (none, is)
 inquired wish me now facts (inquiry.Denied first) none is =
     (explained wish me now facts (answer.Denied first) None none is.0, is.1)
 
--- what is answered is told
+-- the result of a wish gives its answer
 pub told_of : (number : ℕ) (wish : Wish) (today : ℕ) (facts : WriteFacts) (found : Scheduled) (told : Answer)
     → number ≡ next_trip facts → IsAnswered number None today wish facts found → IsToldPossible found told
     → IsExplainedAfter None wish today facts told
@@ -142,7 +142,7 @@ rider_denied wish today facts request rows minutes first by same times fails = (
   λ routes. before_vehicles request first fails,
 )
 
--- where the vehicles have no routes, `no vehicle` is told
+-- if the vehicles have no routes, the answer is `no vehicle`
 pub no_routes_denied : (number : ℕ) (wish : Wish) (today : ℕ) (facts : WriteFacts) (request : Request) (rows : List Row)
     (minutes : ℕ → ℕ → Option ℕ) → number ≡ next_trip facts
     → IsRequestBy facts (next_trip facts) None today wish request → rows ≡ rows_of facts.booking.day.travel
@@ -228,7 +228,7 @@ lent_are_without trip duties vehicles same (rising, without) =
       new_trip = All-map (λ (duty : OnDuty). IsWithout trip duty.stops) lent duties without;
     })
 
--- the vehicles that the facts lend
+-- the vehicles that the facts give, borrowed with their routes
 pub duties_rise : {E : Type 0} (trip : ℕ) (vehicles there : List OnDuty) (r : Result (Vec Duty Global) E)
     → AreWithout trip vehicles → there ≡ vehicles → IfOk r (λ duties. on_duty duties.items ≡ there)
     → IfOk r (λ duties. AllPairs (λ first second. first.vehicle.now.id < second.vehicle.now.id) duties.items)
@@ -253,14 +253,14 @@ pub none_found : (facts : WriteFacts) (trip : ℕ) (wish : Wish) (found : Option
     → AreRoutesOf facts trip wish found → ¬ AreRoutes trip (routes_for trip wish facts)
 none_found facts trip wish found is are = subst (λ o. AreRoutesOf facts trip wish o) is are
 
--- what comes of it all
+-- the result of the whole question
 pub inquired_by : {E : Type 0} (wish : Wish) (me : Caller) (now : Moment) (facts : WriteFacts) (r : Result Inquiry E)
     → first_failing (explain_rules wish me facts) ≡ None → IfOk r (λ found. IsInquiryAfter wish now.day facts found)
     → IfOk r (λ found. IsInquiry wish me now facts found)
 inquired_by wish me now facts (Ok found) none is = inquired wish me now facts found none is
 inquired_by wish me now facts (Err e) none is = tt
 
--- a test that fails where these hold
+-- a test that fails under these conditions
 pub never_lent : (trip : ℕ) (wish : Wish) (facts : WriteFacts) (routes : List OnDuty) (duties : List Duty)
     → on_duty duties ≡ routes → routes ≡ routes_for trip wish facts
     → ¬ (AllPairs (λ first second. first.vehicle.now.id < second.vehicle.now.id) duties

@@ -1,4 +1,4 @@
--- What comes of a wish.
+-- The result of a wish.
 use Rattle.std.proofs.Common.{◌≡◌, ℕ, List, Option, Some, Result, Ok, Err, IfOk, subst, sym, refl, ap, ◌∙◌}
 use Rattle.pt_records.specs.Records.{Edit}
 use Rattle.pt_base.specs.declared.rule.Rule.{Rule}
@@ -60,13 +60,13 @@ answered_of number left_out today wish facts request vehicles r same by holds =
     (subst (λ (n : ℕ). IfOk r (λ s. IsScheduledBy rows (routes_without n request.wish.day day.trips day.plans vehicles)
     request s)) by.trip holds)))
 
--- a wish that is denied
+-- a wish that is denied is decided by the denial
 pub denied : (change : Trip → Plan → Change) (number given : ℕ) (left_out : Option ℕ) (today : ℕ) (wish : Wish) (facts : WriteFacts) (found : Scheduled) (rule : Rule)
     → given ≡ number → found ≡ scheduled.Denied rule → IsAnswered given left_out today wish facts found → IsBooking change number left_out today wish facts (Denied rule)
 denied change number given left_out today wish facts found rule same is by =
     (scheduled.Denied rule, subst (λ (n : ℕ). IsAnswered n left_out today wish facts (scheduled.Denied rule)) same (subst (λ s. IsAnswered given left_out today wish facts s) is by), refl)
 
--- and one that is booked
+-- a wish that is booked is decided by the confirmation
 pub confirmed : (change : Trip → Plan → Change) (number given : ℕ) (left_out : Option ℕ) (today : ℕ) (wish : Wish) (facts : WriteFacts) (found : Scheduled) (trip : Trip) (plan : Plan) (made : Change) (decided : Decision)
     → given ≡ number → found ≡ scheduled.Booked trip plan → IsAnswered given left_out today wish facts found
     → (told : Confirmation) × IsConfirmation trip told × (decided ≡ Accepted (answer.Booked told) made)
@@ -77,7 +77,7 @@ confirmed change number given left_out today wish facts found trip plan made dec
   (told, confirms, is_told ∙ ap (λ (c : Change). Accepted (answer.Booked told) c) changes),
 )
 
--- the change of the trip that is there
+-- the change of a trip that exists
 pub of_trip : (found : Option Trip) (old : Trip) (today : ℕ) (wish : Wish) (facts : WriteFacts) (decided : Decision) → found ≡ Some old
     → IsBooking (changed old facts.booking.plan) old.id (Some old.id) today wish facts decided → IsChangeDecided found wish today facts decided
 of_trip found old today wish facts decided is booking = subst (λ f. IsChangeDecided f wish today facts decided) (sym is) booking
@@ -88,7 +88,7 @@ pub booked_made : (none : Change) (trips : Edit Trip) (planned : Edit Plan) (tri
     → record none { trips = trips; planned = planned; last_trip = Some trip.id } ≡ booked trip plan
 booked_made none trips planned trip plan is trips_are planned_are = rw (planned_are, trips_are, is) refl
 
--- and of one that is changed
+-- the change of a trip that is changed
 pub changed_made : (none : Change) (trips : Edit Trip) (planned : Edit Plan) (old : Trip) (left : Option Plan) (trip : Trip)
     (plan : Plan) → none ≡ no_change → trips ≡ puts_one trip → planned ≡ moves_to old left plan
     → record none { trips = trips; planned = planned } ≡ changed old left trip plan

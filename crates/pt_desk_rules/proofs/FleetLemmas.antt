@@ -12,7 +12,7 @@ use Rattle.pt_desk_rules.specs.Fleet.{has_version, vehicle_count, versions_of, v
 use Rattle.pt_desk_rules.specs.Sound.{HasFirstDay, IsFleet}
 use Rattle.pt_desk_rules.specs.State.{vehicle_key, versions_from}
 
--- what passes a test, where the record that is put does not
+-- a put record that fails a test changes nothing in what passes it
 pub filter-put_other : {A : Type 0} (key : A → ℕ) (test : A → Bool) (new : A) (P : A → Type 0) → ((x : A) → P x → key x ≡ key new → test x ≡ false) → test new ≡ false → (xs : List A) → Each P xs
     → filter test (put key new xs) ≡ filter test xs
 filter-put_other key test new P same out [] each = ap (λ b. cond b (new ∷ []) []) out
@@ -35,7 +35,7 @@ no_fewer : {A : Type 0} (x : A) (ys : List A) (b : Bool) → length ys ≤ lengt
 no_fewer x ys true = omega arith
 no_fewer x ys false = omega arith
 
--- at most one more passes it
+-- after a put, at most one more record passes a test
 pub length-filter-put : {A : Type 0} (key : A → ℕ) (test : A → Bool) (new : A) (xs : List A) → length (filter test (put key new xs)) ≤ length (filter test xs) + 1
 length-filter-put key test new [] = one_more new [] (test new)
 length-filter-put key test new (x ∷ xs) = elim (compared (key x) (key new)) [
@@ -49,7 +49,7 @@ taken_step : {A : Type 0} (test : A → Bool) (x : A) (ys xs : List A) (b : Bool
 taken_step test x ys xs true out same = ap (λ zs. cond (test x) (x ∷ zs) zs) same
 taken_step test x ys xs false out same = same ∙ sym (ap (λ b. cond b (x ∷ filter test xs) (filter test xs)) (out refl))
 
--- what passes a test, where all that is taken away does not
+-- if all removed records fail a test, the rest has the same records that pass it
 pub filter-kept : {A : Type 0} (test kept : A → Bool) (P : A → Type 0) → ((x : A) → P x → kept x ≡ false → test x ≡ false) → (xs : List A) → Each P xs → filter test (filter kept xs) ≡ filter test xs
 filter-kept test kept P out [] each = refl
 filter-kept test kept P out (x ∷ xs) each = taken_step test x (filter kept xs) xs (kept x) (out x each.0) (filter-kept test kept P out xs each.1)
@@ -63,14 +63,14 @@ twice_step test x ys zs true true false is gives le = absurd (let no = gives ref
 twice_step test x ys zs true false true is gives le = subst (λ b. length (cond b (x ∷ filter test ys) (filter test ys)) ≤ length (x ∷ zs)) (sym is) (omega arith)
 twice_step test x ys zs true false false is gives le = subst (λ b. length (cond b (x ∷ filter test ys) (filter test ys)) ≤ length zs) (sym is) le
 
--- what passes two tests is no more than what passes a third that they give
+-- records that pass two tests are no more than those that pass a third test, which follows from the two
 length-filter_twice : {A : Type 0} (test kept wider : A → Bool) (P : A → Type 0) → ((x : A) → P x → test x ≡ true → kept x ≡ true → wider x ≡ true) → (xs : List A) → Each P xs
     → length (filter test (filter kept xs)) ≤ length (filter wider xs)
 length-filter_twice test kept wider P gives [] each = omega arith
 length-filter_twice test kept wider P gives (x ∷ xs) each =
     twice_step test x (filter kept xs) (filter wider xs) (kept x) (test x) (wider x) refl (gives x each.0) (length-filter_twice test kept wider P gives xs each.1)
 
--- of two versions with one key the vehicle is one
+-- two versions with the same key are of the same vehicle
 same_vehicle : (id first other day : ℕ) → first ≤ 47_481 → day ≤ 47_481 → pair_key id first ≡ pair_key other day → id ≡ other
 same_vehicle id first other day low high same = omega arith
 
@@ -87,7 +87,7 @@ is_other id other differ = grind (arith, nat_tests)
 taken_is_own : (id day other first : ℕ) → first ≤ 47_481 → not (is_within (pair_key other first) (versions_from id day)) ≡ false → other ≡ id
 taken_is_own id day other first low taken = grind (arith, nat_tests)
 
--- and what is not is of an earlier day
+-- a version of this vehicle that stays is of an earlier day
 left_is_earlier : (id day other first : ℕ) → first ≤ 47_481 → (other == id) ≡ true → not (is_within (pair_key other first) (versions_from id day)) ≡ true → ((other == id) && nat_lt first day) ≡ true
 left_is_earlier id day other first low same left = grind (arith, nat_tests)
 
@@ -110,7 +110,7 @@ taken_is_late : (id day other first : ℕ) → first ≤ 47_481
     → not (is_within (pair_key other first) (versions_from id day)) ≡ false → day ≤ first
 taken_is_late id day other first low taken = grind (arith, nat_tests)
 
--- a new version leaves those that pass a test, where none of its vehicle's of its day and later does
+-- a new version changes nothing in what passes a test, if no later version of its vehicle passes it
 pub kept_versions : (test : Vehicle → Bool) (new : Vehicle) (vehicles : List Vehicle) → HasFirstDay new
     → Each HasFirstDay vehicles
     → ((version : Vehicle) → version.id ≡ new.id → new.from_day ≤ version.from_day → test version ≡ false)
@@ -126,7 +126,7 @@ kept_versions test new vehicles day days out =
     (λ x first taken. out x (taken_is_own new.id new.from_day x.id x.from_day first.1 taken)
     (taken_is_late new.id new.from_day x.id x.from_day first.1 taken)) vehicles days
 
--- a new version leaves those of other vehicles
+-- a new version leaves the versions of other vehicles
 pub others_stay : (new : Vehicle) (vehicles : List Vehicle) → HasFirstDay new → Each HasFirstDay vehicles → versions_of_others new.id (fleet_with new vehicles) ≡ versions_of_others new.id vehicles
 others_stay new vehicles day days =
     let kept = λ (version : Vehicle). not (is_within (vehicle_key version) (versions_from new.id new.from_day)) in
@@ -164,7 +164,7 @@ own_put new (x ∷ xs) = elim (compared (vehicle_key x) (vehicle_key new)) [
   | inr (inr gt) ↦ rw (put_before vehicle_key new x xs gt) (own_first new (x ∷ xs))
 ]
 
--- a vehicle that is there stays there
+-- a vehicle that exists still exists after a new version
 pub version_stays : (new : Vehicle) (id : ℕ) (vehicles : List Vehicle) → HasFirstDay new → Each HasFirstDay vehicles → has_version id vehicles ≡ true → has_version id (fleet_with new vehicles) ≡ true
 version_stays new id vehicles day days there = elim (same_or_other id new.id) [
   | inl same ↦ subst (λ n. has_version n (fleet_with new vehicles) ≡ true) (sym same) (own_put new (take_away vehicle_key (versions_from new.id new.from_day) vehicles))
@@ -182,7 +182,7 @@ no_version : (id : ℕ) (vehicles : List Vehicle) → has_version id vehicles �
 no_version id [] none = refl
 no_version id (x ∷ xs) none = none_step id x xs (x.id == id) refl none (no_version id xs)
 
--- a version of another vehicle counts where no later one is there
+-- a version of another vehicle counts if no later one follows
 pub others_counted : (id : ℕ) (x : Vehicle) (xs : List Vehicle) → (x.id ≡ id → ⊥)
     → vehicle_count (versions_of_others id (x ∷ xs)) ≡ cond (has_version x.id xs) (vehicle_count (versions_of_others id xs)) (vehicle_count (versions_of_others id xs) + 1)
 others_counted id x xs differ =
@@ -200,7 +200,7 @@ other_step : (n m : ℕ) (b : Bool) → n ≤ m + 1 → cond b n (n + 1) ≤ con
 other_step n m true le = le
 other_step n m false le = omega arith
 
--- a vehicle is one beside the others
+-- there is at most one vehicle more than the others
 pub one_beside : (id : ℕ) (vehicles : List Vehicle) → vehicle_count vehicles ≤ vehicle_count (versions_of_others id vehicles) + 1
 one_beside id [] = omega arith
 one_beside id (x ∷ xs) =

@@ -1,4 +1,4 @@
--- Records keep to their ranges: in a sound state, and after a change whose puts do.
+-- Records are in their ranges: in a sound state, and after a change whose records are in range.
 use Rattle.std.proofs.Common.{◌≡◌, ℕ, not, List, [], ◌∷◌, ◌++◌, Option, None, Some, sym, subst}
 use Rattle.std.specs.Option.{unwrap_or}
 use Rattle.std.specs.Prelude.{IfSome}
@@ -55,7 +55,7 @@ ranges_kept change s puts ranges = record {
   last_trip = given_word change.last_trip s.last_trip puts.last_trip ranges.last_trip;
 }
 
--- the same where no more is changed than what is kept
+-- the same if only a kept request changes
 kept_fits : (kept : Kept) (s : State) → FitsKept kept → KeepsRanges s → (p : Part)
     → Each (FitsIn p) (records_of p (record s { kept = put kept_key kept s.kept }))
 kept_fits kept s fits ranges part.kept = Each-put FitsKept kept_key kept s.kept (ranges.parts part.kept) fits
@@ -65,7 +65,7 @@ pub kept_in_range : (kept : Kept) (s : State) → FitsKept kept → KeepsRanges 
     → KeepsRanges (record s { kept = put kept_key kept s.kept })
 kept_in_range kept s fits ranges = record { parts = kept_fits kept s fits ranges; last_trip = ranges.last_trip }
 
--- what a decision puts beside what is kept of the write
+-- what a decision puts, apart from the kept request
 parts_beside : (change : Change) (kept : Edit Kept) → change.kept ≡ no_edit
     → PutsInRange (record change { kept = kept }) → (p : Part) → Each (FitsIn p) (edit_of p change).puts
 parts_beside change kept none puts part.kept = subst (λ (edit : Edit Kept). Each FitsKept edit.puts) (sym none) tt
@@ -75,7 +75,7 @@ pub puts_beside : (change : Change) (kept : Edit Kept) → change.kept ≡ no_ed
     → PutsInRange (record change { kept = kept }) → PutsInRange change
 puts_beside change kept none puts = record { parts = parts_beside change kept none puts; last_trip = puts.last_trip }
 
--- ---- what ranges say of days
+-- ---- the ranges of days
 
 pub first_days : (s : State) → IsSound s → Each HasFirstDay s.vehicles
 first_days s sound = Each-weaker IsVehicle HasFirstDay (λ version is. is.from_day) s.vehicles (sound.ranges.parts part.vehicles)

@@ -1,4 +1,4 @@
--- Tours: what is shown of stops one after the other, and where a vehicle has one.
+-- Tours: the stops that are shown one after the other, and when a vehicle has a tour.
 use Rattle.std.proofs.Common.{◌≡◌, ℕ, ◌+◌, ◌≤◌, zero, suc, List, [], ◌∷◌, ◌++◌, length}
 use Rattle.std.proofs.Common.{take, map, Option, Some, None, refl, sym, ap, ◌∙◌, subst, arith, add-one}
 use Rattle.std.specs.List.{AllZip}
@@ -60,7 +60,7 @@ after_there trips stop (Some trip) rest found each =
       each,
     )
 
--- the trips of the stops that are taken from these are there
+-- the trips of the stops that are selected from these exist
 pub trips_there : (trips : List Trip) (stops : List PlannedStop)
     → Each (λ (s : Stop). IsIn trip_key trips s.trip) (stops_among trips stops)
 trips_there trips [] = tt
@@ -68,7 +68,7 @@ trips_there trips (stop ∷ later) =
     after_there trips stop (record_at trip_key stop.trip trips) (stops_among trips later) refl
     (trips_there trips later)
 
--- the driving times by rows are these and no other
+-- rows determine the driving times
 time_one : (rows : List Row) (from to : ℕ) (a b : Option ℕ) → IsTime rows from to a → IsTime rows from to b → a ≡ b
 time_one rows from to None None one two = refl
 time_one rows from to None (Some n) one (within, ((chain, is, total), least)) =
@@ -105,7 +105,7 @@ within_last vehicle stops b n is keeps =
     (keeps (n + 1) (depot_visit vehicle) (subst (λ (m : ℕ). slice_get (visits vehicle stops) m ≡ Some (depot_visit
     vehicle)) (ap suc (sym is) ∙ sym (add-one n)) (last_at stop_visit stops (depot_visit vehicle)))).1
 
--- a stop is shown by what its trip and the service times say
+-- a stop is shown with the values of its trip and the service times
 pub shown_at : (trips : List Trip) (stops : List Stop) (b : List ℕ) (k : ℕ) (stop : Stop) (trip : Trip)
     (shown : TourStop) → slice_get stops k ≡ Some stop → record_at trip_key stop.trip trips ≡ Some trip
     → shown.minute ≡ slice_index b (k + 1) → shown.window ≡ window_of stop.kind trip → shown.trip ≡ trip.id

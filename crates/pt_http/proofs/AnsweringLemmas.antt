@@ -1,4 +1,4 @@
--- One request answered, or not, from what its parts ensure.
+-- One request is answered or not, from what its parts ensure.
 use Rattle.std.proofs.Common.{◌≡◌, ◌∙◌, ℕ, false, List, Option, Result, Ok, Err, ap, arith, inl, inr, sym, subst}
 use Rattle.std.proofs.lemmas.Result.{IfErr-weaker, on_ok_weaker}
 use Rattle.std.specs.Result.{IsErrAnd}
@@ -20,13 +20,13 @@ use Rattle.pt_http.proofs.ExchangeLemmas.{exchanged, same_end, served}
 use Rattle.pt_http.proofs.ToldLemmas.{sent_responds}
 use Rattle.pt_http_reply.specs.Reply.{IsSent}
 
--- a fault as `?` hands it on
+-- a fault as `?` returns it
 pub handed : {T : Type 0} (P : Result T Fault → Type 0) (error : Fault) (result : Result T Fault)
     → IsErrAnd result (λ told. told ≡ error) → P (Err error) → P result
 handed P error (Ok value) is holds = absurd is
 handed {T} P error (Err told) is holds = subst (λ (it : Fault). P (Err it)) (sym is) holds
 
--- a store that nothing was asked of
+-- a store that got no request
 pub goes_nowhere : (store : Store) → GoesOn store store
 goes_nowhere store = record { clean = omega arith; serves = omega arith; settled = λ was. was }
 
@@ -38,7 +38,7 @@ goes_further old mid new first next = record {
   settled = λ was. next.settled (first.settled was);
 }
 
--- want of memory and a read that failed are no write that failed
+-- out of memory and a failed read are not a failed write
 pub no_write : (error : Fault) → IsUnanswered error → error ≡ fault write_failed → ⊥
 no_write error (inl memory) write =
     let same : 0 ≡ 47 = sym (ap (λ (it : Fault). it.code) memory) ∙ ap (λ (it : Fault). it.code) write in
@@ -53,7 +53,7 @@ told_error error other is = cc
 no_error : {T : Type 0} (value : T) (error : Fault) → ◌≡◌ {A = Result T Fault} (Ok value) (Err error) → ⊥
 no_error value error is = absurd (cc)
 
--- a call that was not answered tells so
+-- the error of a call that was not answered
 pub tells_unanswered : {T : Type 0} (old new : Store) (now : Moment) (Same : Type 0) (error : Fault)
     → IsUnanswered error → Same → TellsFailure {T = T} old new now Same (Err error)
 tells_unanswered old new now Same error unanswered same = record {
@@ -62,7 +62,7 @@ tells_unanswered old new now Same error unanswered same = record {
   fault = inl unanswered;
 }
 
--- one whose reply was not wholly written does
+-- the error of a call whose reply was not wholly written
 pub tells_unwritten : {T : Type 0} (old new : Store) (now : Moment) (Same : Type 0) (error : Fault)
     → error ≡ fault write_failed → (new.doubt ≡ 0 → (reply : Response) × ServesOver old new now reply)
     → TellsFailure {T = T} old new now Same (Err error)
@@ -72,7 +72,7 @@ tells_unwritten old new now Same error write served = record {
   fault = inr write;
 }
 
--- and one that has not failed has nothing to tell
+-- a call that succeeded has no error
 pub tells_nothing : {T : Type 0} (old new : Store) (now : Moment) (Same : Type 0) (value : T)
     → TellsFailure old new now Same (Ok value)
 tells_nothing old new now Same value = record {
@@ -81,7 +81,7 @@ tells_nothing old new now Same value = record {
   fault = tt;
 }
 
--- more is the same
+-- the same for a weaker claim
 pub tells_more : {T : Type 0} (old new : Store) (now : Moment) (Same More : Type 0) (result : Result T Fault)
     → (Same → More) → TellsFailure old new now Same result → TellsFailure old new now More result
 tells_more old new now Same More result more tells = record {
@@ -91,7 +91,7 @@ tells_more old new now Same More result more tells = record {
   fault = tells.fault;
 }
 
--- nothing was answered and nothing is changed
+-- nothing was answered and nothing changed
 pub answers_none : {T : Type 0} (Gives : List ℕ → Type 0) (Answers : List ℕ → Response → Type 0) (store : Store)
     (now : Moment) (out : Option (List ℕ)) (Same : Type 0) (error : Fault) → IsUnanswered error → Same
     → AnswersOne {T = T} Gives Answers store store now out out Same (Err error)
@@ -103,7 +103,7 @@ answers_none Gives Answers store now out Same error unanswered same = record {
   goes = goes_nowhere store;
 }
 
--- the same of bytes that come otherwise
+-- the same for bytes from another source
 pub answers_otherwise : {T : Type 0} (Gives Has : List ℕ → Type 0) (Answers Tells : List ℕ → Response → Type 0)
     (old new : Store) (now : Moment) (out_old out_new : Option (List ℕ)) (Same More : Type 0)
     (result : Result T Fault) → ((input : List ℕ) → Has input → Gives input)
@@ -121,7 +121,7 @@ answers_otherwise Gives Has Answers Tells old new now out_old out_new Same More 
   goes = one.goes;
 }
 
--- what was received is exchanged for what was sent, of which the rest is left
+-- what was received is exchanged for what was sent, and the rest is left
 pub exchanged_over : {R : Type 0} (remaining : R → Option (List ℕ)) (inbox_old inbox_new : Inbox R) (old new : Store)
     (now : Moment) (came : Received) (reply sent : Response)
     → ((input : List ℕ) → HasInput remaining inbox_old input
@@ -178,7 +178,7 @@ exchanges_unwritten remaining inbox_old inbox_new old new now out_old out_new Sa
       goes = goes;
     }
 
--- and one that was answered
+-- an exchange that was answered
 pub exchanges : {R : Type 0} (remaining : R → Option (List ℕ)) (inbox_old inbox_new : Inbox R) (old new : Store)
     (now : Moment) (out_old out_new : Option (List ℕ)) (Same : Type 0) (reply : Response)
     → (new.doubt ≡ 0 → (input : List ℕ) → HasInput remaining inbox_old input
@@ -194,7 +194,7 @@ exchanges remaining inbox_old inbox_new old new now out_old out_new Same reply e
   goes = goes;
 }
 
--- the same where the reply is not told
+-- the same if the reply is not returned
 pub answers_told : {R T : Type 0} (remaining : R → Option (List ℕ)) (inbox_old inbox_new : Inbox R)
     (old new : Store) (now : Moment) (out_old out_new : Option (List ℕ)) (Same : Type 0) (reply : Response) (value : T)
     → ExchangesOne remaining inbox_old inbox_new old new now out_old out_new Same (Ok reply)
@@ -227,7 +227,7 @@ answers_failed remaining inbox_old inbox_new old new now out_old out_new Same er
   goes = one.goes;
 }
 
--- what was told is no matter for what can be asked again
+-- a request that was answered need not be asked again
 pub again_told : {R T : Type 0} (remaining : R → Option (List ℕ)) (old new : Inbox R) (value : T)
     → CanBeAskedAgain remaining old new (Ok value)
 again_told remaining old new value = record { still_there = tt; still_held = tt }

@@ -1,4 +1,4 @@
--- Exchanges, from what was received and what the desk responds.
+-- Exchanges, from what was received and the desk's response.
 use Rattle.std.proofs.Common.{◌≡◌, ℕ, List, refl, sym, ap, subst}
 use Rattle.pt_base.specs.declared.moment.Moment.{Moment}
 use Rattle.pt_http_reply.specs.declared.response.Response.{Response}
@@ -21,7 +21,7 @@ exchanged now input (received.Refused why) old new (response.Answered told) rest
 exchanged now input (received.Refused why) old new (response.Refused named) rest begins (is, same) =
     (subst (λ fault. BeginsWithFault input fault rest) (sym is) begins, same)
 
--- the response ends the messages exactly where what was received does
+-- the response ends the messages exactly if what was received does
 pub same_end : (now : Moment) (came : Received) (old new : Desk) (reply : Response)
     → Responds now came old new reply
     → is_end came ≡ is_last reply

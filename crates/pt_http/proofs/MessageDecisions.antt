@@ -200,7 +200,7 @@ key_short head value short is =
 
 -- ---- messages
 
--- such a vector holds these bytes
+-- a vector of these bytes
 abbrev vec_of : (bytes : List ℕ) → length bytes < 2 ^ 63 → Vec ℕ
 vec_of bytes short = record {
   ptr = null_ptr;
@@ -255,7 +255,7 @@ refused bytes rest (fault.Method allowed) of_parts is = is
 refused bytes rest fault.Json of_parts is = is
 refused bytes rest (fault.Field name) of_parts is = is
 
--- a head and a body that have come
+-- a head and a body that were received
 of_parts : (bytes body rest : List ℕ) (head : RequestHead) → BeginsWithParts bytes head body rest → Spelled head body
     → MessageOrFault bytes
 of_parts bytes body rest head parts (inl found) =
@@ -268,7 +268,7 @@ of_parts bytes body rest head parts (inr found) = inr (
       (record { head = head; body = body; parts = parts; refused = found.1 }),
 )
 
--- a head that has come, and the length of its body
+-- a head that was received, and the length of its body
 of_length : (bytes after : List ℕ) (head : RequestHead) → BeginsWithHead bytes head after
     → ((size : ℕ) × IsBodyLength (lines_of head) size) ⊎ ((size : ℕ) → ¬ (IsBodyLength (lines_of head) size))
     → MessageOrFault bytes

@@ -39,7 +39,7 @@ reads_input remaining old new input reads has =
     let on = reads_known remaining old new has.left reads has.known in
     record { left = on.0; known = on.1; whole = has.whole ∙ on.2 }
 
--- what holds of each error holds of that of a result
+-- a property of each error holds for the error of a result
 pub on_err : {T E : Type 0} {P : E → Type 0} (result : Result T E) → ((error : E) → P error) → IfErr result P
 on_err (Ok value) holds = tt
 on_err (Err error) holds = holds error
@@ -52,7 +52,7 @@ pub none_left : (known : Option (List ℕ)) (left : List ℕ) → IsAtEnd known 
 none_left None left end is = absurd (cc)
 none_left (Some bytes) left end is = sym (some_one bytes left is) ∙ end
 
--- the first so many bytes are this head
+-- the first `count` bytes are this head
 abbrev pub HeadIs : List ℕ → ℕ → RequestHead → Type 0
 HeadIs bytes count whole = BeginsWithHead bytes whole (drop count bytes) × (count ≤ length bytes)
 
@@ -72,7 +72,7 @@ parts_in bytes found is =
       inside = subst (λ n. IsHeadWithin n found) (sym long) is.inside;
     }
 
--- and when more has come
+-- a head that was found still has its parts when more bytes have come
 pub parts_later : (bytes more longer : List ℕ) (found : Head) (is : IsHead bytes found) → longer ≡ bytes ++ more
     → AreParts (take found.length longer) found is.head
 parts_later bytes more longer found is grown =
@@ -80,11 +80,11 @@ parts_later bytes more longer found is grown =
     = ap (take found.length) grown ∙ take-append-le found.length bytes more is.within in
     subst (λ b. AreParts b found is.head) (sym same) (parts_in bytes found is)
 
--- such a head in the words of the count of its bytes
+-- a head that was found is the first bytes of its length
 pub head_is : (bytes : List ℕ) (found : Head) (is : IsHead bytes found) → HeadIs bytes found.length is.head
 head_is bytes found is = (is.begins, is.within)
 
--- what parts spell, a head with these parts spells
+-- a head with these parts spells what the parts spell
 pub spelled_same : (routes : RowsOf (RouteOf Path)) (method target : List ℕ) (lines : List (List ℕ × List ℕ))
     (body : List ℕ)
     (whole : RequestHead) (message : Message) → routes ≡ desk_routes
@@ -94,7 +94,7 @@ pub spelled_same : (routes : RowsOf (RouteOf Path)) (method target : List ℕ) (
 spelled_same routes method target lines body whole message routed is_method is_target are_lines spelled =
     rw (routed, is_method, is_target, are_lines) at spelled
 
--- so with what they are refused for
+-- a head with these parts has the fault of the parts
 pub refused_same : (routes : RowsOf (RouteOf Path)) (method target : List ℕ) (lines : List (List ℕ × List ℕ))
     (body : List ℕ)
     (whole : RequestHead) (error : MessageFault) (why : RequestFault) → error ≡ Refused why → routes ≡ desk_routes
@@ -104,7 +104,7 @@ pub refused_same : (routes : RowsOf (RouteOf Path)) (method target : List ℕ) (
 refused_same routes method target lines body whole error why is routed is_method is_target are_lines refused =
     rw (is, routed, is_method, is_target, are_lines) at refused
 
--- it begins what comes as well
+-- it begins the whole input too
 pub begins_more : (bytes more whole_input : List ℕ) (count : ℕ) (whole : RequestHead) → whole_input ≡ bytes ++ more
     → HeadIs bytes count whole → BeginsWithHead whole_input whole (drop count bytes ++ more)
 begins_more bytes more input count whole is (begins, within) = record {
@@ -116,7 +116,7 @@ begins_more bytes more input count whole is (begins, within) = record {
   few = begins.few;
 }
 
--- it stands there when more has come
+-- it is still there when more bytes have come
 pub head_more : (bytes more longer : List ℕ) (count : ℕ) (whole : RequestHead) → longer ≡ bytes ++ more
     → HeadIs bytes count whole → HeadIs longer count whole
 head_more bytes more longer count whole is head =
@@ -138,7 +138,7 @@ no_length bytes left input count whole is head none = record {
   short = λ size taken. absurd (none size taken);
 }
 
--- the input ends before so many bytes of a body have come
+-- the input ends before the whole body has come
 pub short_body : (bytes left input : List ℕ) (count size : ℕ) (whole : RequestHead) → input ≡ bytes ++ left → left ≡ []
     → length bytes < count + size → HeadIs bytes count whole → IsBodyLength (lines_of whole) size → HasNoBody input
 short_body bytes left input count size whole is ended few head taken =
@@ -195,7 +195,7 @@ refused_parts bytes body rest head fault.Json parts refused = record
 refused_parts bytes body rest head (fault.Field name) parts refused
     = record { head = head; body = body; parts = parts; refused = refused }
 
--- what the parts of a request spell is what begins the bytes
+-- what the parts of a request spell is at the front of the bytes
 pub received_whole : (bytes body rest : List ℕ) (head : RequestHead) (came : Received)
     → BeginsWithParts bytes head body rest → IsSpelledBy head body came → BeginsWith bytes came rest
 received_whole bytes body rest head (received.Message message) parts spelled

@@ -1,4 +1,4 @@
--- What a read is told leaves the desk as it was: so, where memory is wanting for it, the reply may say so.
+-- A read leaves the desk as it was. So if there is no memory for its answer, the reply may say so.
 use Rattle.std.proofs.Common.{◌≡◌, ℕ, true, false, List, Option, Some, None, Ok, Err, refl, sym, ap, ◌∙◌, subst, inl}
 use Rattle.std.proofs.Common.{inr}
 use Rattle.std.specs.Prelude.{option_map}
@@ -18,14 +18,14 @@ use Rattle.pt_http.specs.Received.{Responds}
 use Rattle.pt_http.specs.declared.received.Received.{Received}
 use Rattle.pt_http.specs.declared.received.Received.TheVariants as received
 
--- what a read is told, no accepted write is
+-- the answer to a read is not that of an accepted write
 of_read : (told : Answer) → is_of_read told ≡ true → is_of_write told ≡ false
 of_read Done reads = absurd (cc)
 of_read (Entered position) reads = absurd (cc)
 of_read (Booked told) reads = absurd (cc)
 of_read _ reads = refl
 
--- a message may be answered by want of memory where it is answered by what a read is told
+-- if a message gets the answer to a read, it may get out of memory instead
 wants_memory : (key : Option (List ℕ)) (now : Moment) (message : Message) (old new : Desk) (told : Answer)
     → is_of_read told ≡ true
     → AnswersWith key now message old new (Ok told) → AnswersWith key now message old new (Err Memory)

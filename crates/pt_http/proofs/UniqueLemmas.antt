@@ -63,7 +63,7 @@ no_refusal bytes rest more message why first refused =
     message_or_fault desk_routes first.head.method first.head.target (lines_of first.head) first.body message why
     first.spelled stands
 
--- where the parts of a request have come, no body is short
+-- if the parts of a request have come, the body is not short
 body_came : (bytes body rest : List ℕ) (head : RequestHead) → BeginsWithParts bytes head body rest
     → ¬ (HasNoBody bytes)
 body_came bytes body rest head parts short =
@@ -105,7 +105,7 @@ fault_of bytes rest (fault.Method allowed) refused = inr (inr refused)
 fault_of bytes rest fault.Json refused = inr (inr refused)
 fault_of bytes rest (fault.Field name) refused = inr (inr refused)
 
--- the same fault, and the same rest unless nothing is said of it
+-- the same fault, and the same rest if something is claimed about it
 abbrev IsSameFault : RequestFault → RequestFault → List ℕ → List ℕ → Type 0
 IsSameFault why other rest more = (why ≡ other) × (is_last (response.Refused why) ≡ false → rest ≡ more)
 
@@ -117,7 +117,7 @@ same_refusal bytes rest more why other first second =
     first.head second.head first.body second.body same.0 same.1 second.refused in
     (error-unique _ _ _ first.refused stands, λ goes_on. sym same.2)
 
--- of the rest after a head or a length that is not taken nothing is said
+-- nothing is claimed about the rest after a bad head or a bad length
 same_last : (why other last : RequestFault) (rest more : List ℕ) → is_last (response.Refused last) ≡ true
     → why ≡ last → other ≡ last → IsSameFault why other rest more
 same_last why other last rest more ends is its = (

@@ -57,7 +57,7 @@ pub record IsFoundAt (found : Head) (headers : List HeaderSpan) (r : RequestSpan
   pub lines : found.lines.items ≡ take r.headers headers
   pub length : found.length ≡ r.len
 
--- the parts of a head that the parser found in some bytes stand in its own
+-- the parts of a head that the parser found in some bytes are in the head's own bytes
 has_parts : (bytes : List ℕ) (found : Head) (headers : List HeaderSpan) (r : RequestSpans) (h : RequestHead)
     → IsFoundAt found headers r → IsHeadWithin found.length found → IsRequestAt bytes headers r h
     → HasParts (take found.length bytes) found h
@@ -121,7 +121,7 @@ none_in_front bytes front more split long none later head rest begins =
     = front_within front (more ++ later) (print_request head) rest same (omega (arith, long, begins.short)) in
     none head _ (begins.reads.0, here)
 
--- nor bytes of which a front is refused
+-- no short head begins bytes of which a front is refused
 pub none_after_refusal : (bytes front more : List ℕ) → bytes ≡ front ++ more → RequestOverflows 64 front
     → NeverHasHead bytes
 none_after_refusal bytes front more split over later head rest begins =
@@ -130,7 +130,7 @@ none_after_refusal bytes front more split over later head rest begins =
     let many : 64 < length head.fields = over (more ++ later) head rest (begins.reads.0, same) in
     omega (arith, many, begins.few)
 
--- none begins what is held where the input is at its end
+-- no head begins the held bytes at the end of the input
 pub none_at_end : (known : Option (List ℕ)) (more old new : List ℕ) → IsAtEnd known → known ≡ Some more → new ≡ old
     → HasNoHead old → HasNoHead (new ++ more)
 none_at_end None more old new end is same none = absurd (no_end more is)

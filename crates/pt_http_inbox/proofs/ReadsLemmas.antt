@@ -65,7 +65,7 @@ known_rest (Some xs) (Some ys) old new more left consumed appended is =
     let same : left ≡ xs = sym (ap (λ o. unwrap_or o []) is) in
     (ys, refl, rw (same, consumed, appended) (sym (append_assoc old more ys)))
 
--- Where the reader's bytes are known, those held and those still to be read are together the same before and after.
+-- If the reader's bytes are known, the held bytes and those still to be read are together the same before and after.
 pub reads_known : {R : Type 0} (remaining : R → Option (List ℕ)) (old new : Inbox R) (left : List ℕ)
     → ReadsOn remaining old new
     → remaining (reader_of old) ≡ Some left

@@ -50,7 +50,7 @@ pub IsReplyText-unique : (reply : Response) (a b : List ℕ) → IsReplyText rep
 IsReplyText-unique reply a b is other =
     is.text ∙ ap (reply_text reply) (body-unique reply is.body other.body is.told other.told) ∙ sym other.text
 
--- a body behind its head is the reply
+-- a body after its head is the reply
 pub reply_formed : (reply : Response) (body all : List ℕ) → IsBody reply body → all ≡ reply_text reply body → IsReplyText reply all
 reply_formed reply body all told is_all = record { body = body; told = told; text = is_all }
 
@@ -64,7 +64,7 @@ pub five_parts : (front a b c d e one two three four five : List ℕ) → one �
 five_parts front a b c d e one two three four five is_one is_two is_three is_four is_five =
     rw (is_five, is_four, is_three, is_two, is_one) (simp append_assoc)
 
--- a body in fixed room stands behind its head, and nothing after it
+-- a body in a fixed buffer comes right after its head, and nothing follows it
 pub fixed_bytes : (head : ℕ → List ℕ) (body : Body) (text one other front all rest : List ℕ) → body ≡ Fixed text → one ≡ text → other ≡ text
     → front ≡ head (length one) → all ≡ front ++ other → rest ≡ [] → all ++ rest ≡ head (length (bytes_in body)) ++ bytes_in body
 fixed_bytes head body text one other front all rest is_body is_one is_other is_front is_all ended =

@@ -16,7 +16,7 @@ IsTripText-unique : (trip : Trip) (a b : List ℕ) → IsTripText trip a → IsT
 IsTripText-unique trip a b is other =
     is.2 ∙ ap (trip_object trip) (IsDateText-unique (pos trip.wish.day) is.0 other.0 is.1 other.1) ∙ sym other.2
 
--- so have trips
+-- a list of trips has one list of texts
 AreTripTexts-unique : (trips : List Trip) (a b : List (List ℕ)) → AreTripTexts trips a → AreTripTexts trips b → a ≡ b
 AreTripTexts-unique [] [] [] is other = refl
 AreTripTexts-unique [] [] (text ∷ b) is other = absurd other
@@ -33,7 +33,7 @@ trips_body-unique trips a b is other =
     let text : is.0 ≡ other.0 = is.1.2 ∙ ap (join_with_byte 44) texts ∙ sym other.1.2 in
     is.2 ∙ ap (λ t. codes "{\"trips\":[" ++ t ++ codes "]}") text ∙ sym other.2
 
--- ---- one trip more
+-- ---- one more trip
 
 AreTripTexts-more : (trips : List Trip) (texts : List (List ℕ)) (trip : Trip) (text : List ℕ) → AreTripTexts trips texts → IsTripText trip text
     → AreTripTexts (trips ++ trip ∷ []) (texts ++ text ∷ [])
@@ -47,13 +47,13 @@ join-more t [] text = refl
 join-more t (u ∷ texts) text =
     ap (λ rest. t ++ 44 ∷ rest) (join-more u texts text) ∙ sym (append_assoc t (44 ∷ join_with_byte 44 (u ∷ texts)) (44 ∷ text))
 
--- the bytes go on after a front with the texts of these trips
+-- the bytes are a front and then the texts of these trips
 pub record AreWritten (front out : List ℕ) (trips : List Trip) : Type 0 where
   pub texts : List (List ℕ)
   pub are : AreTripTexts trips texts
   pub written : out ≡ front ++ join_with_byte 44 texts
 
--- with one text more after a comma
+-- one more text after a comma
 after_comma : (front out new : List ℕ) (trips : List Trip) (texts : List (List ℕ)) (trip : Trip) (text : List ℕ) → 0 < length trips → AreTripTexts trips texts
     → out ≡ front ++ join_with_byte 44 texts → IsTripText trip text → new ≡ (out ++ 44 ∷ []) ++ text → AreWritten front new (trips ++ trip ∷ [])
 after_comma front out new [] texts trip text some are written is is_new = absurd (omega arith)
@@ -64,7 +64,7 @@ after_comma front out new (x ∷ trips) (t ∷ texts) trip text some are written
   written = rw (is_new, written, join-more t texts text) (simp append_assoc);
 }
 
--- the first without
+-- the first text, without a comma
 as_first : (front out new : List ℕ) (trips : List Trip) (texts : List (List ℕ)) (trip : Trip) (text : List ℕ) → trips ≡ [] → AreTripTexts trips texts
     → out ≡ front ++ join_with_byte 44 texts → IsTripText trip text → new ≡ out ++ text → AreWritten front new (trips ++ trip ∷ [])
 as_first front out new [] [] trip text none are written is is_new = record {
@@ -75,7 +75,7 @@ as_first front out new [] [] trip text none are written is is_new = record {
 as_first front out new [] (t ∷ texts) trip text none are written is is_new = absurd are
 as_first front out new (x ∷ trips) texts trip text none are written is is_new = absurd (cc)
 
--- one step of writing trips behind a front
+-- one step of writing trips after a front
 pub written_after_comma : (front out parted new : List ℕ) (trips : List Trip) (index : ℕ) (trip : Trip) (text : List ℕ) → AreWritten front out (take index trips) → 0 < index
     → index < length trips → trip ≡ get_or trips index trip → IsTripText trip text → parted ≡ out ++ 44 ∷ [] → new ≡ parted ++ text → AreWritten front new (take (index + 1) trips)
 written_after_comma front out parted new trips index trip text so_far above inside there is with_comma is_new =

@@ -1,4 +1,4 @@
--- A text is that of a condition just where the condition is the first with that text.
+-- A text is that of a condition exactly if the condition is the first with that text.
 use Rattle.std.proofs.Common.{◌≡◌, ◌∙◌, refl, sym, ap, subst, inl, inr, ◌⊎◌, ℕ, zero, suc, ◌+◌, ◌<◌, ◌≤◌, List, [], ◌∷◌}
 use Rattle.std.proofs.Common.{◌++◌, map, length, Bool, true, false, Some, arith}
 use Rattle.std.proofs.lemmas.Bool.{cases_eq, leb-true, le-leb}

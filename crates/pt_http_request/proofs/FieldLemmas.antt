@@ -1,4 +1,4 @@
--- What fields hold, with the reasons that records keep.
+-- The values of fields, with the proofs that records need.
 use mathlib.Core.HLevel.{is_prop→PathP}
 use Rattle.std.proofs.Common.{◌≡◌, refl, sym, ap, subst, ℕ, ◌≤◌, ℤ, Bool, true, false, List, length, Option, Some, None}
 use Rattle.std.proofs.Props.{props}
@@ -114,7 +114,7 @@ coordinate-same a b p q same = λ i. record {
   on_plane = is_prop→PathP (λ j. IsCoordinate (same j)) (λ j. coordinate-prop _) p q i;
 }
 
--- the integer at a field, whether or not it is of the plane
+-- the integer at a field, whether or not it is on the plane
 abbrev pub plain_feet : FieldName → Option Data → Result ℤ FieldName
 plain_feet name found = needed (option_and_then coordinate_from found) name
 
@@ -164,7 +164,7 @@ reasons-read name body text found held some is =
 
 -- ---- records
 
--- the number of a field, and that it lies in its range
+-- the number of a field, with the proof that it is in its range
 abbrev pub Held : FieldName → ℕ → ℕ → Data → ℕ → Type 0
 Held name least most body number = (is : IsInRange least most number) × (ranged_at name least most body ≡ Ok
     (ranged number is))
@@ -195,7 +195,7 @@ policy-read body policy base transfer fare service extra_ride min_missed percent
       span_days_in_range = range-prop _ _ _ policy.span_days_in_range span_days.0 i;
     }))
 
--- the coordinate of a field, and that it is of the plane
+-- the coordinate of a field, with the proof that it is on the plane
 abbrev pub Placed : FieldName → Data → ℤ → Type 0
 Placed name body feet = (is : IsCoordinate feet) × (coordinate_at name body ≡ Ok (coordinate feet is))
 
@@ -237,7 +237,7 @@ vehicle-read body vehicle id from_day days depot capacity opens closes duration 
       duration_in_range = range-prop _ _ _ vehicle.duration_in_range duration.0 i;
     }))
 
--- ---- a field that may hold nothing
+-- ---- a field that may be missing or null
 
 pub chairs-none : (body : Data) → holds_nothing (get (field_name field.Chairs) body) ≡ true → chairs_at body ≡ Ok (ranged 0 (in_range 0 10 0 refl))
 chairs-none body nothing =

@@ -1,4 +1,4 @@
--- What results hold.
+-- Values and errors of results.
 use Rattle.std.proofs.Common.{◌≡◌}
 use Rattle.std.specs.Prelude.{Result, Ok, Err}
 

@@ -64,19 +64,19 @@ pub message_unique : (routes : RowsOf (RouteOf Path)) (method whole : List ℕ) 
     → SpellsMessage routes method whole lines body other → IsSameMessage one other
 message_unique routes method whole lines body one other a b = sent-same one other (value-unique _ _ _ a b)
 
--- and where they do they have no fault
+-- if they spell a message, they have no fault
 pub message_or_fault : (routes : RowsOf (RouteOf Path)) (method whole : List ℕ) (lines : List (List ℕ × List ℕ))
     (body : List ℕ) (one : Message) (why : RequestFault) → SpellsMessage routes method whole lines body one
     → IsMessageFault routes method whole lines body why → ⊥
 message_or_fault routes method whole lines body one why a wrong = value-or-error _ _ _ a wrong
 
--- where its path names something, they are read by that
+-- if its path has a target, they are read by it
 by_target : (routes : RowsOf (RouteOf Path)) (method whole : List ℕ) (lines : List (List ℕ × List ℕ)) (body : List ℕ)
     (asked : Target) → target_in routes (path_of whole) ≡ Some asked
     → message_in routes method whole lines body ≡ request_in method lines body asked
 by_target routes method whole lines body asked there = rw there refl
 
--- a result that says what stands of what the path names says all that stands: the message
+-- a result for the message to a path's target is one for the whole message
 pub message-read : (routes : RowsOf (RouteOf Path)) (method whole : List ℕ) (lines : List (List ℕ × List ℕ))
     (body : List ℕ) (asked : Target) (result : Result Message MessageFault)
     → target_in routes (path_of whole) ≡ Some asked → IfOk result (λ read. request_in method lines body asked ≡ Ok
@@ -89,7 +89,7 @@ message-read routes method whole lines body asked (Err (Refused why)) there ok e
     = value-or-error _ _ _ spelled (by_target routes method whole lines body asked there ∙ err)
 message-read routes method whole lines body asked (Err Memory) there ok err message spelled = tt
 
--- and the fault
+-- the same for a fault
 pub message-refused : (routes : RowsOf (RouteOf Path)) (method whole : List ℕ) (lines : List (List ℕ × List ℕ))
     (body : List ℕ) (asked : Target) (result : Result Message MessageFault)
     → target_in routes (path_of whole) ≡ Some asked → IfOk result (λ read. request_in method lines body asked ≡ Ok
@@ -103,7 +103,7 @@ message-refused routes method whole lines body asked (Err Memory) there ok err w
 
 -- ---- faults
 
--- a fault of what comes after the head and the length of the body
+-- a fault after the head and the length of the body
 abbrev pub is_of_parts : RequestFault → Bool
 is_of_parts fault.Head = false
 is_of_parts fault.Length = false

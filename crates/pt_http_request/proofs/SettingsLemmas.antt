@@ -1,4 +1,4 @@
--- What lists spell.
+-- The values that lists spell.
 use Rattle.std.proofs.Common.{◌≡◌, ◌∙◌, ℕ, zero, suc, ◌+◌, ◌<◌, List, [], ◌∷◌, ◌++◌, Option, Some, None, Bool, true}
 use Rattle.std.proofs.Common.{false, length, get_or, map, take, ap, sym, refl, arith}
 use Rattle.std.proofs.lemmas.List.{map-append, take_more, take_all}
@@ -30,7 +30,7 @@ each-some from (value ∷ values) (s ∷ spelled) e =
     let rest : each from values ≡ Some spelled = each-some from values spelled tail in
     rw (first, rest) refl
 
--- where one spells nothing
+-- if one of them spells nothing, the list spells nothing
 pub each-none : {A V : Type 0} (from : Data → Option A) (f : V → Data) (values : List V) (i : ℕ) (value : V)
     → i < length values → value ≡ get_or values i value → from (f value) ≡ None → each from (map f values) ≡ None
 each-none from f [] i value below there none = absurd (omega arith)
@@ -45,7 +45,7 @@ each-none {A} from f (v ∷ values) (suc i) value below there none =
       | Some first ↦ rw rest refl
     ]
 
--- one value more, read to the end
+-- one more value, read to the end
 pub read-more : {A V : Type 0} (from : Data → Option A) (f : V → Data) (values : List V) (i : ℕ) (value : V)
     (spelled : List A) (last : A) → i < length values → value ≡ get_or values i value
     → map from (map f (take i values)) ≡ map Some spelled → from (f value) ≡ Some last
@@ -61,7 +61,7 @@ read-all from f values i spelled past read =
     let all : take i values ≡ values = take_all i values past in
     each-some from (map f values) spelled (rw all at read)
 
--- a list of another length than two is no point
+-- a list of a length other than two is not a point
 pub not-pair : (values : List Data) → (length values ≡ 2 → ⊥) → point_of values ≡ None
 not-pair [] other = refl
 not-pair (a ∷ []) other = refl

@@ -1,4 +1,4 @@
--- The parts of a path, and what a route names by them.
+-- The parts of a path, and the target that its route gives them.
 use Rattle.std.proofs.Common.{◌≡◌, ℕ, suc, List, [], ◌∷◌, Option, Some, true, false, cond, take, drop, map, refl, ap}
 use Rattle.std.proofs.Common.{sym, subst, ◌∙◌}
 use Rattle.std.proofs.lemmas.Bool.{and_from, lt-ltb}
@@ -16,7 +16,7 @@ use Rattle.matchit.specs.declared.error.InsertError.{InsertError}
 use Rattle.pt_http_request.specs.Targets.{AreTexts, with_route, parts_of, target_from, target_in}
 use Rattle.pt_http_request.specs.declared.targets.Path.{Path}
 
--- an insertion that went well leaves the rows with one route more
+-- a successful insertion leaves the rows with one more route
 pub inserted : (scanned : Result Scan InsertError) (value : Path) (old new rows : RowsOf (RouteOf Path))
     (result : Result (Unit {0}) InsertError) (done : Unit {0}) → InsertsRead scanned value old new result
     → result ≡ Ok done → old ≡ rows → new ≡ with_route scanned value rows
@@ -33,7 +33,7 @@ part-utf8 text start end ascii =
       | false ↦ IsUtf8-from_ascii [] IsAscii-nil
     ]
 
--- so is what parameters take of it
+-- the parts that parameters took are text
 pub walk-texts : (pattern text asked : List ℕ) (names : List (ℕ × ℕ)) (token at : ℕ) → IsAscii asked
     → AreTexts (walk pattern text asked names token at)
 walk-texts pattern text asked [] token at ascii = tt
@@ -59,7 +59,7 @@ ascii-test : (text : List ℕ) → IsAscii text → list_all is_ascii text ≡ t
 ascii-test [] ascii = refl
 ascii-test (c ∷ text) ascii = and_from _ _ (lt-ltb c 128 (ascii 0)) (ascii-test text (λ i. ascii (suc i)))
 
--- what the route that a path takes names by its parts is what the path names
+-- the target by the route that a path takes is the path's target
 pub target-found : (routes : RowsOf (RouteOf Path)) (text : List ℕ) (route : RouteOf Path) (one two : Option
     (List ℕ)) → IsAscii text → first routes text ≡ Some route → one ≡ slice_get (parts_of route text) 0
     → two ≡ slice_get (parts_of route text) 1 → target_from route.value one two ≡ target_in routes text

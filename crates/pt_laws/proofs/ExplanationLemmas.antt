@@ -1,4 +1,4 @@
--- A wish that is denied in a sound state fails the rule that is named, first of all its rules.
+-- In a sound state, the rule that a denied wish names is the first of all its rules to fail.
 use Rattle.std.proofs.Common.{◌≡◌, ◌∙◌, ℕ, List, Option, Some, None, ap, inl, inr, refl, subst, sym}
 use Rattle.pt_base.specs.declared.moment.Moment.{Moment}
 use Rattle.pt_base.specs.declared.rule.Rule.{Rule}
@@ -23,7 +23,7 @@ use Rattle.pt_scheduling.specs.Scheduling.{AreRoutes, IsScheduled}
 use Rattle.pt_scheduling.specs.declared.scheduling.Scheduled.{Scheduled}
 use Rattle.pt_scheduling.specs.declared.scheduling.Scheduled.TheVariants as scheduled
 
--- what is denied where the vehicles have routes fails that rule first
+-- if the vehicles have routes, a denial names the first rule to fail
 denied_first : (minutes : ℕ → ℕ → Option ℕ) (vehicles : List OnDuty) (asked : Request) (rule : Rule)
     → AreRoutes asked.trip vehicles → IsScheduled minutes vehicles asked (scheduled.Denied rule)
     → IsFirstFailing (booking_rules minutes vehicles asked) (Some rule)

@@ -1,4 +1,4 @@
--- Records of csv whose fields need no quotes.
+-- CSV records whose fields need no quotes.
 use Rattle.std.proofs.Common.{◌≡◌, refl, ap, ℕ, zero, suc, ◌+◌, ◌/◌, ◌%◌, ◌≤◌, ◌==◌, Bool, true, false, List, ◌++◌, [], ◌∷◌, arith, codes, decimal}
 use Rattle.std.proofs.lemmas.Bool.Decides.{nat_tests}
 use Rattle.std.proofs.lemmas.List.{append-nil}

@@ -1,4 +1,4 @@
--- The calendar, day by day, is the civil one.
+-- The dates, day by day, are those of the Gregorian calendar.
 use Rattle.std.proofs.Common.{◌≡◌, ◌∙◌, refl, ap, ℕ, zero, suc, ◌+◌, ◌<◌, ◌≤◌, Bool, true, false, List, arith, ℤ, pos}
 use Rattle.std.proofs.lemmas.Int.{ints}
 use Rattle.std.proofs.lemmas.Bool.Decides.{nat_tests}
@@ -79,7 +79,7 @@ unfolding date_of
 date_of-is zero = first_date-is
 date_of-is (suc day) = next_date-is day (date_of day) (date_of-is day)
 
--- no day up to 9999-12-31 lies in a later year
+-- no day up to 9999-12-31 is in a later year
 year-over : (day : ℕ) (date : CivilDate) → IsDateOf day date → day ≤ 2_932_896 → 9999 < date.year → ⊥
 year-over day date is within over =
     let later = day_count-later_year (pos 9999) (pos date.year) (omega (arith, ints)) (omega (arith, ints)) in
@@ -114,7 +114,7 @@ date_text-is day within =
 pub day_text-is_date : DayTextIsDate
 day_text-is_date day is_day = let last = is_day.1 in date_text-is day (omega arith)
 
--- where a day has a date at all, it is this one
+-- if a day has a date text at all, it is this one
 pub day_text-named : (day : ℕ) (text : List ℕ) → IsDateText (pos day) text → IsDateText (pos day) (day_text day)
 day_text-named day text is =
     let last = (epoch_day_range is.date).1 in

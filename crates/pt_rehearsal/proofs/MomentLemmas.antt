@@ -97,7 +97,7 @@ length-moment text day minute is =
     ∙ omega (arith, length-append is.date (32 ∷ is.digits)) in
     omega arith
 
--- a line with a moment has at most 19 bytes, its newline among them
+-- a line with a moment has at most 19 bytes, including its newline
 line_is_short : (line : List ℕ) (day minute : ℕ) → IsMoment (strip_carriage_return line) day minute
     → length line + 1 ≤ 19
 line_is_short line day minute is = omega (
@@ -126,7 +126,7 @@ moment_before held more day minute rest is = record {
   moment = is.moment;
 }
 
--- a moment at the front of more bytes is at the front of what is held, where that could hold its line
+-- a moment at the front of more bytes is at the front of the held bytes, if these are enough for its line
 moment_in_front : (held more : List ℕ) (day minute : ℕ) (rest : List ℕ) → 19 ≤ length held
     → BeginsWithMoment (held ++ more) day minute rest → (left : List ℕ) × BeginsWithMoment held day minute left
 moment_in_front held more day minute rest enough is =
@@ -143,7 +143,7 @@ moment_in_front held more day minute rest enough is =
       },
     )
 
--- bytes that begin with no moment, and could hold its line or are all that come, begin with none as more bytes come
+-- bytes without a moment have none when more come, if they are enough for its line or are the whole input
 pub no_moment_after : (held more : List ℕ) → (19 ≤ length held) ⊎ (more ≡ [])
     → ((day minute : ℕ) (rest : List ℕ) → ¬ (BeginsWithMoment held day minute rest)) → (day minute : ℕ) (rest : List ℕ)
     → ¬ (BeginsWithMoment (held ++ more) day minute rest)
@@ -154,7 +154,7 @@ no_moment_after held more (inr ended) none day minute rest is =
     let same : held ++ more ≡ held = ap (λ bytes. held ++ bytes) ended ∙ append-nil held in
     none day minute rest (subst (λ bytes. BeginsWithMoment bytes day minute rest) same is)
 
--- ---- what the calls of a moment's parts give
+-- ---- results of reading a moment's parts
 
 pub text_of_ok : {A E : Type 0} (r : Result A E) (x : A) (P : A → Type 0) (Q : E → Type 0) → result_ok r ≡ Some x
     → MatchResult r P Q → P x

@@ -27,11 +27,11 @@ none_in : (bytes : List ℕ) → length bytes < 1 → bytes ≡ []
 none_in [] few = refl
 none_in (byte ∷ bytes) few = absurd (omega arith)
 
--- an input of which nothing is held or left is empty
+-- an input with nothing held or left is empty
 pub nothing_left : (input bytes left : List ℕ) → input ≡ bytes ++ left → length bytes < 1 → left ≡ [] → input ≡ []
 nothing_left input bytes left is few ended = is ∙ ap (λ b. b ++ left) (none_in bytes few) ∙ ended
 
--- an input of which a byte is held is not empty
+-- an input with a held byte is not empty
 pub not_empty : (input bytes left : List ℕ) → input ≡ bytes ++ left → 1 ≤ length bytes → input ≢ []
 not_empty input bytes left is some none =
     let long : length input ≡ length bytes + length left = ap length is ∙ length-append bytes left in

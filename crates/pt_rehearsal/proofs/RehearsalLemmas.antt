@@ -16,7 +16,7 @@ use Rattle.pt_http.specs.Exchange.{Desk, Exchanges, IsUnanswered, is_last}
 use Rattle.pt_http.specs.Input.{HasInput}
 use Rattle.pt_rehearsal.specs.Rehearsal.{most_messages, Exchanged, IsStep, Rehearses, HasBadLine}
 
--- Where a rehearsal of this input stands after so many messages at most: what comes after it completes it.
+-- The state of a rehearsal of this input after at most `count` messages: the remaining messages complete it.
 pub record StandsAt {R : Type 0} (remaining : R → Option (List ℕ)) (input : List ℕ) (old : Desk)
     (before : Option (List ℕ)) (inbox : Inbox R) (now : Desk) (after : Option (List ℕ)) (count : ℕ) : Type 0 where
   pub messages : List Exchanged
@@ -49,7 +49,7 @@ pub stops : {R : Type 0} {count : ℕ} (remaining : R → Option (List ℕ)) (in
 stops remaining input old now before after inbox stands =
     rw (append-nil stands.messages, append-nil stands.written) at (stands.goes [] [] stands.left now (refl, refl, refl))
 
--- one message more
+-- one more message
 abbrev pub one_more : Moment → Response → List ℕ → Exchanged
 one_more now reply text = record { now = now; reply = reply; text = text }
 
@@ -64,7 +64,7 @@ step_of at left between rest text now new reply moment exchanged replied = recor
   replied = replied;
 }
 
--- it may stop after one message more
+-- it may stop after one more message
 pub ends : {R : Type 0} {count : ℕ} (remaining : R → Option (List ℕ)) (input rest : List ℕ) (old now new : Desk)
     (before after : Option (List ℕ)) (inbox : Inbox R) (one : Exchanged)
     → (stands : StandsAt remaining input old before inbox now after count)
@@ -82,7 +82,7 @@ ends remaining input rest old now new before after inbox one stands step =
           (append-nil one.text),
     )
 
--- and has one message more then
+-- it then has one more message
 pub one_longer : {count most : ℕ} (messages : List Exchanged) (one : Exchanged) → length messages ≤ count → count < most
     → length (messages ++ one ∷ []) ≤ most
 one_longer messages one few below = omega (arith, few, below, length-append messages (one ∷ []))
@@ -107,7 +107,7 @@ went_on remaining input rest old now new before after later inbox next one stand
   appended = Appends-trans before after later stands.written one.text stands.appended adds;
 }
 
--- what ends a rehearsal before its end is one of several things
+-- a fault has one code
 code_of : (error : Fault) (one other : ℕ) → error ≡ fault one → error ≡ fault other → one ≡ other
 code_of error one other is also = ap (λ (e : Fault). e.code) (sym is ∙ also)
 
@@ -121,7 +121,7 @@ read_no_line error is line = let same : 46 ≡ 48 = code_of error 46 48 is line 
 pub write_no_line : (error : Fault) → error ≡ fault write_failed → error ≡ fault moment_line_refused → ⊥
 write_no_line error is line = let same : 47 ≡ 48 = code_of error 47 48 is line in omega (arith, same)
 
--- how a rehearsal stands that ended before its end
+-- the state of a rehearsal that ended before the end of its input
 abbrev pub Stopped : List ℕ → Desk → Desk → Option (List ℕ) → Option (List ℕ) → Fault → Type 0
 Stopped input old new before after error =
     (messages : List Exchanged) × (written : List ℕ) × (rest : List ℕ) × Rehearses messages input old written rest new
@@ -129,7 +129,7 @@ Stopped input old new before after error =
     × (error ≡ fault moment_line_refused → HasBadLine rest)
     × (length messages ≤ most_messages)
 
--- it ended where it stood
+-- it ended in the state that it had
 pub stopped_here : {R : Type 0} {count : ℕ} (remaining : R → Option (List ℕ)) (input : List ℕ) (old now : Desk)
     (before after : Option (List ℕ)) (inbox : Inbox R) (error : Fault)
     → (stands : StandsAt remaining input old before inbox now after count) → count ≤ most_messages
@@ -144,7 +144,7 @@ stopped_here remaining input old now before after inbox error stands few line = 
   omega (arith, stands.few, few),
 )
 
--- a message was asked for, and not answered
+-- a message was read, and not answered
 pub stopped_unanswered : {R : Type 0} {count : ℕ} (remaining : R → Option (List ℕ)) (input : List ℕ)
     (old now new : Desk) (before after later : Option (List ℕ)) (inbox : Inbox R) (error : Fault)
     → StandsAt remaining input old before inbox now after count → count ≤ most_messages

@@ -1,4 +1,4 @@
--- What the tables before the last three keep says nothing of wheelchairs, nor of the places for them.
+-- The tables before the last three do not depend on wheelchairs or wheelchair places.
 use Rattle.std.proofs.Common.{◌≡◌, ℕ, ◌+◌, ◌-◌, ◌≤◌, Bool, IsTrue, List, [], ◌∷◌, ◌++◌, length, map, Option, None, Some, is_some, if◌then◌else◌, not, refl, sym, ap, ap₂, subst, ◌∙◌, arith}
 use Rattle.std.specs.Prelude.{◌==◌, ◌&&◌, nat_le, nat_lt, slice_get, slice_index, false, unwrap_or}
 use Rattle.std.specs.List.{list_any}

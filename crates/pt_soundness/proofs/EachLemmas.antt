@@ -1,4 +1,4 @@
--- What holds of each record of a list, as a loop goes through it.
+-- A property of each record of a list, as a loop checks it.
 use Rattle.std.proofs.Common.{◌≡◌, ℕ, ◌+◌, ◌<◌, zero, suc, Bool, true, false, IsTrue, List, [], ◌∷◌, length, drop, get_or, drop-cons, add-one, refl, sym, ap, ◌∙◌, subst, arith}
 use Rattle.std.proofs.lemmas.List.{drop_all}
 use Rattle.pt_records.specs.Records.{Each}
@@ -17,7 +17,7 @@ pub each_past : {A : Type 0} (P : A → Type 0) (x : A) (xs : List A) (i : ℕ) 
 each_past P x xs i lt at holds whole rest =
     whole (subst (Each P) (sym (next_from x xs i lt at)) (holds, rest))
 
--- it does not hold of one, so not of each
+-- it fails for one record, so not all have it
 pub fails_at : {A : Type 0} (P : A → Type 0) (x : A) (xs : List A) (i : ℕ) (b : Bool) → i < length xs → x ≡ get_or xs i x
     → (P x → IsTrue b) → b ≡ false → (IsTrue false → Each P xs) × (Each P xs → IsTrue false)
 fails_at P x xs i b lt at tells is = (λ no. absurd (cc), λ each. let holds = tells (each_at P x xs i lt at each) in absurd (cc))

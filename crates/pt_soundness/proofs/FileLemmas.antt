@@ -65,7 +65,7 @@ file_back p x xs file =
     let most = file.within in
     ((file.numbered.0, omega arith), record { numbered = file.numbered.1; within = omega arith })
 
--- where the last rider is another, no entry of the last rider comes
+-- after an entry of another rider, no entry of the last rider follows
 ends : (last rider : ℕ) (x : FiledEntry) (xs : List FiledEntry) → last ≤ x.rider → Each (λ y. x.rider ≤ y.rider) xs
     → (rider ≡ x.rider → ⊥) → rider ≡ last → own rider xs ≡ []
 ends last rider x xs below above other same =
@@ -148,7 +148,7 @@ filed_back last next (x ∷ xs) below small order files =
     let parts = files_back last next x xs below.0 above files in
     (parts.0, filed_back x.rider (next_position last next x.rider + 1) xs above small.1 order.1 parts.1)
 
--- entries that are filed have small positions
+-- entries in files have small positions
 filed_small : (last next : ℕ) (xs : List FiledEntry) → AreFiledFrom last next xs → AreSmall xs
 filed_small last next [] filed = tt
 filed_small last next (x ∷ xs) filed =
@@ -172,7 +172,7 @@ each_kept P test (x ∷ xs) each =
     let parts = kept_each P x (filter test xs) (test x) each in
     (parts.0, each_kept P test xs parts.1)
 
--- what holds of each by one of many tests, where each passes one
+-- if each record passes one of many tests, a property that follows from the tests holds for each
 by_tests : {A : Type 0} (P : A → Type 0) (test : ℕ → A → Bool) (of : A → ℕ) → ((x : A) → test (of x) x ≡ true)
     → (xs : List A) → ((k : ℕ) → Each (λ x. test k x ≡ true → P x) xs) → Each P xs
 by_tests P test of passes [] each = tt
@@ -222,7 +222,7 @@ all_above : (xs : List FiledEntry) → Each (λ y. 0 ≤ y.rider) xs
 all_above [] = tt
 all_above (x ∷ xs) = (omega arith, all_above xs)
 
--- the files of all riders are sound where the entries are filed
+-- the files of all riders are sound if the entries are in files
 pub filed_sound : (xs : List FiledEntry) → IsInOrder entry_key xs → AreFiledFrom 0 0 xs → AreSoundFiles xs
 filed_sound xs order filed = λ rider.
     let small = filed_small 0 0 xs filed in

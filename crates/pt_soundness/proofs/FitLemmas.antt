@@ -1,4 +1,4 @@
--- Whether a vehicle's version on duty can drive what is planned for it, and has room.
+-- Whether a vehicle's version on duty can drive its plan, and has room.
 use Rattle.std.proofs.Common.{◌≡◌, ◌⊎◌, inl, inr, ℕ, ◌+◌, ◌<◌, ◌≤◌, zero, suc, Bool, true, false, not, IsTrue, List, [], ◌∷◌, length, cond, refl, sym, ap, ◌∙◌, subst, arith, drop, get_or, Option, Some, None, Any}
 use Rattle.std.specs.Prelude.{◌==◌, ◌&&◌, ◌||◌, nat_le, filter, Result, Ok, Err, IfOk}
 use Rattle.std.specs.List.{list_any}
@@ -14,7 +14,7 @@ use Rattle.pt_scheduling.specs.Plan.{Plan}
 use Rattle.pt_scheduling.specs.declared.planned.PlannedStop.{PlannedStop}
 use Rattle.pt_soundness.proofs.EachLemmas.{next_from}
 
--- the driving times by rows are these and no other
+-- rows determine the driving times
 time_one : (rows : List Row) (from to : ℕ) (a b : Option ℕ) → IsTime rows from to a → IsTime rows from to b → a ≡ b
 time_one rows from to None None one two = refl
 time_one rows from to None (Some n) one (within, ((chain, is, total), least)) =
@@ -30,7 +30,7 @@ time_one rows from to (Some m) (Some n) (within, ((chain, is, total), least)) (a
 pub minutes_one : (rows : List Row) (a b : ℕ → ℕ → Option ℕ) → AreTimes rows a → AreTimes rows b → a ≡ b
 minutes_one rows a b one two = λ i from to. time_one rows from to (a from to) (b from to) (one from to) (two from to) i
 
--- something holds of one of these
+-- the property holds for one of these
 abbrev pub HasSome : {A : Type 0} → (A → Type 0) → List A → Type 0
 HasSome P [] = ⊥
 HasSome P (x ∷ xs) = P x ⊎ HasSome P xs
@@ -74,7 +74,7 @@ kept_some P test [] some = some
 kept_some P test (x ∷ xs) (inl (is, holds)) = subst (λ (b : Bool). HasSome P (cond b (x ∷ filter test xs) (filter test xs))) (sym is) (inl holds)
 kept_some P test (x ∷ xs) (inr rest) = kept_past P x (filter test xs) (test x) (kept_some P test xs rest)
 
--- of what passes one test, those that pass another
+-- of those that pass one test, the same pass another
 any_same : {A : Type 0} (p test : A → Bool) (x : A) (ys xs : List A) (b : Bool) → test x ≡ b → (p x ≡ true → test x ≡ true)
     → list_any p ys ≡ list_any p xs → list_any p (cond b (x ∷ ys) ys) ≡ (p x || list_any p xs)
 any_same p test x ys xs true is gives same = ap (λ t. p x || t) same
@@ -94,7 +94,7 @@ is_same a b same = grind (arith, nat_tests)
 are_same : (a b : ℕ) → (a == b) ≡ true → a ≡ b
 are_same a b is = grind (arith, nat_tests)
 
--- whether a version is on duty, its vehicle's versions say alone
+-- whether a version is on duty depends only on its vehicle's versions
 duty_own : (id day : ℕ) (vehicles : List Vehicle) (x : Vehicle) → x.id ≡ id → is_on_duty day (versions_of id vehicles) x ≡ is_on_duty day vehicles x
 duty_own id day vehicles x own =
     ap (λ b. (nat_le x.from_day day && not b) && has_weekday day x)
@@ -126,16 +126,16 @@ own_serve id day P vehicles any =
     (some_kept (λ v. (is_on_duty day own v ≡ true) × P v) (λ (v : Vehicle). v.id == id) vehicles
     (some_kept P (is_on_duty day own) own (any_some P (on_duty day own) any)))))
 
--- what is said of a result that is there holds of the same said otherwise
+-- a property of a value in a result follows from a stronger one
 if_ok : {A E : Type 0} (P Q : A → Type 0) → ((x : A) → P x → Q x) → (r : Result A E) → IfOk r P → IfOk r Q
 if_ok P Q gives (Ok x) holds = gives x holds
 if_ok P Q gives (Err e) holds = holds
 
--- a test tells whether this holds of one of these
+-- a test decides whether the property holds for one of these
 abbrev pub Tells : (Vehicle → Type 0) → List Vehicle → Bool → Type 0
 Tells P versions b = (IsTrue b → Any P versions) × (Any P versions → IsTrue b)
 
--- it tells the same by rows or stops that are the same
+-- it decides the same for equal rows or stops
 pub alike : {X : Type 0} (P : X → Vehicle → Type 0) (x y : X) (versions duty : List Vehicle) (b : Bool) → x ≡ y → versions ≡ duty
     → Tells (P x) versions b → Tells (P y) duty b
 alike P x y versions duty b same same_versions told =
@@ -146,7 +146,7 @@ pub all_alike : {X E : Type 0} (P : X → Vehicle → Type 0) (x y : X) (version
 all_alike P x y versions duty r same same_versions told =
     if_ok (Tells (P x) versions) (Tells (P y) duty) (λ b. alike P x y versions duty b same same_versions) r told
 
--- what holds of one of a vehicle's versions on duty holds of the vehicle's version on duty
+-- the property holds for one of a vehicle's versions on duty exactly if it holds for the vehicle's version on duty
 holds : (P : Vehicle → Type 0) (vehicles : List Vehicle) (id day : ℕ) (b : Bool) → Tells P (on_duty day (versions_of id vehicles)) b
     → (IsTrue b → HoldsOnDuty P vehicles id day) × (HoldsOnDuty P vehicles id day → IsTrue b)
 holds P vehicles id day b told = (
@@ -182,7 +182,7 @@ is_none P xs i end there = (
   λ any. absurd (subst (HasSome P) (drop_all i xs end) (there (any_some P xs any))),
 )
 
--- and so it does by the stops of a plan, on its day
+-- the same for the stops of a plan, on its day
 pub plan_holds : {E : Type 0} (P : ℕ → List PlannedStop → Vehicle → Type 0) (vehicles versions : List Vehicle) (plan : Plan) (vehicle day : ℕ)
     (planned stops : List PlannedStop) (r : Result Bool E) → plan ≡ record { vehicle = vehicle; day = day; stops = stops } → planned ≡ stops
     → versions ≡ versions_of vehicle vehicles → IfOk r (Tells (P day planned) (on_duty day versions))

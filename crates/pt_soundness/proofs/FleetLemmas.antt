@@ -1,4 +1,4 @@
--- The versions of a vehicle stand together.
+-- The versions of a vehicle are next to each other.
 use Rattle.std.proofs.Common.{zero, suc, drop, drop-cons, add-one, get_or, Some, ◌≡◌, ◌⊎◌, inl, inr, ℕ, ◌+◌, ◌<◌, ◌≤◌, Bool, true, false, not, IsTrue, List, [], ◌∷◌, length, cond, refl, sym, ap, ◌∙◌, subst, arith}
 use Rattle.std.specs.Prelude.{◌==◌, ◌&&◌, ◌||◌, filter, slice_get}
 use lib.Dec.{eqb}
@@ -50,7 +50,7 @@ is_some_kept : (b : Bool) (n : ℕ) → (IsTrue b → 0 < n) → (b ≡ false �
 is_some_kept true n some none = let above = some refl in grind (arith, nat_tests)
 is_some_kept false n some none = let no = none refl in grind (arith, nat_tests)
 
--- a vehicle is there where it has versions
+-- a vehicle exists if it has versions
 pub has_versions : (id : ℕ) (vehicles versions : List Vehicle) (empty : Bool) → versions ≡ versions_of id vehicles
     → empty ≡ (length versions == 0) → not empty ≡ has_version id vehicles
 has_versions id vehicles versions empty is tells =
@@ -71,7 +71,7 @@ one_of P test (x ∷ xs) each = kept_or_none P test x (filter test xs) (test x) 
 same_number : (a b : ℕ) → (a == b) ≡ true → a ≡ b
 same_number a b is = grind (arith, nat_tests)
 
--- what holds of the vehicles that have versions holds of all
+-- if the limit holds for the vehicles that have versions, it holds for all
 pub few_versions : (vehicles : List Vehicle) → Each (λ version. length (versions_of version.id vehicles) ≤ most_versions) vehicles
     → (id : ℕ) → length (versions_of id vehicles) ≤ most_versions
 few_versions vehicles each id = elim (one_of (λ (v : Vehicle). length (versions_of v.id vehicles) ≤ most_versions) (λ (v : Vehicle). v.id == id) vehicles each) [
@@ -103,7 +103,7 @@ next_or_none id other ys false is none = is ∙ sym (ap (λ t. t || has_version 
 other_above : (id other first second : ℕ) → first ≤ 47_481 → second ≤ 47_481 → pair_key id first < pair_key other second → (other == id) ≡ false → id < other
 other_above id other first second low high lt is = grind (arith, nat_tests)
 
--- where the next version is another vehicle's, no later one is of this vehicle
+-- if the next version is of another vehicle, no later one is of this vehicle
 pub next_version : (x y : Vehicle) (ys : List Vehicle) → IsInOrder vehicle_key (x ∷ y ∷ ys) → Each HasFirstDay (x ∷ y ∷ ys)
     → (y.id == x.id) ≡ has_version x.id (y ∷ ys)
 next_version x y ys order days =
@@ -128,7 +128,7 @@ Each-from P zero xs each = each
 Each-from P (suc n) [] each = tt
 Each-from P (suc n) (x ∷ xs) each = Each-from P n xs each.1
 
--- one version more is counted where no later one is of its vehicle
+-- one more version is counted if no later one is of its vehicle
 pub counted_on : (before after total : ℕ) (x : Vehicle) (rest : List Vehicle) (b : Bool) → b ≡ has_version x.id rest
     → (b ≡ false → after ≡ before + 1) → (b ≡ true → after ≡ before) → before + vehicle_count (x ∷ rest) ≡ total
     → after + vehicle_count rest ≡ total

@@ -61,7 +61,7 @@ none_comes met.Pickup Drop x later kind is rest = absurd (cc)
 none_comes met.Both Pickup x later kind is rest = rest
 none_comes met.Both Drop x later kind is rest = rest
 
--- the rest after a stop, be it of the trip or not
+-- the rest after a stop, whether it is of the trip or not
 after_forth : (b : Bool) (m next : Met) (x : PlannedStop) (ys : List PlannedStop) → cond b (met_with m x.kind) (Some m) ≡ Some next
     → IsRestAfter next ys → IsRestAfter m (cond b (x ∷ ys) ys)
 after_forth true m next x ys is rest = forth m x.kind next x ys refl is rest
@@ -117,7 +117,7 @@ whole_pair trip i m xs b end tells told forth back =
 same_number : (a b : ℕ) → (a == b) ≡ true → a ≡ b
 same_number a b is = grind (arith, nat_tests)
 
--- what holds of the trips that have stops holds of all
+-- if the trips that have stops are pairs, all are
 pub pairs_of_all : (stops : List PlannedStop) → Each (λ stop. IsPair (stops_of_trip stop.trip stops)) stops
     → (trip : ℕ) → IsPair (stops_of_trip trip stops)
 pairs_of_all stops each trip = elim (one_of (λ (s : PlannedStop). IsPair (stops_of_trip s.trip stops)) (λ (s : PlannedStop). s.trip == trip) stops each) [

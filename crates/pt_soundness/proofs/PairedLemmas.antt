@@ -10,7 +10,7 @@ Paired R [] (y ∷ ys) = ⊥
 Paired R (x ∷ xs) [] = ⊥
 Paired R (x ∷ xs) (y ∷ ys) = R x y × Paired R xs ys
 
--- both are there, and alike, or neither is
+-- both exist and are alike, or neither exists
 abbrev pub BothOrNone : {A : Type 0} → (A → A → Type 0) → Option A → Option A → Type 0
 BothOrNone R None None = Unit {0}
 BothOrNone R None (Some y) = ⊥
@@ -85,7 +85,7 @@ module _ {A : Type 0} (R : A → A → Type 0) where
   other_there (Some z) None x h is = absurd h
   other_there (Some z) (Some y) x h is = (y, refl, let same : z ≡ x = cc in subst (λ w. R w y) same h)
 
-  -- what is there by its key is there among the others
+  -- a key in one list is in the other
   pub there_paired : (key : A → ℕ) → ((x y : A) → R x y → key x ≡ key y) → (k : ℕ) (xs ys : List A) → Paired R xs ys
       → IsTrue (is_some (record_at key k xs)) → IsTrue (is_some (record_at key k ys))
   there_paired key same k xs ys h there = subst (λ (b : Bool). IsTrue b) (both_there (record_at key k xs) (record_at key k ys) (found_paired key same k xs ys h)) there
@@ -108,7 +108,7 @@ module _ {A : Type 0} (R : A → A → Type 0) where
   at_paired (x ∷ xs) (z ∷ ys) h zero y at = (x, refl, let same : z ≡ y = cc in subst (R x) same h.0)
   at_paired (x ∷ xs) (z ∷ ys) h (suc k) y at = at_paired xs ys h.1 k y at
 
--- records that are told so by what each has
+-- records are alike if they have the same rows
 pub paired_by : {A B : Type 0} (R : A → A → Type 0) (Fits : A → Type 0) (row : A → B) → ((x y : A) → Fits x → Fits y → row x ≡ row y → R x y)
     → (xs ys : List A) → Each Fits xs → Each Fits ys → map row xs ≡ map row ys → Paired R xs ys
 paired_by R Fits row told [] [] ones others same = tt

@@ -1,4 +1,4 @@
--- A state is sound where each of its tables is.
+-- A state is sound if each of its tables is.
 use Rattle.std.proofs.Common.{ℕ, zero, suc, ◌≤◌, IsTrue, List, Option, None, Some, [], ◌∷◌, take, refl, arith}
 use Rattle.pt_base.specs.declared.rider.Rider.{Rider}
 use Rattle.pt_base.specs.declared.vehicle.Vehicle.{Vehicle}
@@ -103,7 +103,7 @@ lines_in s sound table.TripChairs = sound.planned_load
 pub sound_in : (s : State) → IsSound s → (t : TableName) → IsSoundIn s t
 sound_in s sound t = (ranges_in s sound.ranges t, lines_in s sound t)
 
--- what holds of each table holds of these
+-- a property of all tables holds for these
 pub each_table : (P : TableName → Type 0) → ((t : TableName) → P t) → (ts : List TableName) → Each P ts
 each_table P all [] = tt
 each_table P all (t ∷ ts) = (all t, each_table P all ts)
@@ -111,7 +111,7 @@ each_table P all (t ∷ ts) = (all t, each_table P all ts)
 pub sound_to : (s : State) → IsSound s → IsSoundTo table_count s
 sound_to s sound = each_table (IsSoundIn s) (sound_in s sound) all_tables
 
--- and of each part its ranges
+-- each part is in its ranges
 ranges_of : (s : State) → IsSoundTo table_count s → (p : Part) → Each (FitsIn p) (records_of p s)
 ranges_of s each part.callers = each.1.0.0
 ranges_of s each part.kept = each.1.1.0.0
@@ -172,9 +172,9 @@ sound_of s each =
       standing_planned = plans.1.standing_planned;
     }
 
--- ---- what the tables before a table tell
+-- ---- facts from the tables before a table
 
--- vehicles that keep to their ranges have first days that are days
+-- vehicles in their ranges have first days that are in the range of days
 pub days_in : (vehicles : List Vehicle) → Each IsVehicle vehicles → Each HasFirstDay vehicles
 days_in vehicles each = Each-weaker IsVehicle HasFirstDay (λ version is. is.from_day) vehicles each
 
@@ -184,7 +184,7 @@ days_to s each = let vehicles : IsSoundIn s table.Vehicles = each.1.1.1.1.1.0 in
 pub routes_to : (s : State) → IsSoundTo 10 s → Each IsRoutePlan s.planned
 routes_to s each = let plans : IsSoundIn s table.Stops = each.1.1.1.1.1.1.1.1.1.0 in plans.1.routes
 
--- what holds of the first so many holds of fewer
+-- a property of the first n holds for fewer
 fewer : {A : Type 0} (P : A → Type 0) (m n : ℕ) (xs : List A) → m ≤ n → Each P (take n xs) → Each P (take m xs)
 fewer P zero n [] le each = tt
 fewer P zero n (x ∷ xs) le each = tt

@@ -1,4 +1,4 @@
--- A case file that is gathered out of entries, one after another.
+-- A case file that is built from entries, one after another.
 use Rattle.std.proofs.Common.{◌≡◌, ℕ, ◌+◌, ◌-◌, ◌<◌, suc, List, [], ◌∷◌, ◌++◌, length, take, map, sym, ap, ◌∙◌, arith, append_assoc, length-append}
 use Rattle.std.proofs.lemmas.List.{append-nil}
 use Rattle.pt_rights.specs.declared.entry.Entered.{Entered}
@@ -7,7 +7,7 @@ use Rattle.pt_desk_rules.specs.declared.change.FiledEntry.{FiledEntry}
 abbrev pub entered_of : FiledEntry → Entered
 entered_of filed = filed.entered
 
--- what the file becomes with as many of these as there is room for
+-- the file after as many of these entries as it has room for
 abbrev pub filled : List Entered → List FiledEntry → List Entered
 filled file rest = file ++ map entered_of (take (200 - length file) rest)
 
@@ -25,6 +25,6 @@ filled-more file filed rest lt =
 no_room : (n : ℕ) → n ≡ 200 → 200 - n ≡ 0
 no_room n is = omega arith
 
--- and nothing more goes into it
+-- a full file takes no further entry
 pub filled-whole : (file : List Entered) (rest : List FiledEntry) → length file ≡ 200 → filled file rest ≡ file
 filled-whole file rest full = ap (λ n. file ++ map entered_of (take n rest)) (no_room (length file) full) ∙ append-nil file

@@ -1,4 +1,4 @@
--- A state that has an admin and nothing else is sound.
+-- A state that has only an admin is sound.
 use Rattle.std.proofs.Common.{rules, ◌≡◌, ℕ, List, [], ◌∷◌, length, sym, subst}
 use Rattle.pt_base.specs.declared.policy.Policy.{Policy}
 use Rattle.pt_desk_rules.specs.Parts.{Part, records_of}

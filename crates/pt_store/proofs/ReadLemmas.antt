@@ -1,4 +1,4 @@
--- Reads in turn, and what is made of what they tell.
+-- Reads in turn, and functions of their results.
 use Rattle.std.proofs.Common.{◌≡◌, None, Result, Ok, Err, refl, sym, subst, ap, ◌∙◌}
 use Rattle.std.specs.Result.{IsErrAnd}
 use Rattle.pt_desk_rules.specs.State.{State}
@@ -29,7 +29,7 @@ reads_pair {X} {Y} a b c f g x y first next =
     reads_then a b c x (f a.content) (both x (g b.content)) (both (f a.content) (g a.content)) None None (Ok (both x y)) first (reads_map b c (g b.content) y (both x) next)
     (λ _ is same. (ap (λ z. both z (g b.content)) is ∙ ap (λ (s : State). both (f a.content) (g s)) same, refl))
 
--- a read, and then one that looks at what the first told
+-- a read, and then one that depends on the result of the first
 pub reads_by : {X Y : Type 0} (a b c : Store) (f : State → X) (g : X → State → Y) (x : X) (y : Y) → Reads a b f (Ok x) → Reads b c (g x) (Ok y)
     → Reads {X = X × Y} a c (λ s. (f s, g (f s) s)) (Ok (x, y))
 reads_by {X} {Y} a b c f g x y first next =
@@ -62,7 +62,7 @@ pub fault_after : {X Y Z : Type 0} (a b c : Store) (x v : X) (w : Y) (u : Z) (e 
 fault_after {X} {Y} {Z} a b c x v w u e first fault =
     reads_then a b c x v u u None None (Err e) first (fault_of {X = Y} {Y = Z} b c w u e fault) (λ _ _ _. (refl, refl))
 
--- a fault after something was read, as `?` hands it on
+-- a fault after something was read, as `?` returns it
 pub fault_handed : {X Y Z : Type 0} (a b c : Store) (x v : X) (w : Y) (u : Z) (e : StoreFault) (r : Result Z StoreFault) → IsErrAnd r (λ error. error ≡ e)
     → Goes {X = X} a b v None (Ok x) → Goes {X = Y} b c w None (Err e) → Goes {X = Z} a c u None r
 fault_handed a b c x v w u e (Ok z) is first fault = absurd is

@@ -12,14 +12,14 @@ crash_on : (a b : Option State → Type 0) (left : Option State) (o : Option Sta
 crash_on a b left o stood (inr new) = inr new
 crash_on a b left o stood (inl old) = elim (stood old) [ inl was ↦ inl was | inr none ↦ absurd none ]
 
--- what is read stands
+-- a read returns its value and leaves the content
 pub read_tells : {X : Type 0} (a b : State) (v x : X) → Tells a b v None (Ok x) → (x ≡ v) × (b ≡ a)
 read_tells a b v x tells = tells
 
 served : (n : ℕ) → (n < 1) ⊎ (0 < n)
 served n = grind arith
 
--- a read goes before other calls, where what they answer and commit by its result is what was to be
+-- a read before other calls, if its result gives their answer and commit
 pub reads_then : {X Y : Type 0} (a b c : Store) (x v : X) (w w' : Y) (left left' : Option State) (r : Result Y StoreFault)
     → Goes a b v None (Ok x) → Goes b c w left r → (c.doubt ≡ 0 → x ≡ v → b.content ≡ a.content → (w ≡ w') × (left ≡ left')) → Goes a c w' left' r
 reads_then {X} {Y} a b c x v w w' left left' r first next same =
@@ -55,7 +55,7 @@ none_left None a o none (inl was) = was
 none_left None a o none (inr new) = absurd new
 none_left (Some new) a o none found = absurd (cc)
 
--- what commits nothing leaves no more at a crash than there was
+-- calls that commit nothing leave at a crash only what was there
 pub leaves_nothing : {X : Type 0} (before after : Store) (value : X) (left : Option State) (result : Result X StoreFault) (o : Option State)
     → Goes before after value left result → left ≡ None → after.doubt ≡ 0 → after.found o → before.found o
 leaves_nothing before after value left result o goes none clean found = none_left left before.found o none ((goes.holds clean).crash o found)

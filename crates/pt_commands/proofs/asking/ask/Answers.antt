@@ -1,6 +1,6 @@
 use Rattle.pt_commands.proofs.asking.ask.Goals as goal
 
--- src/asking.rt:93:1
+-- the outcome is by the desk's reply
 pub returns : goal.returns
 returns g c = record
     { asked = (c.answer-reply.result, c.answer-reply.ensures.goes, c.print_reply.ensures.ends, c.print_reply.ensures.printed) }

@@ -8,7 +8,7 @@ use Rattle.pt_requests.specs.declared.request.Answer.{Answer}
 use Rattle.pt_desk.proofs.RunLemmas.{IsSame}
 use Rattle.pt_desk.proofs.running.run.Given as goal
 
--- what is left completes the run, however it goes on
+-- the remaining calls complete the run, whatever they are
 abbrev pub invariant-loop-call : goal.invariant-loop-call
 invariant-loop-call g l =
     let store = g.K.Keeper.store in
