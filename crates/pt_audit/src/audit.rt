@@ -14,7 +14,7 @@ use pt_travel::Times;
 
 /// Whether the log is right for this trip, these vehicles and their routes. It takes no memory.
 ///
-/// Where it is, the trip has no place in any of the routes, whoever made the log.
+/// If it is, the trip has no place in any of the routes, whoever made the log.
 pub fn check<T: Times>(log: &Log, duties: &[Duty<'_>], asked: &Asked, times: &T) -> bool
     requires new_trip { All (λ duty. IsWithout asked.now.trip (stops_of duty.route.now)) duties.now }
     ensures right { IsTrue result ↔ IsRightLog (T.minutes times.now) duties.now asked.now log.now.lines.items }
@@ -34,14 +34,14 @@ pub fn check<T: Times>(log: &Log, duties: &[Duty<'_>], asked: &Asked, times: &T)
     at == lines.len()
 }
 
-/// Whether the only line is that there is no way from the origin to the goal.
+/// Whether the only line says that there is no way from the origin to the goal.
 fn is_no_direct(lines: &[Line]) -> bool
     ensures { IsTrue result ↔ (lines.now ≡ Line.NoDirect ∷ []) }
 {
     matches!(lines, [Line::NoDirect])
 }
 
-/// Where the lines of a vehicle's cases end that begin at `start`; `None` where they are not right.
+/// The end of the lines of a vehicle's cases that begin at `start`; `None` if they are not right.
 fn vehicle_end<T: Times>(
     lines: &[Line],
     start: usize,
@@ -62,7 +62,7 @@ fn vehicle_end<T: Times>(
     Some(at)
 }
 
-/// Where the lines of a pickup's cases end that begin at `start`; `None` where they are not right.
+/// The end of the lines of a pickup's cases that begin at `start`; `None` if they are not right.
 fn pickup_end<T: Times>(
     lines: &[Line],
     start: usize,

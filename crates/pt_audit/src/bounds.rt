@@ -17,7 +17,7 @@ pub const MAX_VISITS: usize = 104;
 
 const _: () = prove!(MAX_STOPS + 4 == MAX_VISITS);
 
-/// Whether a raise is right by the bounds that stand before it.
+/// Whether a raise is right by the bounds before it.
 pub(crate) fn is_right_raise<T: Times>(
     insertion: &Insertion<'_>,
     times: &T,
@@ -38,7 +38,7 @@ pub(crate) fn is_right_raise<T: Times>(
     }
 }
 
-/// Whether the minute is no later than the window of visit `k` begins.
+/// Whether the minute is no later than the beginning of the window of visit `k`.
 fn is_in_window(insertion: &Insertion<'_>, k: usize, minute: u32) -> bool
     ensures { IsTrue result ↔ IsRightRaise (λ _ _. None) insertion.now.vehicle.now
         (inserted_stops insertion.now) (λ _. 0) (Raise.Window k minute) }
@@ -46,7 +46,7 @@ fn is_in_window(insertion: &Insertion<'_>, k: usize, minute: u32) -> bool
     k < insertion.len() + 2 && minute <= insertion.visit(k).lo.number()
 }
 
-/// Whether the minute is no later than the vehicle arrives at visit `k` from the visit before.
+/// Whether the minute is no later than the vehicle's arrival at visit `k` from the visit before.
 fn is_after_drive<T: Times>(
     insertion: &Insertion<'_>,
     times: &T,
@@ -71,7 +71,7 @@ fn is_after_drive<T: Times>(
     }
 }
 
-/// Whether visit `k` is a pickup whose drop lies so late that the pickup is not before the minute.
+/// Whether visit `k` is a pickup that cannot begin before the minute, by its ride limit and the bound of its drop.
 fn is_before_drop(insertion: &Insertion<'_>, bounds: &Bounds, k: usize, minute: u32) -> bool
     ensures { IsTrue result ↔ RidesTo (inserted_stops insertion.now) (slice_index bounds.now) k minute }
 {
@@ -108,7 +108,7 @@ pub fn raise_bound(bounds: &mut Bounds, raise: Raise)
     bounds[k] = bounds[k].max(minute);
 }
 
-/// Whether an end is right by the bounds that stand before it.
+/// Whether an end is right by the bounds before it.
 pub fn is_right_end<T: Times>(
     insertion: &Insertion<'_>,
     times: &T,

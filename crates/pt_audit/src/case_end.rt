@@ -8,7 +8,7 @@ use crate::bounds::{MAX_VISITS, is_right_end, is_right_raise, raise_bound};
 use crate::insertion::Insertion;
 use pt_travel::Times;
 
-/// Where the lines of the case end that begin at `start`; `None` where they are not right.
+/// The end of the lines of the case that begin at `start`; `None` if they are not right.
 pub(crate) fn case_end<T: Times>(
     lines: &[Line],
     start: usize,

@@ -14,7 +14,7 @@ pub struct Insertion<'a> {
     pub asked: &'a Asked,
     /// After how many of the route's stops the pickup comes.
     pub i: usize,
-    /// After how many of the route's stops, as it was, the drop comes.
+    /// After how many of the route's old stops the drop comes.
     pub j: usize,
     ghost drop_later: { i ≤ j },
     ghost among: { j ≤ length (stops_of route.now) },

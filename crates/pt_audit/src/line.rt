@@ -20,13 +20,13 @@ pub enum Line {
 /// A new lower bound, in minutes of the day, of the service time at a visit; 0 is leaving the depot.
 #[derive(Clone, Copy, PartialEq, Eq)]
 pub enum Raise {
-    /// `F k n`: visit `k` does not begin before minute `n`, for so its window says.
+    /// `F k n`: visit `k` does not begin before minute `n`, by its window.
     Window(u32, u32),
     /// `A k n`: the vehicle does not arrive at visit `k` before minute `n`.
     Drive(u32, u32),
-    /// `P k n`: the pickup at visit `k` is not before minute `n`, for the ride would be too long.
+    /// `P k n`: the pickup at visit `k` does not begin before minute `n`, or the ride would be too long.
     Ride(u32, u32),
-    /// `T 0 n`: the vehicle does not leave its depot before minute `n`, for its route would be too long.
+    /// `T 0 n`: the vehicle does not leave its depot before minute `n`, or its route would take too long.
     Duration(u32),
 }
 

@@ -16,7 +16,7 @@ struct Total {
 }
 
 impl Total {
-    /// Nobody.
+    /// The total of no party.
     fn none() -> Self
         ensures seats { result.seats ≡ 0 }
         ensures chairs { result.chairs ≡ 0 }
@@ -27,7 +27,7 @@ impl Total {
         }
     }
 
-    /// One party more.
+    /// The total with one more party.
     fn with(self, load: Load) -> Self
         requires seats { self.seats ≤ 4_000_000_000 }
         requires chairs { self.chairs ≤ 4_000_000_000 }

@@ -13,12 +13,12 @@ use pt_base::Fault;
 use pt_base::fault::LOG_LINE;
 use std::alloc::{AllocError, Global};
 
-/// The log of the text; or the first row that is not in form, or want of memory.
+/// The log of the text. The fault is the first row that is not in form, or out of memory.
 pub fn read_log(alloc: Global, text: &[u8]) -> Result<Log, Fault>
     ensures log { IfOk result (λ log. IsLogText text.now log.lines.items) }
     ensures fault { IfErr result (λ error. (error ≡ fault memory_refused)
         ⊎ ((error.code ≡ log_line_refused) × FailsAt text.now error.row)) }
-    // so the fault never comes of a text that is a log
+    // so a text that is a log never has this fault
     ensures no_log { IfErr result (λ error. error.code ≡ log_line_refused → IsNoLog text.now) }
 {
     if !is_opened(text) {
@@ -54,14 +54,14 @@ fn is_opened(text: &[u8]) -> bool
     text.len() >= OPENING.len() && &text[..OPENING.len()] == OPENING.as_slice()
 }
 
-/// Whether the last line of a log is all that is left.
+/// Whether the rest of the text is the last line of a log.
 fn is_closing(text: &[u8]) -> bool
     ensures { IsTrue result ↔ (text.now ≡ closing) }
 {
     text == b"DONE\n".as_slice()
 }
 
-/// The first line of the text, and what follows it; `None` where it is not in form.
+/// The first line of the text, and what follows it; `None` if it is not in form.
 fn first_line(text: &[u8]) -> Option<(Line, &[u8])>
     ensures line { IfSome result (λ found. IsInForm found.0 × (text.now ≡ line_text found.0 ++ found.1.now)) }
     ensures none { IsNone result → (line : Line) (more : List ℕ) → IsInForm line → text.now ≢ line_text line ++ more }
@@ -74,7 +74,7 @@ fn first_line(text: &[u8]) -> Option<(Line, &[u8])>
     Some((line, after))
 }
 
-/// The first line of the text without its end, and what follows.
+/// The first line of the text without its newline, and what follows.
 fn words(text: &[u8]) -> Option<(Line, &[u8])>
     ensures line { IfSome result (λ found. IsInForm found.0 × (text.now ≡ words_of found.0 ++ found.1.now)) }
     ensures all { (line : Line) (more : List ℕ) → IsInForm line → text.now ≡ words_of line ++ 10 ∷ more
@@ -188,7 +188,7 @@ fn after_case(text: &[u8]) -> Option<&[u8]>
     }
 }
 
-/// A space and a number, and what follows its digits; `None` where there is none in form.
+/// The number after a space, and what follows its digits; `None` if there is none in form.
 fn number(text: &[u8]) -> Option<(u32, &[u8])>
     ensures number { IfSome result (λ found. IsNumber found.0 × (text.now ≡ number_text found.0 ++ found.1.now)) }
     ensures all { (n : ℕ) (more : List ℕ) → IsNumber n → slice_index more 0 < 48 → text.now ≡ number_text n ++ more
@@ -205,7 +205,7 @@ fn number(text: &[u8]) -> Option<(u32, &[u8])>
     continued(u32::from(first), rest)
 }
 
-/// The number of which `value` has the first digits and the text the others, and what follows them.
+/// The number whose first digits are in `value` and whose other digits begin the text, and what follows them.
 fn continued(value: u32, text: &[u8]) -> Option<(u32, &[u8])>
     requires { 0 < value }
     ensures number { IfSome result (λ found. IsNumber found.0
@@ -223,7 +223,7 @@ fn continued(value: u32, text: &[u8]) -> Option<(u32, &[u8])>
     Some((number, rest))
 }
 
-/// The number with one digit more, if it may stand in a log.
+/// The number with one more digit, if it is in the range of a log.
 fn with_digit(number: u32, digit: u8) -> Option<u32>
     ensures some { IfSome result (λ longer. IsNumber longer × (longer ≡ number * 10 + digit)) }
     ensures none { IfNone result (2 ^ 32 ≤ number * 10 + digit) }

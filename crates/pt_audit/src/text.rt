@@ -6,7 +6,7 @@ use crate::{End, Line, Raise};
 use arrayvec::ArrayVec;
 use itoa::Buffer;
 
-/// How many bytes a line may have: a word of eight letters, three numbers after spaces, and a newline.
+/// The most bytes in a line: a word of eight letters, three numbers after spaces, and a newline.
 pub const LONGEST_LINE: usize = 42;
 
 /// A line in bytes, with its newline.

@@ -5,7 +5,7 @@ ghost use Rattle.pt_base.specs.DateText.{text_of};
 
 use jiff_core::civil::Date;
 
-/// How many bytes a date's text has.
+/// The number of bytes in a date's text.
 pub(crate) const LENGTH: usize = 10;
 
 /// The number below 100 in two digits.
@@ -16,7 +16,7 @@ fn two_digits(number: u8) -> [u8; 2]
     [b'0' + number / 10, b'0' + number % 10]
 }
 
-/// The number that two bytes spell; `None` where one is no digit.
+/// The number that two bytes spell; `None` if one is not a digit.
 fn two_digit_number(tens: u8, units: u8) -> Option<u8>
     ensures below { IfSome result (λ number. number < 100) }
     ensures value { (number : ℕ) → number < 100 → (result ≡ Some number) ↔ (pad2 number ≡ tens ∷ units ∷ []) }
@@ -40,7 +40,7 @@ pub(crate) fn spelled(date: Date) -> [u8; LENGTH]
     [a, b, c, d, b'-', e, f, b'-', g, h]
 }
 
-/// The year, month and day that a text of the form `YYYY-MM-DD` has, whether or not there is such a date.
+/// The year, month and day in a text of the form `YYYY-MM-DD`, whether or not the calendar has that date.
 fn numbers(text: &str) -> Option<(u16, u8, u8)>
     ensures below { IfSome result (λ n. (n.0 < 10_000) × (n.1 < 100) × (n.2 < 100)) }
     ensures value { (year month day : ℕ) → year < 10_000 → month < 100 → day < 100
@@ -56,7 +56,7 @@ fn numbers(text: &str) -> Option<(u16, u8, u8)>
     Some((u16::from(century) * 100 + u16::from(years), month, day))
 }
 
-/// The date that the text spells as `YYYY-MM-DD`; `None` where the calendar has no such date.
+/// The date that the text spells as `YYYY-MM-DD`; `None` if the calendar has no such date.
 pub(crate) fn read(text: &str) -> Option<Date>
     ensures spelled { IfSome result (λ date. (pos 0 ≤ℤ date.year) × (date_text date ≡ text.now)) }
     ensures none { IsNone result → (date : the_date.Date) → pos 0 ≤ℤ date.year → date_text date ≢ text.now }

@@ -61,7 +61,7 @@ impl Day {
         self.days
     }
 
-    /// The day so many days later; `None` past 2099-12-31.
+    /// The day this many days later; `None` past 2099-12-31.
     pub fn plus(self, days: u16) -> Option<Self>
         ensures in_range { IsSome result ↔ (self + days ≤ last_day) }
         ensures value { IfSome result (λ day. day ≡ self + days) }

@@ -3,16 +3,16 @@ ghost use Rattle.pt_base.specs.Codes.{memory_refused};
 
 use std::alloc::AllocError;
 
-/// Memory was refused.
+/// Out of memory.
 pub const MEMORY: u16 = 0;
 
-/// A text is no date of the calendar in the form `YYYY-MM-DD`.
+/// A text is not a date of the calendar in the form `YYYY-MM-DD`.
 pub const NO_SUCH_DATE: u16 = 1;
 
 /// A date lies outside 2000 to 2099.
 pub const DATE_OUT_OF_RANGE: u16 = 2;
 
-/// A zone text is no POSIX rule.
+/// A zone text is not a POSIX time zone rule.
 pub const NO_SUCH_ZONE: u16 = 3;
 
 /// A fixed route has fewer than 2 or more than 200 points.
@@ -27,13 +27,13 @@ pub const ROUTE_COORDINATE: u16 = 12;
 /// A fixed route's first minute comes after its last.
 pub const ROUTE_HOURS: u16 = 13;
 
-/// A record of a travel table is no CSV, or has another number of fields than three.
+/// A record of a travel table is not CSV, or does not have three fields.
 pub const TRAVEL_RECORD: u16 = 20;
 
 /// A travel table does not begin with the header `from,to,minutes`.
 pub const TRAVEL_HEADER: u16 = 21;
 
-/// A travel table names a place that is not there.
+/// A travel table names a place that does not exist.
 pub const TRAVEL_PLACE: u16 = 22;
 
 /// A travel table's minutes are not 0 to 1439.
@@ -57,7 +57,7 @@ pub const MOMENT_LINE: u16 = 48;
 /// A line of a log of refusals is not in form.
 pub const LOG_LINE: u16 = 50;
 
-/// What went wrong outside the rules: its code, and the row of the input where it was found, or 0.
+/// What went wrong outside the rules: its code, and the row of the input where it was found, or 0 for none.
 #[derive(Clone, Copy, Debug, PartialEq, Eq)]
 pub struct Fault {
     pub code: u16,
@@ -65,7 +65,7 @@ pub struct Fault {
 }
 
 impl Fault {
-    /// A fault of no row.
+    /// The fault with this code, in no row.
     pub fn of(code: u16) -> Self
         ensures code { result.code ≡ code }
         ensures row { result.row ≡ 0 }

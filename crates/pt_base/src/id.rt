@@ -4,7 +4,7 @@ use std::marker::{Model, PhantomData};
 
 /// The number of a record of one kind, from 1 to 4,294,967,295.
 ///
-/// The kind keeps the numbers of riders, places and the rest apart, and takes no room.
+/// The kind keeps numbers of riders, places and so on from being mixed up. It takes no memory.
 #[derive(Clone, Copy, PartialEq, Eq, PartialOrd, Ord)]
 pub struct Id<Kind> {
     number: u32,

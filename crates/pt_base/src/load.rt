@@ -3,12 +3,12 @@ ghost use Rattle.pt_base.specs.Load.{no_load, load_sum, load_difference, IsLoad,
 
 use crate::Vehicle;
 
-/// What one party, or all parties aboard, take of a vehicle's room.
+/// The room in a vehicle that one party takes, or all parties aboard.
 #[derive(Clone, Copy, PartialEq, Eq)]
 pub struct Load {
-    /// How many persons take a seat.
+    /// Persons who take a seat.
     pub seats: u16,
-    /// How many riders take a wheelchair place.
+    /// Riders who take a wheelchair place.
     pub chairs: u16,
 }
 
@@ -23,7 +23,7 @@ impl Load {
         }
     }
 
-    /// Both together; `None` where a part of that is more than any vehicle carries.
+    /// The sum of both loads; `None` if a part of it is more than any vehicle carries.
     pub fn plus(self, other: Load) -> Option<Self>
         ensures in_range { IsSome result ↔ IsLoad (load_sum self other) }
         ensures value { IfSome result (λ load. load ≡ load_sum self other) }
@@ -33,7 +33,7 @@ impl Load {
         Some(Load { seats, chairs })
     }
 
-    /// What stays aboard when the other leaves; nothing of a part in which the other is the larger.
+    /// What stays aboard when the other load leaves; 0 in a part where the other is larger.
     pub fn minus(self, other: Load) -> Self
         ensures { result ≡ load_difference self other }
     {
@@ -43,7 +43,7 @@ impl Load {
         }
     }
 
-    /// Whether the vehicle carries it.
+    /// Whether the vehicle has room for the load.
     pub fn fits(self, vehicle: &Vehicle) -> bool
         ensures { IsTrue result ↔ FitsWithin self vehicle.now }
     {

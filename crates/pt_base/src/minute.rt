@@ -23,7 +23,7 @@ impl Model for Minute {
 }
 
 impl Minute {
-    /// The minute after so many minutes since midnight; `None` past 1439.
+    /// The minute with this number, counted from midnight; `None` past 1439.
     pub fn of(number: u32) -> Option<Self>
         ensures in_range { IsSome result ↔ (number ≤ last_minute) }
         ensures value { IfSome result (λ minute. minute ≡ number) }

@@ -3,7 +3,7 @@ ghost use Rattle.pt_base.specs.SpelledNumber.{SpellsNumber, number_from};
 
 use std::str;
 
-/// The number that one to so many digits spell, where it is at most this.
+/// The number that the bytes spell in 1 to `digits` decimal digits; `None` if they spell none or one above `most`.
 pub fn number_from(bytes: &[u8], digits: usize, most: u64) -> Option<u64>
     ensures value { result ≡ number_from digits most bytes.now }
     ensures spelled { IfSome result (SpellsNumber digits most bytes.now) }
@@ -12,7 +12,7 @@ pub fn number_from(bytes: &[u8], digits: usize, most: u64) -> Option<u64>
     spelled_number(bytes, digits, most)
 }
 
-/// The same, as the digits are read.
+/// The same as `number_from`, digit by digit.
 fn spelled_number(bytes: &[u8], digits: usize, most: u64) -> Option<u64>
     ensures spelled { IfSome result (SpellsNumber digits most bytes.now) }
     ensures none { IsNone result → (number : ℕ) → ¬ (SpellsNumber digits most bytes.now number) }

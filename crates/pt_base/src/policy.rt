@@ -1,7 +1,7 @@
 ghost use Rattle.std.specs.Prelude.{◌≤◌};
 ghost use Rattle.std.specs.Int.{IsInRange};
 
-/// What the agency has settled on: fares in cents, minutes, and when missed trips make a pattern.
+/// The agency's settings: fares in cents, minutes, and when missed trips make a pattern.
 #[derive(Clone, Copy)]
 pub struct Policy {
     /// The fixed fare on one route, in cents, at most 100,000.
@@ -12,13 +12,13 @@ pub struct Policy {
     pub fare: u32,
     /// Minutes at each stop, at most 30.
     pub service: u16,
-    /// How many minutes a ride may take beyond the direct time, at most 240.
+    /// The minutes that a ride may take beyond the direct time, at most 240.
     pub extra_ride: u16,
     /// The fewest missed trips that make a pattern, 1 to 1,000.
     pub min_missed: u16,
     /// The least share of missed trips that makes a pattern, in percent, 1 to 100.
     pub percent: u16,
-    /// How many days back a pattern is looked for, 1 to 366.
+    /// The number of days before today in which missed trips count, 1 to 366.
     pub span_days: u16,
     ghost base_in_range: { base ≤ 100_000 },
     ghost transfer_in_range: { transfer ≤ 100_000 },

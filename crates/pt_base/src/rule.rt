@@ -4,27 +4,27 @@ ghost use Rattle.pt_base.specs.Rule.{name_of};
 /// A rule by which the desk denies a request.
 #[derive(Clone, Copy, PartialEq, Eq)]
 pub enum Rule {
-    /// Nobody has this key.
+    /// No caller has this key.
     Key,
     /// The number is not above the last accepted one of this caller.
     Number,
     /// The caller may not make this request.
     Caller,
-    /// A record that the request names is not there.
+    /// A record that the request names does not exist.
     Unknown,
-    /// The trip is past the point where it may be changed so.
+    /// The trip can no longer be changed in this way.
     Over,
-    /// The trip's day has not come.
+    /// The trip's day has not come yet.
     Early,
-    /// A record that the request makes is there already.
+    /// A record that the request makes exists already.
     Exists,
-    /// Standing trips depend on what the request would replace.
+    /// Trips that are not cancelled depend on what the request would replace.
     Booked,
     /// A table is at its limit.
     Full,
     /// Case files are for residents.
     Residents,
-    /// An application and its decision come in turn, the presumption among their rules.
+    /// An application and its decision come in turn; the presumption of eligibility is in the same section.
     Application,
     /// A grant has a last day, which has not passed.
     LastDay,

@@ -10,15 +10,15 @@ pub struct Wish {
     pub pickup: Minute,
     pub from: PlaceId,
     pub to: PlaceId,
-    /// When the rider has to be there, if by any minute.
+    /// The latest minute for the drop, if the rider gives one.
     pub by: Option<Minute>,
     /// Whether an attendant comes along.
     pub attendant: bool,
-    /// How many others come along, be it more than the rules allow.
+    /// How many others come along; it may be more than the rules allow.
     pub companions: u8,
 }
 
-/// A trip that was booked, with what was settled then: later policies and tables leave it as it is.
+/// A booked trip, with what was fixed then: later policies and tables leave it as it is.
 #[derive(Clone, Copy)]
 pub struct Trip {
     pub id: TripId,

@@ -1,12 +1,12 @@
 ghost use Rattle.std.specs.Prelude.{◌≡◌};
 ghost use Rattle.pt_base.specs.TripStatus.{stands};
 
-/// How far a trip has come.
+/// What has become of a trip.
 #[derive(Clone, Copy, PartialEq, Eq)]
 pub enum TripStatus {
     /// It is planned.
     Booked,
-    /// The rider gave it up.
+    /// It was cancelled.
     Cancelled,
     /// The rider rode.
     Ridden,
@@ -17,7 +17,7 @@ pub enum TripStatus {
 }
 
 impl TripStatus {
-    /// Whether the trip stands: whatever came of it, it was not cancelled.
+    /// Whether the trip was not cancelled.
     pub fn stands(self) -> bool
         ensures value { result ≡ stands self }
     {

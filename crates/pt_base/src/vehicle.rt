@@ -12,15 +12,15 @@ pub struct Vehicle {
     pub days: Weekdays,
     /// Where its route begins and ends.
     pub depot: PlaceId,
-    /// How many seats it has, 1 to 30.
+    /// Its seats, 1 to 30.
     pub capacity: u16,
-    /// How many wheelchair places it has, 0 to 10.
+    /// Its wheelchair places, 0 to 10.
     pub chairs: u16,
     /// When it may leave its depot.
     pub opens: Minute,
     /// When it has to be back.
     pub closes: Minute,
-    /// How many minutes its route may take, 1 to 1439.
+    /// The most minutes that its route may take, 1 to 1439.
     pub duration: u16,
     ghost capacity_in_range: { IsInRange 1 30 capacity },
     ghost chairs_in_range: { chairs ≤ 10 },

@@ -17,7 +17,7 @@ pub enum Weekday {
 }
 
 impl Weekday {
-    /// The weekday that comes so many days after a Monday; `None` from 7 on.
+    /// The weekday with this number, counted from 0 for Monday; `None` from 7 on.
     pub fn of(number: u32) -> Option<Self>
         ensures in_range { IsSome result ↔ (number < 7) }
         ensures value { IfSome result (λ weekday. number_of weekday ≡ number) }

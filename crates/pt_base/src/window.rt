@@ -1,6 +1,6 @@
 use crate::Minute;
 
-/// From which to which minute of the day a pickup may begin.
+/// The first and the last minute of the day at which a pickup may begin.
 #[derive(Clone, Copy)]
 pub struct Window {
     pub from: Minute,

@@ -26,13 +26,13 @@ use std::alloc::{AllocError, Global};
 #[derive(Drop)]
 pub struct Booking {
     pub trip: Trip,
-    /// Its place in its vehicle's route of before, and the least service times of the new one.
+    /// Its place in its vehicle's old route, and the least service times of the new one.
     pub chosen: Chosen,
     /// Its vehicle's new route.
     pub route: Route,
 }
 
-/// What comes of a request.
+/// The decision on a request.
 #[derive(Drop)]
 pub enum Decision {
     /// The trip is booked.
@@ -44,7 +44,7 @@ pub enum Decision {
 /// Books the trip at the best place in the routes of the vehicles on duty on its day, or denies it by the first rule
 /// that fails.
 ///
-/// Only the new route of a trip that can be booked takes memory.
+/// It takes memory only for the new route of a trip that can be booked.
 pub fn book<T: Times>(
     alloc: Global,
     request: &TripRequest<'_>,
@@ -55,7 +55,7 @@ pub fn book<T: Times>(
     requires rising { AllPairs (λ first second. first.vehicle.now.id < second.vehicle.now.id) duties.now }
     requires new_trip { All (λ duty. IsWithout request.now.trip (stops_of duty.route.now)) duties.now }
 
-    // No vehicle is the last of the rules: it says that nothing is possible in any route.
+    // `NoVehicle` is the last of the rules: it says that nothing is possible in any route.
     ensures denied { (rule : Rule) → (result ≡ Ok (Decision.Denied rule)) ↔ IsFirstFailing
         (booking_rules (T.minutes times.now) (on_duty duties.now) (request_of request.now)) (Some rule) }
     ensures allowed { spec.IsAllowed result ↔ IsFirstFailing

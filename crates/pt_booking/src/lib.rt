@@ -1,5 +1,5 @@
-//! The decision on a booking: the first rule of 49 CFR Part 37 that a trip request fails, or the trip as it is booked
-//! and its vehicle's new route.
+//! The decision on a booking: the first rule of 49 CFR Part 37 that a trip request fails, or the booked trip and its
+//! vehicle's new route.
 #![tactic(auto)]
 
 pub use booking::{Booking, Decision, book};

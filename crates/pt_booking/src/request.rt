@@ -6,7 +6,7 @@ use pt_corridor::FixedRoute;
 use pt_party::Party;
 use pt_rights::CaseFile;
 
-/// A trip that is asked for, with all that its rules look at but vehicles and driving times.
+/// A requested trip, with all that its rules use except vehicles and driving times.
 #[derive(Clone, Copy)]
 pub struct TripRequest<'a> {
     /// The number that the trip is to have.

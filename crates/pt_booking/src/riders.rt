@@ -13,7 +13,7 @@ use pt_party::party_rule;
 use pt_rights::Standing;
 use pt_visitors::visitor_may;
 
-/// The first rule that a request fails before any vehicle is looked at; `None` where it fails none of these.
+/// The first rule that a request fails, of those that need no vehicle; `None` if it fails none of them.
 ///
 /// It takes no memory.
 pub fn riders_denial(request: &TripRequest<'_>) -> Option<Rule>
@@ -33,7 +33,7 @@ pub fn riders_denial(request: &TripRequest<'_>) -> Option<Rule>
     ])
 }
 
-/// The first of the rules that fails, in their order; each stands with whether it holds.
+/// The first of the rules that fails, in their order; each comes with whether it holds.
 pub fn first_failing(rules: &[(Rule, bool)]) -> Option<Rule>
     ensures value { result ≡ tested.first_failing rules.now }
 {

@@ -4,13 +4,13 @@ ghost use Rattle.pt_booking.specs.Window as spec;
 
 use pt_base::{LAST_MINUTE, Minute, Window};
 
-/// How many minutes from the wished one a pickup may be planned.
+/// The most minutes between the wished and the planned pickup.
 const WISHED_LEEWAY: u16 = 60;
 
-/// How many minutes from the planned one a pickup may come.
+/// The most minutes between the planned pickup and the actual one.
 const PROMISED_LEEWAY: u16 = 15;
 
-/// The window in which a pickup is planned that is wished for at this minute.
+/// The window in which a pickup may be planned if it is wished at this minute.
 pub fn wished_window(wish: Minute) -> Window
     ensures { result ≡ spec.wished_window wish }
 {
@@ -20,7 +20,7 @@ pub fn wished_window(wish: Minute) -> Window
     }
 }
 
-/// The window that is promised for a pickup that is planned for this minute.
+/// The window that is promised for a pickup that is planned at this minute.
 pub fn promised_window(wished: Window, pickup: Minute) -> Window
     ensures { result ≡ spec.promised_window wished pickup }
 {
@@ -30,14 +30,14 @@ pub fn promised_window(wished: Window, pickup: Minute) -> Window
     }
 }
 
-/// The minute so many minutes earlier, or midnight.
+/// The minute this many minutes earlier, or midnight.
 fn earlier(minute: Minute, minutes: u16) -> Minute
     ensures { result ≡ minute - minutes }
 {
     Minute::of(minute.number().saturating_sub(u32::from(minutes))).unwrap()
 }
 
-/// The minute so many minutes later, or the last of the day.
+/// The minute this many minutes later, or the last of the day.
 fn later(minute: Minute, minutes: u16) -> Minute
     ensures { result ≡ min (minute + minutes) last_minute }
 {

@@ -29,9 +29,9 @@ fn minute_of(clock: DateTime) -> Minute
     Minute::of(u32::from(time.hour) * 60 + u32::from(time.minute)).unwrap()
 }
 
-/// The day and the minute that clocks of a zone show at an instant. The zone is given by its POSIX rule, such as
-/// `EST5EDT,M3.2.0,M11.1.0`. A text that is no such rule is the fault `NO_SUCH_ZONE`; with a rule, a day outside 2000
-/// to 2099 is `DATE_OUT_OF_RANGE`.
+/// The day and the minute that clocks of a zone show at an instant. The zone is a POSIX time zone rule, such as
+/// `EST5EDT,M3.2.0,M11.1.0`. The fault is `NO_SUCH_ZONE` if the text is not such a rule, and else `DATE_OUT_OF_RANGE`
+/// if the day is outside 2000 to 2099.
 pub fn now_in(zone: &str, instant: Timestamp) -> Result<Moment, Fault>
     ensures local { IfOk result (λ now. IsLocalTime zone.now instant.nanosecond (pos now.day) now.minute) }
     // The clocks show nothing else.
@@ -55,10 +55,10 @@ pub fn now_in(zone: &str, instant: Timestamp) -> Result<Moment, Fault>
     })
 }
 
-/// The day and the minute on the clocks of a zone, where a clock that could not be read gives no instant.
+/// The day and the minute on the clocks of a zone; `clock` is `None` if the clock could not be read.
 ///
-/// The zone is looked at first: a text that is no rule of a zone is the fault `NO_SUCH_ZONE`, whatever the clock says.
-/// With a rule, a clock that could not be read is `DATE_OUT_OF_RANGE`, as one that is out of range.
+/// The zone is checked first: if its text is not a time zone rule, the fault is `NO_SUCH_ZONE`. Else an unread clock,
+/// or a day outside 2000 to 2099, is the fault `DATE_OUT_OF_RANGE`.
 pub fn moment_of(zone: &str, clock: Option<Timestamp>) -> Result<Moment, Fault>
     ensures local { IfSome clock (λ instant. IfOk result (λ now.
         IsLocalTime zone.now instant.nanosecond (pos now.day) now.minute)) }

@@ -1,4 +1,4 @@
-//! The conditions of a grant, under 49 CFR 37.123: which trips they cover, and how they read as texts in bodies,
+//! The conditions of a grant, under 49 CFR 37.123: which trips they cover, and their texts in message bodies,
 //! letters and tables.
 #![tactic(auto)]
 

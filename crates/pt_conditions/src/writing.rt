@@ -8,7 +8,7 @@ use arrayvec::ArrayVec;
 use itoa::Buffer;
 use pt_rights::{Condition, Months};
 
-/// How many bytes the text of a condition has at most.
+/// The most bytes in the text of a condition.
 pub const LONGEST_CONDITION: usize = 43;
 
 /// The text of a condition: `always`, `months:1,2,12`, `farther:5280` or `nolift`.

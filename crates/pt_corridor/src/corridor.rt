@@ -6,7 +6,7 @@ use crate::FixedRoute;
 use crate::near::is_near_line;
 use pt_base::{Day, Minute, Place, Point};
 
-/// Whether the point is within so many feet of the route's line, whatever the route's width is.
+/// Whether the point is within this many feet of the route's line, whatever the route's width is.
 pub fn within(route: &FixedRoute, point: Point, feet: u32) -> bool
     ensures { IsTrue result ↔ IsNearLine feet point route.now.points }
 {

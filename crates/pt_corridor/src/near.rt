@@ -48,7 +48,7 @@ impl Way {
     }
 }
 
-/// Whether the point is within so many feet of the segment, ends included.
+/// Whether the point is within this many feet of the segment, ends included.
 ///
 /// Nothing is rounded. The two products compared last are at most 2^108.
 fn is_near_segment(point: Point, start: Point, end: Point, feet: u32) -> bool
@@ -72,14 +72,14 @@ fn is_near_segment(point: Point, start: Point, end: Point, feet: u32) -> bool
     across * across <= reach * length
 }
 
-// Whether so many feet from one coordinate on do not come to another.
+// Whether `to` is more than this many feet above `from`.
 fn falls_short(feet: u32, from: i32, to: i32) -> bool
     ensures { IsTrue result ↔ FallsShort feet from to }
 {
     i64::from(from) + i64::from(feet) < i64::from(to)
 }
 
-// Whether both ends of a segment lie further than so many feet to one side, in one coordinate.
+// Whether, in one coordinate, both ends of a segment lie more than this many feet to the same side of the point.
 fn is_beyond(feet: u32, at: i32, start: i32, end: i32) -> bool
     ensures { IsTrue result ↔ IsBeyond feet at start end }
 {
@@ -87,16 +87,16 @@ fn is_beyond(feet: u32, at: i32, start: i32, end: i32) -> bool
         || falls_short(feet, start, at) && falls_short(feet, end, at)
 }
 
-// Whether the point is not in the box that goes so many feet around the segment.
+// Whether the point is outside the box that reaches this many feet around the segment.
 fn is_outside_box(point: Point, start: Point, end: Point, feet: u32) -> bool
     ensures { IsTrue result ↔ IsOutsideBox feet point start end }
 {
     is_beyond(feet, point.x, start.x, end.x) || is_beyond(feet, point.y, start.y, end.y)
 }
 
-/// Whether the point is within so many feet of one of the line's segments.
+/// Whether the point is within this many feet of one of the line's segments.
 ///
-/// A segment is measured only where the point is in the box around it.
+/// A segment is measured only if the point is in the box around it.
 pub(crate) fn is_near_line(line: &[Point], point: Point, feet: u32) -> bool
     requires { All (λ p. IsOnPlane p.x p.y) line.now }
     ensures { IsTrue result ↔ IsNearLine feet point line.now }

@@ -20,7 +20,7 @@ pub const MIN_POINTS: usize = 2;
 /// The most points of a fixed route.
 pub const MAX_POINTS: usize = 200;
 
-/// The furthest that a coordinate lies from the origin, in feet.
+/// The farthest that a coordinate lies from the origin, in feet.
 pub const MAX_COORDINATE: i32 = 1_000_000;
 
 /// A fixed route of the agency: where it goes, how far its corridor reaches, and when it runs.
@@ -49,8 +49,8 @@ impl Model for FixedRoute {
 impl FixedRoute {
     /// A route along these points, in order, whose corridor reaches `width` feet on each side.
     ///
-    /// The first fault of a fixed order is given: its number of points, its width, a coordinate,
-    /// its hours. It takes no memory; points that are refused are dropped.
+    /// The fault is the first of these: its number of points, its width, a coordinate, its hours. It takes no memory;
+    /// points that are refused are dropped.
     pub fn new(
         id: RouteId,
         width: u32,
@@ -65,7 +65,7 @@ impl FixedRoute {
         ensures made { IfOk result (λ route.
             route ≡ route_of id width points.items accessible days first last) }
 
-        // Exactly the first fault of the list that stands, and of no row.
+        // Exactly the first fault of the list that holds, in no row.
         ensures refused { (fault : Fault) → (result ≡ Err fault)
             ↔ ((fault.row ≡ 0)
             × IsFirst (faults (route_of id width points.items accessible days first last)) fault.code) }

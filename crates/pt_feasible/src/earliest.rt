@@ -10,7 +10,7 @@ use arrayvec::ArrayVec;
 use pt_base::Vehicle;
 use pt_travel::Times;
 
-/// What a walk from the first visit of a route to the last finds.
+/// The result of a walk from the first visit of a route to the last.
 #[derive(Drop)]
 pub struct Earliest {
     /// Minutes of the day before which no service times that fit the route begin.
@@ -19,7 +19,7 @@ pub struct Earliest {
     pub steps: ArrayVec<u32, 102>,
 }
 
-/// Minutes before which no service times that fit the route begin; `None` where a window ends before.
+/// Minutes before which no service times that fit the route begin; `None` if a window ends earlier.
 ///
 /// It takes no memory. One walk along windows and driving times; ride limits and the duration do not count.
 pub fn earliest_times<S: Stops, T: Times>(

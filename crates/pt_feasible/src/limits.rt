@@ -12,7 +12,7 @@ use crate::{Stop, StopKind, Stops, Visit};
 use pt_base::Vehicle;
 use pt_travel::Times;
 
-/// What the service time of a visit has to keep.
+/// The limits on the service time of a visit.
 #[derive(Clone, Copy, Default)]
 pub(crate) struct Limits {
     /// The last minute of the day at which it may begin.
@@ -22,16 +22,16 @@ pub(crate) struct Limits {
     pub since: Since,
 }
 
-/// At most so many minutes pass since service began at this visit.
+/// The limit `most` on the minutes since service began at this visit.
 #[derive(Clone, Copy, Default)]
 pub(crate) struct Since {
     pub visit: usize,
     pub most: u32,
 }
 
-/// The minutes of a visit's service and of the drive to the next one, and nothing after the last.
+/// The minutes of a visit's service and of the drive to the next one, and 0 after the last.
 ///
-/// `None` where there is no way.
+/// `None` if there is no way.
 pub(crate) fn step_from<S: Stops, T: Times>(
     stops: &S,
     times: &T,
@@ -55,7 +55,7 @@ pub(crate) fn step_from<S: Stops, T: Times>(
     Some(u32::from(this.service) + u32::from(drive))
 }
 
-/// A drop comes in time after its pickup, the last visit after the first, and any other after itself.
+/// The limit of visit `k`: of a drop since its pickup, of the last visit since the first, of any other since itself.
 pub(crate) fn since_at<S: Stops>(stops: &S, vehicle: &Vehicle, k: usize) -> Since
     requires { k < length (S.stops stops.now) + 2 }
     ensures before { result.visit ≤ k }
@@ -82,7 +82,7 @@ pub(crate) fn since_at<S: Stops>(stops: &S, vehicle: &Vehicle, k: usize) -> Sinc
     Since { visit: k, most: 0 }
 }
 
-/// Where the trip of the drop at `j` is picked up; it is looked for from the drop back.
+/// The position of the pickup of the trip that is dropped at `j`, searched from the drop back.
 fn pickup_of<S: Stops>(stops: &S, j: usize, drop: Stop) -> Option<usize>
     requires there { slice_get (S.stops stops.now) j ≡ Some drop }
     requires drops { IsTrue (is_drop drop) }

@@ -14,14 +14,14 @@ use pt_travel::Times;
 /// The visits of a route one after the other.
 #[derive(Drop)]
 pub(crate) struct Line {
-    /// Minutes of the day that no fitting service times come before.
+    /// Minutes of the day before which no fitting service times begin.
     pub earliest: Schedule,
     pub limits: ArrayVec<Limits, 102>,
 }
 
 const _: () = prove!(MAX_STOPS + 2 == 102);
 
-/// The line of a route from a floor of all fitting service times; `None` where a walk along it finds that none fit.
+/// The line of a route, from lower bounds of all fitting service times; `None` if a walk along it finds that none fit.
 pub(crate) fn line_of<S: Stops, T: Times>(
     stops: &S,
     times: &T,
@@ -58,7 +58,7 @@ pub(crate) fn line_of<S: Stops, T: Times>(
     Some(Line { earliest, limits })
 }
 
-/// The minute at this place of a list, and 0 past its end.
+/// The minute at this position of a list, and 0 past its end.
 fn minute_at(minutes: &[u16], k: usize) -> u16
     ensures { result ≡ slice_index minutes.now k }
 {

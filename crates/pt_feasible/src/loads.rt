@@ -6,7 +6,7 @@ ghost use Rattle.pt_feasible.specs.Pairing.{most_stops};
 use crate::{StopKind, Stops};
 use pt_base::{Load, Vehicle};
 
-/// Whether all who are aboard after each stop fit within the vehicle. It takes no memory.
+/// Whether the load aboard after each stop fits within the vehicle. It takes no memory.
 pub fn loads_fit<S: Stops>(stops: &S, vehicle: &Vehicle) -> bool
     requires { length (S.stops stops.now) ≤ most_stops }
     ensures { IsTrue result ↔ LoadsFit vehicle.now (S.stops stops.now) }
@@ -24,9 +24,9 @@ pub fn loads_fit<S: Stops>(stops: &S, vehicle: &Vehicle) -> bool
     true
 }
 
-/// Who is aboard after the stop with this number, by who was before it.
+/// The load aboard after the stop with this number, from the load before it.
 ///
-/// `None` where that is more than any vehicle carries.
+/// `None` if that is more than any vehicle carries.
 pub fn aboard_after<S: Stops>(stops: &S, k: usize, aboard: Load) -> Option<Load>
     requires stop { k < length (S.stops stops.now) }
     requires before { aboard ≡ load_aboard (take k (S.stops stops.now)) }

@@ -3,7 +3,7 @@ ghost use Rattle.std.specs.Prelude.{◌≡◌, ◌+◌, ◌<◌};
 use std::marker::Model;
 use std::sync::ledger::{Blank, Book, Ledger, Share};
 
-/// How many passes over all constraints of a route were made. It takes no bytes, and only `count` changes it.
+/// The number of passes made over all constraints of a route. It takes no memory, and only `count` changes it.
 #[derive(Drop)]
 pub struct Passes<L: Ledger> {
     book: Book<L>,
@@ -21,7 +21,7 @@ impl<L: Ledger> Model for Passes<L> {
 }
 
 impl<L: Ledger> Passes<L> {
-    /// None yet, on a ledger that nothing stands on.
+    /// No pass yet, on an empty ledger.
     pub fn none(blank: Blank) -> Self
         requires name { blank.name ≡ L.name }
         requires parts { blank.parts ≡ L.parts }

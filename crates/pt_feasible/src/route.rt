@@ -15,7 +15,7 @@ pub struct Route {
 impl Route {
     ghost use Rattle.pt_feasible.specs.Route.{stops_of};
 
-    /// The route with these stops; `None` where they are more than `MAX_STOPS` or not in pairs. It takes no memory.
+    /// The route with these stops; `None` if they are more than `MAX_STOPS` or not in pairs. It takes no memory.
     pub fn of(stops: Vec<Stop>) -> Option<Self>
         ensures is_route { IsSome result ↔ ((vec_len stops ≤ most_stops) × IsPaired stops.items) }
         ensures value { IfSome result (λ route. stops_of route ≡ stops.items) }

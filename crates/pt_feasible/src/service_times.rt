@@ -10,7 +10,7 @@ use pt_travel::Times;
 use std::marker::Brand;
 use std::sync::ledger::{Blank, Ledger};
 
-/// The least service times that fit the route; `None` where none fit. It takes no memory.
+/// The least service times that fit the route; `None` if none fit. It takes no memory.
 pub fn settle<S: Stops, T: Times>(stops: &S, times: &T, vehicle: &Vehicle) -> Option<Schedule>
     requires { length (S.stops stops.now) ≤ most_stops }
     ensures least { IfSome result (λ schedule.
@@ -21,7 +21,7 @@ pub fn settle<S: Stops, T: Times>(stops: &S, times: &T, vehicle: &Vehicle) -> Op
     settle_uncounted::<Brand, S, T>(stops, times, vehicle, &[], Blank::new(1))
 }
 
-/// The same as `settle`, from a floor: minutes that no fitting service times come before. It takes no memory.
+/// The same as `settle`, from minutes before which no fitting service times begin. It takes no memory.
 pub fn settle_from<S: Stops, T: Times>(
     stops: &S,
     times: &T,
@@ -39,9 +39,9 @@ pub fn settle_from<S: Stops, T: Times>(
     settle_uncounted::<Brand, S, T>(stops, times, vehicle, floor.as_slice(), Blank::new(1))
 }
 
-/// The same as `settle`, and it counts its passes, each a walk over all constraints: three more than stops at most.
+/// The same as `settle`, and counts its passes, each a walk over all constraints: at most three more than stops.
 ///
-/// A bound that still rises then proves that no service times fit.
+/// If a bound still rises in the last of them, no service times fit.
 pub fn settle_counted<L: Ledger, S: Stops, T: Times>(
     stops: &S,
     times: &T,
@@ -58,7 +58,7 @@ pub fn settle_counted<L: Ledger, S: Stops, T: Times>(
     settle_by(stops, times, vehicle, &[], passes)
 }
 
-/// The same where nobody asks for the passes.
+/// The same, but the caller does not see the passes.
 fn settle_uncounted<L: Ledger, S: Stops, T: Times>(
     stops: &S,
     times: &T,
@@ -80,7 +80,7 @@ fn settle_uncounted<L: Ledger, S: Stops, T: Times>(
     settle_by(stops, times, vehicle, floor, &mut Passes::<L>::none(blank))
 }
 
-/// The least service times that fit, from a floor, and the passes that they take.
+/// The least service times that fit, from lower bounds; it counts the passes.
 fn settle_by<L: Ledger, S: Stops, T: Times>(
     stops: &S,
     times: &T,

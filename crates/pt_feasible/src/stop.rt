@@ -9,7 +9,7 @@ pub enum StopKind {
     Drop,
 }
 
-/// One of the two stops of a trip, as its vehicle's route keeps it.
+/// One of the two stops of a trip, as its vehicle's route has it.
 #[derive(Clone, Copy, PartialEq, Eq)]
 pub struct Stop {
     pub trip: TripId,
@@ -19,7 +19,7 @@ pub struct Stop {
     pub lo: Minute,
     /// The latest minute of the day at which service may begin.
     pub hi: Minute,
-    /// How many minutes the stop takes; the same at both stops of a trip.
+    /// Minutes of service; the same at both stops of a trip.
     pub service: u16,
     /// The trip's party; the same at both stops of a trip.
     pub load: Load,

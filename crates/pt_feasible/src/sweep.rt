@@ -9,7 +9,7 @@ use crate::line::Line;
 use crate::{Passes, Schedule};
 use std::sync::ledger::Ledger;
 
-/// What raising bounds did to them.
+/// What a pass did to the bounds.
 #[derive(Clone, Copy, PartialEq, Eq)]
 pub(crate) enum Pass {
     /// No bound was raised.
@@ -20,7 +20,7 @@ pub(crate) enum Pass {
     Broken,
 }
 
-/// The least times from the line's bounds on that keep all its limits; `None` where there are none.
+/// The least times, from the line's bounds on, that keep all its limits; `None` if there are none.
 pub(crate) fn least_times<L: Ledger>(line: Line, passes: &mut Passes<L>) -> Option<Schedule>
     requires same_length { length line.earliest.items ≡ length line.limits.items }
     requires look_back { LookBack line.limits.items }
@@ -48,7 +48,7 @@ pub(crate) fn least_times<L: Ledger>(line: Line, passes: &mut Passes<L>) -> Opti
     None
 }
 
-/// One pass: a walk over all visits, which raises each bound as far as a limit asks.
+/// One pass: a walk over all visits, which raises each bound as far as a limit requires.
 fn sweep<L: Ledger>(bounds: &mut [u16], limits: &[Limits], passes: &mut Passes<L>) -> Pass
     requires same_length { length bounds.old ≡ length limits.now }
     requires look_back { LookBack limits.now }
@@ -68,7 +68,7 @@ fn sweep<L: Ledger>(bounds: &mut [u16], limits: &[Limits], passes: &mut Passes<L
     done
 }
 
-/// Raises the bounds that the time of one visit asks for.
+/// Raises the bounds as the time of one visit requires.
 fn raise_from(bounds: &mut [u16], limits: &[Limits], k: usize) -> Pass
     requires same_length { length bounds.old ≡ length limits.now }
     requires look_back { LookBack limits.now }
@@ -93,7 +93,7 @@ fn raise_from(bounds: &mut [u16], limits: &[Limits], k: usize) -> Pass
     }
 }
 
-/// Raises a bound to what is needed, where that is within its window.
+/// Raises a bound to the minute that is needed, if that is within its window.
 fn raise(bounds: &mut [u16], limits: &[Limits], k: usize, needed: u64) -> Pass
     requires same_length { length bounds.old ≡ length limits.now }
     requires among { k < length limits.now }

@@ -4,7 +4,7 @@ ghost use Rattle.pt_insertion.specs.Asked.{pickup_stop, drop_stop};
 use pt_base::{Load, Minute, PlaceId, TripId};
 use pt_feasible::{Stop, StopKind};
 
-/// A trip that is asked for.
+/// A requested trip, as planning sees it.
 #[derive(Clone, Copy)]
 pub struct Asked {
     pub trip: TripId,
@@ -16,7 +16,7 @@ pub struct Asked {
     pub hi: Minute,
     /// The latest minute of the day at which the drop may begin.
     pub latest: Minute,
-    /// How many minutes each of its two stops takes.
+    /// Minutes of service at each of its two stops.
     pub service: u16,
     /// The most minutes from the end of the pickup to the drop.
     pub ride: u16,

@@ -7,10 +7,10 @@ pub struct Chosen {
     pub vehicle: VehicleId,
     /// After how many of the route's stops the pickup comes.
     pub i: usize,
-    /// After how many of the route's stops, as it was, the drop comes.
+    /// After how many of the route's old stops the drop comes.
     pub j: usize,
     /// The least service times of the route with the trip put in.
     pub schedule: Schedule,
-    /// How many driving minutes the trip adds to the route.
+    /// The driving minutes that the trip adds to the route.
     pub added: u32,
 }

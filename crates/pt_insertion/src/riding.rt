@@ -22,13 +22,13 @@ pub(crate) struct Riding {
     pub place: PlaceId,
     /// The minutes of driving and service from the end of the pickup to the end of the service there.
     pub minutes: u32,
-    /// The minute of the day before which the service there does not end.
+    /// A minute of the day; the service there ends no earlier.
     pub leaves: u32,
-    /// Who is aboard from there on, without the party that is asked for.
+    /// The load aboard from there on, without the requested trip's party.
     pub others: Load,
 }
 
-/// The ride as it begins after the first `i` stops; `None` where the vehicle has no room for the party.
+/// The ride as it begins after the first `i` stops; `None` if the vehicle has no room for the party.
 pub(crate) fn boarded(
     duty: &Duty<'_>,
     asked: &Asked,
@@ -58,9 +58,9 @@ pub(crate) fn boarded(
     })
 }
 
-/// The ride one stop on; `None` where the vehicle is too full or too late, or the ride too long, from there on.
+/// The ride one stop on; `None` if from there on the vehicle is too full or too late, or the ride too long.
 ///
-/// No later drop is possible then. Of a ride's length driving and service alone count: a wait makes it no shorter.
+/// Then no later drop is possible. Only driving and service count in a ride's length: a wait makes it no shorter.
 pub(crate) fn ride_on<T: Times>(
     duty: &Duty<'_>,
     asked: &Asked,
@@ -105,7 +105,7 @@ pub(crate) fn ride_on<T: Times>(
     })
 }
 
-/// Whether the vehicle carries both together.
+/// Whether the vehicle has room for both loads together.
 fn has_room(vehicle: &Vehicle, others: Load, party: Load) -> bool
     ensures { IsTrue result ↔ FitsWithin (load_sum others party) vehicle.now }
 {

@@ -7,7 +7,7 @@ use crate::Asked;
 use crate::insertion::stop_at;
 use pt_feasible::{Route, Stop, Stops};
 
-/// A route that is lent with a trip put in: nothing is copied.
+/// A borrowed route with a trip put in, without a copy.
 #[derive(Clone, Copy)]
 pub struct Spliced<'a> {
     route: &'a Route,

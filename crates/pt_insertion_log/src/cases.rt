@@ -55,7 +55,7 @@ pub(crate) fn explain_case<T: Times, W: Write>(
     }
 }
 
-/// The first end that is right whatever the bounds are: the route is too long, has no way on, or has too many aboard.
+/// The first end that is right whatever the bounds are: too many stops, no way on, or too many aboard.
 fn lasting_end<T: Times>(insertion: &Insertion<'_>, times: &T) -> Option<End>
     ensures end { IfSome result
         (IsLasting (T.minutes times.now) insertion.now.vehicle.now (inserted_stops insertion.now)) }

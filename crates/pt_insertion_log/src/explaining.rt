@@ -17,9 +17,9 @@ use pt_insertion::{Asked, Duty};
 use pt_travel::Times;
 use std::io::Write;
 
-/// Writes a right log of a trip that has no place in any of the routes, as `best` tells by `None`.
+/// Writes a right log of a trip that has no place in any of the routes (`best` returns `None`).
 ///
-/// The fault is a write that failed.
+/// The fault is that of a failed write.
 pub fn explain<T: Times, W: Write>(
     duties: &[Duty<'_>],
     asked: &Asked,

@@ -11,7 +11,7 @@ use crate::rides::drop_of;
 use pt_audit::{Bounds, Insertion, Raise};
 use pt_travel::Times;
 
-/// The raise of visit `k` to the vehicle's arrival there, where that is after its bound and after its window begins.
+/// The raise of visit `k` to the vehicle's arrival there, if that is after its bound and after its window begins.
 pub(crate) fn drive_raise<T: Times>(
     insertion: &Insertion<'_>,
     times: &T,
@@ -39,7 +39,7 @@ pub(crate) fn drive_raise<T: Times>(
     None
 }
 
-/// The raise of visit `k` towards its drop, where it is a pickup that is left too early.
+/// The raise of visit `k` toward its drop, if it is a pickup whose bound is too early for the ride limit.
 pub(crate) fn ride_raise(insertion: &Insertion<'_>, bounds: &Bounds, k: usize) -> Option<Raise>
     requires { k < length (inserted_stops insertion.now) + 2 }
     ensures raise { (minutes : ℕ → ℕ → Option ℕ) → IfSome result (Raises minutes insertion.now.vehicle.now

@@ -5,7 +5,7 @@ ghost use Rattle.pt_insertion_log.specs.Steps.{IsRide};
 use pt_audit::Insertion;
 use pt_feasible::StopKind;
 
-/// Where the trip that stop `i` picks up is dropped, looked for from there on; `None` where it is no pickup.
+/// The stop that drops the trip that stop `i` picks up, searched from there on; `None` if stop `i` is not a pickup.
 pub(crate) fn drop_of(insertion: &Insertion<'_>, i: usize) -> Option<usize>
     ensures drop { (j : ℕ) → (result ≡ Some j) ↔ IsRide (inserted_stops insertion.now) i j }
     ensures among { IfSome result (λ j. j < length (inserted_stops insertion.now)) }
@@ -25,7 +25,7 @@ pub(crate) fn drop_of(insertion: &Insertion<'_>, i: usize) -> Option<usize>
     None
 }
 
-/// Where the trip that stop `j` drops is picked up, looked for from there back; `None` where it is no drop.
+/// The stop that picks up the trip that stop `j` drops, searched from there back; `None` if stop `j` is not a drop.
 pub(crate) fn pickup_of(insertion: &Insertion<'_>, j: usize) -> Option<usize>
     ensures pickup { (i : ℕ) → (result ≡ Some i) ↔ IsRide (inserted_stops insertion.now) i j }
     ensures before { IfSome result (λ i. i < j) }

@@ -9,7 +9,7 @@ use crate::limits::{drive_raise, ride_raise};
 use pt_audit::{Bounds, End, Insertion, Raise};
 use pt_travel::Times;
 
-/// What follows in a case.
+/// The next step of a case.
 #[derive(Clone, Copy)]
 pub(crate) enum Step {
     /// A bound that a constraint raises.
@@ -18,9 +18,9 @@ pub(crate) enum Step {
     End(End),
 }
 
-/// The first step that the bounds ask for; `None` where they keep all constraints.
+/// The first step that the bounds require; `None` if they keep all constraints.
 ///
-/// Visit `first` is looked at, and then those from `rest` on: the others are known to keep theirs.
+/// It checks visit `first`, and then those from `rest` on: the others are known to keep their constraints.
 pub(crate) fn next_step<T: Times>(
     insertion: &Insertion<'_>,
     times: &T,
@@ -52,7 +52,7 @@ pub(crate) fn next_step<T: Times>(
     None
 }
 
-/// The step that visit `k` asks for; `None` where its bound keeps its constraints.
+/// The step that visit `k` requires; `None` if its bound keeps its constraints.
 fn step_at<T: Times>(
     insertion: &Insertion<'_>,
     times: &T,

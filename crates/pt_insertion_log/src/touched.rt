@@ -6,8 +6,8 @@ ghost use Rattle.pt_insertion_log.specs.Steps.{IsKeptAt};
 use crate::rides::pickup_of;
 use pt_audit::{Insertion, Raise};
 
-/// The first visit whose constraints a raise can break, and the only one before its own: the pickup of its drop, or
-/// leaving the depot where coming back is raised; else its own.
+/// The first visit whose constraints a raise can break. A raised drop touches its pickup, and a raised return touches
+/// leaving the depot; other raises touch no visit before their own.
 pub(crate) fn first_touched(insertion: &Insertion<'_>, raise: Raise) -> usize
     ensures no_later { result ≤ visit_of raise }
     ensures kept { (minutes : ℕ → ℕ → Option ℕ) (bound : ℕ → ℕ) (k : ℕ) → k < visit_of raise → k ≢ result →

@@ -9,7 +9,7 @@ use pt_base::Fault;
 use pt_base::fault::WRITE_FAILED;
 use std::io::Write;
 
-/// Writes a line; the fault is a write that failed.
+/// Writes a line; the fault is that of a failed write.
 pub(crate) fn write_line<W: Write>(line: Line, out: &mut W) -> Result<(), Fault>
     ensures line { OnOk result (Appends (W.contents out.old) (W.contents out.new) (line_text line)) }
     ensures in_form { IsInForm line }
@@ -18,7 +18,7 @@ pub(crate) fn write_line<W: Write>(line: Line, out: &mut W) -> Result<(), Fault>
     write_bytes(line_text(line).as_slice(), out)
 }
 
-/// Writes bytes; the fault is a write that failed.
+/// Writes bytes; the fault is that of a failed write.
 pub(crate) fn write_bytes<W: Write>(bytes: &[u8], out: &mut W) -> Result<(), Fault>
     ensures bytes { OnOk result (Appends (W.contents out.old) (W.contents out.new) bytes.now) }
     ensures fault { IfErr result (λ error. error ≡ fault write_failed) }

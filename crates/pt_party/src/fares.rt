@@ -20,7 +20,7 @@ pub fn fare(policy: &Policy, one_route: bool) -> u32
     policy.fare.min(2 * fixed_fare)
 }
 
-/// What the party owes for a trip whose fare for one person is this, in cents.
+/// What the party owes for a trip, in cents, by the fare of one person.
 pub fn due(fare: u32, party: Party) -> u32
     requires { fare ≤ highest_fare }
     ensures value { result ≡ due_of fare party }

@@ -13,7 +13,7 @@ pub struct Party {
     pub companions: u8,
 }
 
-/// The rule that refuses the party to this rider, or `None` where they may travel together.
+/// The rule that the rider breaks with this party; `None` if they may travel together.
 pub fn party_rule(rider: &Rider, party: Party) -> Option<Rule>
     ensures allowed { IsNone result ↔ MayTravel rider.now party }
     ensures rule { IfSome result (λ rule. rule ≡ Rule.Party) }
@@ -32,7 +32,7 @@ pub fn persons(party: Party) -> u32
     1 + u32::from(party.attendant) + u32::from(party.companions)
 }
 
-/// What the party takes of a vehicle's room, where its rider rides in a wheelchair or does not.
+/// The room in a vehicle that the party takes, by whether its rider rides in a wheelchair.
 pub fn load(party: Party, wheelchair: bool) -> Load
     ensures { result ≡ load_of party wheelchair }
 {

@@ -7,7 +7,7 @@ use crate::{Keyed, Span};
 use std::alloc::{AllocError, Global};
 use std::marker::Model;
 
-/// What is taken away from a table, and then what is put into it.
+/// An edit of a table: what is taken away first, and then what is put into it.
 #[derive(Drop)]
 pub struct Edits<T> {
     pub(crate) away: Vec<Span>,
@@ -23,7 +23,7 @@ impl<T> Model for Edits<T> {
 }
 
 impl<T: Keyed> Edits<T> {
-    /// Nothing.
+    /// An edit that changes nothing.
     pub fn none(alloc: Global) -> Self
         ensures value { result ≡ record { away = []; puts = [] } }
     {
@@ -33,14 +33,14 @@ impl<T: Keyed> Edits<T> {
         }
     }
 
-    /// One record more to put.
+    /// Adds a record to put.
     pub fn put(&mut self, new: T) -> Result<(), AllocError>
         ensures value { OnOk result (self.new ≡ record { away = self.old.away; puts = self.old.puts ++ new ∷ [] }) }
     {
         Ok(self.puts.push(new)?)
     }
 
-    /// All records with these keys to take away.
+    /// Adds a span of keys whose records are taken away.
     pub fn take_away(&mut self, span: Span) -> Result<(), AllocError>
         ensures value { OnOk result (self.new ≡ record { away = self.old.away ++ span ∷ []; puts = self.old.puts }) }
     {
@@ -69,7 +69,7 @@ impl<T: Keyed> Edits<T> {
     }
 }
 
-/// Where the record belongs: in place of the one that is there, or before it.
+/// The record's position: of the record with its key, which it replaces (`Ok`), or before which it goes (`Err`).
 fn place_for<T: Keyed>(records: &[T], added: &T) -> Result<usize, usize>
     requires { IsInOrder T.key records.now }
     ensures { MatchResult result
@@ -79,7 +79,7 @@ fn place_for<T: Keyed>(records: &[T], added: &T) -> Result<usize, usize>
     position_of(records, &added.key())
 }
 
-/// Puts a record in its place, where there is room for one more.
+/// Puts a record in its place. There must be room for one more.
 fn put_record<T: Keyed>(records: &mut Vec<T>, added: T)
     requires order { IsInOrder T.key records.old.items }
     requires room { vec_len records.old < vec_capacity records.old }
@@ -96,7 +96,7 @@ fn put_record<T: Keyed>(records: &mut Vec<T>, added: T)
     }
 }
 
-/// Puts each of the records in its place, where there is room for them.
+/// Puts each of the records in its place. There must be room for all of them.
 pub(crate) fn put_records<T: Keyed>(records: &mut Vec<T>, news: Vec<T>)
     requires order { IsInOrder T.key records.old.items }
     requires room { vec_len records.old + length news.items ≤ vec_capacity records.old }

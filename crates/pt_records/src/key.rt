@@ -5,9 +5,9 @@ ghost use Rattle.pt_records.specs.Keys.{pair_key};
 use std::cmp::Ordering;
 use std::marker::Model;
 
-/// One or two numbers that a record is known by, in the order of the first and then of the second.
+/// The key of a record: one or two numbers, in the order of the first and then of the second.
 ///
-/// A contract sees it as one number of that order; nothing is packed when the program runs.
+/// A contract sees it as one number with that order; the program does not pack the two.
 #[derive(Drop)]
 pub struct Key {
     first: u32,
@@ -48,7 +48,7 @@ impl Key {
         (self.first, self.second)
     }
 
-    /// How the two keys stand.
+    /// The order of the two keys.
     pub fn compare(&self, other: &Key) -> Ordering
         ensures value { result ≡ nat_cmp self.now other.now }
     {
@@ -68,7 +68,7 @@ impl Key {
         Ordering::Equal
     }
 
-    /// Whether this key stands before the other.
+    /// Whether this key comes before the other.
     pub fn is_before(&self, other: &Key) -> bool
         ensures value { result ≡ nat_lt self.now other.now }
     {

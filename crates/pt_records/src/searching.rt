@@ -4,7 +4,7 @@ ghost use Rattle.pt_records.specs.Records.{Each, IsInOrder, record_at, within};
 
 use crate::{Key, Keyed, Span};
 
-/// How many of the records stand before this key.
+/// How many of the records come before this key.
 fn count_before<T: Keyed>(records: &[T], key: &Key) -> usize
     requires { IsInOrder T.key records.now }
     ensures bound { result ≤ length records.now }
@@ -14,7 +14,7 @@ fn count_before<T: Keyed>(records: &[T], key: &Key) -> usize
     records.partition_point(|there| there.key().is_before(key))
 }
 
-/// How many of the records stand at this key or before it.
+/// How many of the records have this key or come before it.
 fn count_up_to<T: Keyed>(records: &[T], key: &Key) -> usize
     requires { IsInOrder T.key records.now }
     ensures bound { result ≤ length records.now }
@@ -24,7 +24,7 @@ fn count_up_to<T: Keyed>(records: &[T], key: &Key) -> usize
     records.partition_point(|there| !key.is_before(&there.key()))
 }
 
-/// Where the record with this key stands, or where it would.
+/// The position of the record with this key (`Ok`), or where it would go (`Err`).
 pub(crate) fn position_of<T: Keyed>(records: &[T], key: &Key) -> Result<usize, usize>
     requires { IsInOrder T.key records.now }
     ensures bound { MatchResult result (λ at. at < length records.now) (λ at. at ≤ length records.now) }
@@ -42,7 +42,7 @@ pub(crate) fn position_of<T: Keyed>(records: &[T], key: &Key) -> Result<usize, u
     Ok(at)
 }
 
-/// The record with this key, by halving.
+/// The record with this key, by binary search.
 pub fn find_record<'a, T: Keyed>(records: &'a [T], key: &Key) -> Option<&'a T>
     requires { IsInOrder T.key records.now }
     ensures value { option_copied result ≡ record_at T.key key.now records.now }

@@ -4,7 +4,7 @@ ghost use Rattle.pt_records.specs.Records.{is_within};
 use crate::Key;
 use std::cmp::Ordering;
 
-/// The keys from one to another, both among them.
+/// The keys from one to another, both included.
 #[derive(Drop)]
 pub struct Span {
     pub from: Key,
@@ -12,7 +12,7 @@ pub struct Span {
 }
 
 impl Span {
-    /// Whether the key is one of these.
+    /// Whether the key lies in the span.
     pub fn has(&self, key: &Key) -> bool
         ensures value { result ≡ is_within key.now self.now }
     {

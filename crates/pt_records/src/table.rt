@@ -8,7 +8,7 @@ use crate::{Edits, Key, Keyed, Span};
 use std::alloc::{AllocError, Global};
 use std::marker::Model;
 
-/// A table of records, which stand in the order of their keys, no key twice.
+/// A table of records in the order of their keys, no key twice.
 #[derive(Drop)]
 pub struct Table<T: Keyed> {
     rows: Vec<T>,
@@ -60,7 +60,7 @@ impl<T: Keyed> Table<T> {
         find_within(&self.rows, span)
     }
 
-    /// Makes room for what an edit puts.
+    /// Reserves memory for what an edit puts.
     pub fn reserve(&mut self, edits: &Edits<T>) -> Result<(), AllocError>
         ensures items { self.new.items ≡ self.old.items }
         ensures room { OnOk result (length edits.now.puts ≤ self.new.room) }
@@ -68,7 +68,7 @@ impl<T: Keyed> Table<T> {
         Ok(self.rows.reserve(edits.put_count())?)
     }
 
-    /// Makes the edit, where there is room for what it puts.
+    /// Makes the edit. `reserve` must have made room for what it puts.
     pub fn edit(&mut self, edits: Edits<T>)
         requires { length edits.puts ≤ self.old.room }
         ensures items { self.new.items ≡ edited T.key edits self.old.items }

@@ -6,7 +6,7 @@ use pt_records::{Key, Keyed};
 use sha2::{Digest as _, Sha256};
 use std::marker::Model;
 
-/// What a caller does for the agency, and so what the caller may ask.
+/// What a caller does for the agency, which decides what the caller may ask.
 #[derive(Clone, Copy)]
 pub enum Role {
     /// A rider, who asks about the rider's own record and trips.
@@ -77,7 +77,7 @@ pub struct Caller {
 }
 
 impl Caller {
-    /// A copy. Its digest, as every digest, has 32 bytes.
+    /// A copy. Its digest has 32 bytes, like every digest.
     pub fn copied(&self) -> Self
         ensures value { result ≡ self.now }
         ensures digest { length result.digest ≡ 32 }

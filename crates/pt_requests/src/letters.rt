@@ -4,7 +4,7 @@ ghost use Rattle.pt_requests.specs.Letters.{decision_of};
 use pt_base::{Day, Rider};
 use pt_rights::{Entry, Grant, Reasons};
 
-/// What was decided on a rider's application, appeal or suspension, and is told by letter.
+/// A decision on a rider's application, appeal or suspension that the rider gets by letter.
 #[derive(Drop)]
 pub enum Determination {
     /// The application is granted.
@@ -30,7 +30,7 @@ pub enum Determination {
 }
 
 impl Determination {
-    /// The decision that an entry makes; `None` where its kind has no letter.
+    /// The decision that an entry makes; `None` if its kind has no letter.
     pub fn of(entry: Entry) -> Option<Self>
         ensures value { result ≡ decision_of entry }
     {
@@ -55,10 +55,10 @@ impl Determination {
     }
 }
 
-/// What a letter tells a rider.
+/// The content of a letter to a rider.
 #[derive(Drop)]
 pub struct Letter {
-    /// The rider's record as it is.
+    /// The rider's record as it is now.
     pub rider: Rider,
     /// The day of the decision.
     pub day: Day,

@@ -1,4 +1,4 @@
-//! What may be asked of the desk and by whom, and what it tells.
+//! What may be asked of the desk and by whom, and its answers.
 #![tactic(auto)]
 
 pub use caller::{Caller, Digest, Role};

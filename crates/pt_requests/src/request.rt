@@ -27,49 +27,49 @@ pub enum Read {
     Trips(RiderId),
     /// Asks for the letter of the entry at this position of a rider's case file, counted from 0.
     Letter { rider: RiderId, position: u8 },
-    /// Asks for what a vehicle does on a day.
+    /// Asks for the manifest of a vehicle on a day.
     Manifest { vehicle: VehicleId, day: Day },
-    /// Asks for what all vehicles on duty do on a day.
+    /// Asks for the manifests of all vehicles on duty on a day.
     DaySheet(Day),
     /// Asks for all trips of a day.
     Export(Day),
 }
 
-/// A request that may change something, and comes with the caller's number for it.
+/// A request that may change something. It comes with the caller's own number for it.
 #[derive(Drop)]
 pub enum Write {
-    /// Makes a caller, or replaces the one of that number.
+    /// Creates a caller, or replaces the one with that number.
     PutCaller(Caller),
     /// Replaces the agency's policy.
     PutPolicy(Policy),
-    /// Makes a place.
+    /// Creates a place.
     PutPlace(Place),
-    /// Makes a fixed route, or replaces the one of that number.
+    /// Creates a fixed route, or replaces the one with that number.
     PutRoute(FixedRoute),
-    /// Makes a rider's record, or changes whether it names an attendant, and whether the rider rides in a wheelchair.
+    /// Creates a rider's record, or changes whether it names an attendant and whether the rider rides in a wheelchair.
     PutRider(Rider),
-    /// Enters something in a resident's case file.
+    /// Adds an entry to a resident's case file.
     Enter { rider: RiderId, entry: Entry },
-    /// Makes a vehicle as it is from a day on, in place of its versions of that day and later.
+    /// Sets a vehicle as it is from a day on. This replaces its versions of that day and later.
     PutVehicle(Vehicle),
-    /// Puts a travel table that holds from a day on, in place of the tables of that day and later.
+    /// Sets the travel table from a day on. This replaces the tables of that day and later.
     Travel { day: Day, rows: Raw },
     /// Books a trip.
     Book { rider: RiderId, wish: Wish },
-    /// Books a trip anew under its number, and gives up what was booked.
+    /// Books a trip again under its number, instead of what was booked.
     Change { trip: TripId, wish: Wish },
-    /// Gives a trip up.
+    /// Cancels a trip.
     Cancel(TripId),
-    /// Says how a trip ended.
+    /// Records how a trip ended.
     Outcome { trip: TripId, outcome: Outcome },
 }
 
-/// What a rider is told of a trip that is booked.
+/// The reply to a booking.
 #[derive(Clone, Copy)]
 pub struct Confirmation {
     pub trip: TripId,
     pub vehicle: VehicleId,
-    /// The promised window, from which to which minute the pickup may begin.
+    /// The promised window: the first and the last minute at which the pickup may begin.
     pub window_from: Minute,
     pub window_to: Minute,
     /// The fare of one person, in cents.
@@ -80,12 +80,12 @@ pub struct Confirmation {
     ghost due_in_range: { due ≤ 200_000 },
 }
 
-/// What the rules make of a request.
+/// The desk's answer to a request.
 #[derive(Drop)]
 pub enum Answer {
-    /// It is done.
+    /// The change is made.
     Done,
-    /// It stands in the case file at this position, counted from 0.
+    /// The entry is in the case file at this position, counted from 0.
     Entered(u32),
     /// The resident's standing on the day, and whether the rider is suspended on it.
     Standing { standing: Standing, suspended: bool },
@@ -97,14 +97,14 @@ pub enum Answer {
     Possible,
     /// The rider's trips by rising number, cancelled ones too.
     Trips(Rows<Trip>),
-    /// The letter that tells a decision.
+    /// The letter of a decision.
     Letter(Letter),
-    /// What the vehicle does on the day.
+    /// The manifest of the vehicle on the day.
     Manifest { day: Day, sheet: VehicleSheet },
-    /// What the vehicles on duty do on the day, and how many of its trips stand.
+    /// The manifests of the vehicles on duty on the day, and how many trips of the day are not cancelled.
     DaySheet(DaySheet),
     /// The trips of the day by rising number, cancelled ones too.
     Export(Rows<Trip>),
-    /// The first rule that it breaks. Nothing is changed.
+    /// The first rule that the request breaks. Nothing is changed.
     Denied(Rule),
 }

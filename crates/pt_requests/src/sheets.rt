@@ -12,7 +12,7 @@ pub struct TourStop {
     pub trip: TripId,
     pub rider: RiderId,
     pub place: PlaceId,
-    /// Who is aboard after the stop.
+    /// The load aboard after the stop.
     pub aboard: Load,
 }
 
@@ -31,20 +31,20 @@ pub struct Tour {
     ghost has_stops: { 0 < vec_len stops },
 }
 
-/// What a vehicle does on a day.
+/// The manifest of a vehicle on a day.
 #[derive(Drop)]
 pub struct VehicleSheet {
     pub vehicle: VehicleId,
-    /// `None` where the vehicle has no stops, or is off duty.
+    /// `None` if the vehicle has no stops or is off duty.
     pub tour: Option<Tour>,
 }
 
-/// What all vehicles do on a day.
+/// The manifests of all vehicles on duty on a day.
 #[derive(Drop)]
 pub struct DaySheet {
     pub day: Day,
     /// The vehicles on duty, by rising number.
     pub vehicles: Vec<VehicleSheet>,
-    /// How many trips of the day stand.
+    /// How many trips of the day are not cancelled.
     pub trips: usize,
 }

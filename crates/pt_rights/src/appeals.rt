@@ -12,7 +12,7 @@ use pt_base::{CallerId, Day};
 /// How many days after a decision an appeal against it may be entered.
 const APPEAL_WITHIN: u32 = 60;
 
-/// The entry that is disputed, where this one is an appeal against one of the entries.
+/// The disputed entry, if this one is an appeal against one of the entries.
 fn disputed<'a>(entries: &'a [Entered], entry: &Entry) -> Option<&'a Entered>
     ensures { option_copied result ≡ disputed entries.now entry.now }
 {
@@ -32,7 +32,7 @@ fn disputes_refusal(entries: &[Entered], entry: &Entry) -> bool
     }
 }
 
-/// Whether the entry is an appeal that the decision may answer, by an author who did not decide before.
+/// Whether the entry is an appeal that the decision fits, and the author did not make the disputed entry.
 fn is_answered(entries: &[Entered], entry: &Entry, decision: &Entry, author: CallerId) -> bool
     ensures { result
         ≡ disputes (λ e. may_answer decision.now e.entry && not (e.author == author)) entries.now entry.now }
@@ -54,7 +54,7 @@ fn is_pending(entries: &[Entered]) -> bool
     pending
 }
 
-/// Whether an appeal is pending that was not heard.
+/// Whether an appeal is pending and was not heard.
 pub(crate) fn awaits_hearing(entries: &[Entered]) -> bool
     ensures { result ≡ awaits_hearing entries.now }
 {
@@ -65,7 +65,7 @@ pub(crate) fn awaits_hearing(entries: &[Entered]) -> bool
     awaited
 }
 
-/// Whether the entry is a refusal or a suspension, and an appeal comes in time on the day `today`.
+/// Whether the entry is a refusal or a suspension, and an appeal on the day `today` comes in time.
 fn is_appealable(entered: &Entered, today: Day) -> bool
     ensures { result ≡ is_appealable today entered.now }
 {
@@ -73,7 +73,7 @@ fn is_appealable(entered: &Entered, today: Day) -> bool
     kind && today.number() <= entered.day.number() + APPEAL_WITHIN
 }
 
-/// Whether somebody appealed against what stands at the position.
+/// Whether some entry is an appeal against the entry at the position.
 fn is_appealed(entries: &[Entered], against: usize) -> bool
     ensures { result ≡ is_appealed entries.now against }
 {
@@ -82,7 +82,7 @@ fn is_appealed(entries: &[Entered], against: usize) -> bool
         .any(|entered| entered.entry.appeals_against(against))
 }
 
-/// Whether what stands at the position may be appealed against on the day `today`.
+/// Whether the entry at the position may be appealed against on the day `today`.
 pub(crate) fn may_appeal(entries: &[Entered], today: Day, against: u8) -> bool
     ensures { result ≡ may_appeal entries.now today against }
 {
@@ -111,7 +111,7 @@ pub(crate) fn may_decide(entries: &[Entered], decision: &Entry, author: CallerId
     heard
 }
 
-/// The least day on which a pending appeal against a refusal was heard.
+/// The first day on which a pending appeal against a refusal was heard.
 pub(crate) fn heard_since(entries: &[Entered]) -> Option<Day>
     ensures { (today : ℕ) → is_overdue entries.now today ≡ has_come days_to_decide result today }
 {
@@ -125,7 +125,7 @@ pub(crate) fn heard_since(entries: &[Entered]) -> Option<Day>
     heard
 }
 
-/// The least day on which what is pending was heard, after an entry of this day that may decide or hear it.
+/// The first day on which the pending appeal was heard, after an entry of this day that may decide or hear it.
 fn heard_after(heard: Option<Day>, pending: bool, entry: &Entry, day: Day) -> Option<Day>
     ensures { (today : ℕ) → has_come days_to_decide result today ≡ (not (decides_appeal entry.now)
         && (has_come days_to_decide heard today
@@ -140,7 +140,7 @@ fn heard_after(heard: Option<Day>, pending: bool, entry: &Entry, day: Day) -> Op
     }
 }
 
-/// The earlier of a day, if there is one, and another.
+/// The earlier of two days, or the second if there is no first.
 pub(crate) fn earlier(before: Option<Day>, day: Day) -> Option<Day>
     ensures { result ≡ earlier before day }
 {

@@ -19,34 +19,34 @@ use std::marker::Model;
 /// The most entries of a case file.
 pub const MOST_ENTRIES: usize = 200;
 
-/// How many days after it is complete an application that nobody answered is presumed granted.
+/// Days from a complete application to its presumed grant, if nobody answers it.
 const PRESUMED_AFTER: u16 = 21;
 
-/// How many days after its hearing an appeal that nobody decided is overdue.
+/// Days from the hearing of an appeal until it is overdue, if nobody decides it.
 const OVERDUE_AFTER: u16 = 30;
 
-/// What a rider's case file entitles to.
+/// What a rider's case file entitles the rider to.
 #[derive(Drop)]
 pub enum Standing {
     /// An application went unanswered for 21 days.
     Presumed,
     /// An appeal against a refusal went undecided for 30 days from its hearing.
     AppealOverdue,
-    /// The last grant has not run out.
+    /// The last grant has not expired.
     Granted(Grant),
-    /// Neither.
+    /// None of these.
     None,
 }
 
-/// A resident's case file, seen as its entries in the order in which they were entered.
+/// A resident's case file: its entries in the order in which they were entered.
 #[derive(Drop)]
 pub struct CaseFile {
     entries: Vec<Entered>,
-    /// The least day of an unanswered application.
+    /// The first day of an unanswered application.
     waiting: Option<Day>,
     /// The last grant.
     granted: Option<Grant>,
-    /// The least day on which a pending appeal against a refusal was heard.
+    /// The first day on which a pending appeal against a refusal was heard.
     heard: Option<Day>,
 }
 
@@ -115,9 +115,9 @@ impl CaseFile {
         self.waiting.is_some()
     }
 
-    /// The rule by which the rider's file turns the entry away on the day `today`; `None` where it is admitted.
+    /// The rule by which the rider's file refuses the entry on the day `today`; `None` if it is admitted.
     ///
-    /// The tallies are those of the rider's trips; a notice looks at the ones of the policy's days before `today`.
+    /// The tallies are those of the rider's trips; for a notice, those of the policy's days before `today` count.
     pub fn admits(
         &self,
         rider: &Rider,
@@ -167,7 +167,7 @@ impl CaseFile {
 
     /// Adds an entry of this day and author at the end, admitted or not.
     ///
-    /// The error is want of memory, and hands the entry back.
+    /// The error is out of memory, and returns the entry.
     pub fn push(&mut self, entry: Entry, today: Day, author: CallerId) -> Result<(), (Entry, Fault)>
         requires { length self.old < most_entries }
         ensures ok { OnOk result (self.new
@@ -196,7 +196,7 @@ impl CaseFile {
         }
     }
 
-    /// The rider's standing for a trip on the day `day`, as it is seen on the day `today`.
+    /// The rider's standing for a trip on the day `day`, as seen on the day `today`.
     pub fn standing(&self, today: Day, day: Day) -> Standing
         ensures value { result ≡ standing_of self.now today day }
         ensures presumed { (result ≡ Standing.Presumed) ↔ IsPresumed self.now today }
@@ -250,7 +250,7 @@ impl Clone for CaseFile {
     }
 }
 
-/// Whether the day `today` is so many days after the first one, if there is one, or later.
+/// Whether the day `today` is this many days after `since`, or later; false if there is no `since`.
 fn has_come(since: Option<Day>, days: u16, today: Day) -> bool
     ensures { result ≡ has_come days since today }
 {
@@ -260,7 +260,7 @@ fn has_come(since: Option<Day>, days: u16, today: Day) -> bool
     }
 }
 
-/// The least day of an unanswered application, with one more entry of this day.
+/// The first day of an unanswered application, with one more entry of this day.
 fn waiting_after(waiting: Option<Day>, entry: &Entry, day: Day) -> Option<Day>
     ensures { result ≡ waiting_with waiting entry.now day }
 {

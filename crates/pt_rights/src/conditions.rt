@@ -10,8 +10,8 @@ use std::marker::Model;
 /// The most conditions that a grant lists.
 pub const MOST_CONDITIONS: usize = 4;
 
-/// A condition under which a trip qualifies (49 CFR 37.123(b), (e)). A grant's trips qualify where
-/// one of its conditions holds.
+/// A condition under which a trip qualifies (49 CFR 37.123(b), (e)). A trip qualifies if one of the grant's conditions
+/// holds.
 #[derive(Clone, Copy, Default, PartialEq, Eq)]
 pub enum Condition {
     /// Every trip qualifies.
@@ -25,7 +25,7 @@ pub enum Condition {
     NoLift,
 }
 
-/// The conditions of a grant, in the order given: one to four, and one may stand twice.
+/// The conditions of a grant, in the order given: one to four, and one may occur twice.
 #[derive(Drop)]
 pub struct Conditions {
     members: ArrayVec<Condition, MOST_CONDITIONS>,
@@ -45,7 +45,7 @@ impl Model for Conditions {
 }
 
 impl Conditions {
-    /// These conditions; `None` where there are none or more than four.
+    /// These conditions; `None` if there are none or more than four.
     pub fn of(members: &[Condition]) -> Option<Self>
         ensures in_range { IsSome result ↔ IsConditions members.now }
         ensures value { IfSome result (λ conditions. conditions ≡ members.now) }

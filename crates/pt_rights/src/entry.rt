@@ -37,7 +37,7 @@ impl Clone for Grant {
     }
 }
 
-/// What is entered in a case file.
+/// What an entry of a case file says.
 #[derive(Drop)]
 pub enum Entry {
     /// The application is complete.
@@ -48,7 +48,7 @@ pub enum Entry {
     Refuse(Reasons),
     /// An appeal against a refusal or a suspension.
     Appeal {
-        /// The position of what it is against in the case file, counted from 0.
+        /// The position in the case file of the entry that it is against, counted from 0.
         against: u8,
     },
     /// The appeal was heard.
@@ -98,7 +98,7 @@ impl Entry {
         matches!(self, Entry::Appeal { .. })
     }
 
-    /// Whether it is an appeal against what stands at the position.
+    /// Whether it is an appeal against the entry at the position.
     pub(crate) fn appeals_against(&self, position: usize) -> bool
         ensures { result ≡ appeals_against position self.now }
     {
@@ -139,7 +139,7 @@ impl Entry {
         self.decides_appeal() || self.is_hearing()
     }
 
-    /// Whether, as the decision of an appeal, it may answer one against that entry.
+    /// Whether it is a decision of an appeal that fits an appeal against that entry.
     pub(crate) fn may_answer(&self, disputed: &Entry) -> bool
         ensures { result ≡ may_answer self.now disputed.now }
     {
@@ -165,14 +165,14 @@ impl Entry {
         matches!(self, Entry::NoticeHeard)
     }
 
-    /// Whether an earlier notice is used up: it suspends the rider, or gives notice anew.
+    /// Whether it uses up an earlier notice: it suspends the rider or gives a new notice.
     pub(crate) fn ends_notice(&self) -> bool
         ensures { result ≡ (is_suspension self.now || is_notice self.now) }
     {
         self.is_suspension() || self.is_notice()
     }
 
-    /// Whether an earlier notice needs no hearing: it was heard, or is used up.
+    /// Whether an earlier notice needs no hearing after it: it says that the rider was heard, or uses the notice up.
     pub(crate) fn answers_notice(&self) -> bool
         ensures { result ≡ (is_notice_hearing self.now || (is_suspension self.now || is_notice self.now)) }
     {
@@ -225,7 +225,7 @@ impl Clone for Entry {
     }
 }
 
-/// An entry as it stands in a case file.
+/// An entry of a case file, with its day and author.
 #[derive(Drop)]
 pub struct Entered {
     pub entry: Entry,

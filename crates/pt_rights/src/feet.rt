@@ -3,7 +3,7 @@ ghost use Rattle.pt_rights.specs.Feet.{IsFeet};
 
 use std::marker::Model;
 
-/// A distance of 1 to 100,000 feet, seen as its number of feet.
+/// A distance of 1 to 100,000 feet.
 #[derive(Clone, Copy, PartialEq, Eq)]
 pub struct Feet {
     feet: u32,
@@ -23,7 +23,7 @@ impl Model for Feet {
 }
 
 impl Feet {
-    /// The distance of so many feet; `None` for 0 and past 100,000.
+    /// The distance of this many feet; `None` for 0 and past 100,000.
     pub fn of(number: u32) -> Option<Self>
         ensures in_range { IsSome result ↔ IsFeet number }
         ensures value { IfSome result (λ feet. feet ≡ number) }

@@ -6,7 +6,7 @@ use crate::walk::{followed_after, open_after};
 use crate::{Entered, Outcome, Tally};
 use pt_base::{Day, Policy};
 
-/// The most days of a suspension, less one.
+/// The most days from the first day of a suspension to its last.
 const MOST_FURTHER_DAYS: u32 = 29;
 
 impl Outcome {
@@ -37,7 +37,7 @@ fn count_recent(tallies: &[Tally], policy: &Policy, today: Day) -> usize
         .count()
 }
 
-/// How many of the trips were on those days and the rider missed them.
+/// How many of the trips on those days the rider missed.
 fn count_missed(tallies: &[Tally], policy: &Policy, today: Day) -> usize
     ensures { result ≡ missed tallies.now policy.now today }
 {
@@ -47,7 +47,7 @@ fn count_missed(tallies: &[Tally], policy: &Policy, today: Day) -> usize
         .count()
 }
 
-/// Whether the rider has missed trips in a pattern, as the policy has it.
+/// Whether the rider's missed trips make a pattern by the policy.
 pub(crate) fn is_pattern(tallies: &[Tally], policy: &Policy, today: Day) -> bool
     ensures { result ≡ is_pattern tallies.now policy.now today }
 {
@@ -81,7 +81,7 @@ pub(crate) fn may_suspend(entries: &[Entered]) -> bool
     heard
 }
 
-/// Whether a suspension entered today may last from the one day to the other.
+/// Whether a suspension that is entered today may last from `starts` to `ends`.
 pub(crate) fn is_term(today: Day, starts: Day, ends: Day) -> bool
     ensures { result ≡ is_term today starts ends }
 {

@@ -25,7 +25,7 @@ impl Model for Reasons {
 }
 
 impl Reasons {
-    /// The reasons with these bytes; `None` where they are no such text.
+    /// The reasons with these bytes; `None` if they are not such a text.
     pub fn of(bytes: Vec<u8>) -> Option<Self>
         ensures in_range { IsSome result ↔ IsReasons bytes.items }
         ensures value { IfSome result (λ reasons. reasons ≡ bytes.items) }

@@ -8,10 +8,10 @@ ghost use Rattle.pt_rights.specs.Limits.{most_entries};
 use crate::{Entered, Entry};
 use pt_base::Day;
 
-/// How many positions an appeal can name.
+/// The number of positions that an appeal can name.
 const POSITIONS: usize = 256;
 
-/// Whether some suspension that has effect holds on the day.
+/// Whether some suspension of the day has effect.
 pub(crate) fn is_suspended(entries: &[Entered], day: Day) -> bool
     requires { length entries.now ≤ most_entries }
     ensures { result ≡ is_suspended entries.now day }
@@ -25,13 +25,13 @@ pub(crate) fn is_suspended(entries: &[Entered], day: Day) -> bool
     false
 }
 
-/// For each position, whether an appeal against what stands there is pending or has overturned it.
+/// For each position, whether an appeal against the entry there is pending or has overturned it.
 fn lifted_positions(entries: &[Entered]) -> [bool; POSITIONS]
     ensures { (position : ℕ) → position < POSITIONS
         → slice_index_or result position false ≡ is_lifted entries.now position }
 {
     let mut lifted = [false; POSITIONS];
-    // Whether an appeal here would be pending, or overturn.
+    // Whether an appeal at this position would be pending or overturn.
     let mut lifts = true;
     for position in (0..entries.len()).rev() {
         let entry = &entries[position].entry;
@@ -41,7 +41,7 @@ fn lifted_positions(entries: &[Entered]) -> [bool; POSITIONS]
     lifted
 }
 
-/// Marks the position that the entry is an appeal against, if it is one and lifts.
+/// Marks the position that the entry appeals against, if it is an appeal and `lifts` is true.
 fn lift(lifted: &mut [bool; POSITIONS], entry: &Entry, lifts: bool)
     ensures { (position : ℕ) → position < POSITIONS → slice_index_or lifted.new position false
         ≡ ((appeals_against position entry.now && lifts) || slice_index_or lifted.old position false) }
@@ -51,7 +51,7 @@ fn lift(lifted: &mut [bool; POSITIONS], entry: &Entry, lifts: bool)
     }
 }
 
-/// Whether an appeal before the entry is pending or overturns, by what one after it would do.
+/// Whether an appeal before the entry is pending or overturns; `lifts` says so of one after it.
 fn lifts_before(entry: &Entry, lifts: bool) -> bool
     ensures { result ≡ (if decides_appeal entry.now then is_overturn entry.now else lifts) }
 {

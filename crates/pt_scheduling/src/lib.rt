@@ -1,5 +1,5 @@
-//! The plans of a day: each vehicle's stops as they are kept, the routes that they are, and a trip that is asked for
-//! put into the best of them.
+//! The plans of a day: each vehicle's stops as they are stored, the routes that they form, and a requested trip put
+//! into the best of them.
 #![tactic(auto)]
 
 pub use planned::{PlannedRoute, PlannedStop};

@@ -8,14 +8,14 @@ use pt_records::{Key, Keyed};
 use std::alloc::{AllocError, Global};
 use std::marker::Model;
 
-/// A stop of a vehicle's route: all else of it stands in its trip.
+/// A stop of a vehicle's route. Its other fields come from its trip.
 #[derive(Clone, Copy, PartialEq, Eq)]
 pub struct PlannedStop {
     pub trip: TripId,
     pub kind: StopKind,
 }
 
-/// The route of a vehicle on a day, as the stops between its depot and its depot.
+/// The route of a vehicle on a day: its stops, without the depot at either end.
 #[derive(Drop)]
 pub struct PlannedRoute {
     pub vehicle: VehicleId,

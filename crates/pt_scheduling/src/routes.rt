@@ -32,7 +32,7 @@ fn trip_stop(kind: StopKind, trip: &Trip) -> Stop
     }
 }
 
-/// The stops of those trips that are among these.
+/// The planned stops whose trips are in the list, with all their fields.
 pub fn stops_among(
     alloc: Global,
     trips: &[Trip],
@@ -50,7 +50,7 @@ pub fn stops_among(
     Ok(stops)
 }
 
-/// The stops of a vehicle on a day, as they are kept.
+/// The stops of a vehicle on a day, as they are stored.
 fn planned_stops(plans: &Rows<PlannedRoute>, vehicle: VehicleId, day: Day) -> &[PlannedStop]
     ensures { result.now ≡ planned_stops vehicle day plans.now }
 {
@@ -60,7 +60,7 @@ fn planned_stops(plans: &Rows<PlannedRoute>, vehicle: VehicleId, day: Day) -> &[
     }
 }
 
-/// The route of a vehicle on a day; `None` where its stops are no route.
+/// The route of a vehicle on a day; `None` if its stops do not form a route.
 pub fn route_on(
     alloc: Global,
     day: Day,
@@ -76,7 +76,7 @@ pub fn route_on(
     Ok(Route::of(stops_among(alloc, trips.as_slice(), planned)?))
 }
 
-/// The route of a vehicle on a day without this trip; `None` where its stops are no route.
+/// The route of a vehicle on a day without this trip; `None` if its stops do not form a route.
 fn route_without(
     alloc: Global,
     trip: TripId,
@@ -94,7 +94,7 @@ fn route_without(
     Ok(Route::of(stops_among(alloc, trips, &planned)?))
 }
 
-/// The routes of a day's vehicles without this trip; `None` where the stops of one are no route.
+/// The routes of a day's vehicles without this trip; `None` if the stops of one do not form a route.
 pub fn routes_without(
     alloc: Global,
     trip: TripId,
@@ -119,7 +119,7 @@ pub fn routes_without(
     Ok(Some(routes))
 }
 
-/// The routes, lent.
+/// The routes, borrowed as duties.
 pub fn duties_of<'a>(alloc: Global, routes: &'a [DayRoute]) -> Result<Vec<Duty<'a>>, AllocError>
     ensures { IfOk result (λ duties. on_duty duties.items ≡ map day_route routes.now) }
 {

@@ -29,7 +29,7 @@ pub struct DayPlans<'a> {
     pub plans: &'a Rows<PlannedRoute>,
 }
 
-/// What comes of a trip that is asked for.
+/// The result of a request for a trip.
 #[derive(Drop)]
 pub enum Scheduled {
     /// The trip, and its vehicle's new route.
@@ -38,7 +38,7 @@ pub enum Scheduled {
     Denied(Rule),
 }
 
-/// The route of a booked trip's vehicle as it is kept.
+/// The route of a booked trip's vehicle, as it is stored.
 fn plan_of(alloc: Global, booking: &Booking) -> Result<PlannedRoute, AllocError>
     ensures { IfOk result (λ plan. plan ≡ record {
       vehicle = booking.now.trip.vehicle;
@@ -86,7 +86,7 @@ fn book_in<T: Times>(
 
 /// Puts the trip at the best place in the routes of the day without it, or denies it by the first rule that fails.
 ///
-/// What stands there of the trip already is left out. A day whose stops are no routes takes no trip.
+/// Stops that the trip has already are left out. If the stops of the day do not form routes, the rule is `NoVehicle`.
 pub fn schedule<T: Times>(
     alloc: Global,
     request: &TripRequest<'_>,

@@ -6,7 +6,7 @@ use pt_base::{Day, Trip, TripId, TripStatus};
 use pt_records::{Edits, Table};
 use std::alloc::{AllocError, Global};
 
-/// Whether the trip is another than the one that is left out, and is booked or was ridden.
+/// Whether the trip is not the one that is left out, and is booked or was ridden.
 fn is_use(trip: &Trip, left_out: &Option<TripId>) -> bool
     ensures { result ≡ (is_other left_out.now trip.now.id && is_used trip.now.status) }
 {
@@ -28,7 +28,7 @@ fn put_day(alloc: Global, days: &mut Table<Day>, day: Day) -> Result<(), AllocEr
     Ok(())
 }
 
-/// The days of the trips that are booked or ridden, but for one that is left out: in rising order, each once.
+/// The days of the trips that are booked or ridden, except one that is left out: in rising order, each once.
 pub fn days_of_use(
     alloc: Global,
     trips: &[Trip],

@@ -8,7 +8,7 @@ ghost use Rattle.pt_spelling.specs.Fields.{optional_bytes, text_bytes};
 use pt_base::{Minute, Weekday, Weekdays};
 use std::alloc::AllocError;
 
-/// Adds a number in four bytes, the most significant first. The error is want of memory, here and below.
+/// Adds a number in four bytes, the most significant first. The error is out of memory, here and below.
 #[tactic(auto, unfolding(crate::specs::Fields::number_bytes))]
 pub(crate) fn push_number(number: u32, out: &mut Vec<u8>) -> Result<(), AllocError>
     ensures { OnOk result (out.new.items ≡ out.old.items ++ number_bytes number) }
@@ -64,7 +64,7 @@ pub fn days_byte(days: Weekdays) -> u8
         + 64 * day_bit(days, Weekday::Sunday)
 }
 
-/// 1 where the weekday is in the set, else 0.
+/// 1 if the weekday is in the set, else 0.
 fn day_bit(days: Weekdays, weekday: Weekday) -> u8
     ensures value { result ≡ day_bit days (number_of weekday) }
     ensures bit { result < 2 }

@@ -1,6 +1,6 @@
 ghost use Rattle.pt_spelling.specs.Law.{SpellingTellsRequest};
 
-/// A law: no two requests have one spelling.
+/// A law: no two requests have the same spelling.
 pub fn spelling_tells_its_request()
     ensures { SpellingTellsRequest }
 {}

@@ -1,4 +1,4 @@
-//! The bytes in which the desk keeps a caller's last accepted request, and what the caller was told.
+//! The bytes in which the desk stores a caller's last accepted request and the reply to it.
 #![tactic(auto)]
 
 pub use fields::days_byte;

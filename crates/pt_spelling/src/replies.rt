@@ -12,28 +12,28 @@ use pt_base::{Minute, TripId, VehicleId};
 use pt_party::HIGHEST_FARE;
 use pt_requests::{Answer, Confirmation};
 
-/// How many bytes the spelling of a reply has at most.
+/// The most bytes in the spelling of a reply.
 pub const LONGEST_REPLY_SPELLING: usize = 25;
 
-/// How many bytes the numbers that tell of a booked trip have together.
+/// The bytes of the numbers in the reply to a booking.
 const CONFIRMATION_BYTES: usize = 24;
 
 /// The most that a rider and companions pay together, in cents.
 const HIGHEST_DUE: u32 = 200_000;
 
-/// What the sender of an accepted request is told, and told again where the same request comes again.
+/// The stored reply to an accepted request, which is sent again if the same request comes again.
 #[derive(Clone, Copy)]
 pub enum KeptReply {
-    /// It is done.
+    /// The change is made.
     Done,
-    /// It stands in the case file at this position, counted from 0.
+    /// The entry is in the case file at this position, counted from 0.
     Entered(u32),
     /// The trip is booked.
     Booked(Confirmation),
 }
 
 impl KeptReply {
-    /// What is kept of an answer; `None` for a denial and for what a read is told.
+    /// The reply that is stored for an answer; `None` for a denial and for the answer to a read.
     pub fn of(told: &Answer) -> Option<Self>
         ensures { result ≡ reply_of told.now }
     {
@@ -45,7 +45,7 @@ impl KeptReply {
         }
     }
 
-    /// The answer of which this was kept.
+    /// The answer for which this reply was stored.
     pub fn answer(self) -> Answer
         ensures { result ≡ answer_of self }
     {
@@ -77,7 +77,7 @@ pub fn spell_reply(reply: &KeptReply) -> ArrayVec<u8, LONGEST_REPLY_SPELLING>
     bytes
 }
 
-/// The numbers that tell of a booked trip.
+/// The numbers in the reply to a booking.
 fn numbers_told(told: &Confirmation) -> [u32; 6]
     ensures value { result ≡ numbers_told told.now }
     ensures ranges { IsTold told.now }
@@ -112,7 +112,7 @@ fn push_number(number: u32, out: &mut ArrayVec<u8, LONGEST_REPLY_SPELLING>)
     let _fits = out.try_extend_from_slice(&number.to_be_bytes());
 }
 
-/// The reply that the bytes spell; `None` where they spell none.
+/// The reply that the bytes spell; `None` if they spell none.
 pub fn read_reply(bytes: &[u8]) -> Option<KeptReply>
     ensures spelled { IfSome result (SpellsReply bytes.now) }
     ensures read { (reply : KeptReply) → SpellsReply bytes.now reply → result ≡ Some reply }
@@ -144,7 +144,7 @@ fn numbers_from(bytes: &[u8]) -> [u32; 6]
     ]
 }
 
-/// The booked trip of which the numbers tell; `None` where one is out of its range.
+/// The reply to a booking with these numbers; `None` if one is out of its range.
 fn confirmation_of(numbers: [u32; 6]) -> Option<Confirmation>
     ensures told { IfSome result (λ told. IsTold told × (numbers_told told ≡ numbers)) }
     ensures read { (told : Confirmation) → IsTold told → numbers_told told ≡ numbers → result ≡ Some told }
@@ -163,7 +163,7 @@ fn confirmation_of(numbers: [u32; 6]) -> Option<Confirmation>
     })
 }
 
-/// The number before which so many others stand.
+/// The number at this index, counted from 0.
 #[tactic(auto, unfolding(crate::specs::Fields::number_bytes))]
 fn number_at(bytes: &[u8], index: usize) -> u32
     requires { 4 * index + 4 ≤ length bytes.now }

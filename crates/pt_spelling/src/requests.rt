@@ -11,7 +11,7 @@ use crate::trips::{outcome_number, push_wish};
 use pt_requests::Write;
 use std::alloc::{AllocError, Global};
 
-/// The spelling of a request. The error is want of memory.
+/// The spelling of a request. The error is out of memory.
 pub fn spell(alloc: Global, asked: &Write) -> Result<Spelling, AllocError>
     ensures value { IfOk result (λ spelled. spelled ≡ spelling asked.now) }
     ensures ranges { OnOk result (IsRequest asked.now) }
@@ -25,7 +25,7 @@ pub fn spell(alloc: Global, asked: &Write) -> Result<Spelling, AllocError>
     Ok(Spelling::of(bytes))
 }
 
-/// How a kind of request is told apart.
+/// The number of the request's kind.
 fn tag_of(asked: &Write) -> u8
     ensures { result ≡ tag_of asked.now }
 {
@@ -45,7 +45,7 @@ fn tag_of(asked: &Write) -> u8
     }
 }
 
-/// Adds the fields of a request. The error is want of memory.
+/// Adds the fields of a request. The error is out of memory.
 fn push_fields(asked: &Write, out: &mut Vec<u8>) -> Result<(), AllocError>
     ensures text { OnOk result (out.new.items ≡ out.old.items ++ fields_of asked.now) }
     ensures ranges { OnOk result (IsRequest asked.now) }

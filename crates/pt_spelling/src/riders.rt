@@ -12,7 +12,7 @@ use pt_conditions::condition_text;
 use pt_rights::{Conditions, Entry, Grant};
 use std::alloc::AllocError;
 
-/// Adds the fields of a rider's record. The error is want of memory, here and below.
+/// Adds the fields of a rider's record. The error is out of memory, here and below.
 pub(crate) fn push_rider(rider: &Rider, out: &mut Vec<u8>) -> Result<(), AllocError>
     ensures text { OnOk result (out.new.items ≡ out.old.items ++ rider_bytes rider.now) }
     ensures ranges { OnOk result (IsId rider.now.id) }
@@ -26,7 +26,7 @@ pub(crate) fn push_rider(rider: &Rider, out: &mut Vec<u8>) -> Result<(), AllocEr
     push_wheelchair(rider.wheelchair, out)
 }
 
-/// Adds a byte for a rider in a wheelchair.
+/// Adds a byte if the rider rides in a wheelchair.
 fn push_wheelchair(wheelchair: bool, out: &mut Vec<u8>) -> Result<(), AllocError>
     ensures text { OnOk result (out.new.items ≡ out.old.items ++ wheelchair_bytes wheelchair) }
 {
@@ -36,7 +36,7 @@ fn push_wheelchair(wheelchair: bool, out: &mut Vec<u8>) -> Result<(), AllocError
     Ok(())
 }
 
-/// Adds the kind of an entry of a case file, and what it has beside.
+/// Adds the kind of an entry of a case file, and its other fields.
 pub(crate) fn push_entry(entry: &Entry, out: &mut Vec<u8>) -> Result<(), AllocError>
     ensures text { OnOk result (out.new.items ≡ out.old.items ++ entry_bytes entry.now) }
     ensures ranges { OnOk result (IsEntry entry.now) }
@@ -45,7 +45,7 @@ pub(crate) fn push_entry(entry: &Entry, out: &mut Vec<u8>) -> Result<(), AllocEr
     push_particulars(entry, out)
 }
 
-/// How the kind of an entry is told apart, from 0.
+/// The number of an entry's kind, counted from 0.
 pub fn entry_number(entry: &Entry) -> u8
     ensures value { result ≡ entry_number entry.now }
 {
@@ -64,7 +64,7 @@ pub fn entry_number(entry: &Entry) -> u8
     }
 }
 
-/// Adds what an entry has beside its kind.
+/// Adds what an entry has besides its kind.
 fn push_particulars(entry: &Entry, out: &mut Vec<u8>) -> Result<(), AllocError>
     ensures text { OnOk result (out.new.items ≡ out.old.items ++ particulars_of entry.now) }
     ensures ranges { OnOk result (IsEntry entry.now) }

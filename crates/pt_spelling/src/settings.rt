@@ -14,7 +14,7 @@ use pt_requests::{Caller, Role};
 use pt_travel::{Raw, Row};
 use std::alloc::AllocError;
 
-/// How a caller's role is told apart, from 0.
+/// The number of a caller's role, counted from 0.
 pub fn role_number(role: &Role) -> u8
     ensures value { result ≡ role_number role.now }
 {
@@ -41,7 +41,7 @@ pub fn subject_of(role: &Role) -> u32
     }
 }
 
-/// Adds the fields of a caller. The error is want of memory, here and below.
+/// Adds the fields of a caller. The error is out of memory, here and below.
 pub(crate) fn push_caller(caller: &Caller, out: &mut Vec<u8>) -> Result<(), AllocError>
     ensures text { OnOk result (out.new.items ≡ out.old.items ++ caller_bytes caller.now) }
     ensures ranges { OnOk result (IsCaller caller.now) }

@@ -7,7 +7,7 @@ use pt_base::Wish;
 use pt_rights::Outcome;
 use std::alloc::AllocError;
 
-/// Adds the fields of a trip as a rider wishes it. The error is want of memory.
+/// Adds the fields of a trip as a rider wishes it. The error is out of memory.
 pub(crate) fn push_wish(wish: &Wish, out: &mut Vec<u8>) -> Result<(), AllocError>
     ensures text { OnOk result (out.new.items ≡ out.old.items ++ wish_bytes wish.now) }
     ensures ranges { OnOk result (IsWish wish.now) }
@@ -24,7 +24,7 @@ pub(crate) fn push_wish(wish: &Wish, out: &mut Vec<u8>) -> Result<(), AllocError
     push_number(u32::from(wish.companions), out)
 }
 
-/// How the outcome of a trip is told apart.
+/// The number of a trip's outcome.
 pub(crate) fn outcome_number(outcome: Outcome) -> u8
     ensures { result ≡ outcome_number outcome }
 {

@@ -13,7 +13,7 @@ use pt_conditions::condition_from;
 use pt_rights::{Condition, Conditions, Entry, Grant, MOST_CONDITIONS, Reasons};
 use std::alloc::{AllocError, Global};
 
-/// Takes a condition, in its text; `None` where no such bytes come next, here and at the next.
+/// Takes a condition, spelled as its text; `None` if no such bytes come next, here and in the next function.
 fn take_condition(left: &mut &[u8]) -> Option<Condition>
     ensures { Takes condition_bytes IsCondition left.old.now result left.new.now }
 {
@@ -37,7 +37,7 @@ fn take_conditions(left: &mut &[u8]) -> Option<Conditions>
     Conditions::of(&members)
 }
 
-/// The grant of which the bytes are the fields; `None` where they are no such fields, here and below.
+/// The grant whose fields the bytes are; `None` if they are no such fields, here and below.
 fn grant_from(bytes: &[u8]) -> Option<Grant>
     ensures { Finds grant_bytes IsGrant bytes.now result }
 {
@@ -48,7 +48,7 @@ fn grant_from(bytes: &[u8]) -> Option<Grant>
     })
 }
 
-/// The reasons that the bytes spell, after their length. The error is want of memory, here and below.
+/// The reasons that the bytes spell, after their length. The error is out of memory, here and below.
 fn reasons_from(alloc: Global, bytes: &[u8]) -> Result<Option<Reasons>, AllocError>
     ensures { IfOk result (Finds text_bytes IsReasons bytes.now) }
 {

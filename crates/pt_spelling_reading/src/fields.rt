@@ -14,10 +14,10 @@ ghost use Rattle.pt_spelling_reading.specs.Reading.{Takes, Finds, mark};
 
 use pt_base::{Day, Id, Minute, Point, Weekday, Weekdays};
 
-/// How many feet from the origin a coordinate lies at most, either way.
+/// The most feet between a coordinate and the origin, either way.
 const FARTHEST: i32 = 1_000_000;
 
-/// Takes so many bytes from those that are left; `None` where fewer are left.
+/// Takes this many bytes from those that are left; `None` if fewer are left.
 pub(crate) fn take_bytes<'a>(left: &mut &'a [u8], count: usize) -> Option<&'a [u8]>
     ensures { Takes (λ part. part) (λ part. length part ≡ count) left.old.now (option_copied result) left.new.now }
 {
@@ -52,7 +52,7 @@ pub(crate) fn take_number(left: &mut &[u8]) -> Option<u32>
     Some(u32::from_be_bytes([first[0], first[1], first[2], first[3]]))
 }
 
-/// The number from `least` to `most` that the bytes are; `None` where they are none, here and below.
+/// The number from `least` to `most` that the bytes spell; `None` if they spell none, here and below.
 pub(crate) fn number_from(bytes: &[u8], least: u32, most: u32) -> Option<u32>
     ensures found { Finds number_bytes (IsInRange least most) bytes.now result }
     ensures range { IfSome result (IsInRange least most) }
@@ -61,7 +61,7 @@ pub(crate) fn number_from(bytes: &[u8], least: u32, most: u32) -> Option<u32>
     take_number_in(&mut left, least, most)
 }
 
-/// The number of a record that the bytes are.
+/// The number of a record that the bytes spell.
 pub(crate) fn id_from<Kind>(bytes: &[u8]) -> Option<Id<Kind>>
     ensures { Finds number_bytes IsId bytes.now result }
 {
@@ -177,7 +177,7 @@ fn weekdays_of(byte: u8) -> Weekdays
     days
 }
 
-/// The set with this weekday in it where the lowest bit is set, and the bits above it.
+/// The set, with this weekday in it if the lowest bit is set, and the bits above that bit.
 fn marked(days: Weekdays, weekday: Weekday, bits: u8) -> (Weekdays, u8)
     ensures days { result.0 ≡ mark days (number_of weekday) (bits % 2 == 1) }
     ensures half { result.1 ≡ bits / 2 }

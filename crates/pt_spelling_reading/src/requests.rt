@@ -13,8 +13,8 @@ use pt_requests::Write;
 use pt_spelling::spell;
 use std::alloc::{AllocError, Global};
 
-/// Whether the bytes spell a request that may be asked. It takes time and memory in the length of the bytes. The
-/// error is want of memory, here and below.
+/// Whether the bytes spell a request that may be asked. Time and memory grow with the length of the bytes. The error is
+/// out of memory, here and below.
 pub fn is_spelling(alloc: Global, bytes: &[u8]) -> Result<bool, AllocError>
     ensures decided { IfOk result (λ found. IsTrue found ↔ IsSpelling bytes.now) }
 {
@@ -55,7 +55,7 @@ fn request_of(alloc: Global, tag: u8, fields: &[u8]) -> Result<Option<Write>, Al
     }
 }
 
-/// The request to put a caller that has these fields; `None` where no request has them, here and below.
+/// The request to put a caller that has these fields; `None` if no request has them, here and below.
 fn put_caller(fields: &[u8]) -> Option<Write>
     ensures { FindsRequest 1 fields.now result }
 {
@@ -141,7 +141,7 @@ fn cancel(fields: &[u8]) -> Option<Write>
     Some(Write::Cancel(id_from(fields)?))
 }
 
-/// The request to say how a trip ended that has these fields.
+/// The request to record how a trip ended that has these fields.
 fn outcome(fields: &[u8]) -> Option<Write>
     ensures { FindsRequest 11 fields.now result }
 {

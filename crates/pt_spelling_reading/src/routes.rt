@@ -12,7 +12,7 @@ use pt_base::{Point, RouteId};
 use pt_corridor::FixedRoute;
 use std::alloc::{AllocError, Global};
 
-/// Takes points, after their number. The error is want of memory, here and below.
+/// Takes points, after their number. The error is out of memory, here and below.
 fn take_points(alloc: Global, left: &mut &[u8]) -> Result<Option<Vec<Point>>, AllocError>
     ensures { IfOk result (λ found. Takes (list_bytes point_bytes)
         (λ points. IsWord (length points) × All (λ point. IsOnPlane point.x point.y) points)
@@ -31,7 +31,7 @@ fn take_points(alloc: Global, left: &mut &[u8]) -> Result<Option<Vec<Point>>, Al
     Ok(Some(points))
 }
 
-/// The fixed route of which the bytes are the fields; `None` where they are no such fields, here and below.
+/// The fixed route whose fields the bytes are; `None` if they are no such fields, here and below.
 pub(crate) fn route_from(alloc: Global, bytes: &[u8]) -> Result<Option<FixedRoute>, AllocError>
     ensures { IfOk result (Finds route_bytes IsRoute bytes.now) }
 {
@@ -45,7 +45,7 @@ pub(crate) fn route_from(alloc: Global, bytes: &[u8]) -> Result<Option<FixedRout
     Ok(route_along(id, width, points, left))
 }
 
-/// The fixed route along these points, of which the bytes are the fields after its points.
+/// The fixed route along these points; the bytes are its fields after the points.
 fn route_along(id: RouteId, width: u32, points: Vec<Point>, bytes: &[u8]) -> Option<FixedRoute>
     ensures { (route : Route) → IsRoute route → id ≡ route.id → width ≡ route.width → points.items ≡ route.points
         → bytes.now ≡ truth_bytes route.accessible

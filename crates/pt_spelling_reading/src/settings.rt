@@ -14,13 +14,13 @@ use pt_base::{Place, Policy, Residence, Rider, RiderId, Vehicle, VehicleId};
 use pt_party::HIGHEST_FARE;
 use pt_requests::{Caller, Digest, Role};
 
-/// How many bytes a digest has.
+/// The number of bytes in a digest.
 const DIGEST_BYTES: usize = 32;
 
 /// The most wheelchair places of a vehicle.
 const MOST_CHAIRS: u32 = 10;
 
-/// The role that is told apart so, about the rider or vehicle of this number.
+/// The role with this number, about the rider or vehicle with this number.
 fn role_of(kind: u8, subject: u32) -> Option<Role>
     ensures { (role : Role) → IsRole role → role_number role ≡ kind → subject_of role ≡ subject → result ≡ Some role }
 {
@@ -45,7 +45,7 @@ fn take_digest(left: &mut &[u8]) -> Option<Digest>
     Some(Digest::of(bytes))
 }
 
-/// The caller of whom the bytes are the fields; `None` where they are no such fields, here and below.
+/// The caller whose fields the bytes are; `None` if they are no such fields, here and below.
 pub(crate) fn caller_from(bytes: &[u8]) -> Option<Caller>
     ensures { Finds caller_bytes IsCaller bytes.now result }
 {
@@ -60,7 +60,7 @@ pub(crate) fn caller_from(bytes: &[u8]) -> Option<Caller>
     })
 }
 
-/// The policy of which the bytes are the fields.
+/// The policy whose fields the bytes are.
 pub(crate) fn policy_from(bytes: &[u8]) -> Option<Policy>
     ensures { Finds policy_bytes (λ _. Unit {0}) bytes.now result }
 {
@@ -77,7 +77,7 @@ pub(crate) fn policy_from(bytes: &[u8]) -> Option<Policy>
     })
 }
 
-/// The place of which the bytes are the fields.
+/// The place whose fields the bytes are.
 pub(crate) fn place_from(bytes: &[u8]) -> Option<Place>
     ensures { Finds place_bytes (λ place. IsId place.id) bytes.now result }
 {
@@ -89,7 +89,7 @@ pub(crate) fn place_from(bytes: &[u8]) -> Option<Place>
     })
 }
 
-/// The vehicle, as it is from a day on, of which the bytes are the fields.
+/// The vehicle, as it is from a day on, whose fields the bytes are.
 pub(crate) fn vehicle_from(bytes: &[u8]) -> Option<Vehicle>
     ensures { Finds vehicle_bytes IsVehicle bytes.now result }
 {
@@ -117,7 +117,7 @@ pub(crate) fn vehicle_from(bytes: &[u8]) -> Option<Vehicle>
     })
 }
 
-/// The number of wheelchair places that the bytes tell.
+/// The number of wheelchair places that the bytes spell.
 fn chairs_from(bytes: &[u8]) -> Option<u16>
     ensures found { Finds chairs_bytes (λ chairs. chairs ≤ 10) bytes.now result }
     ensures range { IfSome result (λ chairs. chairs ≤ 10) }
@@ -128,7 +128,7 @@ fn chairs_from(bytes: &[u8]) -> Option<u16>
     Some(number_from(bytes, 1, MOST_CHAIRS)? as u16)
 }
 
-/// Takes what tells a resident and a visitor apart.
+/// Takes the number of the kind of rider, resident or visitor.
 fn take_kind(left: &mut &[u8]) -> Option<Residence>
     ensures { Takes (λ kind. kind_number kind ∷ []) (λ _. Unit {0}) left.old.now result left.new.now }
 {
@@ -139,7 +139,7 @@ fn take_kind(left: &mut &[u8]) -> Option<Residence>
     }
 }
 
-/// The rider of whom the bytes are the fields.
+/// The rider whose fields the bytes are.
 pub(crate) fn rider_from(bytes: &[u8]) -> Option<Rider>
     ensures { Finds rider_bytes (λ rider. IsId rider.id) bytes.now result }
 {
@@ -152,7 +152,7 @@ pub(crate) fn rider_from(bytes: &[u8]) -> Option<Rider>
     })
 }
 
-/// Whether the bytes tell of a wheelchair.
+/// Whether the bytes say that the rider has a wheelchair.
 fn has_wheelchair(bytes: &[u8]) -> bool
     ensures { Finds wheelchair_bytes (λ _. Unit {0}) bytes.now (Some result) }
 {

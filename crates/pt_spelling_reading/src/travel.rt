@@ -21,7 +21,7 @@ fn take_row(left: &mut &[u8]) -> Option<Row>
     ))
 }
 
-/// Takes rows, after their number. The error is want of memory, here and below.
+/// Takes rows, after their number. The error is out of memory, here and below.
 fn take_rows(alloc: Global, left: &mut &[u8]) -> Result<Option<Vec<Row>>, AllocError>
     ensures { IfOk result (λ found. Takes (list_bytes row_bytes)
         (λ rows. IsWord (length rows) × All (λ row. IsRow row × (row.2 ≤ 1439)) rows)
@@ -40,7 +40,7 @@ fn take_rows(alloc: Global, left: &mut &[u8]) -> Result<Option<Vec<Row>>, AllocE
     Ok(Some(rows))
 }
 
-/// The travel table that the bytes spell; `None` where they spell none.
+/// The travel table that the bytes spell; `None` if they spell none.
 pub(crate) fn table_from(alloc: Global, bytes: &[u8]) -> Result<Option<Raw>, AllocError>
     ensures { IfOk result (Finds (list_bytes row_bytes) (λ rows. IsTable rows × All IsRow rows) bytes.now) }
 {

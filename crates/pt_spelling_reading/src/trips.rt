@@ -9,7 +9,7 @@ use crate::fields::{
 use pt_base::Wish;
 use pt_rights::Outcome;
 
-/// The wish of which the bytes are the fields; `None` where they are no such fields.
+/// The wish whose fields the bytes are; `None` if they are no such fields.
 pub(crate) fn wish_from(bytes: &[u8]) -> Option<Wish>
     ensures { Finds wish_bytes IsWish bytes.now result }
 {
@@ -25,7 +25,7 @@ pub(crate) fn wish_from(bytes: &[u8]) -> Option<Wish>
     })
 }
 
-/// The outcome of a trip that the bytes tell; `None` where they tell none.
+/// The outcome of a trip that the bytes spell; `None` if they spell none.
 pub(crate) fn outcome_from(bytes: &[u8]) -> Option<Outcome>
     ensures { Finds (λ outcome. outcome_number outcome ∷ []) (λ _. Unit {0}) bytes.now result }
 {

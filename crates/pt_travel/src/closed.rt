@@ -23,7 +23,7 @@ impl Closed {
     ghost use Rattle.pt_travel.specs.Chain.{IsTime};
     ghost use Rattle.pt_travel.specs.Times.{time_in};
 
-    /// The closure of a table, whose memory is asked for at once.
+    /// The closure of a table. It asks for all its memory at once.
     pub fn of(alloc: Global, raw: &Raw) -> Result<Self, AllocError>
         ensures least { IfOk result (λ closed. (from to : ℕ) → IsTime raw.now from to (time_in closed from to)) }
     {

@@ -27,7 +27,7 @@ pub(crate) fn minutes(field: &[u8]) -> Option<u16>
     }
 }
 
-// The number that one to so many digits write.
+// The number that 1 to `most` digits write.
 fn digits(field: &[u8], most: usize) -> Option<u64>
     requires { most ≤ 10 }
     ensures { MatchOption result (IsDigits most field.now → ⊥)

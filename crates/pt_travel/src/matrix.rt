@@ -9,13 +9,13 @@ use crate::places::Places;
 use crate::raw::{MOST_PLACES, Row};
 use std::alloc::{AllocError, Global};
 
-/// No way within a day.
+/// The entry that means no way within a day.
 pub(crate) const NO_WAY: u16 = 1440;
 
-/// The minutes from one place to each place, by their positions; the rest of the line is not read.
+/// The minutes from one place to each place, by its position; nothing reads the rest of the line.
 pub(crate) type Line = [u16; MOST_PLACES];
 
-/// The lines of a table's places, with its rows standing in them.
+/// The lines of a table's places, with the rows of the table in them.
 pub(crate) fn direct(alloc: Global, rows: &[Row], places: &Places) -> Result<Vec<Line>, AllocError>
     requires named { NamesOnly (list_of places.now) rows.now }
     ensures { IfOk result (λ lines. IsClosedOver rows.now (list_of places.now) 0 lines.items) }
@@ -27,7 +27,7 @@ pub(crate) fn direct(alloc: Global, rows: &[Row], places: &Places) -> Result<Vec
     Ok(lines)
 }
 
-// The lines of so many places before any row stands: 0 from each place to itself, and no way else.
+// The lines of n places before any row is put in: 0 from each place to itself, and no other way.
 fn apart(alloc: Global, n: usize) -> Result<Vec<Line>, AllocError>
     requires { n ≤ 100 }
     ensures size { IfOk result (λ lines. length lines.items ≡ n) }
@@ -61,7 +61,7 @@ fn put(lines: &mut Vec<Line>, places: &Places, row: &Row)
     }
 }
 
-/// Takes the way over the place at `k` wherever it is shorter.
+/// Puts in the way over the place at `k` wherever it is shorter.
 pub(crate) fn shorten(lines: &mut Vec<Line>, k: usize)
     requires in_range { k < length lines.old.items }
     requires few { length lines.old.items ≤ 100 }

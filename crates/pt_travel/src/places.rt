@@ -4,7 +4,7 @@ ghost use Rattle.std.specs.Prelude.{◌≡◌, ℕ, ◌<◌, ◌≤◌, List, le
 use crate::raw::{MOST_PLACES, Row};
 use pt_base::PlaceId;
 
-/// How many guesses of where a place stands are kept.
+/// The number of guesses at positions of places.
 const GUESSES: usize = 1024;
 
 /// Places, each once and at most 100.
@@ -12,7 +12,7 @@ const GUESSES: usize = 1024;
 pub(crate) struct Places {
     numbers: [u32; MOST_PLACES],
     len: usize,
-    // By a hash of a place's number, where it was put, unless another place of that hash came later.
+    // For each hash, the position of the last place with that hash.
     guesses: [u8; GUESSES],
     ghost within: { len ≤ 100 },
     ghost valid: { (i : ℕ) → i < len → IsInRange 1 4_294_967_295 (slice_index numbers i) },
@@ -36,7 +36,7 @@ impl Places {
         }
     }
 
-    /// The places that a table's rows name; `None` where they are more than 100.
+    /// The places that a table's rows name; `None` if they are more than 100.
     pub fn of(rows: &[Row]) -> Option<Self>
         ensures named { IfSome result (λ places. NamesOnly (list_of places) rows.now) }
         ensures too_many { IsNone result → (list : List ℕ) → NamesOnly list rows.now → 100 < length list }
@@ -62,7 +62,7 @@ impl Places {
         places
     }
 
-    // Whether there was room, or the place was there already.
+    // Adds a place if it is new; false if there is no room for it.
     fn insert(&mut self, place: PlaceId) -> bool
         ensures kept { OnTrue result (((list_of self.new ≡ list_of self.old) × Contains (list_of self.old) place)
             ⊎ (list_of self.new ≡ list_of self.old ++ place ∷ [])) }
@@ -81,7 +81,7 @@ impl Places {
         true
     }
 
-    /// How many places there are.
+    /// The number of places.
     pub fn len(&self) -> usize
         ensures value { result ≡ length (list_of self.now) }
         ensures within { result ≤ 100 }
@@ -89,7 +89,7 @@ impl Places {
         self.len
     }
 
-    /// The place of this number, where it is one of them.
+    /// The place of this number; `None` if it is not one of them.
     pub fn place(&self, number: u64) -> Option<PlaceId>
         ensures { MatchOption result (Contains (list_of self.now) number → ⊥)
             (λ place. Contains (list_of self.now) number × (place ≡ number)) }
@@ -102,7 +102,7 @@ impl Places {
         Some(place)
     }
 
-    /// Where a place stands among them.
+    /// The position of a place among them.
     pub fn position(&self, place: PlaceId) -> Option<usize>
         ensures value { result ≡ position (λ p. p == place) (list_of self.now) }
         ensures there { MatchOption result (Contains (list_of self.now) place → ⊥)
@@ -117,8 +117,8 @@ impl Places {
     }
 }
 
-// Where the guess for a place of this number is kept. The factor, 2^32 over the golden ratio, keeps
-// numbers that rise in even steps apart.
+// The hash of a place's number. The factor, 2^32 over the golden ratio, gives numbers that rise in even
+// steps different hashes.
 fn slot(number: u32) -> usize
     ensures { result < 1024 }
 {

@@ -7,10 +7,10 @@ use pt_base::PlaceId;
 use std::alloc::{AllocError, Global};
 use std::marker::Model;
 
-/// How many places a table may name.
+/// The most places that a table may name.
 pub const MOST_PLACES: usize = 100;
 
-/// How many minutes a row may take.
+/// The most minutes that a row may take.
 pub const MOST_MINUTES: u16 = 1439;
 
 /// A row of a travel table: from, to, and the minutes of the drive.
@@ -38,8 +38,8 @@ impl Model for Raw {
 impl Raw {
     /// The table of these rows, which takes no memory.
     ///
-    /// `None` where the rows do not rise strictly by their places, where one takes longer than
-    /// 1439 minutes, or where they name more than 100 places together.
+    /// `None` if the rows do not rise strictly by their places, if one takes longer than 1439
+    /// minutes, or if they name more than 100 places together.
     pub fn of(rows: Vec<Row>) -> Option<Self>
         ensures table { IsSome result ↔ IsTable rows.items }
         ensures value { IfSome result (λ raw. raw ≡ rows.items) }
@@ -78,7 +78,7 @@ impl Raw {
         Raw { rows, places }
     }
 
-    // The places that the rows name, and maybe others.
+    // The places that the rows name, and possibly others.
     pub(crate) fn places(&self) -> Places
         ensures { NamesOnly (list_of result) self.now }
     {

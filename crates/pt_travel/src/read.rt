@@ -15,13 +15,13 @@ use pt_base::{Fault, PlaceId};
 use std::alloc::Global;
 
 impl Raw {
-    /// The table that a text of CSV gives for these places: the header `from,to,minutes`, and below
-    /// it a row in each record, in any order. A byte order mark before the header is passed over.
+    /// Reads a table of these places from CSV: the header `from,to,minutes`, and below it one record
+    /// for each row, in any order. A byte order mark before the header is skipped.
     ///
-    /// The first fault is told: more than 100 places (25, of row 0), no such header (21), and then
-    /// record by record other than three fields (20), a field that is not 1 to 10 digits of a place
-    /// in the list (22), minutes that are not 1 to 4 digits of at most 1439 (23), and a pair that
-    /// stood before with other minutes (24). Rows count records, and the header is row 1.
+    /// The first fault is returned. More than 100 places are 25 in row 0; another header is 21. Then
+    /// each record is checked: other than three fields (20), a field that is not 1 to 10 digits of a
+    /// place in the list (22), minutes that are not 1 to 4 digits of at most 1439 (23), and a pair
+    /// that came earlier with other minutes (24). Rows count records, and the header is row 1.
     pub fn read(alloc: Global, text: &[u8], places: &[PlaceId]) -> Result<Self, Fault>
         ensures reads { IfOk result (λ raw. ReadsAs text.now places.now raw) }
         ensures faulty { IfErr result (λ fault. (fault ≡ record { code = memory_refused; row = 0 })
@@ -71,7 +71,7 @@ fn next_record(reader: &mut Reader<&[u8]>, given: &mut ByteRecord) -> Result<boo
     ensures ready { IfOk result (λ found. found ≡ true → Ready reader.new) }
     ensures refused { IfErr result (λ fault. fault ≡ record { code = memory_refused; row = 0 }) }
 {
-    // The bytes lie in memory and a record may have any length, so no read fails but for memory.
+    // The bytes lie in memory and a record may have any length, so a read fails only if out of memory.
     match reader.read_byte_record(given) {
         Ok(found) => Ok(found),
         Err(_) => Err(Fault::of(pt_base::fault::MEMORY)),

@@ -14,7 +14,7 @@ use csv::ByteRecord;
 use pt_base::Fault;
 use pt_base::fault::{TRAVEL_HEADER, TRAVEL_MINUTES, TRAVEL_PLACE, TRAVEL_RECORD};
 
-/// Takes the record of this number: the header row, or a row to stand among the others in order.
+/// Takes the record of this number: the header row, or a row that is put among the others in order.
 pub(crate) fn take(
     rows: &mut Vec<Row>,
     places: &Places,
@@ -39,7 +39,7 @@ pub(crate) fn take(
     }
 }
 
-// That a record is the header row.
+// Checks that the record is the header row.
 #[tactic(auto, using(crate::proofs::RecordLemmas::header_from))]
 fn header(given: &ByteRecord) -> Result<(), Fault>
     ensures header { OnOk result (fields_of given.now ≡ header) }
@@ -59,7 +59,7 @@ fn header(given: &ByteRecord) -> Result<(), Fault>
     })
 }
 
-// The row that a record reads as, or the code of what is wrong with it.
+// The row that a record spells, or the code of its fault.
 fn row(given: &ByteRecord, places: &Places) -> Result<Row, u16>
     ensures sound { IfOk result (λ row. IsSound (list_of places.now) (fields_of given.now)
         × (row ≡ row_of (fields_of given.now))) }
@@ -87,7 +87,7 @@ fn has_field(given: &ByteRecord, i: usize, name: &[u8]) -> bool
     field(given, i) == name
 }
 
-// The bytes of a field, and none past the last.
+// The bytes of a field; empty past the last field.
 fn field(given: &ByteRecord, i: usize) -> &[u8]
     ensures { result.now ≡ slice_index_or (fields_of given.now) i [] }
 {

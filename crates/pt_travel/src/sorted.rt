@@ -8,7 +8,7 @@ use pt_base::Fault;
 use pt_base::fault::TRAVEL_PAIR;
 use std::alloc::AllocError;
 
-/// Puts a row among others in order, unless it is there; `number` is that of its record.
+/// Puts a row among others in order, unless it is there; `number` is the number of its record.
 pub(crate) fn put(rows: &mut Vec<Row>, row: Row, number: u32) -> Result<(), Fault>
     requires { Rises rows.old.items }
     ensures rises { OnOk result (Rises rows.new.items) }
@@ -34,7 +34,7 @@ pub(crate) fn put(rows: &mut Vec<Row>, row: Row, number: u32) -> Result<(), Faul
     }
 }
 
-// How many rows come before this one: all of them, where a table is given in order.
+// How many rows come before this one; if a table is given in order, all of them.
 fn place_for(rows: &[Row], row: &Row) -> usize
     requires { Rises rows.now }
     ensures within { result ≤ length rows.now }

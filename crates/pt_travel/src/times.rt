@@ -2,12 +2,12 @@ ghost use Rattle.std.specs.Prelude.{◌≡◌, ℕ, ◌+◌, ◌≤◌, Option, 
 
 use pt_base::PlaceId;
 
-/// Driving times between places, in minutes, with the laws that planning stands on.
+/// Driving times between places, in minutes, with the laws that planning relies on.
 pub trait Times {
-    /// The minutes from one place to another, where there is a way within a day.
+    /// The minutes from one place to another; `None` if there is no way within a day.
     ghost minutes: { Self → ℕ → ℕ → Option ℕ };
 
-    /// The driving time in minutes; `None` where there is no way, or none within 1439 minutes.
+    /// The driving time in minutes; `None` if there is no way within 1439 minutes.
     fn minutes(&self, from: PlaceId, to: PlaceId) -> Option<u16>
         ensures value { result ≡ minutes self.now from to };
 

@@ -4,7 +4,7 @@ ghost use Rattle.pt_visitors.specs.Periods.{MayUse, is_in_period};
 
 use pt_base::Day;
 
-/// The days that a period lasts.
+/// The number of days in a period.
 const PERIOD: u32 = 365;
 
 /// The most days of a period on which a visitor may ride.
@@ -12,8 +12,8 @@ const MOST_DAYS: usize = 21;
 
 /// Whether a visitor who rides on the days of `uses` may ride on this day too.
 ///
-/// The day is tried for itself alone: it may be one of the uses, and the periods of later uses are
-/// not looked at. It takes no memory.
+/// Only the day's own period counts, not the periods of later uses. The day may be one of the uses. It takes no
+/// memory.
 pub fn visitor_may(uses: &[Day], day: Day) -> bool
     requires { IsStrictlyIncreasing uses.now }
     ensures { IsTrue result ↔ MayUse uses.now day }
