@@ -1,4 +1,4 @@
-//! A desk whose database is opened.
+//! Opens the database of a desk.
 
 ghost use Rattle.std.specs.Prelude.{◌≡◌, ◌⊎◌, ◌≤◌, IsTrue, IfOk, IfErr, IsErrAnd, MatchResult, false};
 ghost use Rattle.pt_base.specs.Codes.{memory_refused};
@@ -21,9 +21,8 @@ use pt_tables_opening::{OpenFault, content_in, fault_of};
 use sqlite::{Alter, Connection};
 use std::alloc::Global;
 
-/// A new connection to what another had committed, whose open transaction, if it has one, is undone: code 32 where the
-/// store failed, and 0 where memory was refused. Its store is handed back with the refusal. The memory in which the
-/// other answered is let go.
+/// A new connection to what another had committed. An open transaction of the other one is rolled back, and its memory
+/// is freed. An error returns the store too: code 32 if the store failed, 0 if out of memory.
 fn reopened<S: Alter + Drop>(
     alloc: Global,
     conn: Connection<S>,
@@ -58,12 +57,12 @@ fn reopened<S: Alter + Drop>(
     }
 }
 
-/// Opens a database that has the desk's tables: their content is read and judged, and nothing is written. The store
-/// serves by a new connection, since one that has read all rows keeps the memory that it took.
+/// Opens a database that has the desk's tables. It reads and checks their content, and writes nothing. The store uses a
+/// new connection, since one that has read all rows keeps the memory that it took.
 ///
-/// A refusal hands the store back: code 30 where the tables are not the desk's, or are of another version; 31 with
-/// the number of the first table at fault, where the rows are those of no sound state; 32 where a transaction is
-/// open or the store failed; 0 where memory was refused.
+/// A refusal returns the store too: code 30 if the tables are not the desk's or are of another version; 31, with the
+/// number of the first table at fault, if no sound state has the rows; 32 if a transaction is open or the store failed;
+/// 0 if out of memory.
 pub fn adopt<S: Alter + Drop>(
     alloc: Global,
     conn: Connection<S>,

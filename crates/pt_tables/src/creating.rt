@@ -1,4 +1,4 @@
-//! The tables of a new desk.
+//! Creates the tables of a new desk.
 
 ghost use Rattle.std.specs.Prelude.{◌≡◌, ◌⊎◌, ◌↔◌, IsTrue, IfOk, IfErr, OnOk, OnErr, MatchResult, false};
 ghost use Rattle.pt_base.specs.Codes.{memory_refused};
@@ -27,7 +27,7 @@ use sqlite::{Alter, Connection, Error};
 use sqlite_schema::schema::Schema;
 use std::alloc::Global;
 
-/// The number that was last given to a trip, before the first.
+/// The number last given to a trip, before the first trip.
 const NO_TRIP: u32 = 0;
 
 /// Whether a database has no table, index or view.
@@ -37,7 +37,7 @@ fn is_blank(schema: &Schema) -> bool
     schema.tables.is_empty() && schema.indexes.is_empty() && schema.views.is_empty()
 }
 
-/// Makes the tables of a new desk in one transaction, in a database that has none.
+/// Creates the tables of a new desk in one transaction, in an empty database.
 fn create_new<S: Alter>(
     conn: &mut Connection<S>,
     policy: &Policy,
@@ -77,10 +77,10 @@ fn least(alloc: Global, admin_key: &[u8]) -> Result<(ListKeeper, Policy), OpenFa
     Ok((lists, policy))
 }
 
-/// Makes the tables of a desk whose one caller is the admin with this key, in a database that has none.
+/// Creates the tables of a desk in an empty database. Its only caller is the admin with this key.
 ///
-/// A refusal hands the connection back, which shows what it showed before: code 32 where a transaction is open, the
-/// database has a table, an index or a view, or the store refused or failed; 0 where memory was refused.
+/// A refusal returns the connection, which shows what it showed before: code 32 if a transaction is open, if the
+/// database has a table, an index or a view, or if the store refused or failed; 0 if out of memory.
 pub fn create<S: Alter>(
     alloc: Global,
     mut conn: Connection<S>,

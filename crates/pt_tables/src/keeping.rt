@@ -1,4 +1,4 @@
-//! The store over tables whose content was just made, or read.
+//! The store over tables whose content was just created or read.
 
 ghost use Rattle.std.specs.Prelude.{◌≡◌, false};
 ghost use Rattle.pt_store.specs.Store.{IsSettled};
@@ -13,7 +13,8 @@ use pt_tables_keeper::{Content, Known, SqlKeeper};
 use sqlite::{Alter, Connection};
 use std::alloc::Global;
 
-/// The store over a database whose tables have the content of these lists. What it does not know in memory is let go.
+/// The store over a database whose tables have the content of these lists. It drops the records that it does not need
+/// in memory.
 pub(crate) fn keeper_of<S: Alter>(
     alloc: Global,
     conn: Connection<S>,

@@ -14,7 +14,7 @@ use pt_tables_writing::raise_version;
 use sqlite::{Alter, Connection, Error};
 use std::alloc::Global;
 
-/// Makes the tables of this version of those of the first, in one transaction.
+/// Changes the tables of the first version into those of the current one, in one transaction.
 fn raise<S: Alter>(conn: &mut Connection<S>) -> Result<(), Error>
     requires settled { conn.old.in_transaction ≡ false }
     ensures settled { conn.new.in_transaction ≡ false }
@@ -32,11 +32,11 @@ fn raise<S: Alter>(conn: &mut Connection<S>) -> Result<(), Error>
     tx.commit()
 }
 
-/// Makes a database with the tables of the first version one of this version, whose rows are those of the same content.
+/// Migrates a database from the first version of the tables to the current one. The content stays the same.
 ///
-/// Code 30 where its tables are not those of the first version, by their schema or by the version that the agency's row
-/// says; 32 where a transaction is open, or the store refused or failed; 0 where memory was refused. After a refusal
-/// the connection shows what it showed before.
+/// Errors: code 30 if the tables are not of the first version, by their schema or by the agency's row; 32 if a
+/// transaction is open, or the store refused or failed; 0 if out of memory. After a refusal the connection shows what
+/// it showed before.
 pub fn migrate<S: Alter>(alloc: Global, conn: &mut Connection<S>) -> Result<(), OpenFault>
     ensures settled { conn.old.in_transaction ≡ false → conn.new.in_transaction ≡ false }
     ensures migrated { HasCleanDisk (state S.Store conn.new)

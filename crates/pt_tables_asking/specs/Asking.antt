@@ -1,4 +1,4 @@
--- What is asked of the tables by one text, what the answer tells of records, and what a read leaves of the connection.
+-- What one SQL query of the tables returns, which records its rows are, and what a read does to the connection.
 use Rattle.std.specs.Prelude.{◌≡◌, ℕ, false, IsSorted, IsTrue, List, map, Option, None, Some, Result, Ok, Err}
 use Rattle.std.specs.Prelude.{replicate}
 use Rattle.sqlite.specs.Collation.TheVariants.{Binary}
@@ -19,36 +19,37 @@ abbrev pub command_in : Result Compiled CompileError → Command
 command_in (Ok c) = c.command
 command_in (Err e) = Nothing
 
--- the rows stand in the order of their first so many columns
+-- the rows are in ascending order of this many first columns
 abbrev pub AreInOrder : ℕ → List Row → Type 0
 AreInOrder columns rows = IsSorted (key_cmp 0 (replicate columns (ascending Binary))) rows
 
--- the rows are an answer to the text over these tables
+-- these rows are an answer to the query in this database
 abbrev pub IsAnswer : List ℕ → Row → Database → List Row → Type 0
 IsAnswer text params db rows = Reads (command_in (understood desk_schema text)) db params rows
 
--- the tables are the desk's, and each answer to the text over them is these rows
+-- the tables are the desk's, and these rows are the only answer to the query
 pub record HasAnswer (text : List ℕ) (params : Row) (db : Database) (rows : List Row) : Type 0 where
   pub schema : db.schema ≡ desk_schema
   pub shown : (found : List Row) → IsAnswer text params db found → rows ≡ found
 
--- where the disk stayed clean, an open connection shows what was committed
+-- if the disk stayed clean, an open connection shows what was committed
 abbrev pub ShowsCommit : Connected → Type 0
 ShowsCommit s = HasCleanDisk s → IsTrue s.is_open → s.now ≡ s.committed
 
--- A read of the tables commits nothing and leaves no transaction open; what it leaves shows what was committed.
+-- A read of the tables commits nothing and leaves no transaction open. After it the connection shows what was
+-- committed.
 pub record Rests (old new : Connected) : Type 0 where
   pub settled : new.in_transaction ≡ false
   pub keeps : HasCleanDisk new → KeepsCommit old new
   pub undone : ShowsCommit new
   pub survives : Survives old new (λ _. ⊥)
 
--- an open connection showed the rows, which are an answer to the text if the tables are the desk's
+-- the connection was open, and the rows are an answer to the query if the tables are the desk's
 pub record IsShown (text : List ℕ) (params : Row) (old : Connected) (rows : List Row) : Type 0 where
   pub was_open : IsTrue old.is_open
   pub answer : old.now.schema ≡ desk_schema → IsAnswer text params old.now rows
 
--- the records whose rows these are, in their order, or none where no records that fit have them
+-- the records that have these rows, in their order, or None if no fitting records have them
 abbrev pub TellsEach : {A : Type 0} → (A → Row) → (A → Type 0) → List Row → Option (List A) → Type 0
 TellsEach row_of Fits rows (Some xs) = (map row_of xs ≡ rows) × Each Fits xs
 TellsEach row_of Fits rows None = (xs : List _) → Each Fits xs → map row_of xs ≡ rows → ⊥

@@ -1,4 +1,4 @@
--- Records that are marked by a second table, in which those that are have their number.
+-- Records with marks in a second table: a record is marked if its number is a row there.
 use Rattle.std.specs.Prelude.{◌≡◌, ℕ, Bool, true, false, List, [], ◌∷◌, flat_map, is_some, Option, None, Some}
 use Rattle.sqlite.specs.Effect.{Database}
 use Rattle.sqlite.specs.Order.{Row}
@@ -22,7 +22,7 @@ FitsMark mark = IsWord mark.number
 abbrev pub has_mark : List Mark → ℕ → Bool
 has_mark marks number = is_some (record_at mark_key number marks)
 
--- the rows are this number's, or none
+-- there is one row with this number, or no row
 abbrev pub IsMark : ℕ → List Row → Type 0
 IsMark number rows = (is_there : Bool) × (rows ≡ row_if is_there (number_value number ∷ []))
 
@@ -30,16 +30,16 @@ abbrev pub has_row : List Row → Bool
 has_row [] = false
 has_row (row ∷ rows) = true
 
--- a record has been found, and has a row in the table of marks
+-- a record was found, and it has a row in the table of marks
 abbrev pub is_marked : {A : Type 0} → (A → List Row) → Option A → Bool
 is_marked rows_of None = false
 is_marked rows_of (Some x) = has_row (rows_of x)
 
--- the record, marked where the one of all records that has its key is
+-- the record, marked if the record with its key in `all` has a mark
 abbrev pub marked_in : {A : Type 0} → (A → ℕ) → (A → List Row) → (A → Bool → A) → List A → A → A
 marked_in key rows_of marked all x = marked x (is_marked rows_of (record_at key (key x) all))
 
--- each answer to the text, from the one number to the other, is the marks of the records with these keys
+-- for each span of numbers, the only answer to the query is the marks of the records with keys in the span
 abbrev pub HasMarks : {A : Type 0} → List ℕ → (A → ℕ) → (A → List Row) → Database → List A → Type 0
 HasMarks text key rows_of db all =
     (span : Span)

@@ -5,13 +5,13 @@ use Rattle.pt_desk_rules.specs.Fleet.{has_version}
 use Rattle.pt_scheduling.specs.Plan.{Plan}
 use Rattle.pt_tables_reading.specs.declared.stops.StopAt.{StopAt}
 
--- the plan of these stops, if there are any, by the vehicle and the day of the first
+-- the plan of these stops, if there are any; the first stop gives its vehicle and its day
 abbrev pub plan_by_stops : List StopAt → Option Plan
 plan_by_stops [] = None
 plan_by_stops (first ∷ later) =
     Some (record { vehicle = first.vehicle; day = first.day; stops = map (λ at. at.stop) (first ∷ later) })
 
--- the place of each of its stops is a number of 32 bits
+-- the place of each of its stops is a 32-bit number
 abbrev pub HasFewStops : Plan → Type 0
 HasFewStops plan = length plan.stops ≤ 2 ^ 32
 
@@ -19,7 +19,7 @@ HasFewStops plan = length plan.stops ≤ 2 ^ 32
 abbrev pub HasVersionAmong : List Vehicle → Plan → Type 0
 HasVersionAmong vehicles plan = IsTrue (has_version plan.vehicle vehicles)
 
--- the numbers of the vehicles, each at the last of its versions
+-- the numbers of the vehicles, each once, where its last version is
 abbrev pub vehicle_ids : List Vehicle → List ℕ
 vehicle_ids [] = []
 vehicle_ids (version ∷ later) =

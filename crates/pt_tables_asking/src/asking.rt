@@ -1,4 +1,4 @@
-//! What one text asks of the tables, read as records.
+//! One SQL query of the tables, with its rows read as records.
 
 ghost use Rattle.std.specs.Prelude.{◌≡◌, ◌≢◌, ◌↔◌, List, IsTrue, IfOk, map, false, slice_get};
 ghost use Rattle.std.specs.Option.{option_map};
@@ -21,11 +21,11 @@ use std::alloc::{AllocError, Global};
 /// Why records were not read.
 #[derive(Clone, Copy)]
 pub enum Unread {
-    /// Memory was refused.
+    /// Out of memory.
     Memory,
     /// The store refused or failed.
     Store,
-    /// A row is that of no record, or the rows do not stand in the order of the records.
+    /// A row is not that of any record, or the records are not in the order of their keys.
     Row,
 }
 
@@ -40,7 +40,7 @@ impl From<AllocError> for Unread {
 }
 
 impl Unread {
-    /// What an error of the store comes to.
+    /// The reason that an error of the store gives.
     pub fn of(error: &Error) -> Self
         ensures memory { error.now ≡ Error.SqliteFailure ErrorCode.OutOfMemory → result ≡ Memory }
         ensures store { error.now ≢ Error.SqliteFailure ErrorCode.OutOfMemory → result ≡ Failed }
@@ -60,14 +60,14 @@ pub(crate) fn first<T: Drop>(records: Vec<T>) -> Option<T>
     records.into_iter().next()
 }
 
-/// Whether the keys of the records rise.
+/// Whether the keys of the records are in strictly ascending order.
 pub fn are_rising<T: Keyed>(records: &[T]) -> bool
     ensures { IsTrue result ↔ IsInOrder T.key records.now }
 {
     records.is_sorted_by(|one, next| one.key().is_before(&next.key()))
 }
 
-/// The records, which stand in the order of their keys.
+/// The records as `Rows`; `Unread::Row` if they are not in the order of their keys.
 pub(crate) fn ordered<T: Keyed>(records: Vec<T>) -> Result<Rows<T>, Unread>
     ensures told { IfOk result (λ rows. rows ≡ records.items) }
     ensures readable { IsInOrder T.key records.items → result ≢ Err BadRow }
@@ -78,7 +78,7 @@ pub(crate) fn ordered<T: Keyed>(records: Vec<T>) -> Result<Rows<T>, Unread>
     Ok(Rows::of(records))
 }
 
-/// The rows that a text asks for, read in a transaction that is undone, so that nothing is committed.
+/// The rows of a query, read in a transaction that is rolled back: nothing is committed.
 fn rows_shown<S: Alter>(
     conn: &mut Connection<S>,
     text: &str,
@@ -97,7 +97,7 @@ fn rows_shown<S: Alter>(
     Ok(rows)
 }
 
-/// The records that the rows tell, in their order; none where a row is that of no record.
+/// The records of the rows, in their order; none if a row is not that of any record.
 fn records_of<T: OneRow>(alloc: Global, rows: &[Row]) -> Result<Option<Vec<T::Record>>, AllocError>
     ensures told { IfOk result (λ found. TellsEach T.row_of T.Fits rows.now (option_map (λ v. v.items) found)) }
 {
@@ -111,7 +111,7 @@ fn records_of<T: OneRow>(alloc: Global, rows: &[Row]) -> Result<Option<Vec<T::Re
     Ok(Some(records))
 }
 
-/// The records whose rows a text asks for of a table, in the order of the rows.
+/// The records of the rows that a query of a table returns, in their order.
 pub(crate) fn asked<S: Alter, T: OneRow>(
     alloc: Global,
     conn: &mut Connection<S>,

@@ -1,4 +1,4 @@
-//! The desk's records, read from its tables as they are asked for.
+//! The desk's records, read from its tables when a request needs them.
 #![tactic(auto)]
 
 pub use asking::{Unread, are_rising};

@@ -67,7 +67,7 @@ pub(crate) trait Marking: TableOf {
     fn number(owner: &Self::Record) -> u32
         ensures value { result ≡ Self.Record.key owner.now };
 
-    /// Marks a record, or takes its mark away.
+    /// Marks a record, or removes its mark.
     fn mark(owner: &mut Self::Record, is_marked: bool)
         ensures value { owner.new ≡ marked owner.old is_marked };
 
@@ -134,7 +134,7 @@ impl<M: Marking> OneRow for Numbers<M> {
     }
 }
 
-/// The marks from a number to another, in their order.
+/// The marks with numbers from `from` to `to`, in ascending order. `text` is the query of the table of marks.
 fn marks_between<S: Alter, M: Marking>(
     alloc: Global,
     conn: &mut Connection<S>,
@@ -161,7 +161,7 @@ fn marks_between<S: Alter, M: Marking>(
     ordered(marks)
 }
 
-/// The numbers of the first of the records and of the last.
+/// The numbers of the first and the last record.
 fn ends<M: Marking>(records: &[M::Record]) -> Option<(u32, u32)>
     ensures none { result ≡ None → records.now ≡ [] }
     ensures first { IfSome result (λ ends. slice_get (map M.Record.key records.now) 0 ≡ Some ends.0) }
@@ -173,7 +173,7 @@ fn ends<M: Marking>(records: &[M::Record]) -> Option<(u32, u32)>
     Some((M::number(first), M::number(last)))
 }
 
-/// The records, each marked where one of the marks has its number.
+/// The records, each marked if one of the marks has its number.
 fn with_marks<M: Marking>(mut records: Vec<M::Record>, marks: &Rows<Mark>) -> Vec<M::Record>
     ensures marked { result.items ≡ map (λ x. M.marked x (has_mark marks.now (M.Record.key x))) records.items }
 {
@@ -184,7 +184,8 @@ fn with_marks<M: Marking>(mut records: Vec<M::Record>, marks: &Rows<Mark>) -> Ve
     records
 }
 
-/// The records, which stand in the order of their keys, with their marks, for which a text asks.
+/// The records with their marks, from one query over all numbers from the first record to the last. The records are in
+/// the order of their keys.
 pub(crate) fn marked<S: Alter, M: Marking>(
     alloc: Global,
     conn: &mut Connection<S>,
@@ -212,7 +213,7 @@ pub(crate) fn marked<S: Alter, M: Marking>(
     Ok(with_marks::<M>(records, &marks))
 }
 
-/// Whether the record of a number is marked. It is asked by its own number, so no mark of another is read.
+/// Whether the record with a number is marked. It reads no other mark.
 fn is_marked<S: Alter, M: Marking>(
     alloc: Global,
     conn: &mut Connection<S>,
@@ -236,7 +237,7 @@ fn is_marked<S: Alter, M: Marking>(
     Ok(marks.find(&Key::of(number)).is_some())
 }
 
-/// The records with their marks, each asked for by its own number: for records whose numbers lie far apart.
+/// The records with their marks, from one query for each record. Use it for records whose numbers are far apart.
 pub(crate) fn each_marked<S: Alter, M: Marking>(
     alloc: Global,
     conn: &mut Connection<S>,

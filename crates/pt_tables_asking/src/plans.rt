@@ -1,4 +1,4 @@
-//! The routes that are planned, read from their stops.
+//! Planned routes, read from their stops.
 
 ghost use Rattle.std.specs.Option.{option_to_list};
 ghost use Rattle.std.specs.Prelude.{◌≡◌, ◌≢◌, ◌++◌, Err, IfOk, OnOk, false};
@@ -24,7 +24,7 @@ use pt_tables_reading::{StopAt, Stops};
 use sqlite::{Alter, Connection, params};
 use std::alloc::{AllocError, Global};
 
-/// The route of these stops; none where there is no stop.
+/// The route of these stops; none if there is no stop.
 fn route_of(alloc: Global, stops: &[StopAt]) -> Result<Option<PlannedRoute>, AllocError>
     ensures value { IfOk result (λ route. route ≡ plan_by_stops stops.now) }
 {
@@ -42,7 +42,7 @@ fn route_of(alloc: Global, stops: &[StopAt]) -> Result<Option<PlannedRoute>, All
     }))
 }
 
-/// The route that is planned for the vehicle and the day of a key.
+/// The planned route for the vehicle and the day of a key.
 pub fn plan_by_key<S: Alter>(
     alloc: Global,
     conn: &mut Connection<S>,
@@ -84,7 +84,7 @@ fn push_found(found: Option<PlannedRoute>, plans: &mut Vec<PlannedRoute>) -> Res
     Ok(())
 }
 
-/// The routes of a day that are planned, in order of their vehicles, which are among these.
+/// The planned routes of a day, in the order of their vehicles. `vehicles` must include each vehicle that has a route.
 pub fn plans_by_day<S: Alter>(
     alloc: Global,
     conn: &mut Connection<S>,

@@ -1,4 +1,4 @@
-//! The reads by which the desk asks its tables in each request.
+//! The reads of the tables that the desk makes for a request.
 
 ghost use Rattle.std.specs.Prelude.{◌≡◌, ◌≢◌, Bool, IsTrue, IfOk, false, filter, map, nat_le};
 ghost use Rattle.sqlite.specs.Given.{IsPlain};
@@ -45,7 +45,7 @@ pub fn kept_by_caller<S: Alter>(
     Ok(first(found))
 }
 
-/// The rider of a number, with the mark of a wheelchair.
+/// The rider with a number, and with the wheelchair mark.
 pub fn rider_by_number<S: Alter>(
     alloc: Global,
     conn: &mut Connection<S>,
@@ -76,8 +76,8 @@ pub fn entries_by_rider<S: Alter>(
     ordered(found)
 }
 
-/// The trips that a text asks for, in order of their numbers, with their marks. All marks from the first of the trips
-/// to the last are read: this is for one trip, and for those of days, whose numbers lie near each other.
+/// The trips that a query returns, in the order of their numbers, with their wheelchair marks. It reads all marks from
+/// the first trip to the last. Use it for one trip, or for the trips of days, whose numbers are close together.
 fn trips_asked<S: Alter>(
     alloc: Global,
     conn: &mut Connection<S>,
@@ -104,7 +104,7 @@ fn trips_asked<S: Alter>(
     ordered(found)
 }
 
-/// The trip of a number.
+/// The trip with a number.
 pub fn trip_by_number<S: Alter>(
     alloc: Global,
     conn: &mut Connection<S>,
@@ -119,8 +119,8 @@ pub fn trip_by_number<S: Alter>(
     Ok(found.as_slice().first().copied())
 }
 
-/// The trips of a rider, in order of their numbers. Between them lie those of all other riders, so each asks for its
-/// own mark.
+/// The trips of a rider, in the order of their numbers. Trips of other riders lie between them, so each mark is a query
+/// of its own.
 pub fn trips_by_rider<S: Alter>(
     alloc: Global,
     conn: &mut Connection<S>,

@@ -1,5 +1,5 @@
-//! The texts by which records are asked for: each asks one table, compares columns with the parameters, and orders by
-//! the primary key.
+//! The SQL queries of records. Each reads one table, compares columns with the parameters, and orders by the primary
+//! key.
 
 pub(crate) const KEPT_BY_CALLER: &str =
     "SELECT caller, number, request, reply FROM kept WHERE caller = ?1 ORDER BY caller";

@@ -1,4 +1,4 @@
--- What a keeper over tables shows, what it keeps true, and what it makes of what it reads.
+-- The state of a keeper over tables, its invariant, and the results of its reads.
 use Rattle.std.specs.Prelude.{◌≡◌, ◌≤◌, ◌&&◌, ℕ, Result, Ok, Err, false, length, refl}
 use Rattle.std.specs.Coded.{Coded, code_by, coded×, coded_ℕ}
 use Rattle.pt_store.specs.Store.{Store}
@@ -28,8 +28,8 @@ kept_tables_code {S} store =
     code_by (Held S × (ℕ × State)) (coded× (held_code store) (coded× coded_ℕ state_code))
     (λ k. (k.conn, (k.failures, k.content))) (λ p. record { conn = p.0; failures = p.1.0; content = p.1.1 }) (λ _. refl)
 
--- The content is one that is read back from its rows, and the vehicle of each of its plans is there; and until the
--- store has failed the tables have it, its riders are counted, and no transaction is open.
+-- The content can be read back from its rows, the vehicle of each plan is there, and no transaction is open. Until the
+-- store fails, the tables have the content, and `riders` is the number of its riders.
 pub record AreInStep (content : State) (riders failures : ℕ) (s : Connected) : Type 0 where
   pub most : failures ≤ 1
   pub settled : s.in_transaction ≡ false
@@ -38,7 +38,7 @@ pub record AreInStep (content : State) (riders failures : ℕ) (s : Connected) :
   pub kept : failures ≡ 0 → HasCleanDisk s → IsKept content s
   pub counted : failures ≡ 0 → HasCleanDisk s → riders ≡ length content.riders
 
--- 0 so long as the disk is clean and the connection open
+-- 0 while the disk is clean and the connection is open
 abbrev pub shut : Connected → ℕ
 shut s = doubt (s.is_clean && s.is_open)
 
@@ -55,7 +55,7 @@ kept_store s content failures = record {
 abbrev pub store_of : {S : Type 0} → Ghosts S → KeptTables S → Store
 store_of g k = kept_store (state g k.conn) k.content k.failures
 
--- what is answered of what was read, and the failures that are counted
+-- the reply to a read with this result, and the count of failures after it
 abbrev pub Counts : {X : Type 0} → ℕ → Result X Unread → Result X StoreFault → Type 0
 Counts failures (Ok x) result = (result ≡ Ok x) × (failures ≡ 0)
 Counts failures (Err Memory) result = (result ≡ Err fault.Memory) × (failures ≡ 0)

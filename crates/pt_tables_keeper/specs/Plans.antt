@@ -6,25 +6,25 @@ use Rattle.pt_records.specs.Records.{Edit, put, record_at}
 use Rattle.pt_records.specs.declared.span.Span.{Span}
 use Rattle.pt_scheduling.specs.Plan.{Plan, plan_key}
 
--- the plan that is found, among others
+-- the plan, if one was found, put among the others
 abbrev pub plans_with : Option Plan → List Plan → List Plan
 plans_with None plans = plans
 plans_with (Some plan) plans = put plan_key plan plans
 
--- the plans of these keys, each as it is there, among others
+-- the stored plans with these keys, put among the others
 abbrev pub plans_at : List Plan → List ℕ → List Plan → List Plan
 plans_at there [] plans = plans
 plans_at there (key ∷ keys) plans = plans_at there keys (plans_with (record_at plan_key key there) plans)
 
--- the keys that an edit takes away, each the one of its span, and those that it puts
+-- the keys that an edit removes, the first of each span, and those that it puts
 abbrev pub keys_of : Edit Plan → List ℕ
 keys_of edit = map (λ span. span.from) edit.away ++ map plan_key edit.puts
 
--- one key alone
+-- a single key
 abbrev pub IsOneKey : Span → Type 0
 IsOneKey span = span.from ≡ span.to
 
--- vehicles stay as they are, or one version comes in place of those of its vehicle from its day on
+-- vehicles stay as they are, or one version replaces those of its vehicle from its day on
 abbrev pub IsFleetEdit : Edit Vehicle → Type 0
 IsFleetEdit edit =
     (edit ≡ no_edit) ⊎ ((version : Vehicle) × (edit ≡ replaces (versions_from version.id version.from_day) version))

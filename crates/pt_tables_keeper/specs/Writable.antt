@@ -1,4 +1,4 @@
--- What a change has to be so that it is written, and what comes of it is read back from its rows.
+-- Which changes can be written, so that the result can be read back from its rows.
 use Rattle.std.specs.Prelude.{◌≡◌, ◌≤◌, ℕ, List, [], length, Some}
 use Rattle.pt_base.specs.declared.moment.Moment.{Moment}
 use Rattle.pt_base.specs.declared.vehicle.Vehicle.{Vehicle}
@@ -20,8 +20,8 @@ use Rattle.pt_tables_asking.specs.Plans.{HasVersionAmong}
 use Rattle.pt_tables_rows.specs.Tables.{PutsWellFormed}
 use Rattle.pt_tables_keeper.specs.Plans.{IsFleetEdit, IsOneKey}
 
--- Rows tell all that it puts. From the tables that are read as they are asked for it takes away nothing but plans, one
--- by one; it puts one rider at most, and a plan only of a vehicle that is there.
+-- Rows can represent all that the change puts. From the tables that are not in memory it removes only plans, one by
+-- one. It puts at most one rider, and only plans of these vehicles.
 pub record IsWritable (vehicles : List Vehicle) (change : Change) : Type 0 where
   pub told : PutsWellFormed change
   pub kept : change.kept.away ≡ []
@@ -33,8 +33,8 @@ pub record IsWritable (vehicles : List Vehicle) (change : Change) : Type 0 where
   pub plans_away : Each IsOneKey change.planned.away
   pub plans_put : Each (HasVersionAmong vehicles) change.planned.puts
 
--- In a sound state a new write, by the caller who has the key, is accepted with such a change alone: the write and what
--- is put are in the ranges of their types.
+-- In a sound state, a new write by the caller with the key is accepted only with such a change. The write and what the
+-- change puts are in the ranges of their types.
 abbrev pub ChangesOfRulesAreWritten : Type 0
 ChangesOfRulesAreWritten =
     (key : List ℕ) (now : Moment) (number : ℕ) (asked : Write) (me : Caller) (s : State) (told : Answer)

@@ -44,12 +44,12 @@ const NEVER_FAILED: u32 = 0;
 const FAILED: u32 = 1;
 
 /// The store over the tables of a desk's database. The settings and the number of riders are in memory, and all other
-/// records are read as they are asked for.
+/// records are read when needed.
 #[derive(Drop)]
 pub struct SqlKeeper<S: Alter> {
     alloc: Global,
     conn: Connection<S>,
-    /// 0, and 1 for good once the store has failed in a call.
+    /// 0 until the store fails in a call, then 1 for good.
     failures: u32,
     known: Known,
     rider_count: usize,
@@ -68,7 +68,7 @@ impl<S: Alter> Model for SqlKeeper<S> {
     ghost invariant = { λ k. AreInStep k.known.content k.rider_count k.failures (state S.Store k.conn) };
 }
 
-/// The fault that what was not read or written is told as; one that is no want of memory is counted.
+/// The fault of a failed read or write. It counts as a failure, unless it is out of memory.
 fn blame(failures: &mut u32, unread: Unread) -> StoreFault
     requires { failures.old ≡ 0 }
     ensures failed { result ≡ Failed → failures.new ≡ 1 }
@@ -84,7 +84,7 @@ fn blame(failures: &mut u32, unread: Unread) -> StoreFault
     }
 }
 
-/// What a read answers. One that failed for another reason than want of memory is counted.
+/// The result of a read. A failed read counts as a failure, unless it is out of memory.
 fn counted<T>(failures: &mut u32, found: Result<T, Unread>) -> Result<T, StoreFault>
     requires { failures.old ≡ 0 }
     ensures counts { Counts failures.new found result }
@@ -96,7 +96,7 @@ fn counted<T>(failures: &mut u32, found: Result<T, Unread>) -> Result<T, StoreFa
 }
 
 impl<S: Alter> SqlKeeper<S> {
-    /// The store over a database whose tables have the content of which this is known, and so many riders.
+    /// The store over a database. Its tables must have the content that `known` is part of, with `rider_count` riders.
     pub fn of(alloc: Global, conn: Connection<S>, known: Known, rider_count: usize) -> SqlKeeper<S>
         requires settled { conn.in_transaction ≡ false }
         requires readable { IsWellFormed known.content }
@@ -116,7 +116,7 @@ impl<S: Alter> SqlKeeper<S> {
         }
     }
 
-    /// Hands the connection back. Unless the store has failed its tables have the rows of the content, all committed.
+    /// Returns the connection. Unless the store has failed, its tables have the rows of the content, all committed.
     pub fn release(self) -> Connection<S>
         ensures same { result ≡ self.conn }
         ensures settled { result.in_transaction ≡ false }
@@ -152,7 +152,7 @@ impl<S: Alter> SqlKeeper<S> {
         self.known.lists()
     }
 
-    /// Answers what is known in memory, unless the store has failed.
+    /// Returns a value that is known in memory, unless the store has failed.
     fn told<T: Drop>(&self, value: T) -> Result<T, StoreFault>
         ensures reads { Goes (store_of S.Store self.now) (store_of S.Store self.now) value None result }
         ensures refuses { Refuses (store_of S.Store self.now) result }
@@ -161,7 +161,7 @@ impl<S: Alter> SqlKeeper<S> {
         Ok(value)
     }
 
-    /// Answers a copy of records that are known in memory, unless the store has failed.
+    /// Returns a copy of records that are known in memory, unless the store has failed.
     fn copied<T: Keyed + Clone + Drop>(
         &self,
         alloc: Global,
@@ -175,7 +175,7 @@ impl<S: Alter> SqlKeeper<S> {
         Ok(Rows::of(records.as_slice().to_vec(alloc)?))
     }
 
-    /// The rider of this number, as it is read from the tables.
+    /// The rider with this number, read from the tables.
     fn read_rider(&mut self, id: RiderId) -> Result<Option<Rider>, StoreFault>
         ensures reads { Reads (store_of S.Store self.old) (store_of S.Store self.new) (rider_of id) result }
         ensures refuses { Refuses (store_of S.Store self.old) result }
@@ -186,7 +186,7 @@ impl<S: Alter> SqlKeeper<S> {
         counted(&mut self.failures, found)
     }
 
-    /// How many riders there are after the change: one more where it puts one that is not there.
+    /// How many riders there are after the change: one more if it puts a rider that is not stored yet.
     fn rider_count_after(&mut self, change: &Change) -> Result<usize, StoreFault>
         requires serves { self.old.failures ≡ 0 }
         requires writable { IsWritable self.old.content.vehicles change.now }
@@ -203,7 +203,7 @@ impl<S: Alter> SqlKeeper<S> {
         }
     }
 
-    /// Makes the change in the tables, and then in memory; so many riders are there after it.
+    /// Makes the change in the tables, and then in memory. `rider_count` is the number of riders after it.
     fn make(&mut self, change: Change, rider_count: usize) -> Result<(), StoreFault>
         requires serves { self.old.failures ≡ 0 }
         requires writable { IsWritable self.old.content.vehicles change }

@@ -1,4 +1,4 @@
-//! What a keeper over a database knows of its tables in memory.
+//! What a keeper over a database has in memory of its tables.
 ghost use Rattle.std.specs.Prelude.{◌≡◌, OnOk};
 ghost use Rattle.pt_store.specs.Listed.{HasKnownRoom, known_of};
 ghost use Rattle.pt_desk_rules.specs.State.{applied};
@@ -9,10 +9,10 @@ use pt_store::ListKeeper;
 use std::alloc::AllocError;
 use std::marker::Model;
 
-/// The settings of a desk, in memory. All else of the content stands in tables, and only clauses read it here.
+/// The settings of a desk, in memory. The rest of the content is in tables; here only clauses read it.
 #[derive(Drop)]
 pub struct Known {
-    /// No write, rider, entry, trip or planned route is among them.
+    /// They have no accepted write, rider, entry, trip or planned route.
     lists: ListKeeper,
     tables: Content,
 }
@@ -30,7 +30,7 @@ impl Model for Known {
 }
 
 impl Known {
-    /// What is known of this content, in lists that have nothing else.
+    /// The known part of this content, in lists that have nothing else.
     pub fn of(lists: ListKeeper, tables: Content) -> Known
         requires known { lists.content ≡ known_of tables.content }
         ensures content { result.content ≡ tables.content }
@@ -45,7 +45,7 @@ impl Known {
         &self.lists
     }
 
-    /// Makes room for what the change puts into the tables that are known.
+    /// Reserves memory for what the change puts into the lists.
     pub(crate) fn reserve(&mut self, change: &Change) -> Result<(), AllocError>
         ensures content { self.new.content ≡ self.old.content }
         ensures room { OnOk result (HasKnownRoom change.now self.new.room) }
@@ -53,7 +53,7 @@ impl Known {
         self.lists.reserve_known(change)
     }
 
-    /// Makes the change, where there is room for it, and takes no memory.
+    /// Makes the change, for which memory was reserved. It allocates none.
     pub(crate) fn make(&mut self, change: Change)
         requires room { HasKnownRoom change self.old.room }
         ensures content { self.new.content ≡ applied change self.old.content }

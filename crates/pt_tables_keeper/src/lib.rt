@@ -1,5 +1,4 @@
-//! The store over the tables of a database: the settings are in memory, and all other records are read as they are
-//! asked for.
+//! The store over the tables of a database: the settings are in memory, and all other records are read when needed.
 #![tactic(auto)]
 
 pub use keeper::SqlKeeper;

@@ -1,4 +1,4 @@
-//! The plans that a change takes away or replaces, read before it is written.
+//! The plans that a change removes or replaces, read before it is written.
 
 ghost use Rattle.std.specs.Prelude.{◌≡◌, [], IfOk, OnOk, false, map};
 ghost use Rattle.sqlite.specs.Held.{state};
@@ -52,7 +52,7 @@ fn read_plan<S: Alter>(
     Ok(())
 }
 
-/// Reads the plans at which these spans begin.
+/// Reads the plans with the first keys of these spans.
 fn read_taken<S: Alter>(
     alloc: Global,
     conn: &mut Connection<S>,
@@ -72,7 +72,7 @@ fn read_taken<S: Alter>(
     Ok(())
 }
 
-/// Reads the plans in whose place these are put.
+/// Reads the stored plans that these replace.
 fn read_replaced<S: Alter>(
     alloc: Global,
     conn: &mut Connection<S>,
@@ -92,7 +92,7 @@ fn read_replaced<S: Alter>(
     Ok(())
 }
 
-/// The plans that are there of the keys that the edit takes away, each by itself, or puts.
+/// The stored plans with the keys that the edit removes or puts. Each span that it removes is a single key.
 pub(crate) fn plans_before<S: Alter>(
     alloc: Global,
     conn: &mut Connection<S>,

@@ -1,4 +1,4 @@
-//! What the tables of a database have, which only clauses read.
+//! The content of a database's tables, which only clauses read.
 ghost use Rattle.std.specs.Prelude.{◌≡◌};
 ghost use Rattle.std.specs.Borrow.{ftrue};
 ghost use Rattle.pt_desk_rules.specs.State.{State};
@@ -8,9 +8,9 @@ use pt_desk_rules::Change;
 use pt_store::ListKeeper;
 use std::marker::Model;
 
-/// The content that a database's tables have. It takes no memory, and its functions do nothing as the program runs.
+/// The content of a database's tables. It takes no memory, and its functions do nothing at run time.
 ///
-/// A clause ties it to the tables: the invariant of what has it and a connection beside it.
+/// The invariant of its owner, which also has the connection, ties it to the tables.
 #[derive(Drop)]
 pub struct Content {
     pub ghost content: { State } by { state_code },

@@ -1,4 +1,4 @@
-//! Whether a change is one that a keeper over tables writes.
+//! Whether a keeper over tables can write a change.
 ghost use Rattle.std.specs.Prelude.{◌≡◌, ◌≢◌, ◌↔◌, ◌∷◌, [], IsTrue, MatchOption, length};
 ghost use Rattle.pt_desk_rules.specs.State.{versions_from};
 ghost use Rattle.pt_records.specs.Records.{Each};
@@ -16,28 +16,28 @@ use std::cmp::Ordering;
 /// The riders that one change puts, at most.
 const MOST_RIDERS_PUT: usize = 1;
 
-/// Whether two keys are one.
+/// Whether two keys are the same.
 fn is_same(one: &Key, other: &Key) -> bool
     ensures value { IsTrue result ↔ (one.now ≡ other.now) }
 {
     one.compare(other) == Ordering::Equal
 }
 
-/// Whether the span is one key alone.
+/// Whether the span is a single key.
 fn is_one_key(span: &Span) -> bool
     ensures value { IsTrue result ↔ IsOneKey span.now }
 {
     is_same(&span.from, &span.to)
 }
 
-/// Whether each of the spans is one key alone.
+/// Whether each of the spans is a single key.
 fn are_one_key(spans: &[Span]) -> bool
     ensures value { IsTrue result ↔ Each IsOneKey spans.now }
 {
     spans.iter().all(is_one_key)
 }
 
-/// Whether the span is that of the versions in whose place this one comes.
+/// Whether the span is that of the versions that this one replaces: its vehicle's, from its day on.
 fn is_followed_by(span: &Span, version: &Vehicle) -> bool
     ensures value { IsTrue result ↔ (span.now ≡ versions_from version.now.id version.now.from_day) }
 {
@@ -45,7 +45,7 @@ fn is_followed_by(span: &Span, version: &Vehicle) -> bool
     is_same(&span.from, &Key::pair(id, day)) && is_same(&span.to, &Key::pair(id, u32::MAX))
 }
 
-/// The only one of these.
+/// The only item; none if there is not exactly one.
 fn only<T>(items: &[T]) -> Option<&T>
     ensures value { MatchOption result (length items.now ≢ 1) (λ item. items.now ≡ item.now ∷ []) }
 {
@@ -55,7 +55,7 @@ fn only<T>(items: &[T]) -> Option<&T>
     items.first()
 }
 
-/// Whether vehicles stay as they are, or one version comes in place of those of its vehicle from its day on.
+/// Whether vehicles stay as they are, or one version replaces those of its vehicle from its day on.
 fn is_fleet_edit(edits: &Edits<Vehicle>) -> bool
     ensures value { IsTrue result ↔ IsFleetEdit edits.now }
 {
@@ -66,15 +66,14 @@ fn is_fleet_edit(edits: &Edits<Vehicle>) -> bool
     spans.is_empty() && puts.is_empty()
 }
 
-/// Whether the vehicle of each of the plans is there.
+/// Whether the vehicle of each plan is among these.
 fn have_vehicles(plans: &[PlannedRoute], vehicles: &[Vehicle]) -> bool
     ensures value { IsTrue result ↔ Each (HasVersionAmong vehicles.now) plans.now }
 {
     plans.iter().all(|plan| has_version(vehicles, plan.vehicle))
 }
 
-/// Whether the change is one that is written, and then read back as it is asked for. A change that the rules make is
-/// such.
+/// Whether the change can be written, and then read back from its rows. A change that the rules make passes.
 pub(crate) fn is_writable(change: &Change, vehicles: &[Vehicle]) -> bool
     ensures writable { IsTrue result ↔ IsWritable vehicles.now change.now }
 {

@@ -1,4 +1,4 @@
-//! A change written over the plans that are there.
+//! Writes a change, after a read of the stored plans that it removes or replaces.
 
 ghost use Rattle.std.specs.Prelude.{◌≡◌, OnErr, OnOk, false};
 ghost use Rattle.sqlite.specs.Held.{state};
@@ -20,8 +20,8 @@ use pt_tables_writing::write_change;
 use sqlite::{Alter, Connection};
 use std::alloc::Global;
 
-/// Makes the change in the tables in one transaction, over the plans that it finds there. Of all other records that are
-/// there `known` has those that the change takes away.
+/// Makes the change in the tables in one transaction, after it reads the stored plans that the change removes or
+/// replaces. `known` must have all other stored records that the change removes.
 pub(crate) fn write_over<S: Alter>(
     alloc: Global,
     conn: &mut Connection<S>,

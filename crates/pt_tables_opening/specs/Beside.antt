@@ -1,4 +1,4 @@
--- What rows of a second table tell of records that have one row each in their own.
+-- What rows of a second table say of records that have one row each in their own.
 use Rattle.std.specs.Prelude.{◌≡◌, ◌⊎◌, ℕ, List, [], ◌∷◌, map, flat_map, Option, None, Some}
 use Rattle.std.specs.List.{AllByRecursion}
 use Rattle.sqlite.specs.Order.{Row}
@@ -8,21 +8,21 @@ use Rattle.pt_records.specs.Records.{Each, Edit, IsInOrder}
 use Rattle.pt_tables_opening.specs.Gathered.{PutsInOrder}
 use Rattle.pt_tables_rows.specs.Tables.{AreRows}
 
--- this record, with no row beside its own
+-- this record, with no row in the second table
 pub record IsAlone {A : Type 0} (row_of : A → Row) (beside_of : A → List Row) (Fits : A → Type 0) (known alone : A) :
     Type 0 where
   pub same : row_of alone ≡ row_of known
   pub none : beside_of alone ≡ []
   pub fits : Fits alone
 
--- one row at most stands beside that of a record, and both tell its key
+-- a record has at most one row in the second table, and both of its rows have its key
 pub record AreBeside {A : Type 0} (key : A → ℕ) (row_of : A → Row) (beside_of : A → List Row) : Type 0 where
   pub key_in : Row → ℕ
   pub one : (x : A) → (beside_of x ≡ []) ⊎ (row : Row) × (beside_of x ≡ row ∷ [])
   pub keyed : (x : A) → AllByRecursion (λ row. key_in row ≡ key x) (beside_of x)
   pub row_keyed : (x : A) → key_in (row_of x) ≡ key x
 
--- records with the rows of these that have those rows beside them, or none where no records in order do
+-- the records with the own rows of `known` and these rows in the second table, or None if no records in order have both
 abbrev pub TellsBeside : {A : Type 0} → (A → ℕ) → (A → Row) → (A → List Row) → (A → Type 0) → List A → List Row
     → Option (Edit A) → Type 0
 TellsBeside key row_of beside_of Fits known rows (Some edit) =

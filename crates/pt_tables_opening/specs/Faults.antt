@@ -8,23 +8,23 @@ use Rattle.pt_tables_opening.specs.declared.open_fault.OpenFault.{OpenFault}
 abbrev pub store_refused : ℕ
 store_refused = 32
 
--- the fault of this code, found in no table
+-- the fault with this code, in no table
 abbrev pub fault : ℕ → OpenFault
 fault code = record { code = code; table = 0 }
 
--- the rows are those of no sound state
+-- no sound state has the rows
 abbrev pub rows_refused : ℕ
 rows_refused = 31
 
--- the rows of this table are such
+-- no sound state has the rows of this table
 abbrev pub unsound : ℕ → OpenFault
 unsound table = record { code = rows_refused; table = table }
 
--- the database has other tables than these, or those of another version
+-- the tables are not the desk's, or are of another version
 abbrev pub tables_refused : ℕ
 tables_refused = 30
 
--- memory was refused, the store failed, its tables are not the desk's, or the rows of one of them are at fault
+-- out of memory, the store failed, its tables are not the desk's, or the rows of one of them are at fault
 abbrev pub IsRefusal : OpenFault → Type 0
 IsRefusal refused =
     (refused ≡ fault memory_refused)

@@ -1,4 +1,4 @@
--- What reads of the tables tell, and what they leave of a connection to them.
+-- What reads of the tables return, and what they do to the connection.
 use Rattle.std.specs.Prelude.{◌≡◌, ◌≢◌, ℕ, List, [], ◌∷◌, false, IsTrue, Result, IfOk}
 use Rattle.std.specs.List.{AllByRecursion}
 use Rattle.sqlite.specs.Effect.{Database}
@@ -16,29 +16,29 @@ use Rattle.pt_tables_rows.specs.Rows.{first_version, number_value}
 use Rattle.pt_tables_rows.specs.Schema.{desk_schema, desk_table, first_schema, tables}
 use Rattle.pt_tables_rows.specs.Tables.{AreRows, HaveRowids}
 
--- no more is open than was, what was committed stays, and where nothing else was shown that is shown
+-- an open connection was open before, keeps what was committed, and still shows it if it did before
 pub record Stays (old new : Connected) : Type 0 where
   pub was_open : IsTrue new.is_open → IsTrue old.is_open
   pub now : IsTrue new.is_open → old.committed ≡ old.now → new.now ≡ old.now
   pub committed : IsTrue new.is_open → new.committed ≡ old.committed
 
--- Reads of tables with this schema that answer change nothing, and if they fail nothing is committed, nor is a
--- transaction open.
+-- Reads of tables with this schema change nothing if they succeed. If they fail, nothing is committed and no
+-- transaction is open.
 pub record RestsOn {X E : Type 0} (schema : Schema) (old new : Connected) (result : Result X E) : Type 0 where
   pub settled : old.in_transaction ≡ false → new.in_transaction ≡ false
   pub same : HasCleanDisk new → old.now.schema ≡ schema → IfOk result (λ _. IsUnchanged old new)
   pub stays : HasCleanDisk new → old.now.schema ≡ schema → Stays old new
   pub survives : Survives old new (λ _. old.now.schema ≢ schema)
 
--- reads of the desk's tables do so
+-- the same for reads of the desk's tables
 abbrev pub Rests : {X E : Type 0} → Connected → Connected → Result X E → Type 0
 Rests old new result = RestsOn desk_schema old new result
 
--- reads of the desk's tables tell this of the rows that were there, where the disk stayed clean
+-- if the disk stayed clean, reads of the desk's tables show this of the rows that were there
 abbrev pub ReadsTables : Connected → Connected → (Trees → Type 0) → Type 0
 ReadsTables old new Told = HasCleanDisk new → old.now.schema ≡ desk_schema → Told old.now.trees
 
--- the text asks the desk's tables for all rows of this one, and they are answered in such an order
+-- the query returns all rows of this table of the desk, in such an order
 pub record AsksForAll (text : List ℕ) (table : Table) (Ordered : List Row → Type 0) : Type 0 where
   pub plain : IsPlain (understood desk_schema text)
   pub unlisted : reads_listing desk_schema text ≡ false
@@ -52,7 +52,7 @@ pub record IsReopened (old new : Connected) : Type 0 where
   pub lists : Lists (new.now.trees catalog_tree) new.now.schema
   pub rowids : new.now.schema ≡ desk_schema → AllByRecursion (λ t. HaveRowids (new.now.trees t.tree)) tables
 
--- the tables are those of the first version, as the agency's one row says too
+-- the schema is that of the first version, and the agency's only row has that version
 pub record IsFirstVersion (db : Database) : Type 0 where
   pub schema : db.schema ≡ first_schema
   pub row : Row

@@ -1,4 +1,4 @@
--- Why a database is refused that an opening has read.
+-- Why an opening refuses a database that it has read.
 use Rattle.std.specs.Prelude.{◌≡◌, ◌≢◌, ◌⊎◌}
 use Rattle.sqlite.specs.Effect.{Database}
 use Rattle.sqlite.specs.Tree.{Trees}
@@ -18,7 +18,7 @@ use Rattle.pt_tables_opening.specs.declared.open_fault.OpenFault.{OpenFault}
 abbrev pub AreUnsound : Trees → Type 0
 AreUnsound trees = (s : State) → IsSound s → HasRows s trees → ⊥
 
--- the database's own list of its tables is not that of the desk's
+-- the database's own list of its tables is not the desk's
 abbrev pub ListsOthers : Trees → Type 0
 ListsOthers trees = (schema : Schema) × Lists (trees catalog_tree) schema × (schema ≢ desk_schema)
 
@@ -26,17 +26,17 @@ ListsOthers trees = (schema : Schema) × Lists (trees catalog_tree) schema × (s
 abbrev pub HasOtherTables : Trees → Type 0
 HasOtherTables trees = ListsOthers trees ⊎ HasOtherVersion trees
 
--- rows of tables of another version are not found fault with
+-- if the tables are of another version, the refusal is not about their rows
 abbrev pub SparesOtherVersion : Trees → OpenFault → Type 0
 SparesOtherVersion trees refused = HasOtherVersion trees → refused.code ≢ rows_refused
 
--- what a refusal tells of the rows of the desk's tables
+-- what a refusal says of the rows of the desk's tables
 pub record TellsWhy (trees : Trees) (refused : OpenFault) : Type 0 where
   pub version : refused.code ≡ tables_refused → HasOtherVersion trees
   pub rows : refused.code ≡ rows_refused → AreUnsound trees
   pub first : refused.code ≡ rows_refused → IsFirstAtFault trees refused.table
 
--- and of a database whose tables may be others
+-- what a refusal says of a database that may have other tables
 pub record TellsOf (db : Database) (refused : OpenFault) : Type 0 where
   pub tables : refused.code ≡ tables_refused → (db.schema ≢ desk_schema) ⊎ HasOtherVersion db.trees
   pub rows : refused.code ≡ rows_refused → AreUnsound db.trees

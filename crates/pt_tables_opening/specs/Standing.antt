@@ -1,4 +1,4 @@
--- Which content the first tables of a database stand for, and which table is the first at fault.
+-- Which content the first tables of a database have, and which table is the first at fault.
 use Rattle.std.specs.Prelude.{ℕ, ◌-◌, ◌<◌, take}
 use Rattle.sqlite.specs.Tree.{Trees}
 use Rattle.pt_desk_rules.specs.State.{State}
@@ -13,15 +13,15 @@ pub record StandsIn (s : State) (trees : Trees) (table : TableName) : Type 0 whe
   pub rows : HasRowsIn s trees table
   pub sound : IsSoundIn s table
 
--- and so in each of the first so many tables
+-- the same in each of the first `number` tables
 abbrev pub StandsTo : ℕ → State → Trees → Type 0
 StandsTo number s trees = Each (StandsIn s trees) (take number all_tables)
 
--- no content has the rows of these tables and is sound there
+-- no content has the rows of the first `number` tables and is sound there
 abbrev pub NoneStandsTo : ℕ → Trees → Type 0
 NoneStandsTo number trees = (s : State) → StandsTo number s trees → ⊥
 
--- no content has the rows of the tables up to this one and is sound there, but some content has those of all before it
+-- no content has the rows of the tables up to this one and is sound there, but some content does up to the one before
 pub record IsFirstAtFault (trees : Trees) (number : ℕ) : Type 0 where
   pub none : NoneStandsTo number trees
   pub before : 1 < number → (s : State) × StandsTo (number - 1) s trees

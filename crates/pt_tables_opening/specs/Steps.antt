@@ -1,4 +1,4 @@
--- What an opening does, table after table: it reads the rows of one, and judges it before it reads the next.
+-- What an opening does, table after table: it reads the rows of one, and checks them before it reads the next.
 use Rattle.std.specs.Prelude.{◌≡◌, ◌⊎◌, ℕ, ◌-◌, take, drop, Result, IfOk, IfErr}
 use Rattle.sqlite.specs.State.{State as Connected, HasCleanDisk}
 use Rattle.sqlite.specs.Tree.{Trees}
@@ -18,28 +18,28 @@ use Rattle.pt_tables_opening.specs.Tables.{HasNoneIn, HasRowsIn, IsLaidIn}
 use Rattle.pt_tables_opening.specs.declared.open_fault.OpenFault.{OpenFault}
 use Rattle.pt_tables_rows.specs.Schema.{desk_schema}
 
--- the first so many tables were read and found sound, and no other
+-- the first `number` tables were read and found sound, and no others
 pub record IsReadTo (number : ℕ) (s : State) : Type 0 where
   pub sound : IsSoundTo number s
   pub later : Each (HasNoneIn s) (drop number all_tables)
 
--- this table too was read, and not yet judged
+-- this table was read too, but not checked yet
 pub record IsReadIn (table : TableName) (s : State) : Type 0 where
   pub laid : IsLaidIn s table
   pub sound : IsSoundBefore s table
   pub later : Each (HasNoneIn s) (drop (number_of table) all_tables)
 
--- the rows of the first so many tables are the content's
+-- the rows of the first `number` tables are the content's
 abbrev pub HasRowsTo : ℕ → State → Trees → Type 0
 HasRowsTo number s trees = Each (HasRowsIn s trees) (take number all_tables)
 
--- memory was refused, the store failed, or the rows are at fault for this reason
+-- out of memory, the store failed, or the rows of the table are at fault for this reason
 abbrev pub IsFaultOf : TableName → Type 0 → OpenFault → Type 0
 IsFaultOf table Why refused =
     (refused ≡ fault memory_refused)
     ⊎ ((refused ≡ fault store_refused) ⊎ ((refused ≡ unsound (number_of table)) × Why))
 
--- A table is read where this content has the rows of all before it: the change adds what the rows tell.
+-- A table is read: if the content has the rows of all earlier tables, the change adds the records of this one.
 pub record ReadsTable (table : TableName) (old new : Connected) (s : State) (result : Result Change OpenFault)
     : Type 0 where
   pub rests : Rests old new result
@@ -49,7 +49,7 @@ pub record ReadsTable (table : TableName) (old new : Connected) (s : State) (res
   pub faults : IfErr result (IsFaultOf table (HasCleanDisk new → old.now.schema ≡ desk_schema
       → HasRowsTo (number_of table - 1) s old.now.trees → NoneStandsTo (number_of table) old.now.trees))
 
--- and it is judged
+-- a table is read and then checked
 pub record OpensTable (table : TableName) (old new : Connected) (s : State) (result : Result Listed OpenFault)
     : Type 0 where
   pub rests : Rests old new result
@@ -59,7 +59,7 @@ pub record OpensTable (table : TableName) (old new : Connected) (s : State) (res
   pub faults : IfErr result (IsFaultOf table (HasCleanDisk new → old.now.schema ≡ desk_schema
       → HasRowsTo (number_of table - 1) s old.now.trees → NoneStandsTo (number_of table) old.now.trees))
 
--- the first so many tables are read and judged, one after the other
+-- the first `number` tables are read and checked, one after the other
 pub record OpensTo (number : ℕ) (old new : Connected) (result : Result Listed OpenFault) : Type 0 where
   pub rests : Rests old new result
   pub read : IfOk result (λ keeper. IsReadTo number keeper.content)

@@ -1,4 +1,4 @@
--- What a content has of each table: its rows, its records as they are read back, and none before that.
+-- What a content has of each table: its rows, its records as they are read back, and no records before that.
 use Rattle.std.specs.Prelude.{◌≡◌, Option, None, Some, [], ◌∷◌, map, flat_map}
 use Rattle.sqlite.specs.Tree.{Trees}
 use Rattle.pt_desk_rules.specs.Parts.{Part, key_in, record_in, records_of}
@@ -36,17 +36,17 @@ HasRowsIn s trees table.RiderChairs = AreRows rider_chairs_table trees (flat_map
 HasRowsIn s trees table.VehicleChairs = AreRows vehicle_chairs_table trees (flat_map vehicle_chair_rows s.vehicles)
 HasRowsIn s trees table.TripChairs = AreRows trip_chairs_table trees (flat_map trip_chair_rows s.trips)
 
--- what a record of a part is when it is read back: a plan has a row for each of its stops
+-- what is true of a record of a part when it is read back: a plan has a row for each of its stops
 abbrev pub IsStoredIn : (p : Part) → record_in p → Type 0
 IsStoredIn part.planned = FitsRows stop_rows IsStoredPlan
 IsStoredIn p = FitsIn p
 
--- the records of a part stand in the order of their keys, and each is such as the types of its fields keep it
+-- the records of a part are in the order of their keys, and each is in the ranges of its types
 abbrev pub are_laid : State → Option Part → Type 0
 are_laid s None = Unit {0}
 are_laid s (Some p) = IsInOrder (key_in p) (records_of p s) × Each (IsStoredIn p) (records_of p s)
 
--- and so do those of a table
+-- the same for the records of a table
 abbrev pub IsLaidIn : State → TableName → Type 0
 IsLaidIn s table.Desk = IsWord s.last_trip
 IsLaidIn s t = are_laid s (part_of t)
@@ -56,6 +56,6 @@ abbrev pub are_none : State → Option Part → Type 0
 are_none s None = Unit {0}
 are_none s (Some p) = records_of p s ≡ []
 
--- nor one of a table
+-- no record of a table was read yet
 abbrev pub HasNoneIn : State → TableName → Type 0
 HasNoneIn s t = are_none s (part_of t)

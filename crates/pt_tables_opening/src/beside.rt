@@ -1,4 +1,4 @@
-//! Records with a row in a table of their own, and one or none in a second table beside it.
+//! Records with a row in their own table, and at most one row in a second table.
 
 ghost use Rattle.std.specs.Prelude.{◌≡◌, ◌⊎◌, ◌≤◌, ◌∷◌, [], List, None, Some, length, take, IfOk, IfErr, map, flat_map};
 ghost use Rattle.sqlite.specs.Order.{Row as StoredRow};
@@ -26,17 +26,17 @@ use pt_tables_rows::tables::{
 use sqlite::{Alter, Connection, Row};
 use std::alloc::{AllocError, Global};
 
-/// A second table, in which a record has one row at most beside that of its own table.
+/// A second table, in which a record of another table has at most one row.
 pub(crate) trait Beside: TableOf {
     /// The records' own table.
     type First: OneRow<Record = Self::Record>;
 
-    /// The record with no row there.
+    /// The record with no row in the second table.
     fn alone(known: &Self::Record) -> Self::Record
         requires fits { Self.Fits known.now }
         ensures { IsAlone Self.First.row_of Self.rows_of Self.Fits known.now result };
 
-    /// The record where that is its row there.
+    /// The record with this row in the second table; none if the row is not its own.
     fn marked(known: &Self::Record, row: &Row) -> Option<Self::Record>
         requires fits { Self.Fits known.now }
         ensures { ReadsBeside Self.First.row_of Self.rows_of Self.Fits known.now row.now result };
@@ -103,7 +103,7 @@ impl Beside for TripChairs {
     }
 }
 
-/// The record with what the first of the rows tells of it, and how many of them are its own, none or one.
+/// The record with what the first row says of it, and how many of the rows are its own: 0 or 1.
 fn next_of<T: Beside>(known: &T::Record, rows: &[Row]) -> (T::Record, usize)
     requires fits { T.Fits known.now }
     ensures same { T.First.row_of result.0 ≡ T.First.row_of known.now }
@@ -122,7 +122,8 @@ fn next_of<T: Beside>(known: &T::Record, rows: &[Row]) -> (T::Record, usize)
     (T::alone(known), 0)
 }
 
-/// Records with the rows of these and with those rows beside them, to be put; none where no records in order have them.
+/// Joins the records with the rows of the second table, as an edit that puts them. None if no records in order have
+/// both.
 fn merged<T: Beside>(
     alloc: Global,
     records: &[T::Record],
@@ -147,7 +148,7 @@ fn merged<T: Beside>(
     Ok(Some(found))
 }
 
-/// The same, where code 31 says that no records in order have those rows beside them, and 0 that memory was refused.
+/// The same, with errors: code 31 if no records in order have both, 0 if out of memory.
 fn merged_table<T: Beside>(
     alloc: Global,
     records: &[T::Record],
@@ -170,9 +171,9 @@ fn merged_table<T: Beside>(
     }
 }
 
-/// The records with what all rows of the second table tell of them, for which the text asks: code 31 with the number of
-/// that table where no records in order have both tables' rows, 32 where the store refused or failed, and 0 where
-/// memory was refused.
+/// Joins the records with all rows of the second table, read by this query, as an edit that puts them. Errors: code 31
+/// with the number of that table if no records in order have both, 32 if the store refused or failed, 0 if out of
+/// memory.
 pub(crate) fn beside_in<S: Alter, T: Beside>(
     alloc: Global,
     conn: &mut Connection<S>,

@@ -1,4 +1,4 @@
-//! What the rows of each table make of a desk that has the tables before it.
+//! The change that the rows of each table make to a desk that has the earlier tables.
 
 ghost use Rattle.sqlite.specs.Held.{state};
 ghost use Rattle.pt_desk_rules.specs.State.{State};
@@ -40,7 +40,7 @@ fn callers_change<S: Alter>(alloc: Global, conn: &mut Connection<S>) -> Result<C
 
 const KEPT_ROWS: &str = "SELECT caller, number, request, reply FROM kept ORDER BY caller";
 
-/// What callers were last told, to be put.
+/// The callers' last accepted writes, to be put.
 fn kept_change<S: Alter>(alloc: Global, conn: &mut Connection<S>) -> Result<Change, OpenFault>
     ensures { (s : State) → IsReadTo 2 s
         → ReadsTable TableName.Kept (state S.Store conn.old) (state S.Store conn.new) s result }
@@ -110,7 +110,7 @@ fn vehicles_change<S: Alter>(alloc: Global, conn: &mut Connection<S>) -> Result<
 
 const RIDER_ROWS: &str = "SELECT id, kind, attendant FROM riders ORDER BY id";
 
-/// The riders, in no wheelchairs yet, to be put.
+/// The riders, with no wheelchair marks yet, to be put.
 fn riders_change<S: Alter>(alloc: Global, conn: &mut Connection<S>) -> Result<Change, OpenFault>
     ensures { (s : State) → IsReadTo 6 s
         → ReadsTable TableName.Riders (state S.Store conn.old) (state S.Store conn.new) s result }
@@ -126,7 +126,7 @@ const ENTRY_ROWS: &str =
     "SELECT rider, place, kind, day, author, a, b, conditions, words FROM entries ORDER \
     BY rider, place";
 
-/// What was entered on riders, to be put.
+/// The entries of the riders' case files, to be put.
 fn entries_change<S: Alter>(alloc: Global, conn: &mut Connection<S>) -> Result<Change, OpenFault>
     ensures { (s : State) → IsReadTo 7 s
         → ReadsTable TableName.Entries (state S.Store conn.old) (state S.Store conn.new) s result }
@@ -142,7 +142,7 @@ const TRIP_ROWS: &str =
     "SELECT id, rider, day, wish, origin, goal, latest, attendant, companions, fare, \
     service, ride, vehicle, window_from, window_to, status FROM trips ORDER BY id";
 
-/// The trips, in no wheelchairs yet, to be put.
+/// The trips, with no wheelchair marks yet, to be put.
 fn trips_change<S: Alter>(alloc: Global, conn: &mut Connection<S>) -> Result<Change, OpenFault>
     ensures { (s : State) → IsReadTo 8 s
         → ReadsTable TableName.Trips (state S.Store conn.old) (state S.Store conn.new) s result }
@@ -185,7 +185,7 @@ fn travel_change<S: Alter>(alloc: Global, conn: &mut Connection<S>) -> Result<Ch
 
 const RIDER_CHAIR_ROWS: &str = "SELECT rider FROM rider_chairs ORDER BY rider";
 
-/// The riders, some of them in wheelchairs, to be put.
+/// The riders with their wheelchair marks, to be put.
 fn rider_chairs_change<S: Alter>(
     alloc: Global,
     conn: &mut Connection<S>,
@@ -236,7 +236,7 @@ fn vehicle_chairs_change<S: Alter>(
 
 const TRIP_CHAIR_ROWS: &str = "SELECT trip FROM trip_chairs ORDER BY trip";
 
-/// The trips, some of them in wheelchairs, to be put.
+/// The trips with their wheelchair marks, to be put.
 fn trip_chairs_change<S: Alter>(
     alloc: Global,
     conn: &mut Connection<S>,
@@ -259,8 +259,8 @@ fn trip_chairs_change<S: Alter>(
     })
 }
 
-/// What the rows of a table tell, to be put into a desk that has the tables before it: code 31 where no records in the
-/// order of their keys have them, 32 where the store refused or failed, and 0 where memory was refused.
+/// The change that puts the records of a table into a desk that has the earlier tables. Errors: code 31 if no records
+/// in the order of their keys have the rows, 32 if the store refused or failed, 0 if out of memory.
 pub(crate) fn change_in<S: Alter>(
     alloc: Global,
     conn: &mut Connection<S>,

@@ -16,10 +16,10 @@ use pt_records::{Key, Span};
 use pt_store::ListKeeper;
 use std::alloc::Global;
 
-/// The key of nobody, which the admin of the least state has until all callers are taken away.
+/// The empty key, which is nobody's. The admin of the least state has it until all callers are removed.
 const NO_KEY: &[u8] = &[];
 
-/// The desk with the change made: code 0 where memory was refused.
+/// The desk after the change. Code 0 if out of memory.
 pub(crate) fn with_change(keeper: ListKeeper, change: Change) -> Result<ListKeeper, OpenFault>
     ensures content { IfOk result (λ made. made.content ≡ applied change keeper.content) }
     ensures memory { IfErr result (λ refused. refused ≡ fault memory_refused) }
@@ -34,8 +34,8 @@ pub(crate) fn with_change(keeper: ListKeeper, change: Change) -> Result<ListKeep
     }
 }
 
-/// The change that makes a new desk that of an agency with this policy and this number last given to a trip, and with
-/// no records: code 0 where memory was refused.
+/// The change that gives a new desk this policy and this number last given to a trip, and removes its only caller. Code
+/// 0 if out of memory.
 fn agency_change(
     alloc: Global,
     policy: Policy,
@@ -59,8 +59,7 @@ fn agency_change(
     }
 }
 
-/// The desk of an agency with this policy and this number last given to a trip, and with no records: code 0 where
-/// memory was refused.
+/// A desk with this policy, this number last given to a trip, and no records. Code 0 if out of memory.
 pub(crate) fn desk_of(
     alloc: Global,
     policy: Policy,
@@ -79,7 +78,7 @@ pub(crate) fn desk_of(
     }
 }
 
-/// The keys that are numbers.
+/// The span of all 32-bit keys.
 fn all_numbers() -> Span
     ensures all { result ≡ numbers }
 {

@@ -20,7 +20,7 @@ use sqlite::{Alter, Connection, Error, Row};
 use sqlite_schema::schema::Schema;
 use std::alloc::Global;
 
-/// Makes the tables of the first version in a database that has none.
+/// Creates the tables of the first version in an empty database.
 fn make_first_tables<S: Alter>(conn: &mut Connection<S>) -> Result<(), Error>
     requires settled { conn.old.in_transaction ≡ false }
     requires blank { conn.old.schema ≡ no_schema }
@@ -31,7 +31,7 @@ fn make_first_tables<S: Alter>(conn: &mut Connection<S>) -> Result<(), Error>
     tx.commit()
 }
 
-/// Whether a schema is that of the tables of the first version; memory may be refused.
+/// Whether a schema is that of the tables of the first version. Fails if out of memory, or if the store fails.
 fn is_first_schema(alloc: Global, schema: &Schema) -> Result<bool, OpenFault>
     ensures value { IfOk result (λ is. IsTrue is ↔ (schema.now ≡ first_schema)) }
     ensures faults { IfErr result (λ refused. (refused ≡ fault memory_refused) ⊎ (refused ≡ fault store_refused)) }
@@ -45,7 +45,7 @@ fn is_first_schema(alloc: Global, schema: &Schema) -> Result<bool, OpenFault>
     }
 }
 
-/// Whether this is one row alone, which says that the tables have this version.
+/// Whether there is exactly one row, and it has this version.
 fn tells_version(rows: &[Row], version: u32) -> bool
     ensures value { IsTrue result ↔ ((row : StoredRow) × (rows.now ≡ row ∷ [])
         × (column row 1 ≡ number_value version)) }
@@ -56,7 +56,7 @@ fn tells_version(rows: &[Row], version: u32) -> bool
     }
 }
 
-/// Whether the agency's one row says that the tables have the first version, where they are those of that version.
+/// Whether the agency's only row has the first version, in tables with that version's schema.
 fn tells_first<S: Alter>(conn: &mut Connection<S>) -> Result<bool, OpenFault>
     ensures value { HasCleanDisk (state S.Store conn.new) → (state S.Store conn.old).now.schema ≡ first_schema
         → IfOk result (λ is. IsTrue is ↔ IsFirstVersion (state S.Store conn.old).now) }
@@ -69,8 +69,8 @@ fn tells_first<S: Alter>(conn: &mut Connection<S>) -> Result<bool, OpenFault>
     }
 }
 
-/// Whether a database has the tables of the first version: code 32 where the store refused or failed, and 0 where
-/// memory was refused. Its tables are read only where their schema is that of the first version.
+/// Whether a database has the tables of the first version. It reads the tables only if the schema is that of the first
+/// version. Errors: code 32 if the store refused or failed, 0 if out of memory.
 pub fn is_first_version<S: Alter>(
     alloc: Global,
     conn: &mut Connection<S>,

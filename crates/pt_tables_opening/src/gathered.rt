@@ -1,4 +1,5 @@
-//! The records of a table, read from all its rows: each begins with a row that no later one of its own is like.
+//! The records of a table, read from all its rows. A record begins with a row for which `begins` is true, and has no
+//! other.
 
 ghost use Rattle.std.specs.Prelude.{◌≡◌, ◌⊎◌, ◌↔◌, ◌<◌, ◌≤◌, ℕ, [], IsTrue, IfOk, IfErr, flat_map, length};
 ghost use Rattle.std.specs.Prelude.{slice_index_or};
@@ -27,15 +28,14 @@ use std::alloc::{AllocError, Global};
 
 /// A table whose rows are read back as its records.
 pub(crate) trait Gathered: TableOf {
-    /// What is true of a first row.
+    /// What is true of the first row of a record, and of no later row of it.
     ghost Begins: { StoredRow → Type 0 };
 
     /// Whether a row is the first one of a record.
     fn begins(row: &Row) -> bool
         ensures { IsTrue result ↔ Begins row.now };
 
-    /// The record that has these rows, or none where no record has them. Of the rows of a record, no later one is such
-    /// as the first.
+    /// The record that has these rows, or none if no record has them.
     fn of_rows(alloc: Global, rows: &[Row]) -> Result<Option<Self::Record>, AllocError>
         ensures told { IfOk result (Reads Self.rows_of (FitsRows Self.rows_of Self.Fits) rows.now) }
         ensures once { (x : Self.Record) → Self.Fits x → BeginsOnce Begins (Self.rows_of x) };
@@ -51,7 +51,7 @@ pub(crate) fn is_nought(row: &Row, at: usize) -> bool
     }
 }
 
-/// How many rows there are up to the next that is a first one, or to the end.
+/// How many rows there are before the next first row, or before the end.
 fn group_end<T: Gathered>(rows: &[Row]) -> usize
     ensures within { result ≤ length rows.now }
     ensures some { 0 < length rows.now → 0 < result }
@@ -66,7 +66,7 @@ fn group_end<T: Gathered>(rows: &[Row]) -> usize
     rows.len()
 }
 
-/// The records whose rows these are, in their order, to be put; none where no records have these rows in this order.
+/// The records that have these rows in this order, as an edit that puts them; none if no records do.
 fn gathered_of<T: Gathered>(
     alloc: Global,
     rows: &[Row],
@@ -86,8 +86,8 @@ fn gathered_of<T: Gathered>(
     Ok(Some(records))
 }
 
-/// The records of a table that has these rows, to be put: code 31 where no records have them in this order, or the keys
-/// of the records do not rise, and 0 where memory was refused.
+/// The records of a table with these rows, as an edit that puts them. Errors: code 31 if no records have the rows in
+/// this order or their keys do not ascend, 0 if out of memory.
 fn gathered_table<T: Gathered>(
     alloc: Global,
     rows: &[Row],
@@ -110,8 +110,8 @@ fn gathered_table<T: Gathered>(
     Ok(records)
 }
 
-/// The records of a table, to be put, read from all its rows, for which the text asks: code 31 where no records in the
-/// order of their keys have them, 32 where the store refused or failed, and 0 where memory was refused.
+/// The records of a table, read from all its rows by this query, as an edit that puts them. Errors: code 31 if no
+/// records in the order of their keys have the rows, 32 if the store refused or failed, 0 if out of memory.
 pub(crate) fn gathered_in<S: Alter, T: Gathered>(
     alloc: Global,
     conn: &mut Connection<S>,

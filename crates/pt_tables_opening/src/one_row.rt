@@ -31,7 +31,7 @@ impl<T: OneRow> Gathered for RowByRow<T> {
         true
     }
 
-    /// The record of the one row; none where there is not one row alone, or no record has it.
+    /// The record of the only row; none if there is not exactly one row, or if no record has it.
     fn of_rows(alloc: Global, rows: &[Row]) -> Result<Option<T::Record>, AllocError> {
         match rows {
             [row] => T::of_row(alloc, row),

@@ -10,15 +10,15 @@ use sqlite::{Error, ErrorCode};
 /// Why a database is not opened.
 #[derive(Clone, Copy)]
 pub struct OpenFault {
-    /// 0 where memory was refused, 30 where the tables are not the desk's or of another version, 31 where rows are
-    /// those of no sound state, 32 where the store refused or failed.
+    /// 0 if out of memory, 30 if the tables are not the desk's or are of another version, 31 if no sound state has the
+    /// rows, 32 if the store refused or failed.
     pub code: u16,
-    /// The number of the first table that is at fault, and 0 where none is.
+    /// The number of the first table at fault, or 0 if none is.
     pub table: u8,
 }
 
 impl OpenFault {
-    /// Memory was refused.
+    /// Out of memory.
     pub const MEMORY: OpenFault = OpenFault {
         code: fault::MEMORY,
         table: 0,
@@ -27,10 +27,10 @@ impl OpenFault {
     /// The store refused or failed.
     pub const STORE: OpenFault = OpenFault { code: 32, table: 0 };
 
-    /// The tables are not the desk's, or of another version.
+    /// The tables are not the desk's, or are of another version.
     pub const OTHER_TABLES: OpenFault = OpenFault { code: 30, table: 0 };
 
-    /// The rows of this table are those of no sound state.
+    /// No sound state has the rows of this table.
     pub(crate) fn unsound(table: TableName) -> OpenFault
         ensures value { result ≡ unsound (number_of table) }
     {

@@ -17,7 +17,7 @@ use std::alloc::{AllocError, Global};
 /// The column of a stop's row that has its place among the stops.
 const PLACE_COLUMN: usize = 2;
 
-/// The stop of a row, where the row is that of this vehicle, day and place.
+/// The stop of a row, if the row has this vehicle, day and place.
 fn stop_at(row: &Row, vehicle: VehicleId, day: Day, place: usize) -> Option<PlannedStop>
     ensures { Reads (stop_row vehicle day (pos place))
         (λ stop. FitsStopAt (record { vehicle = vehicle; day = day; place = place; stop = stop })) row.now result }

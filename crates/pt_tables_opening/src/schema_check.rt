@@ -1,6 +1,6 @@
 //! Whether the schema of a database is the desk's: it is compared, field by field, with one that is made in memory.
 //!
-//! The desk's has no default, no CHECK and no view, so of these it is enough to see that there is none.
+//! The desk's schema has no default, no CHECK and no view, so any of these makes a difference.
 
 ghost use Rattle.std.specs.Prelude.{◌≡◌, ◌⊎◌, ◌↔◌, IsTrue, IfOk, IfErr, OnOk, false, []};
 ghost use Rattle.std.specs.List.{AllByRecursion};
@@ -132,7 +132,7 @@ fn is_no_stamp(stamps: &Stamps) -> bool
     stamps.places.is_empty() && is_no_term(&stamps.terms) && stamps.formats.is_empty()
 }
 
-/// Whether two tables go by the same name, tree, row number and count.
+/// Whether two tables have the same name, tree, rowid column and counting of rowids.
 fn have_same_heads(table: &Table, plain: &Table) -> bool
     ensures value { IsTrue result ↔ ((table.now.name ≡ plain.now.name) × (table.now.tree ≡ plain.now.tree)
         × (table.now.key ≡ plain.now.key) × (table.now.is_counted ≡ plain.now.is_counted)) }
@@ -156,7 +156,7 @@ fn have_same_columns(table: &Table, plain: &Table) -> bool
         && table.orders.is_same(&plain.orders)
 }
 
-/// Whether a table has the references of another and its computed defaults, no CHECK and no default of the time.
+/// Whether a table has the references and computed defaults of another, no CHECK and no default that reads the time.
 fn have_same_rules(table: &Table, plain: &Table) -> bool
     ensures value { IsTrue result ↔ ((table.now.references ≡ plain.now.references)
         × (table.now.computed ≡ plain.now.computed) × (table.now.checks ≡ []) × (table.now.stamps ≡ no_stamps)) }
@@ -187,7 +187,7 @@ pub(crate) fn is_same_schema(schema: &Schema, plain: &Schema) -> bool
         && schema.views.is_empty()
 }
 
-/// Makes the desk's tables in a database that has none.
+/// Creates the desk's tables in an empty database.
 fn make_tables<S: Alter>(conn: &mut Connection<S>) -> Result<(), Error>
     requires settled { conn.old.in_transaction ≡ false }
     requires blank { conn.old.schema ≡ no_schema }
@@ -198,7 +198,7 @@ fn make_tables<S: Alter>(conn: &mut Connection<S>) -> Result<(), Error>
     tx.commit()
 }
 
-/// Whether a schema is that of the desk's tables; memory may be refused.
+/// Whether a schema is that of the desk's tables. Fails if out of memory, or if the store fails.
 pub(crate) fn is_desk_schema(alloc: Global, schema: &Schema) -> Result<bool, OpenFault>
     ensures value { IfOk result (λ is. IsTrue is ↔ (schema.now ≡ desk_schema)) }
     ensures faults { IfErr result (λ refused. (refused ≡ fault memory_refused) ⊎ (refused ≡ fault store_refused)) }

@@ -1,4 +1,4 @@
-//! The rows of a table, as a text asks for them.
+//! The rows of a table, as a query returns them.
 
 ghost use Rattle.std.specs.Prelude.{◌≡◌, [], IfOk};
 ghost use Rattle.sqlite.specs.Given.{IsPlain};
@@ -16,7 +16,7 @@ const DESK_ROWS: &str =
     "SELECT id, version, base, transfer, fare, service, extra_ride, min_missed, percent, \
     span_days, last_trip FROM desk ORDER BY id";
 
-/// All rows that a text asks for.
+/// All rows that a query returns.
 pub(crate) fn rows_of_table<S: Alter>(
     conn: &mut Connection<S>,
     text: &str,

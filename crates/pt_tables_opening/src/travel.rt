@@ -16,10 +16,10 @@ use pt_travel::{Raw, Row as Drive};
 use sqlite::Row;
 use std::alloc::{AllocError, Global};
 
-/// The column that has the place from which a drive begins.
+/// The column with the place where a drive begins.
 const FROM_COLUMN: usize = 1;
 
-/// The day of a row of noughts.
+/// The day of a row of zeros, which begins a table.
 fn first_day(row: &Row) -> Option<Day>
     ensures { Reads (λ day. travel_row day (0, 0, 0)) IsDay row.now result }
 {
@@ -30,7 +30,7 @@ fn first_day(row: &Row) -> Option<Day>
     }
 }
 
-/// The drive of a row, where the row is that of a table of this day.
+/// The drive of a row, if the row is one of this day's table.
 fn drive_on(row: &Row, from_day: Day) -> Option<Drive>
     ensures { Reads (travel_row from_day)
         (λ drive. FitsDriveAt (record { from_day = from_day; drive = Some drive })) row.now result }

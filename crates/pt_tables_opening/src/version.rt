@@ -8,7 +8,7 @@ use sqlite::types::ValueRef;
 /// The column of the desk's row that has the version of the tables.
 const VERSION_COLUMN: usize = 1;
 
-/// Whether the desk's row says that the tables have this version.
+/// Whether the desk's row has this version of the tables.
 pub(crate) fn has_version(row: &Row, version: u32) -> bool
     ensures { IsTrue result ↔ (column row.now 1 ≡ number_value version) }
 {

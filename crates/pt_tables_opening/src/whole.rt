@@ -28,7 +28,7 @@ use std::alloc::Global;
 /// The number of the first table after the agency's.
 const SECOND_TABLE: u32 = 2;
 
-/// The rows of this table are those of no sound state.
+/// No sound state has the rows of this table.
 fn at_fault(table: TableName) -> OpenFault
     ensures value { result ≡ unsound (number_of table) }
     ensures refusal { IsRefusal result }
@@ -36,8 +36,7 @@ fn at_fault(table: TableName) -> OpenFault
     OpenFault::unsound(table)
 }
 
-/// The desk with the change made, where it is sound in this table: code 31 where it is not, and 0 where memory was
-/// refused.
+/// The desk after the change, if it is sound in this table. Errors: code 31 if it is not, 0 if out of memory.
 fn judged(
     alloc: Global,
     keeper: ListKeeper,
@@ -59,7 +58,7 @@ fn judged(
     }
 }
 
-/// The desk with the records of one table more, which is read and then judged.
+/// The desk with the records of one more table, which is read and then checked.
 fn with_table<S: Alter>(
     alloc: Global,
     conn: &mut Connection<S>,
@@ -74,7 +73,7 @@ fn with_table<S: Alter>(
     judged(alloc, keeper, change, table)
 }
 
-/// The desk of the agency that the first table tells of, with no records.
+/// The desk of the agency in the first table, with no records.
 fn first_table<S: Alter>(alloc: Global, conn: &mut Connection<S>) -> Result<ListKeeper, OpenFault>
     ensures { OpensTo 1 (state S.Store conn.old) (state S.Store conn.new) result }
 {
@@ -82,7 +81,7 @@ fn first_table<S: Alter>(alloc: Global, conn: &mut Connection<S>) -> Result<List
     desk_of(alloc, policy, last_trip)
 }
 
-/// The desk that the tables tell of, read and judged one after the other.
+/// The desk that the tables have. Each table is read and checked before the next.
 fn all_tables<S: Alter>(alloc: Global, conn: &mut Connection<S>) -> Result<ListKeeper, OpenFault>
     ensures { OpensTo table_count (state S.Store conn.old) (state S.Store conn.new) result }
 {
@@ -95,9 +94,11 @@ fn all_tables<S: Alter>(alloc: Global, conn: &mut Connection<S>) -> Result<ListK
     Ok(keeper)
 }
 
-/// The desk that the tables of a database have: code 30 where the tables are others, 31 where their rows are those of
-/// no sound state, 32 where the store refused or failed, and 0 where memory was refused. The tables are read in the
-/// order of their numbers, and each is judged before the next is read.
+/// The desk that the tables of a database have. The tables are read in the order of their numbers, and each is checked
+/// before the next is read.
+///
+/// Errors: code 30 if the tables are not the desk's or are of another version; 31, with the number of the first table
+/// at fault, if no sound state has the rows; 32 if the store refused or failed; 0 if out of memory.
 pub fn content_in<S: Alter>(
     alloc: Global,
     conn: &mut Connection<S>,

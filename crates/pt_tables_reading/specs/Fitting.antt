@@ -1,5 +1,5 @@
--- What the types of records keep to, where definitions see no more than numbers and lists: those of vehicles, fixed
--- routes, conditions, stops and drives, as their rows are read back.
+-- Ranges that the types of fields guarantee: definitions see only numbers and lists, so they state them. Also the rows
+-- of conditions, entries, stops and drives, as they are read back.
 use Rattle.std.specs.Prelude.{ℕ, ◌<◌, ◌^◌, ◌==◌, Option, None, Some, List, [], ◌∷◌, Bool, true, false, slice_set}
 use Rattle.std.specs.Prelude.{map, All, FitsSigned}
 use Rattle.std.specs.Int.{w32}
@@ -21,7 +21,7 @@ use Rattle.pt_tables_rows.specs.Rows.{stop_number, travel_row}
 use Rattle.pt_tables_reading.specs.declared.drives.DriveAt.{DriveAt}
 use Rattle.pt_tables_reading.specs.declared.stops.StopAt.{StopAt}
 
--- the coordinates are numbers of 32 bits
+-- the coordinates are signed 32-bit numbers
 abbrev pub FitsPoint : Point → Type 0
 FitsPoint point = FitsSigned w32 point.x × FitsSigned w32 point.y
 
@@ -30,7 +30,7 @@ abbrev pub mark : List Bool → ℕ → Bool → List Bool
 mark days number true = slice_set days number true
 mark days number false = days
 
--- conditions as the text that a row has, with a semicolon (byte 59) between each two
+-- the text of conditions in a row, separated by semicolons (byte 59)
 abbrev pub joined : List Condition → List ℕ
 joined conditions = join_with_byte 59 (map condition_text conditions)
 
@@ -41,7 +41,7 @@ parts_of text = slice_split (λ b. b == 59) text
 abbrev pub FitsConditions : List Condition → Type 0
 FitsConditions conditions = IsConditions conditions × All IsCondition conditions
 
--- what a row tells of an entry: its kind, its two numbers, its conditions and its words
+-- what a row has of an entry: its kind, its two numbers, its conditions and its words
 abbrev pub parts_of_entry : Entry → ℕ × Option ℕ × Option ℕ × List ℕ × List ℕ
 parts_of_entry e = (entry_number e, first_number e, second_number e, entry_conditions e, entry_words e)
 
@@ -58,7 +58,7 @@ pub record FitsStopAt (at : StopAt) : Type 0 where
   pub place : IsWord at.place
   pub trip : IsId at.stop.trip
 
--- a drive, or noughts where there is none
+-- a drive, or zeros if there is none
 abbrev pub drive_numbers : Option travel.Row → travel.Row
 drive_numbers None = (0, 0, 0)
 drive_numbers (Some drive) = drive

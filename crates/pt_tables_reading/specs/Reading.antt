@@ -1,4 +1,4 @@
--- What a row tells, or a value in a column: the record or the number that has it.
+-- How a record is read back from a row, or a value from a column.
 use Rattle.std.specs.Prelude.{◌≡◌, ℕ, ◌≤◌, Option, None, Some, List, [], ◌∷◌, length}
 use Rattle.sqlite.specs.Order.{Row}
 use Rattle.pt_base.specs.declared.policy.Policy.{Policy}
@@ -9,20 +9,20 @@ use Rattle.pt_spelling.specs.Ranges.{IsWord}
 use Rattle.pt_tables_rows.specs.Rows.{desk_row}
 use Rattle.pt_tables_reading.specs.declared.kept.KeptRow.{KeptRow}
 
--- what is found tells of that which is written so, and of none where nothing that fits is written so
+-- the result of reading `found`: the fitting value that is written so, or None if no fitting value is
 abbrev pub Reads : {A B : Type 0} → (A → B) → (A → Type 0) → B → Option A → Type 0
 Reads written Fits found (Some x) = (written x ≡ found) × Fits x
 Reads written Fits found None = (x : _) → Fits x → written x ≡ found → ⊥
 
--- what is found is the record with this one's row that has that row beside it, and none where no such record has
+-- the fitting record with the same row as `known` and with `found` in the second table, or None if there is none
 abbrev pub ReadsBeside : {A B C : Type 0} → (A → B) → (A → List C) → (A → Type 0) → A → C → Option A → Type 0
 ReadsBeside written beside Fits known found (Some x) = (written x ≡ written known) × (beside x ≡ found ∷ []) × Fits x
 ReadsBeside written beside Fits known found None =
     (x : _) → Fits x → written x ≡ written known → beside x ≡ found ∷ [] → ⊥
 
--- ---- what the types of a record's fields keep to, where definitions see no more than numbers and lists
+-- ---- ranges that the types of fields guarantee
 
--- the agency's policy and the number last given to a trip, in the agency's row
+-- the agency's row, with its policy and the number last given to a trip
 abbrev pub agency_row : Policy × ℕ → Row
 agency_row agency = desk_row agency.0 agency.1
 
@@ -32,6 +32,6 @@ FitsAgency agency = IsWord agency.1
 abbrev pub FitsDigest : List ℕ → Type 0
 FitsDigest digest = length digest ≡ 32
 
--- the last accepted write of which a row tells
+-- the last accepted write that a row has
 abbrev pub kept_record : KeptRow → Kept
 kept_record row = record { caller = row.caller; number = row.number; request = row.request.now; reply = row.reply }

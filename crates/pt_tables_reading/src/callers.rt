@@ -33,7 +33,7 @@ pub fn caller_of(row: &Row) -> Option<Caller>
     })
 }
 
-/// The role that is told apart so, about the rider or vehicle with this number, or 0.
+/// The role with this number. `subject` is the rider or the vehicle that the role is about, or 0.
 fn role_of(kind: u32, subject: u32) -> Option<Role>
     ensures { Reads {B = ℕ × ℕ} (λ role. (role_number role, subject_of role)) IsRole (kind, subject) result }
 {

@@ -1,4 +1,4 @@
-//! What a row of a table of wheelchairs tells of a record whose own row is read.
+//! What a row of a wheelchair table adds to a record whose own row is read.
 
 ghost use Rattle.std.specs.Prelude.{◌≡◌};
 ghost use Rattle.pt_tables_rows.specs.Rows.{rider_row, vehicle_row, trip_row};
@@ -11,13 +11,13 @@ use crate::columns::number_in;
 use pt_base::{Rider, Trip, Vehicle};
 use sqlite::Row;
 
-/// How many columns the row of a rider or a trip has.
+/// How many columns a row of `rider_chairs` or `trip_chairs` has.
 const COLUMNS_OF_MARK: usize = 1;
 
-/// How many columns the row of a vehicle has.
+/// How many columns a row of `vehicle_chairs` has.
 const COLUMNS_OF_VEHICLE: usize = 3;
 
-/// The rider in a wheelchair, where the row is this one's.
+/// The rider, marked as in a wheelchair; none if the row is not this rider's.
 pub fn rider_beside(rider: &Rider, row: &Row) -> Option<Rider>
     requires fits { FitsRider rider.now }
     ensures { ReadsBeside rider_row rider_chair_rows FitsRider rider.now row.now result }
@@ -34,7 +34,7 @@ pub fn rider_beside(rider: &Rider, row: &Row) -> Option<Rider>
     })
 }
 
-/// The vehicle with its wheelchair places, where the row is this one's as it is from the same day on.
+/// The vehicle with its wheelchair places; none if the row is not that of this version of it.
 pub fn vehicle_beside(version: &Vehicle, row: &Row) -> Option<Vehicle>
     requires fits { IsVehicle version.now }
     ensures { ReadsBeside vehicle_row vehicle_chair_rows IsVehicle version.now row.now result }
@@ -57,7 +57,7 @@ pub fn vehicle_beside(version: &Vehicle, row: &Row) -> Option<Vehicle>
     })
 }
 
-/// The trip of a rider in a wheelchair, where the row is this one's.
+/// The trip, marked as that of a rider in a wheelchair; none if the row is not this trip's.
 pub fn trip_beside(trip: &Trip, row: &Row) -> Option<Trip>
     requires fits { FitsTrip trip.now }
     ensures { ReadsBeside trip_row trip_chair_rows FitsTrip trip.now row.now result }

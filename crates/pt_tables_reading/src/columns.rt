@@ -1,4 +1,4 @@
-//! What stands in a column, read back.
+//! Values read back from columns: `None` if the column has no such value.
 
 ghost use Rattle.std.specs.Prelude.{IfSome, FitsSigned};
 ghost use Rattle.std.specs.Int.{IsInRange, w32, w64};
@@ -27,7 +27,7 @@ pub(crate) fn integer_at(row: &Row, at: usize) -> Option<i64>
     }
 }
 
-/// The number of 32 bits in a column.
+/// The unsigned 32-bit number in a column.
 pub(crate) fn number_at(row: &Row, at: usize) -> Option<u32>
     ensures { Reads number_value IsWord (column row.now at) result }
 {
@@ -35,7 +35,7 @@ pub(crate) fn number_at(row: &Row, at: usize) -> Option<u32>
     u32::try_from(number).ok()
 }
 
-/// The number of either sign and 32 bits in a column.
+/// The signed 32-bit number in a column.
 pub(crate) fn signed_at(row: &Row, at: usize) -> Option<i32>
     ensures { Reads Int (FitsSigned w32) (column row.now at) result }
 {
@@ -43,7 +43,7 @@ pub(crate) fn signed_at(row: &Row, at: usize) -> Option<i32>
     i32::try_from(number).ok()
 }
 
-/// The number in a column, where it is one from `least` to `most`.
+/// The number in a column, if it is from `least` to `most`.
 pub(crate) fn number_in(row: &Row, at: usize, least: u32, most: u32) -> Option<u32>
     ensures { Reads number_value (IsInRange least most) (column row.now at) result }
 {
@@ -54,7 +54,7 @@ pub(crate) fn number_in(row: &Row, at: usize, least: u32, most: u32) -> Option<u
     Some(number)
 }
 
-/// The number of a record in a column.
+/// The id of a record in a column.
 pub(crate) fn id_at<Kind>(row: &Row, at: usize) -> Option<Id<Kind>>
     ensures { Reads number_value IsId (column row.now at) result }
 {
@@ -78,7 +78,7 @@ pub(crate) fn minute_at(row: &Row, at: usize) -> Option<Minute>
     Minute::of(number)
 }
 
-/// The minute in a column, or that it has none, told by -1.
+/// The minute in a column; `Some(None)` if the column has -1, for no minute.
 pub(crate) fn optional_minute_at(row: &Row, at: usize) -> Option<Option<Minute>>
     ensures { Reads optional_value (λ known. IfSome known IsMinute) (column row.now at) result }
 {
@@ -112,7 +112,7 @@ pub(crate) fn kind_at(row: &Row, at: usize) -> Option<Residence>
     }
 }
 
-/// How far a trip has come, in a column.
+/// The status of a trip in a column.
 pub(crate) fn status_at(row: &Row, at: usize) -> Option<TripStatus>
     ensures { Reads (λ status. number_value (status_number status)) (λ _. Unit {0}) (column row.now at) result }
 {

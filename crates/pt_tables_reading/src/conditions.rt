@@ -1,4 +1,4 @@
-//! The conditions of a grant, with a semicolon between each two.
+//! The conditions of a grant, separated by semicolons.
 
 ghost use Rattle.std.specs.Prelude.{◌≡◌, [], ◌∷◌, MatchOption};
 ghost use Rattle.pt_tables_reading.specs.Reading.{Reads};

@@ -15,7 +15,7 @@ const COLUMNS: usize = 4;
 #[derive(Clone, Copy)]
 pub struct DriveAt {
     pub from_day: Day,
-    /// From one place to another in so many minutes; `None` in the row of noughts, which begins a table.
+    /// From one place to another in this many minutes; `None` in the row of zeros, which begins a table.
     pub drive: Option<Row>,
 }
 

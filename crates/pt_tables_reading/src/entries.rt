@@ -1,4 +1,4 @@
-//! The entries of case files, each kind by what it has.
+//! The entries of case files, each kind built from the columns that it uses.
 
 ghost use Rattle.std.specs.Prelude.{◌≡◌, [], None, Some, IfOk, IfSome, length};
 ghost use Rattle.sqlite.specs.declared.types.Value.TheVariants.{Text};
@@ -26,7 +26,7 @@ use std::alloc::{AllocError, Global};
 /// How many columns an entry's row has.
 const COLUMNS: usize = 9;
 
-/// The number of 32 bits in a column, or that it has none, told by -1.
+/// The unsigned 32-bit number in a column; `Some(None)` if the column has -1, for no number.
 pub(crate) fn optional_at(row: &Row, at: usize) -> Option<Option<u32>>
     ensures { Reads optional_value (λ known. IfSome known IsWord) (column row.now at) result }
 {
@@ -46,7 +46,7 @@ fn reasons_in(alloc: Global, bytes: &[u8]) -> Result<Option<Reasons>, AllocError
     Ok(Reasons::of(reasons))
 }
 
-/// The entry of this kind that has nothing beside its kind.
+/// The entry of this kind, which has no other fields.
 fn bare_entry(kind: u32) -> Option<Entry>
     ensures { Reads parts_of_entry IsEntry (kind, None, None, [], []) result }
 {
@@ -85,7 +85,7 @@ fn granting_entry(kind: u32, until: u32, conditions: Conditions) -> Option<Entry
     }
 }
 
-/// The entry of this kind that appeals against what stands at a position.
+/// The entry of this kind that appeals against the entry at a position.
 fn appeal_entry(kind: u32, against: u32) -> Option<Entry>
     ensures { Reads parts_of_entry IsEntry (kind, Some against, None, [], []) result }
 {
@@ -182,7 +182,7 @@ fn entry_from(
     }
 }
 
-/// The entry of a case file of a row.
+/// The case file entry of a row.
 pub fn entry_of(alloc: Global, row: &Row) -> Result<Option<FiledEntry>, AllocError>
     ensures { IfOk result (Reads entry_row FitsFiled row.now) }
 {

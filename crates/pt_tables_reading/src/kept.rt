@@ -19,7 +19,7 @@ use std::alloc::{AllocError, Global};
 /// How many columns the row of a caller's last write has.
 const COLUMNS: usize = 4;
 
-/// What a row tells of a caller's last accepted write, its request lent by the row.
+/// A caller's last accepted write, as a row has it. The row lends the request.
 #[derive(Clone, Copy)]
 pub struct KeptRow<'a> {
     pub caller: CallerId,
@@ -28,7 +28,7 @@ pub struct KeptRow<'a> {
     pub reply: KeptReply,
 }
 
-/// What the row tells of a caller's last accepted write.
+/// The caller's last accepted write that a row has.
 pub fn kept_of(row: &Row) -> Option<KeptRow<'_>>
     ensures { Reads kept_row FitsKept row.now (option_map kept_record result) }
 {
@@ -43,7 +43,7 @@ pub fn kept_of(row: &Row) -> Option<KeptRow<'_>>
     })
 }
 
-/// The reply that the bytes in a column spell.
+/// The reply that the bytes in a column encode.
 fn reply_at(row: &Row, at: usize) -> Option<KeptReply>
     ensures { Reads (λ reply. Blob (reply_spelling reply)) IsReply (column row.now at) result }
 {
@@ -51,7 +51,7 @@ fn reply_at(row: &Row, at: usize) -> Option<KeptReply>
     read_reply(bytes)
 }
 
-/// What a row tells of a caller's last accepted write, its request copied.
+/// The caller's last accepted write that a row has, with a copy of its request.
 fn copied_kept(alloc: Global, row: &Row) -> Result<Option<Kept>, AllocError>
     ensures told { IfOk result (Reads kept_row FitsKept row.now) }
 {

@@ -13,10 +13,10 @@ pub trait OneRow: TableOf {
     /// The row of a record.
     ghost row_of: { Self.Record → StoredRow };
 
-    /// The record of a row, or none where no record has it.
+    /// The record of a row, or none if no record has it.
     fn of_row(alloc: Global, row: &Row) -> Result<Option<Self::Record>, AllocError>
         ensures told { IfOk result (Reads row_of Self.Fits row.now) };
 
-    /// It is all that the table has of the record.
+    /// The record has no other row in the table.
     ghost one: { (x : Self.Record) → Self.rows_of x ≡ row_of x ∷ [] };
 }

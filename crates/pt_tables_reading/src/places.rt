@@ -15,7 +15,7 @@ use std::alloc::{AllocError, Global};
 /// How many columns a place's row has.
 const COLUMNS: usize = 4;
 
-/// How many feet from the origin a place lies at most, either way.
+/// The largest coordinate of a place, in feet from the origin, in either direction.
 const FARTHEST: i32 = 1_000_000;
 
 /// The place of a row.

@@ -12,7 +12,7 @@ use std::alloc::{AllocError, Global};
 /// How many bytes a point takes.
 const POINT_BYTES: usize = 8;
 
-/// The points that have these bytes; `None` where the bytes end within a point.
+/// The points that have these bytes; `None` if the bytes end within a point.
 pub(crate) fn points_from(alloc: Global, bytes: &[u8]) -> Result<Option<Vec<Point>>, AllocError>
     ensures { IfOk result (λ told. MatchOption told
         ((points : List Point) → flat_map point_bytes points ≡ bytes.now → ⊥)
@@ -40,7 +40,7 @@ fn point_from(bytes: [u8; POINT_BYTES]) -> Point
     }
 }
 
-/// The number of either sign that has these bytes.
+/// The signed number that has these bytes, the most significant first.
 #[tactic(auto, unfolding(pt_spelling::specs::Fields::number_bytes))]
 fn signed_from(bytes: [u8; 4]) -> i32
     ensures { signed_bytes result ≡ bytes }
@@ -48,7 +48,7 @@ fn signed_from(bytes: [u8; 4]) -> i32
     i32::from_be_bytes(bytes)
 }
 
-/// The coordinates of points have 32 bits, as their types have it.
+/// The types of coordinates keep them within 32 bits.
 pub(crate) fn are_points(points: &[Point])
     ensures { All FitsPoint points.now }
 {

@@ -13,7 +13,7 @@ use std::alloc::{AllocError, Global};
 /// How many columns a rider's row has.
 const COLUMNS: usize = 3;
 
-/// The rider of a row, not marked as one in a wheelchair, of which a row of its own tells.
+/// The rider of a row. The wheelchair mark is false: it is a row of `rider_chairs`.
 pub fn rider_of(row: &Row) -> Option<Rider>
     ensures { Reads rider_row FitsRider row.now result }
 {

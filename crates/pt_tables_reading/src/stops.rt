@@ -35,7 +35,7 @@ impl Keyed for StopAt {
     }
 }
 
-/// The stops that are planned, one by one.
+/// Planned stops, a record for each row.
 #[derive(Clone, Copy)]
 pub struct Stops;
 

@@ -14,7 +14,7 @@ use std::alloc::{AllocError, Global};
 /// How many columns a trip's row has.
 const COLUMNS: usize = 16;
 
-/// The trip of a row, not marked as that of a rider in a wheelchair, of which a row of its own tells.
+/// The trip of a row. The wheelchair mark is false: it is a row of `trip_chairs`.
 pub fn trip_of(row: &Row) -> Option<Trip>
     ensures { Reads trip_row FitsTrip row.now result }
 {

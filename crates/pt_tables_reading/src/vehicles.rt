@@ -14,7 +14,7 @@ use std::alloc::{AllocError, Global};
 /// How many columns a vehicle's row has.
 const COLUMNS: usize = 8;
 
-/// The vehicle, as it is from a day on, of a row, with no wheelchair place, of which a row of its own tells.
+/// The version of a vehicle that a row has. It has no wheelchair places yet: they are a row of `vehicle_chairs`.
 pub fn vehicle_of(row: &Row) -> Option<Vehicle>
     ensures { Reads vehicle_row IsVehicle row.now result }
 {

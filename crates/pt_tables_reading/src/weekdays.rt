@@ -1,4 +1,4 @@
-//! A set of weekdays, a bit for each, the lowest for Monday.
+//! A set of weekdays as a number: one bit for each, the lowest for Monday.
 
 ghost use Rattle.std.specs.Prelude.{◌≡◌, ◌/◌, ◌%◌, ◌==◌};
 ghost use Rattle.sqlite.specs.Order.{column};
@@ -40,7 +40,7 @@ fn weekdays_from(number: u32) -> Option<Weekdays>
     Some(days)
 }
 
-/// The set with this weekday in it where the number is odd, and half the number.
+/// Adds this weekday to the set if the number is odd. Returns the set and half the number.
 fn marked(days: Weekdays, weekday: Weekday, number: u32) -> (Weekdays, u32)
     ensures days { result.0 ≡ mark days (number_of weekday) (number % 2 == 1) }
     ensures half { result.1 ≡ number / 2 }

@@ -32,11 +32,11 @@ use Rattle.pt_spelling.specs.Replies.{reply_spelling}
 use Rattle.pt_spelling.specs.Requests.{role_number, subject_of, kind_number, entry_number, point_bytes}
 use Rattle.pt_desk_rules.specs.Chain as travel
 
--- the version of these tables
+-- the current version of the tables
 abbrev pub table_version : ℕ
 table_version = 2
 
--- the version of tables with no place for wheelchairs
+-- the first version, which stores nothing about wheelchairs
 abbrev pub first_version : ℕ
 first_version = 1
 
@@ -47,7 +47,7 @@ number_value n = Int (pos n)
 abbrev pub truth_value : Bool → Value
 truth_value value = number_value (from_bool value)
 
--- -1 where there is no number
+-- an optional number: -1 means none
 abbrev pub optional_value : Option ℕ → Value
 optional_value None = Int (negsuc 0)
 optional_value (Some n) = number_value n
@@ -60,7 +60,7 @@ versioned_row version policy last_trip =
     ∷ number_value policy.min_missed ∷ number_value policy.percent ∷ number_value policy.span_days
     ∷ number_value last_trip ∷ []
 
--- that of these tables
+-- the agency's row in tables of the current version
 abbrev pub desk_row : Policy → ℕ → Row
 desk_row policy last_trip = versioned_row table_version policy last_trip
 
@@ -76,14 +76,14 @@ kept_row kept =
 abbrev pub place_row : Place → Row
 place_row place = number_value place.id ∷ Int place.at.x ∷ Int place.at.y ∷ truth_value place.core ∷ []
 
--- a fixed route, its points one after the other, in eight bytes each
+-- a fixed route; each of its points takes eight bytes
 abbrev pub route_row : Route → Row
 route_row route =
     number_value route.id ∷ number_value route.width ∷ Blob (flat_map point_bytes route.points)
     ∷ truth_value route.accessible ∷ number_value (days_byte route.days) ∷ number_value route.first
     ∷ number_value route.last ∷ []
 
--- a vehicle as it is from a day on
+-- a version of a vehicle, valid from its day on
 abbrev pub vehicle_row : Vehicle → Row
 vehicle_row version =
     number_value version.id ∷ number_value version.from_day ∷ number_value (days_byte version.days)
@@ -96,7 +96,7 @@ rider_row rider =
 
 -- ---- entries
 
--- the last day of a grant, what an appeal is against, or the first day of a suspension
+-- the last day of a grant, the position that an appeal is against, or the first day of a suspension
 abbrev pub first_number : Entry → Option ℕ
 first_number (entry.Grant grant) = Some grant.until
 first_number (entry.Appeal against) = Some against
@@ -109,7 +109,7 @@ abbrev pub second_number : Entry → Option ℕ
 second_number (entry.Suspend starts ends reasons) = Some ends
 second_number _ = None
 
--- the conditions of a grant, with a semicolon (byte 59) between each two
+-- the conditions of a grant, separated by semicolons (byte 59)
 abbrev pub conditions_text : Grant → List ℕ
 conditions_text grant = join_with_byte 59 (map condition_text grant.conditions)
 
@@ -160,7 +160,7 @@ stop_row vehicle day place stop =
     number_value vehicle ∷ number_value day ∷ Int place ∷ number_value stop.trip
     ∷ number_value (stop_number stop.kind) ∷ []
 
--- the stops of a vehicle on a day, counted up from this number
+-- the stops of a vehicle on a day, at consecutive places from this one on
 abbrev pub stop_rows_from : ℕ → ℕ → ℕ → List PlannedStop → List Row
 stop_rows_from place vehicle day [] = []
 stop_rows_from place vehicle day (stop ∷ later) =
@@ -173,7 +173,7 @@ stop_rows plan = stop_rows_from 0 plan.vehicle plan.day plan.stops
 
 -- ---- wheelchairs and their places
 
--- a row that stands where something is so
+-- the row if the value is true, otherwise no row
 abbrev pub row_if : Bool → Row → List Row
 row_if true row = row ∷ []
 row_if false row = []
@@ -182,7 +182,7 @@ row_if false row = []
 abbrev pub rider_chair_rows : Rider → List Row
 rider_chair_rows rider = row_if rider.wheelchair (number_value rider.id ∷ [])
 
--- the wheelchair places of a vehicle that has some, as it is from a day on
+-- the wheelchair places of a version of a vehicle: no row if it has none
 abbrev pub vehicle_chair_rows : Vehicle → List Row
 vehicle_chair_rows version =
     row_if (not (version.chairs == 0))
@@ -198,6 +198,6 @@ abbrev pub travel_row : ℕ → travel.Row → Row
 travel_row from_day row =
     number_value from_day ∷ number_value row.0 ∷ number_value row.1 ∷ number_value row.2 ∷ []
 
--- the rows of a travel table, and one of noughts, which tells of a table that has none
+-- the rows of a travel table, after a row of zeros: an empty table has that row only
 abbrev pub travel_rows : DatedTable → List Row
 travel_rows table = map (travel_row table.from_day) ((0, 0, 0) ∷ table.rows)

@@ -1,4 +1,4 @@
--- The fourteen tables and the indexes of the second version, and the eleven tables that the first version had.
+-- The tables and indexes of the second version, and those of the first.
 use Rattle.std.specs.Prelude.{ℕ, List, [], ◌∷◌, ◌++◌, ◌+◌, true, false, None, Some, codes}
 use Rattle.sqlite.specs.Collation.TheVariants.{Binary}
 use Rattle.sqlite.specs.declared.types.Value.TheVariants.{Null}
@@ -12,7 +12,7 @@ use Rattle.sqlite_schema.specs.declared.schema.Reference.{Reference}
 use Rattle.sqlite_schema.specs.declared.schema.Action.TheVariants.{NoAction}
 use Rattle.sqlite_value.specs.declared.keys.Order.{Order}
 
--- a column of these values; in a STRICT table it takes no others, nor NULL
+-- a NOT NULL column of this kind; in a STRICT table it takes no values of another kind
 abbrev pub column_of : Kind → List ℕ → Column
 column_of kind name = record {
   name = name;
@@ -36,7 +36,7 @@ text name = column_of Text name
 abbrev pub row_number : List ℕ → Column
 row_number name = record (number name) { not_null = false }
 
--- a column of numbers of another table's rows
+-- a foreign key: the column has row numbers of the parent table
 abbrev pub refers : ℕ → List ℕ → Reference
 refers column parent = record {
   columns = column ∷ [];
@@ -47,14 +47,14 @@ refers column parent = record {
   is_deferred = false;
 }
 
--- columns that are the key of another table's rows
+-- a foreign key of several columns, which are the key of a row of the parent table
 abbrev pub refers_by : List ℕ → List ℕ → List (List ℕ) → Reference
 refers_by columns parent key = record (refers 0 parent) { columns = columns; parent_columns = key }
 
 abbrev pub ascending : Order
 ascending = record { digits = 0 }
 
--- a table whose key is the number of a row
+-- a table whose primary key is the rowid
 abbrev pub numbered_table : List ℕ → ℕ → List Column → List Reference → Table
 numbered_table name tree columns references = record {
   name = name;
@@ -71,7 +71,7 @@ numbered_table name tree columns references = record {
   is_counted = false;
 }
 
--- a table whose key has these columns, counted from 1
+-- a table whose primary key has these columns, counted from 1
 abbrev pub keyed_table : List ℕ → ℕ → List Column → List ℕ → List Reference → Table
 keyed_table name tree columns key references = record (numbered_table name tree columns references) {
   key = None;
@@ -166,14 +166,14 @@ first_tables =
     desk_table ∷ callers_table ∷ kept_table ∷ places_table ∷ fixed_table ∷ vehicles_table ∷ riders_table
     ∷ entries_table ∷ trips_table ∷ stops_table ∷ travel_table ∷ []
 
--- those that the second version has beside them
+-- the tables that the second version adds
 abbrev pub chairs_tables : List Table
 chairs_tables = rider_chairs_table ∷ vehicle_chairs_table ∷ trip_chairs_table ∷ []
 
 abbrev pub tables : List Table
 tables = first_tables ++ chairs_tables
 
--- what keeps a key apart from the others of its table
+-- the index that keeps the keys of a table unique
 abbrev pub key_index : List ℕ → Table → List ℕ → Index
 key_index name table columns = record {
   name = name;

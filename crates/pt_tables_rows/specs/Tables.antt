@@ -1,6 +1,6 @@
--- The tables of a database, the content that they stand for, and the contents that their rows tell apart: the records
--- of each table stand in the order of their keys and keep to their ranges, and no plan is without stops, of which no
--- row would tell.
+-- The tables of a database, the content that they have, and the contents that rows can represent. The records of such a
+-- content are in the order of their keys and in their ranges. Each of its plans has a stop, since a plan with no stop
+-- has no row.
 use Rattle.std.specs.Prelude.{◌≡◌, ◌≢◌, ℕ, false, List, [], ◌∷◌, drop, map, flat_map, IsTrue, IsPermutation, Result, Ok}
 use Rattle.std.specs.Prelude.{Err}
 use Rattle.std.specs.List.{AllByRecursion}
@@ -32,7 +32,7 @@ pub record IsFirstBlank (db : Database) : Type 0 where
   pub schema : db.schema ≡ first_schema
   pub rows : AllByRecursion (λ t. db.trees t.tree ≡ []) first_tables
 
--- beside the tables of the first version, which keep their rows, stand the others, which have none
+-- the tables of the first version keep their rows, and the added tables have no row
 pub record AddsChairs (old new : Database) : Type 0 where
   pub schema : new.schema ≡ desk_schema
   pub kept : AllByRecursion (λ t. new.trees t.tree ≡ old.trees t.tree) first_tables
@@ -49,11 +49,11 @@ pub record IsBlank (db : Database) : Type 0 where
 abbrev pub columns_of : Table → Row → Row
 columns_of table row = drop 1 (shown table row)
 
--- in some order the rows of the table are these
+-- the rows of the table are these, in some order
 abbrev pub AreRows : Table → Trees → List Row → Type 0
 AreRows table trees rows = IsPermutation (map (columns_of table) (trees table.tree)) rows
 
--- the rows of the tables that each version has are those of the content, in tables of this version
+-- the tables that both versions have hold the rows of the content, and the agency's row has this version
 pub record HasRecords (version : ℕ) (content : State) (trees : Trees) : Type 0 where
   pub desk : AreRows desk_table trees (versioned_row version content.policy content.last_trip ∷ [])
   pub callers : AreRows callers_table trees (map caller_row content.callers)
@@ -74,7 +74,7 @@ pub record HasRows (content : State) (trees : Trees) : Type 0 where
   pub vehicle_chairs : AreRows vehicle_chairs_table trees (flat_map vehicle_chair_rows content.vehicles)
   pub trip_chairs : AreRows trip_chairs_table trees (flat_map trip_chair_rows content.trips)
 
--- no rider and no trip is marked, and no vehicle has a wheelchair place
+-- no rider and no trip has the wheelchair mark, and no vehicle has a wheelchair place
 pub record HasNoChairs (content : State) : Type 0 where
   pub riders : Each (λ rider. rider.wheelchair ≡ false) content.riders
   pub vehicles : Each (λ version. version.chairs ≡ 0) content.vehicles
@@ -85,7 +85,7 @@ pub record HasFirstRows (content : State) (trees : Trees) : Type 0 where
   pub records : HasRecords first_version content trees
   pub no_chairs : HasNoChairs content
 
--- the rowids are integers that rise
+-- the rowids are integers in ascending order
 pub record HaveRowids (rows : List Row) : Type 0 where
   pub rising : IsTable rows
   pub whole : AllByRecursion (λ row. IsTrue (is_int (rowid row))) rows
@@ -105,38 +105,40 @@ pub record IsKept (content : State) (s : Connected) : Type 0 where
 abbrev pub Others : Table → Trees → Trees → Type 0
 Others table old new = AllByRecursion (λ t. t.tree ≢ table.tree → new t.tree ≡ old t.tree) tables
 
--- the table, if it was empty, has this row, and each other table what it had
+-- if the table was empty, it now has this row; the other tables keep their rows
 pub record Fills (table : Table) (row : Row) (old new : Database) : Type 0 where
   pub schema : new.schema ≡ desk_schema
   pub rows : old.trees table.tree ≡ [] → AreRows table new.trees (row ∷ [])
   pub rowids : old.trees table.tree ≡ [] → HaveRowids (new.trees table.tree)
   pub others : Others table old.trees new.trees
 
--- A statement of a transaction changes these tables so, and commits nothing, nor does it where it fails.
+-- On Ok, a statement in a transaction makes these changes to the desk's tables. It commits nothing, even on an error.
 abbrev pub ChangesIfOk : {X : Type 0} → Connected → Connected → (Database → Database → Type 0) → Result X Error → Type 0
 ChangesIfOk old new Changes (Ok x) =
     KeepsCommit old new × IsTrue new.in_transaction × (old.now.schema ≡ desk_schema → Changes old.now new.now)
 ChangesIfOk old new Changes (Err e) = KeepsCommit old new
 
--- where the disk stayed clean, a statement inside a transaction does so
+-- the same, if the disk stayed clean and a transaction is open
 abbrev pub Makes : {X : Type 0} → Connected → Connected → (Database → Database → Type 0) → Result X Error → Type 0
 Makes old new Changes result = HasCleanDisk new → IsTrue old.in_transaction → ChangesIfOk old new Changes result
 
--- Statements of a transaction do so where the tables are those of the first version, and commit nothing.
+-- On Ok, statements in a transaction add the tables of wheelchairs to those of the first version. They commit nothing,
+-- even on an error.
 abbrev pub AddsIfOk : {X : Type 0} → Connected → Connected → Result X Error → Type 0
 AddsIfOk old new (Ok x) =
     KeepsCommit old new × IsTrue new.in_transaction × (old.now.schema ≡ first_schema → AddsChairs old.now new.now)
 AddsIfOk old new (Err e) = KeepsCommit old new
 
--- Statements of a transaction lead from such a database to such a one, and commit nothing, nor do they where they fail.
+-- On Ok, statements in a transaction lead from a `From` database to a `To` database. They commit nothing, even on an
+-- error.
 abbrev pub LeadsIfOk : {X : Type 0} → Connected → Connected → (Database → Type 0) → (Database → Type 0)
     → Result X Error → Type 0
 LeadsIfOk old new From To (Ok x) = KeepsCommit old new × IsTrue new.in_transaction × (From old.now → To new.now)
 LeadsIfOk old new From To (Err e) = KeepsCommit old new
 
--- ---- the contents that rows tell apart
+-- ---- the contents that rows can represent
 
--- a plan that rows tell
+-- a plan that rows can represent
 abbrev pub IsStoredPlan : Plan → Type 0
 IsStoredPlan plan = FitsPlan plan × HasStops plan
 
@@ -154,7 +156,7 @@ pub record IsWellFormed (s : State) : Type 0 where
   pub stops : Each HasStops s.planned
   pub ranges : KeepsRanges s
 
--- each record that the change puts is one that rows tell
+-- rows can represent each record that the change puts
 pub record PutsWellFormed (change : Change) : Type 0 where
   pub stops : Each HasStops change.planned.puts
   pub ranges : PutsInRange change

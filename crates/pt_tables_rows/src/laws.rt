@@ -5,7 +5,7 @@ pub fn same_rows_same_content()
     ensures { SameRowsSameContent }
 {}
 
-/// A law: what an opening finds is one thing.
+/// A law: the rows determine what an opening finds, one content or none.
 pub fn an_opening_finds_one_thing()
     ensures { OpensOnce }
 {}

@@ -6,16 +6,16 @@ ghost use Rattle.pt_tables_rows.specs.Tables.{AddsIfOk, IsBlank, IsFirstBlank, L
 
 use sqlite::{Alter, Error, Transaction};
 
-/// The version of these tables.
+/// The current version of the tables, in column `version` of the agency's row.
 pub const TABLE_VERSION: u32 = 2;
 
-/// The version of tables with no place for wheelchairs.
+/// The first version of the tables, which stores nothing about wheelchairs.
 pub const FIRST_VERSION: u32 = 1;
 
-/// The number of the agency's one row.
+/// The `id` of the agency's row, the only one of table `desk`.
 pub const DESK: u32 = 1;
 
-/// The statements that make the tables of the first version, each after those that it refers to.
+/// The statements that create the tables of the first version. A table comes after the tables that it references.
 const FIRST_TABLES: [&str; 11] = [
     "CREATE TABLE desk (id INTEGER PRIMARY KEY, version INTEGER NOT NULL, base INTEGER NOT NULL, \
      transfer INTEGER NOT NULL, fare INTEGER NOT NULL, service INTEGER NOT NULL, \
@@ -54,7 +54,8 @@ const FIRST_TABLES: [&str; 11] = [
      minutes INTEGER NOT NULL, PRIMARY KEY (from_day, a, b)) STRICT",
 ];
 
-/// The statements that make the others, after those, and then the indexes by which trips of a rider or a day are found.
+/// The statements that add what the second version has: the tables of wheelchairs, and indexes of trips by rider and by
+/// day.
 const ADDITIONS: [&str; 5] = [
     "CREATE TABLE rider_chairs (rider INTEGER PRIMARY KEY REFERENCES riders (id)) STRICT",
     "CREATE TABLE vehicle_chairs (id INTEGER NOT NULL, from_day INTEGER NOT NULL, \
@@ -65,7 +66,7 @@ const ADDITIONS: [&str; 5] = [
     "CREATE INDEX trips_day ON trips (day)",
 ];
 
-/// Makes the tables of the first version by their statements, in a database that has none.
+/// Runs the statements that create the tables of the first version, in an empty database.
 fn create_first<S: Alter>(tx: &mut Transaction<'_, S>, statements: &[&str]) -> Result<(), Error>
     requires all { map (λ statement. statement.now) statements.now ≡ map (λ statement. statement.now) FIRST_TABLES }
     ensures same_reference { tx.new.conn.ghost_name ≡ tx.old.conn.ghost_name }
@@ -80,7 +81,7 @@ fn create_first<S: Alter>(tx: &mut Transaction<'_, S>, statements: &[&str]) -> R
     Ok(())
 }
 
-/// Makes the other tables and the indexes by their statements, in a database that has those of the first version.
+/// Runs the statements that add the other tables and the indexes, in a database with the tables of the first version.
 fn add_others<S: Alter>(tx: &mut Transaction<'_, S>, statements: &[&str]) -> Result<(), Error>
     requires all { map (λ statement. statement.now) statements.now ≡ map (λ statement. statement.now) ADDITIONS }
     ensures same_reference { tx.new.conn.ghost_name ≡ tx.old.conn.ghost_name }
@@ -95,7 +96,7 @@ fn add_others<S: Alter>(tx: &mut Transaction<'_, S>, statements: &[&str]) -> Res
     Ok(())
 }
 
-/// Makes the tables of the first version, in a database that has none.
+/// Creates the tables of the first version in an empty database.
 pub fn create_first_tables<S: Alter>(tx: &mut Transaction<'_, S>) -> Result<(), Error>
     ensures same_reference { tx.new.conn.ghost_name ≡ tx.old.conn.ghost_name }
     ensures made { HasCleanDisk (state S.Store tx.new.conn.now) → IsTrue (state S.Store tx.old.conn.now).in_transaction
@@ -106,7 +107,7 @@ pub fn create_first_tables<S: Alter>(tx: &mut Transaction<'_, S>) -> Result<(), 
     create_first(tx, &FIRST_TABLES)
 }
 
-/// Makes the tables of wheelchairs and their places beside those of the first version, and the indexes of trips.
+/// Adds the tables of wheelchairs and wheelchair places to those of the first version, and the indexes of trips.
 pub fn add_chairs_tables<S: Alter>(tx: &mut Transaction<'_, S>) -> Result<(), Error>
     ensures same_reference { tx.new.conn.ghost_name ≡ tx.old.conn.ghost_name }
     ensures added { HasCleanDisk (state S.Store tx.new.conn.now)
@@ -117,7 +118,7 @@ pub fn add_chairs_tables<S: Alter>(tx: &mut Transaction<'_, S>) -> Result<(), Er
     add_others(tx, &ADDITIONS)
 }
 
-/// Makes the tables, in a database that has none.
+/// Creates all tables and indexes in an empty database.
 pub fn create_tables<S: Alter>(tx: &mut Transaction<'_, S>) -> Result<(), Error>
     ensures same_reference { tx.new.conn.ghost_name ≡ tx.old.conn.ghost_name }
     ensures made { HasCleanDisk (state S.Store tx.new.conn.now) → IsTrue (state S.Store tx.old.conn.now).in_transaction

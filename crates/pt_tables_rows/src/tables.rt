@@ -1,4 +1,4 @@
-//! The tables of records, each described once.
+//! The tables of records. Each type here describes one table.
 
 ghost use Rattle.std.specs.Prelude.{List};
 ghost use Rattle.sqlite.specs.Order.{Row};
@@ -11,12 +11,12 @@ use pt_records::Keyed;
 use pt_requests::Caller;
 use pt_scheduling::PlannedRoute;
 
-/// A table of records, each with rows of its own in it.
+/// A table of records. Each record has rows of its own.
 pub trait TableOf {
-    /// Its records.
+    /// The type of its records.
     type Record: Keyed;
 
-    /// The table.
+    /// Its definition in the schema.
     ghost home: { StoredTable };
 
     /// What is true of each of its records.
@@ -45,7 +45,7 @@ impl TableOf for Callers {
     ghost rows_of = { λ x. caller_row x ∷ [] };
 }
 
-/// What is kept of writes, for each caller.
+/// Each caller's last accepted write, with its reply.
 #[derive(Clone, Copy)]
 pub struct KeptWrites;
 
@@ -196,7 +196,7 @@ impl TableOf for Trips {
     ghost rows_of = { λ x. trip_row x ∷ [] };
 }
 
-/// The stops that are planned, a plan in several rows.
+/// Planned routes, with a row for each stop.
 #[derive(Clone, Copy)]
 pub struct Plans;
 

@@ -6,7 +6,7 @@ use Rattle.pt_desk_rules.specs.State.{State}
 use Rattle.pt_tables_rows.specs.Opens.{Opens}
 use Rattle.pt_tables_rows.specs.Tables.{HasRows, Stands}
 
--- a transaction has led from the rows of the one content to those of the other, and all is committed
+-- a transaction has led from the rows of `before` to those of `after`, and all is committed
 pub record IsMade (before after : State) (old new : Connected) : Type 0 where
   pub was_open : IsTrue old.is_open
   pub is_open : IsTrue new.is_open

@@ -1,4 +1,4 @@
--- Rows that are added to a table, and stops that are left in theirs.
+-- Rows that are added to a table, and stops that stay in theirs.
 use Rattle.std.specs.Prelude.{◌≢◌, ℕ, List, ◌++◌, flat_map, take}
 use Rattle.sqlite.specs.Effect.{Database}
 use Rattle.sqlite.specs.Order.{Row}
@@ -11,11 +11,11 @@ use Rattle.pt_tables_rows.specs.Schema.{stops_table}
 use Rattle.pt_tables_rows.specs.Tables.{IsStoredPlan}
 use Rattle.pt_tables_writing.specs.Writes.{Rewrites}
 
--- the table has these rows more, and each other table what it had
+-- the table has these rows too; the other tables keep their rows
 abbrev pub Adds : Table → List Row → Database → Database → Type 0
 Adds table rows old new = (before : List Row) → Rewrites table before (rows ++ before) old new
 
--- of the stops of a vehicle on a day those before this place stay, and all of the other plans
+-- the stops of this plan before this place stay, and so do all stops of other plans
 abbrev pub KeepsStops : Plan → ℕ → Database → Database → Type 0
 KeepsStops plan first old new =
     (stops : List PlannedStop) (others : List Plan) → Each (λ x. plan_key x ≢ plan_key plan) others

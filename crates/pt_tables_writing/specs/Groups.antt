@@ -1,5 +1,5 @@
--- Where lists, which have all records of the tables or a part of them, agree with what is there; and what a change
--- makes of a content, some tables at a time.
+-- When lists in memory, with all or some records of the tables, agree with the stored records. Also what a change makes
+-- of a content, a few tables at a time.
 use Rattle.std.specs.Prelude.{◌≡◌, ◌⊎◌, ℕ, List, None, [], ◌∷◌}
 use Rattle.std.specs.Option.{unwrap_or}
 use Rattle.sqlite.specs.Effect.{Database}
@@ -18,23 +18,23 @@ use Rattle.pt_spelling.specs.Ranges.{IsVehicle}
 use Rattle.pt_desk_rules.specs.Ranges.{FitsRider, FitsTrip}
 use Rattle.pt_tables_writing.specs.Stored.{EditsTable, PutsAll, TakesSpans}
 
--- within each of these spans of keys, the records that are known are those that are there
+-- within each of these spans of keys, the known records are the stored ones
 abbrev pub KnowsTaken : {A : Type 0} → (A → ℕ) → List Span → List A → List A → Type 0
 KnowsTaken key spans known there = Each (λ span. within key span known ≡ within key span there) spans
 
--- for the key of each of these records, the record that is known, if one is, is the one that is there
+-- for the key of each of these records, the known record is the stored one, or none is known
 abbrev pub KnowsReplaced : {A : Type 0} → (A → ℕ) → List A → List A → List A → Type 0
 KnowsReplaced {A} key puts known there =
     let IsKnown : A → Type 0 = λ new. record_at key (key new) known ≡ record_at key (key new) there in
     Each (λ new. (record_at key (key new) known ≡ None) ⊎ IsKnown new) puts
 
--- both, for what an edit takes away and for what it puts
+-- the first for what an edit removes, and the second for what it puts
 pub record KnowsEdited {A : Type 0} (key : A → ℕ) (edit : Edit A) (known there : List A) : Type 0 where
   pub taken : KnowsTaken key edit.away known there
   pub replaced : KnowsReplaced key edit.puts known there
 
--- What is known of all but the plans is what is there, wherever the change asks for it: in what it takes away, and in
--- the policy and the last trip, unless it gives new ones.
+-- Except for plans, the known records that the change removes are the stored ones. So are the policy and the number
+-- last given to a trip, unless the change gives new ones.
 pub record AgreesFor (change : Change) (known there : State) : Type 0 where
   pub callers : KnowsTaken caller_key change.callers.away known.callers there.callers
   pub kept : KnowsTaken kept_key change.kept.away known.kept there.kept
@@ -48,16 +48,16 @@ pub record AgreesFor (change : Change) (known there : State) : Type 0 where
   pub trips : KnowsTaken trip_key change.trips.away known.trips there.trips
   pub last_trip : unwrap_or change.last_trip known.last_trip ≡ unwrap_or change.last_trip there.last_trip
 
--- what is known of the content is what is there, and so are these plans
+-- what is known of the content agrees with the stored one, and so do these plans
 abbrev pub AgreesWith : Change → State → List Plan → State → Type 0
 AgreesWith change known plans there =
     AgreesFor change known there × KnowsEdited plan_key change.planned plans there.planned
 
--- each that agrees is changed so
+-- each stored value that agrees is changed so
 abbrev pub OfEach : {A : Type 0} → (A → Type 0) → (A → Database → Database → Type 0) → Database → Database → Type 0
 OfEach {A} Agrees Changes old new = (there : A) → Agrees there → Changes there old new
 
--- callers and what is kept for them, riders and what was entered on them
+-- callers and their last accepted writes, riders and their entries
 abbrev pub with_people : Change → State → State
 with_people change s = record s {
   callers = edited caller_key change.callers s.callers;
@@ -66,7 +66,7 @@ with_people change s = record s {
   entries = edited entry_key change.entries s.entries;
 }
 
--- places, and what drives between them
+-- places, routes, vehicles and driving times
 abbrev pub with_area : Change → State → State
 with_area change s = record s {
   places = edited place_key change.places s.places;
@@ -75,7 +75,7 @@ with_area change s = record s {
   travel = edited travel_key change.travel s.travel;
 }
 
--- trips, the stops that they plan, and the agency's row
+-- trips, planned stops and the agency's row
 abbrev pub with_trips : Change → State → State
 with_trips change s = record s {
   trips = edited trip_key change.trips s.trips;
@@ -84,23 +84,23 @@ with_trips change s = record s {
   last_trip = unwrap_or change.last_trip s.last_trip;
 }
 
--- Where the content and what the change puts are such as rows tell, statements lead from the rows of the one content to
--- those of the other.
+-- If rows can represent the content and what the change puts, statements lead from the rows of `before` to those of
+-- `after`.
 abbrev pub Leads : Change → State → State → State → Database → Database → Type 0
 Leads change content before after old new =
     IsWellFormed content → PutsWellFormed change → Stands before old → Stands after new
 
--- the one change, and then the other
+-- the first change, and then the next
 abbrev pub Then : (Database → Database → Type 0) → (Database → Database → Type 0) → Database → Database → Type 0
 Then First Next old new = (mid : Database) × First old mid × (mid.schema ≡ desk_schema → Next mid new)
 
--- the edit of riders, and then of the rows of those in wheelchairs
+-- the edit of riders, and then of the table of riders in wheelchairs
 abbrev pub WritesRiders : Change → State → Database → Database → Type 0
 WritesRiders change s =
     Then (EditsTable riders_table rider_key FitsRider (λ x. rider_row x ∷ []) change.riders s.riders)
     (EditsTable rider_chairs_table rider_key FitsRider rider_chair_rows change.riders s.riders)
 
--- the edit of trips, and then of the rows of those of riders in wheelchairs
+-- the edit of trips, and then of the table of trips of riders in wheelchairs
 abbrev pub WritesTrips : Change → State → Database → Database → Type 0
 WritesTrips change s =
     Then (EditsTable trips_table trip_key FitsTrip (λ x. trip_row x ∷ []) change.trips s.trips)
@@ -112,7 +112,7 @@ WritesVehicles change s =
     Then (EditsTable vehicles_table vehicle_key IsVehicle (λ x. vehicle_row x ∷ []) change.vehicles s.vehicles)
     (PutsAll vehicle_chairs_table vehicle_key IsVehicle vehicle_chair_rows change.vehicles.puts)
 
--- the same, after the wheelchair places of those that are taken away
+-- the same, after the wheelchair places of removed vehicles are deleted
 abbrev pub WritesFleet : Change → State → Database → Database → Type 0
 WritesFleet change s =
     Then (TakesSpans vehicle_chairs_table vehicle_key IsVehicle vehicle_chair_rows change.vehicles.away s.vehicles)

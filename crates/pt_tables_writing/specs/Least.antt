@@ -16,16 +16,16 @@ use Rattle.pt_tables_rows.specs.Tables.{HasRows}
 abbrev pub first_admin : List ℕ → Caller
 first_admin digest = record { id = 1; role = Admin; digest = digest }
 
--- the admin with this digest and a policy that shows as this one, and nothing else
+-- the admin with this digest and a policy that has the same row as this one, and nothing else
 pub record IsNew (policy : Policy) (digest : List ℕ) (content : State) : Type 0 where
   pub desk : desk_row content.policy 0 ≡ desk_row policy 0
   pub whole : content ≡ new_state (first_admin digest ∷ []) content.policy
 
--- the database lists the desk's tables, each by the text that defines it, and nothing else, and its rows obey them
+-- the database lists the desk's tables and nothing else, each with the SQL text that defines it, and its rows obey them
 abbrev pub IsDeskDatabase : Trees → Type 0
 IsDeskDatabase trees = IsDatabase (record { schema = desk_schema; trees = trees })
 
--- the rows of a content that is new
+-- the rows of a new content
 abbrev pub HasNewRows : Policy → List ℕ → Trees → Type 0
 HasNewRows policy digest trees = (content : State) → IsNew policy digest content → HasRows content trees
 
@@ -43,13 +43,13 @@ pub record IsLeastDesk (admin_key : List ℕ) (trees : Trees) : Type 0 where
   pub tables : IsDeskDatabase trees
   pub rows : HasLeastRows admin_key trees
 
--- the connection, if it is open, shows what the last commit left, which stays
+-- the connection, if it is open, shows what was committed, which has not changed
 pub record IsUndone (old new : Connected) : Type 0 where
   pub was_open : IsTrue new.is_open → IsTrue old.is_open
   pub now : IsTrue new.is_open → new.now ≡ old.committed
   pub committed : IsTrue new.is_open → new.committed ≡ old.committed
 
--- a transaction is open, or some table, index or view is there
+-- a transaction is open, or the database has a table, an index or a view
 abbrev pub IsInUse : Connected → Type 0
 IsInUse s = IsTrue s.in_transaction ⊎ (s.now.schema ≢ no_schema)
 

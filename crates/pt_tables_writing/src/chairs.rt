@@ -32,7 +32,7 @@ const INSERT_VEHICLE_CHAIRS: &str = "INSERT INTO vehicle_chairs (id, from_day, c
 const DELETE_VEHICLE_CHAIRS: &str = "DELETE FROM vehicle_chairs WHERE id = ?1 AND from_day = ?2";
 
 impl Stored for RiderChairs {
-    /// Puts the row of a rider in a wheelchair; of another it takes the row away.
+    /// Puts the row of a rider in a wheelchair. Deletes the row of any other rider.
     fn put<S: Alter>(tx: &mut Transaction<'_, S>, rider: &Rider) -> Result<(), Error> {
         if !rider.wheelchair {
             return Self::take(tx, rider);
@@ -59,7 +59,7 @@ fn add_rider_chair<S: Alter>(tx: &mut Transaction<'_, S>, rider: &Rider) -> Resu
 }
 
 impl Stored for TripChairs {
-    /// Puts the row of the trip of a rider in a wheelchair; of another it takes the row away.
+    /// Puts the row of the trip of a rider in a wheelchair. Deletes the row of any other trip.
     fn put<S: Alter>(tx: &mut Transaction<'_, S>, trip: &Trip) -> Result<(), Error> {
         if !trip.wheelchair {
             return Self::take(tx, trip);
@@ -116,7 +116,7 @@ fn insert_vehicle_chairs<S: Alter>(
     add_vehicle_chairs(tx, version)
 }
 
-/// Adds that row.
+/// Adds the row of the wheelchair places of a vehicle, which has at least one.
 fn add_vehicle_chairs<S: Alter>(tx: &mut Transaction<'_, S>, version: &Vehicle) -> Result<(), Error>
     requires some { IsTrue (not (version.now.chairs == 0)) }
     ensures same_reference { tx.new.conn.ghost_name ≡ tx.old.conn.ghost_name }

@@ -15,7 +15,7 @@ use sqlite::{Alter, Error, Transaction, params};
 /// The number of the first caller.
 const FIRST_CALLER: u32 = 1;
 
-/// How the role of an admin is told apart.
+/// The number of the admin's role in its column.
 const ADMIN_ROLE: u32 = 6;
 
 /// The subject of a role that is about nobody.
@@ -28,7 +28,7 @@ const INSERT_DESK: &str = "INSERT INTO desk (id, version, base, transfer, fare, 
 const INSERT_CALLER: &str = "INSERT INTO callers (id, role, subject, digest) \
     VALUES (?1, ?2, ?3, ?4)";
 
-/// Puts the agency's row into its empty table.
+/// Inserts the agency's row into its empty table.
 pub fn insert_desk<S: Alter>(
     tx: &mut Transaction<'_, S>,
     policy: &Policy,
@@ -58,7 +58,7 @@ pub fn insert_desk<S: Alter>(
     Ok(())
 }
 
-/// Puts the admin whose key has this digest into the empty table of callers.
+/// Inserts the admin whose key has this digest into the empty table of callers.
 pub fn insert_admin<S: Alter>(tx: &mut Transaction<'_, S>, digest: &Digest) -> Result<(), Error>
     ensures same_reference { tx.new.conn.ghost_name ≡ tx.old.conn.ghost_name }
     ensures filled { Makes (state S.Store tx.old.conn.now) (state S.Store tx.new.conn.now)

@@ -1,4 +1,4 @@
-//! The tables whose keys have several columns, and so a rowid of their own that no record tells.
+//! The tables whose keys have several columns. Their rowids are not part of any record.
 
 pub(crate) use stops::replace_plan;
 

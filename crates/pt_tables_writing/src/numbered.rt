@@ -1,4 +1,4 @@
-//! The tables whose keys are the numbers of their rows.
+//! The tables whose primary key is the rowid.
 
 use crate::stored::Stored;
 use columns::{kind_number, optional_number, points_bytes, status_number};

@@ -16,7 +16,7 @@ use pt_scheduling::PlannedRoute;
 use pt_tables_rows::tables::Plans;
 use sqlite::{Alter, Error, Transaction};
 
-/// The plan in whose place the edit puts one, and that one, where the edit does no more.
+/// The stored plan and the one that replaces it, if the edit does nothing else.
 fn replaced<'a>(
     edits: &'a Edits<PlannedRoute>,
     records: &'a Table<PlannedRoute>,
@@ -32,10 +32,10 @@ fn replaced<'a>(
     Some((before, plan))
 }
 
-/// Makes the edit in the table of plans; `records` has those that are there and that it takes away.
+/// Makes the edit in the table of plans. `records` must have the stored plans that it removes.
 ///
-/// Where one plan comes in place of another that `records` has, as in a booking, the rows of the stops that both begin
-/// with stay.
+/// If the edit only replaces a plan that `records` has, as a booking does, the rows of the first stops stay, as far as
+/// both plans have the same.
 pub(crate) fn write_plans<S: Alter>(
     tx: &mut Transaction<'_, S>,
     edits: &Edits<PlannedRoute>,

@@ -14,14 +14,14 @@ use sqlite::{Alter, Error, Transaction};
 
 /// A table that is written record by record.
 pub(crate) trait Stored: TableOf {
-    /// Puts the record's rows in place of those of the record with its key.
+    /// Puts the record's rows, instead of those of the record with the same key.
     fn put<S: Alter>(tx: &mut Transaction<'_, S>, one: &Self::Record) -> Result<(), Error>
         ensures same_reference { tx.new.conn.ghost_name ≡ tx.old.conn.ghost_name }
         ensures written { Makes (state S.Store tx.old.conn.now) (state S.Store tx.new.conn.now)
             (Puts Self.home Self.Record.key Self.Fits Self.rows_of one.now) result }
         ensures survives { Survives (state S.Store tx.old.conn.now) (state S.Store tx.new.conn.now) (λ _. ⊥) };
 
-    /// Takes away the rows of the record with its key.
+    /// Deletes the rows of the record with the same key.
     fn take<S: Alter>(tx: &mut Transaction<'_, S>, one: &Self::Record) -> Result<(), Error>
         ensures same_reference { tx.new.conn.ghost_name ≡ tx.old.conn.ghost_name }
         ensures written { Makes (state S.Store tx.old.conn.now) (state S.Store tx.new.conn.now)
@@ -45,7 +45,7 @@ pub(crate) fn put_each<S: Alter, T: Stored>(
     Ok(())
 }
 
-/// Takes away each of the records.
+/// Deletes each of the records.
 fn take_each<S: Alter, T: Stored>(
     tx: &mut Transaction<'_, S>,
     gone: &[T::Record],
@@ -61,7 +61,7 @@ fn take_each<S: Alter, T: Stored>(
     Ok(())
 }
 
-/// Takes away the records with the keys of these spans; `records` has those that are there, before any of it.
+/// Deletes the records with keys in these spans. `records` must have them as they are stored before the first deletion.
 pub(crate) fn take_spans<S: Alter, T: Stored>(
     tx: &mut Transaction<'_, S>,
     spans: &[Span],
@@ -79,7 +79,7 @@ pub(crate) fn take_spans<S: Alter, T: Stored>(
     Ok(())
 }
 
-/// Makes the edit in the table; `records` has the records that are there and that it takes away.
+/// Makes the edit in the table. `records` must have the stored records that it removes.
 pub(crate) fn write_edits<S: Alter, T: Stored>(
     tx: &mut Transaction<'_, S>,
     edits: &Edits<T::Record>,

@@ -4,8 +4,8 @@ ghost use Rattle.pt_tables_rows.specs.Tables.{PutsWellFormed};
 use pt_desk_rules::ranges::puts_in_range;
 use pt_desk_rules::{Change, have_stops};
 
-/// Whether rows tell all that the change puts: of a plan with no stops no row would. A change that the rules make is
-/// such.
+/// Whether rows can represent all that the change puts: a plan with no stops has no row. A change that the rules make
+/// passes.
 pub fn is_told(change: &Change) -> bool
     ensures { IsTrue result ↔ PutsWellFormed change.now }
 {

@@ -26,7 +26,7 @@ use pt_tables_rows::tables::{
 };
 use sqlite::{Alter, Connection, Error, Transaction};
 
-/// Writes what the change makes of riders, and then of those in wheelchairs.
+/// Writes the changes of riders, then their rows in the table of wheelchairs.
 fn write_riders<S: Alter>(
     tx: &mut Transaction<'_, S>,
     change: &Change,
@@ -42,9 +42,9 @@ fn write_riders<S: Alter>(
     write_edits::<S, RiderChairs>(tx, &change.riders, riders)
 }
 
-/// Writes what the change makes of callers, what is kept for them, riders and entries.
+/// Writes the changes of callers, of their last accepted writes, of riders and of entries.
 ///
-/// `known` has those that are there and that it takes away.
+/// `known` must have the stored records that the change removes.
 fn write_people<S: Alter>(
     tx: &mut Transaction<'_, S>,
     change: &Change,
@@ -62,7 +62,7 @@ fn write_people<S: Alter>(
     write_edits::<S, Entries>(tx, &change.entries, known.entries_table())
 }
 
-/// Writes what the change makes of vehicles, and then the wheelchair places of those that it puts.
+/// Writes the changes of vehicles, then the wheelchair places of those that it puts.
 fn write_vehicles<S: Alter>(
     tx: &mut Transaction<'_, S>,
     change: &Change,
@@ -77,8 +77,7 @@ fn write_vehicles<S: Alter>(
     put_each::<S, VehicleChairs>(tx, change.vehicles.puts())
 }
 
-/// Takes away the wheelchair places of the vehicles that the change takes away, and then writes what it makes of
-/// vehicles.
+/// Deletes the wheelchair places of the vehicles that the change removes, then writes the changes of vehicles.
 fn write_fleet<S: Alter>(
     tx: &mut Transaction<'_, S>,
     change: &Change,
@@ -93,7 +92,7 @@ fn write_fleet<S: Alter>(
     write_vehicles(tx, change, known)
 }
 
-/// Writes what the change makes of places, routes, vehicles and driving times, after callers and riders.
+/// Writes the changes of places, routes, vehicles and driving times. Callers and riders are already written.
 fn write_area<S: Alter>(
     tx: &mut Transaction<'_, S>,
     change: &Change,
@@ -112,7 +111,7 @@ fn write_area<S: Alter>(
     write_edits::<S, TravelTables>(tx, &change.travel, known.travel_table())
 }
 
-/// The policy as the change leaves it.
+/// The policy after the change.
 fn policy_after(change: &Change, known: &ListKeeper) -> Policy
     ensures value { result ≡ unwrap_or change.now.policy known.now.content.policy }
 {
@@ -122,7 +121,7 @@ fn policy_after(change: &Change, known: &ListKeeper) -> Policy
     }
 }
 
-/// The number that was last given to a trip as the change leaves it; 0 before the first.
+/// The number last given to a trip, after the change; 0 before the first trip.
 fn last_trip_after(change: &Change, known: &ListKeeper) -> u32
     ensures value { result ≡ unwrap_or change.now.last_trip known.now.content.last_trip }
 {
@@ -132,7 +131,7 @@ fn last_trip_after(change: &Change, known: &ListKeeper) -> u32
     }
 }
 
-/// Writes the agency's row as the change leaves it.
+/// Writes the agency's row as it is after the change.
 fn write_settings<S: Alter>(
     tx: &mut Transaction<'_, S>,
     change: &Change,
@@ -152,7 +151,7 @@ fn write_settings<S: Alter>(
     write_desk(tx, &policy, last_trip_after(change, known))
 }
 
-/// Writes what the change makes of trips, and then of those of riders in wheelchairs.
+/// Writes the changes of trips, then their rows in the table of wheelchairs.
 fn write_booked<S: Alter>(
     tx: &mut Transaction<'_, S>,
     change: &Change,
@@ -168,7 +167,7 @@ fn write_booked<S: Alter>(
     write_edits::<S, TripChairs>(tx, &change.trips, trips)
 }
 
-/// Writes what the change makes of trips, of the stops that are planned and of the agency's row, after all others.
+/// Writes the changes of trips, of planned stops and of the agency's row. All other tables are already written.
 fn write_trips<S: Alter>(
     tx: &mut Transaction<'_, S>,
     change: &Change,
@@ -189,7 +188,7 @@ fn write_trips<S: Alter>(
     write_settings(tx, change, known)
 }
 
-/// Writes all that the change makes of the tables, those that others refer to before these.
+/// Writes the whole change, each table after the tables that it references.
 fn write_tables<S: Alter>(
     tx: &mut Transaction<'_, S>,
     change: &Change,
@@ -209,8 +208,9 @@ fn write_tables<S: Alter>(
     write_trips(tx, change, known, plans)
 }
 
-/// Makes the change in the tables in one transaction. Of the records that are there `known` has those that the change
-/// takes away, except plans. `plans` has the plans that it takes away, and one that it replaces only as it is there.
+/// Makes the change in the tables in one transaction. `known` must have the stored records, except plans, that the
+/// change removes. `plans` must have the plans that it removes; a plan that it replaces is there as it is stored, or
+/// not at all.
 pub fn write_change<S: Alter>(
     conn: &mut Connection<S>,
     change: &Change,

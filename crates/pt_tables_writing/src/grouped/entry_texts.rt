@@ -1,4 +1,4 @@
-//! What a row tells of an entry of a case file.
+//! The column values of a case file entry.
 
 ghost use Rattle.std.specs.Prelude.{◌≡◌, ◌++◌, ◌+◌, ◌≤◌, length};
 ghost use Rattle.sqlite.specs.declared.types.Value.TheVariants.{Text};
@@ -14,7 +14,7 @@ use sqlite::types::{ToSql, ValueRef};
 /// How many bytes the conditions of a grant have at most: four of 43, and three semicolons.
 const LONGEST_CONDITIONS: usize = 175;
 
-/// A number, or none, which is passed as -1.
+/// An optional number, passed to a statement as -1 if there is none.
 #[derive(Clone, Copy)]
 pub(crate) struct Optional(pub Option<u32>);
 
@@ -29,7 +29,7 @@ impl<'a> ToSql<'a> for Optional {
     }
 }
 
-/// Bytes that are passed as a text.
+/// Bytes that are passed to a statement as text.
 #[derive(Clone, Copy)]
 pub(crate) struct AsText<'a>(pub &'a [u8]);
 
@@ -41,7 +41,7 @@ impl<'a> ToSql<'a> for AsText<'a> {
     }
 }
 
-/// The last day of a grant, what an appeal is against, or the first day of a suspension.
+/// The last day of a grant, the position that an appeal is against, or the first day of a suspension.
 pub(crate) fn first_number(entry: &Entry) -> Option<u32>
     ensures { result ≡ first_number entry.now }
 {
@@ -63,7 +63,7 @@ pub(crate) fn second_number(entry: &Entry) -> Option<u32>
     }
 }
 
-/// The reasons of a decision or a suspension, or the basis of a notice; else nothing.
+/// The reasons of a decision or a suspension, or the basis of a notice; empty for other entries.
 pub(crate) fn entry_words(entry: &Entry) -> &[u8]
     ensures { result.now ≡ entry_words entry.now }
 {
@@ -75,7 +75,7 @@ pub(crate) fn entry_words(entry: &Entry) -> &[u8]
     }
 }
 
-/// The conditions of what an entry grants; else nothing.
+/// The conditions that an entry grants; empty for other entries.
 pub(crate) fn entry_conditions(entry: &Entry) -> ArrayVec<u8, LONGEST_CONDITIONS>
     ensures { result.items ≡ entry_conditions entry.now }
 {
@@ -85,7 +85,7 @@ pub(crate) fn entry_conditions(entry: &Entry) -> ArrayVec<u8, LONGEST_CONDITIONS
     }
 }
 
-/// The conditions of a grant, with a semicolon between each two.
+/// The conditions of a grant, separated by semicolons.
 fn conditions_text(grant: &Grant) -> ArrayVec<u8, LONGEST_CONDITIONS>
     ensures { result.items ≡ conditions_text grant.now }
 {

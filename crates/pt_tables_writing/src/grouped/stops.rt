@@ -41,7 +41,7 @@ impl Stored for Plans {
     }
 }
 
-/// Puts the stops of a vehicle on a day in place of those before. The rows of the stops that both begin with stay.
+/// Replaces the stops of a vehicle on a day. The rows of the first stops stay, as far as both plans have the same.
 pub(crate) fn replace_plan<S: Alter>(
     tx: &mut Transaction<'_, S>,
     before: &PlannedRoute,
@@ -57,7 +57,7 @@ pub(crate) fn replace_plan<S: Alter>(
     insert_stops(tx, plan, shared)
 }
 
-/// How many stops both begin with.
+/// How many of the first stops are the same in both.
 fn shared_stops(one: &[PlannedStop], other: &[PlannedStop]) -> usize
     ensures same { take result one.now ≡ take result other.now }
     ensures small { result < 2 ^ 63 }
@@ -71,7 +71,7 @@ fn shared_stops(one: &[PlannedStop], other: &[PlannedStop]) -> usize
     both
 }
 
-/// Takes away the stops of a vehicle on a day from this place on.
+/// Deletes the stops of a vehicle on a day from this place on.
 fn take_later_stops<S: Alter>(
     tx: &mut Transaction<'_, S>,
     plan: &PlannedRoute,
@@ -90,7 +90,7 @@ fn take_later_stops<S: Alter>(
     Ok(())
 }
 
-/// Adds the rows of the stops from this place on, counted from 0, two by one statement.
+/// Adds the rows of the stops from this place on, counted from 0. A statement adds two.
 fn insert_stops<S: Alter>(
     tx: &mut Transaction<'_, S>,
     plan: &PlannedRoute,
@@ -197,7 +197,7 @@ fn insert_stop<S: Alter>(
     Ok(())
 }
 
-/// How pickups and drops are told apart.
+/// The number of a kind of stop in its column.
 fn stop_number(kind: StopKind) -> u32
     ensures { result ≡ stop_number kind }
 {

@@ -32,7 +32,7 @@ impl Stored for TravelTables {
     }
 }
 
-/// Adds the rows of a travel table, first the one of noughts, which tells of a table that has none.
+/// Adds the rows of a travel table, after a row of zeros: an empty table has that row only.
 fn insert_travel<S: Alter>(tx: &mut Transaction<'_, S>, table: &TravelTable) -> Result<(), Error>
     ensures same_reference { tx.new.conn.ghost_name ≡ tx.old.conn.ghost_name }
     ensures written { Makes (state S.Store tx.old.conn.now) (state S.Store tx.new.conn.now)
@@ -43,7 +43,7 @@ fn insert_travel<S: Alter>(tx: &mut Transaction<'_, S>, table: &TravelTable) -> 
     insert_drives(tx, table.from_day(), table.rows())
 }
 
-/// Adds rows of a travel table, four by one statement while there are four.
+/// Adds rows of a travel table, four by one statement while four are left.
 fn insert_drives<S: Alter>(
     tx: &mut Transaction<'_, S>,
     from_day: Day,

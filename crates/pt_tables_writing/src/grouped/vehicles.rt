@@ -32,7 +32,7 @@ impl Stored for Vehicles {
     }
 }
 
-/// Adds the row of a vehicle as it is from its day on.
+/// Adds the row of a version of a vehicle.
 fn insert_vehicle<S: Alter>(tx: &mut Transaction<'_, S>, version: &Vehicle) -> Result<(), Error>
     ensures same_reference { tx.new.conn.ghost_name ≡ tx.old.conn.ghost_name }
     ensures written { Makes (state S.Store tx.old.conn.now) (state S.Store tx.new.conn.now)

@@ -1,4 +1,4 @@
-//! What stands in columns for the fields of records.
+//! The column values of fields of records.
 
 ghost use Rattle.std.specs.Prelude.{◌≡◌, ◌≤◌, ◌+◌, ◌++◌, length, flat_map};
 ghost use Rattle.sqlite.specs.declared.types.Value.TheVariants.{Int};
@@ -13,7 +13,7 @@ use pt_corridor::FixedRoute;
 /// How many bytes the points of a route have at most.
 const MOST_POINT_BYTES: usize = 1_600;
 
-/// How residents and visitors are told apart.
+/// The number of a residence in its column.
 pub(crate) fn kind_number(kind: Residence) -> u32
     ensures value { result ≡ kind_number kind }
 {
@@ -23,7 +23,7 @@ pub(crate) fn kind_number(kind: Residence) -> u32
     }
 }
 
-/// How far a trip has come.
+/// The number of a trip's status in its column.
 pub(crate) fn status_number(status: TripStatus) -> u32
     ensures value { result ≡ status_number status }
 {
@@ -36,7 +36,7 @@ pub(crate) fn status_number(status: TripStatus) -> u32
     }
 }
 
-/// The minute, and -1 where there is none.
+/// The minute, or -1 if there is none.
 pub(crate) fn optional_number(minute: Option<Minute>) -> i64
     ensures value { Int result ≡ optional_value minute }
 {
@@ -46,7 +46,7 @@ pub(crate) fn optional_number(minute: Option<Minute>) -> i64
     }
 }
 
-/// The points of a route, one after the other, in eight bytes each. It takes no memory.
+/// The points of a route, one after the other, in eight bytes each. It allocates no memory.
 pub(crate) fn points_bytes(route: &FixedRoute) -> ArrayVec<u8, MOST_POINT_BYTES>
     ensures value { result.items ≡ flat_map point_bytes route.now.points }
 {
@@ -59,7 +59,7 @@ pub(crate) fn points_bytes(route: &FixedRoute) -> ArrayVec<u8, MOST_POINT_BYTES>
     bytes
 }
 
-/// Adds a number of either sign as its two's complement, the most significant byte first.
+/// Adds a signed number as its two's complement, the most significant byte first.
 #[tactic(auto, unfolding(pt_spelling::specs::Fields::number_bytes))]
 fn push_signed(number: i32, out: &mut ArrayVec<u8, MOST_POINT_BYTES>)
     requires { length out.old.items + 4 ≤ MOST_POINT_BYTES }

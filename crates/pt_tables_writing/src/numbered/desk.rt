@@ -20,7 +20,7 @@ const WRITE_DESK: &str = "INSERT INTO desk (id, version, base, transfer, fare, s
 
 const RAISE_VERSION: &str = "UPDATE desk SET version = ?2 WHERE id = ?1";
 
-/// Writes the agency's row anew.
+/// Overwrites the agency's row.
 pub(crate) fn write_desk<S: Alter>(
     tx: &mut Transaction<'_, S>,
     policy: &Policy,
@@ -54,7 +54,7 @@ pub(crate) fn write_desk<S: Alter>(
     Ok(())
 }
 
-/// Makes the version of the agency's row that of these tables, where it is that of the first.
+/// Sets the version in the agency's row to the current one, if it is the first.
 pub fn raise_version<S: Alter>(tx: &mut Transaction<'_, S>) -> Result<(), Error>
     ensures same_reference { tx.new.conn.ghost_name ≡ tx.old.conn.ghost_name }
     ensures raised { Makes (state S.Store tx.old.conn.now) (state S.Store tx.new.conn.now)
