@@ -14,8 +14,8 @@ use Rattle.pt_tables_opening.specs.Faults.{store_refused}
 use Rattle.pt_commands.specs.declared.outcome.Outcome.{Outcome}
 use Rattle.pt_commands.specs.declared.outcome.Outcome.TheVariants.{Done, Denied}
 
--- The printed text: a word on its own line for what is done, the name of the rule for a denial, and otherwise the text
--- that was asked for.
+-- The printed text. It is a word on its own line if the request is done, the rule's name if it is denied, and otherwise
+-- the text that was asked for.
 abbrev pub told_text : Answer → List ℕ
 told_text answer.Done = codes "done\n"
 told_text (answer.Denied rule) = name_of rule ++ codes "\n"

@@ -20,8 +20,8 @@ pub fn answers_outlive_crashes<K: Keeper>(before: &K, after: &K)
     ensures { IsToldAfterACrash (K.store before.now) (K.store after.now) }
 {}
 
-/// A law: if no vehicle of a refusal's facts has a place for the trip, the wish is denied `no vehicle` in that state,
-/// and by no other rule. So an audit of a refusal log over the facts shows what the desk answers.
+/// A law: suppose that no vehicle of a refusal's facts has a place for the trip. Then the wish is denied `no vehicle`
+/// in that state, and by no other rule. So an audit of a refusal log over the facts shows what the desk answers.
 pub fn refusals_are_told()
     ensures { RefusalsAreTold }
 {}

@@ -139,7 +139,7 @@ WritesMayBeSentAgain = (key with : List ℕ) (now later : Moment) (number : ℕ)
     IsLastOf key now number asked me told calls s after → sender with after ≡ Some holder → holder.id ≡ me.id →
     IsOutcome with later number (request.Write asked) after again left → (again ≡ told) × (left ≡ None)
 
--- A request that is denied in a sound state, and comes again at the same moment with nothing between, is denied by the
+-- A request is denied in a sound state, and comes again at the same moment with nothing between. It is denied by the
 -- same rule and changes nothing.
 abbrev pub DenialsAreTheSameAgain : Type 0
 DenialsAreTheSameAgain = (key : List ℕ) (now : Moment) (number : ℕ) (asked : Request) (s : State) (rule : Rule)

@@ -101,8 +101,8 @@ pub fn outcomes_are_one()
 {}
 
 /// A law: a request that is sent again after a crash, at the same moment, gets the same reply and leaves the same
-/// state, whether the crash lost it or not. If it gave its own caller another key before the crash, it must come with
-/// that key.
+/// state. This holds whether the crash lost it or not. If it gave its own caller another key before the crash, it must
+/// come with that key.
 pub fn requests_outlive_crashes()
     ensures { RequestsOutliveCrashes }
 {}

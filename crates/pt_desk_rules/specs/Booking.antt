@@ -40,7 +40,7 @@ pub record IsRequestBy (facts : WriteFacts) (number : ℕ) (left_out : Option �
   pub day : request.today ≡ today
   pub wished : request.wish ≡ wish
 
--- what a request needs in addition to these facts
+-- the rider, the places and the days of use that a request needs in addition to the facts
 pub record IsAsking (left_out : Option ℕ) (wish : Wish) (facts : WriteFacts) (asking : Asking) : Type 0 where
   pub rider : facts.rider ≡ Some asking.rider
   pub from : record_at place_key wish.from facts.places ≡ Some asking.from

@@ -81,11 +81,11 @@ no_change = record {
 abbrev pub booked : Trip → Plan → Change
 booked trip plan = record no_change { trips = puts_one trip; planned = puts_one plan; last_trip = Some trip.id }
 
--- for one that is changed: its old stops are removed
+-- the change for a trip that is changed: its old stops are removed
 abbrev pub changed : Trip → Option Plan → Trip → Plan → Change
 changed old left new plan = record no_change { trips = puts_one new; planned = moves_to old left plan }
 
--- for one that is cancelled
+-- the change for a trip that is cancelled
 abbrev pub given_up : Trip → Option Plan → Change
 given_up trip left = record no_change { trips = puts_one (cancelled trip); planned = gives_up trip left }
 

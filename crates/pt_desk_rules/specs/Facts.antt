@@ -115,7 +115,7 @@ abbrev pub change_facts : Option Trip → Wish → State → WriteFacts
 change_facts None wish s = agency_facts s
 change_facts (Some trip) wish s = wish_facts trip.rider wish (Some trip) s
 
--- the facts for its cancellation
+-- the facts for the cancellation of a trip, if it exists
 abbrev pub cancel_facts : Option Trip → State → WriteFacts
 cancel_facts None s = no_facts s.policy
 cancel_facts (Some trip) s = record (no_facts s.policy) {

@@ -30,7 +30,7 @@ pub record State : Type 0 where
   pub riders : List Rider
   -- the entries of all case files, ordered by rider and by position in the file
   pub entries : List FiledEntry
-  -- each vehicle as it is from a day on, as versions
+  -- the versions of all vehicles; each holds from its day on
   pub vehicles : List Vehicle
   pub travel : List DatedTable
   pub trips : List Trip

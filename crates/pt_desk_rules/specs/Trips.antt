@@ -67,7 +67,7 @@ gives_up trip plan = record {
   puts = plan_of_stops trip (without trip.id (stops_of_plan plan));
 }
 
--- an edit that removes them and puts a new plan
+-- an edit that removes a trip's stops from their plan, and puts a new plan
 abbrev pub moves_to : Trip → Option Plan → Plan → Edit Plan
 moves_to trip plan new = record {
   away = plan_span trip ∷ [];

@@ -116,7 +116,7 @@ pub(crate) fn giving_up(
     Ok(edits)
 }
 
-/// An edit that removes them and puts a new plan. The error is out of memory.
+/// An edit that removes the trip's stops from their plan, and puts a new plan. The error is out of memory.
 pub(crate) fn moving(
     alloc: Global,
     trip: &Trip,
