@@ -37,7 +37,7 @@ pub record TellsFailure {T : Type 0} (old new : Store) (now : Moment) (Same : Ty
 pub record AnswersOne {T : Type 0} (Gives : List ℕ → Type 0) (Answers : List ℕ → Response → Type 0)
     (old new : Store) (now : Moment) (out_old out_new : Option (List ℕ)) (Same : Type 0) (result : Result T Fault)
     : Type 0 where
-  -- the first message of the reader's bytes is answered, and the reply's bytes are appended
+  -- the first message of the reader's bytes, good or bad, is answered, and the reply's bytes are appended
   pub answered : new.doubt ≡ 0 → (input : List ℕ) → Gives input
       → OnOk result ((reply : Response) × Answers input reply × IsWritten reply out_old out_new)
   -- the request was answered, but the reply was not wholly written
@@ -53,7 +53,7 @@ pub record AnswersOne {T : Type 0} (Gives : List ℕ → Type 0) (Answers : List
 pub record ExchangesOne {R : Type 0} (remaining : R → Option (List ℕ)) (inbox_old inbox_new : Inbox R)
     (old new : Store) (now : Moment) (out_old out_new : Option (List ℕ)) (Same : Type 0)
     (result : Result Response Fault) : Type 0 where
-  -- the first message of the inbox's bytes is answered, and the inbox holds what follows it
+  -- the first message of the inbox's bytes, good or bad, is answered, and the inbox holds what follows it
   pub answered : new.doubt ≡ 0 → (input : List ℕ) → HasInput remaining inbox_old input
       → IfOk result (IsExchangedOver remaining old new now input inbox_new)
   -- the reply's bytes are appended
