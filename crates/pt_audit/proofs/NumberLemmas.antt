@@ -9,7 +9,7 @@ use Rattle.std.proofs.lemmas.List.{get_or_append_left}
 use Rattle.std.specs.Prelude.{Option, None, Some, IfSome}
 use Rattle.pt_audit.specs.Text.{IsNumber, number_text}
 
--- no digit stands at the front
+-- the text does not begin with a digit
 abbrev pub HasNoDigit : List ℕ → Type 0
 HasNoDigit text = (digit : ℕ) (more : List ℕ) → digit < 10 → text ≢ (48 + digit) ∷ more
 
@@ -48,7 +48,7 @@ among (d ∷ ds) (e ∷ es) after more one other over is =
     let rest = among ds es after more one.1 other.1 over tails in
     record { left = rest.left; longer = ap (λ x. x ∷ es) (sym same) ∙ ap (λ t. d ∷ t) rest.longer; digits = rest.digits; stands = rest.stands }
 
--- the digits of one number that begin a text are among those of a number that stands there whole
+-- if a text begins with the digits of one number, these begin the digits of a number that is there whole
 two_numbers : (m n : ℕ) (after more : List ℕ) → m < 2 ^ 64 → IsNumber n → get_or more 0 0 < 48 → decimal m ++ after ≡ decimal n ++ more → IsAmong (decimal m) (decimal n) after more
 two_numbers m n after more fits small ends is = among (decimal m) (decimal n) after more (decimal_is_IsNumeral m fits).0.1 (decimal_is_IsNumeral n (omega arith)).0.1 (below-digits more ends) is
 
@@ -58,7 +58,7 @@ no_smaller m n after more fits small ends is =
     let found = two_numbers m n after more fits small ends is in
     omega (arith, (decimal_is_IsNumeral m fits).1, (decimal_is_IsNumeral n (omega arith)).1, ap (digits_value 10) found.longer, value-more 0 (decimal m) found.left, grows (digits_value 10 (decimal m)) found.left)
 
--- where no digit stands after it, the number is read whole
+-- if no digit follows it, the number is read whole
 pub whole_number : (m n : ℕ) (after more : List ℕ) → m < 2 ^ 64 → IsNumber n → get_or more 0 0 < 48 → HasNoDigit after → decimal m ++ after ≡ decimal n ++ more → (m ≡ n) × (after ≡ more)
 whole_number m n after more fits small ends over is =
     let found = two_numbers m n after more fits small ends is in
@@ -94,7 +94,7 @@ zero_number n text rest more small front is = elim (cases_lt 0 n) [
       (zero, ap (drop 1) (sym front ∙ is ∙ ap (λ t. t ++ more) spelled))
 ]
 
--- a digit stands at the front of a number
+-- a number begins with a digit
 pub some_digit : (n : ℕ) (text more : List ℕ) → IsNumber n → HasNoDigit text → ¬ (text ≡ decimal n ++ more)
 some_digit n text more small over is = go (decimal n) (decimal_is_IsNumeral n (omega arith)).0 is
   where

@@ -1,4 +1,4 @@
--- Lines as texts: their words, and that no line's text stands within another's.
+-- Lines as texts: their words, and that no line's text begins another's.
 use Rattle.std.proofs.Common.{◌≡◌, ℕ, ◌+◌, ◌≤◌, ◌<◌, false, List, [], ◌∷◌, ◌++◌, length, decimal, drop, get_or, Some, suc, take, refl, sym, ap, ap₂, subst, ◌∙◌, arith, inl, inr, append_assoc, length-append}
 use Rattle.std.specs.Prelude.{◌==◌, ◌&&◌, if◌then◌else◌, codes, None, Bool, true}
 use Rattle.std.specs.Char.{digit_value}
@@ -63,7 +63,7 @@ few_numbers (line.End (end.Overloaded k)) = omega arith
 few_numbers (line.End (end.NoWay k)) = omega arith
 few_numbers (line.End end.TooLong) = omega arith
 
--- how many numbers a line has is told by its first letter
+-- the first letter of a line gives how many numbers it has
 pub count_of : (line : Line) → count_after (get_or (words_of line) 0 0) ≡ length (numbers_of line)
 count_of line.NoDirect = refl
 count_of (line.Case v i j) = refl
@@ -184,7 +184,7 @@ one_line line letter k text rest after front small spelled is =
       front ∙ ap (λ (t : List ℕ). letter ∷ t) spelled ∙ sym (one_spelled line letter k parts after),
     )
 
--- what stands after the letter of a line with one number
+-- what follows the letter of a line with one number
 pub record IsOne (line : Line) (letter : ℕ) (rest more : List ℕ) : Type 0 where
   pub k : ℕ
   pub small : IsNumber k
@@ -216,7 +216,7 @@ two_line line letter k n text rest between after front first second is =
       front ∙ ap (λ (t : List ℕ). letter ∷ t) (first.1 ∙ ap (λ (t : List ℕ). number_text k ++ t) second.1) ∙ sym (two_spelled line letter k n parts after),
     )
 
--- what stands after the letter of a line with two numbers
+-- what follows the letter of a line with two numbers
 pub record IsTwo (line : Line) (letter : ℕ) (rest more : List ℕ) : Type 0 where
   pub k : ℕ
   pub n : ℕ
@@ -253,7 +253,7 @@ three_line v i j text one two three after front first second third = (
   front ∙ ap (λ (t : List ℕ). codes "CASE" ++ t) (first.1 ∙ ap (λ (t : List ℕ). number_text v ++ t) (second.1 ∙ ap (λ (t : List ℕ). number_text i ++ t) third.1)) ∙ sym (three_spelled v i j after),
 )
 
--- what stands in the text of a case
+-- the parts of the text of a case
 pub record IsThree (made : Line) (text more : List ℕ) : Type 0 where
   pub v : ℕ
   pub i : ℕ
@@ -279,7 +279,7 @@ three_parts line text more in_form three is =
       stands = is ∙ ap (λ (l : Line). words_of l ++ more) same ∙ three_spelled v i j more;
     }
 
--- the first letter tells how many numbers a line at the front of a text has
+-- the first letter of a text that begins with a line gives how many numbers the line has
 pub count_told : (line : Line) (text more : List ℕ) (letter : ℕ) → text ≡ words_of line ++ more → get_or text 0 0 ≡ letter → count_after letter ≡ length (numbers_of line)
 count_told line text more letter is first =
     ap count_after (sym first ∙ ap (λ (t : List ℕ). get_or t 0 0) is ∙ first_letter line more) ∙ count_of line
@@ -316,7 +316,7 @@ pub words-one_line : (line : Line) → IsInForm line → IsOneLine (words_of lin
 words-one_line line in_form = All-append (λ b. (b == 10) ≡ false) (keyword_of line) (flat_map number_text (numbers_of line))
     (λ k d inside. lineless (get_or (keyword_of line) k d) (keyword-word line k d inside).0) (numbers-one_line (numbers_of line) in_form)
 
--- the first newline stands after a line
+-- the first newline comes after the line's words
 position-after : (words more : List ℕ) (from : ℕ) → IsOneLine words → position_from (λ b. b == 10) from (words ++ 10 ∷ more) ≡ Some (from + length words)
 position-after [] more from clean = let same : from ≡ from + 0 = omega arith in ap Some same
 position-after (c ∷ words) more from clean =
@@ -330,7 +330,7 @@ newline-after text words more clean is =
     let same : 0 + length words ≡ length words = omega arith in
     position_from-zero (λ b. b == 10) text ∙ ap (position_from (λ b. b == 10) 0) is ∙ position-after words more 0 clean ∙ ap Some same
 
--- what stands at the front of a text that begins with a line
+-- the front of a text that begins with a line
 pub record IsFront (text : List ℕ) (line : Line) : Type 0 where
   pub newline : position (λ b. b == 10) text ≡ Some (length (words_of line))
   pub words : take (length (words_of line)) text ≡ words_of line
@@ -371,7 +371,7 @@ same_after one other x y form form' same =
     let other_long : length (line_text other) ≡ length (words_of one) + 1 = length-append (words_of other) (10 ∷ []) ∙ ap (λ n. n + 1) (sym count) in
     sym (drop_at (line_text one) x (length (words_of one) + 1) one_long) ∙ ap (drop (length (words_of one) + 1)) same ∙ drop_at (line_text other) y (length (words_of one) + 1) other_long
 
--- where neither a line nor the end stands, no lines end the text
+-- if the rest is neither a line nor the end, the text is no log
 never_ends : (before lines : List Line) (rest : List ℕ) → All IsInForm before → All IsInForm lines → (rest ≡ closing → ⊥)
     → ((line : Line) (more : List ℕ) → IsInForm line → rest ≡ line_text line ++ more → ⊥)
     → flat_map line_text before ++ rest ≡ flat_map line_text lines ++ closing → ⊥

@@ -56,7 +56,7 @@ chosen-in minutes duties asked chosen duty rising possible among number =
     same-duty duties rising possible.1 duty (possible.0, possible.2, possible.3) among (sym possible.4.vehicle_number ∙ sym number) in
     subst (λ (d : Duty). IsChosenIn minutes d.vehicle.now (stops_of d.route.now) asked chosen) same possible.4
 
--- the pickup has a time in the window that was asked for
+-- the pickup has a time in the requested window
 pub record IsPlanned (asked : Asked) (chosen : Chosen) : Type 0 where
   pub there : chosen.i + 1 < length chosen.schedule.items
   pub from : asked.lo ≤ planned_pickup chosen
@@ -75,7 +75,7 @@ planned minutes vehicle stops asked chosen choice =
       to = window.1;
     }
 
--- the trip as its route has it is what was asked for, with its pickup in the promised window
+-- the trip as its route has it is the requested one, with its pickup in the promised window
 asked_of-trip : (minutes : ℕ → ℕ → Option ℕ) (request : Request) (vehicle : ℕ) (promised : Window) (trip : Trip) →
     IsTripIn minutes request vehicle promised trip → asked_of trip ≡ moved (asked_for minutes request) promised
 asked_of-trip minutes request vehicle promised trip kept = cc
@@ -160,7 +160,7 @@ not-denied rules result rule none never = (
   λ other. let is : None ≡ Some rule = first-unique rules _ _ none other in cc is,
 )
 
--- want of memory denies nothing
+-- out of memory is no denial
 pub refused-not-denied : {E : Type 0} (rules : List (Rule × Type 0)) (result : Result Decision E) (rule : Rule) → IsFirstFailing rules None →
     IsErr result → (result ≡ Ok (Denied rule)) ↔ IsFirstFailing rules (Some rule)
 refused-not-denied {E} rules result rule none refused =

@@ -39,7 +39,7 @@ first-behind (r ∷ rules) more found none first = elim none [
   | inr later ↦ inr (later.0, first-behind rules more found later.1 first)
 ]
 
--- each rule is tested by what stands beside it in the other list
+-- each rule is decided by the test at its position in the other list
 abbrev pub AreTests : List (Rule × Bool) → List (Rule × Type 0) → Type 0
 AreTests [] [] = Unit {0}
 AreTests [] (rule ∷ rules) = ⊥

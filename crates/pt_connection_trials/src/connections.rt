@@ -1,4 +1,4 @@
-//! Connections within bounds on time.
+//! Connections with time limits.
 use crate::requests::{DONE, PUT_CLERK, eight_in_the_morning, has_clerk};
 use pt_base::Fault;
 use pt_base::fault::{READ_FAILED, WRITE_FAILED};
@@ -14,7 +14,7 @@ use std::process::Abort;
 use std::test::Fail;
 use std::time::{Clock, Duration};
 
-/// What a stream is asked to do. Waits are in seconds.
+/// A call of a stream. Waits are in seconds.
 #[derive(Clone, Copy, Debug, PartialEq, Eq)]
 enum Call {
     WaitToRead(u64),
@@ -23,7 +23,7 @@ enum Call {
     Write,
 }
 
-/// What streams were asked to do, and the seconds that it took.
+/// The calls of streams, and the seconds that they took.
 #[derive(Drop)]
 struct Course {
     calls: RefCell<Vec<Call>>,
@@ -53,7 +53,7 @@ impl Clock for Course {
     }
 }
 
-/// A stream each of whose reads and writes has so many bytes at most, and takes so many seconds.
+/// A stream whose reads and writes have at most `bytes` bytes and take `seconds` seconds each.
 #[derive(Drop)]
 struct Slow<'c, S> {
     stream: S,
@@ -94,7 +94,7 @@ impl<S: Write> Write for Slow<'_, S> {
     }
 }
 
-/// A client that sends and takes so many bytes at a time, in so many seconds, and what comes of its request.
+/// A client, with the bytes that it sends and takes at a time and the seconds for each; and the expected result.
 struct Case {
     sends: usize,
     takes: usize,
@@ -173,7 +173,7 @@ const CASES: [Case; 3] = [
     },
 ];
 
-/// What comes of a request, and what its client has taken.
+/// The result of a request, and the bytes that its client has taken.
 fn answered<'c>(
     rt: &impl Abort,
     alloc: Global,
@@ -200,14 +200,14 @@ fn answered<'c>(
     (writer.stream, told)
 }
 
-/// Compares what is told of a case and what its client has taken.
+/// Compares the result of a case and the bytes that its client has taken.
 fn compare_reply(rt: &impl Abort, case: &Case, told: Result<(), Fault>, out: &[u8]) {
     let reply = DONE.as_bytes();
     assert_eq!(rt; told, case.told);
     assert_eq!(rt; out, &reply[..case.written.min(reply.len())]);
 }
 
-/// Answers the request of a case to a new desk, and compares what comes of it.
+/// Sends the request of a case to a new desk, and compares the result.
 fn compare_answer(rt: &impl Abort, alloc: Global, case: &Case, course: &Course) {
     let mut keeper = ListKeeper::new(alloc, b"abc").expect(rt, "memory");
     let (out, told) = answered(rt, alloc, &mut keeper, PUT_CLERK.as_bytes(), case, course);
@@ -232,8 +232,8 @@ fn each_read_and_each_write_is_told_how_long_it_may_wait(rt: HostRuntime) {
     }
 }
 
-/// How many bytes are dropped of a client that goes on sending so many at a time in so many seconds, and what the
-/// stream was asked to do; none where the last read came too late.
+/// How many bytes are dropped from a client that goes on sending `bytes` at a time in `seconds` each, with the calls
+/// of the stream; `None` if the last read came too late.
 fn dropped(rt: &impl Abort, alloc: Global, bytes: usize, seconds: u64) -> (Option<u64>, Vec<Call>) {
     let course = Course {
         calls: RefCell::new(Vec::new(alloc)),
@@ -251,11 +251,11 @@ fn dropped(rt: &impl Abort, alloc: Global, bytes: usize, seconds: u64) -> (Optio
 
 #[test]
 fn a_client_that_goes_on_sending_is_read_from_for_a_while(rt: HostRuntime) {
-    // Eight reads of 8,192 bytes, with the second still to come.
+    // Eight reads of 8,192 bytes, all within the one second allowed.
     let (count, calls) = dropped(&rt, rt.alloc(), 100_000, 0);
     assert_eq!(rt; count, Some(MOST_DROPPED));
     assert_eq!(rt; calls.len(), 16);
-    // The second is over after the first read.
+    // The one second allowed is over after the first read.
     let (count, calls) = dropped(&rt, rt.alloc(), 100, 1);
     assert_eq!(rt; count, None);
     assert_eq!(rt;
@@ -264,7 +264,7 @@ fn a_client_that_goes_on_sending_is_read_from_for_a_while(rt: HostRuntime) {
     );
 }
 
-/// What comes of the one request of a connection to a new desk, and whether it has the clerk then.
+/// The result of the one request of a connection to a new desk, and whether the desk has the clerk then.
 fn served<R: Abort + Clock>(
     rt: &R,
     alloc: Global,

@@ -31,7 +31,7 @@ impl Read for Pieces<'_> {
     }
 }
 
-/// Takes so many bytes and then fails, or fails to see them off.
+/// Takes as many bytes as it has room for and then fails, or fails in the flush.
 #[derive(Drop)]
 struct Narrow {
     bytes: Vec<u8>,
@@ -58,7 +58,7 @@ impl Write for Narrow {
     }
 }
 
-/// What is told of one request from a reader, answered to a writer.
+/// The result of one request from a reader, answered to a writer.
 fn told<R: Read + Drop, W: Write>(
     rt: &impl Abort,
     alloc: Global,
@@ -71,7 +71,7 @@ fn told<R: Read + Drop, W: Write>(
     answer_bytes(alloc, keeper, now, &mut inbox, out)
 }
 
-/// What a new desk tells of one request, and whether it has the clerk then.
+/// The result of one request to a new desk, and whether the desk has the clerk then.
 fn told_by_new_desk<R: Read + Drop, W: Write>(
     rt: &impl Abort,
     alloc: Global,
@@ -83,7 +83,7 @@ fn told_by_new_desk<R: Read + Drop, W: Write>(
     (told, has_clerk(rt, &mut keeper))
 }
 
-/// Answers what comes before the reader fails, and compares what is told, kept and replied.
+/// Answers what comes before the reader fails, and compares the result, the desk's content and the reply.
 fn compare_reader(rt: &impl Abort, alloc: Global, request: &[u8]) {
     let end = request.len();
     let reader = Pieces {
@@ -115,7 +115,7 @@ fn a_reader_that_fails_at_each_byte(rt: HostRuntime) {
     }
 }
 
-/// Answers to a writer that takes so many bytes, and compares what is told, kept and written.
+/// Answers to a writer that takes this many bytes, and compares the result, the desk's content and the bytes written.
 fn compare_writer(rt: &impl Abort, alloc: Global, reply: &[u8], written: usize) {
     let room = written.min(reply.len());
     let mut out = Narrow {
@@ -136,7 +136,7 @@ fn compare_writer(rt: &impl Abort, alloc: Global, reply: &[u8], written: usize) 
     compare_again(rt, alloc, &mut keeper, reply);
 }
 
-/// Sends the request again, whose reply was lost or not, and compares the reply.
+/// Sends the request again, whether its reply was lost or not, and compares the reply.
 fn compare_again(rt: &impl Abort, alloc: Global, keeper: &mut ListKeeper, reply: &[u8]) {
     let mut out = Vec::new(alloc);
     let answered = told(rt, alloc, keeper, PUT_CLERK.as_bytes(), &mut out);
@@ -148,7 +148,7 @@ fn compare_again(rt: &impl Abort, alloc: Global, keeper: &mut ListKeeper, reply:
 fn a_writer_that_fails_at_each_byte(rt: HostRuntime) {
     let alloc = rt.alloc();
     let reply = DONE.as_bytes();
-    // The last writer takes the whole reply, and fails to see it off.
+    // The last writer takes the whole reply and fails in the flush.
     for written in 0..=reply.len() + 1 {
         compare_writer(&rt, alloc, reply, written);
     }

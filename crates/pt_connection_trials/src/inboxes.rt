@@ -10,7 +10,7 @@ use std::test::Fail;
 
 const REQUEST: &str = "POST /callers HTTP/1.1\r\nContent-Length: 2\r\n\r\n{}GET";
 
-/// Gives one byte a read, each after so many interruptions, and then ends or fails.
+/// Gives one byte a read, each after some interruptions, and then ends or fails.
 #[derive(Drop)]
 struct OneByOne {
     bytes: VecDeque<u8>,
@@ -63,7 +63,7 @@ fn a_byte_a_read(rt: HostRuntime) -> Result<(), Fail> {
     assert_eq!(rt; inbox.held().len(), 45);
     assert_eq!(rt; inbox.read_up_to(47)?, true);
     assert_eq!(rt; inbox.held(), &REQUEST.as_bytes()[..47]);
-    // The reader fails behind its last byte.
+    // The reader fails after its last byte.
     assert_eq!(rt; inbox.read_up_to(51), Err(Fault::of(READ_FAILED)));
     assert_eq!(rt; inbox.held(), REQUEST.as_bytes());
     Ok(())

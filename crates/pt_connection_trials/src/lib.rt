@@ -1,5 +1,5 @@
-//! Examples of what stands between a client and the desk: clocks, readers and writers that are slow or fail,
-//! memory that is refused, a connection. They stand in one crate above all of these, since a crate with tests of
+//! Examples of what lies between a client and the desk: clocks, readers and writers that are slow or fail,
+//! memory that is refused, a connection. They are in one crate above all of these, since a crate with tests of
 //! its own is proved once more for them.
 #![tactic(auto)]
 

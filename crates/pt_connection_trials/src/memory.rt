@@ -12,12 +12,12 @@ use pt_store::{Keeper, ListKeeper};
 use std::alloc::{AllocError, Global};
 use std::process::Abort;
 
-/// What an exchange of the test below could change.
+/// The part of the desk's content that the exchanges below could change.
 #[derive(Clone, Copy, PartialEq, Eq)]
 struct Snapshot {
     callers: usize,
     riders: usize,
-    /// Whether the numbers are new that the admin and the clerk use.
+    /// Whether the numbers that the admin and the clerk use are new.
     numbers: [bool; 3],
 }
 
@@ -57,17 +57,17 @@ fn least_desk(alloc: Global) -> Result<ListKeeper, AllocError> {
     ListKeeper::new(alloc, b"abc").or_else(|_| ListKeeper::new(alloc, b"abc"))
 }
 
-/// What a first try comes to.
+/// The result of a first try.
 #[derive(Clone, Copy)]
 enum FirstTry {
     Answered,
     /// The request was read, and the reply names the refusal of memory.
     Denied,
-    /// Nothing was replied.
+    /// There was no reply.
     Unheard,
 }
 
-/// What is told of one try.
+/// The result of one try.
 fn told(
     alloc: Global,
     keeper: &mut ListKeeper,
@@ -78,7 +78,7 @@ fn told(
     answer_bytes(alloc, keeper, now, inbox, out)
 }
 
-/// Tries once. A refusal of memory has to change nothing.
+/// Tries once. If memory is refused, nothing may change.
 fn first_try(
     rt: &impl Abort,
     alloc: Global,
@@ -101,7 +101,7 @@ fn first_try(
     }
 }
 
-/// Replies to a request that is in the inbox, once more after a refusal of memory.
+/// Replies to a request that is in the inbox, and again if memory was refused.
 fn reply_from<'b>(
     rt: &impl Abort,
     alloc: Global,

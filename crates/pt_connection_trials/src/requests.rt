@@ -1,9 +1,9 @@
-//! A few requests, and what is told of them.
+//! A few requests, and their replies.
 use pt_base::{CallerId, Day, Minute, Moment};
 use pt_store::{Keeper, ListKeeper};
 use std::process::Abort;
 
-/// The admin `abc` puts the clerk `hello`.
+/// The admin with the key `abc` puts the clerk with the key `hello`.
 pub(crate) const PUT_CLERK: &str =
     "POST /callers HTTP/1.1\r\nDesk-Key: abc\r\nDesk-Number: 1\r\nContent-Length: 111\r\n\r\n\
     {\"id\":2,\"role\":\"clerk\",\"subject\":0,\

@@ -19,7 +19,7 @@ mixed d m u w =
     let same : u -ℤ w +ℤ w ≡ u = omega (arith, ints) in
     omega (arith, ints, whole, parts, ap (λ k. pos m *ℤ k) same)
 
--- so many times a number below zero
+-- d times a number below zero
 times-below : (d i : ℕ) (u : ℤ) → u +ℤ pos i ≡ pos 0 → pos d *ℤ u +ℤ pos (d * i) ≡ pos 0
 times-below d i u e =
     let parts = times-add (pos d) u (pos i) in

@@ -12,7 +12,7 @@ use lib.IntN.{nat_abs}
 abbrev pub part_square : ℤ → ℤ → ℤ → ℤ → ℕ → ℕ → ℤ
 part_square ux uy vx vy m n = squared_length (pos n *ℤ ux -ℤ pos m *ℤ vx) (pos n *ℤ uy -ℤ pos m *ℤ vy)
 
--- some point of the segment is within so many feet
+-- some point of the segment is within this many feet
 abbrev pub IsNearParts : ℕ → ℤ → ℤ → ℤ → ℤ → Type 0
 IsNearParts feet ux uy vx vy =
     (m : ℕ) × (n : ℕ) × (0 < n) × (m ≤ n) × (part_square ux uy vx vy m n ≤ℤ pos ((feet * n) * (feet * n)))
@@ -71,7 +71,7 @@ lagrange ux uy vx vy =
     squares_add (dot_product ux uy vx vy *ℤ dot_product ux uy vx vy) (cross_product ux uy vx vy *ℤ cross_product ux uy vx vy) (a *ℤ a) (b *ℤ b) (c *ℤ c) (d *ℤ d) (a *ℤ b) (c *ℤ d) _ _ _ _ _ _ sum difference same (product_square ux vx) (product_square uy vy) (product_square ux vy) (product_square uy vx) (square_is (dot_product ux uy vx vy)) (square_is (cross_product ux uy vx vy))
     ∙ omega arith
 
--- of a sum with k times d, read in natural numbers, where d is no more than 0 and where it is no less
+-- a sum with k times d, as natural numbers, for d at most 0 and for d at least 0
 back : (near d : ℤ) (p k i : ℕ) → near ≡ pos p → near +ℤ pos k *ℤ d ≡ pos i → d ≤ℤ pos 0 → p ≡ i + k * nat_abs d
 back near (pos zero) p k i near_is whole h = omega (arith, ints)
 back near (pos (suc n)) p k i near_is whole h = absurd (omega (arith, ints))

@@ -54,7 +54,7 @@ end_decided feet ux uy vx vy wx wy along length rest r s small r_is s_is along_i
     let rest_same : squared_length (ux -ℤ vx) (uy -ℤ vy) ≡ rest = ap (λ k. squared_length k (uy -ℤ vy)) (sym wx_is) ∙ ap (λ k. squared_length wx k) (sym wy_is) ∙ sym rest_is in
     both test (subst (λ (k : ℤ). (k ≤ℤ pos (feet * feet)) ↔ IsNearParts feet ux uy vx vy) rest_same near)
 
--- the squares that are compared beside the segment
+-- the limits of the squares that are compared for a point next to the segment
 pub across_within : (ux uy vx vy : ℤ) → IsWay ux uy → unsigned_abs vx ≤ 2 ^ 21 → unsigned_abs vy ≤ 2 ^ 21 → unsigned_abs (cross_product ux uy vx vy) ≤ 2 ^ 54
 across_within ux uy vx vy u p q =
     difference_within (ux *ℤ vy) (uy *ℤ vx) (2 ^ 53) (2 ^ 53) (product_within ux vy (2 ^ 32) (2 ^ 21) (omega arith) q) (product_within uy vx (2 ^ 32) (2 ^ 21) (omega arith) p)

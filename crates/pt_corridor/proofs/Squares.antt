@@ -3,7 +3,7 @@ use Rattle.std.proofs.Common.{◌≡◌, ℕ, ◌+◌, ◌-◌, ◌*◌, ◌<◌
 use Rattle.std.proofs.Math.Nat.{mul-pos, le_of_mul-le-mul_left}
 use Rattle.std.proofs.lemmas.Bool.{cases_lt}
 
--- twice a product is no more than the two squares
+-- twice a product is at most the sum of the two squares
 grown : (a more : ℕ) → 2 * (a * (a + more)) ≤ a * a + (a + more) * (a + more)
 grown a more = omega arith
 

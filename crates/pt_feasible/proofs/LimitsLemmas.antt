@@ -1,4 +1,4 @@
--- The limits of a visit and the constraints that they stand for.
+-- The limits of a visit and the constraints that they are equivalent to.
 use Rattle.std.proofs.Common.{◌≡◌, ℕ, ◌+◌, ◌-◌, ◌<◌, ◌≤◌, ◌↔◌, List, Option, Some, None, IsSomeAnd, IfNone, IsTrue, slice_get, slice_index, arith, ap, sym, subst, ◌∙◌, inl, inr}
 use Rattle.std.proofs.lemmas.Option.{same_Some, slice_get_within}
 use Rattle.std.proofs.lemmas.Bool.{cases_lt}

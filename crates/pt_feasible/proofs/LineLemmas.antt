@@ -40,7 +40,7 @@ in_windows-push earliest limits bound last k count count' each early i d below =
     (λ n before. subst (λ (l : Limits). slice_index earliest n ≤ l.latest) (sym (get_or_append_left limits (last ∷ []) d n (omega arith))) (each n d before))
     (subst (λ (l : Limits). bound ≤ l.latest) (sym (get_or_push limits last d k count')) early) i below
 
--- what a visit's limits are made of stands for what fitting times keep there
+-- the parts of a visit's limits are equivalent to what fitting times keep there
 pub stand_for : (minutes : ℕ → ℕ → Option ℕ) (vehicle : Vehicle) (stops : List Stop) (k : ℕ) (visit : Visit) (step : ℕ) (since : Since) →
     slice_get (visits vehicle stops) k ≡ Some visit → since.visit ≤ k →
     ((b : List ℕ) → HasTimeToDrive minutes (visits vehicle stops) b k ↔ (k + 1 < length stops + 2 → slice_index b k + step ≤ slice_index b (k + 1))) →

@@ -235,7 +235,7 @@ ride-of-drop part stops paired j stop there drops =
       ]
     ]
 
--- among the first stops of a route no more was dropped than picked up
+-- among the first stops of a route, at most what was picked up is dropped
 pub dropped-le-picked : (part : Load → ℕ) (stops : List Stop) → IsPaired stops → (k : ℕ) → k ≤ length stops → total_of part (filter is_drop (take k stops)) ≤ total_of part (filter is_pickup (take k stops))
 dropped-le-picked part stops paired k inside =
     let dropped : ℕ → ℕ = λ i. load_at part is_drop (slice_get stops i) in

@@ -77,7 +77,7 @@ count_final-rises (x ∷ old) (y ∷ new) [] same rises = omega arith
 count_final-rises (x ∷ old) (y ∷ new) (time ∷ b) same rises =
     omega (arith, rises 0, count_final-rises old new b (omega arith) (λ k. rises (suc k)))
 
--- where no more of them are final, none has become so
+-- if the number of final bounds has not grown, none has become final
 pub none_more_final : (old new b : List ℕ) → length old ≡ length new → length new ≡ length b → IsNeverLater old new → count_final new b ≤ count_final old b →
     (k : ℕ) → slice_index old k < slice_index b k → slice_index new k < slice_index b k
 none_more_final [] [] [] same same' rises few k early = absurd (omega arith)

@@ -73,7 +73,7 @@ origin_of asked i j stops h g k stop e =
     some_same : {a b : Stop} → Some a ≡ Some b → a ≡ b
     some_same p = cc
 
--- an old stop stands in the route with the trip put in
+-- an old stop is in the route with the trip put in
 old_stop_stays : (asked : Asked) (i j : ℕ) (stops : List Stop) → i ≤ j → j ≤ length stops → (m : ℕ) (stop : Stop) →
     slice_get stops m ≡ Some stop → (k : ℕ) × (slice_get (with_trip asked i j stops) k ≡ Some stop)
 old_stop_stays asked i j stops h g m stop e =

@@ -35,7 +35,7 @@ list_any_from p [] k x e h = cc
 list_any_from p (y ∷ ys) zero x e h = let same : y ≡ x = cc in or_left (p y) (list_any p ys) (ap p same ∙ h)
 list_any_from p (y ∷ ys) (suc k) x e h = or_right (p y) (list_any p ys) (list_any_from p ys k x e h)
 
--- what a search finds stands at some place
+-- what a search finds is at some position
 pub list_any_to : {X : Type 0} (p : X → Bool) (xs : List X) → list_any p xs ≡ true → (k : ℕ) × (x : X) × (slice_get xs k ≡ Some x) × (p x ≡ true)
 list_any_to p [] h = cc
 list_any_to p (y ∷ ys) h = elim (or_cases (p y) (list_any p ys) h) [

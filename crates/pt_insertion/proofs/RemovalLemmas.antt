@@ -1,4 +1,4 @@
--- Where the stops that stay stood before: places in a filtered list, and of the times at them.
+-- Old positions of the stops that stay: positions in a filtered list, and those of the times there.
 use Rattle.std.proofs.Common.{◌≡◌, ℕ, zero, suc, ◌+◌, ◌<◌, ◌≤◌, Bool, true, false, cond, List, [], ◌∷◌, ◌++◌, Some, length, take, map, filter, slice_get, slice_index, inl, inr, refl, ap, sym, ◌∙◌, arith}
 use Rattle.std.proofs.lemmas.Bool.{cases_Bool}
 use Rattle.pt_feasible.specs.declared.stop.Stop.{Stop}
@@ -9,7 +9,7 @@ abbrev pub one_later : (ℕ → ℕ) → ℕ → ℕ
 one_later place zero = zero
 one_later place (suc k) = suc (place k)
 
--- where the k-th of the elements that pass stood; past them, what comes after the list
+-- the old position of the k-th of the elements that pass; past them, positions after the list
 abbrev pub old_place : {X : Type 0} → (X → Bool) → List X → ℕ → ℕ
 old_place p [] k = k
 old_place p (x ∷ xs) k = cond (p x) (one_later (old_place p xs) k) (suc (old_place p xs k))
@@ -31,7 +31,7 @@ slice_get-kept f p (x ∷ xs) ys (suc k) =
       | false ↦ slice_get-kept f p xs ys (suc k)
     ]
 
--- an element that passes stood at its old place
+-- an element that passes was at its old position
 pub slice_get-filter : {X : Type 0} (p : X → Bool) (xs : List X) (k : ℕ) (x : X) →
     slice_get (filter p xs) k ≡ Some x → (slice_get xs (old_place p xs k) ≡ Some x) × (p x ≡ true)
 slice_get-filter p [] k x e = cc
@@ -80,7 +80,7 @@ old_place-rises p (x ∷ xs) (suc k) (suc l) h =
       | false ↦ omega (arith, old_place-rises p xs (suc k) (suc l) h)
     ]
 
--- the end of the elements that pass stood at the end
+-- the old position of the end of the elements that pass is the end
 pub old_place-end : {X : Type 0} (p : X → Bool) (xs : List X) → old_place p xs (length (filter p xs)) ≡ length xs
 old_place-end p [] = refl
 old_place-end p (x ∷ xs) =
@@ -105,7 +105,7 @@ take-filter {X = X} p (x ∷ xs) (suc k) =
       | inr fails ↦ rw fails (rw fails (take-filter p xs (suc k)))
     ]
 
--- a time that stays stood at the old place
+-- a time that stays was at the old position
 pub slice_index-times_at_others : (trip : ℕ) (stops : List Stop) (b : List ℕ) (k : ℕ) →
     slice_index (times_at_others trip stops b) k ≡ slice_index b (old_place (is_of_another trip) stops k)
 slice_index-times_at_others trip [] b k = refl

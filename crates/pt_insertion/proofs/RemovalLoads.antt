@@ -80,7 +80,7 @@ trip_is trip stop h = eqb-true stop.trip trip (twice (stop.trip == trip) h)
     twice true e = refl
     twice false e = e
 
--- a stop in the front of a route stands at its place there
+-- a stop in the front of a route is at the same position there
 front : (n : ℕ) (stops : List Stop) (k : ℕ) (stop : Stop) → slice_get (take n stops) k ≡ Some stop →
     (k < n) × (slice_get stops k ≡ Some stop)
 front n stops k stop e =
@@ -111,7 +111,7 @@ pub record AreOneTrip (own : List Stop) : Type 0 where
   pub picked_up : (i : ℕ) (stop : Stop) → slice_get own i ≡ Some stop → is_drop stop ≡ true →
       (k : ℕ) × (pickup : Stop) × (slice_get own k ≡ Some pickup) × (is_pickup pickup ≡ true)
 
--- a trip drops no more than it picked up
+-- a trip drops at most what it picked up
 pub drops_within_pickups : (part : Load → ℕ) (own : List Stop) → AreOneTrip own → total_of part (filter is_drop own) ≤ total_of part (filter is_pickup own)
 drops_within_pickups part [] trip = omega arith
 drops_within_pickups part (x ∷ []) trip =
@@ -160,7 +160,7 @@ one_trip trip stops n paired = record {
       (l, partner, kept, comes);
 }
 
--- without a trip no more are aboard after the stops in front
+-- without a trip the load aboard after the stops in front is no larger
 aboard_without_trip : (trip : ℕ) (stops : List Stop) (n : ℕ) → IsPaired stops →
     IsWithin (load_aboard (without_trip trip (take n stops))) (load_aboard (take n stops))
 aboard_without_trip trip stops n paired = aboard-within (without_trip trip (take n stops)) (take n stops) (λ part.

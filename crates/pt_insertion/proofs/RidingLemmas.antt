@@ -65,7 +65,7 @@ load_between part p asked i j stops (suc n) h g within =
     subst (λ (m : ℕ). total_of part (filter p (take (m + 1) (with_trip asked i j stops)))
     ≡ total_of part (filter p (take m stops)) + load_if part (p (pickup_stop asked)) (pickup_stop asked)) next (omega arith)
 
--- during the ride all others are aboard beside the party
+-- during the ride all others are aboard together with the party
 aboard_beside : (asked : Asked) (i j : ℕ) (stops : List Stop) (k : ℕ) → IsPaired stops → i ≤ k → k ≤ j → j ≤ length stops →
     load_aboard (take (k + 1) (with_trip asked i j stops)) ≡ load_sum (load_aboard (take k stops)) asked.load
 aboard_beside asked i j stops k paired from to g =
@@ -110,7 +110,7 @@ begins_ride minutes vehicle stops asked i later b last from among fits e =
     let service : asked.service ≡ last.service = ap (λ (visit : Visit). visit.service) same in
     (sym place, omega arith)
 
--- the pickup's service ends no sooner than its window and service tell
+-- the pickup's service ends at the start of its window plus the service, or later
 pub begins_served : (minutes : ℕ → ℕ → Option ℕ) (vehicle : Vehicle) (stops : List Stop) (asked : Asked) (i : ℕ) (pickup : Window) →
     IsPickupWindow minutes vehicle stops asked i pickup → IsServedUntil minutes vehicle stops asked i i (pickup.lo + asked.service)
 begins_served minutes vehicle stops asked i pickup begins later b last from among fits e =

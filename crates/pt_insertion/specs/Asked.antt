@@ -1,9 +1,9 @@
--- The two stops of a trip that is asked for.
+-- The two stops of a requested trip.
 use Rattle.pt_feasible.specs.declared.stop.Stop.{Stop}
 use Rattle.pt_feasible.specs.declared.stop.StopKind.TheVariants.{Pickup, Drop}
 use Rattle.pt_insertion.specs.declared.asked.Asked.{Asked}
 
--- the party comes aboard at the origin, in the window that is asked for
+-- the party comes aboard at the origin, in the requested window
 abbrev pub pickup_stop : Asked → Stop
 pickup_stop asked = record {
   trip = asked.trip;
@@ -16,7 +16,7 @@ pickup_stop asked = record {
   ride = asked.ride;
 }
 
--- the party leaves at the goal, from midnight to the latest minute that is asked for
+-- the party leaves at the goal, from midnight to the latest minute requested
 abbrev pub drop_stop : Asked → Stop
 drop_stop asked = record {
   trip = asked.trip;

@@ -64,7 +64,7 @@ ridden-none stops bound k none i j pickup drop next here there picks drops same 
       same = same;
     })))
 
--- so is one that is left no more than the ride limit before the only drop of its trip
+-- so is a pickup that ends at most the ride limit before the only drop of its trip
 pub ridden-one : (stops : List Stop) (bound : ℕ → ℕ) (k j : ℕ) (pickup : Stop) →
     slice_get stops (k - 1) ≡ Some pickup → ((other : ℕ) → IsRide stops (k - 1) other → j ≡ other) →
     bound (j + 1) - (pickup.service + pickup.ride) ≤ bound k → IsRidden stops bound k

@@ -1,4 +1,4 @@
--- A raise leaves the constraints of most visits kept.
+-- After a raise most visits still keep their constraints.
 use Rattle.std.proofs.Common.{arith, ◌≡◌, ◌≢◌, ◌==◌, ℕ, ◌+◌, max, List, Option, length, inl, inr}
 use Rattle.std.proofs.lemmas.Bool.{cases_eq, ne_eqb, cond-false}
 use Rattle.pt_base.specs.declared.vehicle.Vehicle.{Vehicle}
@@ -12,8 +12,8 @@ raised-elsewhere : (bound : ℕ → ℕ) (raise : Raise) (k : ℕ) → k ≢ vis
 raised-elsewhere bound raise k other =
     cond-false (k == visit_of raise) (max (bound k) (minute_of raise)) (bound k) (ne_eqb k (visit_of raise) other)
 
--- kept are the constraints of a visit that is not the raise's, nor the next, nor the pickup of its drop, nor the
--- first where the last is raised
+-- a visit still keeps its constraints if it is not the raise's, nor the next, nor the pickup of its drop, nor the first
+-- while the last is raised
 pub kept-raised : (minutes : ℕ → ℕ → Option ℕ) (vehicle : Vehicle) (stops : List Stop) (bound : ℕ → ℕ)
     (raise : Raise) (k : ℕ) →
     k ≢ visit_of raise → k ≢ visit_of raise + 1 → (k ≡ 0 → visit_of raise ≢ length stops + 1) →

@@ -1,4 +1,4 @@
-//! A list of calls is answered alike by a desk in memory and by one in a database, and outlives its connection.
+//! A desk in memory and one in a database answer a list of calls alike, and what was stored outlives the connection.
 use pt_base::{CallerId, Day, Minute, Moment, Residence, Rider, RiderId, Rule};
 use pt_desk::{Call, run};
 use pt_requests::{Answer, Caller, Digest, Request, Role, Write};
@@ -14,7 +14,7 @@ const ADMIN: &[u8] = b"abc";
 
 const CLERK: &[u8] = b"hello";
 
-/// What a call was answered, as far as these calls are answered anything.
+/// The answer to a call, as far as these calls can have one.
 #[derive(Clone, Copy, PartialEq, Eq)]
 enum Said {
     Done,
@@ -104,7 +104,7 @@ const ANSWERS: [Said; 9] = [
     Said::Denied(Rule::Key),
 ];
 
-/// Runs all calls, and compares what each is answered, and how many riders there are then.
+/// Runs all calls, and compares the answer to each, and how many riders there are then.
 fn run_all<K: Keeper>(rt: &impl Abort, alloc: Global, keeper: &mut K) -> Result<(), Fail> {
     let replies = run(alloc, keeper, calls(alloc)?.as_slice())?;
     assert!(rt; replies.len() == ANSWERS.len());
@@ -116,7 +116,7 @@ fn run_all<K: Keeper>(rt: &impl Abort, alloc: Global, keeper: &mut K) -> Result<
     Ok(())
 }
 
-/// The clerk's last call comes once more, and is answered alike. One more is new.
+/// The clerk's last call comes again and gets the same answer. One further call is new.
 fn run_on<K: Keeper>(rt: &impl Abort, alloc: Global, keeper: &mut K) -> Result<(), Fail> {
     let later = [
         call(alloc, CLERK, 8, put_rider(8)?)?,

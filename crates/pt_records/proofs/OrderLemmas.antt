@@ -86,7 +86,7 @@ length-put_new key new (x ∷ xs) none = elim (compared (key x) (key new)) [
   | inr (inr gt) ↦ rw (put_before key new x xs gt) (omega arith)
 ]
 
--- no more records than numbers below which their keys are
+-- records with keys from `low` to below `most` are at most as many as these numbers
 pub length-below : {A : Type 0} (key : A → ℕ) (low most : ℕ) (xs : List A) → IsInOrder key xs → Each (λ x. low ≤ key x) xs → Each (λ x. key x < most) xs → length xs ≤ most - low
 length-below key low most [] order above below = omega arith
 length-below key low most (x ∷ xs) order above below =

@@ -17,7 +17,7 @@ Each-at P [] each k d lt = absurd (omega arith)
 Each-at P (x ∷ xs) each zero d lt = each.0
 Each-at P (x ∷ xs) each (suc k) d lt = Each-at P xs each.1 k d (omega arith)
 
--- a key stands before that of each later record
+-- a record's key comes before the key of each later record
 pub later_key : {A : Type 0} (key : A → ℕ) (xs : List A) → IsInOrder key xs → (i j : ℕ) (d : A) → i < j → j < length xs → key (slice_index_or xs i d) < key (slice_index_or xs j d)
 later_key key [] order i j d lt bound = absurd (omega arith)
 later_key key (x ∷ xs) order i zero d lt bound = absurd (omega arith)
@@ -86,7 +86,7 @@ IsInOrder-drop key xs zero order = order
 IsInOrder-drop key [] (suc n) order = tt
 IsInOrder-drop key (x ∷ xs) (suc n) order = IsInOrder-drop key xs n order.1
 
--- what is put after records that stand before it
+-- a record that is put after records that come before it
 put_after : {A : Type 0} (key : A → ℕ) (new : A) (xs ys : List A) → Each (λ x. key x < key new) xs → put key new (xs ++ ys) ≡ xs ++ put key new ys
 put_after key new [] ys before = refl
 put_after key new (x ∷ xs) ys before = put_past key new x (xs ++ ys) before.0 ∙ ap (λ zs. x ∷ zs) (put_after key new xs ys before.1)
@@ -94,7 +94,7 @@ put_after key new (x ∷ xs) ys before = put_past key new x (xs ++ ys) before.0 
 pub put-split : {A : Type 0} (key : A → ℕ) (new : A) (xs : List A) (n : ℕ) → Each (λ x. key x < key new) (take n xs) → take n xs ++ put key new (drop n xs) ≡ put key new xs
 put-split key new xs n before = sym (put_after key new (take n xs) (drop n xs) before) ∙ ap (put key new) (take-append-drop n xs)
 
--- before records that all stand after it
+-- a record that is put before records that all come after it
 pub put_first : {A : Type 0} (key : A → ℕ) (new : A) (ys : List A) → Each (λ y. key new < key y) ys → put key new ys ≡ new ∷ ys
 put_first key new [] after = refl
 put_first key new (y ∷ ys) after = put_before key new y ys after.0
@@ -131,7 +131,7 @@ after_span k from to lt = grind (arith, nat_tests)
 in_span : (k from to : ℕ) → from ≤ k → k ≤ to → is_within k (record { from = from; to = to }) ≡ true
 in_span k from to low high = grind (arith, nat_tests)
 
--- the records of a span stand together
+-- the records of a span are next to each other
 pub within-split : {A : Type 0} (key : A → ℕ) (span : Span) (xs : List A) (n m : ℕ) → Each (λ x. key x < span.from) (take n xs) → Each (λ x. span.from ≤ key x) (drop n xs)
     → Each (λ x. key x ≤ span.to) (take m (drop n xs)) → Each (λ x. span.to < key x) (drop m (drop n xs)) → take m (drop n xs) ≡ within key span xs
 within-split key span xs n m before from up_to after =

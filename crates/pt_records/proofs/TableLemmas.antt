@@ -31,7 +31,7 @@ or_cases false q holds = inr holds
 pub below_is : (a b : ℕ) → IsTrue (nat_lt a b) → a < b
 below_is a b holds = grind (arith, nat_tests)
 
--- a limit is kept where there is room
+-- the limit still holds after a put if there is room
 pub within_limit : {A : Type 0} (key : A → ℕ) (new : A) (xs : List A) (most : ℕ) → IsInOrder key xs → length xs ≤ most → IsTrue (is_some (record_at key (key new) xs) || nat_lt (length xs) most) → length (put key new xs) ≤ most
 within_limit key new xs most order within room = elim (or_cases (is_some (record_at key (key new) xs)) (nat_lt (length xs) most) room) [
   | inl there ↦ omega (arith, length-put_there key new xs order there)

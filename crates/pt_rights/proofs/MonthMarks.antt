@@ -9,7 +9,7 @@ use Rattle.std.proofs.lemmas.List.{get_or_past, take_more}
 use Rattle.std.proofs.lemmas.List.Elements.{All-nil, All-cons, All-weaker, All-from_get_or, All-get_or, Contains-append_cases, Contains-append_right}
 use Rattle.pt_rights.specs.Months.{numbers_from, numbers_of, AreMonths}
 
--- a mark that stands gives its number
+-- a mark that is true gives its number
 pub number_of_mark : (n : ℕ) (marks : List Bool) (i m : ℕ) → m ≡ n + i → get_or marks i false ≡ true → Contains (numbers_from n marks) m
 number_of_mark n [] i m e h = absurd (cc)
 number_of_mark n (true ∷ marks) zero m e h = (0, omega arith, omega arith)
@@ -22,7 +22,7 @@ only : (n m : ℕ) → Contains (n ∷ []) m → m ≡ n
 only n m (zero, below, is) = sym is
 only n m (suc k, below, is) = absurd (omega arith)
 
--- and each number is that of a mark that stands
+-- and each number is that of a mark that is true
 pub mark_of_number : (n : ℕ) (marks : List Bool) (m : ℕ) → Contains (numbers_from n marks) m → (i : ℕ) × (m ≡ n + i) × (get_or marks i false ≡ true)
 mark_of_number n [] m has = absurd (let below = has.1 in omega arith)
 mark_of_number n (true ∷ marks) m has =
@@ -58,13 +58,13 @@ no_month marks m short other has =
     (λ (past : length marks ≤ found.0). let none = get_or_past marks found.0 false past in let stands = found.2 in cc)
     (cases_lt found.0 (length marks))
 
--- where no mark stands there is no number
+-- if no mark is true there is no number
 numbers_from-none : (n : ℕ) (marks : List Bool) → ((k : ℕ) → get_or marks k false ≡ false) → numbers_from n marks ≡ []
 numbers_from-none n [] none = refl
 numbers_from-none n (true ∷ marks) none = let h = none 0 in absurd (cc)
 numbers_from-none n (false ∷ marks) none = numbers_from-none (n + 1) marks (λ k. none (suc k))
 
--- a mark set after all that stand adds its number at the end
+-- a mark that is set after all true ones adds its number at the end
 numbers_from-set : (n : ℕ) (marks : List Bool) (i : ℕ) → i < length marks → ((k : ℕ) → i ≤ k → get_or marks k false ≡ false) → numbers_from n (set marks i true) ≡ numbers_from n marks ++ (n + i) ∷ []
 numbers_from-set n [] i within none = absurd (omega arith)
 numbers_from-set n (true ∷ marks) zero within none = let h = none 0 (omega arith) in absurd (cc)
@@ -91,7 +91,7 @@ numbers_from-take n (false ∷ marks) (suc i) within =
     let e : n + 1 + i ≡ n + suc i = omega arith in
     numbers_from-take (n + 1) marks i (omega arith) ∙ ap (λ m. numbers_from (n + 1) (take i marks) ++ cond (get_or marks i false) (m ∷ []) []) e
 
--- there are no more numbers than marks
+-- there are at most as many numbers as marks
 pub length-numbers_from : (n : ℕ) (marks : List Bool) → length (numbers_from n marks) ≤ length marks
 length-numbers_from n [] = omega arith
 length-numbers_from n (true ∷ marks) = let few = length-numbers_from (n + 1) marks in omega arith
@@ -114,7 +114,7 @@ numbers_from-rising n (true ∷ marks) =
     rising_cons n _ (All-weaker (IsInRange (n + 1) (n + length marks)) (λ y. n < y) (λ x h. let low = h.0 in omega arith) _ (numbers_from-range (n + 1) (n + length marks) marks (omega arith))) (numbers_from-rising (n + 1) marks)
 numbers_from-rising n (false ∷ marks) = numbers_from-rising (n + 1) marks
 
--- the numbers of twelve marks, one of which stands, are months
+-- the numbers of twelve marks, at least one of them true, are months
 pub AreMonths-numbers_of : (marks : List Bool) → length marks ≤ 12 → 1 ≤ length (numbers_of marks) → AreMonths (numbers_of marks)
 AreMonths-numbers_of marks short some = record {
   some = some;
@@ -140,7 +140,7 @@ length-numbers_of-take marks i =
     let short : length (take i marks) ≤ i = simp length-take (omega arith) in
     omega arith
 
--- what is known of a list of months, of which so many were read into marks, the last of this number
+-- the state after the first `index` months of a list were read into marks; `last` is the last of them
 pub record IsRead (numbers : List ℕ) (index : ℕ) (marks : List Bool) (last : ℕ) : Type 0 where
   pub marked : numbers_of marks ≡ take index numbers
   pub unmarked : (k : ℕ) → last ≤ k → get_or marks k false ≡ false

@@ -201,7 +201,7 @@ after_length : (found : Option Trip) (kind : StopKind) (rest : List Stop) → le
 after_length None kind rest = omega arith
 after_length (Some trip) kind rest = omega arith
 
--- they are no more than the plan has
+-- they are at most as many as the plan has
 pub length-among : (trips : List Trip) (stops : List PlannedStop) → length (stops_among trips stops) ≤ length stops
 length-among trips [] = omega arith
 length-among trips (stop ∷ later) =

@@ -305,7 +305,7 @@ booked_trips Q minutes day trips plans vehicles request trip plan own each (chos
     (each_with_trip (λ (s : Stop). Q s.trip) (asked_of trip) chosen.i chosen.j (stops_there request.trip day trips plans vehicle) own own
     (each_among Q trips (without request.trip (planned_stops vehicle.id day plans)) there)))
 
--- the plan of a trip that is booked is that of its vehicle on its day, and the trip stands
+-- the plan of a booked trip is that of its vehicle on its day, and the trip is not cancelled
 pub booked_plan : (minutes : ℕ → ℕ → Option ℕ) (vehicles : List OnDuty) (request : Request) (trip : Trip) (plan : Plan) → IsBookedIn minutes vehicles request trip plan
     → (trip.vehicle ≡ plan.vehicle) × (trip.wish.day ≡ plan.day) × (stands trip.status ≡ true)
 booked_plan minutes vehicles request trip plan (chosen, booked) =

@@ -20,7 +20,7 @@ same_twice : (x new day : ℕ) (rest : Bool) → x ≡ new → ((new == day) || 
 same_twice x new day true same = grind (arith, nat_tests)
 same_twice x new day false same = grind (arith, nat_tests)
 
--- a day that is put is there, beside those that were
+-- a day that is put is there, together with those that were
 pub has_put : (new day : ℕ) (days : List ℕ) → list_any (λ use_day. use_day == day) (put (λ use_day. use_day) new days) ≡ ((new == day) || list_any (λ use_day. use_day == day) days)
 has_put new day [] = refl
 has_put new day (x ∷ xs) = elim (compared x new) [

@@ -1,4 +1,4 @@
--- Entries of case files are told apart by their bytes.
+-- Different entries of case files have different bytes.
 use Rattle.std.proofs.Common.{◌≡◌, ℕ, ◌*◌, ◌≤◌, List, [], ◌∷◌, ◌++◌, length, length-append, get_or, drop, decimal, refl, ap, arith}
 use Rattle.std.specs.Int.{IsInRange}
 use Rattle.std.specs.List.{All}

@@ -1,4 +1,4 @@
--- Fields are told apart by their bytes, whatever follows, and so is what follows.
+-- Different fields have different bytes, whatever follows, and so has what follows.
 use Rattle.std.proofs.Common.{◌≡◌, ℕ, ◌+◌, ◌*◌, ◌≤◌, Bool, true, false, List, [], ◌∷◌, ◌++◌, length, get_or, take, drop, Option, Some, None, refl, sym, ap, ◌∙◌, append_assoc, arith}
 use Rattle.std.specs.Prelude.{ℤ, pos, negsuc, IfSome, flat_map, FitsSigned}
 use Rattle.std.specs.Int.{w32, from_be_bytes, from_bool, cast_unsigned, cast_signed}
@@ -52,7 +52,7 @@ number-then a b x y one other e =
 
 -- ---- items
 
--- the values that keep to P are told apart by their bytes, whatever follows
+-- different values that meet P have different bytes, whatever follows
 abbrev pub IsCode : {A : Type 0} → (A → Type 0) → (A → List ℕ) → Type 0
 IsCode {A} P bytes = (a b : A) (x y : List ℕ) → P a → P b → bytes a ++ x ≡ bytes b ++ y → (a ≡ b) × (x ≡ y)
 

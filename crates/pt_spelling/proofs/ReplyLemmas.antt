@@ -1,4 +1,4 @@
--- What the bytes of a reply tell.
+-- What the bytes of a reply spell.
 use mathlib.Core.HLevel.{is_prop→PathP}
 use Rattle.std.proofs.Common.{◌≡◌, ℕ, ◌+◌, ◌*◌, ◌≤◌, List, [], ◌∷◌, ◌++◌, append-nil, length, length-append, get_or, take, drop, Option, Some, refl, sym, ap, ◌∙◌, arith}
 use Rattle.std.specs.List.{AllByRecursion}
@@ -31,12 +31,12 @@ pub six_numbers : (bytes : List ℕ) (a b c d e f : ℕ) → length bytes ≡ 24
 six_numbers bytes a b c d e f size is_a is_b is_c is_d is_e is_f =
     piece bytes _ 0 4 a is_a refl (piece bytes _ 4 8 b is_b refl (piece bytes _ 8 12 c is_c refl (piece bytes _ 12 16 d is_d refl (piece bytes _ 16 20 e is_e refl (piece bytes [] 20 24 f is_f refl (drop_all 24 bytes (omega arith)))))))
 
--- ---- what is told of a booked trip
+-- ---- the reply to a booking
 
 pub at_most-prop : (most n : ℕ) → IsProp (n ≤ most)
 at_most-prop most n = hlevel props
 
--- whoever tells the same numbers tells the same
+-- replies to bookings with the same numbers are the same
 pub told-same : (a b : Confirmation) → numbers_told a ≡ numbers_told b → a ≡ b
 told-same a b same = λ i. record {
   trip = get_or (same i) 0 0;
@@ -90,7 +90,7 @@ entered-only bytes fields n (Entered m) whole size number word spelled =
     ap (λ (k : ℕ). Entered k) (number-same n m word spelled.0 (rw append-nil at same))
 entered-only bytes fields n (Booked told) whole size number word spelled = absurd (omega (arith, ap (λ (t : List ℕ). get_or t 0 0) (sym whole ∙ spelled.1)))
 
--- whatever else has the bytes of a booked trip is one that the numbers tell of
+-- any reply with the bytes of a booking is the one that the numbers give
 pub booked-only : (bytes fields numbers : List ℕ) (reply : KeptReply) (found : Option Confirmation) → bytes ≡ 2 ∷ fields → fields ≡ numbers_bytes numbers → AllByRecursion IsWord numbers
     → ((told : Confirmation) → IsTold told → numbers_told told ≡ numbers → found ≡ Some told) → SpellsReply bytes reply → (told : Confirmation) × (found ≡ Some told) × (reply ≡ Booked told)
 booked-only bytes fields numbers Done found whole read fits only spelled = absurd (omega (arith, ap (λ (t : List ℕ). get_or t 0 0) (sym whole ∙ spelled.1)))

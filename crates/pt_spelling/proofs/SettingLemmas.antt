@@ -1,4 +1,4 @@
--- Callers, policies, places, routes, vehicles and rows of travel tables are told apart by their bytes.
+-- Different callers, policies, places, routes, vehicles and rows of travel tables have different bytes.
 use mathlib.Core.HLevel.{is_prop→PathP}
 use Rattle.std.proofs.Common.{◌≡◌, ℕ, zero, suc, ◌<◌, ◌≤◌, List, length, [], ◌∷◌, ◌++◌, get_or, refl, sym, ap, ◌∙◌, append_assoc, arith}
 use Rattle.std.proofs.lemmas.Bool.{cond-false, ne_eqb}

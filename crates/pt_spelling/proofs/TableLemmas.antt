@@ -28,7 +28,7 @@ rank-below (p ∷ places) x (zero, below, is) = let rest = rank-length places x 
 rank-below (p ∷ places) x (suc k, below, is) = let rest = rank-below places x (k, omega arith, is) in omega arith
 
 module _ (places : List ℕ) (few : length places ≤ 100) where
-  -- where a row stands among all that could be
+  -- the slot of a row among all possible ones
   abbrev slot : Row → ℕ
   slot row = rank places row.0 * 100 + rank places row.1
 
@@ -48,7 +48,7 @@ module _ (places : List ℕ) (few : length places ≤ 100) where
       let last = rank-rises places row.1 other.1 named.1 less in
       omega arith
 
-  -- at least as many slots as rows stand before a row
+  -- a row's slot is at least its position among the rows
   slot-least : (rows : List Row) → Rises rows → NamesOnly places rows → (k : ℕ) → k < length rows → k ≤ slot (get_or rows k (0, 0, 0))
   slot-least rows rises named zero below = omega arith
   slot-least rows rises named (suc k) below =
@@ -64,7 +64,7 @@ module _ (places : List ℕ) (few : length places ≤ 100) where
       let most = slot-below (get_or rows 10_000 (0, 0, 0)) (named 10_000 (0, 0, 0) many) in
       omega arith
 
--- no more than pairs of a hundred places
+-- a table has at most as many rows as a hundred places have pairs
 pub length-table : (rows : List Row) → IsTable rows → length rows ≤ 10_000
 length-table rows table =
     let many = length-few table.few_places.0 table.few_places.1 rows table.in_order table.few_places.2 in

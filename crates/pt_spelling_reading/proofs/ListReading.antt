@@ -8,11 +8,11 @@ use Rattle.pt_spelling.specs.Fields.{number_bytes, list_bytes}
 use Rattle.pt_spelling_reading.proofs.ReadingLemmas.{some-same, none-found, found-same}
 use Rattle.pt_spelling_reading.specs.Reading.{Takes}
 
--- items that fit, so many as may be
+-- a list of a permitted length whose items fit
 abbrev pub FitList : {A : Type 0} → (ℕ → Type 0) → (A → Type 0) → List A → Type 0
 FitList Few Fits xs = Few (length xs) × All Fits xs
 
--- so many items of a list are taken from the bytes
+-- the first k items of a list have been taken from the bytes
 abbrev pub TakenSoFar : {A : Type 0} → (A → List ℕ) → (ℕ → Type 0) → (A → Type 0) → List ℕ → List ℕ → List A → ℕ → ℕ
     → Type 0
 TakenSoFar {A} written Few Fits before left items count k =

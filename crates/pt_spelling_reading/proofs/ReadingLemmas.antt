@@ -103,7 +103,7 @@ no-bytes bytes empty test is = grind (arith, nat_tests)
 pub some-bytes : (bytes : List ℕ) (empty : Bool) → empty ≡ (length bytes == 0) → empty ≡ false → 1 ≤ length bytes
 some-bytes bytes empty test is = grind (arith, nat_tests)
 
--- no bytes tell of no wheelchair places
+-- empty bytes spell no wheelchair places
 pub no-chairs : (bytes : List ℕ) (chairs : ℕ) → length bytes ≡ 0 → bytes ≡ chairs_bytes chairs → chairs ≡ 0
 no-chairs bytes zero size e = refl
 no-chairs bytes (suc more) size e =

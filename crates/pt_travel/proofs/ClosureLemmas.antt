@@ -12,7 +12,7 @@ use Rattle.pt_travel.specs.Matrix.{entry, HasTriangles}
 use Rattle.pt_travel.specs.Table.{NamesOnly}
 use Rattle.pt_travel.proofs.PlaceLemmas.{position-absent, position-found}
 
--- a chain over these places alone that takes no more
+-- there is a chain over these places alone that takes at most these minutes
 abbrev Within : List Row → (ℕ → Type 0) → ℕ → ℕ → ℕ → Type 0
 Within table Is from to minutes = (chain : List Row) × IsChain table from to chain × Via Is chain × (total_of chain ≤ minutes)
 

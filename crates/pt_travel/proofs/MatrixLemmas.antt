@@ -1,4 +1,4 @@
--- Lines of a matrix before and after the rows of a table stand in it.
+-- Lines of a matrix before and after the rows of a table are put into it.
 use Rattle.std.proofs.Common.{◌≡◌, ℕ, ◌+◌, ◌<◌, ◌≤◌, inl, inr, refl, sym, ap, ◌∙◌, subst, List, [], ◌∷◌, length, get_or, set, replicate, eqb, cond, arith}
 use Rattle.std.proofs.lemmas.Bool.{cases_eq, cond-true, cond-false, eq-eqb, ne_eqb}
 use Rattle.std.proofs.lemmas.List.{get_or-replicate, get_or-set_same, get_or-set_other, length-replicate, get_or_default}
@@ -17,7 +17,7 @@ alone-at n far i j in_i in_j = elim (cases_eq j i) [
       (get_or-set_other (replicate n far) i j 0 0 apart ∙ get_or-replicate n j far 0 in_j)
 ]
 
--- the first rows of a table stand in a matrix
+-- the first rows of a table are in a matrix
 pub record StandsUpTo (table : List Row) (places : List ℕ) (count : ℕ) (lines : List (List ℕ)) : Type 0 where
   pub size : length lines ≡ length places
   pub capped : IsCapped lines
@@ -81,7 +81,7 @@ module _ (table : List Row) (places : List ℕ) (few : length places ≤ 100) wh
         | inr earlier ↦ omega (arith, put.shrinks i j (omega (arith, was.size)) (omega arith), was.stands s i j (omega arith) in_i in_j from to)
       ]
 
-  -- once all rows stand, no chain without a middle place takes less
+  -- once all rows are put in, no chain without a middle place takes less
   pub stands-all : (lines : List (List ℕ)) → ((i j : ℕ) → i < length places → j < length places → get_or places i 0 ≡ get_or places j 0 → i ≡ j) → StandsUpTo table places (length table) lines
       → IsClosedOver table places 0 lines
   stands-all lines distinct all = record { size = all.size; capped = all.capped; attained = all.attained; below = λ i j in_i in_j chain leads via. entry-below i j in_i in_j chain leads via }

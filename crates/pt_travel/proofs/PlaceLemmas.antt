@@ -1,4 +1,4 @@
--- Where places stand in a list of them, and how many a list without repeats can have.
+-- Positions of places in a list, and how many a list without repeats can have.
 use Rattle.std.proofs.Common.{◌≡◌, ℕ, ◌<◌, ◌⊎◌, inl, inr, sym, ap, ◌∙◌, subst, None, Some, List, [], ◌∷◌, ◌++◌, length, get_or, take, All, Contains, eqb, ltb, not, true, arith}
 use Rattle.std.specs.List.{position, position_or_len}
 use Rattle.std.proofs.lemmas.Bool.{cases_Bool, eqb-true, eq-eqb, ne_eqb, cond-true, false≢true, ltb-false, lt-ltb}
@@ -62,7 +62,7 @@ put-kept old new place (inr more) =
     subst (λ (x : List ℕ). HasPut old x place) (sym more)
     (record { has = Contains-push old place; keeps = λ other h. Contains-append_left old (place ∷ []) other h; needs = λ list all one. All-push (Contains list) old place all one })
 
--- in a list with no repeats, a place stands where it was seen
+-- in a list with no repeats, the position of a place is where it was seen
 pub position-is : (places : List ℕ) (place k : ℕ) → ((i j : ℕ) → i < length places → j < length places → get_or places i 0 ≡ get_or places j 0 → i ≡ j)
     → k < length places → get_or places k 0 ≡ place → position (λ p. eqb p place) places ≡ Some k
 position-is places place k distinct in_k at =

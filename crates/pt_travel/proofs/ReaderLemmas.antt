@@ -72,7 +72,7 @@ module _ (text : List ℕ) (seen : List Record) (old new : BytesReader) (fields 
       let (rest, source, reached) = rows-more bytes_of old new fields default_config st.StartRecord (strip_bom text) given.rest seen given.config given.source given.reached reads in
       record { untrimmed = reads.3 ∙ given.untrimmed; ready = ready; config = reads.2 ∙ given.config; rest = rest; source = source; reached = reached }
 
-  -- no more records
+  -- there is no further record
   pub given-all : ReadRecord bytes_of old new false fields → HasRecords text seen
   given-all reads = (old.state, given.rest, given.reached, rows-end bytes_of old new fields default_config given.rest given.config given.source reads)
 

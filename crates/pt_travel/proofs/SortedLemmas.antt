@@ -40,7 +40,7 @@ module _ (rows : List Row) (rises : Rises rows) where
       let e : i + (j - i - 1) + 1 ≡ j = omega arith in
       subst (λ (x : ℕ). ComesBefore (get_or rows i (0, 0, 0)) (get_or rows x (0, 0, 0))) e (rises-by i (j - i - 1) (omega arith))
 
-  -- one pair of places stands once
+  -- each pair of places occurs once
   pub rises-once : (row other : Row) → Contains rows row → Contains rows other → row.0 ≡ other.0 → row.1 ≡ other.1 → row ≡ other
   rises-once row other (i, in_i, at_i) (j, in_j, at_j) from to =
       let is_i : get_or rows i (0, 0, 0) ≡ row = get_or_default rows i (0, 0, 0) row in_i ∙ at_i in

@@ -1,4 +1,4 @@
-//! What the planner answers over the plain, where it may be asked.
+//! The planner's answers over the plain, if its conditions hold.
 use crate::times::Plain;
 use pt_audit::{Log, check};
 use pt_insertion::{Asked, Chosen, Duty, are_rising, are_without, best};

@@ -9,7 +9,7 @@ use std::alloc::Global;
 use std::process::Abort;
 use std::test::Fail;
 
-/// Where the vehicle would be back at 574, and closes before.
+/// Logs for a vehicle that would be back at 574 but closes earlier.
 const TOO_LATE: [(&str, bool); 18] = [
     (
         "CASE 1 0 0\nF 0 480\nA 1 500\nA 2 532\nA 3 574\nW 3\n",
@@ -67,19 +67,19 @@ const TOO_LATE: [(&str, bool); 18] = [
     ),
 ];
 
-/// Where there is no way to the goal.
+/// Logs for a trip with no way to the goal.
 const NO_WAY: [(&str, bool); 2] = [("NODIRECT\n", true), ("CASE 1 0 0\nM 1\n", true)];
 
-/// Where no vehicle is on duty.
+/// Logs for a day with no vehicle on duty.
 const OFF_DUTY: [(&str, bool); 1] = [("", true)];
 
-/// Where two persons want the one seat.
+/// Logs for two persons and one seat.
 const TOO_MANY: [(&str, bool); 1] = [("CASE 1 0 0\nL 1\n", true)];
 
-/// Where one person can have the one seat.
+/// Logs for one person and one seat.
 const ONE_SEAT: [(&str, bool); 1] = [("CASE 1 0 0\nL 1\n", false)];
 
-/// Where the trip is possible.
+/// Logs for a trip that is possible.
 const POSSIBLE: [(&str, bool); 2] = [
     (
         "CASE 1 0 0\nF 0 480\nA 1 500\nA 2 532\nA 3 574\nW 3\n",

@@ -11,7 +11,7 @@ const SEED: u64 = 37_125;
 
 const FILES: u32 = 3_000;
 
-/// How often each answer has to come, so that the comparison says something of it.
+/// How often each answer has to occur, so that the comparison tests it.
 const OFTEN: u32 = 20;
 
 /// The answers: 11 kinds admitted, 16 reasons to turn away, 4 standings, 4 of suspension.
@@ -35,7 +35,7 @@ enum Kind {
 }
 
 impl Kind {
-    /// What is counted where an entry of the kind is admitted.
+    /// The name under which an admitted entry of the kind is counted.
     fn name(self) -> &'static str {
         match self {
             Kind::Complete => "complete",
@@ -56,7 +56,7 @@ impl Kind {
 /// The kinds that decide an appeal.
 const DECISIONS: [Kind; 3] = [Kind::AppealGranted, Kind::AppealDenied, Kind::Overturn];
 
-/// What an orderly file may have in turn.
+/// A possible order of entries in a regular file.
 const STORY: [Kind; 14] = [
     Kind::Complete,
     Kind::Refuse,
@@ -112,7 +112,7 @@ fn is_presumed(file: &[Plain], today: u32) -> bool {
     places.any(|(place, entry)| is_unanswered(file, place) && today.saturating_sub(entry.day) >= 21)
 }
 
-/// Whether a hearing 30 days ago or earlier stands after the place.
+/// Whether a hearing 30 days ago or earlier comes after the place.
 fn is_heard_by(file: &[Plain], place: usize, today: u32) -> bool {
     let mut later = file.iter().skip(place);
     later.any(|entry| entry.kind == Kind::Heard && today.saturating_sub(entry.day) >= 30)
@@ -126,7 +126,7 @@ fn is_overdue(file: &[Plain], today: u32) -> bool {
     })
 }
 
-/// The standing, and the last day of what is granted.
+/// The standing, and the last day of the grant.
 fn plain_standing(file: &[Plain], today: u32, day: u32) -> (&'static str, u32) {
     let grants = [Kind::Grant, Kind::AppealGranted];
     let granted = file.iter().rfind(|entry| grants.contains(&entry.kind));
@@ -212,7 +212,7 @@ fn decision_denial(file: &[Plain], decision: Plain) -> Option<&'static str> {
     denial
 }
 
-/// Whether a notice that is not used up was heard, or else was not.
+/// Whether some notice that is not used up was heard, or, if `heard` is false, was not.
 fn some_notice(file: &[Plain], heard: bool) -> bool {
     (0..file.len()).any(|place| {
         is_at(file, place, &[Kind::Notice])
@@ -232,7 +232,7 @@ fn is_term(entry: Plain) -> bool {
     entry.day < starts && starts <= ends && ends.saturating_sub(starts) <= 29
 }
 
-/// Why an entry comes out of turn, where `pattern` tells whether a pattern of missed trips stands on its day.
+/// Why an entry comes out of turn; `pattern` says whether there is a pattern of missed trips on its day.
 fn out_of_turn(file: &[Plain], pattern: bool, entry: Plain) -> Option<&'static str> {
     let waits = (0..file.len()).any(|place| is_unanswered(file, place));
     match entry.kind {
@@ -249,7 +249,7 @@ fn out_of_turn(file: &[Plain], pattern: bool, entry: Plain) -> Option<&'static s
     }
 }
 
-/// The rule that turns a rider's entry away, and why.
+/// The rule that refuses a rider's entry, and why.
 fn plain_denial(
     residence: Residence,
     file: &[Plain],
@@ -309,7 +309,7 @@ fn grant(until: u32) -> Grant {
     }
 }
 
-/// The entry that the plain numbers tell.
+/// The entry with these plain numbers.
 fn told(alloc: Global, plain: Plain) -> Result<Entry, Fail> {
     Ok(match plain.kind {
         Kind::Complete => Entry::Complete,
@@ -416,13 +416,13 @@ impl Trial {
         missed >= u32::from(self.policy.min_missed) && missed.saturating_mul(100) >= share
     }
 
-    /// The rule that turns the entry away, and why.
+    /// The rule that refuses the entry, and why.
     fn denial(&self, entry: Plain) -> Option<(Rule, &'static str)> {
         let pattern = self.is_pattern(entry.day);
         plain_denial(self.rider.kind, &self.plain, pattern, entry)
     }
 
-    /// Enters an entry, admitted or not; whether both ways judge it alike.
+    /// Enters an entry, admitted or not. Returns whether both ways judge it alike.
     fn enter(&mut self, alloc: Global, plain: Plain, seen: &mut Seen) -> Result<bool, Fail> {
         let (wanted, answer) = match self.denial(plain) {
             Some((rule, why)) => (Some(rule), why),

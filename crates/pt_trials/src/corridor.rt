@@ -42,11 +42,11 @@ fn drawn(words: &mut Pcg32) -> Trial {
     }
 }
 
-/// The parts of a segment that are searched: the nearest point of a segment lies a whole number of
-/// parts along it where there are as many parts as its length's square, at most 128 here.
+/// The most parts of a segment that are tried. If a segment has as many parts as the square of its length, here at
+/// most 128, its nearest point lies a whole number of parts along it.
 const PARTS: i64 = 128;
 
-/// Whether the point is within so many feet of the point m of n parts along the segment.
+/// Whether the point is within the trial's feet of the point m of n parts along the segment.
 fn near_part(trial: Trial, m: i64, n: i64) -> bool {
     let side = |from: i32, to: i32, at: i32| {
         let (from, to, at) = (i64::from(from), i64::from(to), i64::from(at));
@@ -62,7 +62,7 @@ fn near_part(trial: Trial, m: i64, n: i64) -> bool {
     square <= reach.wrapping_mul(reach)
 }
 
-/// Whether some m of some n does it, by trying them all.
+/// Whether the point is near for some m of some n, by trying them all.
 fn searched(trial: Trial) -> bool {
     for n in 1..PARTS + 1 {
         for m in 0..n + 1 {

@@ -1,9 +1,9 @@
 ghost use Rattle.std.specs.Prelude.{◌<◌};
 
-/// Numbers at random.
+/// Random numbers.
 #[derive(Drop)]
 pub struct Dice {
-    /// What the next throws come from.
+    /// The state from which the next throws come.
     pub state: u64,
 }
 

@@ -12,7 +12,7 @@ use pt_insertion::Asked;
 use pt_travel::Times;
 use std::alloc::Global;
 
-/// One of the places, or one beyond.
+/// One of the four places, or another one.
 #[derive(Clone, Copy)]
 pub enum Place {
     Depot,
@@ -62,7 +62,7 @@ pub fn vehicle(capacity: u16, closes: u32) -> Vehicle
     }
 }
 
-/// So many persons, none in a wheelchair.
+/// This many persons, none in a wheelchair.
 pub fn seated(persons: u16) -> Load {
     Load {
         seats: persons,

@@ -15,8 +15,8 @@ const SEED: u64 = 20_250_402;
 
 const CASES: u32 = 300;
 
-/// What the routes of some cases are like, and how often at least, of the cases, a place has to be possible, and how
-/// often none.
+/// The shape of the routes of some cases. The number is how many cases at least must have a possible place, and how
+/// many at least must have none.
 const SHAPES: [(Shape, u32); 3] = [
     (
         Shape {
@@ -83,7 +83,7 @@ fn added(with_trip: &Route, duty: &Duty<'_>) -> Option<i64> {
     Some(driving(with_trip, duty.vehicle)?.saturating_sub(without))
 }
 
-/// What putting the trip in at one place gives.
+/// The result of putting the trip in at one place.
 fn try_place(
     alloc: Global,
     duty: &Duty<'_>,
@@ -114,7 +114,7 @@ fn comes_first(found: &Found, best: &Option<Found>) -> bool {
     }
 }
 
-/// The later places of a vehicle are looked at first, so that ties are decided by the order alone.
+/// The plain search. It tries the later places of a vehicle first, so that only the order decides ties.
 fn second_way(alloc: Global, duties: &[Duty<'_>], asked: &Asked) -> Result<Option<Found>, Fail> {
     let mut best: Option<Found> = None;
     for duty in duties.iter().rev() {
@@ -196,7 +196,7 @@ fn chooses_as_the_second_way_does(rt: HostRuntime) -> Result<(), Fail> {
                 possible += 1;
             }
         }
-        // Both outcomes have to be well represented.
+        // Both outcomes must occur often.
         let often = often.min(CASES);
         assert_eq!(rt;
             often <= possible && possible <= CASES - often,

@@ -9,20 +9,20 @@ use pt_insertion::Asked;
 use std::alloc::{AllocError, Global};
 use std::test::Fail;
 
-/// What random routes are like.
+/// The shape of random routes.
 #[derive(Clone, Copy)]
 pub struct Shape {
     /// The most trips of a route.
     pub trips: u32,
-    /// How many minutes lie between two pickups.
+    /// The minutes between two pickups.
     pub apart: u32,
-    /// How many places the plain has on a side; on a small one many drives take no time, and many places tie.
+    /// The number of places on a side of the plain; on a small plain many drives take no time, and many places tie.
     pub side: u32,
-    /// One place in so many is of another plain.
+    /// One place in this many is on another plain.
     pub away: u32,
 }
 
-/// A place of a plain with so many places on a side, and one time in `away` of another plain.
+/// A place of a plain with `side` places on a side; one time in `away` it is on another plain.
 pub fn place(dice: &mut Dice, side: u32, away: u32) -> PlaceId {
     let plain = if dice.throw(away.max(1)) == 0 {
         1_000_000

@@ -14,7 +14,7 @@ use std::test::Fail;
 
 const SEED: u64 = 20_261_122;
 
-/// How many refusals are looked at.
+/// The number of refusals to try.
 const REFUSALS: u32 = 300;
 
 const SHAPE: Shape = Shape {
@@ -39,7 +39,7 @@ fn refusal(alloc: Global, duties: &[Duty<'_>], asked: &Asked) -> Result<Option<L
     }
 }
 
-/// Whether `check` says what the plain evaluation says.
+/// Whether `check` agrees with the plain evaluation.
 fn agrees(alloc: Global, log: &Log, duties: &[Duty<'_>], asked: &Asked) -> Result<bool, Fail> {
     let right = plain::is_right(alloc, log.lines.as_slice(), duties, asked)?;
     Ok(is_right(log, duties, asked)? == right)
@@ -79,7 +79,7 @@ fn raised(alloc: Global, log: &Log, place: usize) -> Result<Log, AllocError> {
     Ok(Log { lines })
 }
 
-/// Where the second case begins; the end where there is none.
+/// Where the second case begins; the end if there is none.
 fn second_case(lines: &[Line]) -> usize
     ensures { result ≤ length lines.now }
 {
@@ -106,7 +106,7 @@ fn exchanged(alloc: Global, log: &Log) -> Result<Log, AllocError> {
     Ok(Log { lines })
 }
 
-/// Whether the log is right, and changed ones are judged as the plain evaluation judges them.
+/// Whether the log is right, and `check` judges changed logs as the plain evaluation does.
 fn holds(
     alloc: Global,
     dice: &mut Dice,
@@ -124,7 +124,7 @@ fn holds(
     )
 }
 
-/// Whether a random trip is refused in two random routes and, if it is, whether logs of that hold.
+/// `None` if a random trip has a place in two random routes; else whether the logs of its refusal hold.
 fn try_refusal(alloc: Global, dice: &mut Dice) -> Result<Option<bool>, Fail> {
     let (one, other) = (vehicle(dice, 1), vehicle(dice, 2));
     let first = route(alloc, dice, SHAPE, 1)?;

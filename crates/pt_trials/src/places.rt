@@ -12,7 +12,7 @@ use std::alloc::Global;
 use std::process::Abort;
 use std::test::Fail;
 
-/// The route with the trip at the chosen place, where it may be put there.
+/// The route with the trip at the chosen place, if it may be put there.
 fn insert(alloc: Global, route: &Route, asked: &Asked, chosen: &Chosen) -> Result<Route, Fail> {
     if route.len() > MAX_STOPS - 2
         || chosen.j > route.len()

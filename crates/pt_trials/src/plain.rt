@@ -1,4 +1,4 @@
-//! Whether a log is right, looked at plainly: each case's list of stops is made anew, and all numbers are wide.
+//! A plain check of a log: it builds each case's list of stops anew, and uses wide numbers.
 use crate::times::Plain;
 use pt_audit::{End, Line, Raise, Visit};
 use pt_base::Vehicle;
@@ -27,7 +27,7 @@ pub fn is_right(
     Ok(at == lines.len())
 }
 
-/// Where the cases of a vehicle end whose first line is at `begin`, if they are right.
+/// The end of a vehicle's cases whose first line is at `begin`, if they are right.
 fn duty_end(
     alloc: Global,
     lines: &[Line],
@@ -104,7 +104,7 @@ struct Tour<'a> {
     pub visits: &'a [Visit],
 }
 
-/// Where the case ends whose steps begin at `begin`, if it is right.
+/// The end of the case whose steps begin at `begin`, if it is right.
 fn case_end(
     alloc: Global,
     lines: &[Line],
@@ -122,7 +122,7 @@ fn case_end(
     Ok(steps_end(lines, begin, tour, &mut bounds))
 }
 
-/// Where the steps that begin at `begin` come to an end, if they are right.
+/// The end of the steps that begin at `begin`, if they are right.
 fn steps_end(lines: &[Line], begin: usize, tour: Tour<'_>, bounds: &mut Vec<u64>) -> Option<usize> {
     for place in begin..lines.len() {
         match lines[place] {
@@ -175,7 +175,7 @@ fn raises(tour: Tour<'_>, bounds: &[u64], raise: Raise) -> bool {
     }
 }
 
-/// When the vehicle comes to a visit from the one before; `None` where none is before, or no way.
+/// When the vehicle arrives at a visit from the one before; `None` if there is none before, or no way.
 fn arrival(tour: Tour<'_>, bounds: &[u64], k: usize) -> Option<u64> {
     if k == 0 || k >= tour.visits.len() {
         return None;
@@ -186,7 +186,7 @@ fn arrival(tour: Tour<'_>, bounds: &[u64], k: usize) -> Option<u64> {
     Some(leaves.saturating_add(u64::from(drive)))
 }
 
-/// Whether visit `k` is a pickup that is not before a minute, by the bound of its drop.
+/// Whether visit `k` is a pickup that cannot begin before a minute, by the bound of its drop.
 fn is_ride(stops: &[Stop], bounds: &[u64], k: usize, minute: u64) -> bool {
     if k == 0 || k > stops.len() || stops[k - 1].kind != StopKind::Pickup {
         return false;

@@ -18,7 +18,7 @@ use std::marker::Brand;
 use std::sync::ledger::{Blank, Ledger};
 use std::test::Fail;
 
-/// A vehicle of four seats that is on the way for so long at most.
+/// A vehicle of four seats with this route duration.
 fn lasting(duration: u16, closes: u32) -> Vehicle
     requires duration { IsInRange 1 1_439 duration }
     requires closes { IsInRange 480 last_minute closes }
@@ -161,7 +161,7 @@ fn leave(stops: &mut Vec<Stop>, first: u32, end: u32) -> Result<(), AllocError>
     Ok(())
 }
 
-/// A route on which so many come aboard before the first of them leaves, and so many after it.
+/// A route on which `before` persons come aboard before the first of them leaves, and `after` persons after it.
 fn shared(alloc: Global, before: u32, after: u32) -> Result<Vec<Stop>, AllocError> {
     let (end, later_end) = (before.saturating_add(1), after.saturating_add(10));
     let mut stops = Vec::new(alloc);

@@ -76,7 +76,7 @@ fn stops(alloc: Global, dice: &mut Dice) -> Result<Vec<Stop>, AllocError> {
     Ok(stops)
 }
 
-/// One visit of the second way: the minutes of the drive to it, where there is a way; from when to when; how long.
+/// A visit of the second way: the minutes of the drive to it, if there is a way; its window; its service.
 #[derive(Clone, Copy)]
 struct Visit {
     pub drive: Option<u16>,
@@ -85,7 +85,7 @@ struct Visit {
     pub service: u32,
 }
 
-/// One ride: which visits it begins and ends with, and its most minutes with the service at its begin.
+/// A ride: the visits where it begins and ends, and its most minutes, the service at its beginning included.
 #[derive(Clone, Copy)]
 struct Ride {
     pub pickup: usize,
@@ -135,7 +135,7 @@ fn rides(alloc: Global, stops: &[Stop]) -> Result<Vec<Ride>, AllocError> {
     Ok(rides)
 }
 
-/// Raises the bound at a place to a number; whether it was lower.
+/// Raises the bound at a place to a number. Returns whether it was lower.
 fn raise(bounds: &mut Vec<u32>, k: usize, number: u32) -> bool {
     let Some(bound) = bounds.get_mut(k) else {
         return false;
@@ -151,7 +151,7 @@ fn bound(bounds: &[u32], k: usize) -> u32 {
     bounds.get(k).copied().unwrap_or(0)
 }
 
-/// Raises the bounds as far as the drives ask; `None` where there is no way.
+/// Raises the bounds as far as the drives require. Returns whether one rose; `None` if there is no way.
 fn raise_by_drives(bounds: &mut Vec<u32>, visits: &[Visit]) -> Option<bool> {
     let mut raised = false;
     for k in 1..visits.len() {
@@ -164,7 +164,7 @@ fn raise_by_drives(bounds: &mut Vec<u32>, visits: &[Visit]) -> Option<bool> {
     Some(raised)
 }
 
-/// Raises the bounds as far as the rides and the duration ask.
+/// Raises the bounds as far as the rides and the duration require. Returns whether one rose.
 fn raise_by_rides(bounds: &mut Vec<u32>, rides: &[Ride], duration: u32) -> bool {
     let mut raised = false;
     for ride in rides {
@@ -175,7 +175,7 @@ fn raise_by_rides(bounds: &mut Vec<u32>, rides: &[Ride], duration: u32) -> bool 
     raised | raise(bounds, 0, back.saturating_sub(duration))
 }
 
-/// Raises all bounds again and again, each in any order that comes; whether they come to rest, each within its window.
+/// Raises all bounds again and again. Returns whether they come to rest, each within its window.
 fn come_to_rest(bounds: &mut Vec<u32>, visits: &[Visit], rides: &[Ride], duration: u32) -> bool {
     for _ in 0..100_000 {
         let Some(driven) = raise_by_drives(bounds, visits) else {
@@ -251,7 +251,7 @@ fn settles_as_the_second_way_does(rt: HostRuntime) -> Result<(), Fail> {
             fitting += 1;
         }
     }
-    // Both outcomes have to be well represented.
+    // Both outcomes must occur often.
     assert_eq!(rt; fitting > 100 && fitting < 400, true, "{fitting} fit");
     Ok(())
 }

@@ -4,7 +4,7 @@ ghost use Rattle.pt_feasible.specs.Plain.{plain_minutes, plain-stays, plain-with
 use pt_base::PlaceId;
 use pt_travel::Times;
 
-/// Driving times between places that are told by their numbers, whose last six digits are three east and three north.
+/// Driving times between places by their numbers, whose last six digits are three east and three north.
 pub struct Plain;
 
 impl Times for Plain {

@@ -27,7 +27,7 @@ fn are_rising(uses: &[Day]) -> bool
     true
 }
 
-/// The least day of the uses and the day from the bound on.
+/// The first day, from the bound on, among the uses and the day itself.
 fn least_from(uses: &[Day], day: Day, bound: u32) -> u32 {
     let mut least = u32::MAX;
     for used in uses {

@@ -9,7 +9,7 @@ use pt_insertion_log::explain;
 use std::io::{ErrorKind, Write};
 use std::test::Fail;
 
-/// Explains where nothing is possible.
+/// Writes the log of a trip that has no place.
 fn refuse<W: Write>(
     duties: &[Duty<'_>],
     asked: &Asked,

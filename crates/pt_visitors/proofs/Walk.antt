@@ -173,7 +173,7 @@ walk_step uses day index opening others opening' others' counted rising w fits o
 pub ord_min-min : (a b : ℕ) → ord_min nat_cmp a b ≡ min a b
 ord_min-min a b = grind (arith, nat_tests)
 
--- the period of the day opens with this day, and so many of the uses lie in it
+-- the period of the day opens with this day, and this many of the uses lie in it
 pub record IsCounted (uses : List ℕ) (day opening others : ℕ) : Type 0 where
   pub opens : IsOpening (days_with uses day) opening
   pub begun : opening ≤ day

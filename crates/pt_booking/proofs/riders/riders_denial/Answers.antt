@@ -1,4 +1,4 @@
--- Each test of the list decides the rule beside it.
+-- Each test of the list decides its rule.
 use Rattle.std.proofs.Common.{◌≡◌, ◌↔◌, Bool, true, false, IsTrue, not, List, [], ◌∷◌, refl, sym, subst, ◌∙◌}
 use Rattle.std.proofs.lemmas.Bool.{false≢true}
 use Rattle.pt_base.specs.declared.rule.Rule.{Rule}

@@ -8,7 +8,7 @@ use Rattle.pt_feasible.specs.Stop.{is_pickup, is_drop, takes_aboard, lets_leave}
 use Rattle.pt_feasible.proofs.LoadLemmas.{load_aboard-pickup, load_aboard-drop}
 use Rattle.pt_feasible.proofs.loads.aboard_after.Goals as goal
 
--- there is no value where what asks for one does not hold
+-- the result is `None` if the condition for a value does not hold
 none_where : {A : Type 0} {P : Type 0} (o : Option A) → (P → IsSome o) → IfNone o (¬ P)
 none_where None asks = λ holds. false≢true (asks holds)
 none_where (Some x) asks = tt

@@ -1,4 +1,4 @@
--- The drives are those from and to the neighbours.
+-- The drives are those from and to the neighboring visits.
 use Rattle.std.proofs.Common.{arith}
 use Rattle.pt_feasible.specs.Route.{stops_of}
 use Rattle.pt_insertion.proofs.DetourLemmas.{detour_of}

@@ -1,4 +1,4 @@
--- The loop copies the stops of other trips, which are a route since they are in pairs and no more than there were.
+-- The loop copies the stops of other trips. They are a route, since they are in pairs and their number has not grown.
 use Rattle.std.proofs.Common.{◌≡◌, ℕ, ◌+◌, ◌≤◌, Bool, true, false, not, ◌==◌, ◌&&◌, refl, List, [], ◌∷◌, ◌++◌, Some, length, take, slice_get, ap, sym, subst, ◌∙◌, arith, rules}
 use Rattle.std.proofs.lemmas.List.{take_all}
 use Rattle.std.proofs.lemmas.List.Elements.{filter_more}
@@ -15,7 +15,7 @@ use Rattle.pt_insertion.proofs.RemovalLoads.{loads_stay}
 use Rattle.pt_insertion.proofs.edits.RouteRouteEdits.removed.Goals as goal
 use Rattle.pt_insertion.proofs.edits.RouteRouteEdits.removed.Goals.{then-ne, else-ne}
 
--- one more stop of another trip is kept
+-- one more stop of another trip is copied
 kept_more : (trip : ℕ) (old new ys : List Stop) (k : ℕ) (y : Stop) → slice_get ys k ≡ Some y → is_of_another trip y ≡ true →
     new ≡ old ++ y ∷ [] → old ≡ without_trip trip (take k ys) → new ≡ without_trip trip (take (k + 1) ys)
 kept_more trip old new ys k y e other pushed same =
@@ -59,7 +59,7 @@ loop-k-preserved c =
       }
     ]
 
--- all stops were looked at
+-- the loop has read all stops
 kept_all : (trip : ℕ) (xs ys : List Stop) (k : ℕ) → xs ≡ without_trip trip (take k ys) → length ys ≤ k → xs ≡ without_trip trip ys
 kept_all trip xs ys k same past = same ∙ ap (without_trip trip) (take_all k ys past)
 
