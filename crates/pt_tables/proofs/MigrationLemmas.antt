@@ -1,4 +1,4 @@
--- The tables of the first version as a transaction makes them those of this one, and what a crash leaves of it.
+-- The tables of the first version as a transaction changes them into the current ones, and what a crash leaves.
 use Rattle.std.proofs.Common.{◌≡◌, List, [], ◌∷◌, ◌++◌, not, map, flat_map, IsPermutation, IsTrue, true, false, refl, sym, ap, subst, ◌∙◌, arith}
 use Rattle.sqlite.specs.Store.{Ghosts}
 use Rattle.sqlite.specs.Held.{Held, state}
@@ -25,7 +25,7 @@ use Rattle.pt_tables_rows.specs.Tables.{AddsChairs, AreRows, HasFirstRows, HasRo
 use Rattle.pt_tables_writing.specs.Writes.{Rewrites, RaisesVersion}
 use Rattle.pt_tables_writing.proofs.RaiseWrites.{row_holds}
 
--- where none is marked none has a row
+-- if no rider is marked, none has a row
 no_riders : (riders : List Rider) → Each (λ rider. rider.wheelchair ≡ false) riders → flat_map rider_chair_rows riders ≡ []
 no_riders [] none = refl
 no_riders (x ∷ xs) none = ap (λ s. row_if s (number_value x.id ∷ []) ++ flat_map rider_chair_rows xs) none.0 ∙ no_riders xs none.1
@@ -39,7 +39,7 @@ no_trips : (trips : List Trip) → Each (λ trip. trip.wheelchair ≡ false) tri
 no_trips [] none = refl
 no_trips (x ∷ xs) none = ap (λ s. row_if s (number_value x.id ∷ []) ++ flat_map trip_chair_rows xs) none.0 ∙ no_trips xs none.1
 
--- a table with the rows that it had has the rows of the same records
+-- a table that keeps its rows has the rows of the same records
 still : (t : Table) (old new : Trees) (rows : List Row) → new t.tree ≡ old t.tree → AreRows t old rows → AreRows t new rows
 still t old new rows same are = subst (λ rs. IsPermutation (map (columns_of t) rs) rows) (sym same) are
 
@@ -117,7 +117,7 @@ module _ {S : Type 0} (g : Ghosts S) (old begun one two : Held S) (is : begun �
     desk = λ has. subst (λ (d : Database). IsMigratedDesk (state g old) d.trees) (sym shows.now_is) (desk_there clean has);
   }
 
-  -- a crash leaves what stood before, or these rows
+  -- a crash leaves what was there before, or these rows
   pub survive : (end : Connected) → Survives (state g two) end (λ db. db ≡ (state g two).now.trees)
       → Survives (state g old) end (λ db. (state g old).now.schema ≡ first_schema → IsMigratedDesk (state g old) db)
   survive end last =

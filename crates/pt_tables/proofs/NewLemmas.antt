@@ -1,4 +1,4 @@
--- The tables of a new desk, what a crash leaves of their making, and what an opening after it finds.
+-- The tables of a new desk, what a crash during their creation leaves, and what an opening after it finds.
 use Rattle.std.proofs.Common.{◌≡◌, inl, inr, ℕ, List, IsTrue, false, refl, sym, ap, subst, ◌∙◌, true, arith}
 use Rattle.sqlite.specs.Effect.{Database, IsDatabase}
 use Rattle.sqlite.specs.Tree.{Trees}
@@ -111,7 +111,7 @@ module _ {S : Type 0} (g : Ghosts S) (old begun one two three : Held S) (policy 
   pub tables_kept : (end : Connected) → HasCleanDisk (state g three) → Shows (state g three) end (state g three).now (state g three).now false → IsDeskDatabase end.committed.trees
   tables_kept end clean shows = subst (λ (d : Database). IsDeskDatabase d.trees) (sym shows.committed_is) (desk_there clean)
 
-  -- a crash leaves what stood before, or these rows
+  -- a crash leaves what was there before, or these rows
   pub survive : (end : Connected) → Survives (state g three) end (λ db. db ≡ (state g three).now.trees) → Survives (state g old) end (IsNewDesk policy digest)
   survive end last =
       let inside = survives_then (state g begun) (state g one) (state g two) (λ _. ⊥) (λ _. ⊥) (λ _. ⊥) (λ _ db nothing. nothing) (λ _ db nothing. nothing) made_survives desk_survives in

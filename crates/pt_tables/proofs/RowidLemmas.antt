@@ -1,4 +1,4 @@
--- Where a store is not broken, the rowids of the tables that it lists are integers that rise.
+-- If a store is not broken, the rowids of the tables that it lists are integers in ascending order.
 use Rattle.std.proofs.Common.{◌≡◌, false, IsTrue, List, [], ◌∷◌, refl, sym, ap, subst, ◌∙◌}
 use Rattle.std.specs.List.{AllByRecursion}
 use Rattle.sqlite.specs.State.{State as Connected, IsLive, Opens}

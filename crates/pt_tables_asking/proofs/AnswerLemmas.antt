@@ -17,7 +17,7 @@ use Rattle.pt_tables_asking.proofs.OrderedLemmas.{IsCounted, IsPaired, count_le,
 
 -- ---- orders
 
--- rows in the order of so many columns are those of the records in the order of their keys
+-- rows in the order of this many columns are those of the records in the order of their keys
 abbrev pub Keeps : {A : Type 0} → ℕ → (A → ℕ) → (A → Row) → (A → Type 0) → Type 0
 Keeps {A} columns key row_of Fits = (rows : List Row) → AreInOrder columns rows → (xs : List A) → Each Fits xs → IsInOrder key xs → IsPermutation (map row_of xs) rows → map row_of xs ≡ rows
 

@@ -1,4 +1,4 @@
--- What a query answers that asks a table for the rows that pass a test, in the order of its first columns.
+-- The answer to a query for the rows of a table that pass a test, in the order of its first columns.
 use Rattle.std.proofs.Common.{◌≡◌, ◌+◌, ◌<◌, zero, suc, ℕ, pos, negsuc, List, [], ◌∷◌, map, filter, flat_map, get_or, length, Bool, true, false, cond, None, refl, sym, ap, ap₂, subst, ◌∙◌, arith}
 use Rattle.std.specs.Prelude.{IsPermutation, IsSorted, replicate}
 use Rattle.std.specs.List.{AllByRecursion, list_all}
@@ -40,17 +40,17 @@ where_query tree tests fields order = record {
   offset = lit (Int (pos 0));
 }
 
--- so many columns, each ascending
+-- this many columns, each ascending
 abbrev pub keys_of : ℕ → List Key
 keys_of columns = replicate columns (ascending Binary)
 
--- the same in so many columns, from one on
+-- the same in this many columns, from one on
 abbrev pub AreAlike : ℕ → ℕ → Row → Row → Type 0
 AreAlike at zero one other = Unit {0}
 AreAlike at (suc n) one other = (column one at ≡ column other at) × AreAlike (suc at) n one other
 
--- The text with these parameters asks for the rows of the table that pass, with all their columns, in the order of the
--- first so many, where the tables have this schema.
+-- The query with these parameters asks for the rows of the table that pass, with all their columns, in the order of
+-- this many first columns. The tables have this schema.
 pub record AsksForIn (schema : Schema) (columns : ℕ) (table : Table) (text : List ℕ) (params : Row) (passes : Row → Bool) : Type 0 where
   pub tests : List Term
   pub fields : List Term

@@ -78,7 +78,7 @@ riders_keyed x y same = ap (number_in 0) same
 pub trips_keyed : (x y : Trip) → trip_row x ≡ trip_row y → trip_key x ≡ trip_key y
 trips_keyed x y same = ap (number_in 0) same
 
--- a row and a mark tell them
+-- a row and a mark determine them
 riders_told : (x y : Rider) → rider_row x ≡ rider_row y → record x { wheelchair = has_row (rider_chair_rows y) } ≡ y
 riders_told x y same =
     rider-told (record x { wheelchair = has_row (rider_chair_rows y) }) y same

@@ -20,7 +20,7 @@ use Rattle.pt_tables_rows.specs.Tables.{IsWellFormed}
 use Rattle.pt_tables_asking.specs.Plans.{HasVersionAmong, vehicle_ids}
 use Rattle.pt_tables_asking.proofs.StopLemmas.{day_low, filter_alike, filter_found, same_key}
 
--- ---- two tests, where what passes the one stands before what passes the other
+-- ---- two tests, where all that passes the first comes before all that passes the second
 
 module _ {A : Type 0} (key : A → ℕ) (P Q : A → Bool) (apart : (x y : A) → P x ≡ true → Q y ≡ true → key x < key y) where
   none_later : (x : A) → Q x ≡ true → (xs : List A) → Each (λ y. key x < key y) xs → AllByRecursion (λ y. P y ≡ false) xs
@@ -81,7 +81,7 @@ above_any n id (m ∷ ids) above is = go (m == id) refl (above_any n id ids abov
     go false so rest is = rest is
 
 module _ (day : ℕ) (low : day < 4_294_967_296) (planned : List Plan) (order : IsInOrder plan_key planned) (fits : Each FitsPlan planned) where
-  -- the plans of the vehicles with these numbers, which rise
+  -- the plans of the vehicles with these numbers, which ascend
   pub plans_are : (ids : List ℕ) → IsInOrder (λ n. n) ids → plans_of day planned ids ≡ filter (λ plan. plan.day == day && has_id ids plan.vehicle) planned
   plans_are [] rise = sym (filter_none (λ plan. plan.day == day && false) planned (none planned))
     where
@@ -152,7 +152,7 @@ above_all id day (version ∷ later) above low none =
     go true rest = rest
     go false rest = (here (not_later id version later none).0, rest)
 
--- the numbers of vehicles in the order of their versions rise
+-- the numbers of vehicles in the order of their versions ascend
 pub ids_rise : (vehicles : List Vehicle) → IsInOrder vehicle_key vehicles → Each (λ (v : Vehicle). v.from_day < 4_294_967_296) vehicles → IsInOrder (λ n. n) (vehicle_ids vehicles)
 ids_rise [] order low = tt
 ids_rise (version ∷ later) order low = go (has_version version.id later) refl (ids_rise later order.1 low.1)

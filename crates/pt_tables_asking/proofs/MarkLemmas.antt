@@ -214,7 +214,7 @@ module _ {A : Type 0} (key : A → ℕ) where
   )
 
 module _ {A : Type 0} (key : A → ℕ) (rows_of : A → List Row) (are : (x : A) → IsMark (key x) (rows_of x)) (marked : A → Bool → A) (all : List A) (order : IsInOrder key all) where
-  -- the marks between the first and the last of the records tell of each
+  -- the marks between the first record and the last have the mark of each
   pub marks_tell : (known : List A) → IsInOrder key known → (first last : ℕ) → slice_get (map key known) 0 ≡ Some first → slice_get (map key known) (length known - 1) ≡ Some last → (ms : List Mark)
       → ms ≡ marks_of key rows_of are (within key (record { from = first; to = last }) all)
       → map (λ x. marked x (has_mark ms (key x))) known ≡ map (marked_in key rows_of marked all) known
@@ -230,7 +230,7 @@ module _ {A : Type 0} (key : A → ℕ) (rows_of : A → List Row) (are : (x : A
       ∙ ap (is_marked rows_of) (record_at-within key span (key x) inside all)))
       known (each_key key (λ n. is_within n span ≡ true) known held))
 
-  -- the marks with one number tell of the record that has it
+  -- the marks with one number have the mark of the record with that number
   pub own_marks_tell : (n : ℕ) (ms : List Mark) → ms ≡ marks_of key rows_of are (within key (record { from = n; to = n }) all) → has_mark ms n ≡ is_marked rows_of (record_at key n all)
   own_marks_tell n ms these =
       let span : Span = record { from = n; to = n } in
@@ -258,7 +258,7 @@ marks_still key rows_of text all old mid committed rests clean has here =
 -- ---- records by their rows and their marks
 
 module _ {A : Type 0} (key : A → ℕ) (row_of : A → Row) (keyed : (x y : A) → row_of x ≡ row_of y → key x ≡ key y) where
-  -- records with the rows of others that stand in order do so too
+  -- records with the rows of others that are in order are in order too
   pub in_order_by_rows : (xs ys : List A) → map row_of xs ≡ map row_of ys → IsInOrder key ys → IsInOrder key xs
   in_order_by_rows xs ys same order = in_order_by_keys key xs (subst (IsInOrder (λ n. n)) (sym (told_by_rows row_of key keyed xs ys same)) (keys_in_order key ys order))
 
@@ -287,7 +287,7 @@ same_marks xs ys same = same_by_both mark_row mark_row (λ x y one other. mark-t
 
 -- ---- records marked in turn
 
--- the first so many changed
+-- this many first records changed
 abbrev pub first_changed : {A : Type 0} → (A → A) → ℕ → List A → List A
 first_changed f zero xs = xs
 first_changed f (suc n) [] = []

@@ -27,7 +27,7 @@ use Rattle.pt_tables_rows.proofs.ColumnLemmas.{number_in}
 abbrev pub triple_key : Row → ℕ
 triple_key row = pair_key (pair_key (number_in 0 row) (number_in 1 row)) (number_in 2 row)
 
--- the first three columns are numbers, the later two of 32 bits
+-- the first three columns are numbers, and the second and third have 32 bits
 pub record IsNumbered (row : Row) : Type 0 where
   pub first : column row 0 ≡ number_value (number_in 0 row)
   pub second : column row 1 ≡ number_value (number_in 1 row)
@@ -129,7 +129,7 @@ place_le m n a b one other h =
     let tied : ordering_then (nat_cmp m m) (ordering_then (nat_cmp n n) last) ≡ last = ap₂ (λ c d. ordering_then c (ordering_then d last)) (cmp-same m m refl) (cmp-same n n refl) in
     not_last (number_in 2 b) (number_in 2 a) (sym (ap is_lt (same ∙ tied)) ∙ h)
 
--- ---- keys that rise, or stay
+-- ---- keys that ascend, or stay equal
 
 module _ {R : Type 0} (key : R → ℕ) where
   abbrev AreRising : List R → Type 0
@@ -201,7 +201,7 @@ module _ {R : Type 0} (key : R → ℕ) where
       let most = one (key x) in
       (each_apart x xs rising.0 (none_there (key x) xs (omega arith)), apart xs rising.1 (λ k. let few = fewer k x xs in let all = one k in omega arith))
 
-  -- what rises and has the elements of a list in order is that list
+  -- a list that ascends and has the elements of an ordered list is that list
   pub in_that_order : (xs ys : List R) → IsInOrder key xs → AreRising ys → IsPermutation xs ys → xs ≡ ys
   in_that_order xs ys order rising same =
       in_one_order key xs ys order
@@ -213,7 +213,7 @@ all_of P [] each = tt
 all_of P (row ∷ rows) each = (each.0, all_of P rows each.1)
 
 module _ (columns : ℕ) (row_key : Row → ℕ) (Is : Row → Type 0) (le : (a b : Row) → Is a → Is b → is_lt (key_cmp 0 (keys_of columns) b a) ≡ false → row_key a ≤ row_key b) where
-  -- rows in order have keys that rise
+  -- rows in order have ascending keys
   rows_rise : (rows : List Row) → AllByRecursion Is rows → AreInOrder columns rows → AreRising row_key rows
   rows_rise rows all ordered =
       steps_rising row_key [] rows
@@ -228,7 +228,7 @@ module _ (columns : ℕ) (row_key : Row → ℕ) (Is : Row → Type 0) (le : (a 
   same_order known rows order each same ordered =
       in_that_order row_key known rows order (rows_rise rows (all-permutation Is known rows same (all_of Is known each)) ordered) same
 
-  -- records of one row each, whose keys their rows tell
+  -- records of one row each, whose rows have their keys
   module _ {A : Type 0} (key : A → ℕ) (row_of : A → Row) (Fits : A → Type 0) (is : (x : A) → Fits x → Is (row_of x)) (keyed : (x : A) → row_key (row_of x) ≡ key x) where
     above : (x : A) (xs : List A) → Each (λ y. key x < key y) xs → Each (λ row. row_key (row_of x) < row_key row) (map row_of xs)
     above x [] each = tt
@@ -242,6 +242,6 @@ module _ (columns : ℕ) (row_key : Row → ℕ) (Is : Row → Type 0) (le : (a 
     each_is [] each = tt
     each_is (x ∷ xs) each = (is x each.0, each_is xs each.1)
 
-    -- records in the order of their keys that have these rows in some order have them in this one
+    -- if records in the order of their keys have these rows in some order, they have them in this order
     pub keeps_order : (rows : List Row) → AreInOrder columns rows → (xs : List A) → Each Fits xs → IsInOrder key xs → IsPermutation (map row_of xs) rows → map row_of xs ≡ rows
     keeps_order rows ordered xs each order same = same_order (map row_of xs) rows (told_order xs order) (each_is xs each) same ordered

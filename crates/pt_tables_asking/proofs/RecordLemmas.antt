@@ -1,4 +1,4 @@
--- Records by their rows: those that have the rows of others, and whether they stand in the order of their keys.
+-- Records by their rows: those that have the rows of others, and whether they are in the order of their keys.
 use Rattle.std.proofs.Common.{◌≡◌, ◌<◌, ◌+◌, ◌↔◌, zero, suc, ℕ, Bool, true, false, IsTrue, List, [], ◌∷◌, length, map, drop, get_or, refl, sym, ap, ap₂, subst, arith}
 use Rattle.std.specs.Prelude.{nat_lt}
 use Rattle.std.specs.List.{IsAllAdjacentAnswer}
@@ -10,7 +10,7 @@ use Rattle.pt_tables_rows.proofs.SameRowsLists.{steps-in_order}
 
 -- ---- rows
 
--- where no record has a row, no records have all rows
+-- if no record has one of the rows, no records have all rows
 pub no_records : {A : Type 0} (row_of : A → Row) (Fits : A → Type 0) (row : Row) → ((x : A) → Fits x → row_of x ≡ row → ⊥) → (rows : List Row) (i : ℕ)
     → i < length rows → row ≡ get_or rows i row → (xs : List A) → Each Fits xs → map row_of xs ≡ rows → ⊥
 no_records {A} row_of Fits row none rows i low at xs each same = go xs i each (subst (λ l. i < length l) (sym same) low) (subst (λ l. row ≡ get_or l i row) (sym same) at)
@@ -32,7 +32,7 @@ same_records row_of Fits apart (x ∷ xs) [] one other same = absurd (cc)
 same_records row_of Fits apart (x ∷ xs) (y ∷ ys) one other same =
     ap₂ ◌∷◌ (apart x y one.0 other.0 (first_row row_of x xs y ys same)) (same_records row_of Fits apart xs ys one.1 other.1 (ap (drop 1) same))
 
--- or if two things tell them apart
+-- or if two things together determine each
 pub same_by_both : {A B C : Type 0} (f : A → B) (g : A → C) (apart : (x y : A) → f x ≡ f y → g x ≡ g y → x ≡ y)
     (xs ys : List A) → map f xs ≡ map f ys → map g xs ≡ map g ys → xs ≡ ys
 same_by_both f g apart [] [] one other = refl
@@ -41,7 +41,7 @@ same_by_both f g apart (x ∷ xs) [] one other = absurd (cc)
 same_by_both f g apart (x ∷ xs) (y ∷ ys) one other =
     ap₂ ◌∷◌ (apart x y (first_row f x xs y ys one) (first_row g x xs y ys other)) (same_by_both f g apart xs ys (ap (drop 1) one) (ap (drop 1) other))
 
--- what rows tell is the same of records with the same rows
+-- what rows determine is the same for records with the same rows
 pub told_by_rows : {A B C : Type 0} (row_of : A → B) (f : A → C) → ((x y : A) → row_of x ≡ row_of y → f x ≡ f y) → (xs ys : List A) → map row_of xs ≡ map row_of ys → map f xs ≡ map f ys
 told_by_rows row_of f tells [] [] same = refl
 told_by_rows row_of f tells [] (y ∷ ys) same = absurd (cc)
@@ -56,7 +56,7 @@ before a b is = grind (arith, nat_tests)
 not_before : (a b : ℕ) → false ≡ nat_lt a b → a < b → ⊥
 not_before a b is low = grind (arith, nat_tests)
 
--- the test that each key is below the next tells whether the records stand in the order of their keys
+-- the test that each key is below the next shows whether the records are in the order of their keys
 pub rising : {A : Type 0} (key : A → ℕ) (xs : List A) (r : Bool) → IsAllAdjacentAnswer (λ x y b. b ≡ nat_lt (key x) (key y)) xs r → IsTrue r ↔ IsInOrder key xs
 rising key [] true h = (λ is. tt, λ order. refl)
 rising key (x ∷ xs) true h = (λ is. steps-in_order key x (x ∷ xs) (λ k inside. before _ _ (h k x inside)), λ order. refl)

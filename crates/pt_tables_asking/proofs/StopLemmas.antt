@@ -1,4 +1,4 @@
--- The stops of a vehicle on a day, as a text asks for them, and the plan that they tell.
+-- The stops of a vehicle on a day, as a query returns them, and their plan.
 use Rattle.std.proofs.Common.{◌≡◌, ◌+◌, ◌++◌, ◌<◌, ◌≤◌, ◌==◌, ◌&&◌, ◌^◌, ℕ, Bool, true, false, IsTrue, cond, List, [], ◌∷◌, length, map, filter, flat_map, slice_get, Option, None, Some, append-nil, refl, sym, ap, ap₂, subst, ◌∙◌, arith}
 use Rattle.std.specs.Prelude.{IsPermutation}
 use Rattle.std.specs.List.{AllByRecursion}
@@ -65,7 +65,7 @@ day_low plan fits = let top = fits.day.1 in omega arith
 
 -- ---- stops at their places
 
--- the stops of a vehicle on a day, each at its place, counted up from this number
+-- the stops of a vehicle on a day, at consecutive places from this one on
 abbrev pub stops_from : ℕ → ℕ → ℕ → List PlannedStop → List StopAt
 stops_from place vehicle day [] = []
 stops_from place vehicle day (stop ∷ later) =
@@ -96,7 +96,7 @@ each_at : (place vehicle day : ℕ) (stops : List PlannedStop) → Each (IsAt ve
 each_at place vehicle day [] = tt
 each_at place vehicle day (stop ∷ later) = (record { first_is = refl; second_is = refl; third = refl }, each_at (place + 1) vehicle day later)
 
--- a row tells its stop
+-- a row determines its stop
 stop_told : (x y : StopAt) → stop_row x ≡ stop_row y → x ≡ y
 stop_told x y same =
     let kind = kind-told x.stop.kind y.stop.kind (ap (number_in 4) same) in
@@ -196,7 +196,7 @@ module _ (content : State) (readable : IsWellFormed content) (m n : ℕ) (low : 
       let parts = found_parts plan is in
       shape m n plan plan.stops refl (Each-found HasStops plan_key (pair_key m n) plan content.planned readable.stops is) parts.0 parts.1
 
-  -- stops with the rows that are wanted tell the plan
+  -- stops with the wanted rows determine the plan
   pub plan_told : (stops : List StopAt) → map stop_row stops ≡ map stop_row wanted → plan_by_stops stops ≡ found
   plan_told stops same = ap plan_by_stops (same_stops stops wanted same) ∙ told_by found refl
 

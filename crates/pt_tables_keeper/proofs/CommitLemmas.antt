@@ -26,7 +26,7 @@ use Rattle.pt_tables_writing.specs.Least.{IsUndone}
 
 -- ---- what is known
 
--- the lists of what is known agree with the content, where the change is written
+-- the lists of what is known agree with the content, if the change can be written
 pub agrees_writable : (change : Change) (vehicles : List Vehicle) (lists known content : State) → IsWritable vehicles change → lists ≡ known_of known → known ≡ content → AgreesFor change lists content
 agrees_writable change vehicles lists known content may are same =
     subst (λ l. AgreesFor change l content) (sym (are ∙ ap known_of same)) (agrees_known change content may.kept may.riders may.entries may.trips)
@@ -87,7 +87,7 @@ module _ {riders : ℕ} (old new : Connected) (before after : State) (f : ℕ) (
     };
   }
 
-  -- nothing is done, for want of memory or since the store failed
+  -- nothing is done, since memory ran out or the store failed
   pub step_undone : (g : ℕ) → g ≤ 1 → new.in_transaction ≡ false → (HasCleanDisk new → IsUndone old new) → AreInStep before riders g new
   step_undone g most settled undone = record {
     most = most;
@@ -133,7 +133,7 @@ at_most_one g failed on_failed on_memory = let one : g ≡ 1 = on_failed refl in
 
 -- ---- before anything is written
 
--- memory was refused
+-- out of memory
 pub wants_memory : (s : Connected) (a : State) (f : ℕ) (left : Option State) (r : Result (Unit {0}) StoreFault) → f ≡ 0
     → r ≡ Err Memory → Goes {X = Unit {0}} (kept_store s a f) (kept_store s a f) tt left r
 wants_memory s a f left r none is = subst (λ r. Goes {X = Unit {0}} (kept_store s a f) (kept_store s a f) tt left r) (sym is) (record {
@@ -156,7 +156,7 @@ pub commits_by : {S : Type 0} (g : Ghosts S) (conn : Held S) (failures : ℕ) (c
 commits_by {S} g conn failures content now change after r is h =
     subst (λ (k : KeptTables S). Goes {X = Unit {0}} (store_of g k) after tt (Some (applied change k.content)) r) is h
 
--- what is said of the riders of the keeper is said of these tables
+-- what is stated for the riders of the keeper holds for these tables
 pub riders_counted : {S : Type 0} (g : Ghosts S) (conn : Held S) (failures : ℕ) (content : State) (now : KeptTables S) (change : Change) (riders : ℕ)
     → ◌≡◌ {A = KeptTables S} (record { conn = conn; failures = failures; content = content }) now
     → (HasCleanDisk (state g now.conn) → riders ≡ length (applied change now.content).riders) → HasCleanDisk (state g conn) → riders ≡ length (applied change content).riders

@@ -28,11 +28,11 @@ use Rattle.pt_tables_keeper.specs.Writable.{IsWritable}
 -- ---- the plans of some keys
 
 module _ (there : List Plan) where
-  -- of this key the plan that is known is the one that is there
+  -- the known plan with this key is the stored one
   abbrev Knows : ℕ → List Plan → Type 0
   Knows k known = record_at plan_key k known ≡ record_at plan_key k there
 
-  -- of each key it is, or none is known
+  -- for each key the known plan is the stored one, or none is known
   abbrev IsPart : List Plan → Type 0
   IsPart known = (k : ℕ) → (record_at plan_key k known ≡ None) ⊎ Knows k known
 

@@ -52,7 +52,7 @@ counts_told g (Err unread.Row) r value x h told is = absurd (let same = sym h.0 
 
 -- ---- what is made of an answer
 
--- where the answer is of the content that stands, so is what is made of it
+-- if the answer is of the current content, so is what is made of it
 pub goes_to : {X Y : Type 0} (before after : Store) (told : State → X) (x : X) (other : State → Y) (y : Y) → Goes before after (told before.content) None (Ok x)
     → (after.doubt ≡ 0 → x ≡ told after.content → y ≡ other after.content) → Goes before after (other before.content) None (Ok y)
 goes_to before after told x other y h made = record {
@@ -75,7 +75,7 @@ none_or_more : (n : ℕ) → (n ≡ 0) ⊎ (0 < n)
 none_or_more zero = inl refl
 none_or_more (suc n) = inr (omega arith)
 
--- a store that has answered has not failed
+-- a store that returned a value has not failed
 pub serves_still : {X : Type 0} (before after : Store) (value x : X) → Goes before after value None (Ok x) → before.failures ≡ 0 → after.failures ≡ 0
 serves_still before after value x h none = elim (none_or_more after.failures) [
   | inl none_yet ↦ none_yet
@@ -87,7 +87,7 @@ pub not_lasting : (X : Type 0) (after : Store) (left : Option State) (e : StoreF
 not_lasting X after None e = tt
 not_lasting X after (Some new) e = tt
 
--- a fault tells nothing of the value, nor of what was to be committed
+-- a fault says nothing of the value, nor of what was to be committed
 pub goes_not : {X Y : Type 0} (before after : Store) (value : X) (other : Y) (left : Option State) (e : StoreFault)
     → Goes {X = X} before after value None (Err e) → Goes {X = Y} before after other left (Err e)
 goes_not {X} {Y} before after value other left Memory h = record {
@@ -121,7 +121,7 @@ goes_not {X} {Y} before after value other left failed h = record {
       };
 }
 
--- memory was refused for what is made of it
+-- out of memory for what is made of it
 pub goes_wanting : {X Y : Type 0} (before after : Store) (value x : X) (other : Y) → Goes before after value None (Ok x) → Goes {X = Y} before after other None (Err Memory)
 goes_wanting before after value x other h = record {
   clean = h.clean;
@@ -133,7 +133,7 @@ goes_wanting before after value x other h = record {
   holds = λ clean. let it = h.holds clean in record { tells = it.tells.1; crash = it.crash; durable = tt };
 }
 
--- ---- what a read answers
+-- ---- what a read returns
 
 module _ {S X : Type 0} {riders : ℕ} (g : Ghosts S) (conn new : Held S) (failures after : ℕ) (content : State) (found : Result X Unread) (r : Result X StoreFault)
     (none : failures ≡ 0) (was : AreInStep content riders failures (state g conn)) (rests : Rests (state g conn) (state g new)) (law : Settles (state g new))
@@ -141,7 +141,7 @@ module _ {S X : Type 0} {riders : ℕ} (g : Ghosts S) (conn new : Held S) (failu
   pub step_by : AreInStep content riders after (state g new)
   step_by = step_still (state g conn) (state g new) content failures none was rests law after (counts_most after found r counts)
 
-  -- what is said of one content alone
+  -- what is stated for one content alone
   goes_so : (told : State → X) → (HasCleanDisk (state g new) → IsKept content (state g conn) → IfOk found (λ x. x ≡ told content))
       → Goes (kept_store (state g conn) content failures) (kept_store (state g new) content after) (told content) None r
   goes_so told tells =
@@ -166,7 +166,7 @@ module _ {S X : Type 0} {riders : ℕ} (g : Ghosts S) (conn new : Held S) (failu
   reads_by now told is tells =
       subst (λ (k : KeptTables S). Goes (store_of g k) (kept_store (state g new) content after) (told k.content) None r) is (goes_by told tells)
 
-  -- what is made of its answer is answered
+  -- what is made of its answer is returned
   pub reads_on : {Y : Type 0} (now : KeptTables S) (told : State → X) → ◌≡◌ {A = KeptTables S} (record { conn = conn; failures = failures; content = content }) now
       → Tells (state g conn) (state g new) told found → (x : X) → r ≡ Ok x → (made : X → Y)
       → Goes (store_of g now) (kept_store (state g new) content after) (made (told now.content)) None (Ok (made x))
@@ -185,7 +185,7 @@ module _ {S X : Type 0} {riders : ℕ} (g : Ghosts S) (conn new : Held S) (failu
       (goes_not (store_of g now) (kept_store (state g new) content after) (told now.content) other None e
       (subst (λ r. Goes (store_of g now) (kept_store (state g new) content after) (told now.content) None r) was read))
 
-  -- memory was refused for what is made of its answer
+  -- out of memory for what is made of its answer
   pub reads_wanting : {Y : Type 0} (now : KeptTables S) (told : State → X) → ◌≡◌ {A = KeptTables S} (record { conn = conn; failures = failures; content = content }) now
       → Tells (state g conn) (state g new) told found → (x : X) → r ≡ Ok x → (other : Y) (wanting : Result Y StoreFault) → wanting ≡ Err Memory
       → Goes (store_of g now) (kept_store (state g new) content after) other None wanting
@@ -199,14 +199,14 @@ module _ {S X : Type 0} {riders : ℕ} (g : Ghosts S) (conn new : Held S) (failu
 
 module _ {S : Type 0} {riders : ℕ} (g : Ghosts S) (conn : Held S) (failures : ℕ) (content : State) (now : KeptTables S)
     (is : ◌≡◌ {A = KeptTables S} (record { conn = conn; failures = failures; content = content }) now) (step : AreInStep content riders failures (state g conn)) where
-  -- its content is one that is read back from its rows, and its riders are counted until it has failed
+  -- its content can be read back from its rows, and its riders are counted until it fails
   pub readable_now : IsWellFormed now.content
   readable_now = subst (λ (k : KeptTables S). IsWellFormed k.content) is step.readable
 
   pub counted_now : now.failures ≡ 0 → HasCleanDisk (state g now.conn) → riders ≡ length now.content.riders
   counted_now = subst (λ (k : KeptTables S). k.failures ≡ 0 → HasCleanDisk (state g k.conn) → riders ≡ length k.content.riders) is step.counted
 
--- it is answered of it
+-- a read of it returns its value
 pub reads_held : {S X : Type 0} (g : Ghosts S) (conn : Held S) (failures : ℕ) (content : State) (now : KeptTables S) (told : State → X) (x : X)
     → ◌≡◌ {A = KeptTables S} (record { conn = conn; failures = failures; content = content }) now → (HasCleanDisk (state g conn) → x ≡ told content)
     → Goes (store_of g now) (store_of g now) (told now.content) None (Ok x)
@@ -221,7 +221,7 @@ reads_held {S} {X} g conn failures content now told x is same =
       holds = λ clean. record { tells = (same clean, refl); crash = λ o found. inl found; durable = tt };
     })
 
--- memory was refused for it
+-- out of memory for a read of it
 pub wants_held : {S X : Type 0} (g : Ghosts S) (conn : Held S) (failures : ℕ) (content : State) (now : KeptTables S) (value : X) (r : Result X StoreFault)
     → ◌≡◌ {A = KeptTables S} (record { conn = conn; failures = failures; content = content }) now → r ≡ Err Memory
     → Goes (store_of g now) (store_of g now) value None r
@@ -244,7 +244,7 @@ any_one : {A : Type 0} (found passes : A → Bool) (x : A) (xs : List A) → (pa
 any_one found passes x xs only rest true same = ap (λ b. found x || b) rest
 any_one found passes x xs only rest false same = rest ∙ ap (λ b. b || list_any found xs) (sym (only same))
 
--- some record that passes is so where some record is, if none is so that does not pass
+-- if only records that pass can be found, one is found among those that pass when one is found among all
 any_passing : {A : Type 0} (found passes : A → Bool) → ((x : A) → passes x ≡ false → found x ≡ false) → (xs : List A) → list_any found (filter passes xs) ≡ list_any found xs
 any_passing found passes only [] = refl
 any_passing found passes only (x ∷ xs) = any_one found passes x xs (only x) (any_passing found passes only xs) (passes x) refl

@@ -1,4 +1,4 @@
--- How many riders there are after a change that puts one at most.
+-- How many riders there are after a change that puts at most one.
 use Rattle.std.proofs.Common.{◌≡◌, ℕ, ◌+◌, ◌<◌, ◌≤◌, ◌^◌, min, List, [], ◌∷◌, length, Some, None, sym, ap, ◌∙◌, arith}
 use Rattle.std.specs.List.{slice_get}
 use Rattle.pt_base.specs.declared.rider.Rider.{Rider}

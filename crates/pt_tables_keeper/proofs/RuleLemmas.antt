@@ -1,4 +1,4 @@
--- What the rules make of a write that they accept in a sound state is written.
+-- In a sound state, the change of each write that the rules accept can be written.
 use Rattle.std.proofs.Common.{◌≡◌, ◌++◌, ◌+◌, ◌≤◌, inl, inr, ℕ, IsTrue, List, [], ◌∷◌, length, Option, None, Some, refl, sym, ap, subst, arith}
 use Rattle.std.specs.Option.{unwrap_or}
 use Rattle.pt_base.specs.declared.moment.Moment.{Moment}
@@ -53,7 +53,7 @@ last_holds : {A : Type 0} (P : A → Type 0) (key : A → ℕ) (news : List A) (
 last_holds P key [] new xs each = put_holds P key new xs each
 last_holds P key (x ∷ news) new xs each = last_holds P key news new (put key x xs) each
 
--- ---- changes that are written, whatever the ranges of what they put
+-- ---- changes that can be written, whatever the ranges of what they put
 
 record Shaped (s : State) (change : Change) : Type 0 where
   pub stops : Each HasStops change.planned.puts
@@ -70,12 +70,12 @@ abbrev IsShaped : State → Decision → Type 0
 IsShaped s (Denied first) = Unit {0}
 IsShaped s (Accepted told change) = Shaped s change
 
--- what is decided leaves a sound state, with this kept of it
+-- the decision leaves a sound state, with this edit of the last accepted writes
 abbrev LeavesSound : State → Edit Kept → Decision → Type 0
 LeavesSound s kept (Denied first) = Unit {0}
 LeavesSound s kept (Accepted told change) = IsSound (applied (record change { kept = kept }) s)
 
--- no plan is changed, and of what is read as it is asked for nothing is taken away
+-- no plan is changed, and nothing is removed from the tables that are not in memory
 no_plans : (s : State) (told : Answer) (change : Change) (made : Decision) → made ≡ Accepted told change → change.planned ≡ no_edit → change.kept.away ≡ [] → change.riders.away ≡ []
     → change.entries.away ≡ [] → change.trips.away ≡ [] → length change.riders.puts ≤ 1 → IsFleetEdit change.vehicles → IsShaped s made
 no_plans s told change made is none kept riders entries trips one fleet = subst (IsShaped s) (sym is) (record {
@@ -90,7 +90,7 @@ no_plans s told change made is none kept riders entries trips one fleet = subst 
   plans_put = subst (λ (edit : Edit Plan). Each (HasVersionAmong s.vehicles) edit.puts) (sym none) tt;
 })
 
--- what is kept of the write may come beside it
+-- the change may also put the last accepted write
 kept_beside : (s : State) (change : Change) (kept : Edit Kept) → kept.away ≡ [] → Shaped s change → Shaped s (record change { kept = kept })
 kept_beside s change kept none it = record {
   stops = it.stops;

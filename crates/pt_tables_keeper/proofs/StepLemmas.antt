@@ -1,4 +1,4 @@
--- The store over tables in step with them, and what a read makes of it.
+-- The store in step with its tables, and what a read makes of it.
 use Rattle.std.proofs.Common.{◌≡◌, ◌≤◌, ◌&&◌, inl, inr, ℕ, Bool, true, false, IsTrue, Option, Some, None, Result, Ok, Err, refl, sym, ap, subst, ◌∙◌, arith}
 use Rattle.sqlite.specs.Effect.{Database}
 use Rattle.sqlite.specs.State.{State as Connected, HasCleanDisk}
@@ -62,7 +62,7 @@ module _ {riders : ℕ} (old new : Connected) (content : State) (f : ℕ) (none 
   still : HasCleanDisk new → IsKept content new
   still clean = kept_still content old new rests clean (was.kept none (early clean))
 
-  -- they stay in step, whether the read answered or not
+  -- they stay in step, whether the read succeeded or not
   pub step_still : (g : ℕ) → g ≤ 1 → AreInStep content riders g new
   step_still g most =
       record {
@@ -83,7 +83,7 @@ module _ {riders : ℕ} (old new : Connected) (content : State) (f : ℕ) (none 
   serves : shut old ≤ shut new
   serves = shut_falls old new rests.survives.clean (λ clean here. (rests.keeps clean).was_open here)
 
-  -- a read that answers what the content has
+  -- a read that returns what the content has
   pub reads_tables : {X : Type 0} (value : X) (r : Result X StoreFault) (g : ℕ)
       → (HasCleanDisk new → (x : X) → r ≡ Ok x → x ≡ value) → (r ≡ Err failed → g ≡ 1) → ((r ≡ Err failed → ⊥) → g ≡ 0)
       → Goes (kept_store old content f) (kept_store new content g) value None r

@@ -35,7 +35,7 @@ survives_read old new P survives = record {
   crash = λ clean db left. elim (survives.crash clean db left) [ inl before ↦ inl before | inr none ↦ absurd none ];
 }
 
--- the plans of its keys are what the change asks for beside the lists
+-- the plans of its keys are what the change needs besides the lists
 pub agrees_over : (change : Change) (known content : State) (plans : List Plan) → IsWellFormed content → Each IsOneKey change.planned.away → AgreesFor change known content
     → plans ≡ plans_at content.planned (keys_of change.planned) [] → AgreesWith change known plans content
 agrees_over change known content plans well one agrees is = (agrees, knows_edited change.planned content.planned plans well.planned one is)

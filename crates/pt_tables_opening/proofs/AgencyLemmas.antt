@@ -1,4 +1,4 @@
--- What the one row of the desk's table tells of the agency.
+-- What the only row of the desk's table says of the agency.
 use Rattle.std.proofs.Common.{◌≡◌, ℕ, List, [], ◌∷◌, Result, Ok, Err, IfOk, IfErr, ◌⊎◌, inl, inr, sym, ap, subst, arith}
 use Rattle.std.proofs.lemmas.List.Sorted.{IsPermutation-sym, IsPermutation-trans}
 use Rattle.sqlite.specs.Order.{Row, column}
@@ -40,7 +40,7 @@ agency_refused trees rows Clean Has are memory store tables unsound (Err f) h = 
   | inr told ↦ inr (inr (inr (told.0, λ clean has. no_agency trees rows (are clean has) told.1)))
 ]
 
--- ---- the version is judged before the rows
+-- ---- the version is checked before the rows
 
 abbrev code_of : OpenFault → ℕ
 code_of it = it.code
@@ -49,14 +49,14 @@ first_or : Row → List Row → Row
 first_or r [] = r
 first_or r (row ∷ rows) = row
 
--- a row of this version is that of no other
+-- a row of this version has no other version
 this_version : (trees : Trees) (policy : Policy) (last_trip : ℕ) → AreRows desk_table trees (desk_row policy last_trip ∷ []) → HasOtherVersion trees → ⊥
 unfolding first_or
 this_version trees policy last_trip are other =
     let row = desk_row policy last_trip in
     other.2 (ap (λ rows. column (first_or row rows) 1) (only_row trees (row ∷ []) are other.0 other.1))
 
--- where the version is this one, any refusal may come
+-- if the version is this one, any refusal may come
 pub spares_none : (trees : Trees) (policy : Policy) (last_trip : ℕ) → AreRows desk_table trees (desk_row policy last_trip ∷ []) → (it : OpenFault) → SparesOtherVersion trees it
 spares_none trees policy last_trip are it = λ other code. this_version trees policy last_trip are other
 

@@ -1,4 +1,4 @@
--- The texts that ask for all rows of each table: what they mean, and that the rows stand in the order of the records' keys.
+-- The queries for all rows of each table: what they mean, and that the rows are in the order of the records' keys.
 use Rattle.std.proofs.Common.{◌≡◌, ◌≤◌, ℕ, Bool, true, false, not, List, [], ◌∷◌, length, map, take, flat_map, ◌⊎◌, inl, inr, refl, arith}
 use Rattle.std.specs.Prelude.{◌==◌}
 use Rattle.std.specs.List.{AllByRecursion, range_with_len}
@@ -46,7 +46,7 @@ use Rattle.pt_tables_rows.proofs.ColumnLemmas.{number_in}
 abbrev all_fields : Table → List Term
 all_fields table = map (λ at. col 1 (place_of table at)) (range_with_len 0 (length table.columns))
 
--- the order of the first so many
+-- the order of this many first columns
 abbrev by_first : ℕ → Table → List (Term × Key)
 by_first columns table = map (λ field. (field, ascending Binary)) (take columns (all_fields table))
 
@@ -82,7 +82,7 @@ first_rows_text = asks_all first_schema 1 desk_table DESK_ROWS.now refl (refl, r
 
 -- ---- records of one row each
 
--- the text asks for all rows of the table, in an order that keeps that of the records
+-- the query returns all rows of the table, in an order that keeps that of the records
 abbrev IsAsked : {A : Type 0} → List ℕ → Table → (A → ℕ) → (A → List Row) → (A → Type 0) → Type 0
 IsAsked text table key rows_of Fits = AsksForAll text table (KeepsOrder key rows_of (FitsRows rows_of Fits))
 
@@ -171,9 +171,9 @@ travel_rows_text = asks_all desk_schema 3 travel_table TRAVEL_ROWS.now refl (ref
 pub travel_asked : IsAsked TRAVEL_ROWS.now travel_table travel_key travel_rows FitsTravel
 travel_asked = asks_for_all 3 travel_table TRAVEL_ROWS.now (KeepsOrder travel_key travel_rows (FitsRows travel_rows FitsTravel)) travel_rows_text travel_keeps
 
--- ---- rows beside those of records
+-- ---- rows of second tables
 
--- one row at most, that tells the key
+-- at most one row, which has the key
 so_one : (so : Bool) (row : Row) → (row_if so row ≡ []) ⊎ (r : Row) × (row_if so row ≡ r ∷ [])
 so_one true row = inr (row, refl)
 so_one false row = inl refl
@@ -206,7 +206,7 @@ trips_beside = record {
   row_keyed = λ x. refl;
 }
 
--- rows in the order of their keys keep the order of the records that they stand beside
+-- rows of a second table in the order of their keys keep the order of the records
 module _ {A : Type 0} (key : A → ℕ) (row_of : A → Row) (beside_of : A → List Row) (Fits : A → Type 0) (laws : AreBeside key row_of beside_of) where
   keeps_beside : (columns : ℕ) (Is : Row → Type 0) → ((a b : Row) → Is a → Is b → is_lt (key_cmp 0 (keys_of columns) b a) ≡ false → laws.key_in a ≤ laws.key_in b)
       → ((x : A) → Fits x → AllByRecursion Is (beside_of x)) → (rows : List Row) → AreInOrder columns rows → KeepsRows key beside_of Fits rows

@@ -1,4 +1,4 @@
--- Records of one row each, and of one or none in a second table, told by the rows of both.
+-- Records of one row each, and of at most one in a second table, read back from the rows of both.
 use Rattle.std.proofs.Common.{◌≡◌, ◌++◌, ◌<◌, ◌≤◌, zero, suc, ℕ, List, [], ◌∷◌, length, map, flat_map, take, drop, get_or, drop-cons, add-one, ◌⊎◌, inl, inr, None, Some, Result, Ok, Err, IfOk, IfErr, ◌+◌, refl, sym, ap, ap₂, subst, ◌∙◌, arith}
 use Rattle.std.proofs.lemmas.List.{map-append, take_more}
 use Rattle.std.specs.Prelude.{IsPermutation}
@@ -19,7 +19,7 @@ pub next_from : {A : Type 0} (x : A) (xs : List A) (i : ℕ) → i < length xs �
 next_from x xs i lt at =
     drop-cons xs i x lt ∙ ap (λ y. y ∷ drop (suc i) xs) (sym at) ∙ ap (λ n. x ∷ drop n xs) (sym (add-one i))
 
--- records in order, with the rows of these, have these rows beside them
+-- some records in order have the rows of these, and these rows in the second table
 pub record Goes {A : Type 0} (key : A → ℕ) (row_of : A → Row) (beside_of : A → List Row) (Fits : A → Type 0) (known : List A) (left : List Row) : Type 0 where
   pub records : List A
   pub each : Each Fits records
@@ -109,7 +109,7 @@ module _ {A : Type 0} (key : A → ℕ) (row_of : A → Row) (beside_of : A → 
     goes_on (suc zero) within few its other g = goes_one within its g
     goes_on (suc (suc n)) within few its other g = absurd (omega arith)
 
-  -- where no record is left no row is
+  -- if no record is left, no row is left
   pub goes_out : (left : List Row) → Goes key row_of beside_of Fits [] left → left ≡ []
   goes_out left g = go g.records g.rows g.beside
     where
@@ -140,7 +140,7 @@ module _ {A : Type 0} (key : A → ℕ) (row_of : A → Row) (beside_of : A → 
       let there = map (columns_of home) (trees home.tree) in
       same_rows key key_in row_of laws.row_keyed xs ys one other (IsPermutation-trans (map row_of xs) there (map row_of ys) (IsPermutation-sym there (map row_of xs) ones) others)
 
-  -- the rows beside those of records in order are in order too
+  -- the rows of records in order are in order in the second table too
   beside_above : (k : ℕ) (xs : List A) → Each (λ x. k < key x) xs → Each (λ row. k < key_in row) (flat_map beside_of xs)
   beside_above k [] above = tt
   beside_above k (x ∷ xs) above = elim (laws.one x) [
@@ -170,7 +170,7 @@ module _ {A : Type 0} (key : A → ℕ) (row_of : A → Row) (beside_of : A → 
         subst (λ rs. Each P (rs ++ flat_map beside_of xs)) (sym one.1) (here.0, beside_each P all xs each.1)
   ]
 
-  -- where rows in order tell none of these records, no records have the rows of both tables
+  -- if ordered rows fit none of these records, no records have the rows of both tables
   unmarked : (home second : Table) (trees : Trees) (known : List A) → IsInOrder key known → (rows : List Row) → AreRows home trees (map row_of known) → AreRows second trees rows
       → KeepsRows key beside_of Fits rows → TellsBeside key row_of beside_of Fits known rows None → NoneBeside key home second row_of beside_of Fits trees
   unmarked home second trees known order rows are beside keeps none xs each also have marked =
@@ -179,7 +179,7 @@ module _ {A : Type 0} (key : A → ℕ) (row_of : A → Row) (beside_of : A → 
       let alike : IsPermutation theirs rows = IsPermutation-trans theirs there rows (IsPermutation-sym there theirs marked) beside in
       none xs each also (same_table home trees xs known also order have are) (keeps xs each also alike)
 
--- what is told of records that are put
+-- what holds of records that are put
 module _ {A F : Type 0} (key : A → ℕ) (second : Table) (row_of : A → Row) (beside_of : A → List Row) (Fits : A → Type 0) (trees : Trees) (known : List A) (rows : List Row) where
   pub same_told : (r : Result (Edit A) F) → IfOk r (λ edit. TellsBeside key row_of beside_of Fits known rows (Some edit)) → IfOk r (λ edit. map row_of edit.puts ≡ map row_of known)
   same_told (Ok edit) told = told.1

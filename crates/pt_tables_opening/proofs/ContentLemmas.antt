@@ -1,4 +1,4 @@
--- A table that had no records has what is put, and one whose records are put anew has the new ones.
+-- A table that had no records has what is put, and one whose records are put again has the new ones.
 use Rattle.std.proofs.Common.{◌≡◌, ◌++◌, ◌<◌, ℕ, List, [], ◌∷◌, append_assoc, append-nil, refl, sym, ap, subst, ◌∙◌}
 use Rattle.pt_records.specs.Records.{Each, Edit, IsInOrder, edited, put, put_all, take_all}
 use Rattle.pt_records.proofs.RecordLemmas.{put_over, put_past}
@@ -43,7 +43,7 @@ laid_put key Fits edit xs none fits =
 pub rows_put : {A : Type 0} (key : A → ℕ) (P : List A → Type 0) (edit : Edit A) (xs : List A) → xs ≡ [] → PutsInOrder key edit → P edit.puts → P (edited key edit xs)
 rows_put key P edit xs none puts p = subst P (sym (alone key edit xs puts none)) p
 
--- ---- and one whose records are put anew has the new ones
+-- ---- and one whose records are put again has the new ones
 
 put_mid : {A : Type 0} (key : A → ℕ) (done : List A) (new x : A) (xs : List A) → Each (λ d. key d < key new) done → key x ≡ key new → put key new (done ++ x ∷ xs) ≡ done ++ new ∷ xs
 put_mid key [] new x xs low same = put_over key new x xs same

@@ -1,4 +1,4 @@
--- Records of several rows each, told by the first row of each.
+-- Records of several rows each, divided at the first row of each.
 use Rattle.std.proofs.Common.{◌≡◌, ◌++◌, ◌<◌, ◌≤◌, zero, suc, ℕ, List, [], ◌∷◌, length, length-append, map, flat_map, take, drop, take-append-drop, append_assoc, append-nil, get_or, slice_index_or, refl, sym, ap, ap₂, subst, ◌∙◌, arith, Result, Ok, Err, IfOk, IfErr, ◌⊎◌, inl, inr}
 use Rattle.std.proofs.lemmas.Grind.{flat_map-append}
 use Rattle.std.proofs.lemmas.List.{take_at, drop_at, get_or_append_left, get_or-append_right}
@@ -91,7 +91,7 @@ module _ {A : Type 0} (rows_of : A → List Row) (Fits : A → Type 0) (Begins :
       subst (λ l. First rows_of Fits l end) remain.rows_are
       (first_of_all remain.records remain.each end (subst (λ l. 0 < length l) (sym remain.rows_are) some) (subst (λ l. Ends Begins l end) (sym remain.rows_are) ends))
 
-  -- where no record has the rows up to there, none have all
+  -- if no record has the rows up to there, no records have all
   pub none_first : (rows group : List Row) (end : ℕ) → 0 < length rows → Ends Begins rows end → group ≡ take end rows → ((x : A) → Fits x → rows_of x ≡ group → ⊥)
       → Remain rows_of Fits rows → ⊥
   none_first rows group end some ends is none remain =
@@ -123,7 +123,7 @@ module _ {A : Type 0} (rows_of : A → List Row) (Fits : A → Type 0) (Begins :
       let some = begun_some Begins (rows_of x) (once x fits) in
       omega arith
 
-  -- records that are told by their rows are told by all rows
+  -- if its rows determine each record, all rows determine all records
   pub same_records : ((x y : A) → Fits x → Fits y → rows_of x ≡ rows_of y → x ≡ y) → (xs ys : List A) → Each Fits xs → Each Fits ys → flat_map rows_of xs ≡ flat_map rows_of ys
       → xs ≡ ys
   same_records told [] [] ones others same = refl
@@ -156,7 +156,7 @@ are_of_table home rows_of trees rows are (Ok edit) same = subst (AreRows home tr
 are_of_table home rows_of trees rows are (Err f) same = tt
 
 module _ {A : Type 0} (key : A → ℕ) (home : Table) (rows_of : A → List Row) (Fits : A → Type 0) (trees : Trees) (rows : List Row) where
-  -- where rows that keep the order tell nothing, no records have the rows of the table
+  -- if ordered rows have no records, no records have the rows of the table
   none_told : AreRows home trees rows → KeepsOrder key rows_of Fits rows → GathersNothing key rows_of Fits rows → AreRowsOfNone key home rows_of Fits trees
   none_told are keeps nothing xs each order have =
       let there = map (columns_of home) (trees home.tree) in

@@ -210,7 +210,7 @@ drives_few dated fits =
     let long = codes_many named.0 drives each in
     (fits, let rows = rows-of-drives dated.from_day drives in omega (arith, most, long, rows))
 
--- and so what is told of a travel table is told of one with few rows
+-- so what holds of any travel table holds of one with few rows
 pub few_told : {E : Type 0} (rows : List Row) (r : Result (Option DatedTable) E) → IfOk r (Reads travel_rows FitsTravel rows) → IfOk r (Reads travel_rows (FitsRows travel_rows FitsTravel) rows)
 few_told rows (Ok (Some dated)) told = (told.0, drives_few dated told.1)
 few_told rows (Ok None) none = λ dated fits. none dated fits.0

@@ -1,4 +1,4 @@
--- The order of the rows of records that stand in the order of their keys.
+-- The order of the rows of records that are in the order of their keys.
 use Rattle.std.proofs.Common.{◌≡◌, ◌*◌, ◌++◌, ◌<◌, ◌≤◌, suc, ℕ, List, [], ◌∷◌, map, flat_map, false, sym, subst, ◌∙◌, arith, mul-le-mul_right}
 use Rattle.std.specs.Prelude.{IsPermutation}
 use Rattle.std.specs.Ordering.{is_lt}
@@ -13,7 +13,7 @@ use Rattle.pt_tables_asking.proofs.OrderedLemmas.{IsNumbered, keeps_order, row_l
 use Rattle.pt_tables_opening.specs.Gathered.{KeepsOrder}
 use Rattle.pt_tables_rows.proofs.SameRowsLists.{in_one_order}
 
--- ---- records of one row each, whose keys their rows tell
+-- ---- records of one row each, whose rows have their keys
 
 -- the rows of such a record
 abbrev pub alone : {A : Type 0} → (A → Row) → A → List Row
@@ -65,7 +65,7 @@ order_append key bound (x ∷ xs) ys one other below above = (
   order_append key bound xs ys one.1 other below.1 above,
 )
 
--- what is true of the rows of a record: they are numbered and in order, and lie between the record's key and the next
+-- the rows of a record are numbered and in order, and lie between the record's key and the next
 pub record IsSpan (number width : ℕ) (rows : List Row) : Type 0 where
   pub numbered : Each IsNumbered rows
   pub in_order : IsInOrder triple_key rows

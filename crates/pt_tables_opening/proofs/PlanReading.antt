@@ -1,4 +1,4 @@
--- Plans and travel tables, told by their rows.
+-- Plans and travel tables, read back from their rows.
 use Rattle.std.proofs.Common.{◌≡◌, ◌+◌, ◌++◌, ◌<◌, ◌≤◌, ◌^◌, zero, suc, ℕ, pos, List, [], ◌∷◌, length, map, take, drop, get_or, Option, None, Some, refl, sym, ap, ap₂, subst, ◌∙◌, arith}
 use Rattle.std.specs.Prelude.{slice_get, MatchOption}
 use Rattle.std.proofs.lemmas.List.{map-append, take_more}
@@ -60,7 +60,7 @@ few_stops plan fits = subst (λ n. n ≤ 2 ^ 32) (rows-of-stops 0 plan.vehicle p
 abbrev pub NoStops : ℕ → ℕ → List Row → Type 0
 NoStops vehicle day rows = (stops : List PlannedStop) → FitsRows stop_rows IsStoredPlan (record { vehicle = vehicle; day = day; stops = stops }) → stop_rows_from 0 vehicle day stops ≡ rows → ⊥
 
--- where no stop of this place has the row there, no stops have the rows
+-- if no stop at this place has the row there, no stops have the rows
 pub no-stops : (vehicle day : ℕ) (rows : List Row) (k : ℕ) (row : Row) → k < length rows → row ≡ get_or rows k row
     → ((stop : PlannedStop) → FitsStopAt (record { vehicle = vehicle; day = day; place = k; stop = stop }) → stop_row vehicle day (pos k) stop ≡ row → ⊥)
     → NoStops vehicle day rows
@@ -96,7 +96,7 @@ no-first rows row is none plan fits same =
     no-stops plan.vehicle plan.day rows 0 row first.0 first.1
     (λ stop fit told. none (record { vehicle = plan.vehicle; day = plan.day; place = 0; stop = stop }) fit told) plan.stops fits same
 
--- the first row tells the vehicle and the day
+-- the first row has the vehicle and the day
 pub no-later : (rows : List Row) (row : Row) → slice_get rows 0 ≡ Some row → (at : StopAt) → fitting.stop_row at ≡ row
     → NoStops at.vehicle at.day rows
     → (plan : Plan) → FitsRows stop_rows IsStoredPlan plan → stop_rows plan ≡ rows → ⊥

@@ -1,4 +1,4 @@
--- What reads of the tables leave, one after the other.
+-- What reads of the tables, one after the other, do to the connection.
 use Rattle.std.proofs.Common.{◌≡◌, ◌≢◌, inl, inr, ℕ, List, false, Result, Ok, Err, IfOk, IfErr, IsErr, Vec, Option, Some, None, sym, ap, subst, ◌∙◌, arith}
 use Rattle.std.specs.declared.alloc.Global.{Global}
 use Rattle.sqlite.specs.Effect.{Database}
@@ -73,7 +73,7 @@ module _ (schema : Schema) (sql : List ℕ) (params : Row) (old new : Connected)
 -- ---- one after the other
 
 module _ {X Y E F : Type 0} (old mid : Connected) (x : X) where
-  -- reads that answered, and then no more
+  -- reads that succeeded, and then no others
   pub rests_so : Rests {E = E} old mid (Ok x) → (r : Result Y F) → Rests old mid r
   rests_so h r = record {
     settled = h.settled;
@@ -86,7 +86,7 @@ module _ {X Y E F : Type 0} (old mid : Connected) (x : X) where
       any (Ok y) h = h
       any (Err e) h = tt
 
-  -- reads that answered, and then others
+  -- reads that succeeded, and then others
   pub rests_then : (new : Connected) → Rests {E = E} old mid (Ok x) → (r : Result Y F) → Rests mid new r → Rests old new r
   rests_then new h r k = record {
     settled = λ none. k.settled (h.settled none);
@@ -115,11 +115,11 @@ module _ {X Y E F : Type 0} (old mid : Connected) (x : X) where
         committed = λ here. b.committed here ∙ a.0.committed_is;
       }
 
--- reads that answered, and then no more
+-- reads that succeeded, and then no others
 pub last : {X Y E F : Type 0} (old new : Connected) (r : Result X E) (x : X) → r ≡ Ok x → Rests old new r → (s : Result Y F) → Rests old new s
 last old new r x is h s = rests_so old new x (subst (Rests old new) is h) s
 
--- a read that failed, told as it is told
+-- a read that failed, whose error is passed on
 pub refused : {X Y E F : Type 0} (old new : Connected) (r : Result X E) (s : Result Y F) → IsErr s → Rests old new r → Rests old new s
 refused {X} {Y} {E} {F} old new r s bad h = record { settled = h.settled; same = λ clean has. none s bad; stays = h.stays; survives = h.survives }
   where

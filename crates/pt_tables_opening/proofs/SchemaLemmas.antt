@@ -1,4 +1,4 @@
--- The schemas of both versions are such as are compared field by field.
+-- The schemas of both versions are plain, so they can be compared field by field.
 use Rattle.std.proofs.Common.{◌≡◌, ◌↔◌, List, [], ◌∷◌, map, drop, get_or, Bool, IsTrue, refl, sym, ap, subst}
 use Rattle.std.specs.List.{AllByRecursion}
 use Rattle.sqlite.specs.Schema.{Schema}

@@ -1,4 +1,4 @@
--- What a query shows that asks for all rows of a table in the order of its first columns.
+-- The answer to a query for all rows of a table in the order of its first columns.
 use Rattle.std.proofs.Common.{◌≡◌, ℕ, List, [], ◌∷◌, map, filter, Bool, true, Result, Ok, Err, IfOk, Vec, refl, ap, subst}
 use Rattle.std.specs.Prelude.{IsPermutation}
 use Rattle.std.specs.declared.alloc.Global.{Global}
@@ -21,11 +21,11 @@ use Rattle.pt_tables_rows.specs.Tables.{AreRows, columns_of}
 abbrev pub any_row : Row → Bool
 any_row row = true
 
--- the text asks for all rows of the table, in the order of its first so many columns, where the tables have this schema
+-- in tables of this schema, the query asks for all rows of the table, in the order of this many first columns
 abbrev pub AsksAllIn : Schema → ℕ → Table → List ℕ → Type 0
 AsksAllIn schema columns table text = AsksForIn schema columns table text [] any_row
 
--- and where they are the desk's
+-- the same in the desk's tables
 abbrev pub AsksAll : ℕ → Table → List ℕ → Type 0
 AsksAll columns table text = AsksAllIn desk_schema columns table text
 
@@ -34,7 +34,7 @@ all_there [] = refl
 all_there (row ∷ rows) = ap (λ l. row ∷ l) (all_there rows)
 
 module _ (schema : Schema) (columns : ℕ) (table : Table) (text : List ℕ) (asks : AsksAllIn schema columns table text) where
-  -- the rows answered are those of the table, in order
+  -- the rows of the answer are those of the table, in order
   answered : (db : Database) (rows : List Row) → Reads (command_in (understood schema text)) db [] rows → AreRows table db.trees rows × AreInOrder columns rows
   answered db rows read =
       let told = answers_passing schema columns table text [] any_row asks db rows read in
@@ -46,7 +46,7 @@ module _ (schema : Schema) (columns : ℕ) (table : Table) (text : List ℕ) (as
       (answered old.now rows.items (reads_as text [] old new schema has (command_in (understood schema text)) (same_command (understood schema text)) asks.plain asks.unlisted rows.items shown)).0
   shows_all old new has (Err e) shown = tt
 
--- a text that asks for all rows in the order of columns asks for them in each order that this one gives
+-- a query for all rows in the order of columns also gives them in each order that follows from it
 pub asks_for_all : (columns : ℕ) (table : Table) (text : List ℕ) (Ordered : List Row → Type 0) → AsksAll columns table text → ((rows : List Row) → AreInOrder columns rows → Ordered rows)
     → AsksForAll text table Ordered
 asks_for_all columns table text Ordered asks ordered = record {
@@ -55,7 +55,7 @@ asks_for_all columns table text Ordered asks ordered = record {
   answer = λ db rows read. let told = answered desk_schema columns table text asks db rows read in (told.0, ordered rows told.1);
 }
 
--- what is shown where it was asked for
+-- what is shown for such a query
 pub shows_asked : {text : List ℕ} {table : Table} {Ordered : List Row → Type 0} → AsksForAll text table Ordered → (old new : Connected) → old.now.schema ≡ desk_schema → (rows : List Row) → Shown text [] old new rows
     → AreRows table old.now.trees rows × Ordered rows
 shows_asked {text} asked old new has rows shown =

@@ -1,4 +1,4 @@
--- Reads of the tables one after the other, each judged before the next.
+-- Reads of the tables one after the other, each checked before the next.
 use Rattle.std.proofs.Common.{◌≡◌, ◌-◌, ◌<◌, ◌⊎◌, inl, inr, ℕ, zero, suc, List, take, Result, Ok, Err, IfOk, IfErr, IsErr, IsErrAnd, sym, ap, subst, arith}
 use Rattle.sqlite.specs.Effect.{Database}
 use Rattle.sqlite.specs.State.{State as Connected, HasCleanDisk}
@@ -38,16 +38,16 @@ agency_first P (suc n) some each = each.0
 all_stand : (s : State) (trees : Trees) (ts : List TableName) → Each (IsSoundIn s) ts → Each (HasRowsIn s trees) ts → Each (StandsIn s trees) ts
 all_stand s trees = Each-both (IsSoundIn s) (HasRowsIn s trees) (StandsIn s trees) (λ t sound rows. record { rows = rows; sound = sound })
 
--- rows that no content stands for are those of no sound state
+-- if no content has the rows, no sound state has them
 none_sound : (n : ℕ) (trees : Trees) → NoneStandsTo n trees → AreUnsound trees
 none_sound n trees none = λ s sound has. none s (each_table (StandsIn s trees) (λ t. record { rows = rows_in s trees has t; sound = sound_in s sound t }) (take n all_tables))
 
--- ---- what a refusal tells
+-- ---- what a refusal says
 
 abbrev code_of : OpenFault → ℕ
 code_of it = it.code
 
--- a refusal for want of memory, or since the store failed
+-- a refusal because memory ran out or the store failed
 pub tells_nothing : (trees : Trees) (it : OpenFault) → (it ≡ fault memory_refused) ⊎ (it ≡ fault store_refused) → TellsWhy trees it
 tells_nothing trees it (inl memory) =
     let code : it.code ≡ 0 = ap code_of memory in
@@ -82,7 +82,7 @@ tells_version trees it is version =
       first = λ same. let n : it.code ≡ 31 = same in absurd (omega arith);
     }
 
--- ---- one table that was read is judged
+-- ---- one table that was read is checked
 
 pub judged_so : (t : TableName) (old new : Connected) (s : State) (read_as : Result Change OpenFault) (change : Change) → read_as ≡ Ok change → ReadsTable t old new s read_as
     → (r : Result Listed OpenFault) → IfOk r (λ judged. judged.content ≡ applied change s) → IfOk r (λ judged. IsSoundIn (applied change s) t)
@@ -125,7 +125,7 @@ module _ (t : TableName) (old mid new : Connected) (keeper : Listed) (later : 1 
   before_then : HasCleanDisk new → (r : Result Listed OpenFault) → OpensTable t mid new keeper.content r → old.now.schema ≡ desk_schema → HasRowsTo (number_of t - 1) keeper.content old.now.trees
   before_then clean r k has = h.rows (omega (arith, clean, k.rests.survives.clean)) has
 
-  -- no content stands where rows are at fault, and that of the tables before does
+  -- no content has the rows up to the table at fault, and some content has those of the tables before
   first_then : (r : Result Listed OpenFault) (k : OpensTable t mid new keeper.content r) (clean : HasCleanDisk new) (has : old.now.schema ≡ desk_schema)
       → (HasCleanDisk new → mid.now.schema ≡ desk_schema → HasRowsTo (number_of t - 1) keeper.content mid.now.trees → NoneStandsTo (number_of t) mid.now.trees)
       → IsFirstAtFault old.now.trees (number_of t)

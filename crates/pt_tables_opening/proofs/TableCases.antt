@@ -1,6 +1,6 @@
--- What holds of each table: its place among all; what a content that is sound there, or has its rows, keeps in it; that
--- two contents that have its rows have the same records in it, but for wheelchairs and the places for them, of which the
--- last three tell; and what its rows make of a desk that has the tables before it.
+-- What holds of each table. Its place among all. What a content that is sound there, or has its rows, has in it. Two
+-- contents with its rows have the same records in it, except for wheelchairs and wheelchair places, which the last
+-- three tables have. What its rows make of a desk that has the earlier tables.
 use Rattle.std.proofs.Common.{◌≡◌, ◌+◌, ◌-◌, ◌<◌, ◌≤◌, ◌++◌, zero, suc, ℕ, List, [], ◌∷◌, length, map, take, drop, get_or, refl, sym, ap, subst, arith, false, subst₂, ◌∙◌, flat_map, Result, Ok, IsErr, IsErrAnd, inl, inr, Err, IfOk, IfErr}
 use Rattle.std.specs.List.{range_with_len}
 use Rattle.std.proofs.lemmas.List.Sorted.{IsPermutation-refl}
@@ -58,7 +58,7 @@ use Rattle.pt_tables_opening.proofs.RestLemmas.{last, refused}
 
 -- ---- the tables in their order
 
--- a table stands after all before it
+-- a table comes after all before it
 pub after_all : (t : TableName) → take (number_of t) all_tables ≡ take (number_of t - 1) all_tables ++ t ∷ []
 after_all table.Desk = refl
 after_all _ = refl
@@ -67,7 +67,7 @@ pub last_table : (t : TableName) → number_of t ≤ table_count
 last_table table.Desk = omega arith
 last_table _ = omega arith
 
--- what holds before a table and in it
+-- what holds before a table and in it holds up to it
 pub and_in : (P : TableName → Type 0) (t : TableName) → Each P (take (number_of t - 1) all_tables) → P t → Each P (take (number_of t) all_tables)
 and_in P t before here = subst (Each P) (sym (after_all t)) (each_push P (take (number_of t - 1) all_tables) t before here)
 
@@ -75,7 +75,7 @@ and_in P t before here = subst (Each P) (sym (after_all t)) (each_push P (take (
 pub here_in : (P : TableName → Type 0) (t : TableName) → Each P (take (number_of t) all_tables) → P t
 here_in P t each = mid P (take (number_of t - 1) all_tables) t [] (subst (Each P) (after_all t) each)
 
--- of tables in the order of their numbers, the first so many have such numbers
+-- of tables with consecutive numbers from `k` on, the first `n` have numbers below `k + n`
 each_below : (P Q : TableName → Type 0) (k n : ℕ) (ts : List TableName) → map number_of ts ≡ range_with_len k (length ts) → ((t : TableName) → number_of t < k + n → P t → Q t)
     → Each P (take n ts) → Each Q (take n ts)
 each_below P Q k zero [] numbers all each = tt
@@ -88,7 +88,7 @@ each_below P Q k (suc n) (t ∷ ts) numbers all each =
 pub each_upto : (P Q : TableName → Type 0) (n : ℕ) → ((t : TableName) → number_of t ≤ n → P t → Q t) → Each P (take n all_tables) → Each Q (take n all_tables)
 each_upto P Q n all each = each_below P Q 1 n all_tables refl (λ t low. all t (omega arith)) each
 
--- ---- what is kept in a table
+-- ---- what is stored in a table
 
 -- a route has 100 stops at most
 plans_laid : (plans : List Plan) → Each FitsPlan plans → Each IsRoutePlan plans → Each HasStops plans → Each (FitsRows stop_rows IsStoredPlan) plans
@@ -98,7 +98,7 @@ plans_laid (plan ∷ plans) fits routes some =
     let long = rows-of-stops 0 plan.vehicle plan.day plan.stops in
     (((fits.0, some.0), omega (arith, long, few)), plans_laid plans fits.1 routes.1 some.1)
 
--- what is sound in a table is in the order of its keys, and such as its rows are read back
+-- what is sound in a table is in the order of its keys, and in the form in which its rows are read back
 pub laid_in : (s : State) (t : TableName) → IsSoundIn s t → IsLaidIn s t
 laid_in s table.Desk sound = sound.0
 laid_in s table.Callers sound = (sound.1.table.in_order, sound.0)
@@ -285,7 +285,7 @@ lines_there table.TripChairs one other trees it laid rows =
     (same_trips one other trees it.1.1.1.1.1.1.1.1.0 laid.1.1.1.1.1.1.1.1.0 rows.1.1.1.1.1.1.1.1.0 it.1.1.1.1.1.1.1.1.1.1.1.1.1.0
     rows.1.1.1.1.1.1.1.1.1.1.1.1.1.0) it.1.1.1.1.1.1.1.1.1.1.1.1.1.0.sound.1)
 
--- what stands in the tables up to one is sound there in the one content and so in the other
+-- if one content with the rows of the tables up to this one is sound there, so is another with the same rows
 pub sound_there : (t : TableName) (one other : State) (trees : Trees) → StandsTo (number_of t) one trees → Each (IsLaidIn other) (take (number_of t) all_tables) → IsLaidIn other t
     → HasRowsTo (number_of t) other trees → IsSoundIn other t
 sound_there t one other trees it all laid rows = (ranges_laid other t laid, lines_there t one other trees it all rows)
@@ -297,7 +297,7 @@ pub passed_on : {X F : Type 0} (P : F → Type 0) (e : F) → P e → (r : Resul
 passed_on P e p (Ok x) h = tt
 passed_on P e p (Err f) h = subst P (sym h) p
 
--- where there is a refusal there is nothing else
+-- a refusal has no other result
 pub no_answer : {X F : Type 0} (P : X → Type 0) (r : Result X F) → IsErr r → IfOk r P
 no_answer P (Ok x) bad = absurd (cc)
 no_answer P (Err f) bad = tt
@@ -331,14 +331,15 @@ fails_so t old new s r e out bad is rests P gives h = record {
 
 -- ---- records that are put where there were none
 
--- What the change that puts records makes of a desk that has the tables before this one, and what it tells where no records have its rows.
+-- What the change that puts records makes of a desk that has the earlier tables, and what it means if no records have
+-- its rows.
 pub record ReadsSo {A : Type 0} (t : TableName) (key : A → ℕ) (home : Table) (rows_of : A → List Row) (Fits : A → Type 0) (puts : Edit A → Change) : Type 0 where
   pub read : (s : State) (edit : Edit A) → IsReadTo (number_of t - 1) s → IsFitting key Fits edit → IsReadIn t (applied (puts edit) s)
   pub shown : (s : State) (trees : Trees) (edit : Edit A) → IsReadTo (number_of t - 1) s → IsFitting key Fits edit → AreRows home trees (flat_map rows_of edit.puts)
       → HasRowsTo (number_of t - 1) s trees → HasRowsTo (number_of t) (applied (puts edit) s) trees
   pub none : (trees : Trees) → AreRowsOfNone key home rows_of Fits trees → NoneStandsTo (number_of t) trees
 
--- these are the records of the table in a content, which has them in this order and fitting so, and this change puts them
+-- the records of the table in a content, in this order and fitting so, and the change that puts them
 module _ {A : Type 0} (t : TableName) (key : A → ℕ) (home : Table) (rows_of : A → List Row) (listed : List A → List Row) (same : (xs : List A) → flat_map rows_of xs ≡ listed xs)
     (Fits FitsRead : A → Type 0) (weaker : (x : A) → FitsRead x → Fits x) (stronger : (x : A) → Fits x → FitsRead x) (records : State → List A) (puts : Edit A → Change)
     (empty : (s : State) → IsReadTo (number_of t - 1) s → records s ≡ [])
@@ -457,7 +458,7 @@ travel_reads =
 
 module _ {A : Type 0} {t : TableName} {key : A → ℕ} {home : Table} {rows_of : A → List Row} {Fits : A → Type 0} {puts : Edit A → Change} (reads : ReadsSo t key home rows_of Fits puts)
     (old new : Connected) (s : State) (r : Result (Edit A) OpenFault) (rests : Rests old new r) where
-  -- the change of a read that answered
+  -- the change of a read that succeeded
   pub puts_read : IsReadTo (number_of t - 1) s → (edit : Edit A) → r ≡ Ok edit → IsFitting key Fits edit → ReadsTables old new (λ trees. AreRows home trees (flat_map rows_of edit.puts))
       → (change : Change) → change ≡ puts edit → ReadsTable t old new s (Ok change)
   puts_read read edit is fits told change same =

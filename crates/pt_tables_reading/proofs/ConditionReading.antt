@@ -50,7 +50,7 @@ no-conditions conditions text part before later fits same parted none =
     let told = part-told conditions before part later (recursion_from_All IsCondition conditions fits.1) parts in
     none told.0 told.1
 
--- the last part, where no more than four are asked for
+-- the last part, where at most four are asked for
 only-part : (parts : List (List ℕ)) (rest : List ℕ) → join_with_byte 59 parts ≡ rest → 1 ≤ length parts
     → length parts ≤ 1 → parts ≡ rest ∷ []
 only-part [] rest same some few = absurd (omega arith)

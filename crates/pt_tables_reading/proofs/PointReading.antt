@@ -1,4 +1,4 @@
--- The points of a line take eight bytes each, and are told by them.
+-- The points of a line take eight bytes each, and the bytes determine them.
 use Rattle.std.proofs.Common.{◌≡◌, ℕ, ◌*◌, List, [], ◌∷◌, length, length-append, length-drop, take-append-drop, take, drop}
 use Rattle.std.proofs.Common.{refl, sym, ap, ap₂, ◌∙◌, ◌++◌, arith, zero, suc, subst}
 use Rattle.std.proofs.lemmas.Int.{ints, to_z-of_z}
@@ -20,7 +20,7 @@ use Rattle.pt_spelling.proofs.FieldLemmas.{length-number, number-same, parts-the
 use Rattle.pt_tables_reading.specs.Fitting.{FitsPoint}
 use Rattle.pt_tables_rows.specs.Rows.{route_row, number_value}
 
--- the number of a value, and 0 where it has none
+-- the number of a value, or 0 if it has none
 abbrev number_of_value : Value → ℕ
 number_of_value (Int (pos n)) = n
 number_of_value _ = 0
@@ -45,7 +45,7 @@ parts-whole (suc count) bytes size =
     let rest = parts-whole count (drop 8 bytes) (omega (arith, length-drop 8 bytes)) in
     ap (λ (later : List ℕ). take 8 bytes ++ later) rest ∙ take-append-drop 8 bytes
 
--- ---- the points are told by their bytes
+-- ---- bytes determine the points
 
 abbrev AreFit : List Point → Type 0
 AreFit points = AllByRecursion FitsPoint points

@@ -7,7 +7,7 @@ use Rattle.sqlite.specs.declared.types.Value.{Value}
 use Rattle.sqlite.specs.declared.types.Value.TheVariants.{Null}
 use Rattle.pt_tables_rows.specs.Rows.{number_value}
 
--- so many columns of a row from one place on
+-- this many columns of a row from one place on
 abbrev pub columns_from : ℕ → ℕ → Row → Row
 columns_from place zero row = []
 columns_from place (suc count) row = column row place ∷ columns_from (suc place) count row
@@ -26,7 +26,7 @@ pub number-only : (n only : ℕ) → IsInRange only only n → number_value only
 number-only n only range =
     let same : only ≡ n = let least = range.0 in let most = range.1 in omega arith in ap (λ (k : ℕ). number_value k) same
 
--- a row of so many columns is their values
+-- a row with this many columns is the list of their values
 pub eleven-read : (row : Row) {v0 v1 v2 v3 v4 v5 v6 v7 v8 v9 v10 : Value} → length row ≡ 11
     → v0 ≡ column row 0 → v1 ≡ column row 1 → v2 ≡ column row 2 → v3 ≡ column row 3 → v4 ≡ column row 4
     → v5 ≡ column row 5 → v6 ≡ column row 6 → v7 ≡ column row 7 → v8 ≡ column row 8 → v9 ≡ column row 9

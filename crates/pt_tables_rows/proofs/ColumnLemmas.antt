@@ -1,4 +1,4 @@
--- What stands in a column of a row.
+-- The values in the columns of a row.
 use Rattle.std.proofs.Common.{◌≡◌, ℕ, List, Option, None, Some, refl}
 use Rattle.std.specs.Prelude.{ℤ, pos, negsuc}
 use Rattle.sqlite.specs.declared.types.Value.{Value}
@@ -6,7 +6,7 @@ use Rattle.sqlite.specs.declared.types.Value.TheVariants.{Null, Int, Real, Text,
 use Rattle.sqlite.specs.Order.{Row, bytes, column}
 use Rattle.pt_tables_rows.specs.Rows.{optional_value}
 
--- the number of a value, and 0 where it has none
+-- the number of a value, or 0 if it has none
 abbrev pub integer_of : Value → ℤ
 integer_of Null = pos 0
 integer_of (Int z) = z
@@ -34,7 +34,7 @@ known_in place row = known_of (integer_in place row)
 abbrev pub bytes_in : ℕ → Row → List ℕ
 bytes_in place row = bytes (column row place)
 
--- a number that may be absent is told by its value
+-- the value of a column determines an optional number
 pub known-value : (n : Option ℕ) → known_of (integer_of (optional_value n)) ≡ n
 known-value None = refl
 known-value (Some n) = refl

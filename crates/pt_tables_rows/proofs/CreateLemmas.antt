@@ -1,4 +1,4 @@
--- What the statements that make the tables do, one after the other, and what rows a new desk then has.
+-- What the statements that create the tables do, one after the other, and which rows a new desk then has.
 use Rattle.std.proofs.Common.{◌≡◌, ◌≢◌, ◌<◌, ◌+◌, ◌-◌, ℕ, zero, suc, List, [], ◌∷◌, ◌++◌, IsPermutation, false, None, Some, Ok, refl, sym, ap, subst, ◌∙◌, arith, slice_get, slice_index_or, fold, map, drop, take, length}
 use Rattle.std.specs.List.{AllByRecursion}
 use Rattle.sqlite.specs.Command.TheVariants.{CreateTable, CreateIndex}
@@ -35,7 +35,7 @@ statements_of_tables = map (λ statement. statement.now) FIRST_TABLES
 abbrev pub first_count : ℕ
 first_count = length first_tables
 
--- the schema after so many of the statements
+-- the schema after this many of the statements
 abbrev pub schema_after : ℕ → Schema
 schema_after n = fold created no_schema (take n first_tables)
 
@@ -102,7 +102,7 @@ step_10 : StepAt 10
 unfolding understood everything
 step_10 = record { is = refl; whole = refl; plain = (refl, refl); defined = refl; counts = refl }
 
--- so many of the tables are there, and have no row
+-- this many of the tables are there, and have no row
 pub record IsMade (n : ℕ) (db : Database) : Type 0 where
   pub schema : db.schema ≡ schema_after n
   pub rows : AllByRecursion (λ t. db.trees t.tree ≡ []) (schema_after n).tables
@@ -112,7 +112,7 @@ still_empty [] old new keeps empty = tt
 still_empty (t ∷ ts) old new keeps empty = (keeps.0 ∙ empty.0, still_empty ts old new keeps.1 empty.1)
 
 module _ (schema : Schema) (text : List ℕ) (table : Table) (step : Step schema text table) where
-  -- what a CREATE TABLE makes: a table with no row, beside others that keep theirs
+  -- what a CREATE TABLE makes: a table with no row, and the other tables keep theirs
   creates : (old new : Connected) (count : ℕ) → old.now.schema ≡ schema → Executes text [] old new (Ok count)
       → (new.now.schema ≡ created schema (as_read table)) × KeepsRows schema.tables old.now.trees new.now.trees × (new.now.trees (next_tree schema) ≡ [])
   creates old new count has h =
@@ -181,7 +181,7 @@ other_count = length statements_of_others
 abbrev statement_at : ℕ → List ℕ
 statement_at n = slice_index_or statements_of_others n []
 
--- the schema after so many of the statements
+-- the schema after this many of the statements
 abbrev pub added_after : ℕ → Schema
 added_after n = fold (λ schema index. indexed schema trips_table index) (fold created first_schema (take n chairs_tables)) (take (n - length chairs_tables) trip_indexes)
 
@@ -282,7 +282,7 @@ Same old new t = new t.tree ≡ old t.tree
 abbrev Empty : Trees → Table → Type 0
 Empty trees t = trees t.tree ≡ []
 
--- after so many of the statements such tables stand beside the first ones, with no row
+-- after this many of the statements, the added tables are there with no row, next to the first ones
 pub record IsAdded (n : ℕ) (old db : Database) : Type 0 where
   pub schema : db.schema ≡ added_after n
   pub kept : AllByRecursion (λ t. db.trees t.tree ≡ old.trees t.tree) first_tables
@@ -351,7 +351,7 @@ blank_then old new blank adds = record {
 
 -- ---- the rows of a new desk
 
--- a table with no row stands for no record
+-- a table with no row has no record
 pub none_there : (table : Table) (trees : Trees) (rows : List Row) → trees table.tree ≡ [] → rows ≡ [] → AreRows table trees rows
 none_there table trees rows empty none = IsPermutation-same _ rows (ap (map (columns_of table)) empty ∙ sym none)
 
@@ -359,7 +359,7 @@ no_rowids : (ts : List Table) (trees : Trees) → AllByRecursion (Empty trees) t
 no_rowids [] trees empty = tt
 no_rowids (t ∷ ts) trees empty = (subst HaveRowids (sym empty.0) (record { rising = tt; whole = tt }), no_rowids ts trees empty.1)
 
--- it is neither the agency's table nor that of the callers
+-- the table is not the agency's, and not that of the callers
 abbrev IsBeyond : Table → Type 0
 IsBeyond t = (t.tree ≢ desk_table.tree) × (t.tree ≢ callers_table.tree)
 
@@ -433,7 +433,7 @@ module _ (policy : Policy) (caller : Caller) (blank desked done : Database) (fir
         trip_chairs = none_there trip_chairs_table trees [] none.1.1.1.1.1.1.1.1.1.1.1.0 refl;
       }
 
-  -- a content with this caller alone, and a policy that shows as the one that was written
+  -- a content with this caller alone, and a policy with the same row as the one that was written
   pub stands_new : (content : State) → desk_row content.policy 0 ≡ desk_row policy 0 → content ≡ new_state (caller ∷ []) content.policy → Stands content done
   stands_new content same is = subst (λ (s : State). Stands s done) (sym is) (record {
     schema = callers.schema;

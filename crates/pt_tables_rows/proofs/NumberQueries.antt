@@ -1,4 +1,4 @@
--- What a query answers that asks a table for the row with a number.
+-- The answer to a query for the row of a table with a number.
 use Rattle.std.proofs.Common.{◌≡◌, ℕ, ℤ, pos, negsuc, List, [], ◌∷◌, map, filter, flat_map, Bool, true, false, cond, Some, None, refl, sym, ap, subst, ◌∙◌, arith}
 use Rattle.std.specs.Prelude.{IsPermutation, unwrap_or, nat_le, ◌^◌}
 use Rattle.std.specs.List.{list_all}
@@ -55,7 +55,7 @@ none_given : (b : Bool) (rows : List Row) → unwrap_or (cond b None None) rows 
 none_given true rows = refl
 none_given false rows = refl
 
--- no table stands over those of the database
+-- an empty overlay leaves the tables of the database as they are
 pub bare : (db : Trees) (tree : ℕ) → overlay db [] tree ≡ db tree
 bare db tree = none_given (nat_le (2 ^ 31) tree) (db tree)
 
@@ -96,7 +96,7 @@ module _ (tree place : ℕ) (fields : List Term) (db : Trees) (params : Row) (id
         let o : Output = output query (params ∷ r ∷ []) in
         shown_are (o ∷ []) (one_permutation o a.ordered (subst (λ k. IsPermutation k a.ordered) (kept_are (r ∷ []) h) a.same))
 
-  -- where no row has the number, none is answered, and where one has it that one
+  -- if no row has the number, the answer is empty; if one row has it, the answer is that row
   pub answers_none : (rows : List Row) → IsAnswer query (overlay db []) params rows → filter (has_rowid id) (db tree) ≡ [] → rows ≡ []
   answers_none rows a = none_answered rows a
 

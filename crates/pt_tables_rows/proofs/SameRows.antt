@@ -1,4 +1,5 @@
--- Records are told by their rows, and so well-formed contents with the same rows are the same; which contents are well-formed.
+-- Rows determine records, and so well-formed contents with the same rows are the same. Also which contents are
+-- well-formed.
 use mathlib.Core.HLevel.{is_prop→PathP}
 use Rattle.std.proofs.Common.{◌≡◌, ℕ, zero, suc, ◌≤◌, Bool, true, false, not, List, [], ◌∷◌, map, flat_map, Option, None, Some, refl, sym, ap, subst, ◌∙◌, arith}
 use Rattle.std.proofs.Props.{props}
@@ -109,9 +110,9 @@ place-told one other same =
           (λ j. plane-prop _ _) one.on_plane other.on_plane i;
     }
 
--- ---- rows that stand where something is so
+-- ---- rows that are there if a value is true
 
--- they are told by how many there are
+-- their number determines the value
 pub so_told : (one other : Bool) (a b : Row) → IsPermutation (row_if one a) (row_if other b) → one ≡ other
 so_told true true a b same = refl
 so_told false false a b same = refl
@@ -124,7 +125,7 @@ pub so_keyed : (so : Bool) (row : Row) (key_in : Row → ℕ) (key : ℕ) → ke
 so_keyed true row key_in key is = (is, tt)
 so_keyed false row key_in key is = tt
 
--- a number is told where it is not nought
+-- a number other than zero has a row
 is_some : (n : ℕ) → not (suc n == 0) ≡ true
 is_some n = grind (arith, nat_tests)
 
@@ -270,7 +271,7 @@ kept-told one other ones others same =
 
 -- ---- entries of case files
 
--- what an entry has beside its conditions: its kind, its numbers and its words
+-- what an entry has besides its conditions: its kind, its numbers and its words
 abbrev HasSameFields : Entry → Entry → Type 0
 HasSameFields one other =
     (entry_number one ≡ entry_number other) × (first_number one ≡ first_number other)
@@ -325,7 +326,7 @@ entry-told one other ones others same =
 pub day-word : (n : ℕ) → IsDay n → IsWord n
 day-word n day = let last = day.1 in omega arith
 
--- plans that keep to their ranges and have stops are told by rows
+-- rows can represent plans that are in their ranges and have stops
 pub stored-plans : (plans : List Plan) → Each FitsPlan plans → Each HasStops plans → Each IsStoredPlan plans
 stored-plans plans fits some = Each-both FitsPlan HasStops IsStoredPlan (λ plan fits some. (fits, some)) plans fits some
 
@@ -420,7 +421,7 @@ module _ (shown : List Row) where
       told_by_rows plan_key pair_in stop_rows IsStoredPlan (λ x. stops-keyed 0 x.vehicle x.day x.stops) (λ x fits. stops-some x fits.1) (λ x y fits also. plan-told x y fits.1 also.1)
       one other order other_order fit others_fit (shared _ _ _ rows other_rows)
 
--- the same, where a second table has rows beside those of the first
+-- the same, if a second table has rows of the same records
 module _ (shown beside : List Row) where
   pub same_riders : (one other : List Rider) → IsInOrder rider_key one → IsInOrder rider_key other → IsPermutation shown (map rider_row one) → IsPermutation shown (map rider_row other)
       → IsPermutation beside (flat_map rider_chair_rows one) → IsPermutation beside (flat_map rider_chair_rows other) → one ≡ other

@@ -1,4 +1,4 @@
--- What stands in a column as bytes is told by them: the points of a line, a reply, the conditions of a grant.
+-- The bytes of a column determine its value: the points of a line, a reply, the conditions of a grant.
 use Rattle.std.proofs.Common.{◌≡◌, ℕ, ◌<◌, ◌≤◌, List, [], ◌∷◌, length, length-append, map, flat_map, get_or, drop}
 use Rattle.std.proofs.Common.{decimal, refl, sym, ap, ap₂, ◌∙◌, arith}
 use Rattle.std.specs.Char.{digit_value}

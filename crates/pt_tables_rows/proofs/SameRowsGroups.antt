@@ -1,4 +1,4 @@
--- Records of several rows are told by them: plans and travel tables.
+-- Rows determine records that have several: plans and travel tables.
 use borrow.Author.Tests.{eqb-true}
 use Rattle.std.proofs.Common.{◌≡◌, inl, inr, ℕ, zero, suc, ◌+◌, ◌*◌, ◌<◌, ◌≤◌, Bool, true, List, [], ◌∷◌, length, map}
 use Rattle.std.proofs.Common.{get_or, drop, refl, sym, ap, ap₂, subst, arith, mul-le-mul_right, suc-mul}
@@ -38,7 +38,7 @@ stops-some plan some = go 0 plan.stops some
     go from [] some = absurd (omega arith)
     go from (stop ∷ stops) some = omega arith
 
--- the places of the stops rise
+-- the places of the stops ascend
 stops-above : (below from vehicle day : ℕ) (stops : List PlannedStop) → below < from
     → Each (λ row. below < number_in 2 row) (stop_rows_from from vehicle day stops)
 stops-above below from vehicle day [] above = tt
@@ -71,7 +71,7 @@ stops-told from vehicle day bus date (s ∷ one) (t ∷ other) same =
     ap₂ ◌∷◌ (stop-told s t from vehicle day bus date one other same)
     (stops-told (from + 1) vehicle day bus date one other (ap (λ (rows : List Row). drop 1 rows) same))
 
--- the first row tells the vehicle and the day
+-- the first row has the vehicle and the day
 first-told : (one other : Plan) → 0 < length one.stops → 0 < length other.stops → stop_rows one ≡ stop_rows other
     → (one.vehicle ≡ other.vehicle) × (one.day ≡ other.day)
 first-told one other some others_some same = go one.stops other.stops some others_some same
@@ -105,7 +105,7 @@ pub drives-back : (from_day : ℕ) (rows : List travel.Row) → map drive_in (ma
 drives-back from_day [] = refl
 drives-back from_day (row ∷ rows) = ap (λ (l : List travel.Row). row ∷ l) (drives-back from_day rows)
 
--- a row of noughts
+-- a row of zeros
 abbrev is_nought : travel.Row → Bool
 is_nought row = row.0 == 0 && row.1 == 0 && row.2 == 0
 

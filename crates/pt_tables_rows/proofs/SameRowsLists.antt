@@ -1,4 +1,4 @@
--- Records in order of key are told by their rows, in whatever order the rows come.
+-- Rows, in any order, determine the records in the order of their keys.
 use Rattle.std.proofs.Common.{◌≡◌, ℕ, suc, ◌+◌, ◌<◌, ◌≤◌, Bool, true, false, not, cond, List, [], ◌∷◌, ◌++◌, length}
 use Rattle.std.proofs.Common.{map, filter, flat_map, get_or, length-append, append-nil, refl, sym, ap, ap₂, ◌∙◌, subst}
 use Rattle.std.proofs.Common.{arith}
@@ -27,7 +27,7 @@ same_not a b same = ap not (same_test a b same)
 other_not : (a b : ℕ) → b < a → not (a == b) ≡ true
 other_not a b above = ap not (other_test a b above)
 
--- what all rows of one record keep to holds of one, if there are rows
+-- what holds of all rows of a record holds of one, if there are rows
 one_of : {R : Type 0} (P : Type 0) (Q : R → Type 0) (rows : List R) → 0 < length rows → AllByRecursion Q rows
     → ((r : R) → Q r → P) → P
 one_of P Q [] some all give = absurd (omega arith)
@@ -61,7 +61,7 @@ module _ {A R : Type 0} (key : A → ℕ) (key_in : R → ℕ) (rows : A → Lis
       (rows_above (key x) xs order.0) in
       all-append (λ r. key x ≤ key_in r) (rows x) (flat_map rows xs) here later
 
-  -- by its key the first record's rows are found
+  -- the first record's rows are found by its key
   first_rows : (x : A) (xs : List A) → IsInOrder key (x ∷ xs)
       → filter (λ r. key_in r == key x) (flat_map rows (x ∷ xs)) ≡ rows x
   first_rows x xs order =
@@ -135,7 +135,7 @@ no_rows : {A R : Type 0} (rows : A → List R) (y : A) (ys : List A) → 0 < len
     → length (flat_map rows (y ∷ ys)) ≡ 0 → ⊥
 no_rows rows y ys some none = absurd (omega (arith, length-append (rows y) (flat_map rows ys)))
 
--- Records that have rows, are in order of their keys, and are told by their rows from those with the same key.
+-- Rows determine records in the order of their keys, if each has a row and two records of one key have different rows.
 pub told_by_rows : {A R : Type 0} (key : A → ℕ) (key_in : R → ℕ) (rows : A → List R) (Fits : A → Type 0)
     (keyed : (x : A) → AllByRecursion (λ r. key_in r ≡ key x) (rows x))
     (some : (x : A) → Fits x → 0 < length (rows x))
@@ -174,7 +174,7 @@ told_by_row {A} {R} key key_in row Fits keyed told xs ys one other ones others s
     (subst (λ rs. IsPermutation rs (flat_map (λ x. row x ∷ []) ys)) (sym (map_as_flat_map row xs))
     (subst (IsPermutation (map row xs)) (sym (map_as_flat_map row ys)) same))
 
--- records of one row each and of rows beside it
+-- records of one row each, with rows in a second table
 pub told_beside : {A R S : Type 0} (key : A → ℕ) (key_in : R → ℕ) (row : A → R) (key_beside : S → ℕ) (beside : A → List S)
     (Fits : A → Type 0) (keyed : (x : A) → key_in (row x) ≡ key x)
     (also_keyed : (x : A) → AllByRecursion (λ s. key_beside s ≡ key x) (beside x))
@@ -209,12 +209,12 @@ told_beside {A} {R} {S} key key_in row key_beside beside Fits keyed also_keyed t
         let later_also = others_among key key_beside beside also_keyed x y xs ys level one other also in
         ap₂ ◌∷◌ (told x y ones.0 others.0 first first_also) (go xs ys one.1 other.1 ones.1 others.1 later later_also)
 
--- nothing is said of each
+-- the empty condition holds of each element
 pub each_any : {A : Type 0} (xs : List A) → Each (λ x. Unit {0}) xs
 each_any [] = tt
 each_any (x ∷ xs) = (tt, each_any xs)
 
--- and so records that any row of theirs tells
+-- and so records that any of their rows determines
 pub told_by_any_row : {A R : Type 0} (key : A → ℕ) (key_in : R → ℕ) (row : A → R)
     (keyed : (x : A) → key_in (row x) ≡ key x) (told : (x y : A) → row x ≡ row y → x ≡ y)
     (xs ys : List A) → IsInOrder key xs → IsInOrder key ys → IsPermutation (map row xs) (map row ys) → xs ≡ ys
@@ -222,7 +222,7 @@ told_by_any_row key key_in row keyed told xs ys one other same =
     told_by_row key key_in row (λ x. Unit {0}) keyed (λ x y fits others_fit. told x y) xs ys one other (each_any xs)
     (each_any ys) same
 
--- rows that are in order of a number are in the one order
+-- rows in the order of a number have only one order
 pub in_one_order : {R : Type 0} (key : R → ℕ) (xs ys : List R) → IsInOrder key xs → IsInOrder key ys
     → IsPermutation xs ys → xs ≡ ys
 in_one_order {R} key xs ys one other same =

@@ -18,7 +18,7 @@ use Rattle.pt_tables_rows.specs.Tables.{columns_of}
 use Rattle.pt_tables_writing.proofs.InsertLemmas.{IsInsert, inserts}
 use Rattle.pt_tables_writing.proofs.TreeLemmas.{AreWhole, put-last, turned}
 
--- these values behind a rowid that is one above the last
+-- these values after a rowid that is one above the last
 abbrev pub behind : Row → List Row → Row
 behind values rows = Int (next_rowid rows) ∷ values
 
@@ -31,7 +31,7 @@ behind_all (values ∷ more) rows = behind values rows ∷ behind_all more (put_
 abbrev pub IsShownSo : Table → Row → Type 0
 IsShownSo table values = (id : ℤ) → columns_of table (Int id ∷ values) ≡ values
 
--- what a query shows of the tree, whose rowids are integers that rise
+-- what a query shows of the tree, whose rowids are integers in ascending order
 record Shows (table : Table) (tree rows : List Row) : Type 0 where
   pub rows_are : IsPermutation (map (columns_of table) tree) rows
   pub rising : IsTable tree

@@ -1,4 +1,4 @@
--- What the statements mean that put rows beside those of records, one at most for each.
+-- What the statements mean that put rows of second tables, at most one for each record.
 use Rattle.std.proofs.Common.{◌≡◌, ℕ, ◌<◌, ◌^◌, ◌==◌, pos, Bool, true, false, not, List, [], ◌∷◌, ◌++◌, flat_map, IsTrue, Result, Ok, Err, refl, sym, ap, subst}
 use Rattle.std.specs.Prelude.{IsPermutation}
 use Rattle.std.specs.List.{AllByRecursion}
@@ -43,7 +43,7 @@ use Rattle.pt_tables_writing.proofs.UpsertLemmas.{IsUpsert, upserted, only_first
 use Rattle.pt_tables_rows.proofs.SameRows.{day-word}
 use Rattle.pt_desk_rules.specs.Ranges.{FitsRider, FitsTrip}
 
--- a record with no row is put where that of one with its key is taken away
+-- to put a record with no row is to delete the row of the one with its key
 pub puts_none : {A : Type 0} (table : Table) (key : A → ℕ) (Fits : A → Type 0) (rows_of : A → List Row) (new : A) → rows_of new ≡ [] → (old_db new_db : Database)
     → Takes table key Fits rows_of new old_db new_db → Puts table key Fits rows_of new old_db new_db
 puts_none table key Fits rows_of new none old_db new_db took xs order fits =

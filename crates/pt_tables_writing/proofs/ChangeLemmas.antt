@@ -21,7 +21,7 @@ did_run old new ran makes clean inside =
     let all = ran clean inside in
     (keeps_shown old new all.1, all.1.mode, makes all.0)
 
--- a record is taken away, and its rows are added
+-- a record is removed, and its rows are added
 pub did_put : {A X Y : Type 0} (table : Table) (key : A → ℕ) (Fits : A → Type 0) (rows : A → List Row) (new : A) (a b c : State) (x : X) (r : Result Y Error)
     → Survives b c (λ _. ⊥) → Makes a b (Takes table key Fits rows new) (Ok x) → Makes b c (Adds table (rows new)) r → Makes a c (Puts table key Fits rows new) r
 did_put table key Fits rows new a b c x r =

@@ -1,4 +1,4 @@
--- What the statement means that writes the agency's row anew.
+-- What the statement means that overwrites the agency's row.
 use Rattle.std.proofs.Common.{◌≡◌, ℕ, pos, [], ◌∷◌, not, cond, Ok, refl, ap}
 use Rattle.std.specs.Ordering.{is_eq}
 use Rattle.sqlite.specs.Cast.{cast_row}

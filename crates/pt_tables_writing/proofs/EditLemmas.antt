@@ -1,4 +1,4 @@
--- What the parts of a statement make of its table: no action of a foreign key is set off in this schema.
+-- What the parts of a statement do to its table: this schema has no actions of foreign keys.
 use Rattle.std.proofs.Common.{◌≡◌, ◌⊎◌, inl, inr, ℕ, ◌==◌, Bool, true, false, List, [], ◌∷◌, ◌++◌, length, flat_map, Option, Some, None, Ok, Err, refl, sym, ap, subst}
 use Rattle.std.specs.List.{filter_map}
 use Rattle.sqlite.specs.Cast.{cast_row}
@@ -62,7 +62,7 @@ module _ (limit : Option ℕ) (params : Row) (table : Table) where
       let all = stepped db it.0 (edit_of db table [] Given 0 (new ∷ [])) it.1 in
       subst (Makes table (put_row (cast_row table new) (db table.tree)) db) (sym (ap (λ (x : Written). x.trees) (same_value it.2))) all
 
-  -- an UPDATE puts what it answers in place of the rows with the rowids that it answers
+  -- an UPDATE replaces the rows with the rowids that its query returns
   pub updates_rows : (q : Program) (given : Row) (db : Trees) (w : Written) → Updates task q given db (Ok w)
       → (rows : List Row) × Answers (record { schema = desk_schema; trees = db }) q given rows
       × Makes table (put_all (without_all (db table.tree) (ids_of rows)) (edit_of db table (ids_of rows) Given 1 rows).news) db w.trees
@@ -75,7 +75,7 @@ module _ (limit : Option ℕ) (params : Row) (table : Table) where
         subst (Makes table (put_all (without_all (db table.tree) (ids_of it.0)) edit.news) db) (sym (ap (λ (x : Written). x.trees) (same_value rest.2))) (stepped db rest.0 edit rest.1),
       )
 
-  -- a DELETE takes away the rows with the rowids that it answers
+  -- a DELETE removes the rows with the rowids that its query returns
   pub deletes_rows : (q : Program) (db : Trees) (w : Written) → Deletes task q db (Ok w)
       → (rows : List Row) × Answers (record { schema = desk_schema; trees = db }) q params rows × Makes table (without_all (db table.tree) (ids_of rows)) db w.trees
   deletes_rows q db w h =
@@ -87,7 +87,7 @@ module _ (limit : Option ℕ) (params : Row) (table : Table) where
         subst (Makes table (without_all (db table.tree) (ids_of it.0)) db) (sym (ap (λ (x : Written). x.trees) (same_value rest.2))) (stepped db rest.0 edit rest.1),
       )
 
-  -- one row under one ON CONFLICT .. DO UPDATE: it is put, or the row that stands in its way is updated
+  -- one row with ON CONFLICT .. DO UPDATE: it is put, or the row in conflict is updated
   abbrev pub PutsOrUpdates : Row → Trees → Written → Option (List ℕ) → Program → Type 0
   PutsOrUpdates new db w target q =
       Puts task new db (Ok w)

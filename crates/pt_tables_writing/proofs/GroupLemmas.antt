@@ -1,5 +1,5 @@
--- The tables of a content one by one, and what edits of some, by lists that agree with what is there, make of all, one
--- after the other.
+-- The tables of a content one by one, and what edits of some tables do to all, one after the other. The edits use lists
+-- that agree with the stored records.
 use Rattle.std.proofs.Common.{◌≡◌, ◌≢◌, ◌++◌, ◌+◌, ℕ, true, not, IsTrue, List, [], ◌∷◌, take, drop, map, flat_map, IsPermutation, sym, subst, arith, refl}
 use Rattle.std.specs.Prelude.{◌==◌}
 use Rattle.std.specs.List.{AllByRecursion, list_all}
@@ -91,7 +91,7 @@ as_flat_map : {A : Type 0} (t : Table) (row : A → Row) (xs : List A) (trees : 
     → AreRows t trees (each_row row xs)
 as_flat_map t row xs trees h = subst (AreRows t trees) (sym (flat_map_single row xs)) h
 
--- the tables of some parts hold their rows where these are their rows, and their rowids are integers that rise
+-- the tables of some parts hold their rows, if these are their rows and their rowids are integers in ascending order
 hold_all : (ps : List Part) (trees : Trees) → AllByRecursion (λ p. AreRows p.table trees p.rows) ps → AllByRecursion (λ t. HaveRowids (trees t.tree)) (map (λ p. p.table) ps) → HoldAll trees ps
 hold_all [] trees are ids = tt
 hold_all (p ∷ ps) trees are ids = (record { rows = are.0; rising = ids.0.rising; whole = ids.0.whole }, hold_all ps trees are.1 ids.1)
@@ -213,7 +213,7 @@ module _ (t : Table) (before after : List Row) (a b : Database) (change : Rewrit
       (still_all front (all_front IsOther front (one ∷ back) others) apart (all_front P front (one ∷ back) held))
       (change.rows rest.0, still_all back rest_others.1 apart_back rest.1)
 
--- where the parts of two contents are the same but for one, whose table is rewritten, the tables hold those of the other
+-- if the parts of two contents differ only in one, whose table is rewritten, the tables hold those of the other
 pub turned_at : (place : ℕ) (s new : State) (m n : Marks) (t : Table) (before after : List Row) (a b : Database) → Rewrites t before after a b → HoldAll a.trees (parts s m)
     → parts s m ≡ take place (parts s m) ++ record { table = t; rows = before } ∷ drop (place + 1) (parts s m)
     → take place (parts s m) ++ record { table = t; rows = after } ∷ drop (place + 1) (parts s m) ≡ parts new n
@@ -232,11 +232,11 @@ taken_whole : {A : Type 0} (key : A → ℕ) (spans : List Span) (xs : List A) �
 taken_whole key [] xs = tt
 taken_whole key (span ∷ spans) xs = (refl, taken_whole key spans xs)
 
--- any list of a table agrees, of which nothing is taken away
+-- any list agrees with a table from which nothing is removed
 taken_nothing : {A : Type 0} (key : A → ℕ) (spans : List Span) (known there : List A) → spans ≡ [] → KnowsTaken key spans known there
 taken_nothing key spans known there none = subst (λ ss. KnowsTaken key ss known there) (sym none) tt
 
--- the lists that have what a keeper knows in memory agree, where the change takes away nothing else but plans
+-- the lists of what a keeper has in memory agree, if the change removes only plans from the other tables
 pub agrees_known : (change : Change) (there : State) → change.kept.away ≡ [] → change.riders.away ≡ [] → change.entries.away ≡ []
     → change.trips.away ≡ [] → AgreesFor change (known_of there) there
 agrees_known change there kept riders entries trips = record {
@@ -303,7 +303,7 @@ Unmarked-vehicles change known =
 abbrev pub Marks-vehicles : Change → Database → Database → Type 0
 Marks-vehicles change = PutsAll vehicle_chairs_table vehicle_key IsVehicle vehicle_chair_rows change.vehicles.puts
 
--- the agency's row, as the change leaves it
+-- the agency's row after the change
 abbrev pub Known-settings : Change → State → Database → Database → Type 0
 Known-settings change known =
     OfEach (AgreesFor change known) (λ content old new. (p : Policy) (n : ℕ) →

@@ -1,4 +1,4 @@
--- Rows that are found by the numbers in their first columns.
+-- Rows found by the numbers in their first columns.
 use Rattle.std.proofs.Common.{◌≡◌, ℕ, ◌<◌, ◌==◌, pos, [], ◌∷◌, Bool, true, false, ◌&&◌, refl, ap, ap₂, ◌∙◌, int_cmp, int_le, arith}
 use Rattle.std.specs.Prelude.{nat_le}
 use Rattle.std.specs.Ordering.{nat_cmp, is_eq}

@@ -1,4 +1,4 @@
--- The rows of a table whose rowids are the numbers of its records, with one put or taken away, in any order.
+-- The rows of a table whose rowids are the numbers of its records, with one put or removed, in any order.
 use Rattle.std.proofs.Common.{◌≡◌, ◌⊎◌, inl, inr, ℕ, ℤ, pos, ◌<◌, ◌==◌, List, [], ◌∷◌, map, filter, not, Bool, true, false, cond, refl, sym, ap, subst, ◌∙◌, Less, Equal, Greater, int_cmp, arith, true≢false}
 use Rattle.std.specs.Prelude.{IsPermutation}
 use Rattle.std.specs.Ordering.{match_ordering, nat_cmp, is_eq, is_lt}
@@ -28,7 +28,7 @@ none_later id r rows h table = later_rowids (Int id) r rows h table.0
 none_dropped : (id : ℤ) (rows : List Row) → AllByRecursion (λ x. has_rowid id x ≡ false) rows → without_rowid id rows ≡ rows
 none_dropped id rows none = filter_all _ rows (all_weaker _ (λ x. not (has_rowid id x) ≡ true) (λ x k. ap not k) rows none)
 
--- a row that is put stands beside those with other rowids
+-- after a put, a table has the new row and those with other rowids
 pub put_row-permutation : (id : ℤ) (new : Row) → rowid new ≡ Int id → (rows : List Row) → IsTable rows → IsPermutation (put_row new rows) (new ∷ without_rowid id rows)
 put_row-permutation id new keyed [] table = IsPermutation-refl _
 put_row-permutation id new keyed (r ∷ rows) table = rw keyed (go (value_cmp (rowid r) (Int id)) refl (put_row-permutation id new keyed rows table.1))
@@ -108,7 +108,7 @@ module _ {A : Type 0} (key : A → ℕ) where
   none_same new [] above = refl
   none_same new (x ∷ xs) above = let other : not (key x == key new) ≡ true = grind (arith, nat_tests, above.0) in ap (λ b. cond b (x ∷ others new xs) (others new xs)) other ∙ ap (λ l. x ∷ l) (none_same new xs above.1)
 
-  -- a record that is put stands beside those with other keys
+  -- after a put, a list has the new record and those with other keys
   pub put-permutation : (new : A) (xs : List A) → IsInOrder key xs → IsPermutation (put key new xs) (new ∷ others new xs)
   put-permutation new [] order = IsPermutation-refl _
   put-permutation new (x ∷ xs) order = elim (compared (key x) (key new)) [

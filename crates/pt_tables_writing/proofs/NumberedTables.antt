@@ -1,4 +1,4 @@
--- What the statements mean that put the records of numbered tables and take them away, table by table.
+-- What the statements mean that put and delete the records of numbered tables, table by table.
 use Rattle.std.proofs.Common.{◌≡◌, ◌+◌, ◌/◌, ℕ, zero, suc, pos, true, false, List, [], ◌∷◌, ◌++◌, Some, Ok, length, drop, refl, ap₂}
 use Rattle.std.specs.Prelude.{slice_get}
 use Rattle.sqlite.specs.Cast.{cast_row}
@@ -42,7 +42,7 @@ use Rattle.pt_tables_writing.proofs.UpsertLemmas.{IsUpsert, by_number, only_firs
 
 -- ---- what is computed of a text
 
--- so many parameters from this one on
+-- this many parameters from this one on
 abbrev parameters : ℕ → ℕ → List Term
 parameters from zero = []
 parameters from (suc count) = col 0 from ∷ parameters (from + 1) count
@@ -66,7 +66,7 @@ module _ (text : List ℕ) (table : Table) (at count id : ℕ) (rest : Row) wher
   abbrev given : Row → List Row
   given there = (row ++ Int (pos id) ∷ shown table (stored row)) ∷ there ∷ []
 
-  -- a text whose parameters are a number and so many columns puts the row that they are into the table at this place
+  -- a statement with a number and this many columns as parameters puts their row into the table at this place
   puts_row : slice_get tables at ≡ Some table → command_of (understood desk_schema text) ≡ InsertOr at Abort (Values terms (count + 2)) (by_number table.tree (count + 1) fields ∷ [])
       → IsPlain (understood desk_schema text) → table.is_counted ≡ false → value_rows (stamped table row) (count + 2) (length terms / (count + 2)) terms ≡ stored row ∷ []
       → cast_row table (stored row) ≡ stored row
@@ -137,7 +137,7 @@ puts_caller = puts_by callers_table caller_key IsCaller caller_row (λ r. refl) 
 pub takes_caller : TakesBy callers_table caller_key IsCaller caller_row TAKE_CALLER.now
 takes_caller = takes_by callers_table caller_key IsCaller caller_row (λ r. refl) (λ x. refl) TAKE_CALLER.now caller_take
 
--- ---- what is kept of them
+-- ---- their last accepted writes
 
 kept_cast : (kept : Kept) → cast_row kept_table (stored (kept_row kept)) ≡ stored (kept_row kept)
 kept_cast kept = simp (cast_null, cast_int)

@@ -1,4 +1,4 @@
--- What it makes of the records of a table that a numbered row is put in it, or taken away.
+-- What happens to the records of a table when a numbered row is put or deleted.
 use Rattle.std.proofs.Common.{◌≡◌, inl, inr, ℕ, ◌==◌, ℤ, pos, Bool, true, false, not, cond, List, [], ◌∷◌, ◌++◌, map, filter, flat_map, IsTrue, refl, sym, ap, ap₂, subst, ◌∙◌}
 use Rattle.std.specs.Prelude.{IsPermutation}
 use Rattle.std.proofs.lemmas.List.Elements.{filter-append}
@@ -31,7 +31,7 @@ pub numbers-without : (id : ℤ) (tree : List Row) → HasNumbers tree → HasNu
 numbers-without id tree = all-filter (λ r. is_int (rowid r) ≡ true) (λ r. not (has_rowid id r)) tree
 
 module _ (table : Table) (numbered : IsNumbered table) where
-  -- with the row put in, the table holds it beside those with other numbers
+  -- after the put, the table holds the row and those with other numbers
   put_holds : (id : ℤ) (stored row : Row) (before after : List Row) (old new : Trees) → rowid stored ≡ Int id → columns_of table stored ≡ row
       → IsPermutation (row ∷ without_rowid id before) after → PutsIn id stored (old table.tree) (new table.tree) → Holds table before old → Holds table after new
   put_holds id stored row before after old new keyed shows same puts holds =
@@ -65,7 +65,7 @@ nothing : {A : Type 0} (b : Bool) → ◌≡◌ {A = List A} (cond b [] []) []
 nothing true = refl
 nothing false = refl
 
--- ---- records whose number is the key of their row, where they have one
+-- ---- records whose number is the key of their row, if they have one
 
 module _ {A : Type 0} (table : Table) (numbered : IsNumbered table) (key : A → ℕ) (Fits : A → Type 0) (so : A → Bool) (row : A → Row) (keyed : (x : A) → rowid (row x) ≡ Int (pos (key x))) where
   abbrev rows_of : A → List Row
@@ -99,7 +99,7 @@ module _ {A : Type 0} (table : Table) (numbered : IsNumbered table) (key : A →
       (subst (λ rs. IsPermutation (row new ∷ rs) (flat_map rows_of (put key new xs))) (sym (without_so new xs))
       (subst (λ rs. IsPermutation (rs ++ flat_map rows_of (others key new xs)) (flat_map rows_of (put key new xs))) own (rows-put key rows_of new xs order))) puts
 
-  -- the row of a record with its key is taken away
+  -- the row of a record with its key is deleted
   pub takes_so : (gone : A) (old_db new_db : Database) → TakesNumbered table (pos (key gone)) old_db new_db → Takes table key Fits rows_of gone old_db new_db
   takes_so gone old_db new_db took xs order fits = record {
     schema = took.schema;

@@ -114,7 +114,7 @@ module _ (policy : Policy) (last_trip : ℕ) where
       }
 
   module _ (old new : State) (count : ℕ) (has : old.now.schema ≡ desk_schema) (h : Executes RAISE_VERSION.now given old new (Ok count)) where
-    -- in a table of that one row stands the new one
+    -- a table of that one row has the new row
     written : (w : Wrote old new given desk_table (Update 0 program)) → TheRow (old.now.trees desk_table.tree) → new.now.trees desk_table.tree ≡ stored policy last_trip ∷ []
     written w one =
         let db = old.now.trees in

@@ -107,7 +107,7 @@ module _ {A : Type 0} (key : A → ℕ) where
         rewrites-permuted table _ _ _ a c (rows-put new xs order)
         (rewrites_then table (flat_map rows xs) (flat_map rows (without (key new) xs)) _ a b c (taken xs order fits) (added (flat_map rows (without (key new) xs))))
 
-    -- a record comes in place of one, whose first rows stay
+    -- a record replaces one whose first rows stay
     pub replaces : (table : Table) (Fits : A → Type 0) (before new : A) (front tail : List Row) (a b c : Database) → rows new ≡ front ++ tail
         → ((others : List A) → Each (λ x. key x ≢ key new) others → Each Fits others → Rewrites table (rows before ++ flat_map rows others) (front ++ flat_map rows others) a b)
         → Adds table tail b c → (xs : List A) → IsInOrder key xs → Each Fits xs → key before ≡ key new → record_at key (key new) xs ≡ Some before

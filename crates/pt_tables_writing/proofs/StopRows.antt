@@ -105,7 +105,7 @@ stops_delete vehicle day = record {
   says = λ r. refl;
 }
 
--- the rows of a plan are told from those of another
+-- the rows of a plan are not those of another
 told : (gone : Plan) → gone.day < 2 ^ 32 → (vehicle day : ℕ) → day < 2 ^ 32 → (place : ℕ) (stops : List PlannedStop)
     → AllByRecursion (λ r. has_columns (number_value gone.vehicle ∷ number_value gone.day ∷ []) r ≡ (pair_key vehicle day == plan_key gone)) (stop_rows_from place vehicle day stops)
 told gone low vehicle day fits place [] = tt
@@ -132,7 +132,7 @@ and_second false b is = absurd (let no = is in cc)
 same_number : (a b : ℕ) → (a == b) ≡ true → a ≡ b
 same_number a b is = grind (arith, nat_tests)
 
--- the test of a stop's trip and kind tells whether it is the same
+-- the test of a stop's trip and kind shows whether it is the same
 pub same-stop : (a b : PlannedStop) → (((a.trip == b.trip) && true) && sameb the_type a.kind b.kind) ≡ true → a ≡ b
 same-stop a b is =
     let first = and_first ((a.trip == b.trip) && true) (sameb the_type a.kind b.kind) is in
@@ -224,7 +224,7 @@ module _ (plan : Plan) (low : plan.day < 2 ^ 32) (first : ℕ) where
   abbrev is_later : Row → Bool
   is_later = has_columns_from (number_value plan.vehicle ∷ number_value plan.day ∷ []) (number_value first)
 
-  -- its own stops are told by their places
+  -- its own stops are found by their places
   own : (place : ℕ) (stop : PlannedStop) → is_later (stop_row plan.vehicle plan.day (pos place) stop) ≡ nat_le first place
   own place stop =
       from-told plan.vehicle plan.day place plan.vehicle plan.day first (drop 3 (stop_row plan.vehicle plan.day (pos place) stop)) low low

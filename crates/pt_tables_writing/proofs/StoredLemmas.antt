@@ -1,4 +1,4 @@
--- What puts and takes of records make of one table, one after the other.
+-- What puts and removals of records make of one table, one after the other.
 use Rattle.std.proofs.Common.{◌≡◌, ◌++◌, ◌<◌, ◌⊎◌, inl, inr, ℕ, zero, suc, Bool, true, false, not, cond, List, [], ◌∷◌, length, get_or, Option, None, Some, flat_map, filter, refl, sym, ap, subst, ◌∙◌, arith}
 use Rattle.std.specs.Prelude.{◌==◌, ◌||◌}
 use Rattle.std.proofs.lemmas.Bool.Decides.{nat_tests}
@@ -118,7 +118,7 @@ without_all-is key [] xs = none_kept xs
 without_all-is key (g ∷ gone) xs =
     without_all-is key gone (without key g xs) ∙ filter_both (λ x. key x == key g) (λ x. has_key key (key x) gone) xs
 
--- a record that stands in a list has one of its keys
+-- a record in a list has one of its keys
 same_key : (k : ℕ) → (k == k) ≡ true
 same_key k = grind (arith, nat_tests)
 
@@ -183,7 +183,7 @@ each_agrees key span all (x ∷ xs) each = (
   each_agrees key span all xs each.1,
 )
 
--- to take each record of a span away, as it stood before others were taken, is to take the span away
+-- to remove each record of a span, as it was before others were removed, is to remove the span
 taken_one_by_one : {A : Type 0} (key : A → ℕ) (span : Span) (spans : List Span) (xs : List A)
     → without_all key (within key span xs) (take_all key spans xs) ≡ take_away key span (take_all key spans xs)
 taken_one_by_one {A} key span spans xs =
@@ -253,7 +253,7 @@ module _ {A : Type 0} (t : Table) (key : A → ℕ) (Fits : A → Type 0) (rows 
       subst (λ ys. Rewrites t (flat_map rows xs) (flat_map rows ys) a c) same
       (rewrites_then t (flat_map rows xs) (flat_map rows now) (flat_map rows (put_all key puts now)) a b c before then)
 
-  -- an edit that only puts a record in place of one that the lists have
+  -- an edit that only replaces a record that the lists have
   pub replaced_made : (edit : Edit A) (before new : A) (known : List A) → edit ≡ record { away = []; puts = new ∷ [] }
       → record_at key (key new) known ≡ Some before → (a b : Database) → Replaces t key Fits rows before new a b
       → OfEach (KnowsEdited key edit known) (EditsTable t key Fits rows edit) a b

@@ -61,7 +61,7 @@ module _ (from_day : ℕ) (first second third fourth : travel.Row) where
   abbrev four_rows : List Row
   four_rows = map (travel_row from_day) (first ∷ second ∷ third ∷ fourth ∷ [])
 
-  -- the day is told once
+  -- the day is a parameter once
   abbrev pub four_params : Row
   four_params = travel_row from_day first ++ (drop 1 (travel_row from_day second) ++ (drop 1 (travel_row from_day third) ++ drop 1 (travel_row from_day fourth)))
 

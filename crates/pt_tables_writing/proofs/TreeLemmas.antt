@@ -1,4 +1,4 @@
--- Trees whose rowids are integers that rise: what is left without some of them, and what stands behind the last.
+-- Trees whose rowids are integers in ascending order: what is left without some of them, and what follows the last.
 use Rattle.std.proofs.Common.{◌≡◌, ℤ, pos, ◌+ℤ◌, ◌<ℤ◌, List, [], ◌∷◌, ◌++◌, map, filter, fold, drop, not, Bool, true, false, cond, IsTrue, Less, refl, sym, ap, ap₂, subst, ◌∙◌, append_assoc}
 use Rattle.std.specs.Prelude.{IsPermutation}
 use Rattle.std.proofs.lemmas.List.{map-append}
@@ -18,7 +18,7 @@ use Rattle.sqlite_keyed.proofs.WriteLemmas.{removes_delete}
 use Rattle.sqlite_keyed.proofs.ListLemmas.{map-map, filter-map, ascending_weaker, ascending_from_map, ascending-filter, all-filter, along_permutation}
 use Rattle.sqlite_typed.proofs.RowLemmas.{puts-map, deletes-map}
 
--- the first may stand before or behind the second
+-- the first may come before or after the second
 pub turned : {A : Type 0} (first second before : List A) → IsPermutation (second ++ (first ++ before)) ((first ++ second) ++ before)
 turned first second before =
     subst (λ l. IsPermutation l ((first ++ second) ++ before)) (append_assoc second first before)
@@ -102,7 +102,7 @@ whole-filter p rows = all-filter (λ r. IsTrue (is_int (rowid r))) p rows
 pub rising-filter : (p : Row → Bool) (rows : List Row) → IsTable rows → IsTable (filter p rows)
 rising-filter p rows = ascending-filter (λ a b. value_cmp (rowid a) (rowid b) ≡ Less) p rows
 
--- ---- what is put behind the last
+-- ---- what is put after the last
 
 next_is : (cuts : List Cut) (top : ℤ) → fold (λ _ r. id_in (rowid r) +ℤ pos 1) top (map joined cuts) ≡ fold (λ _ c. key_of c +ℤ pos 1) top cuts
 next_is [] top = refl

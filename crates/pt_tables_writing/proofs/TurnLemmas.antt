@@ -16,11 +16,11 @@ use Rattle.pt_tables_writing.specs.Writes.{Rewrites}
 use Rattle.pt_tables_rows.proofs.PartLemmas.{on_ok}
 use Rattle.pt_tables_rows.proofs.StateLemmas.{keeps_then}
 
--- nothing is committed by the one, nor by the other
+-- neither of two statements commits anything
 pub survive_both : (a b c : Connected) → Survives a b (λ _. ⊥) → Survives b c (λ _. ⊥) → Survives a c (λ _. ⊥)
 survive_both a b c p q = survives_then a b c (λ _. ⊥) (λ _. ⊥) (λ _. ⊥) (λ _ db none. none) (λ _ db none. none) p q
 
--- and nothing is where nothing was done
+-- to do nothing commits nothing
 pub survives-self : (a : Connected) → Survives a a (λ _. ⊥)
 survives-self a = record {
   clean = omega arith;
@@ -43,7 +43,7 @@ as_ok : {X : Type 0} (a b : Connected) (F G : Database → Database → Type 0) 
 as_ok a b F G (Ok x) is done = (done.0, done.1, λ has. is (done.2 has))
 as_ok a b F G (Err e) is done = done
 
--- what was done is also this
+-- if a change implies another description, the statement makes that too
 pub did_as : {X : Type 0} (a b : Connected) (F G : Database → Database → Type 0) (r : Result X Error)
     → (F a.now b.now → G a.now b.now) → Makes a b F r → Makes a b G r
 did_as a b F G r is did clean inside = as_ok a b F G r is (did clean inside)
@@ -57,7 +57,7 @@ did_then a b c F G H x r join survives first next clean inside =
     let before = first early inside in
     both_do a b c F G H x r join before (next clean before.1)
 
--- and so any number of them
+-- the same with `Then` as the result, so for any number of statements
 pub did_next : {X Y : Type 0} (a b c : Connected) (F G : Database → Database → Type 0) (x : X) (r : Result Y Error) → Survives b c (λ _. ⊥)
     → Makes a b F (Ok x) → Makes b c G r → Makes a c (Then F G) r
 did_next a b c F G x r = did_then a b c F G (Then F G) x r (λ has first next. (b.now, first, next))

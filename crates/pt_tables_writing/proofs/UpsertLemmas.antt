@@ -1,4 +1,4 @@
--- What an INSERT of one row makes of its table that puts it in place of the one with its number.
+-- What an INSERT of one row does to its table when it replaces the row with the same number.
 use Rattle.std.proofs.Common.{◌≡◌, ◌⊎◌, inl, inr, ℕ, ◌/◌, ℤ, List, [], ◌∷◌, ◌++◌, length, filter, drop, cond, Bool, true, false, ◌&&◌, ◌||◌, Option, None, Some, Ok, refl, sym, ap, subst, ◌∙◌}
 use Rattle.std.specs.List.{AllByRecursion}
 use Rattle.std.specs.Ordering.{is_eq}
@@ -97,7 +97,7 @@ rowids_are : (table : Table) (top : ℤ) (rows : List Row) (stored : Row) (id : 
 rowids_are table top rows stored id keyed uncounted = rw uncounted (ap (λ v. cond (is_null v) (Int (next_rowid rows) ∷ drop 1 stored) stored) keyed)
 
 module _ (text : List ℕ) (params : Row) (table : Table) (id : ℤ) (stored : Row) (it : IsUpsert text params table id stored) (limit : Option ℕ) (db : Trees) where
-  -- the row that stands in its way has its number
+  -- the row in conflict has its number
   conflict_is : (there : Row) (more : List Row) → AreConflicts (Some (0 ∷ [])) (desk_schema).indexes table (db table.tree) stored (there ∷ more) → HasNumbers (db table.tree)
       → (rowid there ≡ Int id) × (filter (has_rowid id) (db table.tree) ≡ [] → ⊥)
   conflict_is there more are numbers =
@@ -143,7 +143,7 @@ module _ (text : List ℕ) (params : Row) (table : Table) (id : ℤ) (stored : R
       (λ up numbers. inl (all.0 ∙ ap (λ r. put_row r (db table.tree)) it.cast), all.1)
   put_or_updated w (inr meets) = updated w meets.0 meets.1 meets.2 meets.3
 
--- the row is put in the table, in place of the one with its number, and each other table is as it was
+-- the row replaces the one with its number in the table, and each other table is as it was
 pub record PutsNumbered (table : Table) (id : ℤ) (stored : Row) (old new : Database) : Type 0 where
   pub schema : new.schema ≡ desk_schema
   pub rows : PutsIn id stored (old.trees table.tree) (new.trees table.tree)

@@ -116,7 +116,7 @@ returns-in-Err-read-clause-crash g c clean db left =
     let early : HasCleanDisk new = omega (arith, again, c.in-Ok.ensures.clean) in
     left_before old new c.content_in-read.ensures.survives early db (c.in-Ok.ensures.crash again db (c.into_store-in-Err-read.ensures.quiet.outcomes db left))
 
--- ---- a store that could not be opened anew
+-- ---- a store that could not be opened again
 
 pub returns-in-Err-clause-crash : goal.returns-in-Err-clause-crash
 returns-in-Err-clause-crash g c clean db left =
