@@ -27,7 +27,7 @@ BeginsWithCases minutes (case ∷ cases) lines rest = (raises : List Raise) × (
     × AreRight minutes case.vehicle case.stops (λ _. 0) raises end
     × BeginsWithCases minutes cases after rest
 
--- the log has one line, and there is no way from the origin to the goal; or it has the lines of each case of the day
+-- The log has the lines of each case of the day. Or it has one line, and there is no way from the origin to the goal.
 abbrev pub IsRightLog : (ℕ → ℕ → Option ℕ) → List Duty → Asked → List Line → Type 0
 IsRightLog minutes duties asked lines =
     ((lines ≡ line.NoDirect ∷ []) × (minutes asked.origin asked.goal ≡ None))

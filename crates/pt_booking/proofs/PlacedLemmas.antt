@@ -30,7 +30,7 @@ use Rattle.pt_booking.proofs.DutyLemmas.{Any-map, no_any, same-duty}
 use Rattle.pt_booking.proofs.RuleLemmas.{first-unique, first-behind}
 use Rattle.pt_booking.proofs.WindowLemmas.{moved, pickup-visit, moved-loads, moved-least}
 
--- what a duty lends
+-- the vehicle and the route of a duty
 abbrev lent : Duty → OnDuty
 lent duty = record { vehicle = duty.vehicle.now; stops = stops_of duty.route.now }
 
@@ -109,7 +109,7 @@ module _ (minutes : ℕ → ℕ → Option ℕ) (duties : List Duty) (request : 
   pub chosen-for : (chosen : Chosen) → IsChosenAmong minutes duties asked chosen → IsChosenAmong minutes duties (asked_for minutes request) chosen
   chosen-for chosen possible = subst (λ (a : Asked). IsChosenAmong minutes duties a chosen) is possible
 
-  -- the best place among the duties is the best of the vehicles that they lend
+  -- the best place among the duties is the best among their vehicles
   pub best-place : (chosen : Chosen) → IsChosenAmong minutes duties asked chosen →
       All (λ duty. IsBestIn minutes duty.vehicle.now (stops_of duty.route.now) asked chosen) duties →
       IsBestPlace minutes (on_duty duties) (asked_for minutes request) chosen

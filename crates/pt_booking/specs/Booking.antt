@@ -51,8 +51,8 @@ pub record IsTripIn (minutes : ℕ → ℕ → Option ℕ) (request : Request) (
 abbrev pub IsTripOf : (ℕ → ℕ → Option ℕ) → Request → Chosen → Trip → Type 0
 IsTripOf minutes request chosen trip = IsTripIn minutes request chosen.vehicle (promised_at request chosen) trip
 
--- the new route of the chosen vehicle: its old stops with the trip's two at the chosen places, under the promised
--- window; its loads fit, and the schedule of the choice is its least
+-- The new route of the chosen vehicle: its old stops with the trip's two at the chosen places, under the promised
+-- window. Its loads fit, and the schedule of the choice is its least.
 pub record IsNewRoute (minutes : ℕ → ℕ → Option ℕ) (duty : OnDuty) (trip : Trip) (chosen : Chosen)
     (stops : List Stop) : Type 0 where
   pub vehicle : duty.vehicle.id ≡ chosen.vehicle

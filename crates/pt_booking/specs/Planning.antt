@@ -22,7 +22,7 @@ pub record OnDuty : Type 0 where
   pub vehicle : Vehicle
   pub stops : List Stop
 
--- the vehicles and routes that duties lend
+-- the vehicles and routes of these duties
 abbrev pub on_duty : List Duty → List OnDuty
 on_duty duties = map (λ duty. record { vehicle = duty.vehicle.now; stops = stops_of duty.route.now }) duties
 
@@ -31,8 +31,8 @@ on_duty duties = map (λ duty. record { vehicle = duty.vehicle.now; stops = stop
 abbrev pub ride_limit : (ℕ → ℕ → Option ℕ) → Request → ℕ
 ride_limit minutes request = unwrap_or (minutes request.wish.from request.wish.to) 0 + request.policy.extra_ride
 
--- what is asked of the vehicles: the trip with its pickup in the wished window, and its drop by the minute that the
--- rider names, or within the day
+-- What is asked of the vehicles: the trip with its pickup in the wished window. Its drop is by the minute that the
+-- rider names, or within the day.
 abbrev pub asked_for : (ℕ → ℕ → Option ℕ) → Request → Asked
 asked_for minutes request = record {
   trip = request.trip;

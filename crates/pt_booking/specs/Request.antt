@@ -9,8 +9,8 @@ use Rattle.pt_party.specs.declared.party.Party.{Party}
 use Rattle.pt_rights.specs.declared.entry.Entered.{Entered}
 use Rattle.pt_booking.specs.declared.request.TripRequest.{TripRequest}
 
--- the number that the trip is to have, the rider's record, case file and days of use, the agency's policy and fixed
--- routes, the places of the trip's two ends, the day today, and the wish
+-- A request: the number that the trip is to have, the rider's record, case file and days of use, and the agency's
+-- policy and fixed routes. It also has the places of the trip's two ends, the day today, and the wish.
 pub record Request : Type 0 where
   pub trip : ℕ
   pub rider : Rider

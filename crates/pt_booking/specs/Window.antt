@@ -3,8 +3,8 @@ use Rattle.std.specs.Prelude.{ℕ, ◌+◌, ◌-◌, max, min}
 use Rattle.pt_base.specs.Ranges.{last_minute}
 use Rattle.pt_base.specs.declared.window.Window.{Window}
 
--- how far from the wished minute a pickup may be planned: one hour, as far as 49 CFR 37.131(b)(2) lets an agency go
--- (that the desk goes so far is our choice)
+-- How far from the wished minute a pickup may be planned: one hour, the most that 49 CFR 37.131(b)(2) allows an agency.
+-- The desk uses all of it by our choice.
 abbrev pub wished_leeway : ℕ
 wished_leeway = 60
 

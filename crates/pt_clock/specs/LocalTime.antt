@@ -8,7 +8,7 @@ use Rattle.jiff.specs.Words.{read_whole, civil_nanos, epoch_day, nanos_of_second
 abbrev pub IsZoneRule : List ℕ → Type 0
 IsZoneRule text = IsSome (read_whole text)
 
--- At this instant, clocks of the zone with this rule show this minute of this day: they are ahead of UTC by the zone's
+-- At this instant, clocks of the zone with this rule show this minute of this day. They are ahead of UTC by the zone's
 -- offset at the instant. Instants count nanoseconds from the beginning of 1970 in UTC; 1 January 1970 is day 0.
 pub record IsLocalTime (rule : List ℕ) (instant : ℤ) (day : ℤ) (minute : ℕ) : Type 0 where
   pub zone : TimeZone

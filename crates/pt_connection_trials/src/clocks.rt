@@ -7,8 +7,9 @@ use std::test::Fail;
 
 const EASTERN: &str = "EST5EDT,M3.2.0,M11.1.0";
 
-/// What clocks show at instants: at noon, before and after each change of the clock, before and after midnight, in
-/// the first and the last minute of 2000 to 2099, south of the equator, and at an offset that is no whole hour.
+/// What clocks show at instants: at noon, before and after each change of the clock, and before and after midnight.
+/// Also in the first and the last minute of 2000 to 2099, south of the equator, and at an offset that is not in whole
+/// hours.
 #[test]
 fn days_and_minutes_of_zones(rt: HostRuntime) -> Result<(), Fail> {
     for (zone, instant, day, minute) in [

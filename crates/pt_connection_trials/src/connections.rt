@@ -232,8 +232,8 @@ fn each_read_and_each_write_is_told_how_long_it_may_wait(rt: HostRuntime) {
     }
 }
 
-/// How many bytes are dropped from a client that goes on sending `bytes` at a time in `seconds` each, with the calls
-/// of the stream; `None` if the last read came too late.
+/// How many bytes are dropped from a client that goes on sending `bytes` at a time in `seconds` each; `None` if the
+/// last read came too late. It also returns the calls of the stream.
 fn dropped(rt: &impl Abort, alloc: Global, bytes: usize, seconds: u64) -> (Option<u64>, Vec<Call>) {
     let course = Course {
         calls: RefCell::new(Vec::new(alloc)),

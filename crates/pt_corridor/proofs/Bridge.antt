@@ -1,4 +1,5 @@
--- The nearest point of a segment, over whole numbers: what the code compares is what the definition says. From the segment's start, (ux, uy) is the way to the point and (vx, vy) the way to the segment's end.
+-- The nearest point of a segment, over whole numbers: what the code compares is what the definition says. From the
+-- segment's start, (ux, uy) is the way to the point and (vx, vy) the way to the segment's end.
 use Rattle.std.proofs.Common.{◌≡◌, ℕ, zero, suc, ◌+◌, ◌-◌, ◌*◌, ◌<◌, ◌≤◌, ◌↔◌, ap, subst, sym, ◌∙◌, arith, ℤ, pos, negsuc, ◌+ℤ◌, ◌-ℤ◌, ◌*ℤ◌, ◌≤ℤ◌, ◌<ℤ◌}
 use Rattle.std.proofs.Math.IntN.{*ℤ_comm}
 use Rattle.std.proofs.lemmas.Int.{ints}

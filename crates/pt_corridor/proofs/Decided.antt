@@ -1,4 +1,5 @@
--- What the code's comparisons of 128 bits decide. From the segment's start, (ux, uy) is the way to the point and (vx, vy) the way to the segment's end.
+-- What the code's comparisons of 128 bits decide. From the segment's start, (ux, uy) is the way to the point and
+-- (vx, vy) the way to the segment's end.
 use Rattle.std.proofs.Common.{◌≡◌, ℕ, ◌*◌, ◌<◌, ◌≤◌, ◌^◌, ◌↔◌, ap, subst, sym, ◌∙◌, IsTrue, true, false, arith, ℤ, pos, ◌-ℤ◌, ◌*ℤ◌, ◌≤ℤ◌, ◌<ℤ◌, unsigned_abs, FitsSigned}
 use Rattle.std.proofs.lemmas.Int.{ints, to_z-of_z, to_z_pos}
 use Rattle.std.proofs.lemmas.Nat.{mul-le}

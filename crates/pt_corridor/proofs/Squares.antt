@@ -1,4 +1,5 @@
--- The nearest point of a segment by squares alone, over natural numbers. Of two ways u and v from one point, `us` and `vs` are the squares of their lengths, and `near` is that of n u - m v.
+-- The nearest point of a segment by squares alone, over natural numbers. For two ways u and v from one point, `us` and
+-- `vs` are the squares of their lengths, and `near` is the square of the length of n u - m v.
 use Rattle.std.proofs.Common.{◌≡◌, ℕ, ◌+◌, ◌-◌, ◌*◌, ◌<◌, ◌≤◌, ap, subst, arith, ⊎_elim, mul-le-mul_right}
 use Rattle.std.proofs.Math.Nat.{mul-pos, le_of_mul-le-mul_left}
 use Rattle.std.proofs.lemmas.Bool.{cases_lt}
@@ -27,7 +28,8 @@ end_nearest near us vs ws over m rest reach e w positive h =
     let scaled = ap (λ k. n * n * k) w in
     le_of_mul-le-mul_left {m = ws} {n = reach * reach} {k = n * n} (omega arith) (mul-pos positive positive)
 
--- between the ends: no point of the segment is nearer than the line through it, whose distance times the segment's length has the square `across`
+-- Between the ends, no point of the segment is nearer than the line through it. The line's distance times the segment's
+-- length has the square `across`.
 pub line_nearest : (near us vs along across m n reach : ℕ) → near + 2 * (n * m) * along ≡ n * n * us + m * m * vs → along * along + across ≡ us * vs → 0 < n → near ≤ (reach * n) * (reach * n) → across ≤ reach * reach * vs
 line_nearest near us vs along across m n reach e lagrange positive h =
     let by_length = ap (λ k. k * vs) e in

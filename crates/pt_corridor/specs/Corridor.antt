@@ -6,8 +6,8 @@ use Rattle.pt_base.specs.declared.place.Place.{Place}
 use Rattle.pt_corridor.specs.Near.{IsNearLine}
 use Rattle.pt_corridor.specs.Route.{Route}
 
--- a place lies in a route's corridor where its point is within the route's width, or where corridors surround it as a
--- core area (49 CFR 37.131(a)(1)(i), (ii))
+-- a place lies in a route's corridor if its point is within the route's width, or if it is in a core area that
+-- corridors surround (49 CFR 37.131(a)(1)(i), (ii))
 abbrev pub LiesInCorridor : Place → Route → Type 0
 LiesInCorridor place route = IsNearLine route.width place.at route.points ⊎ IsTrue place.core
 

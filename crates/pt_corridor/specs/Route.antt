@@ -5,8 +5,8 @@ use Rattle.pt_base.specs.Place.{IsOnPlane}
 use Rattle.pt_base.specs.declared.place.Point.{Point}
 use Rattle.pt_base.specs.Codes.{points_refused, width_refused, coordinate_refused, hours_refused}
 
--- a fixed route: how far its corridor reaches on each side in feet, the points of its line, the weekdays from Monday
--- on, and its first and last minute of the day
+-- A fixed route. `width` is how far its corridor reaches on each side, in feet. `days` says of each weekday, from
+-- Monday on, whether it runs. `first` and `last` are minutes of the day.
 pub record Route : Type 0 where
   pub id : ℕ
   pub width : ℕ

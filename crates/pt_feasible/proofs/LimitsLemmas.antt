@@ -60,7 +60,7 @@ picked_up_before stops paired j k drop stop there here drops picks same =
       ]
     ]
 
--- where the trip that ends at a stop begins at another, the ride is within its limit exactly where its minutes pass at most
+-- if the trip that ends at a stop begins at another, the ride is within its limit exactly if at most its minutes pass
 pub ends-ride : (vehicle : Vehicle) (stops : List Stop) → IsPaired stops → (b : List ℕ) (i j k : ℕ) (pickup drop : Stop) → k ≡ j + 1 → i < j →
     slice_get stops i ≡ Some pickup → slice_get stops j ≡ Some drop →
     IsTrue (is_pickup pickup) → IsTrue (is_drop drop) → pickup.trip ≡ drop.trip →

@@ -27,8 +27,8 @@ pub record IsChosenIn (minutes : ℕ → ℕ → Option ℕ) (vehicle : Vehicle)
   pub schedule : IsLeastSchedule minutes vehicle (with_trip asked chosen.i chosen.j stops) chosen.schedule.items
   pub added : chosen.added ≡ added_driving minutes vehicle stops asked chosen.i chosen.j
 
--- the choice adds no more driving than this place; if equal, its vehicle's number is no higher;
--- if equal, its pickup is no later; if equal, its drop is no later
+-- The choice adds no more driving than this place. If equal, its vehicle's number is no higher.
+-- If equal, its pickup is no later. If equal, its drop is no later.
 pub record IsNoWorseThan (chosen : Chosen) (added vehicle i j : ℕ) : Type 0 where
   pub driving_first : chosen.added ≤ added
   pub then_vehicle : chosen.added ≡ added → chosen.vehicle ≤ vehicle

@@ -18,8 +18,8 @@ IsRiddenFor minutes vehicle stops asked i j place ridden = (later : ℕ) (b : Li
     slice_get (visits vehicle (with_trip asked i later stops)) (j + 1) ≡ Some last →
     (last.place ≡ place) × (slice_index b (i + 1) + asked.service + ridden ≤ slice_index b (j + 1) + last.service)
 
--- with the pickup after i old stops and the drop after j or more, service at the later of the pickup and the j-th visit
--- ends at this minute or later
+-- With the pickup after i old stops and the drop after j or more, take the later of the pickup and the j-th visit. Its
+-- service ends at minute `leaves` or later.
 abbrev pub IsServedUntil : (ℕ → ℕ → Option ℕ) → Vehicle → List Stop → Asked → (i j leaves : ℕ) → Type 0
 IsServedUntil minutes vehicle stops asked i j leaves = (later : ℕ) (b : List ℕ) (last : Visit) →
     j ≤ later → later ≤ length stops → TimesFit minutes vehicle (with_trip asked i later stops) b →

@@ -76,7 +76,7 @@ fn call(alloc: Global, key: &[u8], number: u32, write: Write) -> Result<Call, Fa
     })
 }
 
-/// The clerk's number 7 is accepted; the same again is answered alike and enters nothing more; number 7 with another
+/// The clerk's number 7 is accepted. The same again gets the same answer and enters nothing more. Number 7 with another
 /// request, and number 6, are denied. Number 8 is denied by a rule, and then accepted with another request.
 fn calls(alloc: Global) -> Result<[Call; 9], Fail> {
     Ok([

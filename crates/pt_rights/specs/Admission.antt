@@ -19,8 +19,7 @@ abbrev pub is_resident : Residence → Bool
 is_resident Resident = true
 is_resident Visitor = false
 
--- the rules of an entry of each kind, by an author on a day, in the order in which they are tried, each with whether
--- it holds
+-- The rules of an entry of each kind, by an author on a day, each with whether it holds. They are tried in this order.
 abbrev pub rules_of : List Entered → Entry → ℕ → ℕ → List Tally → Policy → List (Rule × Bool)
 -- an application waits for its decision before the next one comes (37.125(c))
 rules_of file kind.Complete today author tallies policy = (rule.Application, not (is_waiting file)) ∷ []

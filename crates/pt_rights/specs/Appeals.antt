@@ -41,8 +41,8 @@ is_appealable today entered = (is_refusal entered.entry || is_suspension entered
 abbrev pub is_appealed : List Entered → ℕ → Bool
 is_appealed file position = list_any (λ e. appeals_against position e.entry) file
 
--- an appeal against the entry at the position may be entered: that entry is there and may be appealed against, nobody
--- has done so, and no other appeal is pending
+-- An appeal against the entry at the position may be entered. The entry exists and may be appealed against, nobody has
+-- done so, and no other appeal is pending.
 abbrev pub may_appeal : List Entered → ℕ → ℕ → Bool
 may_appeal file today position =
     option_map_or (is_appealable today) (slice_get file position) false
@@ -53,8 +53,8 @@ abbrev pub awaits_hearing : List Entered → Bool
 awaits_hearing file =
     some_position (is_open (λ e. is_appeal e.entry) (λ e. decides_appeal e.entry || is_hearing e.entry)) file
 
--- the decision fits the entry that is appealed against: the appeal against a refusal is granted or denied, and the one
--- against a suspension overturns it or is denied
+-- The decision fits the entry that is appealed against. An appeal against a refusal is granted or denied; one against a
+-- suspension overturns it or is denied.
 abbrev pub may_answer : Entry → Entry → Bool
 may_answer (kind.AppealGranted grant) against = is_refusal against
 may_answer (kind.AppealDenied reasons) against = is_refusal against || is_suspension against

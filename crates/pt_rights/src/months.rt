@@ -24,7 +24,7 @@ impl Model for Months {
 }
 
 impl Months {
-    /// The set of these months, from 1 for January to 12; `None` if there are none, one is not a month, or they are not
+    /// The set of these months, from 1 for January to 12. `None` if there are none, one is not a month, or they are not
     /// in rising order without repeats.
     pub fn of(numbers: &[u8]) -> Option<Self>
         ensures in_range { IsSome result ↔ AreMonths numbers.now }

@@ -64,8 +64,8 @@ IsPair (stop ∷ []) = ⊥
 IsPair (first ∷ second ∷ []) = (first.kind ≡ Pickup) × (second.kind ≡ Drop)
 IsPair (first ∷ second ∷ third ∷ later) = ⊥
 
--- at most as many stops as a route may have; each trip has no stop, or its pickup and then its drop (Cordeau and
--- Laporte 2003)
+-- At most as many stops as a route may have. Each trip has no stop, or its pickup and then its drop (Cordeau and
+-- Laporte 2003).
 pub record IsPlannedRoute (stops : List PlannedStop) : Type 0 where
   pub few : length stops ≤ most_stops
   pub paired : (trip : ℕ) → IsPair (stops_of_trip trip stops)

@@ -5,8 +5,8 @@ use Rattle.std.specs.Prelude.{◌≡◌, ℕ, ◌<◌, ◌≤◌, List, [], ◌�
 abbrev pub Row : Type 0
 Row = ℕ × ℕ × ℕ
 
--- a list of rows of the table leads from one place to another: each row begins where the former ends, and no rows at
--- all lead from a place to itself
+-- A list of rows of the table leads from one place to another: each row begins where the former ends. The empty list
+-- leads from a place to itself.
 abbrev pub IsChain : List Row → ℕ → ℕ → List Row → Type 0
 IsChain table from to [] = from ≡ to
 IsChain table from to (row ∷ rows) = Contains table row × (row.0 ≡ from) × IsChain table row.1 to rows

@@ -24,8 +24,8 @@ IsAttained table from to minutes = minutes < 1440
 abbrev pub IsAmong : List ℕ → ℕ → ℕ → Type 0
 IsAmong places k place = (i : ℕ) × (i < k) × (slice_index places i ≡ place)
 
--- each entry is at most 1440 and, where it is less, some chain's total, and no chain over the first k places alone
--- takes less
+-- Each entry is at most 1440, and if it is less, it is some chain's total. No chain over the first k places alone takes
+-- less.
 pub record IsClosedOver (table : List Row) (places : List ℕ) (k : ℕ) (lines : List (List ℕ)) : Type 0 where
   pub size : length lines ≡ length places
   pub capped : IsCapped lines

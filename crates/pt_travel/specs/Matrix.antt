@@ -14,8 +14,8 @@ HasTriangles n lines = (i j k : ℕ) → i < n → j < n → k < n → entry lin
 abbrev pub IsCapped : List (List ℕ) → Type 0
 IsCapped lines = (i j : ℕ) → i < length lines → j < 100 → entry lines i j ≤ 1440
 
--- a row of the table is put into the matrix: no entry grows, the entry of the row's places becomes at most its minutes,
--- and no other entry changes
+-- A row of the table is put into the matrix. No entry grows, the entry of the row's places becomes at most its minutes,
+-- and no other entry changes.
 pub record PutsRow (places : List ℕ) (row : Row) (old new : List (List ℕ)) : Type 0 where
   pub size : length new ≡ length old
   pub shrinks : (i j : ℕ) → i < length old → j < 100 → entry new i j ≤ entry old i j

@@ -19,9 +19,9 @@ impl Raw {
     /// for each row, in any order. A byte order mark before the header is skipped.
     ///
     /// The first fault is returned. More than 100 places are 25 in row 0; another header is 21. Then
-    /// each record is checked: other than three fields (20), a field that is not 1 to 10 digits of a
-    /// place in the list (22), minutes that are not 1 to 4 digits of at most 1439 (23), and a pair
-    /// that came earlier with other minutes (24). Rows count records, and the header is row 1.
+    /// each record is checked. It has three fields, else 20. The places are 1 to 10 digits and in the
+    /// list, else 22. The minutes are 1 to 4 digits, at most 1439, else 23. A pair that came earlier
+    /// with other minutes is 24. Rows count records, and the header is row 1.
     pub fn read(alloc: Global, text: &[u8], places: &[PlaceId]) -> Result<Self, Fault>
         ensures reads { IfOk result (λ raw. ReadsAs text.now places.now raw) }
         ensures faulty { IfErr result (λ fault. (fault ≡ record { code = memory_refused; row = 0 })

@@ -1,5 +1,5 @@
-//! Four places, with 20 minutes between the depot and A, 40 and B, 30 and C; 30 between A and B, 10 and C; 25 between B
-//! and C; a vehicle there, and trips between them.
+//! Four places, a vehicle there, and trips between them. From the depot it is 20 minutes to A, 40 to B and 30 to C.
+//! From A it is 30 to B and 10 to C; from B it is 25 to C.
 ghost use Rattle.std.specs.Prelude.{◌≤◌};
 ghost use Rattle.std.specs.Int.{IsInRange};
 ghost use Rattle.pt_base.specs.Ranges.{last_minute};

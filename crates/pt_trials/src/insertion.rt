@@ -47,7 +47,7 @@ const SHAPES: [(Shape, u32); 3] = [
     ),
 ];
 
-/// The driving minutes of a route; `None` where there is no way.
+/// The driving minutes of a route; `None` if there is no way.
 fn driving(route: &Route, vehicle: &Vehicle) -> Option<i64> {
     let mut place = vehicle.depot;
     let mut total = 0i64;
@@ -77,7 +77,7 @@ pub fn fitting(route: &Route, vehicle: &Vehicle) -> Option<Schedule> {
     settle(route, &Plain, vehicle)
 }
 
-/// What the trip adds to the driving of a route; `None` where there is no way.
+/// What the trip adds to the driving of a route; `None` if there is no way.
 fn added(with_trip: &Route, duty: &Duty<'_>) -> Option<i64> {
     let without = driving(duty.route, duty.vehicle)?;
     Some(driving(with_trip, duty.vehicle)?.saturating_sub(without))

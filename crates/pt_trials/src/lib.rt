@@ -1,6 +1,5 @@
-//! Examples for the planner's crates and for logs of refusals; and comparisons of these, of case files and of
-//! visitors' days with plain second evaluations, over many cases from fixed seeds. The whole desk is compared by
-//! `tests/second_desk`.
+//! Examples for the planner's crates and for logs of refusals. These, case files and visitors' days are also compared
+//! with plain second evaluations, over many cases from fixed seeds. `tests/second_desk` compares the whole desk.
 #![tactic(auto)]
 
 #[cfg(test)]

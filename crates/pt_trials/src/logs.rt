@@ -24,7 +24,7 @@ const SHAPE: Shape = Shape {
     away: 100,
 };
 
-/// A log of the refusal; `None` where the trip has a place.
+/// A log of the refusal; `None` if the trip has a place.
 fn refusal(alloc: Global, duties: &[Duty<'_>], asked: &Asked) -> Result<Option<Log>, Fail> {
     if !are_rising(duties) || !are_without(duties, asked.trip) {
         return Err(Fail::new("not to be asked"));

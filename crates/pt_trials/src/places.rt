@@ -128,8 +128,8 @@ const WHEELCHAIR: Load = Load {
     chairs: 1,
 };
 
-/// Where a vehicle with this many wheelchair places, in which one rider in a wheelchair goes from A to B, takes a
-/// second one from C to B: the places of the stops, what they add, and when the pickup begins.
+/// The best place of a rider in a wheelchair from C to B, in a vehicle with this many wheelchair places that takes
+/// another one from A to B. It returns the places of the stops, what they add, and when the pickup begins.
 fn second_wheelchair(route: &Route, chairs: u16) -> Result<Option<(usize, usize, u32, u16)>, Fail> {
     let mut vehicle = vehicle(4, 1020);
     vehicle.chairs = chairs.min(10);

@@ -30,8 +30,8 @@ fn table(alloc: Global, dice: &mut Dice) -> Result<Vec<Row>, AllocError> {
     Ok(rows)
 }
 
-// The least totals of chains from one place, by Bellman and Ford: in each round every row may shorten
-// the total at its end, and after one round for each place no row does.
+// The least totals of chains from one place, by Bellman and Ford. In each round every row may shorten
+// the total at its end. After one round for each place no row does.
 fn least_from(rows: &[Row], start: u32) -> [u32; 16] {
     let mut least = [FAR; 16];
     least[(start % 16) as usize] = 0;

@@ -12,8 +12,8 @@ pub record IsLeastFrom (days : List ℕ) (bound day : ℕ) : Type 0 where
   pub from : bound ≤ day
   pub least : (other : ℕ) → Contains days other → bound ≤ other → day ≤ other
 
--- the opening days are a chain: the least of all the days, and then each time the least day that is 365 days or more
--- after the last opening day
+-- The opening days are a chain. The first is the least of all the days; each next one is the least day that is 365
+-- days or more after the one before.
 pub data IsOpening (days : List ℕ) : ℕ → Type 0 where
   first : (opening : ℕ) → IsLeastFrom days 0 opening → IsOpening days opening
   next : (former opening : ℕ) → IsOpening days former → IsLeastFrom days (former + 365) opening → IsOpening days opening

@@ -8,11 +8,11 @@ use Rattle.pt_feasible.specs.Sweep.{Raises, IsWalkedTo}
 use Rattle.pt_feasible.proofs.PassLemmas.{count_final-le, none-from-lowest, one_more_final}
 use Rattle.pt_feasible.proofs.sweep.least_times.Goals as goal
 
--- a list that was lent whole and came back with its length is what came back
+-- if a whole list was borrowed and came back with the same length, it is what came back
 refill_whole : (old new : List ℕ) → length new ≡ length old → refill (length old) old new ≡ new
 refill_whole old new same = take_at new (drop (length new) old) (length old) same
 
--- what was raised of the lists that were lent was raised of the vectors' items
+-- what was raised in the borrowed lists was raised in the vectors' items
 raises_items : (lent old new : List ℕ) (read limits : List Limits) (done is : Pass) → lent ≡ old → read ≡ limits → done ≡ is → Raises read lent new done → Raises limits old new is
 raises_items lent old new read limits done is same same' same'' raises =
     subst (λ (p : Pass). Raises limits old new p) same'' (subst (λ (xs : List Limits). Raises xs old new done) same' (subst (λ (xs : List ℕ). Raises read xs new done) same raises))
