@@ -22,7 +22,7 @@ use sqlite::{Alter, Connection};
 use std::alloc::Global;
 
 /// A new connection to what another had committed. An open transaction of the other one is rolled back, and its memory
-/// is freed. An error returns the store too: code 32 if the store failed, 0 if out of memory.
+/// is freed. A refusal returns the store. Code 32: the store failed. Code 0: out of memory.
 fn reopened<S: Alter + Drop>(
     alloc: Global,
     conn: Connection<S>,
@@ -60,9 +60,9 @@ fn reopened<S: Alter + Drop>(
 /// Opens a database that has the desk's tables. It reads and checks their content, and writes nothing. The store uses a
 /// new connection, since one that has read all rows keeps the memory that it took.
 ///
-/// A refusal returns the store too: code 30 if the tables are not the desk's or are of another version; 31, with the
-/// number of the first table at fault, if no sound state has the rows; 32 if a transaction is open or the store failed;
-/// 0 if out of memory.
+/// A refusal returns the store. Code 30: the tables are not the desk's, or are of another version. Code 31, with the
+/// number of the first table at fault: no sound state has the rows. Code 32: a transaction is open, or the store
+/// failed. Code 0: out of memory.
 pub fn adopt<S: Alter + Drop>(
     alloc: Global,
     conn: Connection<S>,

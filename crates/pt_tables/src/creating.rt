@@ -79,8 +79,8 @@ fn least(alloc: Global, admin_key: &[u8]) -> Result<(ListKeeper, Policy), OpenFa
 
 /// Creates the tables of a desk in an empty database. Its only caller is the admin with this key.
 ///
-/// A refusal returns the connection, which shows what it showed before: code 32 if a transaction is open, if the
-/// database has a table, an index or a view, or if the store refused or failed; 0 if out of memory.
+/// A refusal returns the connection, which shows what it showed before. Code 32: a transaction is open, the database
+/// has a table, an index or a view, or the store refused or failed. Code 0: out of memory.
 pub fn create<S: Alter>(
     alloc: Global,
     mut conn: Connection<S>,

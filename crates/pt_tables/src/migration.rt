@@ -34,9 +34,9 @@ fn raise<S: Alter>(conn: &mut Connection<S>) -> Result<(), Error>
 
 /// Migrates a database from the first version of the tables to the current one. The content stays the same.
 ///
-/// Errors: code 30 if the tables are not of the first version, by their schema or by the agency's row; 32 if a
-/// transaction is open, or the store refused or failed; 0 if out of memory. After a refusal the connection shows what
-/// it showed before.
+/// Code 30: the tables are not of the first version, by their schema or by the agency's row. Code 32: a transaction is
+/// open, or the store refused or failed. Code 0: out of memory. After a refusal the connection shows what it showed
+/// before.
 pub fn migrate<S: Alter>(alloc: Global, conn: &mut Connection<S>) -> Result<(), OpenFault>
     ensures settled { conn.old.in_transaction ≡ false → conn.new.in_transaction ≡ false }
     ensures migrated { HasCleanDisk (state S.Store conn.new)

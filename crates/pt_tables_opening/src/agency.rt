@@ -19,8 +19,8 @@ use pt_tables_reading::agency_of;
 use pt_tables_rows::TABLE_VERSION;
 use sqlite::{Alter, Connection, Row};
 
-/// The policy and the number last given to a trip, from the only row. Errors: code 30 if the row has another version of
-/// the tables, 31 if there is not exactly one row or it has no policy.
+/// The policy and the number last given to a trip, from the only row. Code 30: the row has another version of the
+/// tables. Code 31: there is not exactly one row, or it has no policy.
 fn agency_from(rows: &[Row]) -> Result<(Policy, u32), OpenFault>
     ensures told { IfOk result (λ agency. (agency_row agency ∷ [] ≡ rows.now) × FitsAgency agency) }
     ensures faults { IfErr result (λ refused. ((refused ≡ fault tables_refused) × IsOtherVersion rows.now)
@@ -38,9 +38,9 @@ fn agency_from(rows: &[Row]) -> Result<(Policy, u32), OpenFault>
     }
 }
 
-/// The agency's policy and the number last given to a trip, read from the only row of the desk's table. Errors: code 30
-/// if the row has another version of the tables, 31 if there is not exactly one row or it has no policy, 32 if the
-/// store refused or failed, 0 if out of memory.
+/// The agency's policy and the number last given to a trip, read from the only row of the desk's table. Code 30: the
+/// row has another version of the tables. Code 31: there is not exactly one row, or it has no policy. Code 32: the
+/// store refused or failed. Code 0: out of memory.
 pub(crate) fn agency_in<S: Alter>(conn: &mut Connection<S>) -> Result<(Policy, u32), OpenFault>
     ensures told { ReadsTables (state S.Store conn.old) (state S.Store conn.new)
         (λ trees. IfOk result (IsAgencyOf trees)) }

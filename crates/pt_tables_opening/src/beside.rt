@@ -148,7 +148,7 @@ fn merged<T: Beside>(
     Ok(Some(found))
 }
 
-/// The same, with errors: code 31 if no records in order have both, 0 if out of memory.
+/// The same with codes of errors. Code 31: no records in order have both. Code 0: out of memory.
 fn merged_table<T: Beside>(
     alloc: Global,
     records: &[T::Record],
@@ -171,8 +171,8 @@ fn merged_table<T: Beside>(
     }
 }
 
-/// Joins the records with all rows of the second table, read by this query, as an edit that puts them. Errors: code 31
-/// with the number of that table if no records in order have both, 32 if the store refused or failed, 0 if out of
+/// Joins the records with all rows of the second table, read by this query, as an edit that puts them. Code 31, with
+/// the number of that table: no records in order have both. Code 32: the store refused or failed. Code 0: out of
 /// memory.
 pub(crate) fn beside_in<S: Alter, T: Beside>(
     alloc: Global,

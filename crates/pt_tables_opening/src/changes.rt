@@ -259,8 +259,8 @@ fn trip_chairs_change<S: Alter>(
     })
 }
 
-/// The change that puts the records of a table into a desk that has the earlier tables. Errors: code 31 if no records
-/// in the order of their keys have the rows, 32 if the store refused or failed, 0 if out of memory.
+/// The change that puts the records of a table into a desk that has the earlier tables. Code 31: no records in the
+/// order of their keys have the rows. Code 32: the store refused or failed. Code 0: out of memory.
 pub(crate) fn change_in<S: Alter>(
     alloc: Global,
     conn: &mut Connection<S>,

@@ -19,7 +19,7 @@ use std::alloc::Global;
 /// The empty key, which is nobody's. The admin of the least state has it until all callers are removed.
 const NO_KEY: &[u8] = &[];
 
-/// The desk after the change. Code 0 if out of memory.
+/// The desk after the change. Code 0: out of memory.
 pub(crate) fn with_change(keeper: ListKeeper, change: Change) -> Result<ListKeeper, OpenFault>
     ensures content { IfOk result (λ made. made.content ≡ applied change keeper.content) }
     ensures memory { IfErr result (λ refused. refused ≡ fault memory_refused) }
@@ -35,7 +35,7 @@ pub(crate) fn with_change(keeper: ListKeeper, change: Change) -> Result<ListKeep
 }
 
 /// The change that gives a new desk this policy and this number last given to a trip, and removes its only caller. Code
-/// 0 if out of memory.
+/// 0: out of memory.
 fn agency_change(
     alloc: Global,
     policy: Policy,
@@ -59,7 +59,7 @@ fn agency_change(
     }
 }
 
-/// A desk with this policy, this number last given to a trip, and no records. Code 0 if out of memory.
+/// A desk with this policy, this number last given to a trip, and no records. Code 0: out of memory.
 pub(crate) fn desk_of(
     alloc: Global,
     policy: Policy,

@@ -70,7 +70,7 @@ fn tells_first<S: Alter>(conn: &mut Connection<S>) -> Result<bool, OpenFault>
 }
 
 /// Whether a database has the tables of the first version. It reads the tables only if the schema is that of the first
-/// version. Errors: code 32 if the store refused or failed, 0 if out of memory.
+/// version. Code 32: the store refused or failed. Code 0: out of memory.
 pub fn is_first_version<S: Alter>(
     alloc: Global,
     conn: &mut Connection<S>,

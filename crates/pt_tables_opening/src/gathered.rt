@@ -86,8 +86,8 @@ fn gathered_of<T: Gathered>(
     Ok(Some(records))
 }
 
-/// The records of a table with these rows, as an edit that puts them. Errors: code 31 if no records have the rows in
-/// this order or their keys do not ascend, 0 if out of memory.
+/// The records of a table with these rows, as an edit that puts them. Code 31: no records have the rows in this order,
+/// or their keys do not ascend. Code 0: out of memory.
 fn gathered_table<T: Gathered>(
     alloc: Global,
     rows: &[Row],
@@ -110,8 +110,8 @@ fn gathered_table<T: Gathered>(
     Ok(records)
 }
 
-/// The records of a table, read from all its rows by this query, as an edit that puts them. Errors: code 31 if no
-/// records in the order of their keys have the rows, 32 if the store refused or failed, 0 if out of memory.
+/// The records of a table, read from all its rows by this query, as an edit that puts them. Code 31: no records in the
+/// order of their keys have the rows. Code 32: the store refused or failed. Code 0: out of memory.
 pub(crate) fn gathered_in<S: Alter, T: Gathered>(
     alloc: Global,
     conn: &mut Connection<S>,

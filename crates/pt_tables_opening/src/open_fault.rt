@@ -10,8 +10,8 @@ use sqlite::{Error, ErrorCode};
 /// Why a database is not opened.
 #[derive(Clone, Copy)]
 pub struct OpenFault {
-    /// 0 if out of memory, 30 if the tables are not the desk's or are of another version, 31 if no sound state has the
-    /// rows, 32 if the store refused or failed.
+    /// 0: out of memory. 30: the tables are not the desk's, or are of another version. 31: no sound state has the rows.
+    /// 32: the store refused or failed.
     pub code: u16,
     /// The number of the first table at fault, or 0 if none is.
     pub table: u8,

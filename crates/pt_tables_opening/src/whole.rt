@@ -36,7 +36,7 @@ fn at_fault(table: TableName) -> OpenFault
     OpenFault::unsound(table)
 }
 
-/// The desk after the change, if it is sound in this table. Errors: code 31 if it is not, 0 if out of memory.
+/// The desk after the change, if it is sound in this table. Code 31: it is not sound. Code 0: out of memory.
 fn judged(
     alloc: Global,
     keeper: ListKeeper,
@@ -97,8 +97,8 @@ fn all_tables<S: Alter>(alloc: Global, conn: &mut Connection<S>) -> Result<ListK
 /// The desk that the tables of a database have. The tables are read in the order of their numbers, and each is checked
 /// before the next is read.
 ///
-/// Errors: code 30 if the tables are not the desk's or are of another version; 31, with the number of the first table
-/// at fault, if no sound state has the rows; 32 if the store refused or failed; 0 if out of memory.
+/// Code 30: the tables are not the desk's, or are of another version. Code 31, with the number of the first table at
+/// fault: no sound state has the rows. Code 32: the store refused or failed. Code 0: out of memory.
 pub fn content_in<S: Alter>(
     alloc: Global,
     conn: &mut Connection<S>,

@@ -28,7 +28,7 @@ KnowsReplaced {A} key puts known there =
     let IsKnown : A → Type 0 = λ new. record_at key (key new) known ≡ record_at key (key new) there in
     Each (λ new. (record_at key (key new) known ≡ None) ⊎ IsKnown new) puts
 
--- the first for what an edit removes, and the second for what it puts
+-- `KnowsTaken` for what an edit removes, and `KnowsReplaced` for what it puts
 pub record KnowsEdited {A : Type 0} (key : A → ℕ) (edit : Edit A) (known there : List A) : Type 0 where
   pub taken : KnowsTaken key edit.away known there
   pub replaced : KnowsReplaced key edit.puts known there

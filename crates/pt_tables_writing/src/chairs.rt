@@ -32,7 +32,7 @@ const INSERT_VEHICLE_CHAIRS: &str = "INSERT INTO vehicle_chairs (id, from_day, c
 const DELETE_VEHICLE_CHAIRS: &str = "DELETE FROM vehicle_chairs WHERE id = ?1 AND from_day = ?2";
 
 impl Stored for RiderChairs {
-    /// Puts the row of a rider in a wheelchair. Deletes the row of any other rider.
+    /// Puts the row of a rider in a wheelchair. If the rider is not in one, deletes the rider's row.
     fn put<S: Alter>(tx: &mut Transaction<'_, S>, rider: &Rider) -> Result<(), Error> {
         if !rider.wheelchair {
             return Self::take(tx, rider);
@@ -59,7 +59,7 @@ fn add_rider_chair<S: Alter>(tx: &mut Transaction<'_, S>, rider: &Rider) -> Resu
 }
 
 impl Stored for TripChairs {
-    /// Puts the row of the trip of a rider in a wheelchair. Deletes the row of any other trip.
+    /// Puts the row of the trip of a rider in a wheelchair. If the rider is not in one, deletes the trip's row.
     fn put<S: Alter>(tx: &mut Transaction<'_, S>, trip: &Trip) -> Result<(), Error> {
         if !trip.wheelchair {
             return Self::take(tx, trip);

@@ -34,8 +34,8 @@ fn replaced<'a>(
 
 /// Makes the edit in the table of plans. `records` must have the stored plans that it removes.
 ///
-/// If the edit only replaces a plan that `records` has, as a booking does, the rows of the first stops stay, as far as
-/// both plans have the same.
+/// A booking only replaces a plan that `records` has. Then the rows of the first stops stay, as far as both plans have
+/// the same.
 pub(crate) fn write_plans<S: Alter>(
     tx: &mut Transaction<'_, S>,
     edits: &Edits<PlannedRoute>,
