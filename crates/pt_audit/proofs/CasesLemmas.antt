@@ -42,7 +42,7 @@ module _ (minutes : ℕ → ℕ → Option ℕ) where
     λ ends. absurd ends,
   )
 
-  -- no cases end where they begin
+  -- an empty list of cases ends where it begins
   pub ends_at_start : (lines : List Line) (start : ℕ) → EndsCases minutes [] lines start (Some start)
   ends_at_start lines start rest = (λ same. same, λ same. same)
 
@@ -62,7 +62,7 @@ module _ (minutes : ℕ → ℕ → Option ℕ) where
         (ends_more (flat_map cases_at done) (cases_at next ++ flat_map cases_at later) lines start at None so_far
         (ends_early (cases_at next) (flat_map cases_at later) lines at ends))
 
--- numbers in turn, and the next ones
+-- successive numbers, and then the next ones
 pub numbers_from-add : (first count more : ℕ) → numbers_from first (count + more) ≡ numbers_from first count ++ numbers_from (first + count) more
 numbers_from-add first zero more = let same : 0 + more ≡ more = omega arith in let at : first + 0 ≡ first = omega arith in ap (numbers_from first) same ∙ ap (λ (n : ℕ). numbers_from n more) (sym at)
 numbers_from-add first (suc count) more =
@@ -70,7 +70,7 @@ numbers_from-add first (suc count) more =
     let at : first + 1 + count ≡ first + suc count = omega arith in
     ap (numbers_from first) same ∙ ap (λ (ns : List ℕ). first ∷ ns) (numbers_from-add (first + 1) count more ∙ ap (λ (n : ℕ). numbers_from (first + 1) count ++ numbers_from n more) at)
 
--- the numbers to the next one
+-- the successive numbers with one more at the end
 pub numbers_to_next : (first next : ℕ) → first ≤ next → numbers_from first (next + 1 - first) ≡ numbers_from first (next - first) ++ next ∷ []
 numbers_to_next first next le =
     let count : next + 1 - first ≡ (next - first) + 1 = omega arith in
@@ -108,7 +108,7 @@ numbers_below_around next end lt =
     let at : 0 + next ≡ next = omega arith in
     ap (numbers_from 0) count ∙ numbers_from-add 0 next (suc (end - next - 1)) ∙ ap (λ (n : ℕ). numbers_from 0 next ++ n ∷ numbers_from (n + 1) (end - next - 1)) at
 
--- a log of one line that there is no way has no cases
+-- a log with the one line `NODIRECT` is not the log of cases
 pub no_cases : (minutes : ℕ → ℕ → Option ℕ) (cases : List Case) → ¬ BeginsWithCases minutes cases (line.NoDirect ∷ []) []
 no_cases minutes [] begins = absurd (cc)
 no_cases minutes (case ∷ cases) begins = let (raises, end, after, same, right, more) = begins in absurd (cc)

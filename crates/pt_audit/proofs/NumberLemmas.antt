@@ -23,7 +23,7 @@ not-first text c more over worth is =
     let same : c ≡ 48 + d = omega (arith, digit.0) in
     over d more (omega (arith, digit.1)) (is ∙ ap (λ x. x ∷ more) same)
 
--- digits that follow make a number no smaller
+-- further digits make a number no smaller
 grows : (m : ℕ) (ds : List ℕ) → m ≤ digits_value_after 10 m ds
 grows m [] = omega arith
 grows m (c ∷ ds) = omega (arith, grows (m * 10 + digit_value c) ds)
@@ -68,7 +68,7 @@ whole_number m n after more fits small ends over is =
     go [] longer digits stands = (decimal_injective m n fits (omega arith) (sym (longer ∙ append-nil (decimal m))), stands)
     go (c ∷ left) longer digits stands = absurd (not-first after c (left ++ more) over digits.0 stands)
 
--- a digit more, of a number above 0
+-- one more digit of a number above 0
 pub longer_number : (number digit longer : ℕ) (rest after : List ℕ) → 0 < number → number < 2 ^ 32 → digit < 10 → longer ≡ number * 10 + digit → rest ≡ (48 + digit) ∷ after → decimal number ++ rest ≡ decimal longer ++ after
 longer_number number digit longer rest after some fits small is front =
     let tens : longer / 10 ≡ number = omega (arith, is, small) in

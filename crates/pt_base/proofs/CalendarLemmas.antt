@@ -31,7 +31,7 @@ date_text-unique a b same =
     let is = epoch_day_injective a b same in
     same_text a.year b.year a.month b.month a.day b.day is.0 is.1 is.2
 
--- and a text one day
+-- and each text is of one day
 pub IsDateText-text : (date : Date) (number : ℤ) (text : List ℕ) → epoch_day date ≡ number → IsDateText number text → date_text date ≡ text
 IsDateText-text date number text day is = date_text-unique date is.date (day ∙ sym is.day) ∙ is.spelled
 
@@ -48,7 +48,7 @@ text_of_injective y m d y' m' d' same =
     let d1 : 48 + d % 10 ≡ 48 + d' % 10 = ap (λ t. get_or t 9 0) same in
     (omega arith, omega arith, omega arith)
 
--- all dates of one text are one day
+-- all dates with one text are the same day
 pub IsDateText-day : (date : Date) (text : List ℕ) (number : ℤ) → date_text date ≡ text → pos 0 ≤ℤ date.year → IsDateText number text → epoch_day date ≡ number
 IsDateText-day date text number spelled four is =
     let texts : text_of (unsigned_abs date.year) date.month date.day ≡ text_of (unsigned_abs is.date.year) is.date.month is.date.day =

@@ -1,4 +1,4 @@
--- What a test chooses.
+-- Values that depend on a test.
 use Rattle.std.proofs.Common.{◌≡◌, refl, ap, ℕ, ◌≤◌, Bool, true, false, Option, Some, None}
 use Rattle.std.proofs.lemmas.Bool.{leb-true, le-leb}
 use Rattle.std.proofs.lemmas.Bool.Decides.{Decides-and}
@@ -12,7 +12,7 @@ Decides-le a b = (leb-true a b, le-leb a b)
 pub Decides-within : (least most number : ℕ) → Decides (is_within least most number) (IsInRange least most number)
 Decides-within least most number = Decides-and _ _ (Decides-le least number) (Decides-le number most)
 
--- what is chosen where a test passes
+-- if a test chooses a value, the test passes and the value is this one
 pub chosen : {A P : Type 0} (test : Bool) (o : Option A) (x : A) → Decides test P
     → (if test then o else None) ≡ Some x → P × (o ≡ Some x)
 chosen true o x decides e = (decides.0 refl, e)
@@ -21,7 +21,7 @@ chosen false o x decides e = cc e
 pub chosen-known : {A P : Type 0} (test : Bool) (o : Option A) → Decides test P → P → (if test then o else None) ≡ o
 chosen-known test o decides holds = ap (λ (t : Bool). if t then o else None) (decides.1 holds)
 
--- what is answered just where a test passes
+-- a result that is there exactly if a test passes, and can only be this value
 pub test-read : {A P : Type 0} (test : Bool) (value : A) (result : Option A) → Decides test P → (IsSome result ↔ P)
     → IfSome result (λ found. found ≡ value) → result ≡ (if test then Some value else None)
 test-read true value None decides some found = cc (some.1 (decides.0 refl))

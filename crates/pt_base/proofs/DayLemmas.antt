@@ -1,4 +1,4 @@
--- A text spells a day just where its parts give it.
+-- A text spells a day exactly if its parts give it.
 use Rattle.std.proofs.Common.{◌≡◌, ◌∙◌, refl, sym, ap, subst, ℕ, ◌≤◌, List, Some, ℤ, pos, negsuc, unsigned_abs, arith}
 use Rattle.std.proofs.lemmas.Bool.Decides.{Decides-and}
 use Rattle.std.proofs.lemmas.Int.{ints}
@@ -83,7 +83,7 @@ day_from-date year month date day has counted is =
     ∙ ap (λ (n : ℕ). day_of_date text year month n) parts.2
     ∙ of_date-known year month date day has counted is
 
--- what a text spells is its day, and the other way round
+-- a text spells a day exactly if the day is read from it
 pub day_from-known : (text : List ℕ) (day : ℕ) → SpellsDay text day → day_from text ≡ Some day
 day_from-known text day spelled =
     let date = spelled.1.date in

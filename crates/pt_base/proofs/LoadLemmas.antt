@@ -1,4 +1,4 @@
--- Loads are alike, or one within the other, where both parts are.
+-- Loads are equal, or one is within the other, if both parts are.
 use Rattle.std.proofs.Common.{◌≡◌, ℕ, ap, ◌∙◌, arith}
 use Rattle.pt_base.specs.declared.load.Load.{Load}
 use Rattle.pt_base.specs.declared.vehicle.Vehicle.{Vehicle}
@@ -18,7 +18,7 @@ within_more a b c first second = record {
   chairs = omega (arith, first.chairs, second.chairs);
 }
 
--- what a vehicle carries, the program counts
+-- any load that a vehicle carries is in the range that the program counts
 pub fits-is_load : (load : Load) (vehicle : Vehicle) → FitsWithin load vehicle → IsLoad load
 fits-is_load load vehicle fits = record {
   seats = omega (arith, fits.seats, vehicle.capacity_in_range);

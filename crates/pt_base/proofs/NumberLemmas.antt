@@ -22,7 +22,7 @@ Decides-number digits most text =
     (length text) digits))
     (Decides-le (digits_value 10 text) most)
 
--- what a text spells is its number, and the other way round
+-- a text spells a number exactly if the number is read from it
 pub number_from-known : (digits most : ℕ) (text : List ℕ) (number : ℕ) → SpellsNumber digits most text number
     → number_from digits most text ≡ Some number
 unfolding number_from

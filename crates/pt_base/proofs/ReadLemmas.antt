@@ -1,4 +1,4 @@
--- What is read, where there is something to read.
+-- Results of reading a text.
 use Rattle.std.proofs.Common.{◌≡◌, sym, refl}
 use Rattle.std.specs.Prelude.{Option, Some, None, Result, Ok, Err, MatchResult, IfSome, IsNone}
 use Rattle.std.specs.Result.{result_ok}
@@ -13,7 +13,7 @@ none-from : {A : Type 0} (o : Option A) → ((x : A) → o ≡ Some x → ⊥) �
 none-from None never = refl
 none-from (Some x) never = absurd (never x refl)
 
--- what is read where there is something to read, and only there, is what is known
+-- a result that is there exactly if some value meets P is the known one
 pub read-known : {A : Type 0} (known : Option A) (P : A → Type 0) → ((x : A) → P x → known ≡ Some x) → ((x : A)
     → known ≡ Some x → P x) → (result : Option A) → IfSome result P → (IsNone result → (x : A) → ¬ (P x))
     → result ≡ known

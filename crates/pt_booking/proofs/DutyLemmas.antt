@@ -16,7 +16,7 @@ no_any P xs none some =
     let (k, x, within, at, holds) = some in
     none k x within (subst P (sym at) holds)
 
--- no two vehicles on duty have one number
+-- no two vehicles on duty have the same number
 pub same-duty : (duties : List Duty) → AllPairs (λ first second. first.vehicle.now.id < second.vehicle.now.id) duties →
     (x y : Duty) → Contains duties x → Contains duties y → x.vehicle.now.id ≡ y.vehicle.now.id → x ≡ y
 same-duty duties rising x y (j, below_j, at_j) (k, below_k, at_k) same =

@@ -119,7 +119,7 @@ module _ (minutes : ℕ → ℕ → Option ℕ) (duties : List Duty) (request : 
         (subst (λ (a : Asked). All (λ (duty : Duty). IsBestIn minutes duty.vehicle.now (stops_of duty.route.now) a chosen) duties) is least);
   }
 
-  -- all rules hold where those of riders do and there is a best place
+  -- all rules hold if those of riders do and there is a best place
   pub all-hold : (chosen : Chosen) (found : Option Rule) → IsFirstFailing (riders_rules request) found → found ≡ None →
       IsChosenAmong minutes duties asked chosen → IsFirstFailing (booking_rules minutes (on_duty duties) request) None
   all-hold chosen found first none possible =
@@ -131,7 +131,7 @@ module _ (minutes : ℕ → ℕ → Option ℕ) (duties : List Duty) (request : 
       first-behind (riders_rules request) ((NoVehicle, SomeVehicleCan minutes (on_duty duties) (asked_for minutes request)) ∷ []) None
       (subst (λ (r : Option Rule). IsFirstFailing (riders_rules request) r) none first) last
 
-  -- no vehicle is the first failing rule where the others hold and nothing is possible
+  -- `NoVehicle` is the first failing rule if the others hold and nothing is possible
   pub no-vehicle : (found : Option Rule) → IsFirstFailing (riders_rules request) found → found ≡ None →
       All (λ duty. (i j : ℕ) → ¬ IsPossible minutes duty.vehicle.now (stops_of duty.route.now) asked i j) duties →
       IsFirstFailing (booking_rules minutes (on_duty duties) request) (Some NoVehicle)
@@ -167,7 +167,7 @@ refused-not-denied {E} rules result rule none refused =
     not-denied rules result rule none
     (λ same. let ok : IsErr {E = E} (Ok (Denied rule)) = subst (λ (r : Result Decision E). IsErr r) same refused in absurd (false≢true ok))
 
--- a fact that holds anyway holds exactly where the trip is booked or memory was refused
+-- if memory was refused, `IsAllowed` is equivalent to any fact that holds
 pub allowed-if-refused : {E : Type 0} (P : Type 0) (result : Result Decision E) → IsErr result → P → IsAllowed result ↔ P
 allowed-if-refused P (Ok decision) refused holds = absurd (false≢true refused)
 allowed-if-refused P (Err fault) refused holds = (λ _. holds, λ _. tt)

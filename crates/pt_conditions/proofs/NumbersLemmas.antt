@@ -38,7 +38,7 @@ pub split_months : (numbers : List ℕ) → AreMonths numbers → slice_split (�
 split_months [] months = absurd (let some = months.some in omega arith)
 split_months (n ∷ numbers) months = split_numbers n numbers months.in_range
 
--- numbers of months with one text are the same
+-- numbers of months with the same text are the same
 decimals-injective : (one other : List ℕ) → All (IsInRange 1 12) one → All (IsInRange 1 12) other → map decimal one ≡ map decimal other → one ≡ other
 decimals-injective [] [] ones others e = refl
 decimals-injective [] (m ∷ other) ones others e = absurd (cc)
@@ -57,7 +57,7 @@ numbers_text-injective one other ones others e =
     decimals-injective one other ones.in_range others.in_range
     (sym (split_months one ones) ∙ ap (slice_split (λ b. b == 44)) e ∙ split_months other others)
 
--- the first number of marks is no less than that of the first mark
+-- the first number of marks is at least that of the first mark
 first_number : (n : ℕ) (marks : List Bool) (x : ℕ) (xs : List ℕ) → numbers_from n marks ≡ x ∷ xs → n ≤ x
 first_number n [] x xs e = absurd (cc)
 first_number n (true ∷ marks) x xs e = let same : n ≡ x = cc in omega arith
@@ -86,7 +86,7 @@ numbers_of-injective one other ones others e = numbers_from-injective 1 one othe
 pub months-from_set : (marks : List Bool) → IsMonthSet marks → AreMonths (numbers_of marks)
 months-from_set marks set = AreMonths-numbers_of marks (let size = set.0 in omega arith) set.1
 
--- no two sets have one text
+-- no two sets have the same text
 pub months_text-injective : (one other : List Bool) → IsMonthSet one → IsMonthSet other → numbers_text (numbers_of one) ≡ numbers_text (numbers_of other) → one ≡ other
 months_text-injective one other ones others e =
     numbers_of-injective one other ones others

@@ -1,4 +1,4 @@
--- No two conditions have one text.
+-- No two conditions have the same text.
 use Rattle.std.proofs.Common.{◌≡◌, get_or, refl, ap, arith}
 use Rattle.std.proofs.lemmas.Fmt.{decimal_injective}
 use Rattle.pt_rights.specs.Conditions.{IsCondition}

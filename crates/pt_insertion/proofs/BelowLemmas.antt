@@ -11,7 +11,7 @@ use Rattle.pt_insertion.specs.Choice.{added_driving, IsChosenIn, IsNoWorseThan}
 use Rattle.pt_insertion.specs.BestBelow.{IsBestBelow, limit_after, later_of}
 use Rattle.pt_insertion.specs.Possible.{IsPossible}
 
--- a choice that adds less driving than another one is no worse than what that one is no worse than
+-- if a choice is no worse than a place, a choice that adds less driving is no worse either
 pub less_driving : (first second : Chosen) (added vehicle i j : ℕ) → second.added < first.added →
     IsNoWorseThan first added vehicle i j → IsNoWorseThan second added vehicle i j
 less_driving first second added vehicle i j less no_worse =
@@ -52,7 +52,7 @@ chosen_here minutes vehicle stops asked limit choice is_chosen less = record {
       };
 }
 
--- what is below a limit is below what is not
+-- a number below a limit is less than one that is not
 below_limit : (limit : Option ℕ) (low high : ℕ) → IfSome limit (λ most. low < most) → IsSomeAnd limit (λ most. most ≤ high) → low < high
 below_limit None low high less far = absurd far
 below_limit (Some most) low high less far = omega arith
@@ -253,7 +253,7 @@ all_pickups_before minutes vehicle stops asked limit i best none is_best =
     (λ k l at possible. elim (cases_lt k i) [ inl before ↦ before | inr after ↦ absurd (none k l after possible) ])
     is_best
 
--- what is at least a number that is not below the limit does not come below it either
+-- if a number is not below the limit, no larger one is
 never_below : (limit : Option ℕ) (least added : ℕ) → ¬ IfSome limit (λ most. least < most) → least ≤ added → IsSomeAnd limit (λ most. most ≤ added)
 never_below None least added above more = absurd (above tt)
 never_below (Some most) least added above more = elim (cases_lt least most) [ inl below ↦ absurd (above below) | inr from ↦ omega arith ]

@@ -31,7 +31,7 @@ use Rattle.pt_insertion.proofs.InsertionPairing.{IsPaired-with_trip}
 use Rattle.pt_insertion.proofs.PlaceLemmas.{without_with, old_visit-between}
 use Rattle.pt_insertion.proofs.RemovalLoads.{loads_stay}
 
--- before the pickup as much is loaded as without the trip
+-- before the pickup the load is that of the route without the trip
 load_before : (part : Load → ℕ) (p : Stop → Bool) (asked : Asked) (i j : ℕ) (stops : List Stop) (k : ℕ) → i ≤ j → j ≤ length stops → k ≤ i →
     total_of part (filter p (take k (with_trip asked i j stops))) ≡ total_of part (filter p (take k stops))
 load_before part p asked i j stops zero h g before = refl
@@ -180,7 +180,7 @@ no_way_on minutes vehicle stops asked i j place ridden here law day new h e way 
     (drive_on minutes vehicle stops asked i j place ridden law day so_far later b h (omega arith) possible.among fits (j + 2) here (omega arith)
     (next_stop vehicle stops asked i j later here h from possible.among new e))
 
--- the way to the goal is left of the ride
+-- the ride limit leaves time for the way to the goal
 pub way_left : (minutes : ℕ → ℕ → Option ℕ) (vehicle : Vehicle) (stops : List Stop) (asked : Asked) (i j place ridden : ℕ) →
     KeepsTriangleLaw minutes → vehicle.closes ≤ last_minute → i ≤ j → IsRiddenFor minutes vehicle stops asked i j place ridden →
     (later : ℕ) → j ≤ later → IsPossible minutes vehicle stops asked i later →

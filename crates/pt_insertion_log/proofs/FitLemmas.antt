@@ -20,7 +20,7 @@ use Rattle.pt_feasible.proofs.VisitLemmas.{length-visits}
 use Rattle.pt_audit.proofs.LawLemmas.{value_of}
 use Rattle.pt_insertion_log.specs.Steps.{IsKeptAt, IsClear, IsLasting}
 
--- what a missing value would say does not hold, so there is one
+-- if the value cannot be missing, there is one
 there_is : (o : Option ℕ) → (o ≡ None → ⊥) → (n : ℕ) × (o ≡ Some n)
 there_is None never = absurd (never refl)
 there_is (Some n) never = (n, refl)

@@ -29,7 +29,7 @@ pub Each-both : {A : Type 0} (P Q R : A → Type 0) → ((x : A) → P x → Q x
 Each-both P Q R give [] each also = tt
 Each-both P Q R give (x ∷ xs) each also = (give x each.0 also.0, Each-both P Q R give xs each.1 also.1)
 
--- the order is kept
+-- a put keeps the order
 pub IsInOrder-put : {A : Type 0} (key : A → ℕ) (new : A) (xs : List A) → IsInOrder key xs → IsInOrder key (put key new xs)
 IsInOrder-put key new [] order = (tt, tt)
 IsInOrder-put key new (x ∷ xs) order = elim (compared (key x) (key new)) [
@@ -64,7 +64,7 @@ none_is_no_some : {A : Type 0} (o : Option A) → o ≡ None → IsTrue (is_some
 none_is_no_some None is some = search rules
 none_is_no_some (Some x) is some = absurd (cc)
 
--- and none more where the key is there
+-- and none more if the key is there already
 pub length-put_there : {A : Type 0} (key : A → ℕ) (new : A) (xs : List A) → IsInOrder key xs → IsTrue (is_some (record_at key (key new) xs)) → length (put key new xs) ≡ length xs
 length-put_there key new [] order there = absurd (none_is_no_some (record_at key (key new) []) refl there)
 length-put_there key new (x ∷ xs) order there = elim (compared (key x) (key new)) [
@@ -75,7 +75,7 @@ length-put_there key new (x ∷ xs) order there = elim (compared (key x) (key ne
       (record_at-above key (key new) (x ∷ xs) (gt, Each-weaker (λ y. key x < key y) (λ y. key new < key y) (λ y above. omega arith) xs order.0)) there)
 ]
 
--- one record more where the key is not there
+-- one record more if the key is not there
 pub length-put_new : {A : Type 0} (key : A → ℕ) (new : A) (xs : List A) → record_at key (key new) xs ≡ None → length (put key new xs) ≡ length xs + 1
 length-put_new key new [] none = refl
 length-put_new key new (x ∷ xs) none = elim (compared (key x) (key new)) [

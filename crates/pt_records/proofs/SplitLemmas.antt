@@ -107,7 +107,7 @@ record_at-after : {A : Type 0} (key : A → ℕ) (k : ℕ) (xs ys : List A) → 
 record_at-after key k [] ys before = refl
 record_at-after key k (x ∷ xs) ys before = record_at-past key k x (xs ++ ys) (λ same. absurd (let lt = before.0 in omega arith)) ∙ record_at-after key k xs ys before.1
 
--- a record is looked for from its key on
+-- a search for a key may leave out records before it
 pub record_at-split : {A : Type 0} (key : A → ℕ) (k : ℕ) (xs : List A) (n : ℕ) → Each (λ x. key x < k) (take n xs) → record_at key k xs ≡ record_at key k (drop n xs)
 record_at-split key k xs n before = ap (record_at key k) (sym (take-append-drop n xs)) ∙ record_at-after key k (take n xs) (drop n xs) before
 
@@ -153,7 +153,7 @@ rest_at [] n d lt = absurd (omega arith)
 rest_at (x ∷ xs) zero d lt = refl
 rest_at (x ∷ xs) (suc n) d lt = rest_at xs n d (omega arith)
 
--- from a record with a later key on all have one
+-- all records from one with a later key on have later keys
 pub above_here : {A : Type 0} (key : A → ℕ) (k : ℕ) (xs : List A) (n : ℕ) (x : A) → n < length xs → slice_index_or xs n x ≡ x → IsInOrder key xs → k < key x → Each (λ y. k < key y) (drop n xs)
 above_here key k xs n x lt is order later =
     let here : drop n xs ≡ x ∷ drop (suc n) xs = rest_at xs n x lt ∙ ap (λ y. y ∷ drop (suc n) xs) is in

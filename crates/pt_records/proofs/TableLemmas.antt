@@ -38,7 +38,7 @@ within_limit key new xs most order within room = elim (or_cases (is_some (record
   | inr below ↦ omega (arith, length-put key new xs, below_is (length xs) most below)
 ]
 
--- a table stays one where there is room
+-- after a put a table is still a table if there is room
 pub IsTable-put : {A : Type 0} (key : A → ℕ) (new : A) (xs : List A) (most : ℕ) → IsTable key most xs → IsTrue (is_some (record_at key (key new) xs) || nat_lt (length xs) most) → IsTable key most (put key new xs)
 IsTable-put key new xs most table room =
     record { in_order = IsInOrder-put key new xs table.in_order; within = within_limit key new xs most table.in_order table.within room }
@@ -89,7 +89,7 @@ pub length-filter : {A : Type 0} (test : A → Bool) (xs : List A) → length (f
 length-filter test [] = omega arith
 length-filter test (x ∷ xs) = omega (arith, kept_length x (filter test xs) (test x) (length xs) (length-filter test xs))
 
--- a table stays one where records are taken away and that leaves room for one that is put
+-- a table is still a table if records are taken away and that leaves room for the one that is put
 pub IsTable-replace : {A : Type 0} (key : A → ℕ) (span : Span) (new : A) (xs : List A) (most : ℕ) → IsTable key most xs → IsTrue (nat_lt (length (take_away key span xs)) most)
     → IsTable key most (put key new (take_away key span xs))
 IsTable-replace key span new xs most table room =

@@ -32,7 +32,7 @@ module _ {X : Type 0} (opens closes test : X → Bool) where
         | false ↦ first-split xs
       ]
 
-  -- a position opens what stays open or is settled
+  -- some position opens, and stays open or is settled by the first item that closes
   pub lifted-split : (xs : List X)
       → some_position (λ item later. opens item && first_if_any closes test later) xs
       ≡ (some_position (is_open opens closes) xs || some_position (λ item later. opens item && is_first closes test later) xs)

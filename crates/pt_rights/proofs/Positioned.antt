@@ -148,7 +148,7 @@ no_grants (first ∷ file) none =
     let not_first = none 0 first refl in
     rw (not_first, no_grants file (λ position entered here. none (suc position) entered here)) refl
 
--- what was granted last at a position is so one position further on behind one more entry
+-- the last grant at a position is the last grant at the next position if one more entry comes first
 IsLastGrantAt-cons : (first : Entered) (file : List Entered) (position : ℕ) (granting : Entered) (grant : Grant)
     → IsLastGrantAt file position granting grant → IsLastGrantAt (first ∷ file) (suc position) granting grant
 IsLastGrantAt-cons first file position granting grant at = record {
@@ -175,7 +175,7 @@ IsLastGrantAt-first first file grant given none = record {
 abbrev pub IsLastGrant : List Entered → Grant → Type 0
 IsLastGrant file grant = (position : ℕ) × (granting : Entered) × IsLastGrantAt file position granting grant
 
--- the last of a list, or else one from before it, is in one of the two
+-- the last grant is the one before the list, or the last grant in the list
 pub last_position : (before : Option Grant) (file : List Entered) (grant : Grant)
     → last_or before (grants file) ≡ Some grant
     → ((before ≡ Some grant) × NoneGrants file) ⊎ IsLastGrant file grant

@@ -141,7 +141,7 @@ AreMarks-push file waiting granted heard heard_now last marks room overdue = rec
   overdue = overdue;
 }
 
--- what has these entries and marks has marks of the longer file
+-- marks that are updated for one more entry are marks of the longer file
 pub AreMarks-pushed : (file : List Entered) (waiting : Option ℕ) (granted : Option Grant) (heard : Option ℕ) (last : Entered)
     → AreMarks file waiting granted heard → length file < most_entries
     → (items : List Entered) (waiting_now : Option ℕ) (granted_now : Option Grant) (heard_now : Option ℕ)

@@ -1,4 +1,4 @@
--- A route that its vehicle can drive stays so without a trip, and with the trip that is booked.
+-- A route that its vehicle can drive can also be driven without a trip, and with the trip that is booked.
 use Rattle.std.proofs.Common.{◌≡◌, ℕ, ◌+◌, ◌<◌, ◌≤◌, Bool, true, false, not, List, [], ◌∷◌, ◌++◌, length, map, Option}
 use Rattle.std.proofs.Common.{Some, None, Any, cond, refl, sym, ap, ◌∙◌, subst, arith}
 use Rattle.std.specs.Prelude.{◌==◌, IsSomeAnd}

@@ -89,7 +89,7 @@ found_key key k a (x ∷ xs) found = found_here key k a x (record_at key k xs) (
 abbrev pub number_of : Trip → ℕ
 number_of trip = trip.id
 
--- a stop of a trip is its
+-- a stop of a trip has the trip's number
 pub stop_trip : (kind : StopKind) (trip : Trip) → (trip_stop kind trip).trip ≡ trip.id
 stop_trip Pickup trip = refl
 stop_trip Drop trip = refl

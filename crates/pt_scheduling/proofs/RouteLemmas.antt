@@ -36,7 +36,7 @@ same_trip k t stop rest false same is none =
     let other : (stop.trip == k) ≡ false = ap (λ (n : ℕ). stop.trip == n) same ∙ is in
     ap (λ b. cond b (stop ∷ stops_of_trip k rest) (stops_of_trip k rest)) other ∙ none
 
--- nothing is left of the trip
+-- without a trip, no stop of it is left
 none_left : (k t : ℕ) → k ≡ t → (stops : List PlannedStop) → stops_of_trip k (without t stops) ≡ []
 none_left k t same [] = refl
 none_left k t same (stop ∷ later) = same_trip k t stop (without t later) (stop.trip == t) same refl (none_left k t same later)
@@ -50,7 +50,7 @@ other_trip k t stop rest all true other is same =
     same ∙ sym (ap (λ b. cond b (stop ∷ stops_of_trip k all) (stops_of_trip k all)) (is_no_other stop.trip t k is other))
 other_trip k t stop rest all false other is same = ap (λ xs. cond (stop.trip == k) (stop ∷ xs) xs) same
 
--- and all of the others
+-- and all stops of the other trips are left
 others_left : (k t : ℕ) → (k ≡ t → ⊥) → (stops : List PlannedStop) → stops_of_trip k (without t stops) ≡ stops_of_trip k stops
 others_left k t other [] = refl
 others_left k t other (stop ∷ later) = other_trip k t stop (without t later) later (stop.trip == t) other refl (others_left k t other later)
@@ -161,7 +161,7 @@ first_fails test stop xs is = ap (λ b. cond b (stop ∷ filter test xs) (filter
 joined : {X : Type 0} (xs ys zs a b c : List X) → xs ≡ a → ys ≡ b → zs ≡ c → (xs ++ ys) ++ zs ≡ (a ++ b) ++ c
 joined xs ys zs a b c one two three = rw (one, two, three) refl
 
--- of the new trip its two stops are there
+-- the route with the trip put in has the trip's two stops
 own_stops : (asked : Asked) (k i j : ℕ) (xs : List Stop) → asked.trip ≡ k → filter (is_of k) xs ≡ [] → filter (is_of k) (with_trip asked i j xs) ≡ two_stops asked
 own_stops asked k i j xs own none =
     let passes : (asked.trip == k) ≡ true = ap (λ (n : ℕ). n == k) own ∙ eq_self k in
@@ -177,7 +177,7 @@ own_stops asked k i j xs own none =
 is_not : (n k : ℕ) → (n ≡ k → ⊥) → (n == k) ≡ false
 is_not n k other = grind (arith, nat_tests)
 
--- and of another trip what was there
+-- and of each other trip the stops that were there
 other_stops : (asked : Asked) (k i j : ℕ) (xs : List Stop) → (asked.trip ≡ k → ⊥) → i ≤ j → filter (is_of k) (with_trip asked i j xs) ≡ filter (is_of k) xs
 other_stops asked k i j xs other le =
     let fails = is_not asked.trip k other in
@@ -288,7 +288,7 @@ each_mapped : (Q : ℕ → Type 0) (xs : List Stop) → Each (λ s. Q s.trip) xs
 each_mapped Q [] each = tt
 each_mapped Q (x ∷ xs) each = (each.0, each_mapped Q xs each.1)
 
--- what holds of a trip that is booked and of the trips that were in its vehicle holds of all trips of the new plan
+-- what holds of the booked trip and of the trips that were in its vehicle holds of all trips of the new plan
 pub booked_trips : (Q : ℕ → Type 0) (minutes : ℕ → ℕ → Option ℕ) (day : ℕ) (trips : List Trip) (plans : List Plan) (vehicles : List Vehicle) (request : Request) (trip : Trip) (plan : Plan)
     → Q trip.id → Each (λ stop. Q stop.trip) (without request.trip (planned_stops plan.vehicle day plans))
     → IsBookedIn minutes (routes_without request.trip day trips plans vehicles) request trip plan → Each (λ stop. Q stop.trip) plan.stops
@@ -352,7 +352,7 @@ any_among k trips trip (stop ∷ later) there some = elim (or_cases (stop.trip =
   | inr rest ↦ any_after k (record_at number_of stop.trip trips) stop.kind (stops_among trips later) (any_among k trips trip later there rest)
 ]
 
--- the stops of a new plan: those of its vehicle's others, and the trip's two
+-- the stops of a new plan: those of its vehicle's other trips, and the trip's two
 abbrev IsPlanOf : ℕ → List Trip → List Plan → Request → Trip → Plan → Type 0
 IsPlanOf day trips plans request trip plan =
     (i : ℕ) × (j : ℕ) × (i ≤ j) × (plan.stops ≡ map planned_stop (with_trip (asked_of trip) i j (stops_among trips (without request.trip (planned_stops plan.vehicle day plans)))))
@@ -393,7 +393,7 @@ booked_has minutes day trips plans vehicles request trip plan number booked =
     ap (has_trip trip.id) is ∙ any_mapped trip.id (with_trip (asked_of trip) i j (stops_among trips left))
     ∙ any_own (asked_of trip) i j (stops_among trips left) (among_of_trip trip.id trips left ∙ ap (stops_among trips) (none_left trip.id request.trip number planned))
 
--- the other trips are still there without one
+-- without one trip the other trips are still there
 pub left_has : (k trip : ℕ) (stops : List PlannedStop) → (k ≡ trip → ⊥) → has_trip k stops ≡ true → has_trip k (without trip stops) ≡ true
 left_has k trip stops other some =
     any-filter_same (λ stop. stop.trip == k) (λ stop. not (stop.trip == trip)) true (λ stop is. is_kept stop.trip k trip is other) stops ∙ some

@@ -54,7 +54,7 @@ skip_turn has more same true is = absurd (cc)
 abbrev has_day : ℕ → List ℕ → Bool
 has_day day days = list_any (λ use_day. use_day == day) days
 
--- a trip that makes its day one of use
+-- a trip that makes its day a day of use
 pub used : (left_out : Option ℕ) (trip : Trip) (days : List ℕ) (later : List Trip) → (is_other left_out trip.id && is_used trip.status) ≡ true → (day : ℕ)
     → (list_any (λ use_day. use_day == day) (put (λ use_day. use_day) trip.wish.day days) || list_any (is_use_of left_out day) later)
     ≡ (list_any (λ use_day. use_day == day) days || list_any (is_use_of left_out day) (trip ∷ later))

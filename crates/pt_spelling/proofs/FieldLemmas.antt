@@ -13,14 +13,14 @@ use Rattle.pt_base.specs.Ranges.{last_minute}
 use Rattle.pt_spelling.specs.Fields.{number_bytes, numbers_bytes, signed_bytes, truth_bytes, days_byte, optional_bytes, text_bytes, list_bytes}
 use Rattle.pt_spelling.specs.Ranges.{IsWord, IsWeek}
 
--- parts, the first by itself
+-- joined parts, with the first part split off
 pub four_parts : (a b c d : List ℕ) → ((a ++ b) ++ c) ++ d ≡ a ++ (b ++ (c ++ d))
 four_parts a b c d = simp append_assoc
 
 pub five_parts : (a b c d f : List ℕ) → (((a ++ b) ++ c) ++ d) ++ f ≡ a ++ (b ++ (c ++ (d ++ f)))
 five_parts a b c d f = simp append_assoc
 
--- parts of one length
+-- first parts of the same length
 pub parts-then : (n : ℕ) (p q x y : List ℕ) → length p ≡ n → length q ≡ n → p ++ x ≡ q ++ y → (p ≡ q) × (x ≡ y)
 parts-then n p q x y one other e =
     (sym (take_at p x n one) ∙ ap (take n) e ∙ take_at q y n other, sym (drop_at p x n one) ∙ ap (drop n) e ∙ drop_at q y n other)

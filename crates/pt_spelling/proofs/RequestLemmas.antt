@@ -1,4 +1,4 @@
--- No two requests have one spelling.
+-- No two requests have the same spelling.
 use Rattle.std.proofs.Common.{◌≡◌, ℕ, ◌≤◌, Bool, true, false, length, List, [], ◌∷◌, ◌++◌, get_or, drop, refl, sym, ap, ◌∙◌, arith}
 use Rattle.std.specs.List.{All}
 use Rattle.pt_base.specs.Day.{IsDay}

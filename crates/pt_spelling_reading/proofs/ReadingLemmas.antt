@@ -1,4 +1,4 @@
--- What is taken of bytes that begin with what is written.
+-- What is taken from bytes that begin with the spelling of a value.
 use Rattle.std.proofs.Common.{◌≡◌, ℕ, zero, suc, ◌<◌, ◌≤◌, Bool, true, false, List, [], ◌∷◌, ◌++◌, length}
 use Rattle.std.proofs.Common.{append-nil, append_assoc, Option, Some, None, Ok, Err, refl, sym, ap, subst, ◌∙◌, arith}
 use Rattle.std.proofs.lemmas.Bool.{cond-false, ne_eqb}
@@ -27,7 +27,7 @@ use Rattle.pt_spelling.specs.Ranges.{IsWeek}
 use Rattle.pt_spelling.proofs.FieldLemmas.{length-number}
 use Rattle.pt_spelling_reading.specs.Reading.{Takes, Finds}
 
--- where nothing follows, what is taken is the whole
+-- if nothing follows the value, what is taken is found
 pub taken-whole : {A : Type 0} (written : A → List ℕ) (Fits : A → Type 0) (bytes left : List ℕ) (found : Option A)
     → Takes written Fits bytes found left → Finds written Fits bytes found
 taken-whole written Fits bytes left found takes x fits e = (takes x [] fits (e ∙ sym (append-nil (written x)))).0
@@ -35,7 +35,7 @@ taken-whole written Fits bytes left found takes x fits e = (takes x [] fits (e �
 pub some-same : {A : Type 0} (a b : A) → Some a ≡ Some b → a ≡ b
 some-same a b e = ap (λ found. unwrap_or found a) e
 
--- what was found is that which was to be found
+-- only one value can be found
 pub found-same : {A : Type 0} (found : Option A) (a b : A) → found ≡ Some a → found ≡ Some b → a ≡ b
 found-same found a b is only = some-same a b (sym is ∙ only)
 
@@ -50,7 +50,7 @@ pub mapped-some : {A B : Type 0} (f : A → B) (found : Option A) (a : A) (x : B
     → option_map f found ≡ Some x → f a ≡ x
 mapped-some f found a x is only = some-same (f a) x (sym (ap (option_map f) is) ∙ only)
 
--- ---- the parts of what is written, the first by itself
+-- ---- the parts of spellings, with the first part split off
 
 pub caller-parts : (caller : Caller) → caller_bytes caller ≡ number_bytes caller.id
     ++ (role_number caller.role ∷ (number_bytes (subject_of caller.role) ++ caller.digest))
@@ -80,7 +80,7 @@ pub route-parts : (route : Route) → route_bytes route ≡ number_bytes route.i
     ++ (days_byte route.days ∷ numbers_bytes (route.first ∷ route.last ∷ [])))))
 route-parts route = simp append_assoc
 
--- a fixed route is found where it keeps to what routes keep to
+-- a fixed route is found if it meets the limits of fixed routes
 pub route-found : (found : Result Route Fault) (made route : Route) → made ≡ route → IsFixedRoute route
     → (IsOk found ↔ IsFixedRoute made) → IfOk found (λ r. r ≡ made) → result_ok found ≡ Some route
 route-found (Ok r) made route same fixed accepted value = ap (λ (x : Route). Some x) (value ∙ same)
@@ -110,7 +110,7 @@ no-chairs bytes (suc more) size e =
     let four = ap (length {A = ℕ}) (e ∙ chairs-some (suc more) (omega arith)) in
     absurd (omega (arith, four, length-number (suc more)))
 
--- and some bytes of some
+-- and other bytes spell their number
 pub some-chairs : (bytes : List ℕ) (chairs : ℕ) → 1 ≤ length bytes → bytes ≡ chairs_bytes chairs
     → (1 ≤ chairs) × (bytes ≡ number_bytes chairs)
 some-chairs bytes zero size e = absurd (let none = ap (length {A = ℕ}) e in omega arith)

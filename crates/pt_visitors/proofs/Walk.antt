@@ -240,7 +240,7 @@ pub walk_decides : (uses : List ℕ) (day opening others : ℕ) → IsWalked use
 walk_decides uses day opening others w holds =
     counted_may uses day opening others (ends_in uses day opening others w (goes_on opening day holds))
 
--- and past each period the visitor may use the day
+-- and if the last period does not hold the day, the visitor may use the day
 pub walk_allows : (uses : List ℕ) (day opening others : ℕ) → IsWalked uses day (length uses) opening others → is_in_period opening day ≡ false → MayUse uses day
 walk_allows uses day opening others w ends =
     (counted_may uses day day 0 (ends_before uses day opening others w (ended opening day ends w.begun))).0 (omega arith)

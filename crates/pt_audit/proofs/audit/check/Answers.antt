@@ -32,18 +32,18 @@ loop-duty-preserved g c =
           (subst (λ (d : Duty). take (k + 1) duties ≡ take k duties ++ d ∷ []) (sym c.duty-item.is) (take_more duties k duty c.loop-duty-test.true)) c.in-Some.ensures.right;
     }
 
--- a test that there is no value
+-- a test whether there is no value
 none_told : (o : Option ℕ) (b : Bool) → is_some o ≡ not b → IsTrue b ↔ (o ≡ None)
 none_told None true told = (λ _. refl, λ _. refl)
 none_told None false told = absurd (cc)
 none_told (Some n) true told = absurd (cc)
 none_told (Some n) false told = (λ yes. absurd (cc), λ none. absurd (cc))
 
--- where the one line is not that there is no way, a right log has cases
+-- if the log is not the one line `NODIRECT`, a right log has cases
 only_cases : (minutes : ℕ → ℕ → Option ℕ) (duties : List Duty) (asked : Asked) (lines : List Line) → (lines ≡ line.NoDirect ∷ [] → ⊥) → IsRightLog minutes duties asked lines → BeginsWithCases minutes (cases_of_day asked duties) lines []
 only_cases minutes duties asked lines other right = elim right [ inl direct ↦ absurd (other direct.0) | inr cases ↦ cases ]
 
--- where it is, the log is right exactly where there is none
+-- if it is that line, the log is right exactly if there is no way
 no_way_alone : (minutes : ℕ → ℕ → Option ℕ) (duties : List Duty) (asked : Asked) (lines : List Line) → lines ≡ line.NoDirect ∷ [] → IsRightLog minutes duties asked lines ↔ (minutes asked.origin asked.goal ≡ None)
 no_way_alone minutes duties asked lines same = (
   λ right. elim right [

@@ -5,7 +5,8 @@ use Rattle.pt_insertion_log.proofs.FitLemmas.{room_of}
 use Rattle.pt_insertion_log.proofs.WrittenLemmas.{IsBegun}
 use Rattle.pt_insertion_log.proofs.cases.explain_case.Given as goal
 
--- the case was begun, with raises to these bounds, by which the visits before these two keep their constraints
+-- the case was begun, with raises to these bounds; by them the visits before `rest`, except `first`, keep their
+-- constraints
 abbrev pub invariant-loop-raise : goal.invariant-loop-raise
 invariant-loop-raise g l = record {
   begun : IsBegun (g.T.Times.minutes l.times) (case_of l.insertion) (g.W.Write.contents l.fn.out) (g.W.Write.contents l.out) (slice_index l.bounds);

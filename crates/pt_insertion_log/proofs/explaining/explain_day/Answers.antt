@@ -33,7 +33,7 @@ returns-clause-written g c =
     day_written minutes duties c.args.asked.now (g.W.Write.contents c.args.out.now) (g.W.Write.contents c.loop-duty.out)
     (subst (λ (ds : List Duty). WritesCases minutes (cases_of_day c.args.asked.now ds) (g.W.Write.contents c.args.out.now) (g.W.Write.contents c.loop-duty.out)) (take_all c.loop-duty.duty-index duties (omega arith)) c.loop-duty.invariant)
 
--- a test that there is no value
+-- a test whether there is no value
 told_none : (o : Option ℕ) (b : Bool) → is_some o ≡ not b → b ≡ true → o ≡ None
 told_none None b told true_says = refl
 told_none (Some n) true told true_says = absurd (cc)

@@ -1,4 +1,4 @@
--- A route in pairs stays so when a trip that it has not is put in.
+-- A route in pairs stays in pairs when a new trip is put in.
 use Rattle.pt_feasible.specs.Route.{stops_of}
 use Rattle.pt_insertion.proofs.InsertionPairing.{IsPaired-with_trip}
 use Rattle.pt_insertion.proofs.spliced.Spliced.of.Goals as goal
