@@ -17,7 +17,7 @@ use Rattle.pt_tables_opening.specs.Standing.{IsFirstAtFault}
 use Rattle.pt_tables_opening.specs.Agency.{HasOtherVersion}
 use Rattle.pt_tables_opening.specs.declared.open_fault.OpenFault.{OpenFault}
 
--- where nothing is committed, a crash leaves what it could leave before
+-- if nothing is committed, a crash leaves what it could leave before
 pub left_before : (old new : Connected) → Survives old new (λ _. ⊥) → HasCleanDisk new → (db : Trees) → new.may_leave db → old.may_leave db
 left_before old new survives clean db left = elim (survives.crash clean db left) [
   | inl before ↦ before

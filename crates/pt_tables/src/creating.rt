@@ -63,7 +63,7 @@ fn create_new<S: Alter>(
     tx.commit()
 }
 
-/// The least state in memory, whose admin has this key, and its policy.
+/// The least state, in memory, and its policy. Its admin has this key.
 fn least(alloc: Global, admin_key: &[u8]) -> Result<(ListKeeper, Policy), OpenFault>
     ensures least { IfOk result (λ made. IsLeastState admin_key.now made.0.content) }
     ensures sound { IfOk result (λ made. IsSound made.0.content) }

@@ -1,4 +1,4 @@
--- The records of the content that the tables have, as the texts ask for them.
+-- The records of the content that the tables have, as the queries return them.
 use Rattle.std.proofs.Common.{◌≡◌, ◌<◌, ◌==◌, ◌&&◌, ◌^◌, ℕ, Bool, IsTrue, List, [], ◌∷◌, map, filter, flat_map, refl, sym, ap, ap₂, subst, ◌∙◌, arith}
 use Rattle.std.specs.Prelude.{IsPermutation, nat_le}
 use Rattle.std.proofs.lemmas.Bool.Decides.{nat_tests}

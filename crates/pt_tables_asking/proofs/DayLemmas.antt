@@ -168,7 +168,7 @@ and_true : (b : Bool) → (b && true) ≡ b
 and_true true = refl
 and_true false = refl
 
--- where the vehicle of each plan has a version, the plans of the day are those of the vehicles' numbers
+-- if the vehicle of each plan has a version, the plans of the day are those of the vehicles' numbers
 pub plans_of_day : (content : State) → IsWellFormed content → Each (HasVersionAmong content.vehicles) content.planned → (day : ℕ) → day < 4_294_967_296
     → plans_of day content.planned (vehicle_ids content.vehicles) ≡ planned_on day content.planned
 plans_of_day content readable carried day low =

@@ -1,4 +1,4 @@
--- What a query inside a transaction that is undone answers, and what it leaves.
+-- What a query in a transaction that is rolled back returns, and what it leaves.
 use Rattle.std.proofs.Common.{◌≡◌, ◌⊎◌, inl, inr, ℕ, List, true, false, cond, IsTrue, Option, Some, None, Result, Ok, Err, IfOk, IfErr, Vec, refl, sym, ap, subst, ◌∙◌, arith}
 use Rattle.std.specs.declared.alloc.Global.{Global}
 use Rattle.sqlite.specs.Effect.{Database}

@@ -144,7 +144,7 @@ module _ {A : Type 0} (key : A → ℕ) (span : Span) (k : ℕ) (is : is_within 
       by_key (inr (inl same)) = here same
       by_key (inr (inr high)) = past (λ same. omega arith)
 
-  -- the records in the span have the one with this key where all have it
+  -- the record with this key in the span is the record with it among all
   pub record_at-within : (xs : List A) → record_at key k (within key span xs) ≡ record_at key k xs
   record_at-within [] = refl
   record_at-within (x ∷ xs) = step x xs (record_at-within xs)

@@ -45,7 +45,7 @@ at_most_one [] found few is = subst (λ o. [] ≡ option_to_list o) is refl
 at_most_one (x ∷ []) found few is = subst (λ o. x ∷ [] ≡ option_to_list o) is refl
 at_most_one (x ∷ y ∷ xs) found few is = absurd (omega arith)
 
--- the records with this key are the one that is found by it
+-- the only record with a key is the one that is found by it
 pub filter_found : {A : Type 0} (key : A → ℕ) (k : ℕ) (xs : List A) → IsInOrder key xs → filter (λ x. key x == k) xs ≡ option_to_list (record_at key k xs)
 filter_found key k xs order = at_most_one (filter (λ x. key x == k) xs) (record_at key k xs) (one_at_most key xs order k) (slice_get-filter (λ x. key x == k) xs)
 

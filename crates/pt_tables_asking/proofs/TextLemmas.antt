@@ -1,4 +1,5 @@
--- What each text means: the rows of one table that pass a test, with all their columns, in the order of the primary key.
+-- What each query means: the rows of one table that pass a test, with all their columns, in the order of the primary
+-- key.
 use Rattle.std.proofs.Common.{◌≡◌, ◌==◌, ◌&&◌, ℕ, pos, List, [], ◌∷◌, Bool, true, false, codes, int_cmp, refl, ap, ap₂, ◌∙◌, arith}
 use Rattle.std.specs.Prelude.{nat_le}
 use Rattle.std.specs.Ordering.{nat_cmp, is_eq}

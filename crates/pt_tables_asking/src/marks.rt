@@ -58,7 +58,7 @@ fn mark_of(row: &Row) -> Option<Mark>
     }
 }
 
-/// A table of marks: a record that is marked has one row in it, its number.
+/// A table of marks. It has one row, the number, for each record that is marked.
 pub(crate) trait Marking: TableOf {
     /// A record, marked or not.
     ghost marked: { Self.Record → Bool → Self.Record };

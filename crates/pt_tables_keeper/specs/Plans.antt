@@ -1,4 +1,4 @@
--- The plans that are known of a content, by their keys, and a change that keeps each plan's vehicle.
+-- The known plans of a content, by their keys, and changes that keep each plan's vehicle.
 use Rattle.std.specs.Prelude.{◌≡◌, ◌⊎◌, ℕ, List, [], ◌∷◌, ◌++◌, map, Option, None, Some}
 use Rattle.pt_base.specs.declared.vehicle.Vehicle.{Vehicle}
 use Rattle.pt_desk_rules.specs.State.{no_edit, replaces, versions_from}

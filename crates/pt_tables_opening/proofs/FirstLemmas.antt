@@ -8,7 +8,7 @@ use Rattle.pt_tables_rows.specs.Rows.{first_version, number_value}
 use Rattle.pt_tables_rows.specs.Schema.{desk_table, first_schema}
 use Rattle.pt_tables_rows.specs.Tables.{AreRows}
 
--- the rows are one alone, of the first version
+-- there is exactly one row, of the first version
 abbrev pub AreOfFirst : List Row → Type 0
 AreOfFirst rows = (row : Row) × (rows ≡ row ∷ []) × (column row 1 ≡ number_value first_version)
 

@@ -25,7 +25,7 @@ pub record Remain {A : Type 0} (rows_of : A → List Row) (Fits : A → Type 0) 
   pub each : Each Fits records
   pub rows_are : flat_map rows_of records ≡ rows
 
--- up to here no row but the first one begins a record
+-- up to here, only the first row begins a record
 pub record Ends (Begins : Row → Type 0) (rows : List Row) (end : ℕ) : Type 0 where
   pub within : end ≤ length rows
   pub some : 0 < length rows → 0 < end

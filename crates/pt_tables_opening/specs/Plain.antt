@@ -1,4 +1,4 @@
--- The parts of a schema that the desk's schema has, which are compared field by field.
+-- Plain schemas, such as the desk's, which can be compared field by field.
 use Rattle.std.specs.Prelude.{◌≡◌, []}
 use Rattle.std.specs.List.{AllByRecursion}
 use Rattle.sqlite.specs.Table.{Table}

@@ -1,4 +1,4 @@
-//! Whether the schema of a database is the desk's: it is compared, field by field, with one that is made in memory.
+//! Whether the schema of a database is the desk's. It is compared, field by field, with a schema made in memory.
 //!
 //! The desk's schema has no default, no CHECK and no view, so any of these makes a difference.
 

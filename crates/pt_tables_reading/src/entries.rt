@@ -205,7 +205,7 @@ pub fn entry_of(alloc: Global, row: &Row) -> Result<Option<FiledEntry>, AllocErr
     Ok(filed_entry(row, entry))
 }
 
-/// The entry of a row, which has this kind and these particulars.
+/// The case file entry of a row that has the kind and the fields of this entry.
 fn filed_entry(row: &Row, entry: Entry) -> Option<FiledEntry>
     requires columns { length row.now ≡ 9 }
     requires kind { number_value (entry_number entry) ≡ column row.now 2 }

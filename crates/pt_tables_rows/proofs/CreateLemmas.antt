@@ -363,7 +363,7 @@ no_rowids (t ∷ ts) trees empty = (subst HaveRowids (sym empty.0) (record { ris
 abbrev IsBeyond : Table → Type 0
 IsBeyond t = (t.tree ≢ desk_table.tree) × (t.tree ≢ callers_table.tree)
 
--- a table apart from those that are filled has no row
+-- a table that is not filled has no row
 abbrev Unfilled : Table → Trees → Trees → Table → Type 0
 Unfilled filled old new t = t.tree ≢ filled.tree → new t.tree ≡ old t.tree
 

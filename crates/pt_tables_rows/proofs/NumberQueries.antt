@@ -21,7 +21,7 @@ use Rattle.sqlite_sql.specs.declared.ops.CompareOp.TheVariants.{Eq}
 use Rattle.sqlite_sql.specs.Ops.{from_truth}
 use Rattle.sqlite_typed.proofs.TestLemmas.{truth_or, last_term}
 
--- these fields of the row of a table whose number is that at a place of the parameters
+-- a query for these fields of the row of a table whose number is the parameter at this place
 abbrev pub number_query : ℕ → ℕ → List Term → Query
 number_query tree place fields = record {
   from = inner tree end;

@@ -244,7 +244,7 @@ less_one test (x ∷ xs) = cond (test x) xs (x ∷ less_one test xs)
 turned : {A : Type 0} (x y : A) (xs : List A) → IsPermutation (x ∷ y ∷ xs) (y ∷ x ∷ xs)
 turned x y xs = IsPermutation-middle (x ∷ []) y xs
 
--- lists with the same elements have the same without one of which there is but one kind
+-- lists with the same elements still have the same ones without the first that passes, if only one value passes
 less_one-permutation : {A : Type 0} (test : A → Bool) (a : A) → ((x : A) → test x ≡ true → x ≡ a) → (xs ys : List A)
     → IsPermutation xs ys → IsPermutation (less_one test xs) (less_one test ys)
 less_one-permutation {A} test a only xs ys same = (along_permutation Both

@@ -52,7 +52,7 @@ abbrev pub optional_value : Option ℕ → Value
 optional_value None = Int (negsuc 0)
 optional_value (Some n) = number_value n
 
--- the agency's one row: the version, the policy, and the number that was last given to a trip
+-- the agency's only row: the version, the policy, and the number last given to a trip
 abbrev pub versioned_row : ℕ → Policy → ℕ → Row
 versioned_row version policy last_trip =
     number_value 1 ∷ number_value version ∷ number_value policy.base ∷ number_value policy.transfer

@@ -1,4 +1,4 @@
--- What statements make that run, one alone or in turn.
+-- What statements that run make, alone or one after the other.
 use Rattle.std.proofs.Common.{◌≡◌, ℕ, true, IsTrue, List, [], ◌++◌, Result, Ok, sym, subst}
 use Rattle.sqlite.specs.declared.error.Error.{Error}
 use Rattle.sqlite.specs.Effect.{Database}
@@ -35,7 +35,7 @@ did_added table first second a b c x r =
     did_then a b c (Adds table first) (Adds table second) (Adds table (first ++ second)) x r
     (λ has one more. adds-then table first second a.now b.now c.now one (more (one []).schema))
 
--- all these rows are added, once those that are left are
+-- once the rows that are left are added, all these rows are
 abbrev pub AddsBut : Table → List Row → List Row → Database → Database → Type 0
 AddsBut table left all old new = (new.schema ≡ desk_schema) × ((last : Database) → Adds table left new last → Adds table all old last)
 

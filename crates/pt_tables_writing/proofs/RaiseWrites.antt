@@ -53,7 +53,7 @@ text_plain : IsPlain (understood desk_schema RAISE_VERSION.now)
 unfolding understood everything desk_schema first_key
 text_plain = (refl, refl)
 
--- the row as the statement makes it of the one that is there
+-- the row that the statement makes of the stored one
 updated_is : (r : Row) (policy : Policy) (last_trip : ℕ) → columns_of desk_table r ≡ versioned_row first_version policy last_trip
     → eval_all fields (given ∷ r ∷ []) ≡ number_value 1 ∷ stored policy last_trip
 unfolding everything

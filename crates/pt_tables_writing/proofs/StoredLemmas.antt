@@ -201,7 +201,7 @@ known_at key [] n span known there low is agrees = absurd (omega arith)
 known_at key (s ∷ spans) zero span known there low is agrees = subst (λ s. within key s known ≡ within key s there) (sym is) agrees.0
 known_at key (s ∷ spans) (suc n) span known there low is agrees = known_at key spans n span known there (omega arith) is agrees.1
 
--- a record that is known for a key is the one that is there
+-- the known record of a key is the stored one
 pub known_stands : {A : Type 0} (known there : Option A) (before : A) → (known ≡ None) ⊎ (known ≡ there) → known ≡ Some before
     → there ≡ Some before
 known_stands known there before (inl none) found = absurd (let no = sym none ∙ found in cc)

@@ -84,7 +84,7 @@ without_all-permuted ids others same rows =
     (λ x y a xs. ap (λ l. without_all l a) (filters_turn _ _ xs))
     (λ a b c h k xs. h xs ∙ k xs) ids others same rows
 
--- without the rowids of the rows that pass, there are left those that do not
+-- without the rowids of the rows that pass, the other rows are left
 pub without-passing : (p : Row → Bool) (rows : List Row) → AreWhole rows → IsTable rows → without_all rows (ids_of (filter p rows)) ≡ filter (λ r. not (p r)) rows
 without-passing p rows whole rising =
     let cuts = map cut rows in

@@ -76,7 +76,7 @@ stayed_then a b c survives first next clean inside =
     let then = next clean before.1 in
     (keeps_then a b c before.0 then.0, then.1)
 
--- the connection was open, where the last of several statements finds it so
+-- the connection was open, if the last of several statements found it open
 pub open_then : {X : Type 0} (a b c : Connected) (r : Result X Error) → Survives b c (λ _. ⊥) → Stayed a b
     → (HasCleanDisk c → IsTrue b.in_transaction → OnOk r (IsTrue b.is_open)) → HasCleanDisk c → IsTrue a.in_transaction
     → OnOk r (IsTrue a.is_open)

@@ -12,7 +12,7 @@ use Rattle.pt_tables_opening.proofs.changes.change_in.Goals as goal
 read_to : (t u : TableName) (s : State) → t ≡ u → IsReadTo (number_of t - 1) s → IsReadTo (number_of u - 1) s
 read_to t u s is read = subst (λ (v : TableName). IsReadTo (number_of v - 1) s) is read
 
--- the change of the table that this one is
+-- the change of a table that equals this one
 change_of : (t u : TableName) (old new : Connected) (s : State) (r : Result Change OpenFault) → t ≡ u → IsReadTo (number_of t - 1) s → (IsReadTo (number_of u - 1) s → ReadsTable u old new s r)
     → ReadsTable t old new s r
 change_of t u old new s r is read reads = subst (λ (v : TableName). ReadsTable v old new s r) (sym is) (reads (read_to t u s is read))
