@@ -5,7 +5,7 @@ use Rattle.pt_feasible.specs.declared.stop.Stop.{Stop}
 use Rattle.pt_feasible.specs.declared.visit.Visit.{Visit}
 use Rattle.pt_feasible.specs.Visit.{visits}
 
--- the minutes from a place through these places in turn; where there is no way, nothing is counted
+-- the minutes from a place through these places in turn; a drive counts 0 if there is no way
 unfoldable pub driving_through : (ℕ → ℕ → Option ℕ) → ℕ → List ℕ → ℕ
 driving_through minutes from [] = 0
 driving_through minutes from (place ∷ places) =
@@ -19,7 +19,7 @@ places_to_depot vehicle stops = map (λ stop. stop.place) stops ++ vehicle.depot
 abbrev pub driving : (ℕ → ℕ → Option ℕ) → Vehicle → List Stop → ℕ
 driving minutes vehicle stops = driving_through minutes vehicle.depot (places_to_depot vehicle stops)
 
--- the minutes of a drive; where there is no way, nothing is counted
+-- the minutes of a drive; 0 if there is no way
 abbrev pub leg : (ℕ → ℕ → Option ℕ) → ℕ → ℕ → ℕ
 leg minutes from to = unwrap_or (minutes from to) 0
 

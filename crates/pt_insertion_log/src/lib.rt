@@ -1,4 +1,4 @@
-//! Logs of refusals, written where a trip has no place in any route.
+//! Logs of refusals, written if a trip has no place in any route.
 #![tactic(auto)]
 
 pub use explaining::explain;

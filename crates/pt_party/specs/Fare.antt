@@ -8,7 +8,7 @@ use Rattle.pt_party.specs.Party.{payers_of}
 abbrev pub highest_fare : ℕ
 highest_fare = 100_000
 
--- the full fare of the same trip by fixed routes, with a transfer where no one route serves both ends (49 CFR
+-- the full fare of the same trip by fixed routes, with a transfer if no single route serves both ends (49 CFR
 -- 37.131(c)(1))
 abbrev pub fixed_fare_of : Policy → Bool → ℕ
 fixed_fare_of policy one_route = policy.base + (if one_route then 0 else policy.transfer)

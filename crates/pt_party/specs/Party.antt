@@ -4,7 +4,7 @@ use Rattle.pt_base.specs.declared.load.Load.{Load}
 use Rattle.pt_base.specs.declared.rider.Rider.{Rider}
 use Rattle.pt_party.specs.declared.party.Party.{Party}
 
--- the rider may bring one companion, and an attendant where the rider's record names one (49 CFR 37.123(f), 37.125(i))
+-- the rider may bring one companion, and an attendant if the rider's record names one (49 CFR 37.123(f), 37.125(i))
 pub record MayTravel (rider : Rider) (party : Party) : Type 0 where
   pub companions : party.companions ≤ 1
   pub attendant : IsTrue party.attendant → IsTrue rider.attendant

@@ -1,7 +1,7 @@
 //! Steps of a walk over a case file: what one more entry does to what is open.
 ghost use Rattle.std.specs.Prelude.{◌≡◌, ◌&&◌, ◌||◌, not};
 
-/// Whether something is open after an entry that may close what was open, and may open anew.
+/// Whether something is open after an entry that may close what was open, and may open something again.
 pub(crate) fn open_after(pending: bool, closes: bool, opens: bool) -> bool
     ensures { result ≡ ((pending && not closes) || opens) }
 {

@@ -113,7 +113,7 @@ pub record ReadsAs (text places : List ℕ) (rows : List Row) : Type 0 where
 abbrev pub LacksHeader : List ℕ → Type 0
 LacksHeader text = HasRecords text [] ⊎ ((first : Record) × BeginsWith text (first ∷ []) × (first ≢ header))
 
--- the first record below the header that is not sound, and its number, where the header row is the first
+-- the first record below the header that is not sound, and its number; the header row is number 1
 abbrev pub FailsAt : List ℕ → List ℕ → Fault → Type 0
 FailsAt text places fault =
     (earlier : List Record) × (fields : Record) × BeginsWith text (header ∷ earlier ++ (fields ∷ []))

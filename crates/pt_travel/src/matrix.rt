@@ -61,7 +61,7 @@ fn put(lines: &mut Vec<Line>, places: &Places, row: &Row)
     }
 }
 
-/// Puts in the way over the place at `k` wherever it is shorter.
+/// Shortens each entry to the way over the place at `k`, if that is shorter.
 pub(crate) fn shorten(lines: &mut Vec<Line>, k: usize)
     requires in_range { k < length lines.old.items }
     requires few { length lines.old.items ≤ 100 }

@@ -154,7 +154,7 @@ fn takes_as_many_wheelchairs_as_it_has_places_for(rt: HostRuntime) -> Result<(),
     Ok(())
 }
 
-/// The route with one more trip, which stays at the depot, where it has a place.
+/// The route with one more trip, which stays at the depot, if there is a place for it.
 fn with_stay(
     alloc: Global,
     vehicle: &Vehicle,

@@ -194,7 +194,7 @@ fn come_to_rest(bounds: &mut Vec<u32>, visits: &[Visit], rides: &[Ride], duratio
     false
 }
 
-/// The least times, where some fit.
+/// The least times, if some fit.
 fn least_times(
     alloc: Global,
     visits: &[Visit],
