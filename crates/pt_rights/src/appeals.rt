@@ -111,7 +111,7 @@ pub(crate) fn may_decide(entries: &[Entered], decision: &Entry, author: CallerId
     heard
 }
 
-/// The first day on which a pending appeal against a refusal was heard.
+/// The earliest day on which a pending appeal against a refusal was heard.
 pub(crate) fn heard_since(entries: &[Entered]) -> Option<Day>
     ensures { (today : ℕ) → is_overdue entries.now today ≡ has_come days_to_decide result today }
 {
@@ -125,7 +125,7 @@ pub(crate) fn heard_since(entries: &[Entered]) -> Option<Day>
     heard
 }
 
-/// The first day on which the pending appeal was heard, after an entry of this day that may decide or hear it.
+/// The earliest day on which the pending appeal was heard, after an entry of this day that may decide or hear it.
 fn heard_after(heard: Option<Day>, pending: bool, entry: &Entry, day: Day) -> Option<Day>
     ensures { (today : ℕ) → has_come days_to_decide result today ≡ (not (decides_appeal entry.now)
         && (has_come days_to_decide heard today

@@ -42,11 +42,11 @@ pub enum Standing {
 #[derive(Drop)]
 pub struct CaseFile {
     entries: Vec<Entered>,
-    /// The first day of an unanswered application.
+    /// The earliest day of an unanswered application.
     waiting: Option<Day>,
     /// The last grant.
     granted: Option<Grant>,
-    /// The first day on which a pending appeal against a refusal was heard.
+    /// The earliest day on which a pending appeal against a refusal was heard.
     heard: Option<Day>,
 }
 
@@ -260,7 +260,7 @@ fn has_come(since: Option<Day>, days: u16, today: Day) -> bool
     }
 }
 
-/// The first day of an unanswered application, with one more entry of this day.
+/// The earliest day of an unanswered application, with one more entry of this day.
 fn waiting_after(waiting: Option<Day>, entry: &Entry, day: Day) -> Option<Day>
     ensures { result ≡ waiting_with waiting entry.now day }
 {
