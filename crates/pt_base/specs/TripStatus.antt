@@ -4,7 +4,7 @@ use Rattle.pt_base.specs.declared.trip_status.TripStatus.{TripStatus}
 use Rattle.pt_base.specs.declared.trip_status.TripStatus.TheVariants.{Booked, Cancelled, Ridden, MissedRider}
 use Rattle.pt_base.specs.declared.trip_status.TripStatus.TheVariants.{MissedOperator}
 
--- a trip stands unless it was cancelled
+-- whether the trip was not cancelled, whatever came of it
 abbrev pub stands : TripStatus → Bool
 stands Booked = true
 stands Cancelled = false
