@@ -6,7 +6,7 @@ use pt_base::{
 };
 use pt_corridor::FixedRoute;
 use pt_records::Rows;
-use pt_rights::{Entry, Outcome, Standing};
+use pt_rights::{Entry, Outcome, Position, Standing};
 use pt_travel::Raw;
 
 /// What a caller asks of the desk.
@@ -25,8 +25,8 @@ pub enum Read {
     Standing { rider: RiderId, day: Day },
     /// Asks for all trips of a rider.
     Trips(RiderId),
-    /// Asks for the letter of the entry at this position of a rider's case file, counted from 0.
-    Letter { rider: RiderId, position: u8 },
+    /// Asks for the letter of the entry at this position of a rider's case file.
+    Letter { rider: RiderId, position: Position },
     /// Asks for what a vehicle does on a day.
     Manifest { vehicle: VehicleId, day: Day },
     /// Asks for what all vehicles on duty do on a day.

@@ -3,7 +3,7 @@ ghost use Rattle.pt_rights.specs.Appeals.{appeals_against, may_answer};
 ghost use Rattle.pt_rights.specs.Kinds.{grant_of, is_refusal, is_appeal, is_hearing, is_overturn};
 ghost use Rattle.pt_rights.specs.Kinds.{decides_appeal, is_notice, is_notice_hearing, is_suspension, suspends};
 
-use crate::{Conditions, Reasons};
+use crate::{Conditions, Position, Reasons};
 use pt_base::{CallerId, Day};
 use std::alloc::AllocError;
 
@@ -48,8 +48,8 @@ pub enum Entry {
     Refuse(Reasons),
     /// An appeal against a refusal or a suspension.
     Appeal {
-        /// The position of what it is against in the case file, counted from 0.
-        against: u8,
+        /// The position of what it is against.
+        against: Position,
     },
     /// The appeal was heard.
     Heard,
@@ -103,7 +103,7 @@ impl Entry {
         ensures { result ≡ appeals_against position self.now }
     {
         match self {
-            Entry::Appeal { against } => usize::from(*against) == position,
+            Entry::Appeal { against } => against.number() as usize == position,
             _ => false,
         }
     }
