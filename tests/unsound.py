@@ -39,6 +39,16 @@ def exchanged(one, other):
     return ";".join(f"UPDATE stops SET place = {to} WHERE place = {at}" for at, to in moves)
 
 
+def appeal_against(position):
+    """An appeal against what stands there, in place of the resident's grant."""
+    return f"UPDATE entries SET kind = 3, a = {position}, b = -1, conditions = '', words = '' WHERE place = 1"
+
+
+def kept_appeal(position):
+    """The same as the clerk's last accepted write: an entry (7) for rider 7, an appeal (3), and its position."""
+    return f"UPDATE kept SET request = x'070000000703{position:08x}' WHERE caller = 2"
+
+
 def dropped(tables):
     return ";".join(f"DROP TABLE {it}" for it in reversed(tables))
 
@@ -58,6 +68,7 @@ ROWS = [
     *[(f"the reply {it!r}", f"UPDATE kept SET reply = x'{it}' WHERE caller = 2", UNSOUND, "kept") for it in NO_REPLIES],
     ("a kept request of one byte 99", "UPDATE kept SET request = x'63' WHERE caller = 2", UNSOUND, "kept"),
     ("a byte after a kept request", f"UPDATE kept SET request = {LONGER} WHERE caller = 2", UNSOUND, "kept"),
+    ("a kept appeal against position 200", kept_appeal(200), UNSOUND, "kept"),
     ("a kept number 0", "UPDATE kept SET number = 0 WHERE caller = 2", UNSOUND, "kept"),
     ("a place too far east", "UPDATE places SET x = 1000001 WHERE id = 2", UNSOUND, "places"),
     ("101 places", counted(98, "INSERT INTO places SELECT number + 3, 0, 0, 0 FROM numbers"), UNSOUND, "places"),
@@ -69,6 +80,8 @@ ROWS = [
     ("a rider of no kind", "UPDATE riders SET kind = 2 WHERE id = 9", UNSOUND, "riders"),
     ("a caller of no rider", "UPDATE callers SET subject = 8 WHERE id = 7", UNSOUND, "riders"),
     ("an entry of no kind", "UPDATE entries SET kind = 99 WHERE place = 1", UNSOUND, "entries"),
+    ("an appeal against position 200", appeal_against(200), UNSOUND, "entries"),
+    ("an appeal against position 250", appeal_against(250), UNSOUND, "entries"),
     ("a gap before an entry", "UPDATE entries SET place = 7 WHERE place = 1", UNSOUND, "entries"),
     ("a trip of no status", "UPDATE trips SET status = 5 WHERE id = 1", UNSOUND, "trips"),
     ("last_trip 0 with trips", "UPDATE desk SET last_trip = 0", UNSOUND, "trips"),
@@ -84,6 +97,7 @@ ROWS = [
     ("no driving times", "DELETE FROM travel", UNSOUND, "travel"),
     ("a duration of 50", "UPDATE vehicles SET duration = 50", UNSOUND, "travel"),
     ("a drop after the next trip's pickup", exchanged(1, 2), UNSOUND, "travel"),
+    ("a plan before its van's first version", "UPDATE vehicles SET from_day = from_day + 30", UNSOUND, "travel"),
     ("a row of no chairs", f"{CHAIRS}, 0 FROM vehicles", UNSOUND, "vehicle_chairs"),
     ("11 chairs", f"{CHAIRS}, 11 FROM vehicles", UNSOUND, "vehicle_chairs"),
     ("a wheelchair without a place", "INSERT INTO trip_chairs VALUES(1)", UNSOUND, "trip_chairs"),
@@ -110,6 +124,11 @@ ROWS = [
     ("a wheelchair of no rider", "INSERT INTO rider_chairs VALUES(44)", STORE, None),
     ("chairs of no vehicle", f"{CHAIRS} + 1, 1 FROM vehicles", STORE, None),
     ("a wheelchair of no trip", "INSERT INTO trip_chairs VALUES(44)", STORE, None),
+]
+# What is sound, and next to what is wrong.
+SOUND = [
+    ("an appeal against position 199", appeal_against(199)),
+    ("a kept appeal against position 199", kept_appeal(199)),
 ]
 # Rows that come two at once: the lower table is told.
 PAIRS = [
@@ -167,6 +186,15 @@ def faults_of_row(program, file, path, row):
     yield None if content_of(path) == before else f"trips with {name}: the file has other rows than before"
 
 
+def faults_of_sound(program, file, path, row):
+    """A copy of the file that was changed so is opened, and lists the same trips."""
+    name, statements = row
+    copy_database(file, path)
+    _, listed, _ = told_of(program, path)
+    with_database(path, lambda it: it.executescript(statements))
+    yield difference(f"trips with {name}", (DONE, listed, ""), told_of(program, path))
+
+
 def faults_of_fullest(program, file, path):
     """A route of 100 stops is sound, so what is wrong with one of 102 is their number alone."""
     copy_database(file, path)
@@ -179,4 +207,6 @@ def faults_of_fullest(program, file, path):
 def faults_of_unsound(program, file, folder):
     for at, row in enumerate([*ROWS, *itertools.starmap(both, PAIRS)]):
         yield from faults_of_row(program, file, f"{folder}/unsound-{at}.db", row)
+    for at, row in enumerate(SOUND):
+        yield from faults_of_sound(program, file, f"{folder}/sound-{at}.db", row)
     yield from faults_of_fullest(program, file, f"{folder}/fullest.db")

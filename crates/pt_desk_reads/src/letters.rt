@@ -7,7 +7,7 @@ ghost use Rattle.pt_requests.specs.declared.request.Read.TheVariants.{Letter as 
 use pt_base::{Rider, RiderId, Rule};
 use pt_desk_rules::{ReadFacts, may_see_standing};
 use pt_requests::{Answer, Caller, Determination, Letter};
-use pt_rights::{CaseFile, Entered};
+use pt_rights::{CaseFile, Entered, Position};
 use std::alloc::AllocError;
 
 /// The letter of an entry; `None` if its kind has none. The error is out of memory.
@@ -28,14 +28,14 @@ fn letter_of(rider: &Rider, entered: &Entered) -> Result<Option<Letter>, AllocEr
 fn letter_at(
     found: &Option<Rider>,
     file: &CaseFile,
-    position: u8,
+    position: Position,
 ) -> Result<Option<Letter>, AllocError>
     ensures { IfOk result (λ letter. letter ≡ letter_at found.now file.now position) }
 {
     let Some(rider) = found else {
         return Ok(None);
     };
-    match file.entries().get(usize::from(position)) {
+    match file.entries().get(position.number() as usize) {
         Some(entered) => letter_of(rider, entered),
         None => Ok(None),
     }
@@ -46,7 +46,7 @@ pub(crate) fn tell_letter(
     facts: &ReadFacts,
     me: &Caller,
     rider: RiderId,
-    position: u8,
+    position: Position,
 ) -> Result<Answer, AllocError>
     ensures { IfOk result (λ told. (now : Moment) → IsTold (ReadLetter rider position) me.now now facts.now told) }
 {

@@ -181,7 +181,7 @@ fn fits_entry(entry: &Entry)
             let _bytes = reasons.as_bytes();
         }
         Entry::Appeal { against } => {
-            let _number = *against;
+            let _number = against.number();
         }
         Entry::Complete | Entry::Heard | Entry::Overturn | Entry::NoticeHeard => {}
     }

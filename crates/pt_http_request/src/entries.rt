@@ -10,7 +10,7 @@ use crate::conditions::conditions_at;
 use crate::fault::MessageFault;
 use crate::fields::{day_at, number_within, text_at};
 use crate::numbers::LAST_POSITION;
-use pt_rights::{Entry, Grant, Reasons};
+use pt_rights::{Entry, Grant, Position, Reasons};
 use serde_json::Value;
 use std::alloc::Global;
 
@@ -67,11 +67,11 @@ fn grant_of(body: &Value) -> Result<Grant, FieldName>
 }
 
 /// The position in a case file that an appeal is against.
-fn place_of(body: &Value) -> Result<u8, FieldName>
+fn place_of(body: &Value) -> Result<Position, FieldName>
     ensures { result ≡ place_in_file (view body.now) }
 {
     let place = number_within(body, FieldName::Against, 0, LAST_POSITION)?;
-    Ok(place as u8)
+    Position::of(place).ok_or(FieldName::Against)
 }
 
 /// The reasons at a field of an object, or the field as the fault.

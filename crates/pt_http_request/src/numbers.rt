@@ -2,7 +2,7 @@ ghost use Rattle.std.specs.Prelude.{◌≡◌};
 ghost use Rattle.pt_http_request.specs.Numbers.{id_from, position_from};
 
 use pt_base::{Id, number_from};
-use pt_rights::MOST_ENTRIES;
+use pt_rights::{MOST_ENTRIES, Position};
 
 /// The last position in a case file, counted from 0.
 pub(crate) const LAST_POSITION: u32 = MOST_ENTRIES as u32 - 1;
@@ -16,9 +16,9 @@ pub(crate) fn id_from<Kind>(text: &str) -> Option<Id<Kind>>
 }
 
 /// The position in a case file, counted from 0, that one to ten digits spell.
-pub(crate) fn position_from(text: &str) -> Option<u8>
+pub(crate) fn position_from(text: &str) -> Option<Position>
     ensures { result ≡ position_from text.now }
 {
-    let position = number_from(text.as_bytes(), 10, u64::from(LAST_POSITION))?;
-    Some(position as u8)
+    let number = number_from(text.as_bytes(), 10, u64::from(LAST_POSITION))?;
+    Position::of(number as u32)
 }

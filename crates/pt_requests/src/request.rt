@@ -6,7 +6,7 @@ use pt_base::{
 };
 use pt_corridor::FixedRoute;
 use pt_records::Rows;
-use pt_rights::{Entry, Outcome, Standing};
+use pt_rights::{Entry, Outcome, Position, Standing};
 use pt_travel::Raw;
 
 /// What a caller asks of the desk.
@@ -26,7 +26,7 @@ pub enum Read {
     /// Asks for all trips of a rider.
     Trips(RiderId),
     /// Asks for the letter of the entry at this position of a rider's case file, counted from 0.
-    Letter { rider: RiderId, position: u8 },
+    Letter { rider: RiderId, position: Position },
     /// Asks for the manifest of a vehicle on a day.
     Manifest { vehicle: VehicleId, day: Day },
     /// Asks for the manifests of all vehicles on duty on a day.

@@ -6,7 +6,7 @@ ghost use Rattle.pt_rights.specs.Marks.{earlier, has_come};
 ghost use Rattle.pt_rights.specs.Limits.{days_to_decide};
 
 use crate::walk::{followed_after, open_after};
-use crate::{Entered, Entry};
+use crate::{Entered, Entry, Position};
 use pt_base::{CallerId, Day};
 
 /// How many days after a decision an appeal against it may be entered.
@@ -17,7 +17,7 @@ fn disputed<'a>(entries: &'a [Entered], entry: &Entry) -> Option<&'a Entered>
     ensures { option_copied result ≡ disputed entries.now entry.now }
 {
     match entry {
-        Entry::Appeal { against } => entries.get(usize::from(*against)),
+        Entry::Appeal { against } => entries.get(against.number() as usize),
         _ => None,
     }
 }
@@ -83,10 +83,10 @@ fn is_appealed(entries: &[Entered], against: usize) -> bool
 }
 
 /// Whether the entry at the position may be appealed against on the day `today`.
-pub(crate) fn may_appeal(entries: &[Entered], today: Day, against: u8) -> bool
+pub(crate) fn may_appeal(entries: &[Entered], today: Day, against: Position) -> bool
     ensures { result ≡ may_appeal entries.now today against }
 {
-    let against = usize::from(against);
+    let against = against.number() as usize;
     let Some(disputed) = entries.get(against) else {
         return false;
     };

@@ -3,7 +3,7 @@ ghost use Rattle.pt_rights.specs.Appeals.{appeals_against, may_answer};
 ghost use Rattle.pt_rights.specs.Kinds.{grant_of, is_refusal, is_appeal, is_hearing, is_overturn};
 ghost use Rattle.pt_rights.specs.Kinds.{decides_appeal, is_notice, is_notice_hearing, is_suspension, suspends};
 
-use crate::{Conditions, Reasons};
+use crate::{Conditions, Position, Reasons};
 use pt_base::{CallerId, Day};
 use std::alloc::AllocError;
 
@@ -49,7 +49,7 @@ pub enum Entry {
     /// An appeal against a refusal or a suspension.
     Appeal {
         /// The position in the case file of the entry that it is against, counted from 0.
-        against: u8,
+        against: Position,
     },
     /// The appeal was heard.
     Heard,
@@ -103,7 +103,7 @@ impl Entry {
         ensures { result ≡ appeals_against position self.now }
     {
         match self {
-            Entry::Appeal { against } => usize::from(*against) == position,
+            Entry::Appeal { against } => against.number() as usize == position,
             _ => false,
         }
     }

@@ -6,6 +6,7 @@ pub use conditions::{Condition, Conditions, MOST_CONDITIONS};
 pub use entry::{Entered, Entry, Grant};
 pub use feet::Feet;
 pub use months::Months;
+pub use position::Position;
 pub use reasons::Reasons;
 pub use tally::{Outcome, Tally};
 
@@ -16,6 +17,7 @@ mod entry;
 mod feet;
 mod months;
 mod notices;
+mod position;
 mod reasons;
 mod suspensions;
 mod tally;

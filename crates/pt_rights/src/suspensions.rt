@@ -5,11 +5,11 @@ ghost use Rattle.pt_rights.specs.Suspension.{is_lifted, is_suspended};
 ghost use Rattle.pt_rights.specs.declared.suspensions.TheConstants.{POSITIONS};
 ghost use Rattle.pt_rights.specs.Limits.{most_entries};
 
-use crate::{Entered, Entry};
+use crate::{Entered, Entry, MOST_ENTRIES};
 use pt_base::Day;
 
 /// The number of positions that an appeal can name.
-const POSITIONS: usize = 256;
+const POSITIONS: usize = MOST_ENTRIES;
 
 /// Whether some suspension of the day has effect.
 pub(crate) fn is_suspended(entries: &[Entered], day: Day) -> bool
@@ -47,7 +47,7 @@ fn lift(lifted: &mut [bool; POSITIONS], entry: &Entry, lifts: bool)
         ≡ ((appeals_against position entry.now && lifts) || slice_index_or lifted.old position false) }
 {
     if lifts && let Entry::Appeal { against } = entry {
-        lifted[usize::from(*against)] = true;
+        lifted[against.number() as usize] = true;
     }
 }
 

@@ -11,6 +11,7 @@ use Rattle.pt_requests.specs.declared.caller.Role.TheVariants as role
 use Rattle.pt_requests.specs.declared.request.Write.{Write}
 use Rattle.pt_requests.specs.declared.request.Write.TheVariants as write
 use Rattle.pt_rights.specs.Conditions.{IsCondition, IsConditions}
+use Rattle.pt_rights.specs.Limits.{most_entries}
 use Rattle.pt_rights.specs.Reasons.{IsReasons}
 use Rattle.pt_rights.specs.declared.entry.Entry.{Entry}
 use Rattle.pt_rights.specs.declared.entry.Entry.TheVariants as entry
@@ -62,7 +63,7 @@ pub record IsGrant (grant : Grant) : Type 0 where
 abbrev pub IsEntry : Entry → Type 0
 IsEntry (entry.Grant grant) = IsGrant grant
 IsEntry (entry.Refuse reasons) = IsReasons reasons
-IsEntry (entry.Appeal against) = against < 2 ^ 8
+IsEntry (entry.Appeal against) = against < most_entries
 IsEntry (entry.AppealGranted grant) = IsGrant grant
 IsEntry (entry.AppealDenied reasons) = IsReasons reasons
 IsEntry (entry.Notice basis) = IsReasons basis

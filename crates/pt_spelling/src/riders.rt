@@ -74,7 +74,7 @@ fn push_particulars(entry: &Entry, out: &mut Vec<u8>) -> Result<(), AllocError>
         Entry::Refuse(reasons) | Entry::AppealDenied(reasons) | Entry::Notice(reasons) => {
             push_text(reasons.as_bytes(), out)
         }
-        Entry::Appeal { against } => push_number(u32::from(*against), out),
+        Entry::Appeal { against } => push_number(against.number(), out),
         Entry::Suspend {
             starts,
             ends,

@@ -10,7 +10,7 @@ ghost use Rattle.pt_spelling_reading.specs.Reading.{Takes, Finds, FindsEntry};
 use crate::fields::{number_from, take_day, take_number_in, take_text};
 use arrayvec::ArrayVec;
 use pt_conditions::condition_from;
-use pt_rights::{Condition, Conditions, Entry, Grant, MOST_CONDITIONS, Reasons};
+use pt_rights::{Condition, Conditions, Entry, Grant, MOST_CONDITIONS, Position, Reasons};
 use std::alloc::{AllocError, Global};
 
 /// Takes a condition, spelled as its text; `None` if no such bytes come next, here and in the next function.
@@ -110,7 +110,7 @@ fn refusal(alloc: Global, particulars: &[u8]) -> Result<Option<Entry>, AllocErro
 fn appeal(particulars: &[u8]) -> Option<Entry>
     ensures { FindsEntry 3 particulars.now result }
 {
-    let against = number_from(particulars, 0, 255)? as u8;
+    let against = Position::of(number_from(particulars, 0, u32::MAX)?)?;
     Some(Entry::Appeal { against })
 }
 

@@ -18,7 +18,7 @@ use crate::conditions::conditions_in;
 use crate::one_row::OneRow;
 use pt_base::Day;
 use pt_desk_rules::FiledEntry;
-use pt_rights::{Conditions, Entered, Entry, Grant, Reasons};
+use pt_rights::{Conditions, Entered, Entry, Grant, Position, Reasons};
 use pt_tables_rows::tables::Entries;
 use sqlite::Row;
 use std::alloc::{AllocError, Global};
@@ -92,7 +92,7 @@ fn appeal_entry(kind: u32, against: u32) -> Option<Entry>
     if kind != 3 {
         return None;
     }
-    let against = u8::try_from(against).ok()?;
+    let against = Position::of(against)?;
     Some(Entry::Appeal { against })
 }
 

@@ -3,7 +3,9 @@
 use crate::dice::Dice;
 use crate::numbers::day;
 use pt_base::{CallerId, Day, Policy, Residence, Rider, RiderId, Rule};
-use pt_rights::{CaseFile, Condition, Conditions, Entry, Grant, Outcome, Reasons, Standing, Tally};
+use pt_rights::{
+    CaseFile, Condition, Conditions, Entry, Grant, Outcome, Position, Reasons, Standing, Tally,
+};
 use std::alloc::{AllocError, Global};
 use std::test::Fail;
 
@@ -316,7 +318,7 @@ fn told(alloc: Global, plain: Plain) -> Result<Entry, Fail> {
         Kind::Grant => Entry::Grant(grant(plain.until)),
         Kind::Refuse => Entry::Refuse(reasons(alloc)?),
         Kind::Appeal => Entry::Appeal {
-            against: plain.against,
+            against: Position::of(u32::from(plain.against)).ok_or("position")?,
         },
         Kind::Heard => Entry::Heard,
         Kind::AppealGranted => Entry::AppealGranted(grant(plain.until)),

@@ -47,7 +47,7 @@ pub(crate) fn first_number(entry: &Entry) -> Option<u32>
 {
     match entry {
         Entry::Grant(grant) | Entry::AppealGranted(grant) => Some(grant.until.number()),
-        Entry::Appeal { against } => Some(u32::from(*against)),
+        Entry::Appeal { against } => Some(against.number()),
         Entry::Suspend { starts, .. } => Some(starts.number()),
         _ => None,
     }

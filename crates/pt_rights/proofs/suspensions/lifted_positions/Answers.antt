@@ -13,7 +13,7 @@ loop-position-init c =
     let all = drop-length c.args.entries.now in
     record {
       lifts = rw all refl;
-      lifted = λ position within. rw all (get_or-replicate 256 position false false within);
+      lifted = λ position within. rw all (get_or-replicate 200 position false false within);
     }
 
 pub loop-position-preserved : goal.loop-position-preserved
