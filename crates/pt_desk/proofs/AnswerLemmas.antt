@@ -7,7 +7,7 @@ use Rattle.pt_store.specs.Store.{Store, Answers, ChangesNothing, Goes, Tells, Te
 use Rattle.pt_store.specs.declared.keeper.StoreFault.{StoreFault}
 use Rattle.pt_store.specs.declared.keeper.StoreFault.TheVariants.{Memory, Store as failed}
 use Rattle.pt_store.proofs.ReadLemmas.{fault_of, reads_map}
-use Rattle.pt_store.proofs.StoreLemmas.{reads_then, read_tells, leaves_nothing}
+use Rattle.pt_store.proofs.StoreLemmas.{found_still, reads_then, read_tells, leaves_nothing}
 
 abbrev Outcome : Type 0 → Type 1
 Outcome X = State → X → Option State → Type 0
@@ -51,7 +51,9 @@ read_memory {X} {Y} a b x v w Is first =
         told = λ same. absurd (fine same);
         stays = λ none some. absurd (fine' (first.stays none some));
         settled = first.settled;
-        holds = λ clean. record { tells = ((first.holds clean).tells).1; crash = (first.holds clean).crash; durable = tt };
+        holds = λ clean.
+            let it = first.holds clean in
+            record { tells = it.tells.1; crash = it.crash; durable = tt; memory = λ _. found_still a b it.tells.1 it.crash };
       },
       (λ _. inr (tt, refl)),
     )
@@ -104,7 +106,7 @@ no_memory {X} a w Is =
         told = λ same. absurd (fine same);
         stays = λ none some. absurd (omega arith);
         settled = λ settled. settled;
-        holds = λ _. record { tells = refl; crash = λ o found. inl found; durable = tt };
+        holds = λ _. record { tells = refl; crash = λ o found. inl found; durable = tt; memory = λ _ finds. finds };
       },
       (λ _. inr (tt, refl)),
     )
@@ -121,7 +123,7 @@ shut_out a w Is some = (
     told = λ _. some;
     stays = λ _ _. refl;
     settled = λ settled. settled;
-    holds = λ _. record { tells = tt; crash = λ o found. inl found; durable = tt };
+    holds = λ _. record { tells = tt; crash = λ o found. inl found; durable = tt; memory = λ _ finds. finds };
   },
   (λ _. inr (tt, refl)),
 )

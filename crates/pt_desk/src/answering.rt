@@ -6,6 +6,7 @@ ghost use Rattle.pt_desk_rules.specs.Step.{IsExplainOutcome, IsReadOutcome, IsDe
 ghost use Rattle.pt_desk_rules.specs.Step.{IsOutcome};
 ghost use Rattle.pt_requests.specs.declared.request.Answer.{Answer};
 ghost use Rattle.pt_store.specs.Store.{Store, Answers, ChangesNothing, Goes, Reads, Fails, IsSoundKept};
+ghost use Rattle.pt_desk.specs.Crash.{Lasts};
 ghost use Rattle.pt_desk.specs.Run.{IsDenial, IsRead};
 
 use pt_base::{Moment, RiderId, Rule, Wish};
@@ -46,7 +47,7 @@ fn answer_explain<K: Keeper>(
     Ok(explain(alloc, &facts, me, now, wish)?)
 }
 
-/// Tells what was decided, and commits the change of an accepted write.
+/// The reply to a decision. The change of an accepted write is committed first.
 fn carry_out<K: Keeper>(keeper: &mut K, decision: Decision) -> Reply
     ensures goes { Goes (K.store keeper.old) (K.store keeper.new) (told_of decision)
         (left_of decision (K.store keeper.old).content) result }
@@ -125,8 +126,8 @@ fn answer_by_rules<K: Keeper>(
 /// Answers one request by the rules.
 ///
 /// `now` is the moment at which it comes, `key` the caller's key, and `number` the caller's number for it, which
-/// only a write needs. The error is the store's, or want of memory, and then nothing is changed. Where the store is
-/// shut as the call ends, it has failed, or the error is want of memory and the store serves no more.
+/// only a write needs. The error is the store's, or out of memory; then the content is unchanged. If the store is shut
+/// when the call ends, it has failed, or the error is out of memory and the store serves no longer.
 pub fn answer<K: Keeper>(
     alloc: Global,
     keeper: &mut K,
@@ -137,15 +138,17 @@ pub fn answer<K: Keeper>(
 ) -> Reply
     ensures goes { Answers (K.store keeper.old) (K.store keeper.new) (IsOutcome key.now now number request.now) result }
     ensures fails { Fails (K.store keeper.old).failures (K.store keeper.new).failures result }
-    // A denial changes nothing. Nor does a read, whatever it is told.
+    // A denial changes nothing. Neither does a read, whatever its answer.
     ensures denied { IsDenial result → ChangesNothing (K.store keeper.old) (K.store keeper.new) result }
     ensures read { IsRead request.now → ChangesNothing (K.store keeper.old) (K.store keeper.new) result }
-    // What commits nothing, whatever it is told, leaves just the state before at a crash.
+    // A request that can commit nothing leaves only the state before at a crash.
     ensures quiet { ((told : Answer) (left : Option State) →
         IsOutcome key.now now number request.now (K.store keeper.old).content told left → left ≡ None)
         → (o : Option State) → (K.store keeper.new).doubt ≡ 0 → (K.store keeper.new).found o
         → (K.store keeper.old).found o }
-    // A sound state is left sound.
+    // An opening after a crash finds what it could have found before, or what calls by the rules lead to.
+    ensures lasts { Lasts (K.store keeper.old) (K.store keeper.new) }
+    // A sound state stays sound.
     ensures sound { IsSoundKept (K.store keeper.old) (K.store keeper.new) }
 {
     if keeper.failures() > 0 {

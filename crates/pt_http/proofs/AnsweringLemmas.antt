@@ -6,6 +6,7 @@ use Rattle.pt_base.specs.Codes.{write_failed}
 use Rattle.pt_base.specs.Fault.{fault}
 use Rattle.pt_base.specs.declared.fault.Fault.{Fault}
 use Rattle.pt_base.specs.declared.moment.Moment.{Moment}
+use Rattle.pt_desk.proofs.CrashLemmas.{lasts_further, lasts_still}
 use Rattle.pt_store.specs.Store.{Store}
 use Rattle.pt_http.specs.Answering.{AnswersOne, CanBeAskedAgain, ExchangesOne, GoesOn, TellsFailure}
 use Rattle.pt_http.specs.Exchange.{IsExchangedOver, IsUnanswered, IsWritten, ServesOver, desk_of}
@@ -28,7 +29,7 @@ handed {T} P error (Err told) is holds = subst (λ (it : Fault). P (Err it)) (sy
 
 -- a store that nothing was asked of
 pub goes_nowhere : (store : Store) → GoesOn store store
-goes_nowhere store = record { clean = omega arith; serves = omega arith; settled = λ was. was }
+goes_nowhere store = record { clean = omega arith; serves = omega arith; settled = λ was. was; lasts = lasts_still store }
 
 -- one call after another
 pub goes_further : (old mid new : Store) → GoesOn old mid → GoesOn mid new → GoesOn old new
@@ -36,6 +37,7 @@ goes_further old mid new first next = record {
   clean = omega (arith, first.clean, next.clean);
   serves = omega (arith, first.serves, next.serves);
   settled = λ was. next.settled (first.settled was);
+  lasts = lasts_further old mid new first.lasts next.lasts;
 }
 
 -- want of memory and a read that failed are no write that failed

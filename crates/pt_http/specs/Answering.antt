@@ -4,6 +4,7 @@ use Rattle.pt_base.specs.Codes.{write_failed}
 use Rattle.pt_base.specs.Fault.{fault}
 use Rattle.pt_base.specs.declared.fault.Fault.{Fault}
 use Rattle.pt_base.specs.declared.moment.Moment.{Moment}
+use Rattle.pt_desk.specs.Crash.{Lasts}
 use Rattle.pt_store.specs.Store.{IsSettled, Store}
 use Rattle.pt_http.specs.Exchange.{IsExchangedOver, IsUnanswered, IsWritten, ServesOver}
 use Rattle.pt_http.specs.Input.{HasInput}
@@ -12,7 +13,7 @@ use Rattle.pt_http_inbox.specs.declared.inbox.Inbox.{Inbox}
 use Rattle.pt_http_reply.specs.Response.{IsReplyText}
 use Rattle.pt_http_reply.specs.declared.response.Response.{Response}
 
--- what any call leaves of a store, however it ends
+-- what any call leaves of a store, whatever its result
 pub record GoesOn (old new : Store) : Type 0 where
   -- a doubt about it stays
   pub clean : old.doubt ≤ new.doubt
@@ -20,6 +21,8 @@ pub record GoesOn (old new : Store) : Type 0 where
   pub serves : old.shut ≤ new.shut
   -- one that was settled still is
   pub settled : IsSettled old → IsSettled new
+  -- an opening after a crash finds what it could have found before, or what calls by the rules lead to
+  pub lasts : Lasts old new
 
 -- the error tells whether the request was answered; `Same` says that nothing is changed
 pub record TellsFailure {T : Type 0} (old new : Store) (now : Moment) (Same : Type 0) (result : Result T Fault)

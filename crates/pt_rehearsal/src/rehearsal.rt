@@ -4,6 +4,7 @@ ghost use Rattle.pt_base.specs.Fault.{fault};
 ghost use Rattle.pt_base.specs.Codes.{read_failed, write_failed, moment_line_refused};
 ghost use Rattle.pt_http_inbox.specs.Inbox.{reads_of};
 ghost use Rattle.pt_http.specs.Exchange.{Desk, desk_of, IsUnanswered, is_last};
+ghost use Rattle.pt_desk.specs.Crash.{Lasts};
 ghost use Rattle.pt_store.specs.Store.{Store, IsSettled};
 ghost use Rattle.pt_http.specs.Input.{HasInput};
 ghost use Rattle.pt_rehearsal.specs.Moments.{IsNext};
@@ -84,6 +85,7 @@ fn go_through<K: Keeper, R: Read + Drop, W: Write>(
     ensures clean { (K.store keeper.old).doubt ≤ (K.store keeper.new).doubt }
     ensures serves { (K.store keeper.old).shut ≤ (K.store keeper.new).shut }
     ensures settled { IsSettled (K.store keeper.old) → IsSettled (K.store keeper.new) }
+    ensures lasts { Lasts (K.store keeper.old) (K.store keeper.new) }
 {
     for _ in 0..MOST_MESSAGES {
         let Some(now) = next_moment(inbox)? else {
@@ -128,6 +130,7 @@ pub fn rehearse<K: Keeper, R: Read + Drop, W: Write>(
     ensures clean { (K.store keeper.old).doubt ≤ (K.store keeper.new).doubt }
     ensures serves { (K.store keeper.old).shut ≤ (K.store keeper.new).shut }
     ensures settled { IsSettled (K.store keeper.old) → IsSettled (K.store keeper.new) }
+    ensures lasts { Lasts (K.store keeper.old) (K.store keeper.new) }
 {
     let Ok(router) = desk_router(alloc) else {
         return Err(Fault::of(MEMORY));

@@ -68,7 +68,7 @@ impl<S: Alter> Model for SqlKeeper<S> {
     ghost invariant = { λ k. AreInStep k.known.content k.rider_count k.failures (state S.Store k.conn) };
 }
 
-/// The fault that what was not read or written is told as; one that is no want of memory is counted.
+/// The fault of a failed read or write. It counts as a failure, unless it is out of memory.
 fn blame(failures: &mut u32, unread: Unread) -> StoreFault
     requires { failures.old ≡ 0 }
     ensures failed { result ≡ Failed → failures.new ≡ 1 }
@@ -84,7 +84,7 @@ fn blame(failures: &mut u32, unread: Unread) -> StoreFault
     }
 }
 
-/// What a read answers. One that failed for another reason than want of memory is counted.
+/// What a read answers. A failure that is not out of memory counts.
 fn counted<T>(failures: &mut u32, found: Result<T, Unread>) -> Result<T, StoreFault>
     requires { failures.old ≡ 0 }
     ensures counts { Counts failures.new found result }
@@ -155,7 +155,7 @@ impl<S: Alter> SqlKeeper<S> {
     /// Answers what is known in memory, unless the store has failed.
     fn told<T: Drop>(&self, value: T) -> Result<T, StoreFault>
         ensures reads { Goes (store_of S.Store self.now) (store_of S.Store self.now) value None result }
-        ensures refuses { Refuses (store_of S.Store self.now) result }
+        ensures refuses { Refuses (store_of S.Store self.now) (store_of S.Store self.now) result }
     {
         self.serve()?;
         Ok(value)
@@ -169,7 +169,7 @@ impl<S: Alter> SqlKeeper<S> {
     ) -> Result<Rows<T>, StoreFault>
         requires copies { (x y : T) → T.is_clone x y → y ≡ x }
         ensures reads { Goes (store_of S.Store self.now) (store_of S.Store self.now) records.now.items None result }
-        ensures refuses { Refuses (store_of S.Store self.now) result }
+        ensures refuses { Refuses (store_of S.Store self.now) (store_of S.Store self.now) result }
     {
         self.serve()?;
         Ok(Rows::of(records.as_slice().to_vec(alloc)?))
@@ -178,7 +178,7 @@ impl<S: Alter> SqlKeeper<S> {
     /// The rider of this number, as it is read from the tables.
     fn read_rider(&mut self, id: RiderId) -> Result<Option<Rider>, StoreFault>
         ensures reads { Reads (store_of S.Store self.old) (store_of S.Store self.new) (rider_of id) result }
-        ensures refuses { Refuses (store_of S.Store self.old) result }
+        ensures refuses { Refuses (store_of S.Store self.old) (store_of S.Store self.new) result }
         ensures content { self.new.content ≡ self.old.content }
     {
         self.serve()?;

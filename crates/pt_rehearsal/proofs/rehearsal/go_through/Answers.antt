@@ -1,6 +1,7 @@
 use Rattle.std.proofs.Common.{◌≡◌, ◌∷◌, [], ◌++◌, Ok, Err, false, refl, sym, ap, ◌∙◌, arith, inl, inr}
 use Rattle.std.proofs.KnownBytes.{Appends-trans}
 use Rattle.std.proofs.lemmas.Result.{err_from_is_err_and}
+use Rattle.pt_desk.proofs.CrashLemmas.{lasts_further, lasts_still}
 use Rattle.pt_http.specs.Exchange.{desk_of}
 use Rattle.pt_rehearsal.proofs.NextLemmas.{next_some, next_none, nothing_left}
 use Rattle.pt_http.proofs.ReceivedLemmas.{reads_input, none_left}
@@ -14,6 +15,7 @@ loop-init g c = record {
   clean = omega arith;
   serves = omega arith;
   settled = λ was. was;
+  lasts = lasts_still (g.K.Keeper.store c.args.keeper.now);
   stands = λ clean input has. begun g.R.Read.remaining input _ _ c.args.inbox.now has;
 }
 
@@ -90,6 +92,7 @@ loop-preserved g c =
       clean = omega (arith, c.loop.invariant.clean, c.exchange.ensures.exchange.goes.clean);
       serves = omega (arith, c.loop.invariant.serves, c.exchange.ensures.exchange.goes.serves);
       settled = λ was. c.exchange.ensures.exchange.goes.settled (c.loop.invariant.settled was);
+      lasts = lasts_further (store c.args.keeper.now) (store c.loop.keeper) (store c.exchange.new.keeper) c.loop.invariant.lasts c.exchange.ensures.exchange.goes.lasts;
       stands = λ clean input has.
           let was : (store c.loop.keeper).doubt ≡ 0 = omega (arith, clean, c.exchange.ensures.exchange.goes.clean) in
           let st = c.loop.invariant.stands was input has in
@@ -134,6 +137,16 @@ returns-clause-finished g c = λ clean input has.
       inl empty,
       omega (arith, st.few, c.loop.auto.counter-end),
     )
+
+pub returns-in_err-response-clause-lasts : goal.returns-in_err-response-clause-lasts
+returns-in_err-response-clause-lasts g c =
+    let store = g.K.Keeper.store in
+    lasts_further (store c.args.keeper.now) (store c.loop.keeper) (store c.exchange.new.keeper) c.loop.invariant.lasts c.exchange.ensures.exchange.goes.lasts
+
+pub returns-then-is_last-clause-lasts : goal.returns-then-is_last-clause-lasts
+returns-then-is_last-clause-lasts g c =
+    let store = g.K.Keeper.store in
+    lasts_further (store c.args.keeper.now) (store c.loop.keeper) (store c.exchange.new.keeper) c.loop.invariant.lasts c.exchange.ensures.exchange.goes.lasts
 
 pub returns-in_err-response-clause-settled : goal.returns-in_err-response-clause-settled
 returns-in_err-response-clause-settled g c = λ was. c.exchange.ensures.exchange.goes.settled (c.loop.invariant.settled was)

@@ -1,4 +1,5 @@
 use Rattle.std.proofs.Common.{◌≡◌, ◌≤◌, ℕ, List}
+use Rattle.pt_desk.specs.Crash.{Lasts}
 use Rattle.pt_store.specs.Store.{Store, IsSettled}
 use Rattle.pt_http.specs.Exchange.{desk_of}
 use Rattle.pt_http.specs.Input.{HasInput}
@@ -13,6 +14,7 @@ invariant-loop g l =
       clean : (store l.fn.keeper).doubt ≤ (store l.keeper).doubt;
       serves : (store l.fn.keeper).shut ≤ (store l.keeper).shut;
       settled : IsSettled (store l.fn.keeper) → IsSettled (store l.keeper);
+      lasts : Lasts (store l.fn.keeper) (store l.keeper);
       stands : (store l.keeper).doubt ≡ 0 → (input : List ℕ)
           → HasInput g.R.Read.remaining l.fn.inbox input
           → StandsAt g.R.Read.remaining input (desk_of (store l.fn.keeper)) (g.W.Write.contents l.fn.out)
