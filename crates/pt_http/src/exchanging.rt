@@ -1,4 +1,4 @@
-ghost use Rattle.std.specs.Prelude.{◌≡◌, IfErr, OnOk};
+ghost use Rattle.std.specs.Prelude.{◌≡◌, ◌⊎◌, IfErr, OnOk, Option};
 ghost use Rattle.std.specs.Io.KnownBytes.{Appends};
 ghost use Rattle.pt_base.specs.Codes.{write_failed};
 ghost use Rattle.pt_base.specs.Fault.{fault};
@@ -6,7 +6,8 @@ ghost use Rattle.pt_store.specs.Store.{Store};
 ghost use Rattle.pt_http.specs.Answering.{AnswersOne, CanBeAskedAgain, ExchangesOne, GoesOn};
 ghost use Rattle.pt_http.specs.Exchange.{IsExchangedOver, desk_of};
 ghost use Rattle.pt_http.specs.Input.{HasInput};
-ghost use Rattle.pt_http.specs.Received.{Responds};
+ghost use Rattle.pt_desk_rules.specs.State.{State};
+ghost use Rattle.pt_http.specs.Received.{CommitsReceived, Responds};
 ghost use Rattle.pt_http_reply.specs.Reply.{bytes_of};
 ghost use Rattle.pt_http_request.specs.Targets.{desk_routes};
 
@@ -28,6 +29,8 @@ fn respond<K: Keeper>(alloc: Global, keeper: &mut K, now: Moment, received: &Rec
     ensures responds { (K.store keeper.new).doubt ≡ 0
         → Responds now received.now (desk_of (K.store keeper.old))
         (desk_of (K.store keeper.new)) result }
+    ensures crash { (K.store keeper.new).doubt ≡ 0 → (o : Option State) → (K.store keeper.new).found o
+        → (K.store keeper.old).found o ⊎ CommitsReceived now received.now (K.store keeper.old).content o }
     ensures goes { GoesOn (K.store keeper.old) (K.store keeper.new) }
 {
     match received {
@@ -42,7 +45,7 @@ fn respond<K: Keeper>(alloc: Global, keeper: &mut K, now: Moment, received: &Rec
     }
 }
 
-/// Writes a reply, and sees it off. The error is a write that failed.
+/// Writes a reply, and flushes it. The error is a write that failed.
 fn write_reply<W: Write>(reply: &ReplyBytes, out: &mut W) -> Result<(), Fault>
     ensures written { OnOk result (Appends (W.contents out.old) (W.contents out.new) (bytes_of reply.now)) }
     ensures fault { IfErr result (λ error. error ≡ fault write_failed) }
@@ -56,8 +59,7 @@ fn write_reply<W: Write>(reply: &ReplyBytes, out: &mut W) -> Result<(), Fault>
     Ok(())
 }
 
-/// Reads one request, answers it by these routes and writes the reply, which it tells. Errors are those of
-/// `answer_bytes`.
+/// Reads one request, answers it by these routes, writes the reply and returns it. Errors are those of `answer_bytes`.
 pub fn exchange<K: Keeper, R: Read + Drop, W: Write>(
     alloc: Global,
     router: &Router<Path>,
@@ -80,7 +82,7 @@ pub fn exchange<K: Keeper, R: Read + Drop, W: Write>(
 
 /// Reads one request, answers it by the rules as of this moment, and writes the reply.
 ///
-/// Later bytes stay in the inbox. The error is want of memory, a read that failed or was one too many (then nothing is
+/// Later bytes stay in the inbox. The error is out of memory, a read that failed or was one too many (then nothing is
 /// changed, and the same bytes can be asked again), or a write that failed (then the request is answered all the same).
 pub fn answer_bytes<K: Keeper, R: Read + Drop, W: Write>(
     alloc: Global,
