@@ -75,6 +75,7 @@ module _ (old mid new : Connected) (rests : Rests old mid) (always : Survives mi
     leads_then clean trees leads = record {
       was_open = (rests.keeps (clean_mid clean)).was_open leads.was_open;
       rows = λ stands. leads.rows (subst (Stands before) (sym (shown clean leads.was_open)) stands);
+      tables = λ stands. leads.tables (subst (Stands before) (sym (shown clean leads.was_open)) stands);
     }
 
     pub survives_over : (HasCleanDisk mid → Survives mid new (LeadsTo before after mid)) → Survives old new (LeadsTo before after old)

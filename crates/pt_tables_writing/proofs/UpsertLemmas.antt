@@ -185,6 +185,12 @@ module _ (text : List ℕ) (params : Row) (table : Table) (id : ℤ) (stored : R
       wrote_one (placed old new params table it.at command w.tally it.there
       (subst (λ s. Does old.step_limit (mode_of old) params (record old.now { schema = s }) (statement_of text (understood desk_schema text)) None command (Ok (w.tally, new.now))) has w.changed))
 
+  -- it leaves a database
+  pub upserted_sound : (count : ℕ) → old.now.schema ≡ desk_schema → Executes text params old new (Ok count) → IsDatabase new.now
+  upserted_sound count has h =
+      let w : Writes old new None command (statement_of text (understood desk_schema text)) params count = runs_as text params old new desk_schema has command it.is it.plain count h in
+      w.sound
+
 -- among these tables the number alone is met
 pub only_first : (b : Bool) → ((b && true) || false) ≡ true → b ≡ true
 only_first true h = refl
