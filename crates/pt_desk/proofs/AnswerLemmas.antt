@@ -1,9 +1,9 @@
 -- Answers by the outcomes that the rules allow.
-use Rattle.std.proofs.Common.{◌≡◌, ◌∙◌, ◌<◌, ◌≤◌, inl, inr, Option, None, Result, Ok, Err, IfOk, OnOk, arith, ap, refl, sym, subst}
+use Rattle.std.proofs.Common.{◌≡◌, ◌∙◌, ◌<◌, ◌≤◌, inl, inr, Option, None, Some, Result, Ok, Err, IfOk, OnOk, arith, ap, refl, sym, subst}
 use Rattle.std.specs.Result.{IsErrAnd}
 use Rattle.pt_desk_rules.specs.State.{State}
 use Rattle.pt_desk_rules.specs.Step.{state_after}
-use Rattle.pt_store.specs.Store.{Store, Answers, ChangesNothing, Goes, Tells, TellsBy}
+use Rattle.pt_store.specs.Store.{Store, Answers, ChangesNothing, Goes, IsDurable, Tells, TellsBy}
 use Rattle.pt_store.specs.declared.keeper.StoreFault.{StoreFault}
 use Rattle.pt_store.specs.declared.keeper.StoreFault.TheVariants.{Memory, Store as failed}
 use Rattle.pt_store.proofs.ReadLemmas.{fault_of, reads_map}
@@ -127,3 +127,33 @@ shut_out a w Is some = (
   },
   (λ _. inr (tt, refl)),
 )
+
+same_fault : {X Y : Type 0} (e other : StoreFault) → ◌≡◌ {A = Result Y StoreFault} (Err e) (Err other) → ◌≡◌ {A = Result X StoreFault} (Err e) (Err other)
+same_fault e other same = let is : e ≡ other = cc in cc
+
+fault_tells : {X Y : Type 0} (old new : State) (v : X) (w : Y) (left : Option State) (e : StoreFault) → Tells {X = X} old new v left (Err e) → Tells {X = Y} old new w left (Err e)
+fault_tells old new v w left Memory tells = tells
+fault_tells old new v w left failed tells = tt
+
+not_lasting : (X : Type 0) (after : Store) (left : Option State) (e : StoreFault) → IsDurable {X = X} after left (Err e)
+not_lasting X after None e = tt
+not_lasting X after (Some new) e = tt
+
+-- a fault, whatever was to be answered
+pub fault_as : {X Y : Type 0} (a b : Store) (v : X) (w : Y) (left : Option State) (e : StoreFault) → Goes {X = X} a b v left (Err e) → Goes {X = Y} a b w left (Err e)
+fault_as {X} {Y} a b v w left e goes = record {
+  clean = goes.clean;
+  serves = goes.serves;
+  grows = goes.grows;
+  told = λ same. goes.told (same_fault {X = X} {Y = Y} e failed same);
+  stays = λ none some. same_fault {X = Y} {Y = X} e failed (goes.stays none some);
+  settled = goes.settled;
+  holds = λ clean.
+      let it = goes.holds clean in
+      record {
+        tells = fault_tells a.content b.content v w left e it.tells;
+        crash = it.crash;
+        durable = not_lasting Y b left e;
+        memory = λ same. it.memory (same_fault {X = X} {Y = Y} e Memory same);
+      };
+}

@@ -57,7 +57,7 @@ lasts_further a b c first next =
 
 -- ---- one call
 
-made : (key : List ℕ) (now : Moment) (number : ℕ) (asked : Request) (told : Answer) (left : Option State) → Call
+abbrev made : (key : List ℕ) (now : Moment) (number : ℕ) (asked : Request) (told : Answer) (left : Option State) → Call
 made key now number asked told left = record { key = key; now = now; number = number; asked = asked; told = told; left = left }
 
 one_call : (key : List ℕ) (now : Moment) (number : ℕ) (asked : Request) (s new : State) (told : Answer) (left : Option State)

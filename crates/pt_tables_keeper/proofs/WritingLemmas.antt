@@ -1,5 +1,5 @@
 -- A change that is written after a read.
-use Rattle.std.proofs.Common.{◌≡◌, ◌×◌, ◌⊎◌, ℕ, inl, inr, false, IsTrue, IfErr, IfOk, List, [], Result, Ok, Err, refl, sym, subst, ◌∙◌, arith}
+use Rattle.std.proofs.Common.{◌≡◌, ◌⊎◌, ℕ, inl, inr, false, IsTrue, IfErr, IfOk, List, [], Result, Ok, Err, refl, sym, subst, ◌∙◌, arith}
 use Rattle.sqlite.specs.Order.{Row}
 use Rattle.sqlite.specs.State.{State as Connected, HasCleanDisk, IsNotRun, IsRolledBack, IsUnchanged, Survives}
 use Rattle.sqlite.specs.Tree.{Trees}

@@ -9,7 +9,7 @@ use Rattle.sqlite.specs.Command.{Command}
 use Rattle.sqlite.specs.Command.TheVariants.{InsertOr}
 use Rattle.sqlite.specs.Does.{Does}
 use Rattle.sqlite.specs.Edit.{edit_of, put_all, without_all, with_rowid, next_rowid, id_in}
-use Rattle.sqlite.specs.Effect.{Database, value_rows}
+use Rattle.sqlite.specs.Effect.{IsDatabase, Database, value_rows}
 use Rattle.sqlite.specs.Listing.{understood}
 use Rattle.sqlite.specs.Order.{Row, column, value_cmp}
 use Rattle.sqlite.specs.Rowids.TheVariants.{Given}
