@@ -52,19 +52,24 @@ ReadsTimes text before after rows =
     (places : Result (List ℕ) StoreFault) × Reads before after (λ s. map place_key s.places) places
     × IsTimesReadBy text places rows
 
--- times that were read are put under this number, from this day on; where they were not, that is how the command ends
-abbrev pub PutsRead : List ℕ → Moment → ℕ → ℕ → Result (List Row) Fault → Store → Store → Option (List ℕ)
-    → Option (List ℕ) → Result Outcome Fault → Type 0
-PutsRead key now number day (Ok rows) before after old new result =
-    Prints key now number (request.Write (write.Travel day rows)) before after old new result
-PutsRead key now number day (Err error) before after old new result = result ≡ Err error
+-- the command ends with this error, changes nothing if `Same` says so, and prints nothing
+abbrev pub EndsUnread : Fault → Type 0 → Option (List ℕ) → Option (List ℕ) → Result Outcome Fault → Type 0
+EndsUnread error Same old new result = (result ≡ Err error) × Same × (new ≡ old)
+
+-- times that were read are put under this number, from this day on; a text that was not read ends the command
+abbrev pub PutsRead : {K : Type 0} → (K → Store) → List ℕ → Moment → ℕ → ℕ → Result (List Row) Fault → K → K
+    → Option (List ℕ) → Option (List ℕ) → Result Outcome Fault → Type 0
+PutsRead store key now number day (Ok rows) before after old new result =
+    Prints key now number (request.Write (write.Travel day rows)) (store before) (store after) old new result
+PutsRead store key now number day (Err error) before after old new result =
+    EndsUnread error (after ≡ before) old new result
 
 -- the times of a text are read and put
 abbrev pub PutsTimes : {K : Type 0} → (K → Store) → List ℕ → Moment → ℕ → ℕ → List ℕ → K → K → Option (List ℕ)
     → Option (List ℕ) → Result Outcome Fault → Type 0
 PutsTimes {K} store key now number day text before after old new result =
     (between : K) × (rows : Result (List Row) Fault) × ReadsTimes text (store before) (store between) rows
-    × PutsRead key now number day rows (store between) (store after) old new result
+    × PutsRead store key now number day rows between after old new result
 
 -- why a rider's wish would be refused is asked, and this is made of the answer
 abbrev pub Inquires : (Refusal → Option (List ℕ) → Option (List ℕ) → Result Outcome Fault → Type 0) → List ℕ → Moment
@@ -79,19 +84,20 @@ IsLogRead text (Ok lines) = IsLogText text lines
 IsLogRead text (Err error) =
     (error ≡ fault memory_refused) ⊎ ((error.code ≡ log_line_refused) × FailsAt text error.row)
 
--- a log that was read is judged; where it was not, that is how the command ends
-abbrev pub AuditsRead : List ℕ → Moment → ℕ → Wish → Result (List Line) Fault → Store → Store → Option (List ℕ)
-    → Option (List ℕ) → Result Outcome Fault → Type 0
-AuditsRead key now rider wish (Ok lines) before after old new result =
-    Inquires (IsAuditedFrom lines) key now rider wish before after old new result
-AuditsRead key now rider wish (Err error) before after old new result = result ≡ Err error
+-- a log that was read is judged; a text that was not read ends the command
+abbrev pub AuditsRead : {K : Type 0} → (K → Store) → List ℕ → Moment → ℕ → Wish → Result (List Line) Fault → K → K
+    → Option (List ℕ) → Option (List ℕ) → Result Outcome Fault → Type 0
+AuditsRead store key now rider wish (Ok lines) before after old new result =
+    Inquires (IsAuditedFrom lines) key now rider wish (store before) (store after) old new result
+AuditsRead store key now rider wish (Err error) before after old new result =
+    EndsUnread error (after ≡ before) old new result
 
 -- the log of a text is read and judged
-abbrev pub AuditsLog : List ℕ → Moment → ℕ → Wish → List ℕ → Store → Store → Option (List ℕ) → Option (List ℕ)
-    → Result Outcome Fault → Type 0
-AuditsLog key now rider wish text before after old new result =
+abbrev pub AuditsLog : {K : Type 0} → (K → Store) → List ℕ → Moment → ℕ → Wish → List ℕ → K → K → Option (List ℕ)
+    → Option (List ℕ) → Result Outcome Fault → Type 0
+AuditsLog store key now rider wish text before after old new result =
     (lines : Result (List Line) Fault) × IsLogRead text lines
-    × AuditsRead key now rider wish lines before after old new result
+    × AuditsRead store key now rider wish lines before after old new result
 
 -- the caller with this key has the desk do this task at this moment; the text is that of the file that it names, if any
 abbrev pub DoesTask : {K : Type 0} → (K → Store) → List ℕ → Moment → Task → List ℕ → K → K → Option (List ℕ)
@@ -105,4 +111,4 @@ DoesTask store key now (task.Trips day) text before after old new result =
 DoesTask store key now (task.Explain rider wish) text before after old new result =
     Inquires IsExplainedFrom key now rider wish (store before) (store after) old new result
 DoesTask store key now (task.Audit log rider wish) text before after old new result =
-    AuditsLog key now rider wish text (store before) (store after) old new result
+    AuditsLog store key now rider wish text before after old new result

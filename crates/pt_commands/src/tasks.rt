@@ -53,7 +53,7 @@ fn audit_text<K: Keeper, W: Write>(
     text: &[u8],
     out: &mut W,
 ) -> Result<Outcome, Fault>
-    ensures audited { AuditsLog key.now now rider wish.now text.now (K.store keeper.old) (K.store keeper.new)
+    ensures audited { AuditsLog K.store key.now now rider wish.now text.now keeper.old keeper.new
         (W.contents out.old) (W.contents out.new) result }
 {
     let log = read_log(alloc, text)?;

@@ -1,13 +1,13 @@
 -- Answers by the outcomes that the rules allow.
-use Rattle.std.proofs.Common.{◌≡◌, ◌∙◌, ◌<◌, ◌≤◌, inl, inr, Option, None, Result, Ok, Err, IfOk, OnOk, arith, ap, refl, sym, subst}
+use Rattle.std.proofs.Common.{◌≡◌, ◌∙◌, ◌<◌, ◌≤◌, inl, inr, Option, None, Some, Result, Ok, Err, IfOk, OnOk, arith, ap, refl, sym, subst}
 use Rattle.std.specs.Result.{IsErrAnd}
 use Rattle.pt_desk_rules.specs.State.{State}
 use Rattle.pt_desk_rules.specs.Step.{state_after}
-use Rattle.pt_store.specs.Store.{Store, Answers, ChangesNothing, Goes, Tells, TellsBy}
+use Rattle.pt_store.specs.Store.{Store, Answers, ChangesNothing, Goes, IsDurable, Tells, TellsBy}
 use Rattle.pt_store.specs.declared.keeper.StoreFault.{StoreFault}
 use Rattle.pt_store.specs.declared.keeper.StoreFault.TheVariants.{Memory, Store as failed}
 use Rattle.pt_store.proofs.ReadLemmas.{fault_of, reads_map}
-use Rattle.pt_store.proofs.StoreLemmas.{reads_then, read_tells, leaves_nothing}
+use Rattle.pt_store.proofs.StoreLemmas.{found_still, reads_then, read_tells, leaves_nothing}
 
 abbrev Outcome : Type 0 → Type 1
 Outcome X = State → X → Option State → Type 0
@@ -51,7 +51,9 @@ read_memory {X} {Y} a b x v w Is first =
         told = λ same. absurd (fine same);
         stays = λ none some. absurd (fine' (first.stays none some));
         settled = first.settled;
-        holds = λ clean. record { tells = ((first.holds clean).tells).1; crash = (first.holds clean).crash; durable = tt };
+        holds = λ clean.
+            let it = first.holds clean in
+            record { tells = it.tells.1; crash = it.crash; durable = tt; memory = λ _. found_still a b it.tells.1 it.crash };
       },
       (λ _. inr (tt, refl)),
     )
@@ -104,7 +106,7 @@ no_memory {X} a w Is =
         told = λ same. absurd (fine same);
         stays = λ none some. absurd (omega arith);
         settled = λ settled. settled;
-        holds = λ _. record { tells = refl; crash = λ o found. inl found; durable = tt };
+        holds = λ _. record { tells = refl; crash = λ o found. inl found; durable = tt; memory = λ _ finds. finds };
       },
       (λ _. inr (tt, refl)),
     )
@@ -121,7 +123,37 @@ shut_out a w Is some = (
     told = λ _. some;
     stays = λ _ _. refl;
     settled = λ settled. settled;
-    holds = λ _. record { tells = tt; crash = λ o found. inl found; durable = tt };
+    holds = λ _. record { tells = tt; crash = λ o found. inl found; durable = tt; memory = λ _ finds. finds };
   },
   (λ _. inr (tt, refl)),
 )
+
+same_fault : {X Y : Type 0} (e other : StoreFault) → ◌≡◌ {A = Result Y StoreFault} (Err e) (Err other) → ◌≡◌ {A = Result X StoreFault} (Err e) (Err other)
+same_fault e other same = let is : e ≡ other = cc in cc
+
+fault_tells : {X Y : Type 0} (old new : State) (v : X) (w : Y) (left : Option State) (e : StoreFault) → Tells {X = X} old new v left (Err e) → Tells {X = Y} old new w left (Err e)
+fault_tells old new v w left Memory tells = tells
+fault_tells old new v w left failed tells = tt
+
+not_lasting : (X : Type 0) (after : Store) (left : Option State) (e : StoreFault) → IsDurable {X = X} after left (Err e)
+not_lasting X after None e = tt
+not_lasting X after (Some new) e = tt
+
+-- a fault, whatever was to be answered
+pub fault_as : {X Y : Type 0} (a b : Store) (v : X) (w : Y) (left : Option State) (e : StoreFault) → Goes {X = X} a b v left (Err e) → Goes {X = Y} a b w left (Err e)
+fault_as {X} {Y} a b v w left e goes = record {
+  clean = goes.clean;
+  serves = goes.serves;
+  grows = goes.grows;
+  told = λ same. goes.told (same_fault {X = X} {Y = Y} e failed same);
+  stays = λ none some. same_fault {X = Y} {Y = X} e failed (goes.stays none some);
+  settled = goes.settled;
+  holds = λ clean.
+      let it = goes.holds clean in
+      record {
+        tells = fault_tells a.content b.content v w left e it.tells;
+        crash = it.crash;
+        durable = not_lasting Y b left e;
+        memory = λ same. it.memory (same_fault {X = X} {Y = Y} e Memory same);
+      };
+}

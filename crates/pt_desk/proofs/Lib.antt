@@ -1,5 +1,6 @@
 mod SoundLemmas
 mod RunLemmas
+pub mod CrashLemmas
 mod AnswerLemmas
 mod QuietLemmas
 mod PlaceLemmas

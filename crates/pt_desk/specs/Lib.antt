@@ -1,3 +1,4 @@
 pub mod Run
+pub mod Crash
 pub mod Places
 pub mod Refusals

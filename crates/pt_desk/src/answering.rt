@@ -6,6 +6,7 @@ ghost use Rattle.pt_desk_rules.specs.Step.{IsExplainOutcome, IsReadOutcome, IsDe
 ghost use Rattle.pt_desk_rules.specs.Step.{IsOutcome};
 ghost use Rattle.pt_requests.specs.declared.request.Answer.{Answer};
 ghost use Rattle.pt_store.specs.Store.{Store, Answers, ChangesNothing, Goes, Reads, Fails, IsSoundKept};
+ghost use Rattle.pt_desk.specs.Crash.{Lasts};
 ghost use Rattle.pt_desk.specs.Run.{IsDenial, IsRead};
 
 use pt_base::{Moment, RiderId, Rule, Wish};
@@ -146,7 +147,9 @@ pub fn answer<K: Keeper>(
         IsOutcome key.now now number request.now (K.store keeper.old).content told left → left ≡ None)
         → (o : Option State) → (K.store keeper.new).doubt ≡ 0 → (K.store keeper.new).found o
         → (K.store keeper.old).found o }
-    // A sound state is left sound.
+    // An opening after a crash finds what it could have found before, or what calls by the rules lead to.
+    ensures lasts { Lasts (K.store keeper.old) (K.store keeper.new) }
+    // A sound state stays sound.
     ensures sound { IsSoundKept (K.store keeper.old) (K.store keeper.new) }
 {
     if keeper.failures() > 0 {

@@ -1,5 +1,6 @@
 ghost use Rattle.std.specs.Prelude.{◌≡◌, ◌<◌, ◌≤◌, IfOk, OnErr};
 ghost use Rattle.pt_store.specs.Store.{Store, Answers, ChangesNothing, Fails, IsSettled, IsSoundKept};
+ghost use Rattle.pt_desk.specs.Crash.{Lasts};
 ghost use Rattle.pt_desk.specs.Run.{AreOnlyTold, GoesOn, IsOnlyTold, IsOutcomeOf, TellOfFailure};
 
 use crate::answer;
@@ -25,6 +26,7 @@ fn answer_call<K: Keeper>(alloc: Global, keeper: &mut K, call: &Call) -> Reply
     ensures fails { Fails (K.store keeper.old).failures (K.store keeper.new).failures result }
     ensures only_told { IsOnlyTold call.entry.now result
         → ChangesNothing (K.store keeper.old) (K.store keeper.new) result }
+    ensures lasts { Lasts (K.store keeper.old) (K.store keeper.new) }
     ensures sound { IsSoundKept (K.store keeper.old) (K.store keeper.new) }
 {
     answer(
@@ -60,6 +62,8 @@ pub fn run<K: Keeper>(
     ensures grows { (K.store keeper.old).failures ≤ (K.store keeper.new).failures }
     // While the store serves, an opening after a crash finds what the run left.
     ensures settled { IsSettled (K.store keeper.old) → IsSettled (K.store keeper.new) }
+    // An opening after a crash finds what it could have found before, or what calls by the rules lead to.
+    ensures lasts { Lasts (K.store keeper.old) (K.store keeper.new) }
     ensures sound { IsSoundKept (K.store keeper.old) (K.store keeper.new) }
     ensures err { OnErr result (keeper.new ≡ keeper.old) }
 {

@@ -1,17 +1,24 @@
 -- One request is answered or not, from what its parts ensure.
-use Rattle.std.proofs.Common.{◌≡◌, ◌∙◌, ℕ, false, List, Option, Result, Ok, Err, ap, arith, inl, inr, sym, subst}
+use Rattle.std.proofs.Common.{◌≡◌, ◌⊎◌, ◌∙◌, ℕ, false, List, Option, Some, None, option_map, Result, Ok, Err, ap, arith, inl, inr, sym, subst}
 use Rattle.std.proofs.lemmas.Result.{IfErr-weaker, on_ok_weaker}
 use Rattle.std.specs.Result.{IsErrAnd}
 use Rattle.pt_base.specs.Codes.{write_failed}
 use Rattle.pt_base.specs.Fault.{fault}
 use Rattle.pt_base.specs.declared.fault.Fault.{Fault}
 use Rattle.pt_base.specs.declared.moment.Moment.{Moment}
-use Rattle.pt_store.specs.Store.{Store}
+use Rattle.pt_desk.proofs.CrashLemmas.{lasts_further, lasts_still}
+use Rattle.pt_store.specs.Store.{Answers, IsFault, IsLeft, Store}
 use Rattle.pt_http.specs.Answering.{AnswersOne, CanBeAskedAgain, ExchangesOne, GoesOn, TellsFailure}
-use Rattle.pt_http.specs.Exchange.{IsExchangedOver, IsUnanswered, IsWritten, ServesOver, desk_of}
+use Rattle.pt_desk_rules.specs.State.{State}
+use Rattle.pt_desk_rules.specs.Step.{IsOutcome}
+use Rattle.pt_http_request.specs.declared.message.Message.{Message}
+use Rattle.pt_requests.specs.declared.request.Answer.{Answer}
+use Rattle.pt_store.specs.declared.keeper.StoreFault.{StoreFault}
+use Rattle.pt_http.specs.Exchange.{IsCommittedBy, IsCommittedFrom, IsExchangedOver, IsUnanswered, IsWritten, ServesOver, desk_of}
 use Rattle.pt_http.specs.Input.{HasInput}
-use Rattle.pt_http.specs.Received.{BeginsWith, Responds, is_end}
+use Rattle.pt_http.specs.Received.{BeginsWith, CommitsReceived, Responds, is_end}
 use Rattle.pt_http.specs.declared.received.Received.{Received}
+use Rattle.pt_http.specs.declared.received.Received.TheVariants as received
 use Rattle.pt_http_inbox.specs.Inbox.{reads_of}
 use Rattle.pt_http_inbox.specs.declared.inbox.Inbox.{Inbox}
 use Rattle.pt_http_reply.specs.Response.{IsReplyText}
@@ -26,9 +33,47 @@ pub handed : {T : Type 0} (P : Result T Fault → Type 0) (error : Fault) (resul
 handed P error (Ok value) is holds = absurd is
 handed {T} P error (Err told) is holds = subst (λ (it : Fault). P (Err it)) (sym is) holds
 
+-- an opening after a crash finds what it could have found before, or what begins such an input commits
+abbrev pub CrashesFrom : (List ℕ → Type 0) → Store → Store → Moment → Type 0
+CrashesFrom Gives old new now = new.doubt ≡ 0 → (input : List ℕ) → Gives input → (o : Option State) → new.found o
+    → old.found o ⊎ IsCommittedFrom now input old.content o
+
+committed_from : (now : Moment) (input : List ℕ) (came : Received) (s : State) (o : Option State) (Before : Type 0)
+    (rest : List ℕ) → BeginsWith input came rest → Before ⊎ CommitsReceived now came s o
+    → Before ⊎ IsCommittedFrom now input s o
+committed_from now input came s o Before rest begins (inl before) = inl before
+committed_from now input (received.Message message) s o Before rest begins (inr is) = inr (message, rest, begins, is)
+committed_from now input (received.Refused why) s o Before rest begins (inr none) = absurd none
+
+committed_by : (now : Moment) (message : Message) (keys : List ℕ) (s : State) (told : Answer) (left o : Option State)
+    (reply : Result Answer StoreFault) (Before : Type 0)
+    → option_map (λ given. given.items) message.key ≡ Some keys
+    → IsOutcome keys now message.number message.request s told left ⊎ (IsFault reply × (left ≡ None))
+    → Before ⊎ IsLeft left o → Before ⊎ IsCommittedBy now message s o
+committed_by now message keys s told left o reply Before has by (inl before) = inl before
+committed_by now message keys s told left o reply Before has (inl outcome) (inr is) = inr record {
+  key = keys;
+  has_key = has;
+  told = told;
+  left = left;
+  outcome = outcome;
+  is_left = is;
+}
+committed_by now message keys s told None o reply Before has (inr fault) (inr none) = absurd none
+committed_by now message keys s told (Some new) o reply Before has (inr fault) (inr is) = absurd (let none = fault.1 in cc)
+
+-- what a message commits, whose key is this
+pub commits_message : (old new : Store) (now : Moment) (message : Message) (keys : List ℕ)
+    (reply : Result Answer StoreFault) → option_map (λ given. given.items) message.key ≡ Some keys
+    → Answers old new (IsOutcome keys now message.number message.request) reply → new.doubt ≡ 0
+    → (o : Option State) → new.found o → old.found o ⊎ IsCommittedBy now message old.content o
+commits_message old new now message keys reply has (told, left, goes, by) clean o found =
+    committed_by now message keys old.content told left o reply (old.found o) has (by clean)
+    ((goes.holds clean).crash o found)
+
 -- a store that got no request
 pub goes_nowhere : (store : Store) → GoesOn store store
-goes_nowhere store = record { clean = omega arith; serves = omega arith; settled = λ was. was }
+goes_nowhere store = record { clean = omega arith; serves = omega arith; settled = λ was. was; lasts = lasts_still store }
 
 -- one call after another
 pub goes_further : (old mid new : Store) → GoesOn old mid → GoesOn mid new → GoesOn old new
@@ -36,6 +81,7 @@ goes_further old mid new first next = record {
   clean = omega (arith, first.clean, next.clean);
   serves = omega (arith, first.serves, next.serves);
   settled = λ was. next.settled (first.settled was);
+  lasts = lasts_further old mid new first.lasts next.lasts;
 }
 
 -- out of memory and a failed read are not a failed write
@@ -99,6 +145,7 @@ answers_none Gives Answers store now out Same error unanswered same = record {
   answered = λ clean input gives. tt;
   unheard = λ clean input gives is. absurd (no_write error unanswered (told_error error (fault write_failed) is));
   served = λ clean. tt;
+  crash = λ clean input gives o found. inl found;
   failure = tells_unanswered store store now Same error unanswered same;
   goes = goes_nowhere store;
 }
@@ -117,6 +164,7 @@ answers_otherwise Gives Has Answers Tells old new now out_old out_new Same More 
       let found = one.unheard clean input (gives input has) is in
       (found.0, tells input found.0 found.1);
   served = one.served;
+  crash = λ clean input has. one.crash clean input (gives input has);
   failure = tells_more old new now Same More result more one.failure;
   goes = one.goes;
 }
@@ -156,9 +204,21 @@ exchanges_none remaining inbox_old inbox_new store now out Same error unanswered
   written = tt;
   unheard = λ clean input has is. absurd (no_write error unanswered (told_error error (fault write_failed) is));
   served = λ clean. tt;
+  crash = λ clean input has o found. inl found;
   failure = tells_unanswered store store now Same error unanswered same;
   goes = goes_nowhere store;
 }
+
+-- what a request commits that was received from the input
+pub crash_over : {R : Type 0} (remaining : R → Option (List ℕ)) (inbox_old inbox_new : Inbox R) (old new : Store)
+    (now : Moment) (came : Received)
+    → ((input : List ℕ) → HasInput remaining inbox_old input
+    → (rest : List ℕ) × HasInput remaining inbox_new rest × BeginsWith input came rest)
+    → (new.doubt ≡ 0 → (o : Option State) → new.found o → old.found o ⊎ CommitsReceived now came old.content o)
+    → CrashesFrom (HasInput remaining inbox_old) old new now
+crash_over remaining inbox_old inbox_new old new now came received crash clean input has o found =
+    committed_from now input came old.content o (old.found o) (received input has).0 (received input has).2
+    (crash clean o found)
 
 -- one whose reply was not wholly written
 pub exchanges_unwritten : {R : Type 0} (remaining : R → Option (List ℕ)) (inbox_old inbox_new : Inbox R)
@@ -166,14 +226,16 @@ pub exchanges_unwritten : {R : Type 0} (remaining : R → Option (List ℕ)) (in
     (reply : Response) → error ≡ fault write_failed
     → (new.doubt ≡ 0 → (input : List ℕ) → HasInput remaining inbox_old input
     → IsExchangedOver remaining old new now input inbox_new reply)
-    → ((text : List ℕ) × IsReplyText reply text) → (new.doubt ≡ 0 → ServesOver old new now reply) → GoesOn old new
+    → ((text : List ℕ) × IsReplyText reply text) → (new.doubt ≡ 0 → ServesOver old new now reply)
+    → CrashesFrom (HasInput remaining inbox_old) old new now → GoesOn old new
     → ExchangesOne remaining inbox_old inbox_new old new now out_old out_new Same (Err error)
 exchanges_unwritten remaining inbox_old inbox_new old new now out_old out_new Same error reply write exchanged text served
-    goes = record {
+    crash goes = record {
       answered = λ clean input has. tt;
       written = tt;
       unheard = λ clean input has is. (reply, exchanged clean input has, text);
       served = λ clean. tt;
+      crash = crash;
       failure = tells_unwritten old new now Same error write (λ clean. (reply, served clean));
       goes = goes;
     }
@@ -183,13 +245,15 @@ pub exchanges : {R : Type 0} (remaining : R → Option (List ℕ)) (inbox_old in
     (now : Moment) (out_old out_new : Option (List ℕ)) (Same : Type 0) (reply : Response)
     → (new.doubt ≡ 0 → (input : List ℕ) → HasInput remaining inbox_old input
     → IsExchangedOver remaining old new now input inbox_new reply)
-    → IsWritten reply out_old out_new → (new.doubt ≡ 0 → ServesOver old new now reply) → GoesOn old new
+    → IsWritten reply out_old out_new → (new.doubt ≡ 0 → ServesOver old new now reply)
+    → CrashesFrom (HasInput remaining inbox_old) old new now → GoesOn old new
     → ExchangesOne remaining inbox_old inbox_new old new now out_old out_new Same (Ok reply)
-exchanges remaining inbox_old inbox_new old new now out_old out_new Same reply exchanged written served goes = record {
+exchanges remaining inbox_old inbox_new old new now out_old out_new Same reply exchanged written served crash goes = record {
   answered = exchanged;
   written = written;
   unheard = λ clean input has is. absurd (no_error reply (fault write_failed) is);
   served = served;
+  crash = crash;
   failure = tells_nothing old new now Same reply;
   goes = goes;
 }
@@ -204,6 +268,7 @@ answers_told remaining inbox_old inbox_new old new now out_old out_new Same repl
   answered = λ clean input has. (reply, one.answered clean input has, one.written);
   unheard = λ clean input has is. absurd (no_error value (fault write_failed) is);
   served = λ clean. (reply, one.served clean, one.written);
+  crash = one.crash;
   failure = tells_nothing old new now Same value;
   goes = one.goes;
 }
@@ -219,6 +284,7 @@ answers_failed remaining inbox_old inbox_new old new now out_old out_new Same er
       let found = one.unheard clean input has (ap Err (told_error error (fault write_failed) is)) in
       (found.0, found.1);
   served = λ clean. tt;
+  crash = one.crash;
   failure = record {
     unseen = λ clean is. one.failure.unseen clean (ap Err (told_error error (fault write_failed) is));
     unanswered = one.failure.unanswered;

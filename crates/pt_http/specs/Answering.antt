@@ -4,8 +4,10 @@ use Rattle.pt_base.specs.Codes.{write_failed}
 use Rattle.pt_base.specs.Fault.{fault}
 use Rattle.pt_base.specs.declared.fault.Fault.{Fault}
 use Rattle.pt_base.specs.declared.moment.Moment.{Moment}
+use Rattle.pt_desk.specs.Crash.{Lasts}
 use Rattle.pt_store.specs.Store.{IsSettled, Store}
-use Rattle.pt_http.specs.Exchange.{IsExchangedOver, IsUnanswered, IsWritten, ServesOver}
+use Rattle.pt_desk_rules.specs.State.{State}
+use Rattle.pt_http.specs.Exchange.{IsCommittedFrom, IsExchangedOver, IsUnanswered, IsWritten, ServesOver}
 use Rattle.pt_http.specs.Input.{HasInput}
 use Rattle.pt_http_inbox.specs.Inbox.{ReadsOn}
 use Rattle.pt_http_inbox.specs.declared.inbox.Inbox.{Inbox}
@@ -20,6 +22,8 @@ pub record GoesOn (old new : Store) : Type 0 where
   pub serves : old.shut ≤ new.shut
   -- a settled store stays settled
   pub settled : IsSettled old → IsSettled new
+  -- an opening after a crash finds what it could have found before, or what calls by the rules lead to
+  pub lasts : Lasts old new
 
 -- the error says whether the request was answered; `Same` says that nothing changed
 pub record TellsFailure {T : Type 0} (old new : Store) (now : Moment) (Same : Type 0) (result : Result T Fault)
@@ -46,6 +50,9 @@ pub record AnswersOne {T : Type 0} (Gives : List ℕ → Type 0) (Answers : List
   -- this holds whatever the reader gives, also if its bytes are not known
   pub served : new.doubt ≡ 0
       → OnOk result ((reply : Response) × ServesOver old new now reply × IsWritten reply out_old out_new)
+  -- an opening after a crash finds what it could have found before, or what the request commits
+  pub crash : new.doubt ≡ 0 → (input : List ℕ) → Gives input → (o : Option State) → new.found o
+      → old.found o ⊎ IsCommittedFrom now input old.content o
   pub failure : TellsFailure old new now Same result
   pub goes : GoesOn old new
 
@@ -64,6 +71,9 @@ pub record ExchangesOne {R : Type 0} (remaining : R → Option (List ℕ)) (inbo
       × IsExchangedOver remaining old new now input inbox_new reply × ((text : List ℕ) × IsReplyText reply text)
   -- this holds whatever the reader gives, also if its bytes are not known
   pub served : new.doubt ≡ 0 → IfOk result (ServesOver old new now)
+  -- an opening after a crash finds what it could have found before, or what the request commits
+  pub crash : new.doubt ≡ 0 → (input : List ℕ) → HasInput remaining inbox_old input → (o : Option State) → new.found o
+      → old.found o ⊎ IsCommittedFrom now input old.content o
   pub failure : TellsFailure old new now Same result
   pub goes : GoesOn old new
 

@@ -5,7 +5,7 @@ use Rattle.pt_base.specs.declared.fault.Fault.{Fault}
 use Rattle.pt_base.specs.Codes.{memory_refused, read_failed}
 use Rattle.pt_base.specs.declared.rule.Rule.TheVariants.{Key}
 use Rattle.pt_base.specs.declared.moment.Moment.{Moment}
-use Rattle.pt_store.specs.Store.{Store, TellsBy, Fails}
+use Rattle.pt_store.specs.Store.{Store, IsLeft, TellsBy, Fails}
 use Rattle.pt_desk_rules.specs.State.{State}
 use Rattle.pt_desk_rules.specs.Step.{IsOutcome}
 use Rattle.pt_store.specs.declared.keeper.StoreFault.{StoreFault}
@@ -42,6 +42,20 @@ AnswersWith None now message old new told = (told ≡ Ok (Denied Key)) × (new �
 abbrev pub AnswersMessage : Moment → Message → Desk → Desk → Result Answer StoreFault → Type 0
 AnswersMessage now message old new told =
     AnswersWith (option_map (λ key. key.items) message.key) now message old new told
+
+-- the rules answer the message at this moment, and what they commit is what an opening finds
+pub record IsCommittedBy (now : Moment) (message : Message) (s : State) (o : Option State) : Type 0 where
+  pub key : List ℕ
+  pub has_key : option_map (λ given. given.items) message.key ≡ Some key
+  pub told : Answer
+  pub left : Option State
+  pub outcome : IsOutcome key now message.number message.request s told left
+  pub is_left : IsLeft left o
+
+-- so does the message that begins these bytes
+abbrev pub IsCommittedFrom : Moment → List ℕ → State → Option State → Type 0
+IsCommittedFrom now bytes s o =
+    (message : Message) × (rest : List ℕ) × BeginsWithMessage bytes message rest × IsCommittedBy now message s o
 
 -- The reply to the front of the bytes, and what it leaves: a message is answered, and a fault changes nothing.
 abbrev pub Exchanges : Moment → List ℕ → Desk → Desk → Response → List ℕ → Type 0

@@ -1,9 +1,10 @@
 -- The result of reading a request from some bytes.
-use Rattle.std.specs.Prelude.{◌≡◌, ℕ, Bool, false, List}
+use Rattle.std.specs.Prelude.{◌≡◌, ℕ, Bool, false, List, Option}
 use Rattle.pt_base.specs.declared.moment.Moment.{Moment}
 use Rattle.pt_http_reply.specs.declared.response.Response.{Response}
 use Rattle.pt_http_reply.specs.declared.response.Response.TheVariants as response
-use Rattle.pt_http.specs.Exchange.{Desk, AnswersMessage, is_last}
+use Rattle.pt_desk_rules.specs.State.{State}
+use Rattle.pt_http.specs.Exchange.{Desk, AnswersMessage, IsCommittedBy, is_last}
 use Rattle.httparse.specs.Grammar.{RequestHead}
 use Rattle.pt_http_request.specs.Messages.{SpellsMessage, IsMessageFault}
 use Rattle.pt_http_request.specs.Targets.{desk_routes}
@@ -28,6 +29,11 @@ is_end (received.Refused why) = is_last (response.Refused why)
 abbrev pub BeginsWith : List ℕ → Received → List ℕ → Type 0
 BeginsWith bytes (received.Message message) rest = BeginsWithMessage bytes message rest
 BeginsWith bytes (received.Refused why) rest = BeginsWithFault bytes why rest
+
+-- what was received is a message that commits what an opening finds
+abbrev pub CommitsReceived : Moment → Received → State → Option State → Type 0
+CommitsReceived now (received.Message message) s o = IsCommittedBy now message s o
+CommitsReceived now (received.Refused why) s o = ⊥
 
 -- the desk's response to what was received: an answer; or the fault, which changes nothing
 abbrev pub Responds : Moment → Received → Desk → Desk → Response → Type 0

@@ -1,4 +1,4 @@
-ghost use Rattle.std.specs.Prelude.{◌≡◌, IfErr, OnOk};
+ghost use Rattle.std.specs.Prelude.{◌≡◌, ◌⊎◌, IfErr, OnOk, Option};
 ghost use Rattle.std.specs.Io.KnownBytes.{Appends};
 ghost use Rattle.pt_base.specs.Codes.{write_failed};
 ghost use Rattle.pt_base.specs.Fault.{fault};
@@ -6,7 +6,8 @@ ghost use Rattle.pt_store.specs.Store.{Store};
 ghost use Rattle.pt_http.specs.Answering.{AnswersOne, CanBeAskedAgain, ExchangesOne, GoesOn};
 ghost use Rattle.pt_http.specs.Exchange.{IsExchangedOver, desk_of};
 ghost use Rattle.pt_http.specs.Input.{HasInput};
-ghost use Rattle.pt_http.specs.Received.{Responds};
+ghost use Rattle.pt_desk_rules.specs.State.{State};
+ghost use Rattle.pt_http.specs.Received.{CommitsReceived, Responds};
 ghost use Rattle.pt_http_reply.specs.Reply.{bytes_of};
 ghost use Rattle.pt_http_request.specs.Targets.{desk_routes};
 
@@ -28,6 +29,8 @@ fn respond<K: Keeper>(alloc: Global, keeper: &mut K, now: Moment, received: &Rec
     ensures responds { (K.store keeper.new).doubt ≡ 0
         → Responds now received.now (desk_of (K.store keeper.old))
         (desk_of (K.store keeper.new)) result }
+    ensures crash { (K.store keeper.new).doubt ≡ 0 → (o : Option State) → (K.store keeper.new).found o
+        → (K.store keeper.old).found o ⊎ CommitsReceived now received.now (K.store keeper.old).content o }
     ensures goes { GoesOn (K.store keeper.old) (K.store keeper.new) }
 {
     match received {

@@ -3,8 +3,9 @@ ghost use Rattle.std.specs.Io.KnownBytes.{Appends};
 ghost use Rattle.pt_base.specs.Fault.{fault};
 ghost use Rattle.pt_base.specs.Codes.{read_failed, write_failed, moment_line_refused};
 ghost use Rattle.pt_http_inbox.specs.Inbox.{reads_of};
+ghost use Rattle.pt_http.specs.Answering.{GoesOn};
 ghost use Rattle.pt_http.specs.Exchange.{Desk, desk_of, IsUnanswered, is_last};
-ghost use Rattle.pt_store.specs.Store.{Store, IsSettled};
+ghost use Rattle.pt_store.specs.Store.{Store};
 ghost use Rattle.pt_http.specs.Input.{HasInput};
 ghost use Rattle.pt_rehearsal.specs.Moments.{IsNext};
 ghost use Rattle.pt_http_request.specs.Targets.{desk_routes};
@@ -81,9 +82,7 @@ fn go_through<K: Keeper, R: Read + Drop, W: Write>(
         × (error ≡ fault moment_line_refused → HasBadLine rest)
         × (length messages ≤ most_messages)) }
     ensures fault { IfErr result IsRehearsalFault }
-    ensures clean { (K.store keeper.old).doubt ≤ (K.store keeper.new).doubt }
-    ensures serves { (K.store keeper.old).shut ≤ (K.store keeper.new).shut }
-    ensures settled { IsSettled (K.store keeper.old) → IsSettled (K.store keeper.new) }
+    ensures goes { GoesOn (K.store keeper.old) (K.store keeper.new) }
 {
     for _ in 0..MOST_MESSAGES {
         let Some(now) = next_moment(inbox)? else {
@@ -125,9 +124,7 @@ pub fn rehearse<K: Keeper, R: Read + Drop, W: Write>(
         × (error ≡ fault moment_line_refused → HasBadLine rest)
         × (length messages ≤ most_messages)) }
     ensures fault { IfErr result IsRehearsalFault }
-    ensures clean { (K.store keeper.old).doubt ≤ (K.store keeper.new).doubt }
-    ensures serves { (K.store keeper.old).shut ≤ (K.store keeper.new).shut }
-    ensures settled { IsSettled (K.store keeper.old) → IsSettled (K.store keeper.new) }
+    ensures goes { GoesOn (K.store keeper.old) (K.store keeper.new) }
 {
     let Ok(router) = desk_router(alloc) else {
         return Err(Fault::of(MEMORY));

@@ -10,6 +10,9 @@ use Rattle.pt_store.proofs.StoreLemmas.{reads_then}
 no_fault : {X : Type 0} (x : X) → ◌≡◌ {A = Result X StoreFault} (Ok x) (Err failed) → ⊥
 no_fault x same = absurd (cc)
 
+no_memory : {X : Type 0} (x : X) → ◌≡◌ {A = Result X StoreFault} (Ok x) (Err Memory) → ⊥
+no_memory x same = absurd (cc)
+
 -- a function of what is read
 pub reads_map : {X Y : Type 0} (a b : Store) (v x : X) (h : X → Y) → Goes a b v None (Ok x) → Goes a b (h v) None (Ok (h x))
 reads_map a b v x h read = record {
@@ -19,7 +22,7 @@ reads_map a b v x h read = record {
   told = λ same. absurd (no_fault (h x) same);
   stays = λ none some. absurd (no_fault x (read.stays none some));
   settled = read.settled;
-  holds = λ clean. record { tells = (ap h (read.holds clean).tells.0, (read.holds clean).tells.1); crash = (read.holds clean).crash; durable = tt };
+  holds = λ clean. record { tells = (ap h (read.holds clean).tells.0, (read.holds clean).tells.1); crash = (read.holds clean).crash; durable = tt; memory = λ is. absurd (no_memory (h x) is) };
 }
 
 -- two reads in turn
@@ -41,6 +44,9 @@ reads_by {X} {Y} a b c f g x y first next =
 same_fault : {X Y : Type 0} (e : StoreFault) → ◌≡◌ {A = Result Y StoreFault} (Err e) (Err failed) → ◌≡◌ {A = Result X StoreFault} (Err e) (Err failed)
 same_fault e same = let is : e ≡ failed = cc in cc
 
+same_memory : {X Y : Type 0} (e : StoreFault) → ◌≡◌ {A = Result Y StoreFault} (Err e) (Err Memory) → ◌≡◌ {A = Result X StoreFault} (Err e) (Err Memory)
+same_memory e same = let is : e ≡ Memory = cc in cc
+
 fault_tells : {X Y : Type 0} (old new : State) (v : X) (w : Y) (e : StoreFault) → Tells {X = X} old new v None (Err e) → Tells {X = Y} old new w None (Err e)
 fault_tells old new v w Memory tells = tells
 fault_tells old new v w failed tells = tt
@@ -54,7 +60,7 @@ fault_of {X} {Y} a b v w e read = record {
   told = λ same. read.told (same_fault {X = X} {Y = Y} e same);
   stays = λ none some. same_fault {X = Y} {Y = X} e (read.stays none some);
   settled = read.settled;
-  holds = λ clean. record { tells = fault_tells a.content b.content v w e (read.holds clean).tells; crash = (read.holds clean).crash; durable = tt };
+  holds = λ clean. record { tells = fault_tells a.content b.content v w e (read.holds clean).tells; crash = (read.holds clean).crash; durable = tt; memory = λ same. (read.holds clean).memory (same_memory {X = X} {Y = Y} e same) };
 }
 
 -- a fault after something was read

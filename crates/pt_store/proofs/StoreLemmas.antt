@@ -1,7 +1,7 @@
 -- Calls of a store, one after another.
-use Rattle.std.proofs.Common.{◌≡◌, ◌<◌, ◌≤◌, ◌⊎◌, inl, inr, ℕ, Option, Some, None, Result, Ok, Err, arith, subst}
+use Rattle.std.proofs.Common.{◌≡◌, ◌<◌, ◌≤◌, ◌⊎◌, inl, inr, ℕ, Option, Some, None, Result, Ok, Err, ap, arith, subst, sym, ◌∙◌}
 use Rattle.pt_desk_rules.specs.State.{State}
-use Rattle.pt_store.specs.Store.{Store, Goes, Holds, IsLeft, Tells}
+use Rattle.pt_store.specs.Store.{Store, FindsContent, Goes, Holds, IsLeft, Tells}
 use Rattle.pt_store.specs.declared.keeper.StoreFault.{StoreFault}
 use Rattle.pt_store.specs.declared.keeper.StoreFault.TheVariants.{Store as failed}
 
@@ -15,6 +15,14 @@ crash_on a b left o stood (inl old) = elim (stood old) [ inl was ↦ inl was | i
 -- a read returns its value and leaves the content
 pub read_tells : {X : Type 0} (a b : State) (v x : X) → Tells a b v None (Ok x) → (x ≡ v) × (b ≡ a)
 read_tells a b v x tells = tells
+
+found_on : (a b : Store) (o : Option State) → b.content ≡ a.content → FindsContent a → b.found o → a.found o ⊎ IsLeft None o → o ≡ Some b.content
+found_on a b o same finds found (inl was) = finds o was ∙ ap Some (sym same)
+found_on a b o same finds found (inr none) = absurd none
+
+-- what commits nothing leaves an opening that finds the content
+pub found_still : (a b : Store) → b.content ≡ a.content → ((o : Option State) → b.found o → a.found o ⊎ IsLeft None o) → FindsContent a → FindsContent b
+found_still a b same crash finds o found = found_on a b o same finds found (crash o found)
 
 served : (n : ℕ) → (n < 1) ⊎ (0 < n)
 served n = grind arith
@@ -47,6 +55,7 @@ reads_then {X} {Y} a b c x v w w' left left' r first next same =
             tells = tells_on a.content b.content c.content w left r stood.1 then.tells;
             crash = λ o found. crash_on a.found b.found left o (read.crash o) (then.crash o found);
             durable = then.durable;
+            memory = λ is finds. then.memory is (found_still a b stood.1 read.crash finds);
           }));
     }
 

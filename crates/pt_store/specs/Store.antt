@@ -1,4 +1,4 @@
--- A store as contracts see it, and what calls make of it.
+-- A store as contracts see it, and what calls do to it.
 use Rattle.std.specs.Prelude.{◌≡◌, ◌≤◌, ◌<◌, ◌⊎◌, ℕ, Option, Some, None, Result, Ok, Err, OnOk}
 use Rattle.pt_desk_rules.specs.Sound.{IsSound}
 use Rattle.pt_desk_rules.specs.State.{State}
@@ -7,46 +7,52 @@ use Rattle.pt_store.specs.declared.keeper.StoreFault.{StoreFault}
 use Rattle.pt_store.specs.declared.keeper.StoreFault.TheVariants.{Memory, Store as failed}
 
 pub record Store : Type 1 where
-  -- what it keeps, however it does
+  -- the records that it stores
   pub content : State
-  -- 0 so long as nobody else writes to it, and it returns what was written
+  -- 0 as long as nobody else writes to it, and reads return what was written
   pub doubt : ℕ
-  -- 0 so long as it serves; a fault may end that in a call that also wants memory
+  -- 0 as long as it serves; a fault may end that in a call that is also out of memory
   pub shut : ℕ
   -- 0, and 1 for good once it has failed in a call
   pub failures : ℕ
   -- what an opening after a crash at this moment may find; None for what is no content
   pub found : Option State → Type 0
 
--- while it serves and has not failed, an opening after a crash finds the content and nothing else
-abbrev pub IsSettled : Store → Type 0
-IsSettled s = s.shut ≡ 0 → s.failures ≡ 0 → (o : Option State) → s.found o → o ≡ Some s.content
+-- an opening after a crash finds the content and nothing else
+abbrev pub FindsContent : Store → Type 0
+FindsContent s = (o : Option State) → s.found o → o ≡ Some s.content
 
--- what they may leave at a crash beside what stood before: the committed state, if there is one
+-- so it is while the store serves and has not failed
+abbrev pub IsSettled : Store → Type 0
+IsSettled s = s.shut ≡ 0 → s.failures ≡ 0 → FindsContent s
+
+-- what calls may leave at a crash in addition to what was there before: the state that they commit, if any
 abbrev pub IsLeft : Option State → Option State → Type 0
 IsLeft None o = ⊥
 IsLeft (Some new) o = o ≡ Some new
 
--- what they answer, and the content that stands, where `left` is what they commit, if anything: on Ok all is done, for
--- want of memory nothing
+-- the result of calls that answer `value` and commit `left`: Ok means that all was done, Memory that the content is
+-- unchanged
 abbrev pub Tells : {X : Type 0} → State → State → X → Option State → Result X StoreFault → Type 0
 Tells old new value left (Ok x) = (x ≡ value) × (new ≡ state_after left old)
 Tells old new value left (Err Memory) = new ≡ old
 Tells old new value left (Err failed) = Unit {0}
 
--- once a commit is answered, an opening finds it and nothing else
+-- once a commit has returned, an opening finds it and nothing else
 abbrev pub IsDurable : {X : Type 0} → Store → Option State → Result X StoreFault → Type 0
 IsDurable after (Some new) (Ok x) = (o : Option State) → after.found o → o ≡ Some after.content
 IsDurable after _ _ = Unit {0}
 
--- what is said of the content, where the store is clean as the calls end
+-- what holds of the content, if the store is clean as the calls end
 pub record Holds {X : Type 0} (before after : Store) (value : X) (left : Option State)
     (result : Result X StoreFault) : Type 0 where
   pub tells : Tells before.content after.content value left result
   pub crash : (o : Option State) → after.found o → before.found o ⊎ IsLeft left o
   pub durable : IsDurable after left result
+  -- out of memory: an opening finds the content, if it would have found it before
+  pub memory : result ≡ Err Memory → FindsContent before → FindsContent after
 
--- Calls that answer `value` and commit `left`, if anything: from none on, and any number of reads before a commit.
+-- Calls that answer `value` and commit `left`, if anything: none, reads, or reads and then a commit.
 pub record Goes {X : Type 0} (before after : Store) (value : X) (left : Option State)
     (result : Result X StoreFault) : Type 0 where
   pub clean : before.doubt ≤ after.doubt
@@ -57,7 +63,7 @@ pub record Goes {X : Type 0} (before after : Store) (value : X) (left : Option S
   pub settled : IsSettled before → IsSettled after
   pub holds : after.doubt ≡ 0 → Holds before after value left result
 
--- Where the store is clean, calls that answer leave the content as it was, and an opening after a crash finds nothing
+-- If the store is clean, calls that answer leave the content as it was, and an opening after a crash finds nothing
 -- that it would not have found before them.
 pub record ChangesNothing {X E : Type 0} (before after : Store) (result : Result X E) : Type 0 where
   pub content : after.doubt ≡ 0 → OnOk result (after.content ≡ before.content)
@@ -68,15 +74,14 @@ abbrev pub IsFault : {X : Type 0} → Result X StoreFault → Type 0
 IsFault (Ok x) = ⊥
 IsFault (Err fault) = Unit {0}
 
--- what they answer, and the content that stands, is by one of these outcomes of the content before, or a fault came
--- before anything was decided
+-- the result is one of these outcomes in the content before, or a fault came before a decision
 abbrev pub TellsBy : {X : Type 0} → State → State → (State → X → Option State → Type 0) → Result X StoreFault → Type 0
 TellsBy {X} old new IsOutcome result =
     (told : X) × (left : Option State) × Tells old new told left result
     × (IsOutcome old told left ⊎ (IsFault result × (left ≡ None)))
 
--- Calls that answer and commit as these outcomes of the content allow, where the store is clean. A fault may come
--- before anything is decided: then nothing is committed.
+-- Calls that answer and commit as these outcomes of the content allow, if the store is clean. A fault may come before
+-- a decision: then nothing is committed.
 abbrev pub Answers : {X : Type 0} → Store → Store → (State → X → Option State → Type 0) → Result X StoreFault → Type 0
 Answers {X} before after IsOutcome result =
     (told : X) × (left : Option State) × Goes before after told left result
@@ -90,16 +95,17 @@ Reads before after told result = Goes before after (told before.content) None re
 abbrev pub Commits : Store → Store → (State → State) → Result (Unit {0}) StoreFault → Type 0
 Commits before after changed result = Goes before after tt (Some (changed before.content)) result
 
--- once a store has failed, it says so whatever it is asked
-abbrev pub Refuses : {X : Type 0} → Store → Result X StoreFault → Type 0
-Refuses before result = 0 < before.failures → result ≡ Err failed
+-- once a store has failed, it says so whatever it is asked, and writes nothing
+abbrev pub Refuses : {X : Type 0} → Store → Store → Result X StoreFault → Type 0
+Refuses before after result =
+    0 < before.failures → (result ≡ Err failed) × ((o : Option State) → after.found o → before.found o)
 
--- `Store` is answered exactly where the store has failed in this call or before it
+-- the answer is `Store` exactly if the store has failed in this call or before it
 pub record Fails {X : Type 0} (before after : ℕ) (result : Result X StoreFault) : Type 0 where
   pub grows : before ≤ after
   pub told : result ≡ Err failed → 0 < after
   pub stays : 0 < after → result ≡ Err failed
 
--- a sound content is left sound, while the store is clean and has not failed
+-- a sound content stays sound, while the store is clean and has not failed
 abbrev pub IsSoundKept : Store → Store → Type 0
 IsSoundKept before after = after.doubt ≡ 0 → after.failures ≡ 0 → IsSound before.content → IsSound after.content

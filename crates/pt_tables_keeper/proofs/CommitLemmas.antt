@@ -1,5 +1,5 @@
 -- What a commit makes of the store over tables.
-use Rattle.std.proofs.Common.{◌≡◌, ◌<◌, ◌≤◌, ◌⊎◌, inl, inr, ℕ, Option, Some, None, Result, Ok, Err, List, false, length, refl, sym, ap, subst, ◌∙◌, arith}
+use Rattle.std.proofs.Common.{◌≡◌, ◌<◌, ◌≤◌, ◌⊎◌, inl, inr, ℕ, IsTrue, Option, Some, None, Result, Ok, Err, List, false, length, refl, sym, ap, subst, ◌∙◌, arith}
 use Rattle.sqlite.specs.Held.{Held, state}
 use Rattle.sqlite.specs.State.{State as Connected, HasCleanDisk, Survives}
 use Rattle.sqlite.specs.Store.{Ghosts}
@@ -84,6 +84,7 @@ module _ {riders : ℕ} (old new : Connected) (before after : State) (f : ℕ) (
       tells = (refl, refl);
       crash = crashes;
       durable = λ o found. finds new after law readable (made_kept (made clean) clean) (made clean).is_open o found;
+      memory = λ is. absurd (cc);
     };
   }
 
@@ -99,9 +100,9 @@ module _ {riders : ℕ} (old new : Connected) (before after : State) (f : ℕ) (
   }
 
   pub commits_not : (g : ℕ) (e : StoreFault) → (e ≡ failed → g ≡ 1) → (e ≡ Memory → g ≡ 0)
-      → new.in_transaction ≡ false → (HasCleanDisk new → IsUndone old new)
+      → new.in_transaction ≡ false → (HasCleanDisk new → IsUndone old new) → (e ≡ Memory → HasCleanDisk new → IsTrue new.is_open)
       → Goes {X = Unit {0}} (kept_store old before f) (kept_store new before g) tt (Some after) (Err e)
-  commits_not g Memory on_failed on_memory settled undone =
+  commits_not g Memory on_failed on_memory settled undone open_still =
       let zero : g ≡ 0 = on_memory refl in
       let most : g ≤ 1 = omega arith in
       record {
@@ -111,9 +112,14 @@ module _ {riders : ℕ} (old new : Connected) (before after : State) (f : ℕ) (
         told = λ is. absurd (cc);
         stays = λ low up. absurd (omega arith);
         settled = λ _. settles new before g law (step_undone g most settled undone);
-        holds = λ clean. record { tells = refl; crash = crashes; durable = tt };
+        holds = λ clean. record {
+          tells = refl;
+          crash = crashes;
+          durable = tt;
+          memory = λ _ _. finds new before law was.readable (undone_kept (undone clean) clean) (open_still refl clean);
+        };
       }
-  commits_not g failed on_failed on_memory settled undone =
+  commits_not g failed on_failed on_memory settled undone open_still =
       let one : g ≡ 1 = on_failed refl in
       let most : g ≤ 1 = omega arith in
       record {
@@ -123,7 +129,7 @@ module _ {riders : ℕ} (old new : Connected) (before after : State) (f : ℕ) (
         told = λ _. omega arith;
         stays = λ _ _. refl;
         settled = λ _. settles new before g law (step_undone g most settled undone);
-        holds = λ clean. record { tells = tt; crash = crashes; durable = tt };
+        holds = λ clean. record { tells = tt; crash = crashes; durable = tt; memory = λ is. absurd (cc) };
       }
 
 -- a failure is counted once
@@ -143,7 +149,7 @@ wants_memory s a f left r none is = subst (λ r. Goes {X = Unit {0}} (kept_store
   told = λ same. absurd (cc);
   stays = λ low up. absurd (omega arith);
   settled = λ before. before;
-  holds = λ clean. record { tells = refl; crash = λ o found. inl found; durable = not_lasting (Unit {0}) (kept_store s a f) left Memory };
+  holds = λ clean. record { tells = refl; crash = λ o found. inl found; durable = not_lasting (Unit {0}) (kept_store s a f) left Memory; memory = λ _ finds. finds };
 })
 
 -- ---- the keeper
@@ -180,5 +186,5 @@ commit_refused old new made clean serves grows some same = record {
   told = λ _. some;
   stays = λ _ _. refl;
   settled = λ _ _ none. absurd (omega (arith, none, some));
-  holds = λ _. record { tells = tt; crash = λ o found. inl (same o found); durable = tt };
+  holds = λ _. record { tells = tt; crash = λ o found. inl (same o found); durable = tt; memory = λ is. absurd (cc) };
 }

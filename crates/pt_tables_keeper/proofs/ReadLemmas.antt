@@ -14,6 +14,7 @@ use Rattle.pt_desk_rules.specs.Planned.{is_booked_from, is_of, is_standing_from}
 use Rattle.pt_desk_rules.specs.State.{State}
 use Rattle.pt_tables_asking.specs.Asking.{Rests}
 use Rattle.pt_tables_asking.specs.Content.{Tells}
+use Rattle.pt_store.proofs.StoreLemmas.{found_still}
 use Rattle.pt_tables_rows.specs.Tables.{IsKept, IsWellFormed}
 use Rattle.pt_tables_asking.specs.declared.asking.Unread.{Unread}
 use Rattle.pt_tables_asking.specs.declared.asking.Unread.TheVariants as unread
@@ -65,7 +66,7 @@ goes_to before after told x other y h made = record {
   holds = λ clean.
       let it = h.holds clean in
       let stands = it.tells.1 in
-      record { tells = (made clean (it.tells.0 ∙ ap told (sym stands)) ∙ ap other stands, stands); crash = it.crash; durable = tt };
+      record { tells = (made clean (it.tells.0 ∙ ap told (sym stands)) ∙ ap other stands, stands); crash = it.crash; durable = tt; memory = λ is. absurd (cc) };
 }
 
 pub goes_on : {X Y : Type 0} (before after : Store) (value x : X) (f : X → Y) → Goes before after value None (Ok x) → Goes before after (f value) None (Ok (f x))
@@ -103,6 +104,7 @@ goes_not {X} {Y} before after value other left Memory h = record {
         tells = it.tells;
         crash = λ o found. elim (it.crash o found) [ inl was ↦ inl was | inr nothing ↦ absurd nothing ];
         durable = not_lasting Y after left Memory;
+        memory = λ _. it.memory refl;
       };
 }
 goes_not {X} {Y} before after value other left failed h = record {
@@ -118,6 +120,7 @@ goes_not {X} {Y} before after value other left failed h = record {
         tells = tt;
         crash = λ o found. elim (it.crash o found) [ inl was ↦ inl was | inr nothing ↦ absurd nothing ];
         durable = not_lasting Y after left failed;
+        memory = λ is. absurd (cc);
       };
 }
 
@@ -130,7 +133,7 @@ goes_wanting before after value x other h = record {
   told = λ is. absurd (cc);
   stays = λ low up. absurd (let same = h.stays low up in cc);
   settled = h.settled;
-  holds = λ clean. let it = h.holds clean in record { tells = it.tells.1; crash = it.crash; durable = tt };
+  holds = λ clean. let it = h.holds clean in record { tells = it.tells.1; crash = it.crash; durable = tt; memory = λ _. found_still before after it.tells.1 it.crash };
 }
 
 -- ---- what a read returns
@@ -218,7 +221,7 @@ reads_held {S} {X} g conn failures content now told x is same =
       told = λ failed. absurd (cc);
       stays = λ low up. absurd (omega arith);
       settled = λ before. before;
-      holds = λ clean. record { tells = (same clean, refl); crash = λ o found. inl found; durable = tt };
+      holds = λ clean. record { tells = (same clean, refl); crash = λ o found. inl found; durable = tt; memory = λ _ finds. finds };
     })
 
 -- out of memory for a read of it
@@ -234,7 +237,7 @@ wants_held {S} {X} g conn failures content now value r is wanting =
       told = λ failed. absurd (cc);
       stays = λ low up. absurd (omega arith);
       settled = λ before. before;
-      holds = λ clean. record { tells = refl; crash = λ o found. inl found; durable = tt };
+      holds = λ clean. record { tells = refl; crash = λ o found. inl found; durable = tt; memory = λ _ finds. finds };
     }))
 
 -- ---- trips

@@ -5,7 +5,7 @@ use Rattle.sqlite.specs.State.{State as Connected, HasCleanDisk}
 use Rattle.sqlite.specs.Tree.{Trees}
 use Rattle.sqlite.specs.View.{doubt}
 use Rattle.sqlite_trees.proofs.Doubt.{clean_of, no_doubt, only_falls}
-use Rattle.pt_store.specs.Store.{Goes, IsSettled}
+use Rattle.pt_store.specs.Store.{FindsContent, Goes, IsSettled}
 use Rattle.pt_store.specs.declared.keeper.StoreFault.{StoreFault}
 use Rattle.pt_store.specs.declared.keeper.StoreFault.TheVariants.{Memory, Store as failed}
 use Rattle.pt_desk_rules.specs.State.{State}
@@ -80,6 +80,10 @@ module _ {riders : ℕ} (old new : Connected) (content : State) (f : ℕ) (none 
     | inr nothing ↦ absurd nothing
   ]
 
+  -- an opening that would have found the content still does
+  finds_still : (g : ℕ) → FindsContent (kept_store old content f) → FindsContent (kept_store new content g)
+  finds_still g was_found o found = was_found o (crashes o found)
+
   serves : shut old ≤ shut new
   serves = shut_falls old new rests.survives.clean (λ clean here. (rests.keeps clean).was_open here)
 
@@ -96,7 +100,7 @@ module _ {riders : ℕ} (old new : Connected) (content : State) (f : ℕ) (none 
         told = λ is. absurd (cc);
         stays = λ low up. absurd (omega arith);
         settled = λ _. settles new content g law (step_still g (omega arith));
-        holds = λ clean. record { tells = (told clean x refl, refl); crash = λ o found. inl (crashes o found); durable = tt };
+        holds = λ clean. record { tells = (told clean x refl, refl); crash = λ o found. inl (crashes o found); durable = tt; memory = λ _. finds_still g };
       }
   reads_tables value (Err Memory) g told on_failed on_other =
       let zero : g ≡ 0 = on_other (λ e. absurd (cc)) in
@@ -107,7 +111,7 @@ module _ {riders : ℕ} (old new : Connected) (content : State) (f : ℕ) (none 
         told = λ is. absurd (cc);
         stays = λ low up. absurd (omega arith);
         settled = λ _. settles new content g law (step_still g (omega arith));
-        holds = λ clean. record { tells = refl; crash = λ o found. inl (crashes o found); durable = tt };
+        holds = λ clean. record { tells = refl; crash = λ o found. inl (crashes o found); durable = tt; memory = λ _. finds_still g };
       }
   reads_tables value (Err failed) g told on_failed on_other =
       let one : g ≡ 1 = on_failed refl in
@@ -118,5 +122,5 @@ module _ {riders : ℕ} (old new : Connected) (content : State) (f : ℕ) (none 
         told = λ _. omega arith;
         stays = λ _ _. refl;
         settled = λ _. settles new content g law (step_still g (omega arith));
-        holds = λ clean. record { tells = tt; crash = λ o found. inl (crashes o found); durable = tt };
+        holds = λ clean. record { tells = tt; crash = λ o found. inl (crashes o found); durable = tt; memory = λ _. finds_still g };
       }

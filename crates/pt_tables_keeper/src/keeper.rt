@@ -155,7 +155,7 @@ impl<S: Alter> SqlKeeper<S> {
     /// Returns a value that is known in memory, unless the store has failed.
     fn told<T: Drop>(&self, value: T) -> Result<T, StoreFault>
         ensures reads { Goes (store_of S.Store self.now) (store_of S.Store self.now) value None result }
-        ensures refuses { Refuses (store_of S.Store self.now) result }
+        ensures refuses { Refuses (store_of S.Store self.now) (store_of S.Store self.now) result }
     {
         self.serve()?;
         Ok(value)
@@ -169,7 +169,7 @@ impl<S: Alter> SqlKeeper<S> {
     ) -> Result<Rows<T>, StoreFault>
         requires copies { (x y : T) → T.is_clone x y → y ≡ x }
         ensures reads { Goes (store_of S.Store self.now) (store_of S.Store self.now) records.now.items None result }
-        ensures refuses { Refuses (store_of S.Store self.now) result }
+        ensures refuses { Refuses (store_of S.Store self.now) (store_of S.Store self.now) result }
     {
         self.serve()?;
         Ok(Rows::of(records.as_slice().to_vec(alloc)?))
@@ -178,7 +178,7 @@ impl<S: Alter> SqlKeeper<S> {
     /// The rider with this number, read from the tables.
     fn read_rider(&mut self, id: RiderId) -> Result<Option<Rider>, StoreFault>
         ensures reads { Reads (store_of S.Store self.old) (store_of S.Store self.new) (rider_of id) result }
-        ensures refuses { Refuses (store_of S.Store self.old) result }
+        ensures refuses { Refuses (store_of S.Store self.old) (store_of S.Store self.new) result }
         ensures content { self.new.content ≡ self.old.content }
     {
         self.serve()?;

@@ -2,6 +2,7 @@
 use Rattle.std.proofs.Common.{◌≡◌, ℕ, pos, [], ◌∷◌, not, cond, Ok, refl, ap}
 use Rattle.std.specs.Ordering.{is_eq}
 use Rattle.sqlite.specs.Cast.{cast_row}
+use Rattle.sqlite.specs.Effect.{IsDatabase}
 use Rattle.sqlite.specs.Listing.{understood}
 use Rattle.sqlite.specs.Order.{Row}
 use Rattle.sqlite.specs.State.{State, Executes}
@@ -19,7 +20,7 @@ use Rattle.pt_tables_writing.specs.Writes.{Rewrites}
 use Rattle.pt_tables_writing.specs.declared.numbered.desk.TheConstants.{WRITE_DESK}
 use Rattle.pt_tables_writing.proofs.CastLemmas.{cast_null, cast_int}
 use Rattle.pt_tables_writing.proofs.NumberedWrites.{put_rewrites}
-use Rattle.pt_tables_writing.proofs.UpsertLemmas.{IsUpsert, upserted, only_first}
+use Rattle.pt_tables_writing.proofs.UpsertLemmas.{IsUpsert, upserted, upserted_sound, only_first}
 
 -- the columns after the number
 abbrev pub rest : Policy → ℕ → Row
@@ -65,3 +66,7 @@ writes_desk policy last_trip old new count has h p n =
     put_rewrites desk_table (λ r. refl) (pos 1) (stored policy last_trip) (desk_row policy last_trip) (desk_row p n ∷ []) (desk_row policy last_trip ∷ []) old.now new.now refl refl
     (IsPermutation-same _ _ (ap (λ rows. desk_row policy last_trip ∷ rows) (one_row p n)))
     (upserted WRITE_DESK.now (desk_row policy last_trip) desk_table (pos 1) (stored policy last_trip) (write_text policy last_trip) old new count has h)
+
+pub desk_sound : (policy : Policy) (last_trip : ℕ) (old new : State) (count : ℕ) → old.now.schema ≡ desk_schema → Executes WRITE_DESK.now (desk_row policy last_trip) old new (Ok count) → IsDatabase new.now
+desk_sound policy last_trip old new count has h =
+    upserted_sound WRITE_DESK.now (desk_row policy last_trip) desk_table (pos 1) (stored policy last_trip) (write_text policy last_trip) old new count has h

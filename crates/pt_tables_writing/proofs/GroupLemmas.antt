@@ -6,7 +6,7 @@ use Rattle.std.specs.List.{AllByRecursion, list_all}
 use Rattle.std.proofs.lemmas.Bool.Decides.{nat_tests}
 use Rattle.std.proofs.lemmas.List.Concat.{flat_map_single}
 use Rattle.std.specs.Option.{unwrap_or}
-use Rattle.sqlite.specs.Effect.{Database}
+use Rattle.sqlite.specs.Effect.{Database, IsDatabase}
 use Rattle.sqlite.specs.Order.{Row}
 use Rattle.sqlite.specs.Table.{Table}
 use Rattle.sqlite.specs.Tree.{Trees, IsTable, rowid}
@@ -39,7 +39,7 @@ use Rattle.pt_desk_rules.specs.declared.change.FiledEntry.{FiledEntry}
 use Rattle.pt_desk_rules.specs.declared.kept.Kept.{Kept}
 use Rattle.pt_requests.specs.declared.caller.Caller.{Caller}
 use Rattle.pt_tables_writing.specs.Writes.{Holds, Rewrites}
-use Rattle.pt_tables_writing.specs.Groups.{AgreesFor, KnowsTaken, Leads, Then, WritesFleet, WritesRiders, WritesTrips, with_people, with_area, with_trips, AgreesWith, KnowsEdited, OfEach}
+use Rattle.pt_tables_writing.specs.Groups.{AgreesFor, Ends, KnowsTaken, Leads, Then, WritesFleet, WritesRiders, WritesTrips, with_people, with_area, with_trips, AgreesWith, KnowsEdited, OfEach}
 use Rattle.pt_tables_writing.proofs.StoredLemmas.{Each-take_all}
 use Rattle.pt_tables_writing.specs.Stored.{EditsTable, PutsAll, TakesSpans}
 
@@ -305,9 +305,10 @@ Marks-vehicles change = PutsAll vehicle_chairs_table vehicle_key IsVehicle vehic
 
 -- the agency's row after the change
 abbrev pub Known-settings : Change → State → Database → Database → Type 0
-Known-settings change known =
+Known-settings change known old new =
     OfEach (AgreesFor change known) (λ content old new. (p : Policy) (n : ℕ) →
-    Rewrites desk_table (desk_row p n ∷ []) (desk_row (unwrap_or change.policy content.policy) (unwrap_or change.last_trip content.last_trip) ∷ []) old new)
+    Rewrites desk_table (desk_row p n ∷ []) (desk_row (unwrap_or change.policy content.policy) (unwrap_or change.last_trip content.last_trip) ∷ []) old new) old new
+    × IsDatabase new
 
 -- the tables are there, each with its rows
 pub record Are (s : State) (m : Marks) (db : Database) : Type 0 where
@@ -381,7 +382,7 @@ area_leads change known a e four content agrees told puts stands =
 
 pub trips_lead : (change : Change) (known : State) (plans : List Plan) (a d : Database)
     → Then (Then (OfEach (AgreesFor change known) (WritesTrips change)) (Known-planned change plans)) (Known-settings change known) a d
-    → OfEach (AgreesWith change known plans) (λ content. Leads change content (with_area change (with_people change content))
+    → OfEach (AgreesWith change known plans) (λ content. Ends change content (with_area change (with_people change content))
     (with_trips change (with_area change (with_people change content)))) a d
 trips_lead change known plans a d three content agrees told puts stands =
     let two = three.1 in
@@ -396,5 +397,5 @@ trips_lead change known plans a d three content agrees told puts stands =
     let all_3 = step 9 s2 n two.0 three.0 all_2
     (λ has. two.2 has content.planned agrees.1 (stored-plans change.planned.puts (puts.ranges.parts part.planned) puts.stops) told.planned (stored-plans s.planned (told.ranges.parts part.planned) told.stops)) refl refl refl refl in
     let s3 : State = with_trips change s in
-    let all_4 = step 0 s3 n three.0 d all_3 (λ has. three.2 has content agrees.0 content.policy content.last_trip) refl refl refl refl in
-    stand s3 d all_4
+    let all_4 = step 0 s3 n three.0 d all_3 (λ has. (three.2 has).0 content agrees.0 content.policy content.last_trip) refl refl refl refl in
+    (stand s3 d all_4, (three.2 all_3.schema).1)

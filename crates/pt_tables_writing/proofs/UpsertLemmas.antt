@@ -9,7 +9,7 @@ use Rattle.sqlite.specs.Command.{Command}
 use Rattle.sqlite.specs.Command.TheVariants.{InsertOr}
 use Rattle.sqlite.specs.Does.{Does}
 use Rattle.sqlite.specs.Edit.{edit_of, put_all, without_all, with_rowid, next_rowid, id_in}
-use Rattle.sqlite.specs.Effect.{Database, value_rows}
+use Rattle.sqlite.specs.Effect.{IsDatabase, Database, value_rows}
 use Rattle.sqlite.specs.Listing.{understood}
 use Rattle.sqlite.specs.Order.{Row, column, value_cmp}
 use Rattle.sqlite.specs.Rowids.TheVariants.{Given}
@@ -184,6 +184,12 @@ module _ (text : List ℕ) (params : Row) (table : Table) (id : ℤ) (stored : R
       let w : Writes old new None command (statement_of text (understood desk_schema text)) params count = runs_as text params old new desk_schema has command it.is it.plain count h in
       wrote_one (placed old new params table it.at command w.tally it.there
       (subst (λ s. Does old.step_limit (mode_of old) params (record old.now { schema = s }) (statement_of text (understood desk_schema text)) None command (Ok (w.tally, new.now))) has w.changed))
+
+  -- it leaves a database
+  pub upserted_sound : (count : ℕ) → old.now.schema ≡ desk_schema → Executes text params old new (Ok count) → IsDatabase new.now
+  upserted_sound count has h =
+      let w : Writes old new None command (statement_of text (understood desk_schema text)) params count = runs_as text params old new desk_schema has command it.is it.plain count h in
+      w.sound
 
 -- among these tables the number alone is met
 pub only_first : (b : Bool) → ((b && true) || false) ≡ true → b ≡ true

@@ -5,6 +5,7 @@ use Rattle.sqlite.specs.Tree.{Trees}
 use Rattle.pt_desk_rules.specs.State.{State}
 use Rattle.pt_tables_rows.specs.Opens.{Opens}
 use Rattle.pt_tables_rows.specs.Tables.{HasRows, Stands}
+use Rattle.pt_tables_writing.specs.Least.{IsDeskDatabase}
 
 -- a transaction has led from the rows of `before` to those of `after`, and all is committed
 pub record IsMade (before after : State) (old new : Connected) : Type 0 where
@@ -13,10 +14,11 @@ pub record IsMade (before after : State) (old new : Connected) : Type 0 where
   pub committed : new.committed ≡ new.now
   pub stands : Stands before old.now → Stands after new.now
 
--- the trees have the rows that the transaction leads to
+-- the trees are a desk's database with the rows that the transaction leads to
 pub record LeadsTo (before after : State) (old : Connected) (trees : Trees) : Type 0 where
   pub was_open : IsTrue old.is_open
   pub rows : Stands before old.now → HasRows after trees
+  pub tables : Stands before old.now → IsDeskDatabase trees
 
 -- what an opening after a crash may find
 abbrev pub MayFind : Connected → Option State → Type 0

@@ -2,7 +2,7 @@
 -- of a content, a few tables at a time.
 use Rattle.std.specs.Prelude.{◌≡◌, ◌⊎◌, ℕ, List, None, [], ◌∷◌}
 use Rattle.std.specs.Option.{unwrap_or}
-use Rattle.sqlite.specs.Effect.{Database}
+use Rattle.sqlite.specs.Effect.{Database, IsDatabase}
 use Rattle.pt_desk_rules.specs.State.{State, caller_key, kept_key, place_key, route_key, rider_key, entry_key}
 use Rattle.pt_desk_rules.specs.State.{vehicle_key, travel_key, trip_key}
 use Rattle.pt_desk_rules.specs.declared.change.Change.{Change}
@@ -90,7 +90,12 @@ abbrev pub Leads : Change → State → State → State → Database → Databas
 Leads change content before after old new =
     IsWellFormed content → PutsWellFormed change → Stands before old → Stands after new
 
--- the first change, and then the next
+-- the same of statements whose last one leaves a database
+abbrev pub Ends : Change → State → State → State → Database → Database → Type 0
+Ends change content before after old new =
+    IsWellFormed content → PutsWellFormed change → Stands before old → Stands after new × IsDatabase new
+
+-- the one change, and then the other
 abbrev pub Then : (Database → Database → Type 0) → (Database → Database → Type 0) → Database → Database → Type 0
 Then First Next old new = (mid : Database) × First old mid × (mid.schema ≡ desk_schema → Next mid new)
 

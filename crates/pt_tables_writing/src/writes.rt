@@ -3,7 +3,8 @@ ghost use Rattle.std.specs.Option.{unwrap_or};
 ghost use Rattle.sqlite.specs.Held.{state};
 ghost use Rattle.sqlite.specs.State.{HasCleanDisk, Survives};
 ghost use Rattle.pt_desk_rules.specs.State.{State, applied};
-ghost use Rattle.pt_tables_writing.specs.Groups.{AgreesFor, AgreesWith, OfEach, Leads, with_people, with_area};
+ghost use Rattle.sqlite.specs.Effect.{IsDatabase};
+ghost use Rattle.pt_tables_writing.specs.Groups.{AgreesFor, AgreesWith, Ends, OfEach, Leads, with_people, with_area};
 ghost use Rattle.pt_tables_writing.specs.Groups.{with_trips, WritesRiders, WritesVehicles, WritesFleet, WritesTrips};
 ghost use Rattle.pt_tables_writing.specs.Committing.{IsMade, LeadsTo};
 ghost use Rattle.pt_tables_writing.specs.Least.{IsUndone};
@@ -139,10 +140,10 @@ fn write_settings<S: Alter>(
 ) -> Result<(), Error>
     ensures same_reference { tx.new.conn.ghost_name ≡ tx.old.conn.ghost_name }
     ensures written { Makes (state S.Store tx.old.conn.now) (state S.Store tx.new.conn.now)
-        (OfEach (AgreesFor change.now known.now.content) (λ content old new. (p : _) (n : _) →
+        (λ old new. OfEach (AgreesFor change.now known.now.content) (λ content old new. (p : _) (n : _) →
         Rewrites desk_table (desk_row p n ∷ [])
         (desk_row (unwrap_or change.now.policy content.policy) (unwrap_or change.now.last_trip content.last_trip) ∷ [])
-        old new)) result }
+        old new) old new × IsDatabase new) result }
     ensures open { HasCleanDisk (state S.Store tx.new.conn.now) → IsTrue (state S.Store tx.old.conn.now).in_transaction
         → OnOk result (IsTrue (state S.Store tx.old.conn.now).is_open) }
     ensures survives { Survives (state S.Store tx.old.conn.now) (state S.Store tx.new.conn.now) (λ _. ⊥) }
@@ -178,7 +179,7 @@ fn write_trips<S: Alter>(
     ensures written { Makes (state S.Store tx.old.conn.now) (state S.Store tx.new.conn.now)
         (OfEach (AgreesWith change.now known.now.content plans.now.items) (λ content.
         let before = with_area change.now (with_people change.now content) in
-        Leads change.now content before (with_trips change.now before))) result }
+        Ends change.now content before (with_trips change.now before))) result }
     ensures open { HasCleanDisk (state S.Store tx.new.conn.now) → IsTrue (state S.Store tx.old.conn.now).in_transaction
         → OnOk result (IsTrue (state S.Store tx.old.conn.now).is_open) }
     ensures survives { Survives (state S.Store tx.old.conn.now) (state S.Store tx.new.conn.now) (λ _. ⊥) }
@@ -198,7 +199,7 @@ fn write_tables<S: Alter>(
     ensures same_reference { tx.new.conn.ghost_name ≡ tx.old.conn.ghost_name }
     ensures written { Makes (state S.Store tx.old.conn.now) (state S.Store tx.new.conn.now)
         (OfEach (AgreesWith change.now known.now.content plans.now.items) (λ content.
-        Leads change.now content content (applied change.now content))) result }
+        Ends change.now content content (applied change.now content))) result }
     ensures open { HasCleanDisk (state S.Store tx.new.conn.now) → IsTrue (state S.Store tx.old.conn.now).in_transaction
         → OnOk result (IsTrue (state S.Store tx.old.conn.now).is_open) }
     ensures survives { Survives (state S.Store tx.old.conn.now) (state S.Store tx.new.conn.now) (λ _. ⊥) }

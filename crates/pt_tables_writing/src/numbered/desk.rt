@@ -28,8 +28,8 @@ pub(crate) fn write_desk<S: Alter>(
 ) -> Result<(), Error>
     ensures same_reference { tx.new.conn.ghost_name ≡ tx.old.conn.ghost_name }
     ensures written { Makes (state S.Store tx.old.conn.now) (state S.Store tx.new.conn.now)
-        (λ old new. (p : _) (n : ℕ) → Rewrites desk_table (desk_row p n ∷ [])
-        (desk_row policy.now last_trip ∷ []) old new) result }
+        (λ old new. ((p : _) (n : ℕ) → Rewrites desk_table (desk_row p n ∷ [])
+        (desk_row policy.now last_trip ∷ []) old new) × IsDatabase new) result }
     ensures open { HasCleanDisk (state S.Store tx.new.conn.now)
         → IsTrue (state S.Store tx.old.conn.now).in_transaction
         → OnOk result (IsTrue (state S.Store tx.old.conn.now).is_open) }

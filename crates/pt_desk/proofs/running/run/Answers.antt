@@ -2,6 +2,7 @@ use Rattle.std.proofs.Common.{◌≡◌, ◌≤◌, ◌∷◌, ◌++◌, [], ari
 use Rattle.std.proofs.lemmas.Grind.{common_steps}
 use Rattle.pt_desk.specs.Run.{AreOnlyTold, IsOutcomeOf}
 use Rattle.pt_desk.proofs.AnswerLemmas.{tells_by}
+use Rattle.pt_desk.proofs.CrashLemmas.{lasts_further, lasts_still}
 use Rattle.pt_desk.proofs.RunLemmas.{ended, failure_told, goes_on_at, only_told_at}
 use Rattle.pt_desk.proofs.running.run.Goals as goal
 
@@ -24,6 +25,7 @@ loop-call-preserved g c =
       clean = omega arith;
       serves = omega arith;
       grows = omega arith;
+      lasts = lasts_further (store c.args.keeper.now) before after c.loop-call.invariant.lasts c.answer_call-reply.ensures.lasts;
       settled = λ was. goes.settled (c.loop-call.invariant.settled was);
       sound = λ clean none sound. c.answer_call-reply.ensures.sound clean none (c.loop-call.invariant.sound (omega arith) (omega arith) sound);
       told = λ some. failure_told c.loop-call.replies.items c.push.new.self.items reply before.failures after.failures pushed growing

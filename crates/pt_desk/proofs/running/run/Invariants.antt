@@ -1,6 +1,7 @@
 use Rattle.std.proofs.Common.{◌≡◌, ◌+◌, ◌-◌, ◌<◌, ◌≤◌, ◌++◌, List, Result, drop, length, vec_len, vec_capacity}
 use Rattle.pt_desk_rules.specs.State.{State}
 use Rattle.pt_desk_rules.specs.Sound.{IsSound}
+use Rattle.pt_desk.specs.Crash.{Lasts}
 use Rattle.pt_desk.specs.Run.{AreOnlyTold, GoesOn, TellOfFailure}
 use Rattle.pt_store.specs.Store.{IsSettled}
 use Rattle.pt_store.specs.declared.keeper.StoreFault.{StoreFault}
@@ -17,6 +18,7 @@ invariant-loop-call g l =
       clean : (store l.fn.keeper).doubt ≤ (store l.keeper).doubt;
       serves : (store l.fn.keeper).shut ≤ (store l.keeper).shut;
       grows : (store l.fn.keeper).failures ≤ (store l.keeper).failures;
+      lasts : Lasts (store l.fn.keeper) (store l.keeper);
       settled : IsSettled (store l.fn.keeper) → IsSettled (store l.keeper);
       sound : (store l.keeper).doubt ≡ 0 → (store l.keeper).failures ≡ 0 → IsSound (store l.fn.keeper).content → IsSound (store l.keeper).content;
       only_told : (rest : List (Result Answer StoreFault)) → AreOnlyTold l.calls (l.replies.items ++ rest) → IsSame (store l.fn.keeper) (store l.keeper) × AreOnlyTold (drop l.call-index l.calls) rest;

@@ -1,7 +1,7 @@
 use Rattle.std.proofs.Common.{◌≡◌, refl}
 use Rattle.pt_http.specs.Answering.{CanBeAskedAgain, ExchangesOne}
 use Rattle.pt_http_reply.specs.Reply.{bytes_of}
-use Rattle.pt_http.proofs.AnsweringLemmas.{again_unwritten, exchanged_over, exchanges, exchanges_none, exchanges_unwritten, handed, served_over}
+use Rattle.pt_http.proofs.AnsweringLemmas.{again_unwritten, crash_over, exchanged_over, exchanges, exchanges_none, exchanges_unwritten, handed, served_over}
 use Rattle.pt_http.proofs.exchanging.exchange.Goals as goal
 
 pub returns-in_err-received-clause-exchange : goal.returns-in_err-received-clause-exchange
@@ -46,6 +46,8 @@ returns-in_err-write_reply-clause-exchange g c =
     (bytes_of c.reply_to-response.result.1, c.reply_to-response.ensures.text)
     (served_over old new c.args.now c.in_ok-received.received c.respond-response.result reply
     c.respond-response.ensures.responds c.reply_to-response.ensures.sent)
+    (crash_over remaining c.args.inbox.now c.receive.new.inbox old new c.args.now c.in_ok-received.received
+    c.in_ok-received.ensures.received c.respond-response.ensures.crash)
     c.respond-response.ensures.goes)
 
 pub returns-in_err-write_reply-clause-again : goal.returns-in_err-write_reply-clause-again
@@ -72,4 +74,6 @@ returns-clause-exchange g c =
     (bytes_of c.reply_to-response.result.1, c.reply_to-response.ensures.text, c.in_ok-write_reply.ensures.written)
     (served_over old new c.args.now c.in_ok-received.received c.respond-response.result reply
     c.respond-response.ensures.responds c.reply_to-response.ensures.sent)
+    (crash_over remaining c.args.inbox.now c.receive.new.inbox old new c.args.now c.in_ok-received.received
+    c.in_ok-received.ensures.received c.respond-response.ensures.crash)
     c.respond-response.ensures.goes

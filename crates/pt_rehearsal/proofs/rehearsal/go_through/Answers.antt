@@ -1,6 +1,7 @@
 use Rattle.std.proofs.Common.{◌≡◌, ◌∷◌, [], ◌++◌, Ok, Err, false, refl, sym, ap, ◌∙◌, arith, inl, inr}
 use Rattle.std.proofs.KnownBytes.{Appends-trans}
 use Rattle.std.proofs.lemmas.Result.{err_from_is_err_and}
+use Rattle.pt_http.proofs.AnsweringLemmas.{goes_further, goes_nowhere}
 use Rattle.pt_http.specs.Exchange.{desk_of}
 use Rattle.pt_rehearsal.proofs.NextLemmas.{next_some, next_none, nothing_left}
 use Rattle.pt_http.proofs.ReceivedLemmas.{reads_input, none_left}
@@ -11,9 +12,7 @@ use Rattle.pt_rehearsal.proofs.rehearsal.go_through.Goals as goal
 
 pub loop-init : goal.loop-init
 loop-init g c = record {
-  clean = omega arith;
-  serves = omega arith;
-  settled = λ was. was;
+  goes = goes_nowhere (g.K.Keeper.store c.args.keeper.now);
   stands = λ clean input has. begun g.R.Read.remaining input _ _ c.args.inbox.now has;
 }
 
@@ -87,9 +86,7 @@ pub loop-preserved : goal.loop-preserved
 loop-preserved g c =
     let store = g.K.Keeper.store in
     record {
-      clean = omega (arith, c.loop.invariant.clean, c.exchange.ensures.exchange.goes.clean);
-      serves = omega (arith, c.loop.invariant.serves, c.exchange.ensures.exchange.goes.serves);
-      settled = λ was. c.exchange.ensures.exchange.goes.settled (c.loop.invariant.settled was);
+      goes = goes_further (store c.args.keeper.now) (store c.loop.keeper) (store c.exchange.new.keeper) c.loop.invariant.goes c.exchange.ensures.exchange.goes;
       stands = λ clean input has.
           let was : (store c.loop.keeper).doubt ≡ 0 = omega (arith, clean, c.exchange.ensures.exchange.goes.clean) in
           let st = c.loop.invariant.stands was input has in
@@ -135,8 +132,12 @@ returns-clause-finished g c = λ clean input has.
       omega (arith, st.few, c.loop.auto.counter-end),
     )
 
-pub returns-in_err-response-clause-settled : goal.returns-in_err-response-clause-settled
-returns-in_err-response-clause-settled g c = λ was. c.exchange.ensures.exchange.goes.settled (c.loop.invariant.settled was)
+pub returns-in_err-response-clause-goes : goal.returns-in_err-response-clause-goes
+returns-in_err-response-clause-goes g c =
+    let store = g.K.Keeper.store in
+    goes_further (store c.args.keeper.now) (store c.loop.keeper) (store c.exchange.new.keeper) c.loop.invariant.goes c.exchange.ensures.exchange.goes
 
-pub returns-then-is_last-clause-settled : goal.returns-then-is_last-clause-settled
-returns-then-is_last-clause-settled g c = λ was. c.exchange.ensures.exchange.goes.settled (c.loop.invariant.settled was)
+pub returns-then-is_last-clause-goes : goal.returns-then-is_last-clause-goes
+returns-then-is_last-clause-goes g c =
+    let store = g.K.Keeper.store in
+    goes_further (store c.args.keeper.now) (store c.loop.keeper) (store c.exchange.new.keeper) c.loop.invariant.goes c.exchange.ensures.exchange.goes

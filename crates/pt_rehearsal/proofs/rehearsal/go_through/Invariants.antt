@@ -1,5 +1,6 @@
 use Rattle.std.proofs.Common.{◌≡◌, ◌≤◌, ℕ, List}
-use Rattle.pt_store.specs.Store.{Store, IsSettled}
+use Rattle.pt_store.specs.Store.{Store}
+use Rattle.pt_http.specs.Answering.{GoesOn}
 use Rattle.pt_http.specs.Exchange.{desk_of}
 use Rattle.pt_http.specs.Input.{HasInput}
 use Rattle.pt_rehearsal.proofs.RehearsalLemmas.{StandsAt}
@@ -10,9 +11,7 @@ abbrev pub invariant-loop : goal.invariant-loop
 invariant-loop g l =
     let store = g.K.Keeper.store in
     record {
-      clean : (store l.fn.keeper).doubt ≤ (store l.keeper).doubt;
-      serves : (store l.fn.keeper).shut ≤ (store l.keeper).shut;
-      settled : IsSettled (store l.fn.keeper) → IsSettled (store l.keeper);
+      goes : GoesOn (store l.fn.keeper) (store l.keeper);
       stands : (store l.keeper).doubt ≡ 0 → (input : List ℕ)
           → HasInput g.R.Read.remaining l.fn.inbox input
           → StandsAt g.R.Read.remaining input (desk_of (store l.fn.keeper)) (g.W.Write.contents l.fn.out)

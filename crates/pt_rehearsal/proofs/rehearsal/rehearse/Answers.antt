@@ -1,6 +1,10 @@
 use Rattle.std.proofs.Common.{arith}
+use Rattle.pt_http.proofs.AnsweringLemmas.{goes_nowhere}
 use Rattle.pt_rehearsal.proofs.RehearsalLemmas.{begun, stopped_here, memory_code_no_line}
 use Rattle.pt_rehearsal.proofs.rehearsal.rehearse.Goals as goal
+
+pub returns-in_default-clause-goes : goal.returns-in_default-clause-goes
+returns-in_default-clause-goes g c = goes_nowhere (g.K.Keeper.store c.args.keeper.now)
 
 pub returns-in_default-clause-stopped : goal.returns-in_default-clause-stopped
 returns-in_default-clause-stopped g c = λ clean input has.

@@ -1,44 +1,28 @@
-use Rattle.std.proofs.Common.{arith}
+use Rattle.std.proofs.Common.{◌≡◌, ◌∙◌, Err, sym}
 use Rattle.sqlite.specs.Held.{state}
-use Rattle.sqlite.specs.State.{HasCleanDisk}
 use Rattle.pt_desk_rules.specs.State.{applied}
-use Rattle.pt_tables_keeper.proofs.WritingLemmas.{agrees_over, clean_mid, clean_old, made_then, survives_over}
+use Rattle.pt_tables_asking.specs.declared.asking.Unread.{Unread}
+use Rattle.pt_tables_asking.specs.declared.asking.Unread.TheVariants.{Memory as Wanted}
+use Rattle.pt_tables_writing.specs.Committing.{LeadsTo}
+use Rattle.pt_tables_keeper.proofs.WritingLemmas.{survives_further, undone_further}
 use Rattle.pt_tables_keeper.proofs.writing.write_over.Goals as goal
 
-pub returns-in-Ok-clause-made : goal.returns-in-Ok-clause-made
-returns-in-Ok-clause-made g c content well agrees held clean =
-    let old = state g.S.Store c.args.conn.now in
-    let mid = state g.S.Store c.plans_before.new.conn in
-    let new = state g.S.Store c.write_change.new.conn in
-    let change = c.args.change.now in
-    let rests = c.in_ok-plans.ensures.rests in
-    let always = c.write_change.ensures.always in
-    let plans = c.in_ok-plans.ensures.told (clean_mid old mid new rests always clean) content well (held (clean_old old mid new rests always clean)) in
-    made_then old mid new rests always content (applied change content) c.requires.committed clean
-    (c.in-Ok.ensures.made content well (agrees_over change c.args.known.now.content content c.in_ok-plans.plans.items well c.requires.plans agrees plans) clean)
+pub refused-requires-clause-committed : goal.refused-requires-clause-committed
+refused-requires-clause-committed g c clean here =
+    let undone = c.in-Err.ensures.undone clean in
+    undone.now here ∙ sym (undone.committed here)
 
-pub returns-in-Ok-clause-survives : goal.returns-in-Ok-clause-survives
-returns-in-Ok-clause-survives g c content well agrees held =
-    let old = state g.S.Store c.args.conn.now in
-    let mid = state g.S.Store c.plans_before.new.conn in
-    let new = state g.S.Store c.write_change.new.conn in
-    let change = c.args.change.now in
-    let rests = c.in_ok-plans.ensures.rests in
-    survives_over old mid new rests c.write_change.ensures.always content (applied change content) c.requires.committed
-    (λ early.
-    let was : HasCleanDisk old = omega (arith, early, rests.survives.clean) in
-    c.write_change.ensures.survives content well
-    (agrees_over change c.args.known.now.content content c.in_ok-plans.plans.items well c.requires.plans agrees (c.in_ok-plans.ensures.told early content well (held was))))
+pub returns-in-Err-clause-undone : goal.returns-in-Err-clause-undone
+returns-in-Err-clause-undone g c clean =
+    undone_further (state g.S.Store c.args.conn.now) (state g.S.Store c.write_once.new.conn) (state g.S.Store c.refused.new.conn) c.refused.ensures.rests c.in-Err.ensures.undone clean
 
-pub returns-clause-survives : goal.returns-clause-survives
-returns-clause-survives g c content well agrees held =
+pub returns-in-Err-clause-survives : goal.returns-in-Err-clause-survives
+returns-in-Err-clause-survives g c content well agrees held =
     let old = state g.S.Store c.args.conn.now in
-    let mid = state g.S.Store c.plans_before.new.conn in
-    let new = state g.S.Store c.write_change.new.conn in
-    let change = c.args.change.now in
-    let rests = c.in_ok-plans.ensures.rests in
-    survives_over old mid new rests c.write_change.ensures.always content (applied change content) c.requires.committed
-    (λ early.
-    let was : HasCleanDisk old = omega (arith, early, rests.survives.clean) in
-    c.write_change.ensures.survives content well
-    (agrees_over change c.args.known.now.content content c.in_ok-plans.plans.items well c.requires.plans agrees (c.in_ok-plans.ensures.told early content well (held was))))
+    survives_further old (state g.S.Store c.write_once.new.conn) (state g.S.Store c.refused.new.conn) (LeadsTo content (applied c.args.change.now content) old)
+    (c.write_once.ensures.survives content well agrees held) c.refused.ensures.rests
+
+pub returns-in-Err-clause-open : goal.returns-in-Err-clause-open
+returns-in-Err-clause-open g c clean is =
+    let same : c.refused.result ≡ Wanted = cc in
+    c.refused.ensures.open clean same

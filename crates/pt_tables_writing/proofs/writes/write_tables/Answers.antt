@@ -1,7 +1,7 @@
 use Rattle.std.proofs.Common.{Ok}
 use Rattle.sqlite.specs.Held.{state}
 use Rattle.pt_desk_rules.specs.State.{applied}
-use Rattle.pt_tables_writing.specs.Groups.{AgreesFor, AgreesWith, OfEach, Leads, Then, with_people, with_area, with_trips}
+use Rattle.pt_tables_writing.specs.Groups.{AgreesFor, AgreesWith, Ends, OfEach, Leads, Then, with_people, with_area, with_trips}
 use Rattle.pt_tables_writing.proofs.TurnLemmas.{did_as, did_next, open_then, stayed, stayed_then}
 use Rattle.pt_tables_writing.proofs.writes.write_tables.Goals as goal
 
@@ -16,8 +16,8 @@ returns-clause-written g c =
     let s4 = state g.S.Store c.write_trips.new.tx.conn.now in
     let F = OfEach (AgreesFor change known) (λ content. Leads change content content (with_people change content)) in
     let G = OfEach (AgreesFor change known) (λ content. Leads change content (with_people change content) (with_area change (with_people change content))) in
-    let K = OfEach (AgreesWith change known plans) (λ content. Leads change content (with_area change (with_people change content)) (with_trips change (with_area change (with_people change content)))) in
-    did_as {X = Unit {0}} s1 s4 (Then (Then F G) K) (OfEach (AgreesWith change known plans) (λ content. Leads change content content (applied change content))) c.write_trips.result
+    let K = OfEach (AgreesWith change known plans) (λ content. Ends change content (with_area change (with_people change content)) (with_trips change (with_area change (with_people change content)))) in
+    did_as {X = Unit {0}} s1 s4 (Then (Then F G) K) (OfEach (AgreesWith change known plans) (λ content. Ends change content content (applied change content))) c.write_trips.result
     (λ three there agrees told puts stands.
     let two = three.1 in
     let first = two.1 there agrees.0 told puts stands in

@@ -1,6 +1,6 @@
 use Rattle.std.proofs.Common.{Ok}
 use Rattle.sqlite.specs.Held.{state}
-use Rattle.pt_tables_writing.specs.Groups.{AgreesFor, AgreesWith, OfEach, Leads, Then, WritesTrips, with_people, with_area, with_trips}
+use Rattle.pt_tables_writing.specs.Groups.{AgreesFor, AgreesWith, Ends, OfEach, Then, WritesTrips, with_people, with_area, with_trips}
 use Rattle.pt_tables_writing.proofs.GroupLemmas.{Known-planned, Known-settings, trips_lead}
 use Rattle.pt_tables_writing.proofs.TurnLemmas.{did_as, did_next, open_then, stayed, stayed_then}
 use Rattle.pt_tables_writing.proofs.writes.write_trips.Goals as goal
@@ -18,7 +18,7 @@ returns-clause-written g c =
     let G = Known-planned change plans in
     let K = Known-settings change known in
     did_as {X = Unit {0}} s1 s4 (Then (Then F G) K)
-    (OfEach (AgreesWith change known plans) (λ content. Leads change content (with_area change (with_people change content)) (with_trips change (with_area change (with_people change content)))))
+    (OfEach (AgreesWith change known plans) (λ content. Ends change content (with_area change (with_people change content)) (with_trips change (with_area change (with_people change content)))))
     c.write_settings.result (trips_lead change known plans s1.now s4.now)
     (did_next {X = Unit {0}} {Y = Unit {0}} s1 s3 s4 (Then F G) K tt c.write_settings.result c.write_settings.ensures.survives
     (did_next {X = Unit {0}} {Y = Unit {0}} s1 s2 s3 F G tt (Ok tt) c.in_ok-write_plans.ensures.survives c.in_ok-write_booked.ensures.written c.in_ok-write_plans.ensures.written)

@@ -99,7 +99,8 @@ returns-in-Err g c =
     let undone = commits_not old new content after f none was (c.write_over.ensures.survives content well agrees (was.kept none)) (applied-well_formed change content was.readable may.told)
     (carried_after change content was.readable may was.carried)
     (λ db here left. g.met.S.Store.settled c.write_over.new.conn.store db here left) c.blame.new.failures c.blame.result
-    c.blame.ensures.failed c.blame.ensures.memory c.write_over.ensures.settled c.in-Err.ensures.undone in
+    c.blame.ensures.failed c.blame.ensures.memory c.write_over.ensures.settled c.in-Err.ensures.undone
+    (λ memory clean. c.write_over.ensures.open clean (c.in-Err.is ∙ ap Err (c.blame.ensures.cause.0 memory))) in
     record {
       commits = commits_by g.S.Store c.self.inside.conn f content c.args.self.now change (kept_store new c.reserve.new.self.content c.blame.new.failures) (Err c.blame.result) c.self.view_is
           (subst (λ a. Goes {X = Unit {0}} (kept_store old content f) (kept_store new a c.blame.new.failures) tt (Some after) (Err c.blame.result)) (sym c.reserve.ensures.content) undone);

@@ -1,5 +1,5 @@
 use Rattle.sqlite.specs.Held.{state}
-use Rattle.pt_tables_writing.proofs.DeskWrites.{writes_desk}
+use Rattle.pt_tables_writing.proofs.DeskWrites.{desk_sound, writes_desk}
 use Rattle.pt_tables_writing.proofs.ChangeLemmas.{did_run}
 use Rattle.pt_tables_writing.proofs.numbered.desk.write_desk.Goals as goal
 
@@ -7,7 +7,11 @@ pub returns-clause-written : goal.returns-clause-written
 returns-clause-written g c =
     let old = state g.S.Store c.args.tx.now.conn.now in
     let new = state g.S.Store c.execute.new.self.conn.now in
-    did_run old new c.in_ok-execute.ensures.runs (λ run has. writes_desk c.args.policy.now c.args.last_trip old new c.in_ok-execute.field-0 has (rw (c.params-to_sql.ensures, c.params-to_sql-2.ensures, c.params-to_sql-3.ensures, c.params-to_sql-4.ensures, c.params-to_sql-5.ensures, c.params-to_sql-6.ensures, c.params-to_sql-7.ensures, c.params-to_sql-8.ensures, c.params-to_sql-9.ensures, c.params-to_sql-10.ensures, c.params-to_sql-11.ensures, c.from.ensures, c.from-2.ensures, c.from-3.ensures, c.from-4.ensures, c.from-5.ensures) at run))
+    did_run old new c.in_ok-execute.ensures.runs (λ ran has.
+    let run = rw (c.params-to_sql.ensures, c.params-to_sql-2.ensures, c.params-to_sql-3.ensures, c.params-to_sql-4.ensures, c.params-to_sql-5.ensures, c.params-to_sql-6.ensures, c.params-to_sql-7.ensures, c.params-to_sql-8.ensures, c.params-to_sql-9.ensures, c.params-to_sql-10.ensures, c.params-to_sql-11.ensures, c.from.ensures, c.from-2.ensures, c.from-3.ensures, c.from-4.ensures, c.from-5.ensures) at ran in (
+      writes_desk c.args.policy.now c.args.last_trip old new c.in_ok-execute.field-0 has run,
+      desk_sound c.args.policy.now c.args.last_trip old new c.in_ok-execute.field-0 has run,
+    ))
 
 pub returns-clause-open : goal.returns-clause-open
 returns-clause-open g c clean inside = let ran = c.in_ok-execute.ensures.runs clean inside in ran.1.was_open
