@@ -49,7 +49,7 @@ goes_on Shows Fails zone before now_left after sent failed more next old now new
     let counted_failures = has.3 in
     let pushed = sum_by_push (λ turn. count_of (has_failed turn)) has.1 serves.0 in
     let last : count_of (has_failed serves.0) ≡ count_of (is_some next) =
-        ap (λ (it : Option Fault). count_of (is_some it)) serves.1 in (
+    ap (λ (it : Option Fault). count_of (is_some it)) serves.1 in (
       has.0 ++ sent ∷ [],
       has.1 ++ serves.0 ∷ [],
       has.2 ∙ ap (λ (it : List (Option (List ℕ))). has.0 ++ it) one ∙ append_one has.0 sent after,

@@ -1,12 +1,12 @@
 -- What comes of one connection.
-use Rattle.std.proofs.Common.{◌≡◌, ◌⊎◌, ◌∙◌, ℕ, ℤ, List, [], ◌∷◌, ◌++◌, Option, Some, None, Ok, Err, ap, inl, inr, refl, subst, sym}
+use Rattle.std.proofs.Common.{◌≡◌, ◌⊎◌, ◌∙◌, ℕ, ℤ, List, [], Option, Some, None, Ok, Err, ap, inl, inr, refl, subst, sym}
 use Rattle.std.specs.Io.KnownBytes.{Appends}
 use Rattle.pt_base.specs.Codes.{read_failed, write_failed}
 use Rattle.pt_base.specs.Fault.{fault}
 use Rattle.pt_base.specs.declared.fault.Fault.{Fault}
 use Rattle.pt_base.specs.declared.moment.Moment.{Moment}
 use Rattle.pt_store.specs.Store.{Store}
-use Rattle.pt_http.specs.Exchange.{Desk, IsUnanswered, IsWritten, desk_of}
+use Rattle.pt_http.specs.Exchange.{IsUnanswered, IsWritten, desk_of}
 use Rattle.pt_http_reply.specs.Response.{IsReplyText}
 use Rattle.pt_http_reply.specs.declared.response.Response.{Response}
 use Rattle.pt_serve.specs.Connection.{Adds, AnswersFrom, nothing_of}
@@ -27,9 +27,9 @@ gets_reply (Some input) one got_old got_new None new first written adds = tt
 gets_reply (Some input) one got_old got_new (Some before) None first written adds = tt
 gets_reply (Some input) one got_old got_new (Some before) (Some after) first written adds =
     let last : Appends got_old (Some adds.0) written.0 =
-        subst (λ (it : Option (List ℕ)). Appends got_old it written.0) adds.1 written.2 in
+    subst (λ (it : Option (List ℕ)). Appends got_old it written.0) adds.1 written.2 in
     let whole : Appends (Some []) (Some adds.0) written.0 =
-        subst (λ (it : Option (List ℕ)). Appends it (Some adds.0) written.0) first last in
+    subst (λ (it : Option (List ℕ)). Appends it (Some adds.0) written.0) first last in
     (adds.0, subst (λ (text : List ℕ). IsReplyText one.reply text) (sym whole) written.1, adds.2)
 
 -- one whose reply was not wholly written got something

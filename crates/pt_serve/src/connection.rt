@@ -119,7 +119,15 @@ impl<C: Clock> Answering for InTime<'_, C> {
         reader: R,
         out: W,
     ) -> (W, Result<(), Fault>) {
-        answer_in_time(self.clock, self.alloc, self.router, keeper, self.now, reader, out)
+        answer_in_time(
+            self.clock,
+            self.alloc,
+            self.router,
+            keeper,
+            self.now,
+            reader,
+            out,
+        )
     }
 }
 

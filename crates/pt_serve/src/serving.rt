@@ -49,11 +49,7 @@ pub fn moment_at<C: Clock>(clock: &C, zone: &str) -> Result<Moment, Fault>
 }
 
 /// The day and the minute that clocks of a zone show while a connection is open. The errors are those of `moment_at`.
-fn moment_on<C: Clock, S: Connection>(
-    clock: &C,
-    zone: &str,
-    stream: &S,
-) -> Result<Moment, Fault>
+fn moment_on<C: Clock, S: Connection>(clock: &C, zone: &str, stream: &S) -> Result<Moment, Fault>
     ensures moment { IfOk result (IsMomentAt (S.shows (S.sends stream.now)) zone.now) }
     ensures zone { (result ≡ Err (fault no_such_zone)) ↔ ¬ (IsZoneRule zone.now) }
     ensures fault { IfErr result EndsServing }

@@ -1,4 +1,4 @@
-use Rattle.std.proofs.Common.{◌≡◌, ◌∙◌, ◌+◌, ◌^◌, ◌<◌, ℕ, List, [], ◌∷◌, Option, ap, arith, inl, inr, is_some, length, refl, subst, suc, sym}
+use Rattle.std.proofs.Common.{◌≡◌, ◌∙◌, ◌+◌, ℕ, List, [], ◌∷◌, Option, ap, arith, inl, inr, is_some, length, refl, subst, suc, sym}
 use Rattle.pt_base.specs.declared.fault.Fault.{Fault}
 use Rattle.pt_http.proofs.AnsweringLemmas.{goes_further, goes_nowhere}
 use Rattle.pt_serve.proofs.ServingLemmas.{broken_off, count_of, fits_still, goes_on_clean, has_served_all, same_progress, so_of_error}
@@ -19,7 +19,7 @@ overflow_add-failed g c =
     let comes = g.A.Accepts.comes in
     let next = c.in-Some.ensures.next in
     let fits = fits_still (length (comes c.loop-connection.port)) (length (comes c.args.port.now)) before.fits
-        c.in-Some.ensures.fits in
+    c.in-Some.ensures.fits in
     let more : length (comes c.loop-connection.port) ≡ suc (length (comes c.accept.new.self)) = ap length next.1 in
     omega (arith, before.few, fits, more)
 
@@ -35,7 +35,7 @@ loop-connection-preserved-in-Some-2 g c =
     let next : Option Fault = c.in_ok-code.field-0 in
     let counts : count_of (is_some next) ≡ 1 = ap (λ (o : Option Fault). count_of (is_some o)) c.in-Some-2.is in
     let one : comes c.loop-connection.port ≡ taken.0 ∷ comes c.serve_next.new.port =
-        taken.1 ∙ ap (λ (it : List _). taken.0 ∷ it) (sym c.serve_next.ensures.others) in
+    taken.1 ∙ ap (λ (it : List _). taken.0 ∷ it) (sym c.serve_next.ensures.others) in
     let more : length (comes c.loop-connection.port) ≡ suc (length (comes c.serve_next.new.port)) = ap length one in
     record {
       goes = goes_further (store c.args.keeper.now) (store c.loop-connection.keeper) (store c.serve_next.new.keeper)
@@ -66,7 +66,7 @@ loop-connection-preserved g c =
     let next : Option Fault = c.in_ok-code.field-0 in
     let counts : count_of (is_some next) ≡ 0 = ap (λ (o : Option Fault). count_of (is_some o)) c.in_default-2.is in
     let one : comes c.loop-connection.port ≡ taken.0 ∷ comes c.serve_next.new.port =
-        taken.1 ∙ ap (λ (it : List _). taken.0 ∷ it) (sym c.serve_next.ensures.others) in
+    taken.1 ∙ ap (λ (it : List _). taken.0 ∷ it) (sym c.serve_next.ensures.others) in
     let more : length (comes c.loop-connection.port) ≡ suc (length (comes c.serve_next.new.port)) = ap length one in
     record {
       goes = goes_further (store c.args.keeper.now) (store c.loop-connection.keeper) (store c.serve_next.new.keeper)
@@ -100,17 +100,17 @@ returns-in_err-code-clause-broken_off g c = λ clean.
     let taken = c.in-Some.ensures.next in
     let same = c.in_err-code.ensures.ended in
     let one : comes c.loop-connection.port ≡ taken.0 ∷ comes c.serve_next.new.port =
-        taken.1 ∙ ap (λ (it : List _). taken.0 ∷ it) (sym c.serve_next.ensures.others) in
+    taken.1 ∙ ap (λ (it : List _). taken.0 ∷ it) (sym c.serve_next.ensures.others) in
     let was_clean : (store c.loop-connection.keeper).doubt ≡ 0 =
-        ap (λ keeper. (store keeper).doubt) (sym same.0) ∙ clean in
+    ap (λ keeper. (store keeper).doubt) (sym same.0) ∙ clean in
     let still = same_progress (store c.loop-connection.keeper) (store c.serve_next.new.keeper)
-        (replied c.loop-connection.port) (replied c.serve_next.new.port) (ap store same.0)
-        (ap replied same.1 ∙ c.in-Some.ensures.kept refl) in
+    (replied c.loop-connection.port) (replied c.serve_next.new.port) (ap store same.0)
+    (ap replied same.1 ∙ c.in-Some.ensures.kept refl) in
     let old = progress_of (store c.args.keeper.now) (replied c.args.port.now) in
     let has = broken_off shows fails c.args.zone.now (comes c.args.port.now) (comes c.loop-connection.port)
-        (comes c.serve_next.new.port) taken.0 c.loop-connection.failed old
-        (progress_of (store c.loop-connection.keeper) (replied c.loop-connection.port))
-        (c.loop-connection.invariant.served was_clean) one in
+    (comes c.serve_next.new.port) taken.0 c.loop-connection.failed old
+    (progress_of (store c.loop-connection.keeper) (replied c.loop-connection.port))
+    (c.loop-connection.invariant.served was_clean) one in
     so_of_error c.from_residual.result _ (
       has.0,
       has.1,
