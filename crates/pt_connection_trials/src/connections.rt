@@ -268,7 +268,7 @@ fn a_client_that_goes_on_sending_is_read_from_for_a_while(rt: HostRuntime) {
 fn served<R: Abort + Clock>(
     rt: &R,
     alloc: Global,
-    stream: &TcpStream,
+    stream: &mut TcpStream,
 ) -> (Result<(), Fault>, bool) {
     let mut keeper = ListKeeper::new(alloc, b"abc").expect(rt, "memory");
     let router = desk_router(alloc).expect(rt, "memory");
@@ -282,8 +282,8 @@ fn a_client_gets_the_whole_reply(rt: HostRuntime) -> Result<(), Fail> {
     let listener = TcpListener::bind(&rt, (Ipv4Addr::LOCALHOST, 0))?;
     let mut client = TcpStream::connect(&rt, listener.local_addr()?)?;
     client.write_all(PUT_CLERK.as_bytes())?;
-    let (stream, _peer) = listener.accept()?;
-    let (told, is_put) = served(&rt, rt.alloc(), &stream);
+    let (mut stream, _peer) = listener.accept()?;
+    let (told, is_put) = served(&rt, rt.alloc(), &mut stream);
     drop(stream);
     let mut reply = Vec::new(rt.alloc());
     client.read_to_end(&mut reply)?;

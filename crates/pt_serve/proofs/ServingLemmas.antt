@@ -1,74 +1,113 @@
 -- Connections one after another.
-use Rattle.std.proofs.Common.{◌≡◌, ◌⊎◌, ◌+◌, ◌≤◌, ℕ, Bool, cond, List, [], ◌∷◌, ◌++◌, Option, Some, is_some, ap, arith, inl, inr, length, length-append, refl, subst}
+use Rattle.std.proofs.Common.{◌≡◌, ◌⊎◌, ◌∙◌, ◌+◌, ◌^◌, ◌<◌, ◌≤◌, ℕ, ℤ, Bool, cond, List, [], ◌∷◌, ◌++◌, Option, Result, Ok, Err, OnErr, is_some, ap, arith, inl, inr, refl, subst, sym}
 use Rattle.std.proofs.lemmas.List.Sums.{sum_by_push}
-use Rattle.pt_base.specs.Codes.{write_failed}
-use Rattle.pt_base.specs.Fault.{fault}
 use Rattle.pt_base.specs.declared.fault.Fault.{Fault}
-use Rattle.pt_base.specs.declared.moment.Moment.{Moment}
 use Rattle.pt_store.specs.Store.{Store}
-use Rattle.pt_http.specs.Exchange.{Desk, IsUnanswered, Serves, desk_of}
-use Rattle.pt_http_reply.specs.declared.response.Response.{Response}
-use Rattle.pt_serve.specs.Serving.{IsMomentIn, ServesATurn, ServesInTurn, ServesOn, ServesOne, Turn, unheard, unanswered, failures_in, has_failed}
+use Rattle.pt_serve.specs.Serving.{Progress, ServesATurn, ServesInTurn, ServesOn, Turn, failures_in, has_failed, progress_of}
 
 -- one connection more
-pub one_more : (zone : List ℕ) (turns : List Turn) (turn : Turn) (old now new : Desk) → ServesInTurn zone turns old now
-    → ServesOn zone turn now new → ServesInTurn zone (turns ++ turn ∷ []) old new
-one_more zone [] turn old now new same serves =
-    (new, subst (λ (desk : Desk). ServesOn zone turn desk new) same serves, refl)
-one_more zone (first ∷ later) turn old now new goes serves =
-    (goes.0, goes.1, one_more zone later turn goes.0 now new goes.2 serves)
+pub one_more : (Shows : Option (List ℕ) → ℤ → Type 0) (Fails : Option (List ℕ) → Type 0) (zone : List ℕ)
+    (sents : List (Option (List ℕ))) (turns : List Turn) (sent : Option (List ℕ)) (turn : Turn)
+    (old now new : Progress) → ServesInTurn Shows Fails zone sents turns old now
+    → ServesOn Shows Fails zone sent turn now new
+    → ServesInTurn Shows Fails zone (sents ++ sent ∷ []) (turns ++ turn ∷ []) old new
+one_more Shows Fails zone [] [] sent turn old now new same serves =
+    (new, subst (λ (at : Progress). ServesOn Shows Fails zone sent turn at new) same serves, refl)
+one_more Shows Fails zone (one ∷ more) (first ∷ later) sent turn old now new goes serves =
+    (goes.0, goes.1, one_more Shows Fails zone more later sent turn goes.0 now new goes.2 serves)
+one_more Shows Fails zone [] (first ∷ later) sent turn old now new goes serves = absurd goes
+one_more Shows Fails zone (one ∷ more) [] sent turn old now new goes serves = absurd goes
+
+append_one : {T : Type 0} (before : List T) (one : T) (after : List T)
+    → before ++ one ∷ after ≡ (before ++ one ∷ []) ++ after
+append_one [] one after = refl
+append_one (first ∷ before) one after = ap (λ (it : List _). first ∷ it) (append_one before one after)
+
+append_none : {T : Type 0} (list : List T) → list ++ [] ≡ list
+append_none [] = refl
+append_none (first ∷ list) = ap (λ (it : List _). first ∷ it) (append_none list)
 
 -- what a connection adds to those that failed
 abbrev pub count_of : Bool → ℕ
 count_of failed = cond failed 1 0
 
--- what came of the connections from this number that were left to that, so many of which failed
-abbrev pub HasServed : List ℕ → ℕ → ℕ → ℕ → Desk → Desk → Type 0
-HasServed zone before after failed old new =
-    (turns : List Turn) × (length turns + after ≡ before) × (failures_in turns ≡ failed)
-    × ServesInTurn zone turns old new
+-- what came of the connections before those that are still to come, so many of which failed
+abbrev pub HasServed : (Option (List ℕ) → ℤ → Type 0) → (Option (List ℕ) → Type 0) → List ℕ
+    → List (Option (List ℕ)) → List (Option (List ℕ)) → ℕ → Progress → Progress
+    → Type 0
+HasServed Shows Fails zone before after failed old new =
+    (sents : List (Option (List ℕ))) × (turns : List Turn) × (before ≡ sents ++ after)
+    × (failures_in turns ≡ failed) × ServesInTurn Shows Fails zone sents turns old new
 
 -- and of the next
-pub goes_on : (zone : List ℕ) (before now_left after failed more : ℕ) (next : Option Fault) (old now new : Desk)
-    → HasServed zone before now_left failed old now → after + 1 ≡ now_left → failed + count_of (is_some next) ≡ more
-    → ServesATurn zone next now new → HasServed zone before after more old new
-goes_on zone before now_left after failed more next old now new has one counts serves =
-    let counted = has.1 in
-    let counted_failures = has.2 in
-    let pushed = sum_by_push (λ turn. count_of (has_failed turn)) has.0 serves.0 in
-    let last : count_of (has_failed serves.0) ≡ count_of (is_some next) = ap count_of serves.1 in (
-      has.0 ++ serves.0 ∷ [],
-      omega (arith, length-append has.0 (serves.0 ∷ [])),
+pub goes_on : (Shows : Option (List ℕ) → ℤ → Type 0) (Fails : Option (List ℕ) → Type 0) (zone : List ℕ)
+    (before now_left after : List (Option (List ℕ))) (sent : Option (List ℕ)) (failed more : ℕ) (next : Option Fault)
+    (old now new : Progress) → HasServed Shows Fails zone before now_left failed old now → now_left ≡ sent ∷ after
+    → failed + count_of (is_some next) ≡ more → ServesATurn Shows Fails zone sent next now new
+    → HasServed Shows Fails zone before after more old new
+goes_on Shows Fails zone before now_left after sent failed more next old now new has one counts serves =
+    let counted_failures = has.3 in
+    let pushed = sum_by_push (λ turn. count_of (has_failed turn)) has.1 serves.0 in
+    let last : count_of (has_failed serves.0) ≡ count_of (is_some next) =
+    ap (λ (it : Option Fault). count_of (is_some it)) serves.1 in (
+      has.0 ++ sent ∷ [],
+      has.1 ++ serves.0 ∷ [],
+      has.2 ∙ ap (λ (it : List (Option (List ℕ))). has.0 ++ it) one ∙ append_one has.0 sent after,
       omega (arith, pushed, last, counts, counted_failures),
-      one_more zone has.0 serves.0 old now new has.3 serves.2,
+      one_more Shows Fails zone has.0 has.1 sent serves.0 old now new has.4 serves.2,
     )
 
 -- the same of a store that is clean in the end
-pub goes_on_clean : (zone : List ℕ) (before now_left after failed more : ℕ) (next : Option Fault) (old now new : Store)
-    → (now.doubt ≡ 0 → HasServed zone before now_left failed (desk_of old) (desk_of now))
-    → now.doubt ≤ new.doubt → after + 1 ≡ now_left → failed + count_of (is_some next) ≡ more
-    → (new.doubt ≡ 0 → ServesATurn zone next (desk_of now) (desk_of new))
-    → new.doubt ≡ 0 → HasServed zone before after more (desk_of old) (desk_of new)
-goes_on_clean zone before now_left after failed more next old now new has stays one counts serves clean =
+pub goes_on_clean : (Shows : Option (List ℕ) → ℤ → Type 0) (Fails : Option (List ℕ) → Type 0) (zone : List ℕ)
+    (before now_left after : List (Option (List ℕ))) (sent : Option (List ℕ)) (failed more : ℕ) (next : Option Fault)
+    (old now new : Store) (replied_old replied_now replied_new : Option (List (List ℕ)))
+    → (now.doubt ≡ 0 → HasServed Shows Fails zone before now_left failed (progress_of old replied_old)
+    (progress_of now replied_now))
+    → now.doubt ≤ new.doubt → now_left ≡ sent ∷ after → failed + count_of (is_some next) ≡ more
+    → (new.doubt ≡ 0 → ServesATurn Shows Fails zone sent next (progress_of now replied_now)
+    (progress_of new replied_new))
+    → new.doubt ≡ 0
+    → HasServed Shows Fails zone before after more (progress_of old replied_old) (progress_of new replied_new)
+goes_on_clean Shows Fails zone before now_left after sent failed more next old now new replied_old replied_now
+    replied_new has stays one counts serves clean =
     let was_clean : now.doubt ≡ 0 = omega arith in
-    goes_on zone before now_left after failed more next (desk_of old) (desk_of now) (desk_of new)
-    (has was_clean) one counts (serves clean)
+    goes_on Shows Fails zone before now_left after sent failed more next (progress_of old replied_old)
+    (progress_of now replied_now) (progress_of new replied_new) (has was_clean) one counts (serves clean)
 
--- a reply at a moment of the zone is one that was served
-pub served_at : (zone : List ℕ) (now : Moment) (old new : Desk) → IsMomentIn zone now
-    → (reply : Response) × Serves now old new reply → ServesOne zone old new
-served_at zone now old new moment answered = (
-  record { now = now; reply = answered.0 },
-  record { moment = moment; answered = answered.1 },
-)
+-- none is still to come
+pub has_served_all : (Shows : Option (List ℕ) → ℤ → Type 0) (Fails : Option (List ℕ) → Type 0) (zone : List ℕ)
+    (before after : List (Option (List ℕ))) (failed : ℕ) (old new : Progress)
+    → HasServed Shows Fails zone before after failed old new → after ≡ []
+    → (turns : List Turn) × (failures_in turns ≡ failed) × ServesInTurn Shows Fails zone before turns old new
+has_served_all Shows Fails zone before after failed old new has none =
+    let all : before ≡ has.0 = has.2 ∙ ap (λ (it : List (Option (List ℕ))). has.0 ++ it) none ∙ append_none has.0 in (
+      has.1,
+      has.3,
+      subst (λ (it : List (Option (List ℕ))). ServesInTurn Shows Fails zone it has.1 old new) (sym all) has.4,
+    )
 
--- of a connection that failed the request is answered, or nothing is changed
-pub failed_turn : (zone : List ℕ) (now : Moment) (old new : Desk) (error : Fault)
-    → IsMomentIn zone now → (IsUnanswered error → new ≡ old)
-    → (error ≡ fault write_failed → (reply : Response) × Serves now old new reply)
-    → IsUnanswered error ⊎ (error ≡ fault write_failed) → ServesATurn zone (Some error) old new
-failed_turn zone now old new error moment kept answered (inl nothing) =
-    (unanswered, refl, kept nothing)
-failed_turn zone now old new error moment kept answered (inr failed) =
-    let served = served_at zone now old new moment (answered failed) in
-    (unheard served.0, refl, served.1)
+-- the next ends the serving
+pub broken_off : (Shows : Option (List ℕ) → ℤ → Type 0) (Fails : Option (List ℕ) → Type 0) (zone : List ℕ)
+    (before now_left after : List (Option (List ℕ))) (sent : Option (List ℕ)) (failed : ℕ) (old new : Progress)
+    → HasServed Shows Fails zone before now_left failed old new → now_left ≡ sent ∷ after
+    → (sents : List (Option (List ℕ))) × (sent : Option (List ℕ)) × (turns : List Turn)
+    × (before ≡ sents ++ sent ∷ after) × ServesInTurn Shows Fails zone sents turns old new
+broken_off Shows Fails zone before now_left after sent failed old new has one =
+    (has.0, sent, has.1, has.2 ∙ ap (λ (it : List (Option (List ℕ))). has.0 ++ it) one, has.4)
+
+-- so many are to come as at the beginning, or those fit, and so the latter do
+pub fits_still : (now fn : ℕ) → (now ≡ fn) ⊎ (fn < 2 ^ 32) → now < 2 ^ 32 → fn < 2 ^ 32
+fits_still now fn (inl same) fits = omega (arith, same, fits)
+fits_still now fn (inr fits) now_fits = fits
+
+-- a desk and clients of which nothing has come
+pub same_progress : (old new : Store) (replied_old replied_new : Option (List (List ℕ))) → new ≡ old
+    → replied_new ≡ replied_old → progress_of old replied_old ≡ progress_of new replied_new
+same_progress old new replied_old replied_new store replied =
+    ap (λ (it : Store). progress_of it replied_old) (sym store)
+    ∙ ap (λ (it : Option (List (List ℕ))). progress_of new it) (sym replied)
+
+-- what is so is so of an error
+pub so_of_error : {T E : Type 0} (result : Result T E) (Fact : Type 0) → Fact → OnErr result Fact
+so_of_error (Ok value) Fact so = tt
+so_of_error (Err error) Fact so = so

@@ -1,5 +1,5 @@
 -- How a request is answered that comes on a connection of its own.
-use Rattle.std.specs.Prelude.{◌≡◌, ℕ, List, Option, Some, Result}
+use Rattle.std.specs.Prelude.{◌≡◌, ℕ, List, [], ◌∷◌, ◌++◌, Option, Some, None, Result, MatchResult, option_map, ⊤}
 use Rattle.pt_base.specs.declared.fault.Fault.{Fault}
 use Rattle.pt_base.specs.declared.moment.Moment.{Moment}
 use Rattle.pt_store.specs.Store.{Store}
@@ -18,3 +18,28 @@ abbrev pub AnswersFrom : {T : Type 0} → Option (List ℕ) → Store → Store 
     → Type 0
 AnswersFrom given old new now out_old out_new Same result =
     AnswersOne (λ input. given ≡ Some input) (IsAnsweredFrom old new now) old new now out_old out_new Same result
+
+-- nothing yet, known where this is
+abbrev pub nothing_of : Option (List ℕ) → Option (List ℕ)
+nothing_of sent = option_map (λ _. []) sent
+
+-- Of a connection that comes this is known of what its client sends. As much is known of what is written to it, and that
+-- is nothing yet. Where it is known, the connection is accepted.
+abbrev pub IsComing : {S E : Type 0} → (S → Option (List ℕ)) → (S → Option (List ℕ)) → (Option (List ℕ) → Type 0)
+    → Option (List ℕ) → Result S E
+    → Type 0
+IsComing sends got Fails sent connection =
+    MatchResult connection (λ stream. (sends stream ≡ sent) × (got stream ≡ nothing_of sent))
+    (λ _. (sent ≡ None) × Fails sent)
+
+-- a connection comes, which was the first of those to come
+abbrev pub IsNext : {S E : Type 0} → (S → Option (List ℕ)) → (S → Option (List ℕ)) → (Option (List ℕ) → Type 0)
+    → List (Option (List ℕ)) → List (Option (List ℕ)) → Result S E
+    → Type 0
+IsNext sends got Fails old new connection =
+    (sent : Option (List ℕ)) × (old ≡ sent ∷ new) × IsComing sends got Fails sent connection
+
+-- what clients have got, and then what this one has, where that is known
+abbrev pub Adds : Option (List (List ℕ)) → Option (List ℕ) → Option (List (List ℕ)) → Type 0
+Adds (Some before) got (Some after) = (text : List ℕ) × (got ≡ Some text) × (after ≡ before ++ text ∷ [])
+Adds _ _ _ = ⊤

@@ -1,11 +1,26 @@
 -- What a clause sees of a port.
-use Rattle.std.specs.Prelude.{ℕ}
+use Rattle.std.specs.Prelude.{◌≡◌, ℕ, List, [], ◌∷◌, Option, None, replicate}
+use Rattle.std.specs.Net.Addr.{ipv4_octets}
+use Rattle.std.specs.Net.Socket.{socket_ip, socket_port}
+use Rattle.std.specs.declared.net.ip_addr.IpAddr.TheVariants.{V4}
+use Rattle.std.specs.declared.net.ipv4_addr.Ipv4Addr.{Ipv4Addr}
+use Rattle.std.specs.declared.net.socket_addr.SocketAddr.{SocketAddr}
 use Rattle.pt_serve.specs.declared.listening.Port.{Port}
 
 -- the connections that it is still open to
 abbrev pub left_of : Port → ℕ
 left_of port = port.left
 
+-- the address 127.0.0.1 with this port
+abbrev pub IsOwnAddress : ℕ → SocketAddr → Type 0
+IsOwnAddress number address =
+    (ip : Ipv4Addr) × (socket_ip address ≡ V4 ip) × (ipv4_octets ip ≡ 127 ∷ 0 ∷ 0 ∷ 1 ∷ [])
+    × (socket_port address ≡ number)
+
 -- a port that cannot be had
 abbrev pub port_refused : ℕ
 port_refused = 6
+
+-- and of none of them is it known what its client sends
+abbrev pub comes_to : Port → List (Option (List ℕ))
+comes_to port = replicate (left_of port) None

@@ -1,13 +1,15 @@
 -- What a desk has served on connections one after another.
-use Rattle.std.specs.Prelude.{◌≡◌, ◌⊎◌, ℕ, Bool, true, false, List, [], ◌∷◌, ℤ, pos, Option, is_some}
+use Rattle.std.specs.Prelude.{◌≡◌, ◌⊎◌, ℕ, Bool, List, [], ◌∷◌, ◌++◌, ℤ, pos, Option, Some, None, is_some, ⊤}
 use Rattle.std.specs.List.{count_by}
-use Rattle.pt_base.specs.Codes.{memory_refused, date_out_of_range}
+use Rattle.pt_base.specs.Codes.{memory_refused, date_out_of_range, read_failed, write_failed}
 use Rattle.pt_base.specs.Fault.{fault}
 use Rattle.pt_base.specs.declared.fault.Fault.{Fault}
 use Rattle.pt_base.specs.declared.moment.Moment.{Moment}
 use Rattle.pt_clock.specs.Codes.{no_such_zone}
 use Rattle.pt_clock.specs.LocalTime.{IsLocalTime}
-use Rattle.pt_http.specs.Exchange.{Desk, Serves}
+use Rattle.pt_store.specs.Store.{Store}
+use Rattle.pt_http.specs.Exchange.{Desk, Exchanges, Serves, desk_of}
+use Rattle.pt_http_reply.specs.Response.{IsReplyText}
 use Rattle.pt_http_reply.specs.declared.response.Response.{Response}
 
 -- a request that was served: the moment at which it was, and the reply
@@ -15,18 +17,32 @@ pub record Served : Type 0 where
   pub now : Moment
   pub reply : Response
 
+-- what stands between two connections: the desk, and what the clients so far have got, where that is known
+pub record Progress : Type 0 where
+  pub desk : Desk
+  pub replied : Option (List (List ℕ))
+
+abbrev pub progress_of : Store → Option (List (List ℕ)) → Progress
+progress_of store replied = record { desk = desk_of store; replied = replied }
+
 -- clocks of the zone show this moment at some instant
 abbrev pub IsMomentIn : List ℕ → Moment → Type 0
 IsMomentIn zone now = (instant : ℤ) × IsLocalTime zone instant (pos now.day) now.minute
 
--- at a moment in the zone the desk serves this
-pub record IsServed (zone : List ℕ) (one : Served) (old new : Desk) : Type 0 where
-  pub moment : IsMomentIn zone one.now
-  pub answered : Serves one.now old new one.reply
+-- and a clock showed that instant
+abbrev pub IsMomentAt : (ℤ → Type 0) → List ℕ → Moment → Type 0
+IsMomentAt Shows zone now = (instant : ℤ) × Shows instant × IsLocalTime zone instant (pos now.day) now.minute
 
--- and this is some request
-abbrev pub ServesOne : List ℕ → Desk → Desk → Type 0
-ServesOne zone old new = (one : Served) × IsServed zone one old new
+-- the reply is the desk's to what begins the bytes that a client sends, and where those are not known, to some message
+abbrev pub AnswersSent : Option (List ℕ) → Moment → Desk → Desk → Response → Type 0
+AnswersSent (Some input) now old new reply = (rest : List ℕ) × Exchanges now input old new reply rest
+AnswersSent None now old new reply = Serves now old new reply
+
+-- at a moment in the zone, of an instant that a clock showed on the connection, the desk serves this
+pub record IsServed (Shows : ℤ → Type 0) (zone : List ℕ) (sent : Option (List ℕ)) (one : Served) (old new : Desk)
+    : Type 0 where
+  pub moment : IsMomentAt Shows zone one.now
+  pub answered : AnswersSent sent one.now old new one.reply
 
 -- what comes of a connection: its request is answered and the whole reply written, or answered though the reply is not
 -- wholly written, or no request of it is answered
@@ -35,30 +51,60 @@ pub data Turn : Type 0 where
   unheard : Served → Turn
   unanswered : Turn
 
+-- how a connection failed, if it did
+abbrev pub failure_of : Turn → Option Fault
+failure_of (heard one) = None
+failure_of (unheard one) = Some (fault write_failed)
+failure_of unanswered = Some (fault read_failed)
+
 -- a connection failed whose reply was not wholly written
 abbrev pub has_failed : Turn → Bool
-has_failed (heard one) = false
-has_failed (unheard one) = true
-has_failed unanswered = true
+has_failed turn = is_some (failure_of turn)
 
 abbrev pub failures_in : List Turn → ℕ
 failures_in turns = count_by has_failed turns
 
--- on one connection the desk serves this; where no request is answered, nothing is changed
-abbrev pub ServesOn : List ℕ → Turn → Desk → Desk → Type 0
-ServesOn zone (heard one) old new = IsServed zone one old new
-ServesOn zone (unheard one) old new = IsServed zone one old new
-ServesOn zone unanswered old new = new ≡ old
+-- what the desk serves on one connection. One that failed tells so itself, and where no request is answered, nothing is
+-- changed.
+abbrev pub DeskServes : (Option (List ℕ) → ℤ → Type 0) → (Option (List ℕ) → Type 0) → List ℕ → Option (List ℕ) → Turn
+    → Desk → Desk
+    → Type 0
+DeskServes Shows Fails zone sent (heard one) old new = IsServed (Shows sent) zone sent one old new
+DeskServes Shows Fails zone sent (unheard one) old new = IsServed (Shows sent) zone sent one old new × Fails sent
+DeskServes Shows Fails zone sent unanswered old new = (new ≡ old) × Fails sent
 
--- this or that came of one connection, which told of a failure or not
-abbrev pub ServesATurn : List ℕ → Option Fault → Desk → Desk → Type 0
-ServesATurn zone failed old new = (turn : Turn) × (has_failed turn ≡ is_some failed) × ServesOn zone turn old new
+-- what the client of a connection got: the whole reply, or nothing if no request is answered
+abbrev pub IsGot : Turn → List ℕ → Type 0
+IsGot (heard one) text = IsReplyText one.reply text
+IsGot (unheard one) text = ⊤
+IsGot unanswered text = text ≡ []
 
--- on connections one after another the desk serves these
-abbrev pub ServesInTurn : List ℕ → List Turn → Desk → Desk → Type 0
-ServesInTurn zone [] old new = new ≡ old
-ServesInTurn zone (turn ∷ later) old new =
-    (mid : Desk) × ServesOn zone turn old mid × ServesInTurn zone later mid new
+-- where it is known what a client sends, and what clients have got, it has got this after those before it
+abbrev pub Gets : Option (List ℕ) → Turn → Option (List (List ℕ)) → Option (List (List ℕ)) → Type 0
+Gets (Some input) turn (Some before) (Some after) = (text : List ℕ) × IsGot turn text × (after ≡ before ++ text ∷ [])
+Gets _ _ _ _ = ⊤
+
+-- this comes of one connection whose client sends this
+pub record ServesOn (Shows : Option (List ℕ) → ℤ → Type 0) (Fails : Option (List ℕ) → Type 0) (zone : List ℕ)
+    (sent : Option (List ℕ)) (turn : Turn) (old new : Progress) : Type 0 where
+  pub desk : DeskServes Shows Fails zone sent turn old.desk new.desk
+  pub client : Gets sent turn old.replied new.replied
+
+-- and the connection has failed so, if it did
+abbrev pub ServesATurn : (Option (List ℕ) → ℤ → Type 0) → (Option (List ℕ) → Type 0) → List ℕ → Option (List ℕ)
+    → Option Fault → Progress → Progress
+    → Type 0
+ServesATurn Shows Fails zone sent failed old new =
+    (turn : Turn) × (failure_of turn ≡ failed) × ServesOn Shows Fails zone sent turn old new
+
+-- these come of connections one after another, whose clients send these
+abbrev pub ServesInTurn : (Option (List ℕ) → ℤ → Type 0) → (Option (List ℕ) → Type 0) → List ℕ
+    → List (Option (List ℕ)) → List Turn → Progress → Progress
+    → Type 0
+ServesInTurn Shows Fails zone [] [] old new = new ≡ old
+ServesInTurn Shows Fails zone (sent ∷ more) (turn ∷ later) old new =
+    (mid : Progress) × ServesOn Shows Fails zone sent turn old mid × ServesInTurn Shows Fails zone more later mid new
+ServesInTurn _ _ _ _ _ _ _ = ⊥
 
 -- memory was refused, the text is no rule of a zone, or a clock is out of range or cannot be read: this ends the
 -- serving

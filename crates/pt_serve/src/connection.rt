@@ -1,11 +1,10 @@
-ghost use Rattle.std.specs.Prelude.{◌≡◌, ◌⊎◌, OnOk};
+ghost use Rattle.std.specs.Prelude.{◌≡◌, ℕ, List, Option, Result, OnErr};
+ghost use Rattle.pt_base.specs.declared.fault.Fault.{Fault};
 ghost use Rattle.pt_store.specs.Store.{Store};
-ghost use Rattle.pt_http.specs.Answering.{GoesOn, TellsFailure};
-ghost use Rattle.pt_http.specs.Exchange.{ServesOver, desk_of};
 ghost use Rattle.pt_http_request.specs.Targets.{desk_routes};
-ghost use Rattle.pt_http_reply.specs.declared.response.Response.{Response};
 ghost use Rattle.pt_serve.specs.Connection.{AnswersFrom};
 
+use crate::accepting::Connection;
 use crate::bounded::{Bounded, Ends, Waits};
 use matchit::Router;
 use pt_base::fault::READ_FAILED;
@@ -16,7 +15,6 @@ use pt_http_request::Path;
 use pt_store::Keeper;
 use std::alloc::Global;
 use std::io::{Read, Write};
-use std::net::TcpStream;
 use std::time::Clock;
 
 /// Answers the one request that a reader gives from its beginning, by the desk's routes and by the rules as of this
@@ -77,27 +75,85 @@ pub fn answer_in_time<C: Clock, K: Keeper, R: Read + Waits + Drop, W: Write + Wa
     (writer.stream, answered)
 }
 
-/// Answers one request on a connection, by the rules as of this moment and in time, as `answer_in_time` does, and
-/// leaves the connection.
+/// How one request is answered that a reader gives, to a writer.
+pub trait Answering {
+    /// It can be called.
+    ghost ready: { Self → Type 0 };
+
+    /// So it replies to the bytes that a reader gives, if known: the store as it was and is, what was written as it was
+    /// and is, that neither is changed, and what is told.
+    ghost replies: { Self → Option (List ℕ) → Store → Store → Option (List ℕ) → Option (List ℕ) → Type 0
+        → Result (Unit {0}) Fault → Type 0 };
+
+    /// Answers the one request that a reader gives from its beginning, to a writer, which it hands back.
+    fn answer<K: Keeper, R: Read + Waits + Drop, W: Write + Waits>(
+        &self,
+        keeper: &mut K,
+        reader: R,
+        out: W,
+    ) -> (W, Result<(), Fault>)
+        requires { ready self.now }
+        ensures replied { replies self.now (R.remaining reader) (K.store keeper.old) (K.store keeper.new)
+            (W.contents out) (W.contents result.0)
+            ((keeper.new ≡ keeper.old) × (W.contents result.0 ≡ W.contents out)) result.1 };
+}
+
+/// The desk's own way to answer: by its routes and by the rules as of a moment, and in time, as `answer_in_time` does.
+#[derive(Drop)]
+pub(crate) struct InTime<'a, C> {
+    pub clock: &'a C,
+    pub alloc: Global,
+    pub router: &'a Router<Path>,
+    pub now: Moment,
+}
+
+impl<C: Clock> Answering for InTime<'_, C> {
+    ghost ready = { λ how. how.router.now ≡ desk_routes };
+
+    ghost replies = { λ how given old new out_old out_new Same result.
+        AnswersFrom given old new how.now out_old out_new Same result };
+
+    fn answer<K: Keeper, R: Read + Waits + Drop, W: Write + Waits>(
+        &self,
+        keeper: &mut K,
+        reader: R,
+        out: W,
+    ) -> (W, Result<(), Fault>) {
+        answer_in_time(
+            self.clock,
+            self.alloc,
+            self.router,
+            keeper,
+            self.now,
+            reader,
+            out,
+        )
+    }
+}
+
+/// Answers one request on a connection, by the rules as of this moment and in time, as `answer_in_time` does.
 ///
 /// The error is out of memory, a read that failed, or came too late, or was one too many, or a clock that could not be
 /// read (then nothing is changed); or a write that failed or came too late (then the request is answered all the same).
-pub fn serve_one<C: Clock, K: Keeper>(
+pub fn serve_one<C: Clock, K: Keeper, S: Connection>(
     clock: &C,
     alloc: Global,
     router: &Router<Path>,
     keeper: &mut K,
     now: Moment,
-    stream: &TcpStream,
+    stream: &mut S,
 ) -> Result<(), Fault>
     requires { router.now ≡ desk_routes }
-    ensures served { (K.store keeper.new).doubt ≡ 0
-        → OnOk result ((reply : Response) × ServesOver (K.store keeper.old) (K.store keeper.new) now reply) }
-    ensures one { (K.store keeper.new).doubt ≡ 0
-        → (desk_of (K.store keeper.new) ≡ desk_of (K.store keeper.old))
-        ⊎ ((reply : Response) × ServesOver (K.store keeper.old) (K.store keeper.new) now reply) }
-    ensures failure { TellsFailure (K.store keeper.old) (K.store keeper.new) now (keeper.new ≡ keeper.old) result }
-    ensures goes { GoesOn (K.store keeper.old) (K.store keeper.new) }
+    ensures answers { AnswersFrom (S.sends stream.old) (K.store keeper.old) (K.store keeper.new) now
+        (S.got stream.old) (S.got stream.new)
+        ((keeper.new ≡ keeper.old) × (S.got stream.new ≡ S.got stream.old)) result }
+    ensures fails { OnErr result (S.fails (S.sends stream.old)) }
 {
-    answer_in_time(clock, alloc, router, keeper, now, stream, stream).1
+    let how = InTime {
+        clock,
+        alloc,
+        router,
+        now,
+    };
+    stream.answer_by(&how, keeper)
 }

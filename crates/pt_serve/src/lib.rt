@@ -1,12 +1,14 @@
 //! The desk over sockets: one request on each connection, one connection after another, none of which holds the desk.
 #![tactic(auto)]
 
+pub use accepting::{Accepts, Connection};
 pub use bounded::{LONGEST_READING, LONGEST_SERVING, LONGEST_WAIT, Waits};
 pub use closing::{LONGEST_CLOSING, MOST_DROPPED, drop_rest};
-pub use connection::{answer_connection, answer_in_time, serve_one};
-pub use listening::{PORT_REFUSED, Port};
+pub use connection::{Answering, answer_connection, answer_in_time, serve_one};
+pub use listening::{Listens, PORT_REFUSED, Port};
 pub use serving::{moment_at, serve};
 
+mod accepting;
 mod bounded;
 mod closing;
 mod connection;

@@ -1,10 +1,13 @@
-ghost use Rattle.std.specs.Prelude.{◌≡◌, ◌+◌, ◌<◌, ◌^◌, ◌↔◌, IfErr, IfOk, IsNone, IsSome};
+ghost use Rattle.std.specs.Prelude.{◌≡◌, ◌+◌, ◌<◌, ◌^◌, ◌↔◌, None, ⊤, IfErr, IfOk, IsNone, IsSome};
 ghost use Rattle.pt_base.specs.Fault.{fault};
-ghost use Rattle.pt_serve.specs.Port.{left_of, port_refused};
+ghost use Rattle.pt_serve.specs.Port.{IsOwnAddress, comes_to, left_of, port_refused};
 
+use crate::accepting::Accepts;
+use crate::closing::let_go;
 use pt_base::Fault;
 use std::io;
-use std::net::{Ipv4Addr, Net, TcpListener, TcpStream};
+use std::net::{IpAddr, Ipv4Addr, Net, SocketAddr, TcpListener, TcpStream};
+use std::time::Clock;
 
 /// A port that cannot be had.
 pub const PORT_REFUSED: u16 = 6;
@@ -17,16 +20,48 @@ pub struct Port {
     left: u32,
 }
 
+/// What listens at an address.
+///
+/// `listens` says what only a call of `listen` can: no other code that is given one can make it up.
+pub trait Listens {
+    ghost use Rattle.std.specs.declared.net.socket_addr.SocketAddr.{SocketAddr};
+    ghost use Rattle.std.specs.declared.net.tcp.TcpListener.{TcpListener};
+
+    /// This listens at this address.
+    ghost listens: { TcpListener → SocketAddr → Type 0 };
+
+    fn listen(&self, address: SocketAddr) -> io::Result<TcpListener>
+        ensures { IfOk result (λ listener. listens listener address) };
+}
+
+/// The kit states nothing of what a socket listens at.
+impl<R: Net<Listener = TcpListener, Stream = TcpStream>> Listens for R {
+    ghost listens = { λ _ _. ⊤ };
+
+    fn listen(&self, address: SocketAddr) -> io::Result<TcpListener> {
+        TcpListener::bind(self, address)
+    }
+}
+
+/// The address 127.0.0.1 with this port.
+fn own_address(number: u16) -> SocketAddr
+    ensures { IsOwnAddress number result }
+{
+    SocketAddr::new(IpAddr::V4(Ipv4Addr::LOCALHOST), number)
+}
+
 impl Port {
+    ghost use Rattle.std.specs.declared.net.socket_addr.SocketAddr.{SocketAddr};
+
     /// Listens on a port of this machine's own address 127.0.0.1, for so many connections, and says so on standard
     /// error.
-    pub fn open<R>(rt: &R, number: u16, connections: u32) -> Result<Port, Fault>
-    where
-        R: Eprint + Net<Listener = TcpListener, Stream = TcpStream>,
+    pub fn open<R: Eprint + Listens>(rt: &R, number: u16, connections: u32) -> Result<Port, Fault>
+        ensures address { IfOk result (λ port. (address : SocketAddr) × IsOwnAddress number address
+            × R.listens port.listener address) }
         ensures left { IfOk result (λ port. left_of port ≡ connections) }
         ensures fault { IfErr result (λ error. error ≡ fault port_refused) }
     {
-        let Ok(listener) = TcpListener::bind(rt, (Ipv4Addr::LOCALHOST, number)) else {
+        let Ok(listener) = rt.listen(own_address(number)) else {
             return Err(Fault::of(PORT_REFUSED));
         };
         let _shown = eprintln!(rt; "listening on 127.0.0.1:{number}");
@@ -37,7 +72,7 @@ impl Port {
     }
 
     /// Waits for the next connection, if the port is open to one more. One that cannot be accepted counts too.
-    pub(crate) fn accept(&mut self) -> Option<io::Result<TcpStream>>
+    fn next_stream(&mut self) -> Option<io::Result<TcpStream>>
         ensures none { IsNone result ↔ (left_of self.old ≡ 0) }
         ensures same { IsNone result → self.new ≡ self.old }
         ensures one { IsSome result → left_of self.new + 1 ≡ left_of self.old }
@@ -48,5 +83,24 @@ impl Port {
         }
         self.left -= 1;
         Some(self.listener.accept().map(|(stream, _peer)| stream))
+    }
+}
+
+impl Accepts for Port {
+    type Stream = TcpStream;
+
+    ghost comes = { comes_to };
+
+    ghost replied = { λ _. None };
+
+    fn accept(&mut self) -> Option<io::Result<TcpStream>> {
+        self.next_stream()
+    }
+
+    /// A client that got its whole reply and sent more is read from for a while, so that it can read it.
+    fn leave<C: Clock>(&mut self, clock: &C, stream: TcpStream, is_whole: bool) {
+        if is_whole {
+            let_go(clock, &stream);
+        }
     }
 }

@@ -1,4 +1,4 @@
-ghost use Rattle.std.specs.Prelude.{◌≡◌, ◌⊎◌, ◌+◌, ◌<◌, ◌≤◌, ◌↔◌, List, Some, None, Ok, Err};
+ghost use Rattle.std.specs.Prelude.{◌≡◌, ◌⊎◌, ◌<◌, ◌≤◌, ◌↔◌, ◌++◌, ℕ, List, [], ◌∷◌, Option, Some, Ok, Err};
 ghost use Rattle.std.specs.Prelude.{IfErr, IfOk, IfSome, OnErr, OnOk, length};
 ghost use Rattle.pt_base.specs.Codes.{read_failed, write_failed};
 ghost use Rattle.pt_base.specs.Fault.{fault};
@@ -6,15 +6,13 @@ ghost use Rattle.pt_clock.specs.Codes.{no_such_zone};
 ghost use Rattle.pt_clock.specs.LocalTime.{IsZoneRule};
 ghost use Rattle.pt_store.specs.Store.{Store};
 ghost use Rattle.pt_http.specs.Answering.{GoesOn};
-ghost use Rattle.pt_http.specs.Exchange.{desk_of};
 ghost use Rattle.pt_http_request.specs.Targets.{desk_routes};
-ghost use Rattle.pt_serve.specs.Port.{left_of};
-ghost use Rattle.pt_serve.specs.Serving.{EndsServing, IsMomentIn, ServesATurn, ServesInTurn, ServesOne, Turn};
-ghost use Rattle.pt_serve.specs.Serving.{failures_in};
+ghost use Rattle.pt_serve.specs.Connection.{IsComing};
+ghost use Rattle.pt_serve.specs.Serving.{EndsServing, IsMomentAt, IsMomentIn, ServesATurn, ServesInTurn, Turn};
+ghost use Rattle.pt_serve.specs.Serving.{failures_in, progress_of};
 
-use crate::closing::let_go;
+use crate::accepting::{Accepts, Connection};
 use crate::connection::serve_one;
-use crate::listening::Port;
 use jiff::Timestamp;
 use matchit::Router;
 use pt_base::fault::{DATE_OUT_OF_RANGE, MEMORY, READ_FAILED};
@@ -24,7 +22,6 @@ use pt_http_request::Path;
 use pt_store::Keeper;
 use std::alloc::Global;
 use std::io;
-use std::net::TcpStream;
 use std::time::Clock;
 
 /// Why a clock that cannot be read gives no moment: the zone's text, or else the clock.
@@ -51,77 +48,96 @@ pub fn moment_at<C: Clock>(clock: &C, zone: &str) -> Result<Moment, Fault>
     }
 }
 
-/// Answers the request of one connection, by the rules as of the moment after it was accepted. A client that sent more
-/// is read from for a while, so that it can read its reply. It tells how the connection failed, if it did: one that was
-/// not accepted is a read that failed. The error ends the serving.
-fn serve_next<C: Clock, K: Keeper>(
+/// The day and the minute that clocks of a zone show while a connection is open. The errors are those of `moment_at`.
+fn moment_on<C: Clock, S: Connection>(clock: &C, zone: &str, stream: &S) -> Result<Moment, Fault>
+    ensures moment { IfOk result (IsMomentAt (S.shows (S.sends stream.now)) zone.now) }
+    ensures zone { (result ≡ Err (fault no_such_zone)) ↔ ¬ (IsZoneRule zone.now) }
+    ensures fault { IfErr result EndsServing }
+{
+    match stream.instant(clock) {
+        Some(instant) => now_in(zone, instant),
+        None => Err(unread(zone)),
+    }
+}
+
+/// Answers the request of one connection, by the rules as of the moment after it was accepted, and leaves it. It tells
+/// how the connection failed, if it did: one that was not accepted is a read that failed. The error ends the serving.
+fn serve_next<C: Clock, K: Keeper, A: Accepts>(
     clock: &C,
     alloc: Global,
     router: &Router<Path>,
     keeper: &mut K,
     zone: &str,
-    connection: io::Result<TcpStream>,
+    port: &mut A,
+    connection: io::Result<A::Stream>,
 ) -> Result<Option<Fault>, Fault>
     requires { router.now ≡ desk_routes }
-    ensures turn { (K.store keeper.new).doubt ≡ 0
-        → IfOk result (λ failed.
-        ServesATurn zone.now failed (desk_of (K.store keeper.old)) (desk_of (K.store keeper.new))) }
-    ensures served { (K.store keeper.new).doubt ≡ 0 → result ≡ Ok None
-        → ServesOne zone.now (desk_of (K.store keeper.old)) (desk_of (K.store keeper.new)) }
-    // The reply was not wholly written, but the request is answered.
-    ensures unseen { (K.store keeper.new).doubt ≡ 0 → result ≡ Ok (Some (fault write_failed))
-        → ServesOne zone.now (desk_of (K.store keeper.old)) (desk_of (K.store keeper.new)) }
+    ensures turn { (K.store keeper.new).doubt ≡ 0 → (sent : Option (List ℕ))
+        → IsComing A.Stream.sends A.Stream.got A.Stream.fails sent connection
+        → IfOk result (λ failed. ServesATurn A.Stream.shows A.Stream.fails zone.now sent failed
+        (progress_of (K.store keeper.old) (A.replied port.old))
+        (progress_of (K.store keeper.new) (A.replied port.new))) }
     ensures unread { result ≡ Ok (Some (fault read_failed)) → keeper.new ≡ keeper.old }
     ensures refused { OnErr connection (result ≡ Ok (Some (fault read_failed))) }
     ensures failed { IfOk result (λ failed. IfSome failed (λ error.
         (error ≡ fault read_failed) ⊎ (error ≡ fault write_failed))) }
+    ensures others { A.comes port.new ≡ A.comes port.old }
     ensures ends { IfErr result EndsServing }
-    ensures ended { OnErr result (keeper.new ≡ keeper.old) }
+    ensures ended { OnErr result ((keeper.new ≡ keeper.old) × (port.new ≡ port.old)) }
     ensures zone { result ≡ Err (fault no_such_zone) → ¬ (IsZoneRule zone.now) }
     ensures goes { GoesOn (K.store keeper.old) (K.store keeper.new) }
 {
-    let Ok(stream) = connection else {
+    let Ok(mut stream) = connection else {
         return Ok(Some(Fault::of(READ_FAILED)));
     };
-    let now = moment_at(clock, zone)?;
-    match serve_one(clock, alloc, router, keeper, now, &stream) {
+    let now = moment_on(clock, zone, &stream)?;
+    match serve_one(clock, alloc, router, keeper, now, &mut stream) {
         Ok(()) => {
-            let_go(clock, &stream);
+            port.leave(clock, stream, true);
             Ok(None)
         }
         Err(fault) if fault.code == MEMORY => Err(fault),
-        Err(fault) => Ok(Some(fault)),
+        Err(fault) => {
+            port.leave(clock, stream, false);
+            Ok(Some(fault))
+        }
     }
 }
 
-/// Takes the connections that the port still accepts, in turn, and answers one request on each by the desk's routes, as
-/// of the moment after it was accepted on the clocks of a zone. Standard error has one line for each that failed, and
-/// the result says how many did.
+/// Takes the connections that are still to come, in turn, and answers one request on each by the desk's routes, as of
+/// the moment after it was accepted on the clocks of a zone. Standard error has one line for each that failed, and the
+/// result says how many did.
 ///
 /// The error is out of memory, or a zone or a clock that gives no moment: that connection is dropped unanswered, and
-/// later ones wait. A connection that fails counts, and the next is answered. The contract does not say that a client
-/// got its reply.
-pub fn serve<R: Clock + Eprint, K: Keeper>(
+/// later ones wait. A connection that fails counts, and the next is answered.
+///
+/// Where it is known what a client sends, the reply is to that, and where it is known what clients got, each got its own
+/// reply. Of sockets neither is known: a reply is then the desk's to some message.
+pub fn serve<R: Clock + Eprint, K: Keeper, A: Accepts>(
     rt: &R,
     alloc: Global,
     router: &Router<Path>,
     keeper: &mut K,
     zone: &str,
-    port: &mut Port,
+    port: &mut A,
 ) -> Result<u32, Fault>
     requires { router.now ≡ desk_routes }
     // Each connection whose reply was not wholly written is counted; each of the others was answered.
     ensures served { (K.store keeper.new).doubt ≡ 0
-        → IfOk result (λ failed. (turns : List Turn) × (length turns ≡ left_of port.old)
-        × (failures_in turns ≡ failed)
-        × ServesInTurn zone.now turns (desk_of (K.store keeper.old)) (desk_of (K.store keeper.new))) }
+        → IfOk result (λ failed. (turns : List Turn) × (failures_in turns ≡ failed)
+        × ServesInTurn A.Stream.shows A.Stream.fails zone.now (A.comes port.old) turns
+        (progress_of (K.store keeper.old) (A.replied port.old))
+        (progress_of (K.store keeper.new) (A.replied port.new))) }
     // The connection at which the error came has changed nothing.
     ensures broken_off { (K.store keeper.new).doubt ≡ 0
-        → OnErr result ((turns : List Turn) × (length turns + 1 + left_of port.new ≡ left_of port.old)
-        × ServesInTurn zone.now turns (desk_of (K.store keeper.old)) (desk_of (K.store keeper.new))) }
-    ensures few { IfOk result (λ failed. failed ≤ left_of port.old) }
-    ensures all { OnOk result (left_of port.new ≡ 0) }
-    ensures ended { OnErr result (left_of port.new < left_of port.old) }
+        → OnErr result ((sents : List (Option (List ℕ))) × (sent : Option (List ℕ)) × (turns : List Turn)
+        × (A.comes port.old ≡ sents ++ sent ∷ A.comes port.new)
+        × ServesInTurn A.Stream.shows A.Stream.fails zone.now sents turns
+        (progress_of (K.store keeper.old) (A.replied port.old))
+        (progress_of (K.store keeper.new) (A.replied port.new))) }
+    ensures few { IfOk result (λ failed. failed ≤ length (A.comes port.old)) }
+    ensures all { OnOk result (A.comes port.new ≡ []) }
+    ensures ended { OnErr result (length (A.comes port.new) < length (A.comes port.old)) }
     ensures fault { IfErr result EndsServing }
     ensures zone { result ≡ Err (fault no_such_zone) → ¬ (IsZoneRule zone.now) }
     ensures goes { GoesOn (K.store keeper.old) (K.store keeper.new) }
@@ -129,7 +145,7 @@ pub fn serve<R: Clock + Eprint, K: Keeper>(
     let mut failed = 0;
     while let Some(connection) = port.accept() {
         if let Some(Fault { code, row }) = serve_next(
-            rt, alloc, router, keeper, zone, connection,
+            rt, alloc, router, keeper, zone, port, connection,
         )? {
             failed += 1;
             let _shown = eprintln!(rt; "connection: fault {code} row {row}");

@@ -1,47 +1,136 @@
-use Rattle.std.proofs.Common.{◌≡◌, ◌+◌, Option, ap, arith, is_some, refl}
+use Rattle.std.proofs.Common.{◌≡◌, ◌∙◌, ◌+◌, ℕ, List, [], ◌∷◌, Option, ap, arith, inl, inr, is_some, length, refl, subst, suc, sym}
 use Rattle.pt_base.specs.declared.fault.Fault.{Fault}
-use Rattle.pt_http.proofs.AnsweringLemmas.{goes_further}
-use Rattle.pt_serve.proofs.ServingLemmas.{count_of, goes_on_clean}
-use Rattle.pt_serve.specs.Port.{left_of}
+use Rattle.pt_http.proofs.AnsweringLemmas.{goes_further, goes_nowhere}
+use Rattle.pt_serve.proofs.ServingLemmas.{broken_off, count_of, fits_still, goes_on_clean, has_served_all, same_progress, so_of_error}
+use Rattle.pt_serve.specs.Serving.{Progress, ServesATurn, ServesInTurn, Turn, failures_in, progress_of}
 use Rattle.pt_serve.proofs.serving.serve.Goals as goal
+
+pub loop-connection-init : goal.loop-connection-init
+loop-connection-init g c = record {
+  goes = goes_nowhere (g.K.Keeper.store c.args.keeper.now);
+  fits = inl refl;
+  few = omega arith;
+  served = λ clean. ([], [], refl, refl, refl);
+}
+
+pub overflow_add-failed : goal.overflow_add-failed
+overflow_add-failed g c =
+    let before = c.loop-connection.invariant in
+    let comes = g.A.Accepts.comes in
+    let next = c.in-Some.ensures.next in
+    let fits = fits_still (length (comes c.loop-connection.port)) (length (comes c.args.port.now)) before.fits
+    c.in-Some.ensures.fits in
+    let more : length (comes c.loop-connection.port) ≡ suc (length (comes c.accept.new.self)) = ap length next.1 in
+    omega (arith, before.few, fits, more)
 
 pub loop-connection-preserved-in-Some-2 : goal.loop-connection-preserved-in-Some-2
 loop-connection-preserved-in-Some-2 g c =
     let store = g.K.Keeper.store in
+    let comes = g.A.Accepts.comes in
+    let replied = g.A.Accepts.replied in
+    let shows = g.A.Stream.Connection.shows in
+    let fails = g.A.Stream.Connection.fails in
     let before = c.loop-connection.invariant in
-    let one = c.in-Some.ensures.one refl in
+    let taken = c.in-Some.ensures.next in
     let next : Option Fault = c.in_ok-code.field-0 in
     let counts : count_of (is_some next) ≡ 1 = ap (λ (o : Option Fault). count_of (is_some o)) c.in-Some-2.is in
+    let one : comes c.loop-connection.port ≡ taken.0 ∷ comes c.serve_next.new.port =
+    taken.1 ∙ ap (λ (it : List _). taken.0 ∷ it) (sym c.serve_next.ensures.others) in
+    let more : length (comes c.loop-connection.port) ≡ suc (length (comes c.serve_next.new.port)) = ap length one in
     record {
       goes = goes_further (store c.args.keeper.now) (store c.loop-connection.keeper) (store c.serve_next.new.keeper)
           before.goes c.serve_next.ensures.goes;
-      few = omega (arith, before.few, one);
-      served = goes_on_clean c.args.zone.now (left_of c.args.port.now) (left_of c.loop-connection.port)
-          (left_of c.accept.new.self) c.loop-connection.failed (c.loop-connection.failed + 1) next
-          (store c.args.keeper.now) (store c.loop-connection.keeper) (store c.serve_next.new.keeper) before.served
+      fits = inr (fits_still (length (comes c.loop-connection.port)) (length (comes c.args.port.now)) before.fits
+          c.in-Some.ensures.fits);
+      few = omega (arith, before.few, more);
+      served = goes_on_clean shows fails c.args.zone.now (comes c.args.port.now) (comes c.loop-connection.port)
+          (comes c.serve_next.new.port) taken.0 c.loop-connection.failed (c.loop-connection.failed + 1) next
+          (store c.args.keeper.now) (store c.loop-connection.keeper) (store c.serve_next.new.keeper)
+          (replied c.args.port.now) (replied c.loop-connection.port) (replied c.serve_next.new.port) before.served
           c.serve_next.ensures.goes.clean one (omega (arith, counts))
-          c.in_ok-code.ensures.turn;
+          (λ clean. subst (λ (it : Option (List (List ℕ))). ServesATurn shows fails c.args.zone.now taken.0 next
+          (progress_of (store c.loop-connection.keeper) it)
+          (progress_of (store c.serve_next.new.keeper) (replied c.serve_next.new.port)))
+          (c.in-Some.ensures.kept refl) (c.in_ok-code.ensures.turn clean taken.0 taken.2));
     }
 
 pub loop-connection-preserved : goal.loop-connection-preserved
 loop-connection-preserved g c =
     let store = g.K.Keeper.store in
+    let comes = g.A.Accepts.comes in
+    let replied = g.A.Accepts.replied in
+    let shows = g.A.Stream.Connection.shows in
+    let fails = g.A.Stream.Connection.fails in
     let before = c.loop-connection.invariant in
-    let one = c.in-Some.ensures.one refl in
+    let taken = c.in-Some.ensures.next in
     let next : Option Fault = c.in_ok-code.field-0 in
     let counts : count_of (is_some next) ≡ 0 = ap (λ (o : Option Fault). count_of (is_some o)) c.in_default-2.is in
+    let one : comes c.loop-connection.port ≡ taken.0 ∷ comes c.serve_next.new.port =
+    taken.1 ∙ ap (λ (it : List _). taken.0 ∷ it) (sym c.serve_next.ensures.others) in
+    let more : length (comes c.loop-connection.port) ≡ suc (length (comes c.serve_next.new.port)) = ap length one in
     record {
       goes = goes_further (store c.args.keeper.now) (store c.loop-connection.keeper) (store c.serve_next.new.keeper)
           before.goes c.serve_next.ensures.goes;
-      few = omega (arith, before.few, one);
-      served = goes_on_clean c.args.zone.now (left_of c.args.port.now) (left_of c.loop-connection.port)
-          (left_of c.accept.new.self) c.loop-connection.failed c.loop-connection.failed next
-          (store c.args.keeper.now) (store c.loop-connection.keeper) (store c.serve_next.new.keeper) before.served
+      fits = inr (fits_still (length (comes c.loop-connection.port)) (length (comes c.args.port.now)) before.fits
+          c.in-Some.ensures.fits);
+      few = omega (arith, before.few, more);
+      served = goes_on_clean shows fails c.args.zone.now (comes c.args.port.now) (comes c.loop-connection.port)
+          (comes c.serve_next.new.port) taken.0 c.loop-connection.failed c.loop-connection.failed next
+          (store c.args.keeper.now) (store c.loop-connection.keeper) (store c.serve_next.new.keeper)
+          (replied c.args.port.now) (replied c.loop-connection.port) (replied c.serve_next.new.port) before.served
           c.serve_next.ensures.goes.clean one (omega (arith, counts))
-          c.in_ok-code.ensures.turn;
+          (λ clean. subst (λ (it : Option (List (List ℕ))). ServesATurn shows fails c.args.zone.now taken.0 next
+          (progress_of (store c.loop-connection.keeper) it)
+          (progress_of (store c.serve_next.new.keeper) (replied c.serve_next.new.port)))
+          (c.in-Some.ensures.kept refl) (c.in_ok-code.ensures.turn clean taken.0 taken.2));
     }
 
 pub returns-in_err-code-clause-goes : goal.returns-in_err-code-clause-goes
 returns-in_err-code-clause-goes g c =
     goes_further (g.K.Keeper.store c.args.keeper.now) (g.K.Keeper.store c.loop-connection.keeper)
     (g.K.Keeper.store c.serve_next.new.keeper) c.loop-connection.invariant.goes c.serve_next.ensures.goes
+
+pub returns-in_err-code-clause-broken_off : goal.returns-in_err-code-clause-broken_off
+returns-in_err-code-clause-broken_off g c = λ clean.
+    let store = g.K.Keeper.store in
+    let comes = g.A.Accepts.comes in
+    let replied = g.A.Accepts.replied in
+    let shows = g.A.Stream.Connection.shows in
+    let fails = g.A.Stream.Connection.fails in
+    let taken = c.in-Some.ensures.next in
+    let same = c.in_err-code.ensures.ended in
+    let one : comes c.loop-connection.port ≡ taken.0 ∷ comes c.serve_next.new.port =
+    taken.1 ∙ ap (λ (it : List _). taken.0 ∷ it) (sym c.serve_next.ensures.others) in
+    let was_clean : (store c.loop-connection.keeper).doubt ≡ 0 =
+    ap (λ keeper. (store keeper).doubt) (sym same.0) ∙ clean in
+    let still = same_progress (store c.loop-connection.keeper) (store c.serve_next.new.keeper)
+    (replied c.loop-connection.port) (replied c.serve_next.new.port) (ap store same.0)
+    (ap replied same.1 ∙ c.in-Some.ensures.kept refl) in
+    let old = progress_of (store c.args.keeper.now) (replied c.args.port.now) in
+    let has = broken_off shows fails c.args.zone.now (comes c.args.port.now) (comes c.loop-connection.port)
+    (comes c.serve_next.new.port) taken.0 c.loop-connection.failed old
+    (progress_of (store c.loop-connection.keeper) (replied c.loop-connection.port))
+    (c.loop-connection.invariant.served was_clean) one in
+    so_of_error c.from_residual.result _ (
+      has.0,
+      has.1,
+      has.2,
+      has.3,
+      subst (λ (it : Progress). ServesInTurn shows fails c.args.zone.now has.0 has.2 old it) still has.4,
+    )
+
+pub returns-clause-served : goal.returns-clause-served
+returns-clause-served g c = λ clean.
+    let store = g.K.Keeper.store in
+    let comes = g.A.Accepts.comes in
+    let replied = g.A.Accepts.replied in
+    let shows = g.A.Stream.Connection.shows in
+    let fails = g.A.Stream.Connection.fails in
+    let old = progress_of (store c.args.keeper.now) (replied c.args.port.now) in
+    subst (λ (it : Option (List (List ℕ))). (turns : List Turn) × (failures_in turns ≡ c.loop-connection.failed)
+    × ServesInTurn shows fails c.args.zone.now (comes c.args.port.now) turns old
+    (progress_of (store c.loop-connection.keeper) it)) (ap replied (sym (c.in_default.ensures.same refl)))
+    (has_served_all shows fails c.args.zone.now (comes c.args.port.now) (comes c.loop-connection.port)
+    c.loop-connection.failed old
+    (progress_of (store c.loop-connection.keeper) (replied c.loop-connection.port))
+    (c.loop-connection.invariant.served clean) (c.in_default.ensures.none.0 refl))
