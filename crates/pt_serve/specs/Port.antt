@@ -21,6 +21,6 @@ IsOwnAddress number address =
 abbrev pub port_refused : ℕ
 port_refused = 6
 
--- and of none of them is it known what its client sends
+-- these connections; of none is it known what its client sends
 abbrev pub comes_to : Port → List (Option (List ℕ))
 comes_to port = replicate (left_of port) None

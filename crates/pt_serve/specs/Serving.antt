@@ -17,7 +17,7 @@ pub record Served : Type 0 where
   pub now : Moment
   pub reply : Response
 
--- what stands between two connections: the desk, and what the clients so far have got, where that is known
+-- the state between two connections: the desk, and what the clients so far have got, if that is known
 pub record Progress : Type 0 where
   pub desk : Desk
   pub replied : Option (List (List ℕ))
@@ -33,7 +33,7 @@ IsMomentIn zone now = (instant : ℤ) × IsLocalTime zone instant (pos now.day) 
 abbrev pub IsMomentAt : (ℤ → Type 0) → List ℕ → Moment → Type 0
 IsMomentAt Shows zone now = (instant : ℤ) × Shows instant × IsLocalTime zone instant (pos now.day) now.minute
 
--- the reply is the desk's to what begins the bytes that a client sends, and where those are not known, to some message
+-- the reply is the desk's to the front of the bytes that a client sends; if these are unknown, it is to some message
 abbrev pub AnswersSent : Option (List ℕ) → Moment → Desk → Desk → Response → Type 0
 AnswersSent (Some input) now old new reply = (rest : List ℕ) × Exchanges now input old new reply rest
 AnswersSent None now old new reply = Serves now old new reply
@@ -44,8 +44,8 @@ pub record IsServed (Shows : ℤ → Type 0) (zone : List ℕ) (sent : Option (L
   pub moment : IsMomentAt Shows zone one.now
   pub answered : AnswersSent sent one.now old new one.reply
 
--- what comes of a connection: its request is answered and the whole reply written, or answered though the reply is not
--- wholly written, or no request of it is answered
+-- The end of a connection: its request is answered and the whole reply written; or it is answered, but the reply is not
+-- wholly written; or none of its requests is answered.
 pub data Turn : Type 0 where
   heard : Served → Turn
   unheard : Served → Turn
@@ -57,15 +57,15 @@ failure_of (heard one) = None
 failure_of (unheard one) = Some (fault write_failed)
 failure_of unanswered = Some (fault read_failed)
 
--- a connection failed whose reply was not wholly written
+-- the reply on the connection was not wholly written
 abbrev pub has_failed : Turn → Bool
 has_failed turn = is_some (failure_of turn)
 
 abbrev pub failures_in : List Turn → ℕ
 failures_in turns = count_by has_failed turns
 
--- what the desk serves on one connection. One that failed tells so itself, and where no request is answered, nothing is
--- changed.
+-- What the desk serves on one connection. Only the connection itself says that it failed. If no request is answered,
+-- nothing changes.
 abbrev pub DeskServes : (Option (List ℕ) → ℤ → Type 0) → (Option (List ℕ) → Type 0) → List ℕ → Option (List ℕ) → Turn
     → Desk → Desk
     → Type 0
@@ -79,25 +79,25 @@ IsGot (heard one) text = IsReplyText one.reply text
 IsGot (unheard one) text = ⊤
 IsGot unanswered text = text ≡ []
 
--- where it is known what a client sends, and what clients have got, it has got this after those before it
+-- if it is known what a client sends and what clients have got, this one has got its own, after those before it
 abbrev pub Gets : Option (List ℕ) → Turn → Option (List (List ℕ)) → Option (List (List ℕ)) → Type 0
 Gets (Some input) turn (Some before) (Some after) = (text : List ℕ) × IsGot turn text × (after ≡ before ++ text ∷ [])
 Gets _ _ _ _ = ⊤
 
--- this comes of one connection whose client sends this
+-- the turn of one connection whose client sends this
 pub record ServesOn (Shows : Option (List ℕ) → ℤ → Type 0) (Fails : Option (List ℕ) → Type 0) (zone : List ℕ)
     (sent : Option (List ℕ)) (turn : Turn) (old new : Progress) : Type 0 where
   pub desk : DeskServes Shows Fails zone sent turn old.desk new.desk
   pub client : Gets sent turn old.replied new.replied
 
--- and the connection has failed so, if it did
+-- the same, and this is how the connection failed, if it did
 abbrev pub ServesATurn : (Option (List ℕ) → ℤ → Type 0) → (Option (List ℕ) → Type 0) → List ℕ → Option (List ℕ)
     → Option Fault → Progress → Progress
     → Type 0
 ServesATurn Shows Fails zone sent failed old new =
     (turn : Turn) × (failure_of turn ≡ failed) × ServesOn Shows Fails zone sent turn old new
 
--- these come of connections one after another, whose clients send these
+-- the turns of connections one after another, whose clients send these
 abbrev pub ServesInTurn : (Option (List ℕ) → ℤ → Type 0) → (Option (List ℕ) → Type 0) → List ℕ
     → List (Option (List ℕ)) → List Turn → Progress → Progress
     → Type 0
@@ -106,7 +106,7 @@ ServesInTurn Shows Fails zone (sent ∷ more) (turn ∷ later) old new =
     (mid : Progress) × ServesOn Shows Fails zone sent turn old mid × ServesInTurn Shows Fails zone more later mid new
 ServesInTurn _ _ _ _ _ _ _ = ⊥
 
--- memory was refused, the text is no rule of a zone, or a clock is out of range or cannot be read: this ends the
--- serving
+-- the faults that end the serving: out of memory, a text that is no zone's rule, or a clock that is out of range or
+-- cannot be read
 abbrev pub EndsServing : Fault → Type 0
 EndsServing error = (error ≡ fault memory_refused) ⊎ (error ≡ fault no_such_zone) ⊎ (error ≡ fault date_out_of_range)

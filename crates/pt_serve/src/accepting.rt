@@ -12,8 +12,8 @@ use std::time::Clock;
 
 /// A connection with one client.
 ///
-/// `shows` and `fails` say what only a call of `instant` and of `answer_by` can: no other code over connections of any
-/// type can make them up.
+/// Only calls of `instant` and `answer_by` give `shows` and `fails`. Code that is proved over every connection cannot
+/// make them up.
 pub trait Connection: Drop {
     /// What its client sends from its beginning, where that is known.
     ghost sends: { Self → Option (List ℕ) };
@@ -31,7 +31,7 @@ pub trait Connection: Drop {
     fn instant<C: Clock>(&self, clock: &C) -> Option<Timestamp>
         ensures shown { IfSome result (λ instant. shows (sends self.now) instant.nanosecond) };
 
-    /// Has its client's one request answered so.
+    /// Has the one request of its client answered in this way.
     fn answer_by<K: Keeper, H: Answering>(&mut self, how: &H, keeper: &mut K) -> Result<(), Fault>
         requires { H.ready how.now }
         ensures answered { H.replies how.now (sends self.old) (K.store keeper.old) (K.store keeper.new)

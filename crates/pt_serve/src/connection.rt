@@ -39,8 +39,8 @@ pub fn answer_connection<K: Keeper, R: Read + Drop, W: Write>(
     Ok(())
 }
 
-/// Answers the one request that a reader gives from its beginning, as `answer_connection` does, in time. It hands back
-/// the writer.
+/// Answers the one request that a reader gives from its beginning, as `answer_connection` does, in time. It
+/// returns the writer.
 ///
 /// A read or a write waits `LONGEST_WAIT` seconds at most. Once `LONGEST_READING` seconds have passed no read begins,
 /// and once `LONGEST_SERVING` have passed no write does, however little the client sends or takes at a time. One that
@@ -75,17 +75,17 @@ pub fn answer_in_time<C: Clock, K: Keeper, R: Read + Waits + Drop, W: Write + Wa
     (writer.stream, answered)
 }
 
-/// How one request is answered that a reader gives, to a writer.
+/// A way to answer the one request of a reader, to a writer.
 pub trait Answering {
     /// It can be called.
     ghost ready: { Self → Type 0 };
 
-    /// So it replies to the bytes that a reader gives, if known: the store as it was and is, what was written as it was
-    /// and is, that neither is changed, and what is told.
+    /// Its reply to the bytes that a reader gives, if these are known: the store before and after, what was written
+    /// before and after, that neither is changed, and the result.
     ghost replies: { Self → Option (List ℕ) → Store → Store → Option (List ℕ) → Option (List ℕ) → Type 0
         → Result (Unit {0}) Fault → Type 0 };
 
-    /// Answers the one request that a reader gives from its beginning, to a writer, which it hands back.
+    /// Answers the one request that a reader gives from its beginning, to a writer, which it returns.
     fn answer<K: Keeper, R: Read + Waits + Drop, W: Write + Waits>(
         &self,
         keeper: &mut K,

@@ -22,12 +22,12 @@ pub struct Port {
 
 /// What listens at an address.
 ///
-/// `listens` says what only a call of `listen` can: no other code that is given one can make it up.
+/// Only a call of `listen` gives `listens`. Code that is proved over every type cannot make it up.
 pub trait Listens {
     ghost use Rattle.std.specs.declared.net.socket_addr.SocketAddr.{SocketAddr};
     ghost use Rattle.std.specs.declared.net.tcp.TcpListener.{TcpListener};
 
-    /// This listens at this address.
+    /// The listener listens at the address.
     ghost listens: { TcpListener → SocketAddr → Type 0 };
 
     fn listen(&self, address: SocketAddr) -> io::Result<TcpListener>

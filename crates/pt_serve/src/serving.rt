@@ -60,8 +60,8 @@ fn moment_on<C: Clock, S: Connection>(clock: &C, zone: &str, stream: &S) -> Resu
     }
 }
 
-/// Answers the request of one connection, by the rules as of the moment after it was accepted, and leaves it. It tells
-/// how the connection failed, if it did: one that was not accepted is a read that failed. The error ends the serving.
+/// Answers the request of one connection, by the rules as of the moment after it was accepted, and leaves it. Returns how
+/// the connection failed, if it did: one that was not accepted is a failed read. The error ends the serving.
 fn serve_next<C: Clock, K: Keeper, A: Accepts>(
     clock: &C,
     alloc: Global,
@@ -111,8 +111,8 @@ fn serve_next<C: Clock, K: Keeper, A: Accepts>(
 /// The error is out of memory, or a zone or a clock that gives no moment: that connection is dropped unanswered, and
 /// later ones wait. A connection that fails counts, and the next is answered.
 ///
-/// Where it is known what a client sends, the reply is to that, and where it is known what clients got, each got its own
-/// reply. Of sockets neither is known: a reply is then the desk's to some message.
+/// If it is known what a client sends, the reply is to that. If it is known what clients got, each got its own reply.
+/// Neither is known of sockets: there a reply is the desk's to some message.
 pub fn serve<R: Clock + Eprint, K: Keeper, A: Accepts>(
     rt: &R,
     alloc: Global,
