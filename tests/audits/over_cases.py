@@ -1,15 +1,17 @@
 """The cases of tests/audits/cases: a desk, a question to it, and texts with the answer that each gets as a log for that question.
 
-NAME.http is a rehearsal that sets the desk up and NAME.out has its replies; NAME.travel is a line `KEY NUMBER DAY` and the travel table that
-comes after it; NAME.trips and NAME.trips.out are a second rehearsal on the same desk. NAME.ask has the moment, the words of the question and
+NAME is a conversation that sets the desk up and NAME.out has its replies; NAME.travel is a line `KEY NUMBER DAY` and the travel table that
+comes after it; NAME.trips and NAME.trips.out are a second conversation on the same desk. NAME.ask has the moment, the words of the question and
 what `desk explain` answers, where `no vehicle` stands for a log. In NAME.logs each text stands below a line `@ LENGTH | ANSWER | what it is`.
 """
 import collections
+import glob
 import os
 import re
 import subprocess
 
 from audits import plain
+from conversations import asked_in
 from second import travel
 from second.days import day_in
 from second.desk import Desk as SecondDesk
@@ -68,9 +70,11 @@ class Case:
         self.travel = first.split(" ") if first else None
 
     def parts(self):
-        """Each rehearsal, and whether the travel table comes after it."""
-        yield content(f"{self.name}.http"), content(f"{self.name}.out"), self.travel is not None
-        yield content(f"{self.name}.trips"), content(f"{self.name}.trips.out"), False
+        """Each rehearsal, its replies, and whether the travel table comes after it."""
+        yield asked_in(f"{FOLDER}/{self.name}"), content(f"{self.name}.out"), self.travel is not None
+        second = f"{self.name}.trips"
+        if glob.glob(f"{FOLDER}/{second}.*"):
+            yield asked_in(f"{FOLDER}/{second}"), content(f"{second}.out"), False
 
 
 def cases():

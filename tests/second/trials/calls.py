@@ -1,13 +1,10 @@
 """A call of the desk: as a line of a script of bin/rehearsal, as bytes, and as the second desk answers it."""
 import collections
-import importlib.machinery
-import importlib.util
-import os
 
+from conversations import load, rehearsal
 from second import days, travel
 from second.desk import Desk
 
-ROOT = os.path.dirname(os.path.dirname(os.path.dirname(os.path.dirname(os.path.realpath(__file__)))))
 ADMINS_KEY = "abc"
 # The method of a call that is no request but the command `desk travel`: its path is the table's first day, its body the CSV.
 TRAVEL = "TRAVEL"
@@ -15,16 +12,6 @@ TRAVEL = "TRAVEL"
 # The day and the path are texts, and so are the number of a write (else None) and the body ("" where there is none).
 Call = collections.namedtuple("Call", "day minute method path key number body")
 
-
-def load(path):
-    """A script of this repository as a module."""
-    loader = importlib.machinery.SourceFileLoader(os.path.basename(path), f"{ROOT}/{path}")
-    module = importlib.util.module_from_spec(importlib.util.spec_from_loader(loader.name, loader))
-    loader.exec_module(module)
-    return module
-
-
-rehearsal = load("bin/rehearsal")
 replies_in = load("tests/rehearsals/run").replies_in
 
 
@@ -42,7 +29,7 @@ def script_of(calls):
 
 def rehearsal_of(calls):
     """The bytes that `desk rehearse` reads."""
-    return b"".join(message for _, message in rehearsal.requests_of(script_of(calls).encode()))
+    return rehearsal.written(script_of(calls).encode())
 
 
 def message_of(call):
