@@ -4,8 +4,6 @@
 #![tactic(auto)]
 
 #[cfg(test)]
-mod clients;
-#[cfg(test)]
 mod clocks;
 #[cfg(test)]
 mod connections;
