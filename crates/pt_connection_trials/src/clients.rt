@@ -8,11 +8,10 @@ use pt_http_request::desk_router;
 use pt_serve::{Accepts, Answering, Connection, Waits, serve};
 use pt_store::{Keeper, ListKeeper};
 use std::alloc::Global;
-use std::io;
 use std::io::{ErrorKind, Read, Write};
-use std::mem;
 use std::process::Abort;
 use std::time::{Clock, Duration};
+use std::{io, mem};
 
 /// What a client sends.
 #[derive(Drop)]
@@ -74,14 +73,14 @@ impl Write for Gets {
 
 /// A client.
 #[derive(Drop)]
-struct Client<'b> {
-    sends: &'b [u8],
+struct Client {
+    sends: &'static [u8],
     got: Vec<u8>,
     room: usize,
     alloc: Global,
 }
 
-impl Connection for Client<'_> {
+impl Connection for Client {
     ghost sends = { λ client. Some client.sends.now };
 
     ghost got = { λ client. Some client.got.items };
@@ -104,10 +103,17 @@ impl Connection for Client<'_> {
     }
 }
 
+/// A client that is still to come: what it sends, and how many bytes it takes.
+#[derive(Clone, Copy)]
+struct Ahead {
+    sends: &'static [u8],
+    room: usize,
+}
+
 /// Clients one after another: what each sends and how many bytes it takes, and what those so far have got.
 #[derive(Drop)]
 struct Clients<'b> {
-    coming: &'b [(&'b [u8], usize)],
+    coming: &'b [Ahead],
     replies: Vec<Vec<u8>>,
     /// Whether there was no memory to keep a reply.
     is_lost: bool,
@@ -115,26 +121,30 @@ struct Clients<'b> {
     ghost few: { length coming.now < 2 ^ 32 },
 }
 
-impl<'b> Accepts for Clients<'b> {
-    type Stream = Client<'b>;
+impl Accepts for Clients<'_> {
+    type Stream = Client;
 
-    ghost comes = { λ clients. map (λ client. Some client.0.now) clients.coming.now };
+    ghost comes = { λ clients. map (λ client. Some client.sends.now) clients.coming.now };
 
     ghost replied = { λ clients. if clients.is_lost then None
         else Some (map (λ reply. reply.items) clients.replies.items) };
 
-    fn accept(&mut self) -> Option<io::Result<Client<'b>>> {
-        let (first, coming) = self.coming.split_first()?;
-        self.coming = coming;
+    fn accept(&mut self) -> Option<io::Result<Client>> {
+        if self.coming.is_empty() {
+            return None;
+        }
+        let Ahead { sends, room } = self.coming[0];
+        let (_first, rest) = self.coming.split_at(1);
+        self.coming = rest;
         Some(Ok(Client {
-            sends: first.0,
+            sends,
             got: Vec::new(self.alloc),
-            room: first.1,
+            room,
             alloc: self.alloc,
         }))
     }
 
-    fn leave<C: Clock>(&mut self, _clock: &C, stream: Client<'b>, _is_whole: bool) {
+    fn leave<C: Clock>(&mut self, _clock: &C, stream: Client, _is_whole: bool) {
         if self.replies.push(stream.got).is_err() {
             self.is_lost = true;
         }
@@ -152,9 +162,18 @@ fn clients_get_their_own_replies(rt: HostRuntime) {
     let router = desk_router(alloc).expect(&rt, "memory");
     let mut clients = Clients {
         coming: &[
-            (PUT_CLERK.as_bytes(), 1_000),
-            (NO_REQUEST.as_bytes(), 1_000),
-            (PUT_RIDER.as_bytes(), 10),
+            Ahead {
+                sends: PUT_CLERK.as_bytes(),
+                room: 1_000,
+            },
+            Ahead {
+                sends: NO_REQUEST.as_bytes(),
+                room: 1_000,
+            },
+            Ahead {
+                sends: PUT_RIDER.as_bytes(),
+                room: 10,
+            },
         ],
         replies: Vec::new(alloc),
         is_lost: false,
