@@ -14,6 +14,8 @@ CRATE = "pt_app"
 ROOM = 600_000_000
 # What the kit's compiler is told for a quick trial, and a program that serves has no use for.
 OF_TRIALS = "-fsanitize=", "-O", "-Werror"
+# The kit first tries its compiler on a module of some hundred bytes; a program's module has megabytes.
+SMALLEST_MODULE = 100_000
 
 
 def kits_line():
@@ -100,14 +102,20 @@ def module_in(words):
     return words[words.index("ir") + 1] if "ir" in words[:-1] else None
 
 
+def is_program(place, words):
+    """Whether LLVM's compiler was given the module of a program."""
+    name = module_in(words)
+    return bool(name) and os.path.getsize(os.path.join(place, name)) >= SMALLEST_MODULE
+
+
 def compiler_below(folder):
-    """The compiler that works in a folder below this one: its own folder, its file, and its words. None before it runs."""
+    """The compiler of a program in a folder below this one: its own folder, its file, and its words. None before it runs."""
     for process in glob.glob("/proc/[0-9]*"):
         try:
             place = os.readlink(f"{process}/cwd")
             with open(f"{process}/cmdline", "rb") as file:
                 words = file.read().decode().split("\0")[:-1]
-            if place.startswith(f"{folder}/") and module_in(words):
+            if place.startswith(f"{folder}/") and is_program(place, words):
                 return place, os.readlink(f"{process}/exe"), words
         except (OSError, UnicodeDecodeError):
             continue
