@@ -18,8 +18,11 @@ returns-clause-written g c =
     let new = state g.S.Store c.write_desk.new.tx.conn.now in
     did_as {X = Unit {0}} old new (λ a b. ((p : Policy) (n : ℕ) → Rewrites desk_table (desk_row p n ∷ []) (desk_row c.policy_after-policy.result c.last_trip_after.result ∷ []) a b) × IsDatabase b)
     (Known-settings change known) c.write_desk.result
-    (λ wrote. ((λ there agrees p n.
-    let policy : c.policy_after-policy.result ≡ unwrap_or change.policy there.policy = c.policy_after-policy.ensures.value ∙ agrees.policy in
-    let last_trip : c.last_trip_after.result ≡ unwrap_or change.last_trip there.last_trip = c.last_trip_after.ensures.value ∙ agrees.last_trip in
-    subst₂ (λ policy last_trip. Rewrites desk_table (desk_row p n ∷ []) (desk_row policy last_trip ∷ []) old.now new.now) policy last_trip (wrote.0 p n)), wrote.1))
+    (λ wrote. (
+      (λ there agrees p n.
+          let policy : c.policy_after-policy.result ≡ unwrap_or change.policy there.policy = c.policy_after-policy.ensures.value ∙ agrees.policy in
+          let last_trip : c.last_trip_after.result ≡ unwrap_or change.last_trip there.last_trip = c.last_trip_after.ensures.value ∙ agrees.last_trip in
+          subst₂ (λ policy last_trip. Rewrites desk_table (desk_row p n ∷ []) (desk_row policy last_trip ∷ []) old.now new.now) policy last_trip (wrote.0 p n)),
+      wrote.1,
+    ))
     c.write_desk.ensures.written
