@@ -1,4 +1,5 @@
 """What bin/desk notes beside the program that it built: by which kit, of which sources, and what was proved."""
+import contextlib
 import json
 import os
 import re
@@ -6,7 +7,10 @@ import re
 from desk_parts import sources
 
 CRATE = "crates/pt_app"
-PROGRAM, NOTE, COUNTS = f"{CRATE}/out/pt_app", f"{CRATE}/out/desk.built", f"{CRATE}/out/desk.proved"
+PROGRAM, NOTE = f"{CRATE}/out/pt_app", f"{CRATE}/out/desk.built"
+STATE = os.environ.get("XDG_STATE_HOME") or os.path.expanduser("~/.local/state")
+# Of each text of a crate that was proved on this machine, how many functions it has.
+COUNTS = os.path.join(STATE, "desk-gate", "functions.json")
 # Two kits with the same logic prove alike, whatever else differs in them.
 LOGIC = re.compile(r"\blogic (\S+)")
 
@@ -47,19 +51,23 @@ def write_note(top, kit, digest, begun):
     write(f"{top}/{NOTE}", told, begun)
 
 
-def keep_counts(top, log):
-    """Keeps how many functions the prover counted in each crate, beside what earlier builds counted."""
-    counts, crate = read(f"{top}/{COUNTS}"), None
-    with open(log, encoding="utf-8", errors="replace") as file:
-        for line in file:
-            named, proved = re.match(r"(?:== |crate )(\w+)\b", line), re.match(r"logic=proved functions=(\d+)", line)
-            crate = named[1] if named else crate
-            if proved and crate:
-                counts[crate], crate = int(proved[1]), None
-    write(f"{top}/{COUNTS}", counts)
+def keep_counts(top, lines):
+    """Keeps how many functions the prover counted in each crate, by these lines of the kit. What the kit has kept of a proof it
+    does not count again."""
+    found, crate = {}, None
+    for line in lines:
+        named, proved = re.match(r"== (\w+)$", line), re.match(r"logic=proved functions=(\d+)", line)
+        crate = named[1] if named else crate
+        if proved and crate and os.path.isdir(f"{top}/crates/{crate}"):
+            found[sources.digest_of_crate(top, crate)], crate = int(proved[1]), None
+    # Without them a package says that nobody counted.
+    with contextlib.suppress(OSError):
+        if found:
+            os.makedirs(os.path.dirname(COUNTS), exist_ok=True)
+            write(COUNTS, {**read(COUNTS), **found})
 
 
 def functions_proved(top):
     """How many functions the prover counted in the crates of the program; None where a crate's count is missing."""
-    counts, own = read(f"{top}/{COUNTS}"), sources.crates_of(top)[0]
+    counts, own = read(COUNTS), [sources.digest_of_crate(top, it) for it in sources.crates_of(top)[0]]
     return sum(counts[it] for it in own) if all(it in counts for it in own) else None

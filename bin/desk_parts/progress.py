@@ -1,11 +1,12 @@
 """How far a build of the program is: crates done of all, and a guess of the minutes that are left.
 
 The guess goes by what each crate's proof cost when bin/meter last saw it on this machine, and else by the length of its
-sources. What is done already says how fast this run goes.
+sources. What this run proved says how fast it goes.
 """
 import glob
 import json
 import os
+import re
 import sys
 import threading
 import time
@@ -14,6 +15,8 @@ KEPT = os.path.join(os.environ.get("XDG_STATE_HOME") or os.path.expanduser("~/.l
 SECONDS, LEAST_SHARE = 2, 0.04
 # What a proof costs where nothing is kept: processor minutes of a thousand lines.
 MINUTES_A_THOUSAND_LINES = 2.5
+# A line of the kit that says of a crate that it was proved, now or before.
+DONE = re.compile(r"(?m)^rt: (\w+) (proved|is kept)\b")
 
 
 def kept_minutes(crate):
@@ -39,41 +42,11 @@ def costs(top, crates):
     return {it: kept_minutes(it) or max(lines_in(top, it), 50) / 1_000 * MINUTES_A_THOUSAND_LINES for it in crates}
 
 
-def written(path):
-    """When the file was last written; never, where there is none."""
-    try:
-        return os.path.getmtime(path)
-    except OSError:
-        return 0.0
-
-
-def placed(path):
-    """When the file came to be here; never, where there is none. The kit takes over what it built in another copy."""
-    try:
-        return os.stat(path).st_ctime
-    except OSError:
-        return 0.0
-
-
-def newest_source(top, crate):
-    """When a source of the crate was last written."""
-    paths = [
-        it for part in ("src", "specs", "proofs") for it in glob.glob(f"{top}/crates/{crate}/{part}/**", recursive=True)
-    ]
-    return max(map(written, paths), default=0.0)
-
-
-def is_done(top, crate):
-    """Whether the crate was built since its sources were written: by this build, or by one that was stopped."""
-    built = [*glob.glob(f"{top}/crates/{crate}/out/rlib/*.rlib"), f"{top}/crates/{crate}/out/{crate}"]
-    return max(map(placed, built), default=0.0) > newest_source(top, crate)
-
-
-def told(done, before, all_costs, seconds):
-    """The line that says how far it is. What was done before this build began says nothing of its speed."""
+def told(proved, kept, all_costs, seconds):
+    """The line that says how far it is. What an earlier build proved says nothing of this one's speed."""
+    done = proved | kept
     line = f"bin/desk: {len(done)} of {len(all_costs)} crates done, {int(seconds // 60)} minutes so far"
-    here = sum(all_costs[it] for it in done if it not in before)
-    left = sum(cost for it, cost in all_costs.items() if it not in done)
+    here, left = sum(all_costs[it] for it in proved), sum(cost for it, cost in all_costs.items() if it not in done)
     if here >= LEAST_SHARE * (here + left) and left:
         minutes = max(round(seconds * left / here / 60), 1)
         line += f", about {minutes} minute{'s' if minutes > 1 else ''} left"
@@ -81,27 +54,30 @@ def told(done, before, all_costs, seconds):
 
 
 class Progress:
-    """Says it on one line until it is ended; where nobody looks, a line for each crate."""
+    """Says it on one line until it is ended; where nobody looks, a line for each crate. What the kit says is read from its log."""
 
-    def __init__(self, top, crates):
-        self.top, self.costs = top, costs(top, crates)
-        self.before = self.done()
+    def __init__(self, top, crates, log):
+        self.costs, self.log = costs(top, crates), log
         self.ended, self.said = threading.Event(), None
         self.thread = threading.Thread(target=self.run, daemon=True)
 
     def done(self):
-        return {it for it in self.costs if is_done(self.top, it)}
+        """The crates that this run proved, and those that an earlier one did."""
+        with open(self.log, encoding="utf-8", errors="replace") as file:
+            said = DONE.findall(file.read())
+        of = [{name for name, how in said if name in self.costs and how == it} for it in ("proved", "is kept")]
+        return of[0], of[1] - of[0]
 
     def run(self):
         start = time.monotonic()
         while not self.ended.wait(SECONDS):
-            done = self.done()
-            line = told(done, self.before, self.costs, time.monotonic() - start)
+            proved, kept = self.done()
+            line = told(proved, kept, self.costs, time.monotonic() - start)
             if sys.stderr.isatty():
                 print(f"\r\033[K{line} ", end="", file=sys.stderr, flush=True)
-            elif len(done) != self.said:
+            elif len(proved | kept) != self.said:
                 print(line, file=sys.stderr, flush=True)
-            self.said = len(done)
+            self.said = len(proved | kept)
 
     def __enter__(self):
         self.thread.start()

@@ -6,12 +6,15 @@ import os
 PARTS = "src", "specs", "proofs"
 
 
+def files_of(top, crate):
+    """The files of one crate, or of each by `*`, by their names from the top, in order."""
+    found = [it for part in PARTS for it in glob.glob(f"{top}/crates/{crate}/{part}/**", recursive=True)]
+    return sorted(os.path.relpath(it, top) for it in found if os.path.isfile(it))
+
+
 def files(top):
     """Their names from the top, in order."""
-    found = [f"{top}/crates.txt", f"{top}/HANDLES"]
-    for part in PARTS:
-        found += glob.glob(f"{top}/crates/*/{part}/**", recursive=True)
-    return sorted(os.path.relpath(it, top) for it in found if os.path.isfile(it))
+    return sorted([*files_of(top, "*"), *(it for it in ("crates.txt", "HANDLES") if os.path.isfile(f"{top}/{it}"))])
 
 
 def digest_of(path):
@@ -19,10 +22,17 @@ def digest_of(path):
         return hashlib.sha256(file.read()).hexdigest()
 
 
+def digest_of_files(top, names):
+    """The SHA-256 of a list as `sha256sum` prints it: a line a file."""
+    return hashlib.sha256("".join(f"{digest_of(f'{top}/{it}')}  {it}\n" for it in names).encode()).hexdigest()
+
+
 def digest(top):
-    """The SHA-256 of a list as `sha256sum` prints it: a line a file, in the order of names."""
-    lines = "".join(f"{digest_of(f'{top}/{it}')}  {it}\n" for it in files(top))
-    return hashlib.sha256(lines.encode()).hexdigest()
+    return digest_of_files(top, files(top))
+
+
+def digest_of_crate(top, crate):
+    return digest_of_files(top, files_of(top, crate))
 
 
 def crates_of(top, name="pt_app"):
