@@ -1,9 +1,15 @@
-"""Compiles the program of the sources with no proof. It takes the Rattle kit, and the package has no use for it."""
+"""Compiles the program of the sources with no proof. It takes the Rattle kit, and the package has no use for it.
+
+The first program is made in a few minutes and is slow. While the office runs, a quick one is made for the next start.
+"""
+import contextlib
 import glob
 import hashlib
 import os
 import shutil
+import signal
 import subprocess
+import sys
 import tempfile
 import time
 
@@ -16,6 +22,8 @@ ROOM = 600_000_000
 OF_TRIALS = "-fsanitize=", "-O", "-Werror"
 # The kit first tries its compiler on a module of some hundred bytes; a program's module has megabytes.
 SMALLEST_MODULE = 100_000
+# The first program takes a fifth of the time of the quick one to compile, and twenty times as long for each request.
+FAST, QUICK = "-O0", "-O2"
 
 
 def kits_line():
@@ -31,35 +39,62 @@ def kits_line():
     return ran.stdout.strip()
 
 
-def kept_name(top, kit):
-    return hashlib.sha256(f"{kit} {sources.digest(top)}".encode()).hexdigest()[:24]
+def places(top):
+    """Where the quick program and the first one of these sources are kept."""
+    cache = os.path.join(os.environ.get("XDG_CACHE_HOME") or os.path.expanduser("~/.cache"), "desk")
+    name = hashlib.sha256(f"{kits_line()} {sources.digest(top)}".encode()).hexdigest()[:24]
+    return f"{cache}/unproved-{name}", f"{cache}/unproved-{name}-first"
 
 
 def program(top, step):
-    """The program compiled with no proof, kept for the next time."""
-    kit = kits_line()
-    cache = os.path.join(os.environ.get("XDG_CACHE_HOME") or os.path.expanduser("~/.cache"), "desk")
-    kept = f"{cache}/unproved-{kept_name(top, kit)}"
-    if not os.path.isfile(kept):
-        os.makedirs(cache, exist_ok=True)
-        with tempfile.TemporaryDirectory(prefix="desk-office-") as room:
-            if shutil.disk_usage(room).free < ROOM:
-                raise Trouble(f"compiling takes {ROOM // 1_000_000} megabytes in {room}, and there is less")
-            made = compiled(top, room, step)
-            part = f"{kept}.{os.getpid()}"
-            shutil.copy(made, part)
-            os.replace(part, kept)
-    return kept
+    """The program compiled with no proof: a quick one, where an earlier start made it."""
+    quick, first = places(top)
+    if os.path.isfile(quick):
+        return quick
+    if not os.path.isfile(first):
+        make(top, first, FAST, step)
+    return first
 
 
-def compiled(top, room, step):
+def make(top, kept, level, step):
+    """Makes the program at a level of LLVM's compiler, and keeps it."""
+    os.makedirs(os.path.dirname(kept), exist_ok=True)
+    with tempfile.TemporaryDirectory(prefix="desk-office-") as room:
+        if shutil.disk_usage(room).free < ROOM:
+            raise Trouble(f"compiling takes {ROOM // 1_000_000} megabytes in {room}, and there is less")
+        made = compiled(top, room, level, step)
+        part = f"{kept}.{os.getpid()}"
+        shutil.copy(made, part)
+        os.replace(part, kept)
+
+
+class Quicker:
+    """Makes the quick program while the office runs, by a process that gives way to all others."""
+
+    def __init__(self, top):
+        words = ["nice", "-n", "19", sys.executable, "-B", "-m", "office_parts.unproved", top]
+        self.process = subprocess.Popen(
+            words, cwd=f"{top}/bin", stdin=subprocess.DEVNULL, stdout=subprocess.DEVNULL, stderr=subprocess.DEVNULL,
+            start_new_session=True,
+        )
+
+    def stop(self):
+        end(self.process, 60)
+
+
+def quicker(top, path):
+    """What makes a quick program for the next start, or None where this one is quick."""
+    return Quicker(top) if path == places(top)[1] else None
+
+
+def compiled(top, room, level, step):
     """Makes the program in the folder `room`. The kit writes a module for LLVM, and its own compiler goes on from it."""
-    with step("reading the sources, without proofs, in a minute or two"):
+    with step("reading the sources, without proofs, in two or three minutes"):
         copy_sources(top, f"{room}/tree")
         compiler, words = module_of(f"{room}/tree/crates/{CRATE}", room)
-    with step("compiling, in a minute or two"):
+    with step("compiling"):
         toolchain = os.path.dirname(os.path.dirname(compiler))
-        run([compiler, *[it for it in words[1:] if not it.startswith(OF_TRIALS)], "-O2"], room)
+        run([compiler, *[it for it in words[1:] if not it.startswith(OF_TRIALS)], level], room)
         return linked(toolchain, words, room)
 
 
@@ -137,3 +172,13 @@ def run(words, folder):
     if ran.returncode:
         said = (ran.stderr or ran.stdout).decode(errors="replace").strip()
         raise Trouble(f"the program was not compiled: {os.path.basename(words[0])} says {said[-300:]!r}")
+
+
+def main(top):
+    """Makes the quick program. Whoever started this ends it by SIGTERM, and nothing is left then."""
+    signal.signal(signal.SIGTERM, lambda *_: sys.exit(1))
+    make(top, places(top)[0], QUICK, lambda text: contextlib.nullcontext())
+
+
+if __name__ == "__main__":
+    main(sys.argv[1])
