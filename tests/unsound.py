@@ -98,6 +98,7 @@ ROWS = [
     ("a duration of 50", "UPDATE vehicles SET duration = 50", UNSOUND, "travel"),
     ("a drop after the next trip's pickup", exchanged(1, 2), UNSOUND, "travel"),
     ("a plan before its van's first version", "UPDATE vehicles SET from_day = from_day + 30", UNSOUND, "travel"),
+    ("a duration of 50 on a day off", "UPDATE vehicles SET days = 0, duration = 50", UNSOUND, "travel"),
     ("a row of no chairs", f"{CHAIRS}, 0 FROM vehicles", UNSOUND, "vehicle_chairs"),
     ("11 chairs", f"{CHAIRS}, 11 FROM vehicles", UNSOUND, "vehicle_chairs"),
     ("a wheelchair without a place", "INSERT INTO trip_chairs VALUES(1)", UNSOUND, "trip_chairs"),
@@ -129,6 +130,7 @@ ROWS = [
 SOUND = [
     ("an appeal against position 199", appeal_against(199)),
     ("a kept appeal against position 199", kept_appeal(199)),
+    ("a plan on its van's day off", "UPDATE vehicles SET days = 0"),
 ]
 # Rows that come two at once: the lower table is told.
 PAIRS = [

@@ -22,14 +22,15 @@ use Rattle.pt_scheduling.proofs.FeasibleLemmas.{among_put, booked_feasible, feas
 use Rattle.pt_scheduling.proofs.PlanLemmas.{found_key}
 use Rattle.pt_scheduling.proofs.RouteLemmas.{booked_plan, has_trip, Each-found}
 use Rattle.pt_desk_rules.specs.Booking.{routes_on, rows_of, AreTimes}
-use Rattle.pt_desk_rules.specs.Fleet.{has_weekday, is_newer, is_on_duty, on_duty, ClosesInDay}
+use Rattle.pt_desk_rules.specs.Fleet.{has_weekday, in_force, is_in_force, is_newer, on_duty, ClosesInDay}
 use Rattle.pt_desk_rules.specs.Planned.{is_booked_from, is_standing_from, planned_on, trips_on}
-use Rattle.pt_desk_rules.specs.Sound.{CanDrive, DrivesIn, HasDay, HasFirstDay, HasStandingTrips, HasStops, HasTimes, HoldsOnDuty, IsOnDay, IsSound, LoadsFitIn, StandsIn}
+use Rattle.pt_desk_rules.specs.Sound.{CanDrive, DrivesIn, HasDay, HasFirstDay, HasStandingTrips, HasStops, HasTimes, HoldsInForce, IsOnDay, IsSound, LoadsFitIn, StandsIn}
 use Rattle.pt_desk_rules.specs.State.{tables_before, tables_from, travel_key, trip_key, vehicle_key, State}
+use Rattle.pt_desk_rules.specs.Tours.{IsOnDutyIn, PlansAreOnDuty}
 use Rattle.pt_desk_rules.specs.Travel as dated
 use Rattle.pt_desk_rules.specs.Travel.{holds_on, table_on, DatedTable}
 use Rattle.pt_desk_rules.specs.Trips.{plan_of_stops, plan_span}
-use Rattle.pt_desk_laws.proofs.DutyLemmas.{duty_order, each_one, id_of}
+use Rattle.pt_desk_laws.proofs.DutyLemmas.{duty_of_force, filter_both, force_order, id_of}
 use Rattle.pt_desk_rules.proofs.FleetLemmas.{filter-kept, filter-put_other, fleet_with, kept_versions}
 use Rattle.pt_desk_laws.proofs.PlannedLemmas.{filter-gives, own_key, place_of_old, standing_at, stands_below}
 use Rattle.pt_desk_laws.proofs.StandingLemmas.{same_place, trip_on}
@@ -82,15 +83,6 @@ filter_alike p q same (x ∷ xs) =
     ap (λ b. cond b (x ∷ filter p xs) (filter p xs)) (same x)
     ∙ ap (λ ys. cond (q x) (x ∷ ys) ys) (filter_alike p q same xs)
 
-filter_both : {A : Type 0} (p q : A → Bool) (xs : List A) → filter p (filter q xs) ≡ filter (λ x. q x && p x) xs
-filter_both p q [] = refl
-filter_both p q (x ∷ xs) = step p x (filter q xs) (filter (λ y. q y && p y) xs) (q x) (filter_both p q xs)
-  where
-    step : {A : Type 0} (p : A → Bool) (x : A) (ys zs : List A) (b : Bool) → filter p ys ≡ zs
-        → filter p (cond b (x ∷ ys) ys) ≡ cond (b && p x) (x ∷ zs) zs
-    step p x ys zs true same = ap (λ rest. cond (p x) (x ∷ rest) rest) same
-    step p x ys zs false same = same
-
 -- the property holds for one of a list
 abbrev pub Some_of : {A : Type 0} → (A → Type 0) → List A → Type 0
 Some_of P [] = ⊥
@@ -131,6 +123,19 @@ some_passed P test (x ∷ xs) some = passed P x (filter test xs) xs (test x) (so
     passed P x ys xs true rest (inr some) = inr (rest some)
     passed P x ys xs false rest some = inr (rest some)
 
+-- one that passes a test has the property, and passes
+some_kept : {A : Type 0} (P : A → Type 0) (test : A → Bool) (xs : List A) → Some_of P (filter test xs)
+    → Some_of (λ x. P x × (test x ≡ true)) xs
+some_kept P test [] some = some
+some_kept P test (x ∷ xs) some = kept P test x (filter test xs) xs (test x) refl (some_kept P test xs) some
+  where
+    kept : {A : Type 0} (P : A → Type 0) (test : A → Bool) (x : A) (ys xs : List A) (b : Bool) → test x ≡ b
+        → (Some_of P ys → Some_of (λ y. P y × (test y ≡ true)) xs)
+        → Some_of P (cond b (x ∷ ys) ys) → Some_of (λ y. P y × (test y ≡ true)) (x ∷ xs)
+    kept P test x ys xs true is rest (inl holds) = inl (holds, is)
+    kept P test x ys xs true is rest (inr some) = inr (rest some)
+    kept P test x ys xs false is rest some = inr (rest some)
+
 -- if the same elements pass a test, a property of one that passes holds for one in each list
 any_moves : {A : Type 0} (P : A → Type 0) (test : A → Bool) → ((x : A) → P x → test x ≡ true) → (xs ys : List A)
     → filter test xs ≡ filter test ys → Any P xs → Any P ys
@@ -142,11 +147,36 @@ any_moves P test gives xs ys same (k, a, within, at, holds) =
 any_gives : {A : Type 0} (P Q : A → Type 0) → ((x : A) → P x → Q x) → (xs : List A) → Any P xs → Any Q xs
 any_gives P Q gives xs (k, a, within, at, holds) = (k, a, within, at, gives a holds)
 
--- The one version of a vehicle that is on duty drives its stops, and has room.
+-- A version on duty is one in force that runs on the weekday.
 
--- the version of this vehicle that is on duty on this day can drive the stops by the travel table that holds then
+-- the same of the one on duty: it is in force, and runs on the weekday
+duty_in_force : (P : Vehicle → Type 0) (day : ℕ) (vehicles : List Vehicle) → Any P (on_duty day vehicles)
+    → Any (λ v. P v × (has_weekday day v ≡ true)) (in_force day vehicles)
+duty_in_force P day vehicles (k, a, within, at, holds) =
+    some_any (λ v. P v × (has_weekday day v ≡ true)) (in_force day vehicles)
+    (some_kept P (has_weekday day) (in_force day vehicles)
+    (subst (λ vs. Some_of P vs) (sym (duty_of_force day vehicles))
+    (some_at P (on_duty day vehicles) k a within at holds)))
+
+force_on_duty : (P : Vehicle → Type 0) (day : ℕ) (vehicles : List Vehicle)
+    → Any (λ v. P v × (has_weekday day v ≡ true)) (in_force day vehicles) → Any P (on_duty day vehicles)
+force_on_duty P day vehicles (k, a, within, at, holds) =
+    any_gives (λ v. P v × (has_weekday day v ≡ true)) P (λ v is. is.0) (on_duty day vehicles)
+    (some_any (λ v. P v × (has_weekday day v ≡ true)) (on_duty day vehicles)
+    (subst (λ vs. Some_of (λ v. P v × (has_weekday day v ≡ true)) vs) (duty_of_force day vehicles)
+    (some_passes (λ v. P v × (has_weekday day v ≡ true)) (has_weekday day) (λ v is. is.1) (in_force day vehicles)
+    (some_at (λ v. P v × (has_weekday day v ≡ true)) (in_force day vehicles) k a within at holds))))
+
+-- The one version of a vehicle that is in force drives its stops, and has room.
+
+-- the version of this vehicle that is in force on this day can drive the stops by the travel table that holds then
 abbrev pub CanServe : List Vehicle → List DatedTable → ℕ → ℕ → List Stop → Type 0
-CanServe vehicles travel id day stops = HoldsOnDuty (CanDrive (rows_of (table_on day travel)) stops) vehicles id day
+CanServe vehicles travel id day stops = HoldsInForce (CanDrive (rows_of (table_on day travel)) stops) vehicles id day
+
+-- the version that is on duty can
+abbrev pub ServesOnDuty : List Vehicle → List DatedTable → ℕ → ℕ → List Stop → Type 0
+ServesOnDuty vehicles travel id day stops =
+    Any (λ (v : Vehicle). (v.id ≡ id) × CanDrive (rows_of (table_on day travel)) stops v) (on_duty day vehicles)
 
 -- the vehicle of a plan can drive the stops of its trips on its day
 abbrev pub FitsIn : List Vehicle → List DatedTable → List Trip → Plan → Type 0
@@ -176,17 +206,17 @@ both_fit : (vehicles : List Vehicle) (travel : List DatedTable) (trips : List Tr
 both_fit vehicles travel trips plan days order (k, first, within, at, drives) (l, second, below, is, loads) =
     let rows = rows_of (table_on plan.day travel) in
     let stops = stops_among trips plan.stops in
-    let duty = on_duty plan.day vehicles in
+    let force = in_force plan.day vehicles in
     any_gives
     (λ (v : Vehicle). (v.id ≡ plan.vehicle) × (HasTimes rows stops v × LoadsFit v stops))
     (λ (v : Vehicle). (v.id ≡ plan.vehicle) × CanDrive rows stops v)
     (λ v (own, ((minutes, times, b, fits), room)).
-    (own, (minutes, times, record { loads = room; times = (b, fits) }))) duty
-    (some_any (λ (v : Vehicle). (v.id ≡ plan.vehicle) × (HasTimes rows stops v × LoadsFit v stops)) duty
-    (one_both (HasTimes rows stops) (λ (v : Vehicle). LoadsFit v stops) plan.vehicle duty
-    (duty_order plan.day vehicles vehicles (each_one vehicles) days order)
-    (some_at (λ (v : Vehicle). (v.id ≡ plan.vehicle) × HasTimes rows stops v) duty k first within at drives)
-    (some_at (λ (v : Vehicle). (v.id ≡ plan.vehicle) × LoadsFit v stops) duty l second below is loads)))
+    (own, (minutes, times, record { loads = room; times = (b, fits) }))) force
+    (some_any (λ (v : Vehicle). (v.id ≡ plan.vehicle) × (HasTimes rows stops v × LoadsFit v stops)) force
+    (one_both (HasTimes rows stops) (λ (v : Vehicle). LoadsFit v stops) plan.vehicle force
+    (force_order plan.day vehicles days order)
+    (some_at (λ (v : Vehicle). (v.id ≡ plan.vehicle) × HasTimes rows stops v) force k first within at drives)
+    (some_at (λ (v : Vehicle). (v.id ≡ plan.vehicle) × LoadsFit v stops) force l second below is loads)))
 
 -- each plan of a sound state fits
 pub planned_fit : (s : State) → IsSound s → Each (FitsIn s.vehicles s.travel s.trips) s.planned
@@ -206,7 +236,7 @@ each_drive vehicles travel trips plans each =
     (λ (v : Vehicle). (v.id ≡ plan.vehicle)
     × HasTimes (rows_of (table_on plan.day travel)) (stops_among trips plan.stops) v)
     (λ v (own, (minutes, times, feasible)).
-    let (b, fit) = feasible.times in (own, (minutes, times, b, fit))) (on_duty plan.day vehicles) fits)
+    let (b, fit) = feasible.times in (own, (minutes, times, b, fit))) (in_force plan.day vehicles) fits)
     plans each
 
 -- the vehicle of a plan that fits has room
@@ -218,8 +248,34 @@ each_load vehicles travel trips plans each =
     (λ (v : Vehicle). (v.id ≡ plan.vehicle)
     × CanDrive (rows_of (table_on plan.day travel)) (stops_among trips plan.stops) v)
     (λ (v : Vehicle). (v.id ≡ plan.vehicle) × LoadsFit v (stops_among trips plan.stops))
-    (λ v (own, (minutes, times, feasible)). (own, feasible.loads)) (on_duty plan.day vehicles) fits)
+    (λ v (own, (minutes, times, feasible)). (own, feasible.loads)) (in_force plan.day vehicles) fits)
     plans each
+
+-- if the vehicle is on duty that day, the version on duty can drive the stops
+pub duty_serves : (vehicles : List Vehicle) (travel : List DatedTable) (id day : ℕ) (stops : List Stop)
+    → Each HasFirstDay vehicles → IsInOrder vehicle_key vehicles → CanServe vehicles travel id day stops
+    → Any (λ (v : Vehicle). v.id ≡ id) (on_duty day vehicles) → ServesOnDuty vehicles travel id day stops
+duty_serves vehicles travel id day stops days order (k, a, within, at, holds) duty =
+    let rows = rows_of (table_on day travel) in
+    let force = in_force day vehicles in
+    let (l, b, below, is, runs) = duty_in_force (λ (v : Vehicle). v.id ≡ id) day vehicles duty in
+    force_on_duty (λ (v : Vehicle). (v.id ≡ id) × CanDrive rows stops v) day vehicles
+    (any_gives (λ (v : Vehicle). (v.id ≡ id) × (CanDrive rows stops v × (has_weekday day v ≡ true)))
+    (λ (v : Vehicle). ((v.id ≡ id) × CanDrive rows stops v) × (has_weekday day v ≡ true))
+    (λ v (own, (drives, on)). ((own, drives), on)) force
+    (some_any (λ (v : Vehicle). (v.id ≡ id) × (CanDrive rows stops v × (has_weekday day v ≡ true))) force
+    (one_both (CanDrive rows stops) (λ (v : Vehicle). has_weekday day v ≡ true) id force
+    (force_order day vehicles days order)
+    (some_at (λ (v : Vehicle). (v.id ≡ id) × CanDrive rows stops v) force k a within at holds)
+    (some_at (λ (v : Vehicle). (v.id ≡ id) × (has_weekday day v ≡ true)) force l b below is runs))))
+
+-- a version that is on duty and can drive the stops is in force
+duty_can_serve : (vehicles : List Vehicle) (travel : List DatedTable) (id day : ℕ) (stops : List Stop)
+    → ServesOnDuty vehicles travel id day stops → CanServe vehicles travel id day stops
+duty_can_serve vehicles travel id day stops serves =
+    let drives : Vehicle → Type 0 = λ v. (v.id ≡ id) × CanDrive (rows_of (table_on day travel)) stops v in
+    any_gives (λ (v : Vehicle). drives v × (has_weekday day v ≡ true)) drives (λ v is. is.0) (in_force day vehicles)
+    (duty_in_force drives day vehicles serves)
 
 first_no : (a b : Bool) → a ≡ false → (a && b) ≡ false
 first_no false b fails = refl
@@ -287,14 +343,14 @@ not_newer day id new version earlier own other of_new from = elim (same_or_other
 ]
 
 abbrev serves : ℕ → List Vehicle → ℕ → Vehicle → Bool
-serves day all id version = is_on_duty day all version && (version.id == id)
+serves day all id version = is_in_force day all version && (version.id == id)
 
 not_serving : (day id : ℕ) (new : Vehicle) (all : List Vehicle) → (id ≡ new.id → day < new.from_day)
     → (other : Vehicle) → other.id ≡ new.id → new.from_day ≤ other.from_day
     → serves day all id other ≡ false
 not_serving day id new all earlier other of_new from = elim (same_or_other other.id id) [
   | inl same ↦ let lt = earlier (sym same ∙ of_new) in first_no _ _
-      (first_no _ _ (first_no _ _ (not_come day other.from_day (omega arith))))
+      (first_no _ _ (not_come day other.from_day (omega arith)))
   | inr differ ↦ second_no _ _ (is_no other.id id differ)
 ]
 
@@ -305,33 +361,41 @@ serves_alike day id new vehicles first days earlier version = by (version.id == 
   where
     by : (b : Bool) → (version.id == id) ≡ b → serves day (fleet_with new vehicles) id version ≡ serves day vehicles
         id version
-    by true own = ap (λ b. ((nat_le version.from_day day && not b) && has_weekday day version) && (version.id == id))
+    by true own = ap (λ b. (nat_le version.from_day day && not b) && (version.id == id))
         (same_any (is_newer day version) (fleet_with new vehicles) vehicles
         (kept_versions (is_newer day version) new vehicles first days
         (not_newer day id new version earlier (are_same version.id id own))))
     by false other = second_no _ _ other ∙ sym (second_no _ _ other)
 
-duty_stays : (day id : ℕ) (new : Vehicle) (vehicles : List Vehicle) → HasFirstDay new → Each HasFirstDay vehicles
+force_stays : (day id : ℕ) (new : Vehicle) (vehicles : List Vehicle) → HasFirstDay new → Each HasFirstDay vehicles
     → (id ≡ new.id → day < new.from_day)
-    → filter (λ version. version.id == id) (on_duty day vehicles) ≡ filter (λ version. version.id == id)
-    (on_duty day (fleet_with new vehicles))
-duty_stays day id new vehicles first days earlier =
-    filter_both (λ version. version.id == id) (is_on_duty day vehicles) vehicles
+    → filter (λ version. version.id == id) (in_force day vehicles) ≡ filter (λ version. version.id == id)
+    (in_force day (fleet_with new vehicles))
+force_stays day id new vehicles first days earlier =
+    filter_both (λ version. version.id == id) (is_in_force day vehicles) vehicles
     ∙ sym (kept_versions (serves day vehicles id) new vehicles first days (not_serving day id new vehicles earlier))
     ∙ sym (filter_alike (serves day (fleet_with new vehicles) id) (serves day vehicles id)
     (serves_alike day id new vehicles first days earlier) (fleet_with new vehicles))
-    ∙ sym (filter_both (λ version. version.id == id) (is_on_duty day (fleet_with new vehicles))
+    ∙ sym (filter_both (λ version. version.id == id) (is_in_force day (fleet_with new vehicles))
     (fleet_with new vehicles))
 
--- so a vehicle that can serve still can
-serves_still : (day id : ℕ) (new : Vehicle) (vehicles : List Vehicle) (travel : List DatedTable) (stops : List Stop)
-    → HasFirstDay new → Each HasFirstDay vehicles → (id ≡ new.id → day < new.from_day)
-    → CanServe vehicles travel id day stops → CanServe (fleet_with new vehicles) travel id day stops
-serves_still day id new vehicles travel stops first days earlier can =
-    any_moves (λ (version : Vehicle). (version.id ≡ id) × CanDrive (rows_of (table_on day travel)) stops version)
-    (λ version. version.id == id) (λ version holds. is_same version.id id holds.0)
-    (on_duty day vehicles) (on_duty day (fleet_with new vehicles)) (duty_stays day id new vehicles first days earlier)
-    can
+-- so what holds of the version in force still does
+holds_still : (P : Vehicle → Type 0) (day id : ℕ) (new : Vehicle) (vehicles : List Vehicle) → HasFirstDay new
+    → Each HasFirstDay vehicles → (id ≡ new.id → day < new.from_day) → HoldsInForce P vehicles id day
+    → HoldsInForce P (fleet_with new vehicles) id day
+holds_still P day id new vehicles first days earlier holds =
+    any_moves (λ (version : Vehicle). (version.id ≡ id) × P version) (λ version. version.id == id)
+    (λ version is. is_same version.id id is.0) (in_force day vehicles) (in_force day (fleet_with new vehicles))
+    (force_stays day id new vehicles first days earlier) holds
+
+-- and a vehicle that is on duty still is
+duty_still : (day id : ℕ) (new : Vehicle) (vehicles : List Vehicle) → HasFirstDay new → Each HasFirstDay vehicles
+    → (id ≡ new.id → day < new.from_day) → Any (λ (v : Vehicle). v.id ≡ id) (on_duty day vehicles)
+    → Any (λ (v : Vehicle). v.id ≡ id) (on_duty day (fleet_with new vehicles))
+duty_still day id new vehicles first days earlier duty =
+    force_on_duty (λ (v : Vehicle). v.id ≡ id) day (fleet_with new vehicles)
+    (holds_still (λ v. has_weekday day v ≡ true) day id new vehicles first days earlier
+    (duty_in_force (λ (v : Vehicle). v.id ≡ id) day vehicles duty))
 
 -- A vehicle with a plan is booked on its day.
 
@@ -409,10 +473,20 @@ pub vehicle_fits : (new : Vehicle) (s : State) → IsSound s → HasFirstDay new
     → Each (FitsIn (fleet_with new s.vehicles) s.travel s.trips) s.planned
 vehicle_fits new s sound day free =
     Each-weaker (IsSoundPlan s) (FitsIn (fleet_with new s.vehicles) s.travel s.trips)
-    (λ plan is. serves_still plan.day plan.vehicle new s.vehicles s.travel (stops_among s.trips plan.stops) day
-    (first_days s sound)
+    (λ plan is. holds_still (CanDrive (rows_of (table_on plan.day s.travel)) (stops_among s.trips plan.stops))
+    plan.day plan.vehicle new s.vehicles day (first_days s sound)
     (λ same. before_free s plan new.id new.from_day sound is.0 is.1 is.2 free same) is.3) s.planned
     (sound_plans s sound)
+
+-- and each plan's vehicle is still on duty
+pub vehicle_duties : (new : Vehicle) (s : State) → IsSound s → HasFirstDay new
+    → is_booked_from (Some new.id) new.from_day s.trips ≡ false → PlansAreOnDuty s
+    → Each (IsOnDutyIn (fleet_with new s.vehicles)) s.planned
+vehicle_duties new s sound day free duties =
+    Each-both (IsSoundPlan s) (IsOnDutyIn s.vehicles) (IsOnDutyIn (fleet_with new s.vehicles))
+    (λ plan is duty. duty_still plan.day plan.vehicle new s.vehicles day (first_days s sound)
+    (λ same. before_free s plan new.id new.from_day sound is.0 is.1 is.2 free same) duty) s.planned
+    (sound_plans s sound) duties
 
 -- each plan still fits after a table is put, if no vehicle has bookings
 pub travel_fits : (new : DatedTable) (s : State) → IsSound s → is_booked_from None new.from_day s.trips ≡ false
@@ -421,7 +495,7 @@ travel_fits new s sound free =
     Each-weaker (IsSoundPlan s) (FitsIn s.vehicles (tables_with new s.travel) s.trips)
     (λ plan is. subst
     (λ table. Any (λ (version : Vehicle). (version.id ≡ plan.vehicle) × CanDrive (rows_of table)
-    (stops_among s.trips plan.stops) version) (on_duty plan.day s.vehicles))
+    (stops_among s.trips plan.stops) version) (in_force plan.day s.vehicles))
     (sym (table_stays new plan.day s.travel (before_all_free s plan new.from_day sound is.0 is.1 is.2 free))) is.3)
     s.planned (sound_plans s sound)
 
@@ -467,8 +541,8 @@ without_fits : (s : State) (plan : Plan) (k : ℕ) → IsSound s → IsRoutePlan
     → CanServe s.vehicles s.travel plan.vehicle plan.day (stops_among s.trips plan.stops)
     → CanServe s.vehicles s.travel plan.vehicle plan.day (stops_among s.trips (without k plan.stops))
 without_fits s plan k sound route (l, version, within, at, (own, (minutes, times, feasible))) =
-    let hours = subst ClosesInDay at (Each-at ClosesInDay (on_duty plan.day s.vehicles)
-    (Each-filter ClosesInDay (is_on_duty plan.day s.vehicles) s.vehicles (hours s sound)) l version within) in (
+    let hours = subst ClosesInDay at (Each-at ClosesInDay (in_force plan.day s.vehicles)
+    (Each-filter ClosesInDay (is_in_force plan.day s.vehicles) s.vehicles (hours s sound)) l version within) in (
       l,
       version,
       within,
@@ -514,6 +588,26 @@ left_of_plan old new s (Some plan) sound day is found =
     (subst (λ (d : ℕ). CanServe s.vehicles s.travel old.vehicle d (stops_among s.trips left)) (sym place.1)
     (subst (λ (v : ℕ). CanServe s.vehicles s.travel v plan.day (stops_among s.trips left)) (sym place.0) fits)))
 
+-- the vehicle of the rest is still on duty
+left_duty : (old : Trip) (s : State) (found : Option Plan) → IsSound s → PlansAreOnDuty s → HasDay old
+    → record_at plan_key (pair_key old.vehicle old.wish.day) s.planned ≡ found
+    → Each (IsOnDutyIn s.vehicles) (plan_of_stops old (without old.id (stops_of_plan found)))
+left_duty old s None sound duties day is = tt
+left_duty old s (Some plan) sound duties day is =
+    let key = pair_key old.vehicle old.wish.day in
+    let on = Each-found IsOnDay plan_key key plan s.planned (planned_days s sound) is in
+    let place = same_place old plan day on (sym (found_key plan_key key plan s.planned is)) in
+    let duty = Each-found (IsOnDutyIn s.vehicles) plan_key key plan s.planned duties is in
+    one_plan (IsOnDutyIn s.vehicles) old (without old.id plan.stops)
+    (subst (λ (d : ℕ). Any (λ (v : Vehicle). v.id ≡ old.vehicle) (on_duty d s.vehicles)) (sym place.1)
+    (subst (λ (n : ℕ). Any (λ (v : Vehicle). v.id ≡ n) (on_duty plan.day s.vehicles)) (sym place.0) duty))
+
+pub left_on_duty : (old : Trip) (s : State) → IsSound s → PlansAreOnDuty s → HasDay old
+    → Each (IsOnDutyIn s.vehicles)
+    (plan_of_stops old (without old.id (planned_stops old.vehicle old.wish.day s.planned)))
+left_on_duty old s sound duties day =
+    left_duty old s (record_at plan_key (pair_key old.vehicle old.wish.day) s.planned) sound duties day refl
+
 -- the rest fits after a trip's stops are removed
 pub left_fits : (old new : Trip) (s : State) → IsSound s → HasDay old → new.id ≡ old.id
     → Each (FitsIn s.vehicles s.travel (put trip_key new s.trips))
@@ -546,13 +640,13 @@ in_both new number vehicle day s stop sound is_day own (trip, there, standing, a
           ∙ there,
     )
 
--- a trip that is booked fits in its plan
-pub booked_fits : (minutes : ℕ → ℕ → Option ℕ) (number day : ℕ) (request : request_of.Request) (trip : Trip)
+-- the version on duty can drive the plan of a trip that is booked
+booked_serves : (minutes : ℕ → ℕ → Option ℕ) (number day : ℕ) (request : request_of.Request) (trip : Trip)
     (plan : Plan) (s : State) → IsSound s → request.trip ≡ number → trip.wish.day ≡ day → IsDay day
     → AreTimes (rows_of (table_on day s.travel)) minutes
     → IsBookedIn minutes (routes_on number day s) request trip plan
-    → FitsIn s.vehicles s.travel (put trip_key trip s.trips) plan
-booked_fits minutes number day request trip plan s sound is on is_day times booked =
+    → ServesOnDuty s.vehicles s.travel plan.vehicle plan.day (stops_among (put trip_key trip s.trips) plan.stops)
+booked_serves minutes number day request trip plan s sound is on is_day times booked =
     let (vehicle, of_day, standing) = booked_plan minutes (routes_on number day s) request trip plan booked in
     let there = Each-filter (HasStandingTrips s.trips) (λ p. p.day == day) s.planned sound.planned_trips_stand in
     let both = filter-gives (λ (stop : PlannedStop). StandsIn s.trips (pair_key plan.vehicle day) stop.trip)
@@ -566,6 +660,27 @@ booked_fits minutes number day request trip plan s sound is on is_day times book
     (planned_on day s.planned) (on_duty day s.vehicles) request trip plan (put trip_key trip s.trips)
     (record_at-put_same trip_key trip s.trips) both (subst
     (λ (n : ℕ). IsBookedIn minutes (routes_on n day s) request trip plan) (sym is) booked) in
-    subst (λ (d : ℕ). CanServe s.vehicles s.travel plan.vehicle d
+    subst (λ (d : ℕ). ServesOnDuty s.vehicles s.travel plan.vehicle d
     (stops_among (put trip_key trip s.trips) plan.stops)) (sym on ∙ of_day)
     (l, version, within, at, (own, (minutes, times, feasible)))
+
+-- so the trip fits in its plan
+pub booked_fits : (minutes : ℕ → ℕ → Option ℕ) (number day : ℕ) (request : request_of.Request) (trip : Trip)
+    (plan : Plan) (s : State) → IsSound s → request.trip ≡ number → trip.wish.day ≡ day → IsDay day
+    → AreTimes (rows_of (table_on day s.travel)) minutes
+    → IsBookedIn minutes (routes_on number day s) request trip plan
+    → FitsIn s.vehicles s.travel (put trip_key trip s.trips) plan
+booked_fits minutes number day request trip plan s sound is on is_day times booked =
+    duty_can_serve s.vehicles s.travel plan.vehicle plan.day (stops_among (put trip_key trip s.trips) plan.stops)
+    (booked_serves minutes number day request trip plan s sound is on is_day times booked)
+
+-- and the plan's vehicle is on duty
+pub booked_on_duty : (minutes : ℕ → ℕ → Option ℕ) (number day : ℕ) (request : request_of.Request) (trip : Trip)
+    (plan : Plan) (s : State) → IsSound s → request.trip ≡ number → trip.wish.day ≡ day → IsDay day
+    → AreTimes (rows_of (table_on day s.travel)) minutes
+    → IsBookedIn minutes (routes_on number day s) request trip plan → IsOnDutyIn s.vehicles plan
+booked_on_duty minutes number day request trip plan s sound is on is_day times booked =
+    let stops = stops_among (put trip_key trip s.trips) plan.stops in
+    any_gives (λ (v : Vehicle). (v.id ≡ plan.vehicle) × CanDrive (rows_of (table_on plan.day s.travel)) stops v)
+    (λ (v : Vehicle). v.id ≡ plan.vehicle) (λ v is. is.0) (on_duty plan.day s.vehicles)
+    (booked_serves minutes number day request trip plan s sound is on is_day times booked)

@@ -1,4 +1,4 @@
--- In a sound state each vehicle that has stops on a day has a tour.
+-- In a sound state whose plans are of vehicles on duty, each vehicle that has stops on a day has a tour.
 use Rattle.std.proofs.Common.{◌≡◌, ℕ, ◌<◌, Bool, true, false, IsTrue, List, [], ◌∷◌, length, Option, Some, None, cond, refl, sym, ap, ◌∙◌, subst, inl, inr, arith}
 use Rattle.std.specs.Prelude.{◌==◌, ◌&&◌, filter, find, is_some}
 use Rattle.pt_desk_rules.specs.Day.{IsDay}
@@ -21,10 +21,10 @@ use Rattle.pt_desk_rules.specs.Fleet.{duty_of, is_on_duty, on_duty}
 use Rattle.pt_desk_rules.specs.Planned.{planned_on, trips_on}
 use Rattle.pt_desk_rules.specs.Sound.{CanDrive, HasDay, HasStandingTrips, IsOnDay, IsSound, StandsIn}
 use Rattle.pt_desk_rules.specs.State.{trip_key, State}
-use Rattle.pt_desk_rules.specs.Tours.{HasTour, HasTours, IsManifestOf, IsSheetOf, IsTourOrNone}
+use Rattle.pt_desk_rules.specs.Tours.{HasTour, HasTours, IsManifestOf, IsOnDutyIn, IsSheetOf, IsTourOrNone, PlansAreOnDuty}
 use Rattle.pt_desk_rules.specs.Travel.{table_on}
-use Rattle.pt_desk_laws.proofs.DutyLemmas.{duty_order, each_one, id_of}
-use Rattle.pt_desk_laws.proofs.FitLemmas.{is_no, planned_fit, some_at, CanServe, FitsIn, Some_of}
+use Rattle.pt_desk_laws.proofs.DutyLemmas.{duty_order, id_of}
+use Rattle.pt_desk_laws.proofs.FitLemmas.{duty_serves, is_no, planned_fit, some_at, FitsIn, ServesOnDuty, Some_of}
 use Rattle.pt_desk_laws.proofs.StandingLemmas.{is_same, record_at-filter, same_day, same_place, same_vehicle, trip_on}
 use Rattle.pt_desk_rules.proofs.RangeLemmas.{first_days, trip_days, planned_days}
 
@@ -89,10 +89,10 @@ not_none rows vehicle trips stops None has none = absurd (none has)
 not_none rows vehicle trips stops (Some tour) has is = refl
 
 -- the vehicle of a plan is on duty, and has a tour over the plan's stops
-plan_tour : (s : State) (id day : ℕ) (plan : Plan) (sheet : VehicleSheet) → IsSound s → IsDay day
+plan_tour : (s : State) (id day : ℕ) (plan : Plan) (sheet : VehicleSheet) → IsSound s → PlansAreOnDuty s → IsDay day
     → record_at plan_key (pair_key id day) s.planned ≡ Some plan → 0 < length plan.stops
     → IsManifestOf id day (day_of day s) (duty_of id day s.vehicles) sheet → IsTrue (is_some sheet.tour)
-plan_tour s id day plan sheet sound is_day found some shows =
+plan_tour s id day plan sheet sound duties is_day found some shows =
     let key = pair_key id day in
     let on = Each-found IsOnDay plan_key key plan s.planned (planned_days s sound) found in
     let same = found_key plan_key key plan s.planned found in
@@ -103,9 +103,11 @@ plan_tour s id day plan sheet sound is_day found some shows =
     in
     let stops = stops_among s.trips plan.stops in
     let rows = rows_of (table_on day s.travel) in
-    let (k, version, within, at, holds) = subst (λ (v : ℕ). CanServe s.vehicles s.travel v day stops) of_vehicle
-    (subst (λ (d : ℕ). CanServe s.vehicles s.travel plan.vehicle d stops) of_day fits) in
-    let order = duty_order day s.vehicles s.vehicles (each_one s.vehicles) (first_days s sound) sound.vehicles_in_order in
+    let serves = duty_serves s.vehicles s.travel plan.vehicle plan.day stops (first_days s sound)
+    sound.vehicles_in_order fits (Each-found (IsOnDutyIn s.vehicles) plan_key key plan s.planned duties found) in
+    let (k, version, within, at, holds) = subst (λ (v : ℕ). ServesOnDuty s.vehicles s.travel v day stops) of_vehicle
+    (subst (λ (d : ℕ). ServesOnDuty s.vehicles s.travel plan.vehicle d stops) of_day serves) in
+    let order = duty_order day s.vehicles (first_days s sound) sound.vehicles_in_order in
     let (there, is_found, drives) = find_one (CanDrive rows stops) id (on_duty day s.vehicles) order
     (some_at (λ (v : Vehicle). (v.id ≡ id) × CanDrive rows stops v) (on_duty day s.vehicles) k version within at
     holds) in
@@ -129,14 +131,15 @@ plan_tour s id day plan sheet sound is_day found some shows =
     not_none rows there (trips_on day s.trips) (stops_on day (trips_on day s.trips) (planned_on day s.planned) there.id)
     sheet.tour (subst (HasTour rows there) (sym driven) has) shown.tour
 
-by_plan : (s : State) (id day : ℕ) (plan : Option Plan) (sheet : VehicleSheet) → IsSound s → IsDay day
+by_plan : (s : State) (id day : ℕ) (plan : Option Plan) (sheet : VehicleSheet) → IsSound s → PlansAreOnDuty s
+    → IsDay day
     → record_at plan_key (pair_key id day) s.planned ≡ plan → 0 < length (stops_of_plan plan)
     → IsManifestOf id day (day_of day s) (duty_of id day s.vehicles) sheet → IsTrue (is_some sheet.tour)
-by_plan s id day None sheet sound is_day found some shows = absurd (omega (arith, some))
-by_plan s id day (Some plan) sheet sound is_day found some shows =
-    plan_tour s id day plan sheet sound is_day found some shows
+by_plan s id day None sheet sound duties is_day found some shows = absurd (omega (arith, some))
+by_plan s id day (Some plan) sheet sound duties is_day found some shows =
+    plan_tour s id day plan sheet sound duties is_day found some shows
 
--- in a sound state each vehicle that has stops on a day has its tour
-pub have_tours : (s : State) → IsSound s → HasTours s
-have_tours s sound id day sheet is_day some shows =
-    by_plan s id day (record_at plan_key (pair_key id day) s.planned) sheet sound is_day refl some shows
+-- so each vehicle that has stops on a day has its tour
+pub have_tours : (s : State) → IsSound s → PlansAreOnDuty s → HasTours s
+have_tours s sound duties id day sheet is_day some shows =
+    by_plan s id day (record_at plan_key (pair_key id day) s.planned) sheet sound duties is_day refl some shows

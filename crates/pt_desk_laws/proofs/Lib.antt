@@ -14,3 +14,4 @@ mod ReadLemmas
 mod OneLemmas
 pub mod AgainLemmas
 mod RightLemmas
+mod PlanDutyLemmas

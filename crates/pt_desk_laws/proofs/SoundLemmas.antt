@@ -108,7 +108,7 @@ one_holder-put new callers one are =
     (Each-put (λ b. new.digest ≡ b.digest → new.id ≡ b.id) caller_key new callers are (λ same. refl))
 
 -- each rule of a list holds
-abbrev AllHold : List (Rule × Bool) → Type 0
+abbrev pub AllHold : List (Rule × Bool) → Type 0
 AllHold [] = Unit {0}
 AllHold (first ∷ rest) = (first.1 ≡ true) × AllHold rest
 
@@ -259,7 +259,7 @@ holds_first : (name : Rule) (holds : Bool) (rest : List (Rule × Bool)) → firs
 holds_first name true rest none = (refl, none)
 holds_first name false rest none = absurd (cc)
 
-all_hold : (ordered : List (Rule × Bool)) → first_failing ordered ≡ None → AllHold ordered
+pub all_hold : (ordered : List (Rule × Bool)) → first_failing ordered ≡ None → AllHold ordered
 all_hold [] none = tt
 all_hold (first ∷ rest) none = let here = holds_first first.0 first.1 rest none in (here.0, all_hold rest here.1)
 
@@ -284,7 +284,7 @@ driver_stays new riders vehicles role.Dispatcher day days there = there
 driver_stays new riders vehicles (role.Driver vehicle) day days there = version_stays new vehicle vehicles day days there
 driver_stays new riders vehicles role.Admin day days there = there
 
-not_true : (b : Bool) → not b ≡ true → b ≡ false
+pub not_true : (b : Bool) → not b ≡ true → b ≡ false
 not_true true is = absurd (cc)
 not_true false is = refl
 
@@ -510,7 +510,7 @@ cancel_planned trip s sound day =
     (λ t kept differ standing. stays_planned trip t s.planned day kept.1 differ (kept.2 standing)) s.trips (kept_each s sound))
     (λ standing. absurd (cc))
 
-on_day : (request : request_of.Request) (trip : Trip) (wish : Wish) → trip.wish ≡ request.wish → request.wish ≡ wish → trip.wish.day ≡ wish.day
+pub on_day : (request : request_of.Request) (trip : Trip) (wish : Wish) → trip.wish ≡ request.wish → request.wish ≡ wish → trip.wish.day ≡ wish.day
 on_day request trip wish is wished = ap (λ (w : Wish). w.day) (is ∙ wished)
 
 -- a trip that is found is found by its own number

@@ -1,5 +1,5 @@
 -- What holds of every request in a sound state.
-use Rattle.std.specs.Prelude.{◌≡◌, ◌⊎◌, ℕ, ◌+◌, List, Option, Some, None}
+use Rattle.std.specs.Prelude.{◌≡◌, ◌⊎◌, ℕ, ◌+◌, List, [], Option, Some, None}
 use Rattle.pt_desk_rules.specs.Rule.{Rule}
 use Rattle.pt_desk_rules.specs.Wish.{Wish}
 use Rattle.pt_desk_rules.specs.Moment.{Moment}
@@ -13,6 +13,7 @@ use Rattle.pt_desk_rules.specs.Rules.{rules_of}
 use Rattle.pt_desk_rules.specs.Sound.{IsSound}
 use Rattle.pt_desk_rules.specs.State.{State}
 use Rattle.pt_desk_rules.specs.Step.{arrival_in, sender, state_after, IsOutcome}
+use Rattle.pt_desk_rules.specs.Tours.{PlansAreOnDuty}
 use Rattle.pt_desk_rules.specs.declared.facts.WriteFacts.{WriteFacts}
 use Rattle.pt_desk_rules.specs.declared.kept.Arrival.TheVariants.{New}
 use Rattle.pt_desk_rules.specs.Caller.{Caller}
@@ -22,12 +23,24 @@ use Rattle.pt_desk_rules.specs.Request.{Request}
 use Rattle.pt_desk_rules.specs.Request.TheVariants as request
 use Rattle.pt_desk_rules.specs.Write.{Write}
 use Rattle.pt_desk_rules.specs.Write.TheVariants as write
+use Rattle.pt_desk_laws.specs.Numbers.{AreCalls, Call}
 
 -- a request in a sound state leaves a sound state
 abbrev pub OutcomesOfSoundStatesAreSound : Type 0
 OutcomesOfSoundStatesAreSound =
     (key : List ℕ) (now : Moment) (number : ℕ) (asked : Request) (s : State) (told : Answer) (left : Option State) →
     IsSound s → IsOutcome key now number asked s told left → IsSound (state_after left s)
+
+-- a request in a sound state whose plans are of vehicles on duty leaves the plans so
+abbrev pub PlansStayOnDuty : Type 0
+PlansStayOnDuty =
+    (key : List ℕ) (now : Moment) (number : ℕ) (asked : Request) (s : State) (told : Answer) (left : Option State) →
+    IsSound s → PlansAreOnDuty s → IsOutcome key now number asked s told left → PlansAreOnDuty (state_after left s)
+
+-- whatever is asked from a sound state without plans on, each plan that is made is of a vehicle on duty
+abbrev pub PlansMadeAreOnDuty : Type 0
+PlansMadeAreOnDuty = (s after : State) (calls : List Call) → IsSound s → s.planned ≡ [] → AreCalls s calls after →
+    PlansAreOnDuty after
 
 -- this is the first rule of a booking to fail, for a wish under this number and by the driving times of its day
 pub record IsFirstOfBooking (facts : WriteFacts) (number : ℕ) (left_out : Option ℕ) (today : ℕ) (wish : Wish)

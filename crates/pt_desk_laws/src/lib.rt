@@ -5,6 +5,7 @@
 ghost use Rattle.pt_desk_laws.specs.Again.{ReadsAreTheSameAgain, RequestsAreTheSameAgain};
 ghost use Rattle.pt_desk_rules.specs.Booking.{HasRoutes};
 ghost use Rattle.pt_desk_laws.specs.Laws.{DenialsAreRight, OutcomesOfSoundStatesAreSound};
+ghost use Rattle.pt_desk_laws.specs.Laws.{PlansMadeAreOnDuty, PlansStayOnDuty};
 ghost use Rattle.pt_desk_laws.specs.Numbers.{AcceptedNumbersRise, AcceptedWritesAreKept, LastAcceptedIsKept};
 ghost use Rattle.pt_desk_laws.specs.Numbers.{AcceptedWritesMakeTheState};
 ghost use Rattle.pt_desk_laws.specs.Numbers.{DenialsAreTheSameAgain, RepeatsAreToldTheSame, WritesMayBeSentAgain};
@@ -12,7 +13,7 @@ ghost use Rattle.pt_desk_laws.specs.One.{OutcomesAreOne, RequestsOutliveCrashes}
 ghost use Rattle.pt_desk_laws.specs.Privacy.{TripsArePrivate};
 ghost use Rattle.pt_desk_rules.specs.Sound.{IsSound};
 ghost use Rattle.pt_desk_rules.specs.State.{State};
-ghost use Rattle.pt_desk_rules.specs.Tours.{HasTours, ShowStandingTrips};
+ghost use Rattle.pt_desk_rules.specs.Tours.{HasTours, PlansAreOnDuty, ShowStandingTrips};
 
 /// A law: in a sound state the vehicles of every day have routes. So the rule that a denial names is the first of all
 /// rules to fail.
@@ -31,9 +32,20 @@ pub fn denials_are_right()
     ensures { DenialsAreRight }
 {}
 
-/// A law: in a sound state every vehicle that has stops on a day has its tour on the manifest.
+/// A law: in a sound state whose plans are of vehicles on duty, every vehicle that has stops on a day has its tour on
+/// the manifest.
 pub fn sound_states_have_tours()
-    ensures { (s : State) → IsSound s → HasTours s }
+    ensures { (s : State) → IsSound s → PlansAreOnDuty s → HasTours s }
+{}
+
+/// A law: if the plans of a sound state are of vehicles on duty, they still are after any request.
+pub fn plans_stay_on_duty()
+    ensures { PlansStayOnDuty }
+{}
+
+/// A law: whatever is asked from a sound state without plans on, each plan that is made is of a vehicle on duty.
+pub fn plans_made_are_on_duty()
+    ensures { PlansMadeAreOnDuty }
 {}
 
 /// A law: in a sound state a manifest shows only stops of trips in its vehicle on its day that are not cancelled.

@@ -40,6 +40,10 @@ is_newer day version other =
 abbrev pub is_in_force : ℕ → List Vehicle → Vehicle → Bool
 is_in_force day vehicles version = nat_le version.from_day day && not (list_any (is_newer day version) vehicles)
 
+-- the versions in force on a day, in their order
+abbrev pub in_force : ℕ → List Vehicle → List Vehicle
+in_force day vehicles = filter (is_in_force day vehicles) vehicles
+
 -- the version runs on the day's weekday
 abbrev pub has_weekday : ℕ → Vehicle → Bool
 has_weekday day version = unwrap_or (slice_get version.days (weekday_of day)) false

@@ -23,7 +23,7 @@ use Rattle.pt_desk_rules.specs.State.{vehicle_key, travel_key, trip_key, entries
 use Rattle.pt_desk_rules.specs.Facts.{has_subject}
 use Rattle.pt_desk_rules.specs.Ranges.{KeepsRanges}
 use Rattle.pt_desk_rules.specs.Booking.{rows_of, AreTimes}
-use Rattle.pt_desk_rules.specs.Fleet.{on_duty, vehicle_count, versions_of}
+use Rattle.pt_desk_rules.specs.Fleet.{in_force, vehicle_count, versions_of}
 use Rattle.pt_desk_rules.specs.Rules.{are_there}
 use Rattle.pt_desk_rules.specs.Travel.{table_on, DatedTable}
 use Rattle.pt_requests.specs.declared.caller.Caller.{Caller}
@@ -134,20 +134,20 @@ abbrev pub HasTimes : List Row → List Stop → Vehicle → Type 0
 HasTimes rows stops vehicle =
     (minutes : ℕ → ℕ → Option ℕ) × AreTimes rows minutes × (b : List ℕ) × TimesFit minutes vehicle stops b
 
--- this holds of the version of this vehicle that is on duty on this day
-abbrev pub HoldsOnDuty : (Vehicle → Type 0) → List Vehicle → ℕ → ℕ → Type 0
-HoldsOnDuty P vehicles id day = Any (λ version. (version.id ≡ id) × P version) (on_duty day vehicles)
+-- this holds of the version of this vehicle that is in force on this day, whether it runs that day or not
+abbrev pub HoldsInForce : (Vehicle → Type 0) → List Vehicle → ℕ → ℕ → Type 0
+HoldsInForce P vehicles id day = Any (λ version. (version.id ≡ id) × P version) (in_force day vehicles)
 
 -- the vehicle of a plan can keep its times at the stops of its trips, by the travel table that holds on its day
 abbrev pub DrivesIn : List Vehicle → List DatedTable → List Trip → Plan → Type 0
 DrivesIn vehicles travel trips plan =
-    HoldsOnDuty (HasTimes (rows_of (table_on plan.day travel)) (stops_among trips plan.stops))
+    HoldsInForce (HasTimes (rows_of (table_on plan.day travel)) (stops_among trips plan.stops))
     vehicles plan.vehicle plan.day
 
 -- the vehicle has seats and wheelchair places for all who are aboard after each stop
 abbrev pub LoadsFitIn : List Vehicle → List Trip → Plan → Type 0
 LoadsFitIn vehicles trips plan =
-    HoldsOnDuty (λ version. LoadsFit version (stops_among trips plan.stops)) vehicles plan.vehicle plan.day
+    HoldsInForce (λ version. LoadsFit version (stops_among trips plan.stops)) vehicles plan.vehicle plan.day
 
 -- Each line but the first speaks only of the tables that it needs. So a write to another table keeps that line true.
 pub record IsSound (s : State) : Type 0 where

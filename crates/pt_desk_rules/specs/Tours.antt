@@ -1,7 +1,7 @@
 -- What the vehicles do on a day: their routes at the least service times (Cordeau and Laporte 2003), as drivers read
 -- them.
 use Rattle.std.specs.Prelude.{◌≡◌, ℕ, ◌+◌, ◌<◌, List, length, take, filter, slice_get, slice_index}
-use Rattle.std.specs.Prelude.{Option, Some, None, IsTrue, is_some}
+use Rattle.std.specs.Prelude.{Option, Some, None, IsTrue, is_some, Any}
 use Rattle.std.specs.List.{AllZip}
 use Rattle.pt_base.specs.Day.{IsDay}
 use Rattle.pt_base.specs.TripStatus.{stands}
@@ -18,8 +18,8 @@ use Rattle.pt_requests.specs.declared.sheets.DaySheet.{DaySheet}
 use Rattle.pt_requests.specs.declared.sheets.Tour.{Tour}
 use Rattle.pt_requests.specs.declared.sheets.TourStop.{TourStop}
 use Rattle.pt_requests.specs.declared.sheets.VehicleSheet.{VehicleSheet}
-use Rattle.pt_records.specs.Records.{record_at}
-use Rattle.pt_scheduling.specs.Plan.{planned_stops}
+use Rattle.pt_records.specs.Records.{record_at, Each}
+use Rattle.pt_scheduling.specs.Plan.{planned_stops, Plan}
 use Rattle.pt_scheduling.specs.Routes.{stops_on, IsRoute}
 use Rattle.pt_travel.specs.Chain.{Row}
 use Rattle.pt_desk_rules.specs.Booking.{rows_of, AreTimes}
@@ -109,6 +109,14 @@ pub record IsDaySheet (day : ℕ) (vehicles : List Vehicle) (facts : DayFacts) (
   pub on_day : sheet.day ≡ day
   pub sheets : AllZip (IsSheetOf day facts) (on_duty day vehicles) sheet.vehicles.items
   pub standing : sheet.trips ≡ standing_count facts.trips
+
+-- the vehicle of a plan is on duty on its day
+abbrev pub IsOnDutyIn : List Vehicle → Plan → Type 0
+IsOnDutyIn vehicles plan = Any (λ version. version.id ≡ plan.vehicle) (on_duty plan.day vehicles)
+
+-- every vehicle with a plan of a day is on duty that day
+abbrev pub PlansAreOnDuty : State → Type 0
+PlansAreOnDuty s = Each (IsOnDutyIn s.vehicles) s.planned
 
 -- every vehicle that has stops on a day has its tour on the manifest
 abbrev pub HasTours : State → Type 0

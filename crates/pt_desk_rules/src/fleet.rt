@@ -2,7 +2,7 @@ ghost use Rattle.std.specs.Prelude.{◌≡◌, ◌==◌, ◌&&◌, not, length, 
 ghost use Rattle.std.specs.List.{list_any};
 ghost use Rattle.pt_desk_rules.specs.Fleet.{has_version, vehicle_count, versions_before, versions_of_others};
 ghost use Rattle.std.specs.Option.{option_copied};
-ghost use Rattle.pt_desk_rules.specs.Fleet.{duty_of, is_newer, is_on_duty, on_duty};
+ghost use Rattle.pt_desk_rules.specs.Fleet.{duty_of, in_force, is_in_force, is_newer, is_on_duty, on_duty};
 
 use pt_base::{Day, Vehicle, VehicleId};
 use std::alloc::{AllocError, Global};
@@ -65,6 +65,13 @@ fn has_newer(vehicles: &[Vehicle], version: &Vehicle, day: Day) -> bool
     false
 }
 
+/// Whether the version is in force on the day.
+fn is_in_force(vehicles: &[Vehicle], version: &Vehicle, day: Day) -> bool
+    ensures value { result ≡ is_in_force day vehicles.now version.now }
+{
+    version.from_day <= day && !has_newer(vehicles, version, day)
+}
+
 /// Whether the version is on duty on the day.
 fn is_on_duty(vehicles: &[Vehicle], version: &Vehicle, day: Day) -> bool
     ensures value { result ≡ is_on_duty day vehicles.now version.now }
@@ -72,6 +79,19 @@ fn is_on_duty(vehicles: &[Vehicle], version: &Vehicle, day: Day) -> bool
     version.from_day <= day
         && version.days.contains(day.weekday())
         && !has_newer(vehicles, version, day)
+}
+
+/// The versions in force on a day, in their order. The error is out of memory.
+pub fn in_force(alloc: Global, vehicles: &[Vehicle], day: Day) -> Result<Vec<Vehicle>, AllocError>
+    ensures value { IfOk result (λ found. found.items ≡ in_force day vehicles.now) }
+{
+    let mut found = Vec::new(alloc);
+    for version in vehicles {
+        if is_in_force(vehicles, version, day) {
+            found.push(*version)?;
+        }
+    }
+    Ok(found)
 }
 
 /// The version of a vehicle that is on duty on a day, if one is.

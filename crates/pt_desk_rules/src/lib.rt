@@ -6,7 +6,7 @@ pub use change::{Change, FiledEntry};
 pub use deciding::{Decision, decide};
 pub use denying::denial;
 pub use facts::{BookingFacts, DayFacts, ReadFacts, WriteFacts};
-pub use fleet::{duty_of, has_version, on_duty};
+pub use fleet::{duty_of, has_version, in_force, on_duty};
 pub use kept::{Arrival, Kept, Sent};
 pub use permission::{is_dispatcher, may_book, may_run, may_see_standing};
 pub use table_name::TableName;

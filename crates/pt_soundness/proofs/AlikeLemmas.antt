@@ -1,8 +1,7 @@
 -- The tables before the last three do not depend on wheelchairs or wheelchair places.
 use Rattle.std.proofs.Common.{◌≡◌, ℕ, ◌+◌, ◌-◌, ◌≤◌, Bool, IsTrue, List, [], ◌∷◌, ◌++◌, length, map, Option, None, Some, is_some, if◌then◌else◌, not, refl, sym, ap, ap₂, subst, ◌∙◌, arith}
-use Rattle.std.specs.Prelude.{◌==◌, ◌&&◌, nat_le, nat_lt, slice_get, slice_index, false, unwrap_or}
+use Rattle.std.specs.Prelude.{◌==◌, ◌&&◌, nat_le, nat_lt, slice_get, slice_index, unwrap_or}
 use Rattle.std.specs.List.{list_any}
-use Rattle.pt_base.specs.Day.{weekday_of}
 use Rattle.pt_base.specs.Ranges.{last_minute}
 use Rattle.pt_base.specs.TripStatus.{stands}
 use Rattle.pt_base.specs.declared.place.Place.{Place}
@@ -18,7 +17,7 @@ use Rattle.pt_feasible.specs.declared.stop.StopKind.{StopKind}
 use Rattle.pt_feasible.specs.declared.stop.StopKind.TheVariants.{Pickup, Drop}
 use Rattle.pt_feasible.specs.declared.visit.Visit.{Visit}
 use Rattle.pt_records.specs.Keys.{pair_key}
-use Rattle.pt_records.specs.Records.{Each, record_at}
+use Rattle.pt_records.specs.Records.{record_at}
 use Rattle.pt_records.proofs.OrderLemmas.{Each-weaker}
 use Rattle.pt_requests.specs.declared.caller.Caller.{Caller}
 use Rattle.pt_requests.specs.declared.caller.Role.{Role}
@@ -26,7 +25,7 @@ use Rattle.pt_requests.specs.declared.caller.Role.TheVariants as role
 use Rattle.pt_scheduling.specs.Plan.{after_stop, Plan, plan_key, planned_stops, stops_among, trip_stop}
 use Rattle.pt_scheduling.specs.declared.planned.PlannedStop.{PlannedStop}
 use Rattle.pt_desk_rules.specs.Booking.{rows_of}
-use Rattle.pt_desk_rules.specs.Fleet.{has_version, is_newer, is_on_duty, on_duty, vehicle_count, versions_of}
+use Rattle.pt_desk_rules.specs.Fleet.{has_version, in_force, is_in_force, is_newer, vehicle_count, versions_of}
 use Rattle.pt_desk_rules.specs.Sound.{DrivesIn, HasDepot, HasFiledRider, HasPlaces, HasStandingTrips, HasTimes, IsNumberedTo, IsOfRider, IsPlanned, StandsIn}
 use Rattle.pt_desk_rules.specs.State.{rider_key, trip_key, vehicle_key}
 use Rattle.pt_desk_rules.specs.Travel.{DatedTable, table_on}
@@ -147,15 +146,13 @@ newer_same : (day : ℕ) (x y a b : Vehicle) → AlikeVehicle x y → AlikeVehic
 newer_same day x y a b one other =
     ap₂ ◌&&◌ (ap₂ ◌&&◌ (ap₂ (λ (m n : ℕ). m == n) other.id one.id) (ap₂ nat_lt one.from_day other.from_day)) (ap (λ n. nat_le n day) other.from_day)
 
-duty_same : (day : ℕ) (xs ys : List Vehicle) → Paired AlikeVehicle xs ys → (x y : Vehicle) → AlikeVehicle x y → is_on_duty day xs x ≡ is_on_duty day ys y
-duty_same day xs ys h x y alike =
-    ap₂ ◌&&◌
-    (ap₂ ◌&&◌ (ap (λ n. nat_le n day) alike.from_day)
-    (ap not (any_paired AlikeVehicle (is_newer day x) (is_newer day y) (λ a b other. newer_same day x y a b alike other) xs ys h)))
-    (ap (λ (days : List Bool). unwrap_or (slice_get days (weekday_of day)) false) alike.days)
+force_same : (day : ℕ) (xs ys : List Vehicle) → Paired AlikeVehicle xs ys → (x y : Vehicle) → AlikeVehicle x y → is_in_force day xs x ≡ is_in_force day ys y
+force_same day xs ys h x y alike =
+    ap₂ ◌&&◌ (ap (λ n. nat_le n day) alike.from_day)
+    (ap not (any_paired AlikeVehicle (is_newer day x) (is_newer day y) (λ a b other. newer_same day x y a b alike other) xs ys h))
 
-on_duty_paired : (day : ℕ) (xs ys : List Vehicle) → Paired AlikeVehicle xs ys → Paired AlikeVehicle (on_duty day xs) (on_duty day ys)
-on_duty_paired day xs ys h = filter_paired AlikeVehicle (is_on_duty day xs) (is_on_duty day ys) (duty_same day xs ys h) xs ys h
+in_force_paired : (day : ℕ) (xs ys : List Vehicle) → Paired AlikeVehicle xs ys → Paired AlikeVehicle (in_force day xs) (in_force day ys)
+in_force_paired day xs ys h = filter_paired AlikeVehicle (is_in_force day xs) (is_in_force day ys) (force_same day xs ys h) xs ys h
 
 -- ---- stops and their times
 
@@ -294,4 +291,4 @@ module _ (xs ys : List Trip) (h : Paired AlikeTrip xs ys) where
           (λ x y alike it. (
             sym alike.id ∙ it.0,
             (it.1.0, it.1.1, it.1.2, times_alike it.1.0 x y (stops_among xs plan.stops) (stops_among ys plan.stops) it.1.2 alike (stops_paired plan.stops) it.1.3),
-          )) (on_duty plan.day vehicles) (on_duty plan.day others) (on_duty_paired plan.day vehicles others same) any
+          )) (in_force plan.day vehicles) (in_force plan.day others) (in_force_paired plan.day vehicles others same) any

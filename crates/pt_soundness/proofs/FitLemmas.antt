@@ -1,4 +1,4 @@
--- Whether a vehicle's version on duty can drive its plan, and has room.
+-- Whether a vehicle's version in force can drive its plan, and has room.
 use Rattle.std.proofs.Common.{◌≡◌, ◌⊎◌, inl, inr, ℕ, ◌+◌, ◌<◌, ◌≤◌, zero, suc, Bool, true, false, not, IsTrue, List, [], ◌∷◌, length, cond, refl, sym, ap, ◌∙◌, subst, arith, drop, get_or, Option, Some, None, Any}
 use Rattle.std.specs.Prelude.{◌==◌, ◌&&◌, ◌||◌, nat_le, filter, Result, Ok, Err, IfOk}
 use Rattle.std.specs.List.{list_any}
@@ -8,8 +8,8 @@ use Rattle.std.proofs.lemmas.Bool.Decides.{nat_tests}
 use Rattle.pt_base.specs.declared.vehicle.Vehicle.{Vehicle}
 use Rattle.pt_travel.specs.Chain.{Row, IsTime}
 use Rattle.pt_desk_rules.specs.Booking.{AreTimes}
-use Rattle.pt_desk_rules.specs.Fleet.{is_newer, is_on_duty, has_weekday, on_duty, versions_of}
-use Rattle.pt_desk_rules.specs.Sound.{HoldsOnDuty}
+use Rattle.pt_desk_rules.specs.Fleet.{in_force, is_in_force, is_newer, versions_of}
+use Rattle.pt_desk_rules.specs.Sound.{HoldsInForce}
 use Rattle.pt_scheduling.specs.Plan.{Plan}
 use Rattle.pt_scheduling.specs.declared.planned.PlannedStop.{PlannedStop}
 use Rattle.pt_soundness.proofs.EachLemmas.{next_from}
@@ -94,37 +94,37 @@ is_same a b same = grind (arith, nat_tests)
 are_same : (a b : ℕ) → (a == b) ≡ true → a ≡ b
 are_same a b is = grind (arith, nat_tests)
 
--- whether a version is on duty depends only on its vehicle's versions
-duty_own : (id day : ℕ) (vehicles : List Vehicle) (x : Vehicle) → x.id ≡ id → is_on_duty day (versions_of id vehicles) x ≡ is_on_duty day vehicles x
-duty_own id day vehicles x own =
-    ap (λ b. (nat_le x.from_day day && not b) && has_weekday day x)
+-- whether a version is in force depends only on its vehicle's versions
+force_own : (id day : ℕ) (vehicles : List Vehicle) (x : Vehicle) → x.id ≡ id → is_in_force day (versions_of id vehicles) x ≡ is_in_force day vehicles x
+force_own id day vehicles x own =
+    ap (λ b. nat_le x.from_day day && not b)
     (any_own (is_newer day x) (λ (v : Vehicle). v.id == id)
     (λ v newer. is_same v.id id (are_same v.id x.id (and_parts _ _ (and_parts _ _ newer).0).0 ∙ own)) vehicles)
 
-serve_own : (id day : ℕ) (P : Vehicle → Type 0) (vehicles : List Vehicle) → Any (λ v. (v.id ≡ id) × P v) (on_duty day vehicles)
-    → Any P (on_duty day (versions_of id vehicles))
+serve_own : (id day : ℕ) (P : Vehicle → Type 0) (vehicles : List Vehicle) → Any (λ v. (v.id ≡ id) × P v) (in_force day vehicles)
+    → Any P (in_force day (versions_of id vehicles))
 serve_own id day P vehicles any =
     let own = versions_of id vehicles in
-    some_any P (on_duty day own)
-    (kept_some P (is_on_duty day own) own
-    (kept_some (λ v. (is_on_duty day own v ≡ true) × P v) (λ (v : Vehicle). v.id == id) vehicles
-    (some_weaker (λ v. (is_on_duty day vehicles v ≡ true) × ((v.id ≡ id) × P v))
-    (λ v. ((v.id == id) ≡ true) × ((is_on_duty day own v ≡ true) × P v))
-    (λ v is. (is_same v.id id is.1.0, (duty_own id day vehicles v is.1.0 ∙ is.0, is.1.1))) vehicles
-    (some_kept (λ v. (v.id ≡ id) × P v) (is_on_duty day vehicles) vehicles
-    (any_some (λ v. (v.id ≡ id) × P v) (on_duty day vehicles) any)))))
+    some_any P (in_force day own)
+    (kept_some P (is_in_force day own) own
+    (kept_some (λ v. (is_in_force day own v ≡ true) × P v) (λ (v : Vehicle). v.id == id) vehicles
+    (some_weaker (λ v. (is_in_force day vehicles v ≡ true) × ((v.id ≡ id) × P v))
+    (λ v. ((v.id == id) ≡ true) × ((is_in_force day own v ≡ true) × P v))
+    (λ v is. (is_same v.id id is.1.0, (force_own id day vehicles v is.1.0 ∙ is.0, is.1.1))) vehicles
+    (some_kept (λ v. (v.id ≡ id) × P v) (is_in_force day vehicles) vehicles
+    (any_some (λ v. (v.id ≡ id) × P v) (in_force day vehicles) any)))))
 
-own_serve : (id day : ℕ) (P : Vehicle → Type 0) (vehicles : List Vehicle) → Any P (on_duty day (versions_of id vehicles))
-    → Any (λ v. (v.id ≡ id) × P v) (on_duty day vehicles)
+own_serve : (id day : ℕ) (P : Vehicle → Type 0) (vehicles : List Vehicle) → Any P (in_force day (versions_of id vehicles))
+    → Any (λ v. (v.id ≡ id) × P v) (in_force day vehicles)
 own_serve id day P vehicles any =
     let own = versions_of id vehicles in
-    some_any (λ v. (v.id ≡ id) × P v) (on_duty day vehicles)
-    (kept_some (λ v. (v.id ≡ id) × P v) (is_on_duty day vehicles) vehicles
-    (some_weaker (λ v. ((v.id == id) ≡ true) × ((is_on_duty day own v ≡ true) × P v))
-    (λ v. (is_on_duty day vehicles v ≡ true) × ((v.id ≡ id) × P v))
-    (λ v is. let same = are_same v.id id is.0 in (sym (duty_own id day vehicles v same) ∙ is.1.0, (same, is.1.1))) vehicles
-    (some_kept (λ v. (is_on_duty day own v ≡ true) × P v) (λ (v : Vehicle). v.id == id) vehicles
-    (some_kept P (is_on_duty day own) own (any_some P (on_duty day own) any)))))
+    some_any (λ v. (v.id ≡ id) × P v) (in_force day vehicles)
+    (kept_some (λ v. (v.id ≡ id) × P v) (is_in_force day vehicles) vehicles
+    (some_weaker (λ v. ((v.id == id) ≡ true) × ((is_in_force day own v ≡ true) × P v))
+    (λ v. (is_in_force day vehicles v ≡ true) × ((v.id ≡ id) × P v))
+    (λ v is. let same = are_same v.id id is.0 in (sym (force_own id day vehicles v same) ∙ is.1.0, (same, is.1.1))) vehicles
+    (some_kept (λ v. (is_in_force day own v ≡ true) × P v) (λ (v : Vehicle). v.id == id) vehicles
+    (some_kept P (is_in_force day own) own (any_some P (in_force day own) any)))))
 
 -- a property of a value in a result follows from a stronger one
 if_ok : {A E : Type 0} (P Q : A → Type 0) → ((x : A) → P x → Q x) → (r : Result A E) → IfOk r P → IfOk r Q
@@ -136,31 +136,31 @@ abbrev pub Tells : (Vehicle → Type 0) → List Vehicle → Bool → Type 0
 Tells P versions b = (IsTrue b → Any P versions) × (Any P versions → IsTrue b)
 
 -- it decides the same for equal rows or stops
-pub alike : {X : Type 0} (P : X → Vehicle → Type 0) (x y : X) (versions duty : List Vehicle) (b : Bool) → x ≡ y → versions ≡ duty
-    → Tells (P x) versions b → Tells (P y) duty b
-alike P x y versions duty b same same_versions told =
+pub alike : {X : Type 0} (P : X → Vehicle → Type 0) (x y : X) (versions others : List Vehicle) (b : Bool) → x ≡ y → versions ≡ others
+    → Tells (P x) versions b → Tells (P y) others b
+alike P x y versions others b same same_versions told =
     subst (λ (vs : List Vehicle). Tells (P y) vs b) same_versions (subst (λ z. Tells (P z) versions b) same told)
 
-pub all_alike : {X E : Type 0} (P : X → Vehicle → Type 0) (x y : X) (versions duty : List Vehicle) (r : Result Bool E) → x ≡ y → versions ≡ duty
-    → IfOk r (Tells (P x) versions) → IfOk r (Tells (P y) duty)
-all_alike P x y versions duty r same same_versions told =
-    if_ok (Tells (P x) versions) (Tells (P y) duty) (λ b. alike P x y versions duty b same same_versions) r told
+pub all_alike : {X E : Type 0} (P : X → Vehicle → Type 0) (x y : X) (versions others : List Vehicle) (r : Result Bool E) → x ≡ y → versions ≡ others
+    → IfOk r (Tells (P x) versions) → IfOk r (Tells (P y) others)
+all_alike P x y versions others r same same_versions told =
+    if_ok (Tells (P x) versions) (Tells (P y) others) (λ b. alike P x y versions others b same same_versions) r told
 
--- the property holds for one of a vehicle's versions on duty exactly if it holds for the vehicle's version on duty
-holds : (P : Vehicle → Type 0) (vehicles : List Vehicle) (id day : ℕ) (b : Bool) → Tells P (on_duty day (versions_of id vehicles)) b
-    → (IsTrue b → HoldsOnDuty P vehicles id day) × (HoldsOnDuty P vehicles id day → IsTrue b)
+-- the property holds for one of a vehicle's versions in force exactly if it holds for the vehicle's version in force
+holds : (P : Vehicle → Type 0) (vehicles : List Vehicle) (id day : ℕ) (b : Bool) → Tells P (in_force day (versions_of id vehicles)) b
+    → (IsTrue b → HoldsInForce P vehicles id day) × (HoldsInForce P vehicles id day → IsTrue b)
 holds P vehicles id day b told = (
   λ is. own_serve id day P vehicles (told.0 is),
   λ can. told.1 (serve_own id day P vehicles can),
 )
 
 all_hold : {E : Type 0} (P : Vehicle → Type 0) (vehicles versions : List Vehicle) (id day : ℕ) (r : Result Bool E)
-    → versions ≡ versions_of id vehicles → IfOk r (Tells P (on_duty day versions))
-    → IfOk r (λ b. (IsTrue b → HoldsOnDuty P vehicles id day) × (HoldsOnDuty P vehicles id day → IsTrue b))
+    → versions ≡ versions_of id vehicles → IfOk r (Tells P (in_force day versions))
+    → IfOk r (λ b. (IsTrue b → HoldsInForce P vehicles id day) × (HoldsInForce P vehicles id day → IsTrue b))
 all_hold P vehicles versions id day r is told =
-    if_ok (Tells P (on_duty day (versions_of id vehicles)))
-    (λ b. (IsTrue b → HoldsOnDuty P vehicles id day) × (HoldsOnDuty P vehicles id day → IsTrue b))
-    (holds P vehicles id day) r (subst (λ (vs : List Vehicle). IfOk r (Tells P (on_duty day vs))) is told)
+    if_ok (Tells P (in_force day (versions_of id vehicles)))
+    (λ b. (IsTrue b → HoldsInForce P vehicles id day) × (HoldsInForce P vehicles id day → IsTrue b))
+    (holds P vehicles id day) r (subst (λ (vs : List Vehicle). IfOk r (Tells P (in_force day vs))) is told)
 
 pub some_past : {A : Type 0} (P : A → Type 0) (x : A) (xs : List A) (i : ℕ) (b : Bool) → i < length xs → x ≡ get_or xs i x
     → (P x → IsTrue b) → b ≡ false → (HasSome P xs → HasSome P (drop i xs)) → HasSome P xs → HasSome P (drop (i + 1) xs)
@@ -185,11 +185,11 @@ is_none P xs i end there = (
 -- the same for the stops of a plan, on its day
 pub plan_holds : {E : Type 0} (P : ℕ → List PlannedStop → Vehicle → Type 0) (vehicles versions : List Vehicle) (plan : Plan) (vehicle day : ℕ)
     (planned stops : List PlannedStop) (r : Result Bool E) → plan ≡ record { vehicle = vehicle; day = day; stops = stops } → planned ≡ stops
-    → versions ≡ versions_of vehicle vehicles → IfOk r (Tells (P day planned) (on_duty day versions))
-    → IfOk r (λ b. (IsTrue b → HoldsOnDuty (P plan.day plan.stops) vehicles plan.vehicle plan.day)
-    × (HoldsOnDuty (P plan.day plan.stops) vehicles plan.vehicle plan.day → IsTrue b))
+    → versions ≡ versions_of vehicle vehicles → IfOk r (Tells (P day planned) (in_force day versions))
+    → IfOk r (λ b. (IsTrue b → HoldsInForce (P plan.day plan.stops) vehicles plan.vehicle plan.day)
+    × (HoldsInForce (P plan.day plan.stops) vehicles plan.vehicle plan.day → IsTrue b))
 plan_holds P vehicles versions plan vehicle day planned stops r is same own told =
-    subst (λ (p : Plan). IfOk r (λ b. (IsTrue b → HoldsOnDuty (P p.day p.stops) vehicles p.vehicle p.day)
-    × (HoldsOnDuty (P p.day p.stops) vehicles p.vehicle p.day → IsTrue b))) (sym is)
+    subst (λ (p : Plan). IfOk r (λ b. (IsTrue b → HoldsInForce (P p.day p.stops) vehicles p.vehicle p.day)
+    × (HoldsInForce (P p.day p.stops) vehicles p.vehicle p.day → IsTrue b))) (sym is)
     (all_hold (P day stops) vehicles versions vehicle day r own
-    (subst (λ (ps : List PlannedStop). IfOk r (Tells (P day ps) (on_duty day versions))) same told))
+    (subst (λ (ps : List PlannedStop). IfOk r (Tells (P day ps) (in_force day versions))) same told))

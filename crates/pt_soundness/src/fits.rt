@@ -1,7 +1,7 @@
 ghost use Rattle.std.specs.Prelude.{◌≡◌, ◌↔◌, [], Any, IfOk, IsTrue};
 ghost use Rattle.pt_base.specs.declared.vehicle.Vehicle.{Vehicle};
 ghost use Rattle.pt_desk_rules.specs.Booking.{rows_of};
-ghost use Rattle.pt_desk_rules.specs.Fleet.{on_duty, versions_of};
+ghost use Rattle.pt_desk_rules.specs.Fleet.{in_force, versions_of};
 ghost use Rattle.pt_desk_rules.specs.Sound.{DrivesIn, HasFirstDay, HasTimes};
 ghost use Rattle.pt_desk_rules.specs.Travel.{table_on};
 ghost use Rattle.pt_feasible.specs.Route.{stops_of};
@@ -13,7 +13,7 @@ use crate::travel::are_of_places;
 use crate::vehicles::versions_of;
 use pt_base::{Day, Place, Trip, Vehicle};
 use pt_desk_rules::ranges::MOST_TABLES;
-use pt_desk_rules::{TravelTable, on_duty, table_on};
+use pt_desk_rules::{TravelTable, in_force, table_on};
 use pt_feasible::{Route, settle};
 use pt_records::Table;
 use pt_scheduling::{PlannedRoute, PlannedStop, stops_among};
@@ -94,10 +94,10 @@ fn can_drive_on(
     requires route { IsPlannedRoute planned.now }
     ensures { IfOk result (λ can. IsTrue can
         ↔ Any (HasTimes (rows_of (table_on day travel.now)) (stops_among trips.now.items planned.now))
-        (on_duty day versions.now)) }
+        (in_force day versions.now)) }
 {
     let route = route_of(alloc, trips, planned)?;
-    let versions = on_duty(alloc, versions, day)?;
+    let versions = in_force(alloc, versions, day)?;
     can_serve_on(alloc, travel, day, &route, &versions)
 }
 

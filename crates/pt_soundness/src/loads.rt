@@ -1,5 +1,5 @@
 ghost use Rattle.std.specs.Prelude.{◌≡◌, ◌↔◌, Any, IfOk, IsTrue};
-ghost use Rattle.pt_desk_rules.specs.Fleet.{on_duty};
+ghost use Rattle.pt_desk_rules.specs.Fleet.{in_force};
 ghost use Rattle.pt_desk_rules.specs.Sound.{HasFirstDay, LoadsFitIn};
 ghost use Rattle.pt_feasible.specs.Loads.{LoadsFit};
 ghost use Rattle.pt_feasible.specs.Route.{stops_of};
@@ -10,7 +10,7 @@ ghost use Rattle.pt_soundness.specs.Tables.{AreSoundLoads};
 use crate::fits::route_of;
 use crate::vehicles::versions_of;
 use pt_base::{Day, Trip, Vehicle};
-use pt_desk_rules::on_duty;
+use pt_desk_rules::in_force;
 use pt_feasible::{Route, loads_fit};
 use pt_records::Table;
 use pt_scheduling::{PlannedRoute, PlannedStop};
@@ -38,10 +38,10 @@ fn has_room_on(
 ) -> Result<bool, AllocError>
     requires route { IsPlannedRoute planned.now }
     ensures { IfOk result (λ room. IsTrue room
-        ↔ Any (λ version. LoadsFit version (stops_among trips.now.items planned.now)) (on_duty day versions.now)) }
+        ↔ Any (λ version. LoadsFit version (stops_among trips.now.items planned.now)) (in_force day versions.now)) }
 {
     let route = route_of(alloc, trips, planned)?;
-    let versions = on_duty(alloc, versions, day)?;
+    let versions = in_force(alloc, versions, day)?;
     Ok(has_room(&route, &versions))
 }
 

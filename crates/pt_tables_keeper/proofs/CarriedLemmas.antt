@@ -2,7 +2,7 @@
 use Rattle.std.proofs.Common.{◌≡◌, ◌<◌, ◌==◌, ◌||◌, zero, suc, ℕ, Bool, true, false, List, [], ◌∷◌, length, get_or, refl, ap, ◌∙◌, arith}
 use Rattle.std.proofs.lemmas.Bool.Decides.{nat_tests}
 use Rattle.pt_base.specs.declared.vehicle.Vehicle.{Vehicle}
-use Rattle.pt_desk_rules.specs.Fleet.{has_version, is_on_duty, on_duty}
+use Rattle.pt_desk_rules.specs.Fleet.{has_version, in_force, is_in_force}
 use Rattle.pt_desk_rules.specs.Sound.{DrivesIn, IsSound}
 use Rattle.pt_desk_rules.specs.State.{State}
 use Rattle.pt_records.specs.Records.{Each}
@@ -26,6 +26,6 @@ pub sound_carried : (s : State) → IsSound s → Each (HasVersionAmong s.vehicl
 sound_carried s sound =
     Each-weaker (DrivesIn s.vehicles s.travel s.trips) (HasVersionAmong s.vehicles)
     (λ plan drives.
-    any_kept (λ (version : Vehicle). version.id == plan.vehicle) (is_on_duty plan.day s.vehicles) s.vehicles
-    (version_at plan.vehicle (on_duty plan.day s.vehicles) drives.0 drives.1 drives.2 drives.3 drives.4.0))
+    any_kept (λ (version : Vehicle). version.id == plan.vehicle) (is_in_force plan.day s.vehicles) s.vehicles
+    (version_at plan.vehicle (in_force plan.day s.vehicles) drives.0 drives.1 drives.2 drives.3 drives.4.0))
     s.planned sound.planned_drive
