@@ -53,7 +53,7 @@ read_memory {X} {Y} a b x v w Is first =
         settled = first.settled;
         holds = λ clean.
             let it = first.holds clean in
-            record { tells = it.tells.1; crash = it.crash; durable = tt; memory = λ _. found_still a b it.tells.1 it.crash };
+            record { tells = it.tells.1; crash = it.crash; durable = tt; memory = λ _. found_still a b it.tells.1 it.crash; fits = it.fits };
       },
       (λ _. inr (tt, refl)),
     )
@@ -106,7 +106,7 @@ no_memory {X} a w Is =
         told = λ same. absurd (fine same);
         stays = λ none some. absurd (omega arith);
         settled = λ settled. settled;
-        holds = λ _. record { tells = refl; crash = λ o found. inl found; durable = tt; memory = λ _ finds. finds };
+        holds = λ _. record { tells = refl; crash = λ o found. inl found; durable = tt; memory = λ _ finds. finds; fits = λ _. refl };
       },
       (λ _. inr (tt, refl)),
     )
@@ -123,7 +123,7 @@ shut_out a w Is some = (
     told = λ _. some;
     stays = λ _ _. refl;
     settled = λ settled. settled;
-    holds = λ _. record { tells = tt; crash = λ o found. inl found; durable = tt; memory = λ _ finds. finds };
+    holds = λ _. record { tells = tt; crash = λ o found. inl found; durable = tt; memory = λ _ finds. finds; fits = λ _. refl };
   },
   (λ _. inr (tt, refl)),
 )
@@ -155,5 +155,6 @@ fault_as {X} {Y} a b v w left e goes = record {
         crash = it.crash;
         durable = not_lasting Y b left e;
         memory = λ same. it.memory (same_fault {X = X} {Y = Y} e Memory same);
+        fits = it.fits;
       };
 }

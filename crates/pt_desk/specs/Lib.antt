@@ -1,4 +1,5 @@
 pub mod Run
 pub mod Crash
+pub mod Fitting
 pub mod Places
 pub mod Refusals

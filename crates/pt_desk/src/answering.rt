@@ -1,12 +1,15 @@
 ghost use Rattle.std.specs.Prelude.{◌≡◌, ◌<◌, ◌≤◌, ℕ, Option, None, Err};
 ghost use Rattle.pt_spelling.specs.Ranges.{IsRequest};
+ghost use Rattle.pt_desk_rules.specs.Sound.{IsSound};
 ghost use Rattle.pt_desk_rules.specs.State.{State};
 ghost use Rattle.pt_desk_rules.specs.Step.{sent_with, told_of, left_of};
 ghost use Rattle.pt_desk_rules.specs.Step.{IsExplainOutcome, IsReadOutcome, IsDecidedOutcome, IsWriteOutcome};
 ghost use Rattle.pt_desk_rules.specs.Step.{IsOutcome};
 ghost use Rattle.pt_requests.specs.declared.request.Answer.{Answer};
-ghost use Rattle.pt_store.specs.Store.{Store, Answers, ChangesNothing, Goes, Reads, Fails, IsSoundKept};
+ghost use Rattle.pt_store.specs.Store.{Store, Answers, ChangesNothing, Fits, FitsSound, Goes, Reads, Fails};
+ghost use Rattle.pt_store.specs.Store.{IsSoundKept};
 ghost use Rattle.pt_desk.specs.Crash.{Lasts};
+ghost use Rattle.pt_desk.specs.Fitting.{ChangesByRules, IsNewBy, IsSentBy};
 ghost use Rattle.pt_desk.specs.Run.{IsDenial, IsRead};
 
 use pt_base::{Moment, RiderId, Rule, Wish};
@@ -51,6 +54,7 @@ fn answer_explain<K: Keeper>(
 fn carry_out<K: Keeper>(keeper: &mut K, decision: Decision) -> Reply
     ensures goes { Goes (K.store keeper.old) (K.store keeper.new) (told_of decision)
         (left_of decision (K.store keeper.old).content) result }
+    ensures fits { Fits (K.store keeper.old) (K.store keeper.new) (ChangesByRules decision) }
 {
     match decision {
         Decision::Denied(rule) => Ok(Answer::Denied(rule)),
@@ -74,6 +78,7 @@ fn answer_new<K: Keeper>(
     requires ranges { IsRequest write.now }
     ensures goes { Answers (K.store keeper.old) (K.store keeper.new)
         (IsDecidedOutcome write.now me.now now sent.number) result }
+    ensures fits { Fits (K.store keeper.old) (K.store keeper.new) (IsNewBy me.now sent.number write.now) }
 {
     let facts = gather(alloc, keeper, write)?;
     let decision = decide(alloc, &facts, me, now, sent, write)?;
@@ -91,6 +96,7 @@ fn answer_write<K: Keeper>(
 ) -> Reply
     ensures goes { Answers (K.store keeper.old) (K.store keeper.new)
         (IsWriteOutcome write.now me.now now number) result }
+    ensures fits { Fits (K.store keeper.old) (K.store keeper.new) (IsSentBy me.now) }
 {
     let request = spell(alloc, write)?;
     match keeper.arrival(me.id, number, &request)? {
@@ -110,6 +116,7 @@ fn answer_by_rules<K: Keeper>(
     request: &Request,
 ) -> Reply
     ensures goes { Answers (K.store keeper.old) (K.store keeper.new) (IsOutcome key.now now number request.now) result }
+    ensures fits { Fits (K.store keeper.old) (K.store keeper.new) IsSound }
 {
     let Some(me) = keeper.caller_with(&Digest::of_key(key))? else {
         return Ok(Answer::Denied(Rule::Key));
@@ -151,6 +158,8 @@ pub fn answer<K: Keeper>(
     ensures lasts { Lasts (K.store keeper.old) (K.store keeper.new) }
     // A sound state stays sound.
     ensures sound { IsSoundKept (K.store keeper.old) (K.store keeper.new) }
+    // In a sound state the store is given no change that it does not take.
+    ensures fits { FitsSound (K.store keeper.old) (K.store keeper.new) }
 {
     if keeper.failures() > 0 {
         return Err(StoreFault::Store);

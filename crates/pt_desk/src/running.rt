@@ -1,5 +1,5 @@
 ghost use Rattle.std.specs.Prelude.{◌≡◌, ◌<◌, ◌≤◌, IfOk, OnErr};
-ghost use Rattle.pt_store.specs.Store.{Store, Answers, ChangesNothing, Fails, IsSettled, IsSoundKept};
+ghost use Rattle.pt_store.specs.Store.{Store, Answers, ChangesNothing, Fails, FitsSound, IsSettled, IsSoundKept};
 ghost use Rattle.pt_desk.specs.Crash.{Lasts};
 ghost use Rattle.pt_desk.specs.Run.{AreOnlyTold, GoesOn, IsOnlyTold, IsOutcomeOf, TellOfFailure};
 
@@ -28,6 +28,7 @@ fn answer_call<K: Keeper>(alloc: Global, keeper: &mut K, call: &Call) -> Reply
         → ChangesNothing (K.store keeper.old) (K.store keeper.new) result }
     ensures lasts { Lasts (K.store keeper.old) (K.store keeper.new) }
     ensures sound { IsSoundKept (K.store keeper.old) (K.store keeper.new) }
+    ensures fits { FitsSound (K.store keeper.old) (K.store keeper.new) }
 {
     answer(
         alloc,
@@ -65,6 +66,7 @@ pub fn run<K: Keeper>(
     // An opening after a crash finds what it could have found before, or what calls by the rules lead to.
     ensures lasts { Lasts (K.store keeper.old) (K.store keeper.new) }
     ensures sound { IsSoundKept (K.store keeper.old) (K.store keeper.new) }
+    ensures fits { FitsSound (K.store keeper.old) (K.store keeper.new) }
     ensures err { OnErr result (keeper.new ≡ keeper.old) }
 {
     let mut replies = Vec::with_capacity(alloc, calls.len())?;

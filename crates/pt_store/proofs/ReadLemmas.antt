@@ -22,7 +22,9 @@ reads_map a b v x h read = record {
   told = λ same. absurd (no_fault (h x) same);
   stays = λ none some. absurd (no_fault x (read.stays none some));
   settled = read.settled;
-  holds = λ clean. record { tells = (ap h (read.holds clean).tells.0, (read.holds clean).tells.1); crash = (read.holds clean).crash; durable = tt; memory = λ is. absurd (no_memory (h x) is) };
+  holds = λ clean.
+      let it = read.holds clean in
+      record { tells = (ap h it.tells.0, it.tells.1); crash = it.crash; durable = tt; memory = λ is. absurd (no_memory (h x) is); fits = it.fits };
 }
 
 -- two reads in turn
@@ -60,7 +62,15 @@ fault_of {X} {Y} a b v w e read = record {
   told = λ same. read.told (same_fault {X = X} {Y = Y} e same);
   stays = λ none some. same_fault {X = Y} {Y = X} e (read.stays none some);
   settled = read.settled;
-  holds = λ clean. record { tells = fault_tells a.content b.content v w e (read.holds clean).tells; crash = (read.holds clean).crash; durable = tt; memory = λ same. (read.holds clean).memory (same_memory {X = X} {Y = Y} e same) };
+  holds = λ clean.
+      let it = read.holds clean in
+      record {
+        tells = fault_tells a.content b.content v w e it.tells;
+        crash = it.crash;
+        durable = tt;
+        memory = λ same. it.memory (same_memory {X = X} {Y = Y} e same);
+        fits = it.fits;
+      };
 }
 
 -- a fault after something was read

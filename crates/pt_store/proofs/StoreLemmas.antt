@@ -1,5 +1,5 @@
 -- Calls of a store, one after another.
-use Rattle.std.proofs.Common.{◌≡◌, ◌<◌, ◌≤◌, ◌⊎◌, inl, inr, ℕ, Option, Some, None, Result, Ok, Err, ap, arith, subst, sym, ◌∙◌}
+use Rattle.std.proofs.Common.{◌≡◌, ◌<◌, ◌≤◌, ◌⊎◌, inl, inr, ℕ, Option, Some, None, Result, Ok, Err, ap, arith, refl, subst, sym, ◌∙◌}
 use Rattle.pt_desk_rules.specs.State.{State}
 use Rattle.pt_store.specs.Store.{Store, FindsContent, Goes, Holds, IsLeft, Tells}
 use Rattle.pt_store.specs.declared.keeper.StoreFault.{StoreFault}
@@ -56,6 +56,7 @@ reads_then {X} {Y} a b c x v w w' left left' r first next same =
             crash = λ o found. crash_on a.found b.found left o (read.crash o) (then.crash o found);
             durable = then.durable;
             memory = λ is finds. then.memory is (found_still a b stood.1 read.crash finds);
+            fits = λ nothing. then.fits nothing ∙ read.fits refl;
           }));
     }
 

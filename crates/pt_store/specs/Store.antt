@@ -1,8 +1,19 @@
 -- A store as contracts see it, and what calls do to it.
-use Rattle.std.specs.Prelude.{◌≡◌, ◌≤◌, ◌<◌, ◌⊎◌, ℕ, Option, Some, None, Result, Ok, Err, OnOk}
+use Rattle.std.specs.Prelude.{◌≡◌, ◌≤◌, ◌<◌, ◌⊎◌, ℕ, List, Option, Some, None, Result, Ok, Err, OnOk}
+use Rattle.pt_base.specs.declared.moment.Moment.{Moment}
+use Rattle.pt_desk_rules.specs.Deciding.{IsDecision}
+use Rattle.pt_desk_rules.specs.Facts.{facts_of}
+use Rattle.pt_desk_rules.specs.Ranges.{PutsInRange}
 use Rattle.pt_desk_rules.specs.Sound.{IsSound}
 use Rattle.pt_desk_rules.specs.State.{State}
-use Rattle.pt_desk_rules.specs.Step.{state_after}
+use Rattle.pt_desk_rules.specs.Step.{arrival_in, sender, sent_with, state_after}
+use Rattle.pt_desk_rules.specs.declared.change.Change.{Change}
+use Rattle.pt_desk_rules.specs.declared.deciding.Decision.TheVariants.{Accepted}
+use Rattle.pt_desk_rules.specs.declared.kept.Arrival.TheVariants.{New}
+use Rattle.pt_requests.specs.declared.caller.Caller.{Caller}
+use Rattle.pt_requests.specs.declared.request.Answer.{Answer}
+use Rattle.pt_requests.specs.declared.request.Write.{Write}
+use Rattle.pt_spelling.specs.Ranges.{IsRequest}
 use Rattle.pt_store.specs.declared.keeper.StoreFault.{StoreFault}
 use Rattle.pt_store.specs.declared.keeper.StoreFault.TheVariants.{Memory, Store as failed}
 
@@ -15,6 +26,8 @@ pub record Store : Type 1 where
   pub shut : ℕ
   -- 0, and 1 for good once it has failed in a call
   pub failures : ℕ
+  -- 0, and more once it was given a change that it does not take
+  pub unfit : ℕ
   -- what an opening after a crash at this moment may find; None for what is no content
   pub found : Option State → Type 0
 
@@ -51,6 +64,8 @@ pub record Holds {X : Type 0} (before after : Store) (value : X) (left : Option 
   pub durable : IsDurable after left result
   -- out of memory: an opening finds the content, if it would have found it before
   pub memory : result ≡ Err Memory → FindsContent before → FindsContent after
+  -- calls that commit nothing give it no change
+  pub fits : left ≡ None → after.unfit ≡ before.unfit
 
 -- Calls that answer `value` and commit `left`, if anything: none, reads, or reads and then a commit.
 pub record Goes {X : Type 0} (before after : Store) (value : X) (left : Option State)
@@ -94,6 +109,30 @@ Reads before after told result = Goes before after (told before.content) None re
 -- a commit that makes this of the content
 abbrev pub Commits : Store → Store → (State → State) → Result (Unit {0}) StoreFault → Type 0
 Commits before after changed result = Goes before after tt (Some (changed before.content)) result
+
+-- the state is sound, and in it the rules accept a new write with this change
+pub record IsByRules (change : Change) (s : State) : Type 0 where
+  pub sound : IsSound s
+  pub key : List ℕ
+  pub now : Moment
+  pub number : ℕ
+  pub asked : Write
+  pub me : Caller
+  pub told : Answer
+  pub sends : sender key s ≡ Some me
+  pub arrives : arrival_in s asked me number ≡ New
+  pub decided : IsDecision asked me now (sent_with number asked) (facts_of asked s) (Accepted told change)
+  pub puts : PutsInRange change
+  pub ranges : IsRequest asked
+
+-- if the store is clean and this holds of its content, it is given no change that it does not take
+abbrev pub Fits : Store → Store → (State → Type 0) → Type 0
+Fits before after Is = after.doubt ≡ 0 → Is before.content → after.unfit ≡ before.unfit
+
+-- the same where the content is sound; a store that has failed before is given nothing
+abbrev pub FitsSound : Store → Store → Type 0
+FitsSound before after =
+    after.doubt ≡ 0 → (before.failures ≡ 0 → IsSound before.content) → after.unfit ≡ before.unfit
 
 -- once a store has failed, it says so whatever it is asked, and writes nothing
 abbrev pub Refuses : {X : Type 0} → Store → Store → Result X StoreFault → Type 0

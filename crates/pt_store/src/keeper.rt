@@ -5,7 +5,7 @@ ghost use Rattle.pt_desk_rules.specs.Arrival.{arrival_of};
 ghost use Rattle.pt_desk_rules.specs.Fleet.{has_version};
 ghost use Rattle.pt_desk_rules.specs.Planned.{is_booked_from, planned_on, trips_of, trips_on};
 ghost use Rattle.pt_desk_rules.specs.Travel.{table_on};
-ghost use Rattle.pt_store.specs.Store.{Store, Reads, Refuses, Commits};
+ghost use Rattle.pt_store.specs.Store.{Store, Reads, Refuses, Commits, Fits, IsByRules};
 
 use pt_base::{
     CallerId, Day, Place, PlaceId, Policy, Rider, RiderId, RouteId, Trip, TripId, Vehicle,
@@ -189,6 +189,8 @@ pub trait Keeper {
     /// Makes all of the change or nothing of it.
     fn commit(&mut self, change: Change) -> Result<(), StoreFault>
         ensures commits { Commits (store self.old) (store self.new) (applied change) result }
+        // A change that the rules make in a sound state is one that it takes.
+        ensures fits { Fits (store self.old) (store self.new) (IsByRules change) }
         ensures refuses { Refuses (store self.old) (store self.new) result };
 
     /// 0, and 1 for good once the store has failed in a call.

@@ -312,6 +312,7 @@ impl Keeper for ListKeeper {
       doubt = 0;
       shut = 0;
       failures = 0;
+      unfit = 0;
       found = λ o. o ≡ Some k.content;
     } };
 

@@ -4,7 +4,7 @@ use Rattle.sqlite.specs.Held.{Held, state}
 use Rattle.sqlite.specs.State.{State as Connected, HasCleanDisk, Survives}
 use Rattle.sqlite.specs.Store.{Ghosts}
 use Rattle.pt_store.specs.Listed.{known_of}
-use Rattle.pt_store.specs.Store.{Goes, Store}
+use Rattle.pt_store.specs.Store.{Fits, Goes, Store}
 use Rattle.pt_store.specs.declared.keeper.StoreFault.{StoreFault}
 use Rattle.pt_store.specs.declared.keeper.StoreFault.TheVariants.{Memory, Store as failed}
 use Rattle.pt_desk_rules.specs.State.{State, applied}
@@ -71,20 +71,21 @@ module _ {riders : ℕ} (old new : Connected) (before after : State) (f : ℕ) (
     counted = λ _ clean. counted (early clean);
   }
 
-  pub commits_made : (count : ℕ) → (HasCleanDisk old → count ≡ length after.riders) → new.in_transaction ≡ false → (HasCleanDisk new → IsMade before after old new)
-      → Goes {X = Unit {0}} (kept_store old before f) (kept_store new after f) tt (Some after) (Ok tt)
-  commits_made count counted settled made = record {
+  pub commits_made : (u count : ℕ) → (HasCleanDisk old → count ≡ length after.riders) → new.in_transaction ≡ false → (HasCleanDisk new → IsMade before after old new)
+      → Goes {X = Unit {0}} (kept_store old before f u) (kept_store new after f u) tt (Some after) (Ok tt)
+  commits_made u count counted settled made = record {
     clean = survives.clean;
     serves = shut_falls old new survives.clean (λ clean _. (made clean).was_open);
     grows = omega arith;
     told = λ is. absurd (cc);
     stays = λ low up. absurd (omega arith);
-    settled = λ _. settles new after f law (step_made count counted settled made);
+    settled = λ _. settles new after f u law (step_made count counted settled made);
     holds = λ clean. record {
       tells = (refl, refl);
       crash = crashes;
       durable = λ o found. finds new after law readable (made_kept (made clean) clean) (made clean).is_open o found;
       memory = λ is. absurd (cc);
+      fits = λ _. refl;
     };
   }
 
@@ -99,10 +100,10 @@ module _ {riders : ℕ} (old new : Connected) (before after : State) (f : ℕ) (
     counted = λ _ clean. was.counted none (early clean);
   }
 
-  pub commits_not : (g : ℕ) (e : StoreFault) → (e ≡ failed → g ≡ 1) → (e ≡ Memory → g ≡ 0)
+  pub commits_not : (u g : ℕ) (e : StoreFault) → (e ≡ failed → g ≡ 1) → (e ≡ Memory → g ≡ 0)
       → new.in_transaction ≡ false → (HasCleanDisk new → IsUndone old new) → (e ≡ Memory → HasCleanDisk new → IsTrue new.is_open)
-      → Goes {X = Unit {0}} (kept_store old before f) (kept_store new before g) tt (Some after) (Err e)
-  commits_not g Memory on_failed on_memory settled undone open_still =
+      → Goes {X = Unit {0}} (kept_store old before f u) (kept_store new before g u) tt (Some after) (Err e)
+  commits_not u g Memory on_failed on_memory settled undone open_still =
       let zero : g ≡ 0 = on_memory refl in
       let most : g ≤ 1 = omega arith in
       record {
@@ -111,15 +112,16 @@ module _ {riders : ℕ} (old new : Connected) (before after : State) (f : ℕ) (
         grows = omega arith;
         told = λ is. absurd (cc);
         stays = λ low up. absurd (omega arith);
-        settled = λ _. settles new before g law (step_undone g most settled undone);
+        settled = λ _. settles new before g u law (step_undone g most settled undone);
         holds = λ clean. record {
           tells = refl;
           crash = crashes;
           durable = tt;
           memory = λ _ _. finds new before law was.readable (undone_kept (undone clean) clean) (open_still refl clean);
+          fits = λ _. refl;
         };
       }
-  commits_not g failed on_failed on_memory settled undone open_still =
+  commits_not u g failed on_failed on_memory settled undone open_still =
       let one : g ≡ 1 = on_failed refl in
       let most : g ≤ 1 = omega arith in
       record {
@@ -128,8 +130,8 @@ module _ {riders : ℕ} (old new : Connected) (before after : State) (f : ℕ) (
         grows = omega arith;
         told = λ _. omega arith;
         stays = λ _ _. refl;
-        settled = λ _. settles new before g law (step_undone g most settled undone);
-        holds = λ clean. record { tells = tt; crash = crashes; durable = tt; memory = λ is. absurd (cc) };
+        settled = λ _. settles new before g u law (step_undone g most settled undone);
+        holds = λ clean. record { tells = tt; crash = crashes; durable = tt; memory = λ is. absurd (cc); fits = λ _. refl };
       }
 
 -- a failure is counted once
@@ -140,33 +142,39 @@ at_most_one g failed on_failed on_memory = let one : g ≡ 1 = on_failed refl in
 -- ---- before anything is written
 
 -- out of memory
-pub wants_memory : (s : Connected) (a : State) (f : ℕ) (left : Option State) (r : Result (Unit {0}) StoreFault) → f ≡ 0
-    → r ≡ Err Memory → Goes {X = Unit {0}} (kept_store s a f) (kept_store s a f) tt left r
-wants_memory s a f left r none is = subst (λ r. Goes {X = Unit {0}} (kept_store s a f) (kept_store s a f) tt left r) (sym is) (record {
+pub wants_memory : (s : Connected) (a : State) (f u : ℕ) (left : Option State) (r : Result (Unit {0}) StoreFault) → f ≡ 0
+    → r ≡ Err Memory → Goes {X = Unit {0}} (kept_store s a f u) (kept_store s a f u) tt left r
+wants_memory s a f u left r none is = subst (λ r. Goes {X = Unit {0}} (kept_store s a f u) (kept_store s a f u) tt left r) (sym is) (record {
   clean = omega arith;
   serves = omega arith;
   grows = omega arith;
   told = λ same. absurd (cc);
   stays = λ low up. absurd (omega arith);
   settled = λ before. before;
-  holds = λ clean. record { tells = refl; crash = λ o found. inl found; durable = not_lasting (Unit {0}) (kept_store s a f) left Memory; memory = λ _ finds. finds };
+  holds = λ clean. record {
+    tells = refl;
+    crash = λ o found. inl found;
+    durable = not_lasting (Unit {0}) (kept_store s a f u) left Memory;
+    memory = λ _ finds. finds;
+    fits = λ _. refl;
+  };
 })
 
 -- ---- the keeper
 
 -- a commit of these tables is one of the keeper that has them
-pub commits_by : {S : Type 0} (g : Ghosts S) (conn : Held S) (failures : ℕ) (content : State) (now : KeptTables S) (change : Change) (after : Store)
-    (r : Result (Unit {0}) StoreFault) → ◌≡◌ {A = KeptTables S} (record { conn = conn; failures = failures; content = content }) now
-    → Goes {X = Unit {0}} (kept_store (state g conn) content failures) after tt (Some (applied change content)) r
+pub commits_by : {S : Type 0} {u : ℕ} (g : Ghosts S) (conn : Held S) (failures : ℕ) (content : State) (now : KeptTables S) (change : Change) (after : Store)
+    (r : Result (Unit {0}) StoreFault) → ◌≡◌ {A = KeptTables S} (record { conn = conn; failures = failures; unfit = u; content = content }) now
+    → Goes {X = Unit {0}} (kept_store (state g conn) content failures u) after tt (Some (applied change content)) r
     → Goes {X = Unit {0}} (store_of g now) after tt (Some (applied change now.content)) r
-commits_by {S} g conn failures content now change after r is h =
+commits_by {S} {u} g conn failures content now change after r is h =
     subst (λ (k : KeptTables S). Goes {X = Unit {0}} (store_of g k) after tt (Some (applied change k.content)) r) is h
 
 -- what is stated for the riders of the keeper holds for these tables
-pub riders_counted : {S : Type 0} (g : Ghosts S) (conn : Held S) (failures : ℕ) (content : State) (now : KeptTables S) (change : Change) (riders : ℕ)
-    → ◌≡◌ {A = KeptTables S} (record { conn = conn; failures = failures; content = content }) now
+pub riders_counted : {S : Type 0} {u : ℕ} (g : Ghosts S) (conn : Held S) (failures : ℕ) (content : State) (now : KeptTables S) (change : Change) (riders : ℕ)
+    → ◌≡◌ {A = KeptTables S} (record { conn = conn; failures = failures; unfit = u; content = content }) now
     → (HasCleanDisk (state g now.conn) → riders ≡ length (applied change now.content).riders) → HasCleanDisk (state g conn) → riders ≡ length (applied change content).riders
-riders_counted {S} g conn failures content now change riders is counted =
+riders_counted {S} {u} g conn failures content now change riders is counted =
     subst (λ (k : KeptTables S). HasCleanDisk (state g k.conn) → riders ≡ length (applied change k.content).riders) (sym is) counted
 
 -- a commit after a read
@@ -186,5 +194,11 @@ commit_refused old new made clean serves grows some same = record {
   told = λ _. some;
   stays = λ _ _. refl;
   settled = λ _ _ none. absurd (omega (arith, none, some));
-  holds = λ _. record { tells = tt; crash = λ o found. inl (same o found); durable = tt; memory = λ is. absurd (cc) };
+  holds = λ _. record { tells = tt; crash = λ o found. inl (same o found); durable = tt; memory = λ is. absurd (cc); fits = λ none. absurd (cc) };
 }
+
+-- a read before a commit gives the store no change
+pub fits_after : {X : Type 0} (a b c : Store) (v x : X) (Is : State → Type 0) → Goes a b v None (Ok x) → b.doubt ≤ c.doubt → c.unfit ≡ b.unfit → Fits a c Is
+fits_after a b c v x Is read up same clean is =
+    let was : b.doubt ≡ 0 = omega (arith, up, clean) in
+    same ∙ (read.holds was).fits refl

@@ -66,7 +66,7 @@ goes_to before after told x other y h made = record {
   holds = λ clean.
       let it = h.holds clean in
       let stands = it.tells.1 in
-      record { tells = (made clean (it.tells.0 ∙ ap told (sym stands)) ∙ ap other stands, stands); crash = it.crash; durable = tt; memory = λ is. absurd (cc) };
+      record { tells = (made clean (it.tells.0 ∙ ap told (sym stands)) ∙ ap other stands, stands); crash = it.crash; durable = tt; memory = λ is. absurd (cc); fits = it.fits };
 }
 
 pub goes_on : {X Y : Type 0} (before after : Store) (value x : X) (f : X → Y) → Goes before after value None (Ok x) → Goes before after (f value) None (Ok (f x))
@@ -105,6 +105,7 @@ goes_not {X} {Y} before after value other left Memory h = record {
         crash = λ o found. elim (it.crash o found) [ inl was ↦ inl was | inr nothing ↦ absurd nothing ];
         durable = not_lasting Y after left Memory;
         memory = λ _. it.memory refl;
+        fits = λ _. it.fits refl;
       };
 }
 goes_not {X} {Y} before after value other left failed h = record {
@@ -121,6 +122,7 @@ goes_not {X} {Y} before after value other left failed h = record {
         crash = λ o found. elim (it.crash o found) [ inl was ↦ inl was | inr nothing ↦ absurd nothing ];
         durable = not_lasting Y after left failed;
         memory = λ is. absurd (cc);
+        fits = λ _. it.fits refl;
       };
 }
 
@@ -133,7 +135,7 @@ goes_wanting before after value x other h = record {
   told = λ is. absurd (cc);
   stays = λ low up. absurd (let same = h.stays low up in cc);
   settled = h.settled;
-  holds = λ clean. let it = h.holds clean in record { tells = it.tells.1; crash = it.crash; durable = tt; memory = λ _. found_still before after it.tells.1 it.crash };
+  holds = λ clean. let it = h.holds clean in record { tells = it.tells.1; crash = it.crash; durable = tt; memory = λ _. found_still before after it.tells.1 it.crash; fits = it.fits };
 }
 
 -- ---- what a read returns
@@ -145,63 +147,63 @@ module _ {S X : Type 0} {riders : ℕ} (g : Ghosts S) (conn new : Held S) (failu
   step_by = step_still (state g conn) (state g new) content failures none was rests law after (counts_most after found r counts)
 
   -- what is stated for one content alone
-  goes_so : (told : State → X) → (HasCleanDisk (state g new) → IsKept content (state g conn) → IfOk found (λ x. x ≡ told content))
-      → Goes (kept_store (state g conn) content failures) (kept_store (state g new) content after) (told content) None r
-  goes_so told tells =
+  goes_so : (u : ℕ) (told : State → X) → (HasCleanDisk (state g new) → IsKept content (state g conn) → IfOk found (λ x. x ≡ told content))
+      → Goes (kept_store (state g conn) content failures u) (kept_store (state g new) content after u) (told content) None r
+  goes_so u told tells =
       let early : HasCleanDisk (state g new) → HasCleanDisk (state g conn) = λ clean. let up = rests.survives.clean in omega arith in
-      reads_tables (state g conn) (state g new) content failures none was rests law (told content) r after
+      reads_tables (state g conn) (state g new) content failures none was rests law (told content) r after u
       (λ clean x is. counts_told after found r (told content) x counts (tells clean (was.kept none (early clean))) is)
       (counts_failed after found r counts) (counts_none after found r counts)
 
-  goes_by : (told : State → X) → Tells (state g conn) (state g new) told found
-      → Goes (kept_store (state g conn) content failures) (kept_store (state g new) content after) (told content) None r
-  goes_by told tells = goes_so told (λ clean held. tells clean content was.readable held)
+  goes_by : (u : ℕ) (told : State → X) → Tells (state g conn) (state g new) told found
+      → Goes (kept_store (state g conn) content failures u) (kept_store (state g new) content after u) (told content) None r
+  goes_by u told tells = goes_so u told (λ clean held. tells clean content was.readable held)
 
   -- the same of the keeper
-  pub reads_so : (now : KeptTables S) (told : State → X) → ◌≡◌ {A = KeptTables S} (record { conn = conn; failures = failures; content = content }) now
+  pub reads_so : {u : ℕ} (now : KeptTables S) (told : State → X) → ◌≡◌ {A = KeptTables S} (record { conn = conn; failures = failures; unfit = u; content = content }) now
       → (HasCleanDisk (state g new) → IsKept content (state g conn) → IfOk found (λ x. x ≡ told content))
-      → Goes (store_of g now) (kept_store (state g new) content after) (told now.content) None r
-  reads_so now told is tells =
-      subst (λ (k : KeptTables S). Goes (store_of g k) (kept_store (state g new) content after) (told k.content) None r) is (goes_so told tells)
+      → Goes (store_of g now) (kept_store (state g new) content after u) (told now.content) None r
+  reads_so {u} now told is tells =
+      subst (λ (k : KeptTables S). Goes (store_of g k) (kept_store (state g new) content after u) (told k.content) None r) is (goes_so u told tells)
 
-  pub reads_by : (now : KeptTables S) (told : State → X) → ◌≡◌ {A = KeptTables S} (record { conn = conn; failures = failures; content = content }) now
-      → Tells (state g conn) (state g new) told found → Goes (store_of g now) (kept_store (state g new) content after) (told now.content) None r
-  reads_by now told is tells =
-      subst (λ (k : KeptTables S). Goes (store_of g k) (kept_store (state g new) content after) (told k.content) None r) is (goes_by told tells)
+  pub reads_by : {u : ℕ} (now : KeptTables S) (told : State → X) → ◌≡◌ {A = KeptTables S} (record { conn = conn; failures = failures; unfit = u; content = content }) now
+      → Tells (state g conn) (state g new) told found → Goes (store_of g now) (kept_store (state g new) content after u) (told now.content) None r
+  reads_by {u} now told is tells =
+      subst (λ (k : KeptTables S). Goes (store_of g k) (kept_store (state g new) content after u) (told k.content) None r) is (goes_by u told tells)
 
   -- what is made of its answer is returned
-  pub reads_on : {Y : Type 0} (now : KeptTables S) (told : State → X) → ◌≡◌ {A = KeptTables S} (record { conn = conn; failures = failures; content = content }) now
+  pub reads_on : {Y : Type 0} {u : ℕ} (now : KeptTables S) (told : State → X) → ◌≡◌ {A = KeptTables S} (record { conn = conn; failures = failures; unfit = u; content = content }) now
       → Tells (state g conn) (state g new) told found → (x : X) → r ≡ Ok x → (made : X → Y)
-      → Goes (store_of g now) (kept_store (state g new) content after) (made (told now.content)) None (Ok (made x))
-  reads_on now told is tells x was made =
+      → Goes (store_of g now) (kept_store (state g new) content after u) (made (told now.content)) None (Ok (made x))
+  reads_on {Y} {u} now told is tells x was made =
       let read = reads_by now told is tells in
-      goes_on (store_of g now) (kept_store (state g new) content after) (told now.content) x made
-      (subst (λ r. Goes (store_of g now) (kept_store (state g new) content after) (told now.content) None r) was read)
+      goes_on (store_of g now) (kept_store (state g new) content after u) (told now.content) x made
+      (subst (λ r. Goes (store_of g now) (kept_store (state g new) content after u) (told now.content) None r) was read)
 
   -- its fault is passed on
-  pub reads_not : {Y : Type 0} (now : KeptTables S) (told : State → X) → ◌≡◌ {A = KeptTables S} (record { conn = conn; failures = failures; content = content }) now
+  pub reads_not : {Y : Type 0} {u : ℕ} (now : KeptTables S) (told : State → X) → ◌≡◌ {A = KeptTables S} (record { conn = conn; failures = failures; unfit = u; content = content }) now
       → Tells (state g conn) (state g new) told found → (e : StoreFault) → r ≡ Err e → (other : Y) (passed : Result Y StoreFault) → passed ≡ Err e
-      → Goes (store_of g now) (kept_store (state g new) content after) other None passed
-  reads_not {Y} now told is tells e was other passed same =
+      → Goes (store_of g now) (kept_store (state g new) content after u) other None passed
+  reads_not {Y} {u} now told is tells e was other passed same =
       let read = reads_by now told is tells in
-      subst (λ (p : Result Y StoreFault). Goes (store_of g now) (kept_store (state g new) content after) other None p) (sym same)
-      (goes_not (store_of g now) (kept_store (state g new) content after) (told now.content) other None e
-      (subst (λ r. Goes (store_of g now) (kept_store (state g new) content after) (told now.content) None r) was read))
+      subst (λ (p : Result Y StoreFault). Goes (store_of g now) (kept_store (state g new) content after u) other None p) (sym same)
+      (goes_not (store_of g now) (kept_store (state g new) content after u) (told now.content) other None e
+      (subst (λ r. Goes (store_of g now) (kept_store (state g new) content after u) (told now.content) None r) was read))
 
   -- out of memory for what is made of its answer
-  pub reads_wanting : {Y : Type 0} (now : KeptTables S) (told : State → X) → ◌≡◌ {A = KeptTables S} (record { conn = conn; failures = failures; content = content }) now
+  pub reads_wanting : {Y : Type 0} {u : ℕ} (now : KeptTables S) (told : State → X) → ◌≡◌ {A = KeptTables S} (record { conn = conn; failures = failures; unfit = u; content = content }) now
       → Tells (state g conn) (state g new) told found → (x : X) → r ≡ Ok x → (other : Y) (wanting : Result Y StoreFault) → wanting ≡ Err Memory
-      → Goes (store_of g now) (kept_store (state g new) content after) other None wanting
-  reads_wanting {Y} now told is tells x was other wanting same =
+      → Goes (store_of g now) (kept_store (state g new) content after u) other None wanting
+  reads_wanting {Y} {u} now told is tells x was other wanting same =
       let read = reads_by now told is tells in
-      subst (λ (p : Result Y StoreFault). Goes (store_of g now) (kept_store (state g new) content after) other None p) (sym same)
-      (goes_wanting (store_of g now) (kept_store (state g new) content after) (told now.content) x other
-      (subst (λ r. Goes (store_of g now) (kept_store (state g new) content after) (told now.content) None r) was read))
+      subst (λ (p : Result Y StoreFault). Goes (store_of g now) (kept_store (state g new) content after u) other None p) (sym same)
+      (goes_wanting (store_of g now) (kept_store (state g new) content after u) (told now.content) x other
+      (subst (λ r. Goes (store_of g now) (kept_store (state g new) content after u) (told now.content) None r) was read))
 
 -- ---- what is held in memory
 
-module _ {S : Type 0} {riders : ℕ} (g : Ghosts S) (conn : Held S) (failures : ℕ) (content : State) (now : KeptTables S)
-    (is : ◌≡◌ {A = KeptTables S} (record { conn = conn; failures = failures; content = content }) now) (step : AreInStep content riders failures (state g conn)) where
+module _ {S : Type 0} {riders u : ℕ} (g : Ghosts S) (conn : Held S) (failures : ℕ) (content : State) (now : KeptTables S)
+    (is : ◌≡◌ {A = KeptTables S} (record { conn = conn; failures = failures; unfit = u; content = content }) now) (step : AreInStep content riders failures (state g conn)) where
   -- its content can be read back from its rows, and its riders are counted until it fails
   pub readable_now : IsWellFormed now.content
   readable_now = subst (λ (k : KeptTables S). IsWellFormed k.content) is step.readable
@@ -210,10 +212,10 @@ module _ {S : Type 0} {riders : ℕ} (g : Ghosts S) (conn : Held S) (failures : 
   counted_now = subst (λ (k : KeptTables S). k.failures ≡ 0 → HasCleanDisk (state g k.conn) → riders ≡ length k.content.riders) is step.counted
 
 -- a read of it returns its value
-pub reads_held : {S X : Type 0} (g : Ghosts S) (conn : Held S) (failures : ℕ) (content : State) (now : KeptTables S) (told : State → X) (x : X)
-    → ◌≡◌ {A = KeptTables S} (record { conn = conn; failures = failures; content = content }) now → (HasCleanDisk (state g conn) → x ≡ told content)
+pub reads_held : {S X : Type 0} (g : Ghosts S) (conn : Held S) (failures u : ℕ) (content : State) (now : KeptTables S) (told : State → X) (x : X)
+    → ◌≡◌ {A = KeptTables S} (record { conn = conn; failures = failures; unfit = u; content = content }) now → (HasCleanDisk (state g conn) → x ≡ told content)
     → Goes (store_of g now) (store_of g now) (told now.content) None (Ok x)
-reads_held {S} {X} g conn failures content now told x is same =
+reads_held {S} {X} g conn failures u content now told x is same =
     subst (λ (k : KeptTables S). Goes (store_of g k) (store_of g k) (told k.content) None (Ok x)) is (record {
       clean = omega arith;
       serves = omega arith;
@@ -221,23 +223,23 @@ reads_held {S} {X} g conn failures content now told x is same =
       told = λ failed. absurd (cc);
       stays = λ low up. absurd (omega arith);
       settled = λ before. before;
-      holds = λ clean. record { tells = (same clean, refl); crash = λ o found. inl found; durable = tt; memory = λ _ finds. finds };
+      holds = λ clean. record { tells = (same clean, refl); crash = λ o found. inl found; durable = tt; memory = λ _ finds. finds; fits = λ _. refl };
     })
 
 -- out of memory for a read of it
-pub wants_held : {S X : Type 0} (g : Ghosts S) (conn : Held S) (failures : ℕ) (content : State) (now : KeptTables S) (value : X) (r : Result X StoreFault)
-    → ◌≡◌ {A = KeptTables S} (record { conn = conn; failures = failures; content = content }) now → r ≡ Err Memory
+pub wants_held : {S X : Type 0} (g : Ghosts S) (conn : Held S) (failures u : ℕ) (content : State) (now : KeptTables S) (value : X) (r : Result X StoreFault)
+    → ◌≡◌ {A = KeptTables S} (record { conn = conn; failures = failures; unfit = u; content = content }) now → r ≡ Err Memory
     → Goes (store_of g now) (store_of g now) value None r
-wants_held {S} {X} g conn failures content now value r is wanting =
+wants_held {S} {X} g conn failures u content now value r is wanting =
     subst (λ (k : KeptTables S). Goes (store_of g k) (store_of g k) value None r) is
-    (subst (λ r. Goes {X = X} (kept_store (state g conn) content failures) (kept_store (state g conn) content failures) value None r) (sym wanting) (record {
+    (subst (λ r. Goes {X = X} (kept_store (state g conn) content failures u) (kept_store (state g conn) content failures u) value None r) (sym wanting) (record {
       clean = omega arith;
       serves = omega arith;
       grows = omega arith;
       told = λ failed. absurd (cc);
       stays = λ low up. absurd (omega arith);
       settled = λ before. before;
-      holds = λ clean. record { tells = refl; crash = λ o found. inl found; durable = tt; memory = λ _ finds. finds };
+      holds = λ clean. record { tells = refl; crash = λ o found. inl found; durable = tt; memory = λ _ finds. finds; fits = λ _. refl };
     }))
 
 -- ---- trips

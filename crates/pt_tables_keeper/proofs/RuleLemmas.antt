@@ -39,9 +39,10 @@ use Rattle.pt_scheduling.proofs.PlanLemmas.{found_key}
 use Rattle.pt_scheduling.proofs.RouteLemmas.{Each-found}
 use Rattle.pt_spelling.specs.Replies.{reply_of}
 use Rattle.pt_spelling.specs.declared.replies.KeptReply.TheVariants as reply
+use Rattle.pt_store.specs.Store.{IsByRules}
 use Rattle.pt_tables_asking.specs.Plans.{HasVersionAmong}
 use Rattle.pt_tables_keeper.specs.Plans.{IsFleetEdit, IsOneKey}
-use Rattle.pt_tables_keeper.specs.Writable.{ChangesOfRulesAreWritten}
+use Rattle.pt_tables_keeper.specs.Writable.{ChangesOfRulesAreWritten, IsWritable}
 use Rattle.pt_tables_keeper.proofs.CarriedLemmas.{sound_carried}
 
 -- ---- what holds of each record holds of the last one that was put
@@ -242,3 +243,7 @@ rules_write key now number asked me s told change sound sends new decision puts 
       plans_away = shaped.plans_away;
       plans_put = shaped.plans_put;
     }
+
+-- the same as the store's trait states it
+pub writable_by_rules : (change : Change) (s : State) → IsByRules change s → IsWritable s.vehicles change
+writable_by_rules change s is = rules_write is.key is.now is.number is.asked is.me s is.told change is.sound is.sends is.arrives is.decided is.puts is.ranges

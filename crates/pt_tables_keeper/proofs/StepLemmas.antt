@@ -47,8 +47,8 @@ finds s content law readable kept here o found =
     let same : found.1 ≡ s.now.trees = law found.1 here found.2 ∙ ap (λ (d : Database). d.trees) (kept.committed here) in
     opens_once found.1 o (Some content) found.3 (readable, subst (HasRows content) (sym same) (kept.stands here).rows)
 
-pub settles : {riders : ℕ} (s : Connected) (content : State) (f : ℕ) → Settles s → AreInStep content riders f s → IsSettled (kept_store s content f)
-settles s content f law step open_still none o found =
+pub settles : {riders : ℕ} (s : Connected) (content : State) (f u : ℕ) → Settles s → AreInStep content riders f s → IsSettled (kept_store s content f u)
+settles s content f u law step open_still none o found =
     let here = open_of s open_still in
     finds s content law step.readable (step.kept none here.0) here.1 o found
 
@@ -81,17 +81,17 @@ module _ {riders : ℕ} (old new : Connected) (content : State) (f : ℕ) (none 
   ]
 
   -- an opening that would have found the content still does
-  finds_still : (g : ℕ) → FindsContent (kept_store old content f) → FindsContent (kept_store new content g)
-  finds_still g was_found o found = was_found o (crashes o found)
+  finds_still : (g u : ℕ) → FindsContent (kept_store old content f u) → FindsContent (kept_store new content g u)
+  finds_still g u was_found o found = was_found o (crashes o found)
 
   serves : shut old ≤ shut new
   serves = shut_falls old new rests.survives.clean (λ clean here. (rests.keeps clean).was_open here)
 
   -- a read that returns what the content has
-  pub reads_tables : {X : Type 0} (value : X) (r : Result X StoreFault) (g : ℕ)
+  pub reads_tables : {X : Type 0} (value : X) (r : Result X StoreFault) (g u : ℕ)
       → (HasCleanDisk new → (x : X) → r ≡ Ok x → x ≡ value) → (r ≡ Err failed → g ≡ 1) → ((r ≡ Err failed → ⊥) → g ≡ 0)
-      → Goes (kept_store old content f) (kept_store new content g) value None r
-  reads_tables value (Ok x) g told on_failed on_other =
+      → Goes (kept_store old content f u) (kept_store new content g u) value None r
+  reads_tables value (Ok x) g u told on_failed on_other =
       let zero : g ≡ 0 = on_other (λ e. absurd (cc)) in
       record {
         clean = rests.survives.clean;
@@ -99,10 +99,10 @@ module _ {riders : ℕ} (old new : Connected) (content : State) (f : ℕ) (none 
         grows = omega arith;
         told = λ is. absurd (cc);
         stays = λ low up. absurd (omega arith);
-        settled = λ _. settles new content g law (step_still g (omega arith));
-        holds = λ clean. record { tells = (told clean x refl, refl); crash = λ o found. inl (crashes o found); durable = tt; memory = λ _. finds_still g };
+        settled = λ _. settles new content g u law (step_still g (omega arith));
+        holds = λ clean. record { tells = (told clean x refl, refl); crash = λ o found. inl (crashes o found); durable = tt; memory = λ _. finds_still g u; fits = λ _. refl };
       }
-  reads_tables value (Err Memory) g told on_failed on_other =
+  reads_tables value (Err Memory) g u told on_failed on_other =
       let zero : g ≡ 0 = on_other (λ e. absurd (cc)) in
       record {
         clean = rests.survives.clean;
@@ -110,10 +110,10 @@ module _ {riders : ℕ} (old new : Connected) (content : State) (f : ℕ) (none 
         grows = omega arith;
         told = λ is. absurd (cc);
         stays = λ low up. absurd (omega arith);
-        settled = λ _. settles new content g law (step_still g (omega arith));
-        holds = λ clean. record { tells = refl; crash = λ o found. inl (crashes o found); durable = tt; memory = λ _. finds_still g };
+        settled = λ _. settles new content g u law (step_still g (omega arith));
+        holds = λ clean. record { tells = refl; crash = λ o found. inl (crashes o found); durable = tt; memory = λ _. finds_still g u; fits = λ _. refl };
       }
-  reads_tables value (Err failed) g told on_failed on_other =
+  reads_tables value (Err failed) g u told on_failed on_other =
       let one : g ≡ 1 = on_failed refl in
       record {
         clean = rests.survives.clean;
@@ -121,6 +121,6 @@ module _ {riders : ℕ} (old new : Connected) (content : State) (f : ℕ) (none 
         grows = omega arith;
         told = λ _. omega arith;
         stays = λ _ _. refl;
-        settled = λ _. settles new content g law (step_still g (omega arith));
-        holds = λ clean. record { tells = tt; crash = λ o found. inl (crashes o found); durable = tt; memory = λ _. finds_still g };
+        settled = λ _. settles new content g u law (step_still g (omega arith));
+        holds = λ clean. record { tells = tt; crash = λ o found. inl (crashes o found); durable = tt; memory = λ _. finds_still g u; fits = λ _. refl };
       }

@@ -17,16 +17,19 @@ use Rattle.pt_tables_asking.specs.declared.asking.Unread.TheVariants.{Memory, St
 use Rattle.pt_tables_keeper.specs.Coding.{state_code}
 use Rattle.pt_tables_writing.specs.Committing.{MayFind}
 
--- a connection, the count of failures, and the content of its tables
+-- a connection, whether the store has failed, whether it was given a change that cannot be written, and the content of
+-- its tables
 pub record KeptTables (S : Type 0) : Type 0 where
   pub conn : Held S
   pub failures : ℕ
+  pub unfit : ℕ
   pub content : State
 
 abbrev pub kept_tables_code : {S : Type 0} → Coded S → Coded (KeptTables S)
 kept_tables_code {S} store =
-    code_by (Held S × (ℕ × State)) (coded× (held_code store) (coded× coded_ℕ state_code))
-    (λ k. (k.conn, (k.failures, k.content))) (λ p. record { conn = p.0; failures = p.1.0; content = p.1.1 }) (λ _. refl)
+    code_by (Held S × (ℕ × (ℕ × State))) (coded× (held_code store) (coded× coded_ℕ (coded× coded_ℕ state_code)))
+    (λ k. (k.conn, (k.failures, (k.unfit, k.content))))
+    (λ p. record { conn = p.0; failures = p.1.0; unfit = p.1.1.0; content = p.1.1.1 }) (λ _. refl)
 
 -- The content can be read back from its rows, the vehicle of each plan is there, and no transaction is open. Until the
 -- store fails, the tables have the content, and `riders` is the number of its riders.
@@ -43,17 +46,18 @@ abbrev pub shut : Connected → ℕ
 shut s = doubt (s.is_clean && s.is_open)
 
 -- all that contracts say of a store with this content in the tables of this connection
-abbrev pub kept_store : Connected → State → ℕ → Store
-kept_store s content failures = record {
+abbrev pub kept_store : Connected → State → ℕ → ℕ → Store
+kept_store s content failures unfit = record {
   content = content;
   doubt = doubt s.is_clean;
   shut = shut s;
   failures = failures;
+  unfit = unfit;
   found = MayFind s;
 }
 
 abbrev pub store_of : {S : Type 0} → Ghosts S → KeptTables S → Store
-store_of g k = kept_store (state g k.conn) k.content k.failures
+store_of g k = kept_store (state g k.conn) k.content k.failures k.unfit
 
 -- the reply to a read with this result, and the count of failures after it
 abbrev pub Counts : {X : Type 0} → ℕ → Result X Unread → Result X StoreFault → Type 0

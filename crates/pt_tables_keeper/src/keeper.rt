@@ -43,6 +43,12 @@ const NEVER_FAILED: u32 = 0;
 /// The failures of a store that has failed.
 const FAILED: u32 = 1;
 
+/// The mark of a store whose changes could all be written.
+const ALL_FIT: u32 = 0;
+
+/// The mark of a store that was given a change that cannot be written.
+const UNFIT: u32 = 1;
+
 /// The store over the tables of a desk's database. The settings and the number of riders are in memory, and all other
 /// records are read when needed.
 #[derive(Drop)]
@@ -51,6 +57,8 @@ pub struct SqlKeeper<S: Alter> {
     conn: Connection<S>,
     /// 0 until the store fails in a call, then 1 for good.
     failures: u32,
+    /// 0 until a change that cannot be written is given, then 1 for good. Only clauses read it.
+    unfit: u32,
     known: Known,
     rider_count: usize,
 }
@@ -63,7 +71,12 @@ impl<S: Alter> Model for SqlKeeper<S> {
 
     ghost coded = { kept_tables_code S.code };
 
-    ghost view = { λ k. record { conn = k.conn; failures = k.failures; content = k.known.content } };
+    ghost view = { λ k. record {
+      conn = k.conn;
+      failures = k.failures;
+      unfit = k.unfit;
+      content = k.known.content;
+    } };
 
     ghost invariant = { λ k. AreInStep k.known.content k.rider_count k.failures (state S.Store k.conn) };
 }
@@ -106,11 +119,13 @@ impl<S: Alter> SqlKeeper<S> {
         ensures conn { result.conn ≡ conn }
         ensures content { result.content ≡ known.content }
         ensures serves { result.failures ≡ 0 }
+        ensures fits { result.unfit ≡ 0 }
     {
         SqlKeeper {
             alloc,
             conn,
             failures: NEVER_FAILED,
+            unfit: ALL_FIT,
             known,
             rider_count,
         }
@@ -127,6 +142,7 @@ impl<S: Alter> SqlKeeper<S> {
             alloc: _,
             conn,
             failures: _,
+            unfit: _,
             known: _,
             rider_count: _,
         } = self;
@@ -210,6 +226,7 @@ impl<S: Alter> SqlKeeper<S> {
         requires counted { HasCleanDisk (state S.Store self.old.conn)
             → rider_count ≡ length (applied change self.old.content).riders }
         ensures commits { Commits (store_of S.Store self.old) (store_of S.Store self.new) (applied change) result }
+        ensures unfit { self.new.unfit ≡ self.old.unfit }
     {
         self.known.reserve(&change)?;
         match write_over(self.alloc, &mut self.conn, &change, self.known.lists()) {
@@ -377,6 +394,7 @@ impl<S: Alter> Keeper for SqlKeeper<S> {
         let vehicles = self.known.lists().vehicles_table();
         if !is_writable(&change, vehicles.as_slice()) {
             self.failures = FAILED;
+            self.unfit = UNFIT;
             return Err(StoreFault::Store);
         }
         let rider_count = self.rider_count_after(&change)?;

@@ -26,6 +26,11 @@ returns-clause-sound g c =
     answered_sound (g.K.Keeper.store c.args.keeper.now) (g.K.Keeper.store c.answer_by_rules.new.keeper) c.args.key.now c.args.now c.args.number c.args.request.now c.answer_by_rules.result
     c.answer_by_rules.ensures.goes
 
+pub returns-clause-fits : goal.returns-clause-fits
+returns-clause-fits g c clean sound =
+    c.answer_by_rules.ensures.fits clean
+    (sound (let value : c.failures.result ≡ (g.K.Keeper.store c.args.keeper.now).failures = c.failures.ensures.value in omega (arith, value, c.if-failures-gt0.false)))
+
 pub returns-clause-denied : goal.returns-clause-denied
 returns-clause-denied g c =
     denied (g.K.Keeper.store c.args.keeper.now) (g.K.Keeper.store c.answer_by_rules.new.keeper) c.args.key.now c.args.now c.args.number c.args.request.now c.answer_by_rules.result

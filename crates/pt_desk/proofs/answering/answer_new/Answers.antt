@@ -7,7 +7,9 @@ use Rattle.pt_requests.specs.declared.request.Answer.TheVariants.{Done}
 use Rattle.pt_desk_rules.specs.declared.kept.Sent.{Sent}
 use Rattle.pt_store.specs.Store.{Answers}
 use Rattle.pt_store.specs.declared.keeper.StoreFault.TheVariants.{Memory}
+use Rattle.pt_desk.specs.Fitting.{ChangesByRules, IsNewBy}
 use Rattle.pt_desk.proofs.AnswerLemmas.{read_then, read_fault, read_memory, goes_by, handed}
+use Rattle.pt_desk.proofs.FitLemmas.{decided_by_rules, fits_read, fits_then}
 use Rattle.pt_desk.proofs.answering.answer_new.Goals as goal
 
 pub returns-in_err-facts : goal.returns-in_err-facts
@@ -18,6 +20,7 @@ returns-in_err-facts g c =
     record {
       goes = handed (λ r. Answers a b Is r) c.in_err-facts.field-0.0 c.from_residual.result c.from_residual.ensures.1
           (read_fault a b _ Done c.in_err-facts.field-0.0 Is c.in_err-facts.ensures.reads);
+      fits = fits_read a b _ _ (IsNewBy c.args.me.now c.args.sent.number c.args.write.now) c.in_err-facts.ensures.reads;
     }
 
 pub returns-in_err-decision : goal.returns-in_err-decision
@@ -28,6 +31,7 @@ returns-in_err-decision g c =
     record {
       goes = handed (λ r. Answers a b Is r) Memory c.from_residual-in_err-decision.result c.from_residual-in_err-decision.ensures.1
           (read_memory a b c.in_ok-facts.facts _ Done Is c.in_ok-facts.ensures.reads);
+      fits = fits_read a b _ _ (IsNewBy c.args.me.now c.args.sent.number c.args.write.now) c.in_ok-facts.ensures.reads;
     }
 
 pub returns : goal.returns
@@ -49,4 +53,10 @@ returns g c =
             carried.0,
             carried.1,
           ));
+      fits = fits_then a b d c.in_ok-facts.facts _ (IsNewBy c.args.me.now c.args.sent.number c.args.write.now) (ChangesByRules decision) c.in_ok-facts.ensures.reads
+          c.carry_out.ensures.goes.clean c.carry_out.ensures.fits
+          (λ is new. decided_by_rules c.args.write.now c.args.me.now c.args.now c.args.sent.number a.content decision
+          (subst (λ facts. IsDecision c.args.write.now c.args.me.now c.args.now (sent_with c.args.sent.number c.args.write.now) facts decision) is
+          (subst (λ (sent : Sent). IsDecision c.args.write.now c.args.me.now c.args.now sent c.in_ok-facts.facts decision) c.requires.spelled c.in_ok-decision.ensures.decided))
+          c.in_ok-decision.ensures.ranges c.requires.ranges new);
     }

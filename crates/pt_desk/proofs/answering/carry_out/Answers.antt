@@ -1,9 +1,9 @@
-use Rattle.std.proofs.Common.{sym, subst, Err, Some}
+use Rattle.std.proofs.Common.{sym, subst, Some}
 use Rattle.pt_desk_rules.specs.State.{applied}
 use Rattle.pt_desk_rules.specs.Step.{left_of, told_of}
 use Rattle.pt_desk_rules.specs.declared.deciding.Decision.{Decision}
-use Rattle.pt_requests.specs.declared.request.Answer.TheVariants.{Done}
-use Rattle.pt_store.specs.Store.{Goes}
+use Rattle.pt_desk.specs.Fitting.{ChangesByRules}
+use Rattle.pt_store.specs.Store.{Fits, Goes}
 use Rattle.pt_desk.proofs.AnswerLemmas.{fault_as, handed}
 use Rattle.pt_desk.proofs.answering.carry_out.Goals as goal
 
@@ -17,4 +17,5 @@ returns-in_err-commit-in-Accepted g c =
       goes = subst (λ (d : Decision). Goes a b (told_of d) (left_of d a.content) c.from_residual.result) (sym c.in-Accepted.is)
           (handed (λ r. Goes a b c.in-Accepted.answer left r) e c.from_residual.result c.from_residual.ensures.1
           (fault_as a b tt c.in-Accepted.answer left e c.in_err-commit-in-Accepted.ensures.commits));
+      fits = subst (λ (d : Decision). Fits a b (ChangesByRules d)) (sym c.in-Accepted.is) c.in_err-commit-in-Accepted.ensures.fits;
     }

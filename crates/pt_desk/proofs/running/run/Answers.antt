@@ -1,8 +1,8 @@
-use Rattle.std.proofs.Common.{◌≡◌, ◌≤◌, ◌∷◌, ◌++◌, [], arith, append-nil, append_assoc, refl, subst, sym}
+use Rattle.std.proofs.Common.{◌≡◌, ◌≤◌, ◌∷◌, ◌++◌, [], arith, append-nil, append_assoc, refl, subst, sym, ◌∙◌}
 use Rattle.std.proofs.lemmas.Grind.{common_steps}
 use Rattle.pt_desk.specs.Run.{AreOnlyTold, IsOutcomeOf}
 use Rattle.pt_desk.proofs.AnswerLemmas.{tells_by}
-use Rattle.pt_desk.proofs.CrashLemmas.{lasts_further, lasts_still}
+use Rattle.pt_desk.proofs.CrashLemmas.{lasts_further}
 use Rattle.pt_desk.proofs.RunLemmas.{ended, failure_told, goes_on_at, only_told_at}
 use Rattle.pt_desk.proofs.running.run.Goals as goal
 
@@ -28,6 +28,9 @@ loop-call-preserved g c =
       lasts = lasts_further (store c.args.keeper.now) before after c.loop-call.invariant.lasts c.answer_call-reply.ensures.lasts;
       settled = λ was. goes.settled (c.loop-call.invariant.settled was);
       sound = λ clean none sound. c.answer_call-reply.ensures.sound clean none (c.loop-call.invariant.sound (omega arith) (omega arith) sound);
+      fits = λ clean sound.
+          c.answer_call-reply.ensures.fits clean (λ none. c.loop-call.invariant.sound (omega arith) none (sound (omega (arith, none, c.loop-call.invariant.grows))))
+          ∙ c.loop-call.invariant.fits (omega arith) sound;
       told = λ some. failure_told c.loop-call.replies.items c.push.new.self.items reply before.failures after.failures pushed growing
           c.loop-call.invariant.told c.answer_call-reply.ensures.fails.told some;
       only_told = λ rest told.

@@ -3,7 +3,7 @@ use Rattle.pt_desk_rules.specs.State.{State}
 use Rattle.pt_desk_rules.specs.Sound.{IsSound}
 use Rattle.pt_desk.specs.Crash.{Lasts}
 use Rattle.pt_desk.specs.Run.{AreOnlyTold, GoesOn, TellOfFailure}
-use Rattle.pt_store.specs.Store.{IsSettled}
+use Rattle.pt_store.specs.Store.{FitsSound, IsSettled}
 use Rattle.pt_store.specs.declared.keeper.StoreFault.{StoreFault}
 use Rattle.pt_requests.specs.declared.request.Answer.{Answer}
 use Rattle.pt_desk.proofs.RunLemmas.{IsSame}
@@ -21,6 +21,7 @@ invariant-loop-call g l =
       lasts : Lasts (store l.fn.keeper) (store l.keeper);
       settled : IsSettled (store l.fn.keeper) → IsSettled (store l.keeper);
       sound : (store l.keeper).doubt ≡ 0 → (store l.keeper).failures ≡ 0 → IsSound (store l.fn.keeper).content → IsSound (store l.keeper).content;
+      fits : FitsSound (store l.fn.keeper) (store l.keeper);
       only_told : (rest : List (Result Answer StoreFault)) → AreOnlyTold l.calls (l.replies.items ++ rest) → IsSame (store l.fn.keeper) (store l.keeper) × AreOnlyTold (drop l.call-index l.calls) rest;
       told : TellOfFailure l.replies.items → 0 < (store l.keeper).failures;
       rest : (store l.keeper).doubt ≡ 0 → (rest : List (Result Answer StoreFault)) (new : State) → GoesOn (store l.keeper).failures (store l.keeper).content (drop l.call-index l.calls) rest new

@@ -19,6 +19,6 @@ returns-clause-settled g c =
       counted = λ _ _. refl;
     } in
     let same : c.of.result.content ≡ content = c.of.ensures.content ∙ c.of-known.ensures.content ∙ c.of-tables.ensures.value in
-    subst (λ (n : ℕ). IsSettled (kept_store (state g.S.Store c.of.result.conn) c.of.result.content n)) (sym c.of.ensures.serves)
-    (subst₂ (λ (h : Held _) (t : State). IsSettled (kept_store (state g.S.Store h) t 0)) (sym c.of.ensures.conn) (sym same)
-    (settles s content 0 (λ db here left. g.met.S.Store.settled c.args.conn.store db here left) step))
+    subst (λ (n : ℕ). IsSettled (kept_store (state g.S.Store c.of.result.conn) c.of.result.content n c.of.result.unfit)) (sym c.of.ensures.serves)
+    (subst₂ (λ (h : Held _) (t : State). IsSettled (kept_store (state g.S.Store h) t 0 c.of.result.unfit)) (sym c.of.ensures.conn) (sym same)
+    (settles s content 0 c.of.result.unfit (λ db here left. g.met.S.Store.settled c.args.conn.store db here left) step))

@@ -7,10 +7,10 @@ pub returns-in_err-to_vec-clause-reads : goal.returns-in_err-to_vec-clause-reads
 returns-in_err-to_vec-clause-reads g c =
     let now = c.args.self.now in
     let wanting : c.from_residual-in_err-to_vec.result ≡ Err Memory = search rules in
-    wants_held g.S.Store now.conn now.failures now.content now c.args.records.now.items c.from_residual-in_err-to_vec.result refl wanting
+    wants_held g.S.Store now.conn now.failures now.unfit now.content now c.args.records.now.items c.from_residual-in_err-to_vec.result refl wanting
 
 pub returns-clause-reads : goal.returns-clause-reads
 returns-clause-reads g c =
     let now = c.args.self.now in
     let is : c.of.result ≡ c.args.records.now.items = search rules in
-    reads_held g.S.Store now.conn now.failures now.content now (λ _. c.args.records.now.items) c.of.result refl (λ _. is)
+    reads_held g.S.Store now.conn now.failures now.unfit now.content now (λ _. c.args.records.now.items) c.of.result refl (λ _. is)

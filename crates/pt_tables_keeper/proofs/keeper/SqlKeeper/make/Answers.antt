@@ -15,12 +15,14 @@ returns-in_err-reserve g c =
     let now = state g.S.Store c.self.inside.conn in
     let content = c.self.inside.known.content in
     let f = c.self.inside.failures in
+    let u = c.self.inside.unfit in
     let none : f ≡ 0 = ap (λ (k : KeptTables _). k.failures) c.self.view_is ∙ c.requires.serves in
     let want : c.from_residual.result ≡ Err Memory = search rules in
     record {
-      commits = commits_by g.S.Store c.self.inside.conn f content c.args.self.now c.args.change (kept_store now c.reserve.new.self.content f) c.from_residual.result c.self.view_is
-          (subst (λ a. Goes {X = Unit {0}} (kept_store now content f) (kept_store now a f) tt (Some (applied c.args.change content)) c.from_residual.result) (sym c.reserve.ensures.content)
-          (wants_memory now content f (Some (applied c.args.change content)) c.from_residual.result none want));
+      commits = commits_by g.S.Store c.self.inside.conn f content c.args.self.now c.args.change (kept_store now c.reserve.new.self.content f u) c.from_residual.result c.self.view_is
+          (subst (λ a. Goes {X = Unit {0}} (kept_store now content f u) (kept_store now a f u) tt (Some (applied c.args.change content)) c.from_residual.result) (sym c.reserve.ensures.content)
+          (wants_memory now content f u (Some (applied c.args.change content)) c.from_residual.result none want));
+      unfit = ap (λ (k : KeptTables _). k.unfit) c.self.view_is;
     }
 
 pub invariant_of-self-in-Ok : goal.invariant_of-self-in-Ok
@@ -68,6 +70,7 @@ returns-in-Ok g c =
     let content = c.self.inside.known.content in
     let change = c.args.change in
     let f = c.self.inside.failures in
+    let u = c.self.inside.unfit in
     let none : f ≡ 0 = ap (λ (k : KeptTables _). k.failures) c.self.view_is ∙ c.requires.serves in
     let was = c.self.invariant in
     let well = was.readable in
@@ -76,11 +79,14 @@ returns-in-Ok g c =
     let after = applied change content in
     let made = commits_made old new content after f none was (c.write_over.ensures.survives content well agrees (was.kept none)) (applied-well_formed change content was.readable may.told)
     (carried_after change content was.readable may was.carried)
-    (λ db here left. g.met.S.Store.settled c.write_over.new.conn.store db here left) c.args.rider_count (riders_counted g.S.Store c.self.inside.conn f content c.args.self.now change c.args.rider_count c.self.view_is c.requires.counted)
+    (λ db here left. g.met.S.Store.settled c.write_over.new.conn.store db here left) u c.args.rider_count
+    (riders_counted g.S.Store c.self.inside.conn f content c.args.self.now change c.args.rider_count c.self.view_is c.requires.counted)
     c.write_over.ensures.settled (c.in-Ok.ensures.made content well agrees (was.kept none)) in
     record {
-      commits = commits_by g.S.Store c.self.inside.conn f content c.args.self.now change (kept_store new c.make.new.self.content f) (Ok tt) c.self.view_is
-          (subst (λ a. Goes {X = Unit {0}} (kept_store old content f) (kept_store new a f) tt (Some after) (Ok tt)) (sym (c.make.ensures.content ∙ ap (applied change) c.reserve.ensures.content)) made);
+      commits = commits_by g.S.Store c.self.inside.conn f content c.args.self.now change (kept_store new c.make.new.self.content f u) (Ok tt) c.self.view_is
+          (subst (λ a. Goes {X = Unit {0}} (kept_store old content f u) (kept_store new a f u) tt (Some after) (Ok tt))
+          (sym (c.make.ensures.content ∙ ap (applied change) c.reserve.ensures.content)) made);
+      unfit = ap (λ (k : KeptTables _). k.unfit) c.self.view_is;
     }
 
 pub returns-in-Err : goal.returns-in-Err
@@ -90,6 +96,7 @@ returns-in-Err g c =
     let content = c.self.inside.known.content in
     let change = c.args.change in
     let f = c.self.inside.failures in
+    let u = c.self.inside.unfit in
     let none : f ≡ 0 = ap (λ (k : KeptTables _). k.failures) c.self.view_is ∙ c.requires.serves in
     let was = c.self.invariant in
     let well = was.readable in
@@ -98,12 +105,13 @@ returns-in-Err g c =
     let after = applied change content in
     let undone = commits_not old new content after f none was (c.write_over.ensures.survives content well agrees (was.kept none)) (applied-well_formed change content was.readable may.told)
     (carried_after change content was.readable may was.carried)
-    (λ db here left. g.met.S.Store.settled c.write_over.new.conn.store db here left) c.blame.new.failures c.blame.result
+    (λ db here left. g.met.S.Store.settled c.write_over.new.conn.store db here left) u c.blame.new.failures c.blame.result
     c.blame.ensures.failed c.blame.ensures.memory c.write_over.ensures.settled c.in-Err.ensures.undone
     (λ memory clean. c.write_over.ensures.open clean (c.in-Err.is ∙ ap Err (c.blame.ensures.cause.0 memory))) in
     record {
-      commits = commits_by g.S.Store c.self.inside.conn f content c.args.self.now change (kept_store new c.reserve.new.self.content c.blame.new.failures) (Err c.blame.result) c.self.view_is
-          (subst (λ a. Goes {X = Unit {0}} (kept_store old content f) (kept_store new a c.blame.new.failures) tt (Some after) (Err c.blame.result)) (sym c.reserve.ensures.content) undone);
+      commits = commits_by g.S.Store c.self.inside.conn f content c.args.self.now change (kept_store new c.reserve.new.self.content c.blame.new.failures u) (Err c.blame.result) c.self.view_is
+          (subst (λ a. Goes {X = Unit {0}} (kept_store old content f u) (kept_store new a c.blame.new.failures u) tt (Some after) (Err c.blame.result)) (sym c.reserve.ensures.content) undone);
+      unfit = ap (λ (k : KeptTables _). k.unfit) c.self.view_is;
     }
 
 pub write_over-requires-clause-committed : goal.write_over-requires-clause-committed

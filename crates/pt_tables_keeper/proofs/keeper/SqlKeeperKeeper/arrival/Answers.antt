@@ -23,5 +23,6 @@ returns-clause-reads g c =
     let read = reads_on g.S.Store c.self.inside.conn c.kept_by_caller-found.new.conn c.self.inside.failures c.counted.new.failures c.self.inside.known.content c.kept_by_caller-found.result c.counted.result
     none c.self.invariant c.kept_by_caller-found.ensures.rests (λ db here left. g.met.S.Store.settled c.kept_by_caller-found.new.conn.store db here left) c.counted.ensures.counts
     c.args.self.now (kept_of c.args.caller) c.self.view_is c.kept_by_caller-found.ensures.told c.in_ok-last.last c.in_ok-last.was made in
-    subst (λ a. Goes (store_of g.S.Store c.args.self.now) (kept_store (state g.S.Store c.kept_by_caller-found.new.conn) c.self.inside.known.content c.counted.new.failures) (made (kept_of c.args.caller c.args.self.now.content)) None (Ok a))
+    let after = (kept_store (state g.S.Store c.kept_by_caller-found.new.conn) c.self.inside.known.content c.counted.new.failures c.self.inside.unfit) in
+    subst (λ a. Goes (store_of g.S.Store c.args.self.now) after (made (kept_of c.args.caller c.args.self.now.content)) None (Ok a))
     (sym (c.of.ensures.value ∙ ap made c.as_ref.ensures.value)) read

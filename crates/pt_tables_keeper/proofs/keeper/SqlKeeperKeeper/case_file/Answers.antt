@@ -30,5 +30,6 @@ returns-clause-reads g c =
     let read = reads_on g.S.Store c.self.inside.conn c.entries_by_rider-found.new.conn c.self.inside.failures c.counted.new.failures c.self.inside.known.content c.entries_by_rider-found.result c.counted.result
     none c.self.invariant c.entries_by_rider-found.ensures.rests (λ db here left. g.met.S.Store.settled c.entries_by_rider-found.new.conn.store db here left) c.counted.ensures.counts
     c.args.self.now (λ (s : State). entries_of c.args.rider s.entries) c.self.view_is c.entries_by_rider-found.ensures.told c.in_ok-entries.entries c.in_ok-entries.was file_with in
-    subst (λ file. Goes (store_of g.S.Store c.args.self.now) (kept_store (state g.S.Store c.entries_by_rider-found.new.conn) c.self.inside.known.content c.counted.new.failures) (file_of c.args.rider c.args.self.now.content) None (Ok file))
+    let after = (kept_store (state g.S.Store c.entries_by_rider-found.new.conn) c.self.inside.known.content c.counted.new.failures c.self.inside.unfit) in
+    subst (λ file. Goes (store_of g.S.Store c.args.self.now) after (file_of c.args.rider c.args.self.now.content) None (Ok file))
     (sym (c.in_ok-file_with.ensures.value ∙ ap file_with c.as_slice.ensures.value)) read

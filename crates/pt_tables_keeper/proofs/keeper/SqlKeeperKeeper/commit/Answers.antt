@@ -1,8 +1,9 @@
-use Rattle.std.proofs.Common.{◌≡◌, Err, Some, length, sym, ap, subst, ◌∙◌, rules}
-use Rattle.pt_store.specs.Store.{Goes}
+use Rattle.std.proofs.Common.{◌≡◌, Err, Some, length, refl, sym, ap, subst, ◌∙◌, rules}
+use Rattle.pt_store.specs.Store.{Goes, IsByRules}
 use Rattle.pt_desk_rules.specs.State.{State, applied}
-use Rattle.pt_tables_keeper.proofs.CommitLemmas.{commit_refused, commits_then}
+use Rattle.pt_tables_keeper.proofs.CommitLemmas.{commit_refused, commits_then, fits_after}
 use Rattle.pt_tables_keeper.proofs.ReadLemmas.{goes_not}
+use Rattle.pt_tables_keeper.proofs.RuleLemmas.{writable_by_rules}
 use Rattle.pt_tables_keeper.specs.Keeper.{KeptTables, store_of}
 use Rattle.pt_tables_keeper.specs.Writable.{IsWritable}
 use Rattle.pt_tables_keeper.proofs.keeper.SqlKeeperKeeper.commit.Goals as goal
@@ -33,3 +34,19 @@ make-requires-clause-writable g c =
 pub returns-then-not-is_writable-clause-commits : goal.returns-then-not-is_writable-clause-commits
 returns-then-not-is_writable-clause-commits g c =
     commit_refused (store_of g.S.Store c.args.self.now) _ (applied c.args.change c.args.self.now.content) (search rules) (search rules) (search rules) (search rules) (search rules)
+
+pub returns-in_err-rider_count-clause-fits : goal.returns-in_err-rider_count-clause-fits
+returns-in_err-rider_count-clause-fits g c clean is = (c.in_err-rider_count.ensures.reads.holds clean).fits refl
+
+pub returns-clause-fits : goal.returns-clause-fits
+returns-clause-fits g c =
+    fits_after (store_of g.S.Store c.args.self.now) (store_of g.S.Store c.rider_count_after.new.self) (store_of g.S.Store c.make.new.self)
+    (length (applied c.args.change c.args.self.now.content).riders) c.in_ok-rider_count.rider_count (IsByRules c.args.change) c.in_ok-rider_count.ensures.reads
+    c.make.ensures.commits.clean c.make.ensures.unfit
+
+pub returns-then-not-is_writable-clause-fits : goal.returns-then-not-is_writable-clause-fits
+returns-then-not-is_writable-clause-fits g c clean is =
+    let known : c.self.inside.known.content.vehicles ≡ c.as_slice.result.now = search rules in
+    let same : c.args.self.now.content.vehicles ≡ c.self.inside.known.content.vehicles = sym (ap (λ (k : KeptTables _). k.content.vehicles) c.self.view_is) in
+    let may = subst (λ vs. IsWritable vs c.args.change) (same ∙ known) (writable_by_rules c.args.change c.args.self.now.content is) in
+    absurd (let passes = c.is_writable.ensures.writable.1 may in let fails = c.if-not-is_writable.true in cc)

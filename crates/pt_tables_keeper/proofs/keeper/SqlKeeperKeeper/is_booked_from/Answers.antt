@@ -24,7 +24,7 @@ returns-clause-reads g c =
     let read = reads_on g.S.Store c.self.inside.conn c.trips_from_day-found.new.conn c.self.inside.failures c.counted.new.failures c.self.inside.known.content c.trips_from_day-found.result c.counted.result
     none c.self.invariant c.trips_from_day-found.ensures.rests (λ db here left. g.met.S.Store.settled c.trips_from_day-found.new.conn.store db here left) c.counted.ensures.counts
     c.args.self.now (λ (s : State). filter (λ trip. nat_le c.args.day trip.wish.day) s.trips) c.self.view_is c.trips_from_day-found.ensures.told c.in_ok-trips.trips c.in_ok-trips.was made in
-    let after = (kept_store (state g.S.Store c.trips_from_day-found.new.conn) c.self.inside.known.content c.counted.new.failures) in
+    let after = (kept_store (state g.S.Store c.trips_from_day-found.new.conn) c.self.inside.known.content c.counted.new.failures c.self.inside.unfit) in
     subst (λ a. Goes (store_of g.S.Store c.args.self.now) after (made c.args.self.now.content.trips) None (Ok a))
     (sym (c.is_booked_from.ensures.value ∙ ap made c.as_slice.ensures.value))
     (subst (λ v. Goes (store_of g.S.Store c.args.self.now) after v None (Ok (made c.in_ok-trips.trips))) (booked_later c.args.vehicle c.args.day c.args.self.now.content.trips) read)

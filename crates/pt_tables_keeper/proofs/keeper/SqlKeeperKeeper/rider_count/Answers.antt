@@ -8,6 +8,7 @@ pub returns : goal.returns
 returns g c =
     let none : c.self.inside.failures ≡ 0 = ap (λ (k : KeptTables _). k.failures) c.self.view_is ∙ c.in_ok-serve.ensures.served in
     record {
-      reads = reads_held g.S.Store c.self.inside.conn c.self.inside.failures c.self.inside.known.content c.args.self.now (λ (s : State). length s.riders) c.self.inside.rider_count c.self.view_is (λ clean. c.self.invariant.counted none clean);
+      reads = reads_held g.S.Store c.self.inside.conn c.self.inside.failures c.self.inside.unfit c.self.inside.known.content c.args.self.now
+          (λ (s : State). length s.riders) c.self.inside.rider_count c.self.view_is (λ clean. c.self.invariant.counted none clean);
       refuses = λ some. absurd (let zero : c.args.self.now.failures ≡ 0 = c.in_ok-serve.ensures.served in omega arith);
     }
