@@ -53,6 +53,15 @@ def told(proved, kept, all_costs, seconds):
     return line
 
 
+def lines_of(log):
+    """What the kit has said; nothing where a gate in the same folder has set the log aside."""
+    try:
+        with open(log, encoding="utf-8", errors="replace") as file:
+            return file.readlines()
+    except OSError:
+        return []
+
+
 class Progress:
     """Says it on one line until it is ended; where nobody looks, a line for each crate. What the kit says is read from its log."""
 
@@ -63,8 +72,7 @@ class Progress:
 
     def done(self):
         """The crates that this run proved, and those that an earlier one did."""
-        with open(self.log, encoding="utf-8", errors="replace") as file:
-            said = DONE.findall(file.read())
+        said = DONE.findall("".join(lines_of(self.log)))
         of = [{name for name, how in said if name in self.costs and how == it} for it in ("proved", "is kept")]
         return of[0], of[1] - of[0]
 

@@ -38,6 +38,7 @@ def build(top, log):
             check=False,
         )
         if ran.returncode == 0:
+            os.makedirs(f"{top}/{built.CRATE}/out", exist_ok=True)
             shutil.copy(f"{room}/tree/{built.PROGRAM}", f"{top}/{built.PROGRAM}.new")
             os.replace(f"{top}/{built.PROGRAM}.new", f"{top}/{built.PROGRAM}")
     return ran.returncode
