@@ -62,7 +62,8 @@ fn moment_on<C: Clock, S: Connection>(clock: &C, zone: &str, stream: &S) -> Resu
 
 /// Answers the request of one connection, by the rules as of the moment after it was accepted, and leaves it.
 ///
-/// Returns how the connection failed, if it did: one that was not accepted is a failed read. The error ends the serving.
+/// Returns how the connection failed, if it did; one that was not accepted is a failed read. The error ends the
+/// serving.
 fn serve_next<C: Clock, K: Keeper, A: Accepts>(
     clock: &C,
     alloc: Global,
