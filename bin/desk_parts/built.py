@@ -8,9 +8,10 @@ from desk_parts import sources
 
 CRATE = "crates/pt_app"
 PROGRAM, NOTE = f"{CRATE}/out/pt_app", f"{CRATE}/out/desk.built"
-STATE = os.environ.get("XDG_STATE_HOME") or os.path.expanduser("~/.local/state")
-# Of each text of a crate that was proved on this machine, how many functions it has.
-COUNTS = os.path.join(STATE, "desk-gate", "functions.json")
+# Where bin/meter and bin/desk keep what they saw of proofs on this machine.
+STATE = os.path.join(os.environ.get("XDG_STATE_HOME") or os.path.expanduser("~/.local/state"), "desk-gate")
+# Of each text of a crate that was proved, how many functions it has.
+COUNTS = f"{STATE}/functions.json"
 # Two kits with the same logic prove alike, whatever else differs in them.
 LOGIC = re.compile(r"\blogic (\S+)")
 
@@ -52,8 +53,10 @@ def write_note(top, kit, digest, begun):
 
 
 def keep_counts(top, lines):
-    """Keeps how many functions the prover counted in each crate, by these lines of the kit. What the kit has kept of a proof it
-    does not count again."""
+    """Keeps how many functions the prover counted in each crate, by these lines of the kit.
+
+    A proof that the kit has kept is not counted again.
+    """
     found, crate = {}, None
     for line in lines:
         named, proved = re.match(r"== (\w+)$", line), re.match(r"logic=proved functions=(\d+)", line)
@@ -63,7 +66,7 @@ def keep_counts(top, lines):
     # Without them a package says that nobody counted.
     with contextlib.suppress(OSError):
         if found:
-            os.makedirs(os.path.dirname(COUNTS), exist_ok=True)
+            os.makedirs(STATE, exist_ok=True)
             write(COUNTS, {**read(COUNTS), **found})
 
 

@@ -11,7 +11,8 @@ import sys
 import threading
 import time
 
-KEPT = os.path.join(os.environ.get("XDG_STATE_HOME") or os.path.expanduser("~/.local/state"), "desk-gate")
+from desk_parts import built
+
 SECONDS, LEAST_SHARE = 2, 0.04
 # What a proof costs where nothing is kept: processor minutes of a thousand lines.
 MINUTES_A_THOUSAND_LINES = 2.5
@@ -21,7 +22,7 @@ DONE = re.compile(r"(?m)^rt: (\w+) (proved|is kept)\b")
 
 def kept_minutes(crate):
     try:
-        with open(f"{KEPT}/{crate}.proof.json", encoding="utf-8") as file:
+        with open(f"{built.STATE}/{crate}.proof.json", encoding="utf-8") as file:
             return max(float(json.load(file)["minutes"]), 0.01)
     except (OSError, ValueError, KeyError, TypeError):
         return None
@@ -63,7 +64,7 @@ def lines_of(log):
 
 
 class Progress:
-    """Says it on one line until it is ended; where nobody looks, a line for each crate. What the kit says is read from its log."""
+    """Says it on one line until it is ended, by the kit's log; where nobody looks, a line for each crate."""
 
     def __init__(self, top, crates, log):
         self.costs, self.log = costs(top, crates), log

@@ -1,6 +1,6 @@
 """Proves and builds the program: the kit's own gate, over a copy of the program's crates without their mutants.
 
-The kit proves several crates at a time, those first that most others wait for, and keeps what it proved on this machine.
+The kit proves several crates at a time, those first that most others wait for. It keeps what it proved on this machine.
 So a build that was stopped goes on, and what bin/desk proved bin/gate does not prove again.
 """
 import os

@@ -28,10 +28,12 @@ def digest_of_files(top, names):
 
 
 def digest(top):
+    """The digest of all sources."""
     return digest_of_files(top, files(top))
 
 
 def digest_of_crate(top, crate):
+    """The digest of one crate's own files."""
     return digest_of_files(top, files_of(top, crate))
 
 

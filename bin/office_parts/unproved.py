@@ -23,7 +23,7 @@ OF_TRIALS = "-fsanitize=", "-O", "-Werror"
 # The kit first tries its compiler on a module of some hundred bytes; a program's module has megabytes.
 SMALLEST_MODULE = 100_000
 # The first program takes a fifth of the time of the quick one to compile, and twenty times as long for each request.
-FAST, QUICK = "-O0", "-O2"
+LEVEL_OF_FIRST, LEVEL_OF_QUICK = "-O0", "-O2"
 
 
 def kits_line():
@@ -52,7 +52,7 @@ def program(top, step):
     if os.path.isfile(quick):
         return quick
     if not os.path.isfile(first):
-        make(top, first, FAST, step)
+        make(top, first, LEVEL_OF_FIRST, step)
     return first
 
 
@@ -74,7 +74,11 @@ class Quicker:
     def __init__(self, top):
         words = ["nice", "-n", "19", sys.executable, "-B", "-m", "office_parts.unproved", top]
         self.process = subprocess.Popen(
-            words, cwd=f"{top}/bin", stdin=subprocess.DEVNULL, stdout=subprocess.DEVNULL, stderr=subprocess.DEVNULL,
+            words,
+            cwd=f"{top}/bin",
+            stdin=subprocess.DEVNULL,
+            stdout=subprocess.DEVNULL,
+            stderr=subprocess.DEVNULL,
             start_new_session=True,
         )
 
@@ -177,7 +181,7 @@ def run(words, folder):
 def main(top):
     """Makes the quick program. Whoever started this ends it by SIGTERM, and nothing is left then."""
     signal.signal(signal.SIGTERM, lambda *_: sys.exit(1))
-    make(top, places(top)[0], QUICK, lambda text: contextlib.nullcontext())
+    make(top, places(top)[0], LEVEL_OF_QUICK, lambda text: contextlib.nullcontext())
 
 
 if __name__ == "__main__":
