@@ -1,5 +1,6 @@
 -- Reading the lines of many cases, one after the other.
-use Rattle.std.proofs.Common.{◌≡◌, ℕ, zero, suc, ◌+◌, ◌-◌, ◌<◌, ◌≤◌, ◌↔◌, List, [], ◌∷◌, ◌++◌, length, take, drop, get_or, Option, None, Some, arith, refl, ap, sym, subst, ◌∙◌, length-drop, append-nil}
+use Rattle.std.proofs.Common.{◌≡◌, ℕ, zero, suc, ◌+◌, ◌-◌, ◌<◌, ◌≤◌, ◌↔◌, List, [], ◌∷◌, ◌++◌, length, take, drop}
+use Rattle.std.proofs.Common.{get_or, Option, None, Some, arith, refl, ap, sym, subst, ◌∙◌, length-drop, append-nil}
 use Rattle.std.specs.List.{flat_map}
 use Rattle.std.proofs.lemmas.Grind.{flat_map-append}
 use Rattle.std.proofs.lemmas.List.Concat.{flat_map_single}
@@ -15,20 +16,26 @@ use Rattle.pt_audit.specs.RightLog.{BeginsWithCases}
 
 module _ (minutes : ℕ → ℕ → Option ℕ) where
   -- the lines of cases, and then of more cases
-  join_cases : (first second : List Case) (lines between rest : List Line) → BeginsWithCases minutes first lines between → BeginsWithCases minutes second between rest → BeginsWithCases minutes (first ++ second) lines rest
+  join_cases : (first second : List Case) (lines between rest : List Line)
+      → BeginsWithCases minutes first lines between → BeginsWithCases minutes second between rest
+      → BeginsWithCases minutes (first ++ second) lines rest
   join_cases [] second lines between rest begins later = subst (λ (ls : List Line). BeginsWithCases minutes second ls rest) (sym begins) later
   join_cases (case ∷ first) second lines between rest begins later =
       let (raises, end, after, same, right, more) = begins in
       (raises, end, after, same, right, join_cases first second after between rest more later)
 
-  split_cases : (first second : List Case) (lines rest : List Line) → BeginsWithCases minutes (first ++ second) lines rest → (between : List Line) × BeginsWithCases minutes first lines between × BeginsWithCases minutes second between rest
+  split_cases : (first second : List Case) (lines rest : List Line)
+      → BeginsWithCases minutes (first ++ second) lines rest → (between : List Line)
+      × BeginsWithCases minutes first lines between × BeginsWithCases minutes second between rest
   split_cases [] second lines rest begins = (lines, refl, begins)
   split_cases (case ∷ first) second lines rest begins =
       let (raises, end, after, same, right, more) = begins in
       let (between, one, other) = split_cases first second after rest more in
       (between, (raises, end, after, same, right, one), other)
 
-  ends_more : (first second : List Case) (lines : List Line) (start at : ℕ) (result : Option ℕ) → EndsCases minutes first lines start (Some at) → EndsCases minutes second lines at result → EndsCases minutes (first ++ second) lines start result
+  ends_more : (first second : List Case) (lines : List Line) (start at : ℕ) (result : Option ℕ)
+      → EndsCases minutes first lines start (Some at) → EndsCases minutes second lines at result
+      → EndsCases minutes (first ++ second) lines start result
   ends_more first second lines start at result one other rest = (
     λ begins. (let (between, here, later) = split_cases first second (drop start lines) rest begins in
         let same : drop at lines ≡ between = (one between).0 here in
@@ -94,7 +101,9 @@ list_around {A = A} (x ∷ xs) (suc k) d inside = ap (λ (ys : List A). x ∷ ys
 abbrev pub one_case : Asked → Vehicle → List Stop → ℕ → ℕ → List Case
 one_case asked vehicle stops i j = case_at asked vehicle stops i j ∷ []
 
-pub cases_of_pickup-one : (asked : Asked) (vehicle : Vehicle) (stops : List Stop) (i : ℕ) → flat_map (one_case asked vehicle stops i) (numbers_from i (length stops + 1 - i)) ≡ cases_of_pickup asked vehicle stops i
+pub cases_of_pickup-one : (asked : Asked) (vehicle : Vehicle) (stops : List Stop) (i : ℕ)
+    → flat_map (one_case asked vehicle stops i) (numbers_from i (length stops + 1 - i)) ≡ cases_of_pickup asked
+    vehicle stops i
 cases_of_pickup-one asked vehicle stops i = flat_map_single (case_at asked vehicle stops i) (numbers_from i (length stops + 1 - i))
 
 -- the numbers below the next one

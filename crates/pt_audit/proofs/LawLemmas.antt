@@ -1,5 +1,7 @@
 -- A right log refutes each of its cases, and its cases are all places of the day.
-use Rattle.std.proofs.Common.{◌≡◌, ℕ, zero, suc, ◌+◌, ◌-◌, ◌<◌, ◌≤◌, ◌==◌, max, List, [], ◌∷◌, ◌++◌, length, map, Option, None, Some, IsSomeAnd, IsSome, slice_get, slice_index, arith, refl, ap, sym, subst, ◌∙◌, inl, inr, add-one}
+use Rattle.std.proofs.Common.{◌≡◌, ℕ, zero, suc, ◌+◌, ◌-◌, ◌<◌, ◌≤◌, ◌==◌, max, List, [], ◌∷◌, ◌++◌, length, map}
+use Rattle.std.proofs.Common.{Option, None, Some, IsSomeAnd, IsSome, slice_get, slice_index, arith, refl, ap, sym}
+use Rattle.std.proofs.Common.{subst, ◌∙◌, inl, inr, add-one}
 use Rattle.std.specs.List.{flat_map}
 use Rattle.std.proofs.lemmas.Bool.{cases_eq, eq-eqb, ne_eqb, cond-true, cond-false}
 use Rattle.pt_base.specs.declared.vehicle.Vehicle.{Vehicle}
@@ -41,11 +43,15 @@ module _ (minutes : ℕ → ℕ → Option ℕ) (vehicle : Vehicle) (stops : Lis
   raise_below bound below (Drive zero n) right = absurd right
   raise_below bound below (Drive (suc before) n) right =
       let all = visits vehicle stops in
-      let this = value_of (λ (this : Visit). IsSomeAnd (slice_get all (suc before)) (λ next. IsSomeAnd (minutes this.place next.place) (λ drive. n ≤ bound before + this.service + drive))) (slice_get all before) right in
+      let this = value_of (λ (this : Visit). IsSomeAnd (slice_get all (suc before))
+      (λ next. IsSomeAnd (minutes this.place next.place) (λ drive. n ≤ bound before + this.service + drive)))
+      (slice_get all before) right in
       let next = value_of (λ (next : Visit). IsSomeAnd (minutes this.0.place next.place) (λ drive. n ≤ bound before + this.0.service + drive)) (slice_get all (suc before)) this.2 in
       let drive = value_of (λ (drive : ℕ). n ≤ bound before + this.0.service + drive) (minutes this.0.place next.0.place) next.2 in
       let there = subst (λ (k : ℕ). slice_get all k ≡ Some next.0) (sym (add-one before)) next.1 in
-      let drives = value_of (λ (drive : ℕ). slice_index b before + this.0.service + drive ≤ slice_index b (before + 1)) (minutes this.0.place next.0.place) (fits.driving_times before this.0 next.0 this.1 there) in
+      let drives = value_of (λ (drive : ℕ). slice_index b before + this.0.service + drive ≤ slice_index b
+      (before + 1)) (minutes this.0.place next.0.place) (fits.driving_times before this.0 next.0 this.1 there)
+      in
       let same : drive.0 ≡ drives.0 = (let both : Some drive.0 ≡ Some drives.0 = sym drive.1 ∙ drives.1 in cc) in
       let place : slice_index b (before + 1) ≡ slice_index b (suc before) = ap (slice_index b) (add-one before) in
       omega (arith, drive.2, drives.2, same, place, below before)
@@ -127,7 +133,9 @@ Each-mapped P f first (suc count) k each low high = elim (cases_eq first k) [
 ]
 
 -- a vehicle's cases are all places in its route
-pub vehicle_refuted : (minutes : ℕ → ℕ → Option ℕ) (asked : Asked) (vehicle : Vehicle) (stops : List Stop) → Each (IsRefuted minutes) (cases_of_vehicle asked vehicle stops) → (i j : ℕ) → ¬ IsPossible minutes vehicle stops asked i j
+pub vehicle_refuted : (minutes : ℕ → ℕ → Option ℕ) (asked : Asked) (vehicle : Vehicle) (stops : List Stop)
+    → Each (IsRefuted minutes) (cases_of_vehicle asked vehicle stops) → (i j : ℕ)
+    → ¬ IsPossible minutes vehicle stops asked i j
 vehicle_refuted minutes asked vehicle stops each i j possible =
     let drop_later = possible.drop_later in
     let among = possible.among in
@@ -139,7 +147,9 @@ vehicle_refuted minutes asked vehicle stops each i j possible =
 duty_refuted : (minutes : ℕ → ℕ → Option ℕ) (asked : Asked) (duties : List Duty) → Each (IsRefuted minutes) (cases_of_day asked duties) → IsNowherePossible minutes duties asked
 duty_refuted minutes asked [] each k d inside = absurd (omega arith)
 duty_refuted minutes asked (duty ∷ duties) each zero d inside = vehicle_refuted minutes asked duty.vehicle.now (stops_of duty.route.now) (Each-first (IsRefuted minutes) _ _ each)
-duty_refuted minutes asked (duty ∷ duties) each (suc k) d inside = duty_refuted minutes asked duties (Each-second (IsRefuted minutes) (cases_of_vehicle asked duty.vehicle.now (stops_of duty.route.now)) _ each) k d (omega arith)
+duty_refuted minutes asked (duty ∷ duties) each (suc k) d inside = duty_refuted minutes asked duties
+    (Each-second (IsRefuted minutes) (cases_of_vehicle asked duty.vehicle.now (stops_of duty.route.now)) _ each) k d
+    (omega arith)
 
 -- without a way from the origin to the goal nothing is possible
 no_direct : (minutes : ℕ → ℕ → Option ℕ) (duties : List Duty) (asked : Asked) → minutes asked.origin asked.goal ≡ None → IsNowherePossible minutes duties asked

@@ -56,7 +56,15 @@ two_numbers m n after more fits small ends is = among (decimal m) (decimal n) af
 pub no_smaller : (m n : ℕ) (after more : List ℕ) → m < 2 ^ 64 → IsNumber n → get_or more 0 0 < 48 → decimal m ++ after ≡ decimal n ++ more → m ≤ n
 no_smaller m n after more fits small ends is =
     let found = two_numbers m n after more fits small ends is in
-    omega (arith, (decimal_is_IsNumeral m fits).1, (decimal_is_IsNumeral n (omega arith)).1, ap (digits_value 10) found.longer, value-more 0 (decimal m) found.left, grows (digits_value 10 (decimal m)) found.left)
+    omega (
+      arith,
+      (decimal_is_IsNumeral m fits).1,
+      (decimal_is_IsNumeral n (omega arith)).1,
+      ap (digits_value 10)
+          found.longer,
+      value-more 0 (decimal m) found.left,
+      grows (digits_value 10 (decimal m)) found.left,
+    )
 
 -- if no digit follows it, the number is read whole
 pub whole_number : (m n : ℕ) (after more : List ℕ) → m < 2 ^ 64 → IsNumber n → get_or more 0 0 < 48 → HasNoDigit after → decimal m ++ after ≡ decimal n ++ more → (m ≡ n) × (after ≡ more)
@@ -69,7 +77,8 @@ whole_number m n after more fits small ends over is =
     go (c ∷ left) longer digits stands = absurd (not-first after c (left ++ more) over digits.0 stands)
 
 -- one more digit of a number above 0
-pub longer_number : (number digit longer : ℕ) (rest after : List ℕ) → 0 < number → number < 2 ^ 32 → digit < 10 → longer ≡ number * 10 + digit → rest ≡ (48 + digit) ∷ after → decimal number ++ rest ≡ decimal longer ++ after
+pub longer_number : (number digit longer : ℕ) (rest after : List ℕ) → 0 < number → number < 2 ^ 32 → digit < 10
+    → longer ≡ number * 10 + digit → rest ≡ (48 + digit) ∷ after → decimal number ++ rest ≡ decimal longer ++ after
 longer_number number digit longer rest after some fits small is front =
     let tens : longer / 10 ≡ number = omega (arith, is, small) in
     let last : longer % 10 ≡ digit = omega (arith, is, small) in

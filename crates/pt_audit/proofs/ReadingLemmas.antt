@@ -1,5 +1,7 @@
 -- Reading the lines of a case one by one.
-use Rattle.std.proofs.Common.{◌≡◌, ℕ, zero, suc, ◌+◌, ◌<◌, ◌≤◌, ◌↔◌, replicate, slice_index, List, [], ◌∷◌, ◌++◌, length, map, drop, Option, None, Some, IsSomeAnd, slice_get, get_or, arith, refl, ap, sym, subst, ◌∙◌, append_assoc, add-one, drop-cons}
+use Rattle.std.proofs.Common.{◌≡◌, ℕ, zero, suc, ◌+◌, ◌<◌, ◌≤◌, ◌↔◌, replicate, slice_index, List, [], ◌∷◌, ◌++◌}
+use Rattle.std.proofs.Common.{length, map, drop, Option, None, Some, IsSomeAnd, slice_get, get_or, arith, refl, ap}
+use Rattle.std.proofs.Common.{sym, subst, ◌∙◌, append_assoc, add-one, drop-cons}
 use Rattle.pt_base.specs.declared.vehicle.Vehicle.{Vehicle}
 use Rattle.pt_feasible.specs.declared.stop.Stop.{Stop}
 use Rattle.pt_audit.specs.declared.line.Line.{Line}
@@ -24,25 +26,36 @@ module _ (minutes : ℕ → ℕ → Option ℕ) (vehicle : Vehicle) (stops : Lis
       × (lines ≡ map line.Raise raises ++ line.End end ∷ rest) × AreRight minutes vehicle stops bound raises end
 
   -- a raise, and what follows it
-  pub after_raise : (bound : ℕ → ℕ) (raise : Raise) (lines rest : List Line) → Continues bound (line.Raise raise ∷ lines) rest → IsRightRaise minutes vehicle stops bound raise × Continues (raised bound raise) lines rest
+  pub after_raise : (bound : ℕ → ℕ) (raise : Raise) (lines rest : List Line)
+      → Continues bound (line.Raise raise ∷ lines) rest → IsRightRaise minutes vehicle stops bound raise
+      × Continues (raised bound raise) lines rest
   after_raise bound raise lines rest continues = go continues.0 continues.1 continues.2 continues.3
     where
-      go : (raises : List Raise) (end : End) → line.Raise raise ∷ lines ≡ map line.Raise raises ++ line.End end ∷ rest → AreRight minutes vehicle stops bound raises end → IsRightRaise minutes vehicle stops bound raise × Continues (raised bound raise) lines rest
+      go : (raises : List Raise) (end : End) → line.Raise raise ∷ lines ≡ map line.Raise raises ++ line.End end ∷ rest
+          → AreRight minutes vehicle stops bound raises end → IsRightRaise minutes vehicle stops bound raise
+          × Continues (raised bound raise) lines rest
       go [] end same right = absurd (cc)
       go (first ∷ raises) end same right =
           let this : first ≡ raise = cc in
           let tail : lines ≡ map line.Raise raises ++ line.End end ∷ rest = cc in
-          let both : IsRightRaise minutes vehicle stops bound raise × AreRight minutes vehicle stops (raised bound raise) raises end = subst (λ (r : Raise). IsRightRaise minutes vehicle stops bound r × AreRight minutes vehicle stops (raised bound r) raises end) this right in
+          let both : IsRightRaise minutes vehicle stops bound raise
+          × AreRight minutes vehicle stops (raised bound raise) raises end = subst
+          (λ (r : Raise). IsRightRaise minutes vehicle stops bound r
+          × AreRight minutes vehicle stops (raised bound r) raises end) this right in
           (both.0, (raises, end, tail, both.1))
 
-  pub before_raise : (bound : ℕ → ℕ) (raise : Raise) (lines rest : List Line) → IsRightRaise minutes vehicle stops bound raise → Continues (raised bound raise) lines rest → Continues bound (line.Raise raise ∷ lines) rest
+  pub before_raise : (bound : ℕ → ℕ) (raise : Raise) (lines rest : List Line)
+      → IsRightRaise minutes vehicle stops bound raise → Continues (raised bound raise) lines rest
+      → Continues bound (line.Raise raise ∷ lines) rest
   before_raise bound raise lines rest right continues = (raise ∷ continues.0, continues.1, ap (λ (ls : List Line). line.Raise raise ∷ ls) continues.2, (right, continues.3))
 
   -- an end, and the rest
   pub at_end : (bound : ℕ → ℕ) (end : End) (lines rest : List Line) → Continues bound (line.End end ∷ lines) rest → IsRightEnd minutes vehicle stops bound end × (lines ≡ rest)
   at_end bound end lines rest continues = go continues.0 continues.1 continues.2 continues.3
     where
-      go : (raises : List Raise) (last : End) → line.End end ∷ lines ≡ map line.Raise raises ++ line.End last ∷ rest → AreRight minutes vehicle stops bound raises last → IsRightEnd minutes vehicle stops bound end × (lines ≡ rest)
+      go : (raises : List Raise) (last : End) → line.End end ∷ lines ≡ map line.Raise raises ++ line.End last ∷ rest
+          → AreRight minutes vehicle stops bound raises last → IsRightEnd minutes vehicle stops bound end
+          × (lines ≡ rest)
       go [] last same right =
           let this : last ≡ end = cc in
           (subst (λ (e : End). IsRightEnd minutes vehicle stops bound e) this right, cc)
@@ -97,7 +110,9 @@ pub from_here : (lines : List Line) (at : ℕ) (here d : Line) → at < length l
 from_here lines at here d inside same = rw (add-one, ← same) (drop-cons lines at d inside)
 
 -- lines that are not those of the cases end nowhere
-pub ends_nowhere : (minutes : ℕ → ℕ → Option ℕ) (cases : List Case) (lines : List Line) (start : ℕ) → ((rest : List Line) → ¬ BeginsWithCases minutes cases (drop start lines) rest) → EndsCases minutes cases lines start None
+pub ends_nowhere : (minutes : ℕ → ℕ → Option ℕ) (cases : List Case) (lines : List Line) (start : ℕ)
+    → ((rest : List Line) → ¬ BeginsWithCases minutes cases (drop start lines) rest)
+    → EndsCases minutes cases lines start None
 ends_nowhere minutes cases lines start never rest = (λ begins. absurd (never rest begins), λ ends. absurd ends)
 
 -- bounds that all are 0
@@ -137,45 +152,64 @@ module _ (minutes : ℕ → ℕ → Option ℕ) (case : Case) (lines : List Line
       begins_here : (rest : List Line) → Continues minutes case.vehicle case.stops bound (here ∷ drop (at + 1) lines) rest → BeginsWithCases minutes (case ∷ []) (drop start lines) rest
       begins_here rest continues = (so_far rest).1 (subst (λ (ls : List Line). Continues minutes case.vehicle case.stops bound ls rest) (sym front) continues)
 
-      pub read_raise : (raise : Raise) (new : ℕ → ℕ) → here ≡ line.Raise raise → IsRightRaise minutes case.vehicle case.stops bound raise → ((k : ℕ) → new k ≡ raised bound raise k) → IsReadTo new (at + 1)
+      pub read_raise : (raise : Raise) (new : ℕ → ℕ) → here ≡ line.Raise raise
+          → IsRightRaise minutes case.vehicle case.stops bound raise → ((k : ℕ) → new k ≡ raised bound raise k)
+          → IsReadTo new (at + 1)
       read_raise raise new is right each rest =
           let same : new ≡ raised bound raise = λ i k. each k i in (
             λ begins. subst (λ (b : ℕ → ℕ). Continues minutes case.vehicle case.stops b (drop (at + 1) lines) rest) (sym same)
-                (after_raise minutes case.vehicle case.stops bound raise (drop (at + 1) lines) rest (subst (λ (l : Line). Continues minutes case.vehicle case.stops bound (l ∷ drop (at + 1) lines) rest) is (continues_here rest begins))).1,
+                (after_raise minutes case.vehicle case.stops bound raise (drop (at + 1) lines) rest
+                (subst (λ (l : Line). Continues minutes case.vehicle case.stops bound (l ∷ drop (at + 1) lines)
+                rest) is (continues_here rest begins))).1,
             λ continues. begins_here rest (subst (λ (l : Line). Continues minutes case.vehicle case.stops bound (l ∷ drop (at + 1) lines) rest) (sym is)
-                (before_raise minutes case.vehicle case.stops bound raise (drop (at + 1) lines) rest right (subst (λ (b : ℕ → ℕ). Continues minutes case.vehicle case.stops b (drop (at + 1) lines) rest) same continues))),
+                (before_raise minutes case.vehicle case.stops bound raise (drop (at + 1) lines) rest right
+                (subst (λ (b : ℕ → ℕ). Continues minutes case.vehicle case.stops b (drop (at + 1) lines) rest)
+                same continues))),
           )
 
       pub wrong_raise : (raise : Raise) → here ≡ line.Raise raise → (IsRightRaise minutes case.vehicle case.stops bound raise → ⊥) → EndsCases minutes (case ∷ []) lines start None
       wrong_raise raise is wrong = ends_nowhere minutes (case ∷ []) lines start (λ rest begins. wrong
-          (after_raise minutes case.vehicle case.stops bound raise (drop (at + 1) lines) rest (subst (λ (l : Line). Continues minutes case.vehicle case.stops bound (l ∷ drop (at + 1) lines) rest) is (continues_here rest begins))).0)
+          (after_raise minutes case.vehicle case.stops bound raise (drop (at + 1) lines) rest
+          (subst (λ (l : Line). Continues minutes case.vehicle case.stops bound (l ∷ drop (at + 1) lines) rest) is
+          (continues_here rest begins))).0)
 
       pub right_end : (end : End) → here ≡ line.End end → IsRightEnd minutes case.vehicle case.stops bound end → EndsCases minutes (case ∷ []) lines start (Some (at + 1))
       right_end end is right rest = (
-        λ begins. (at_end minutes case.vehicle case.stops bound end (drop (at + 1) lines) rest (subst (λ (l : Line). Continues minutes case.vehicle case.stops bound (l ∷ drop (at + 1) lines) rest) is (continues_here rest begins))).1,
-        λ same. begins_here rest (subst (λ (l : Line). Continues minutes case.vehicle case.stops bound (l ∷ drop (at + 1) lines) rest) (sym is) (the_end minutes case.vehicle case.stops bound end (drop (at + 1) lines) rest right same)),
+        λ begins. (at_end minutes case.vehicle case.stops bound end (drop (at + 1) lines) rest
+            (subst (λ (l : Line). Continues minutes case.vehicle case.stops bound (l ∷ drop (at + 1) lines) rest) is
+            (continues_here rest begins))).1,
+        λ same. begins_here rest (subst (λ (l : Line). Continues minutes case.vehicle case.stops bound
+            (l ∷ drop (at + 1) lines) rest) (sym is) (the_end minutes case.vehicle case.stops bound end
+            (drop (at + 1) lines) rest right same)),
       )
 
       pub wrong_end : (end : End) → here ≡ line.End end → (IsRightEnd minutes case.vehicle case.stops bound end → ⊥) → EndsCases minutes (case ∷ []) lines start None
       wrong_end end is wrong = ends_nowhere minutes (case ∷ []) lines start (λ rest begins. wrong
-          (at_end minutes case.vehicle case.stops bound end (drop (at + 1) lines) rest (subst (λ (l : Line). Continues minutes case.vehicle case.stops bound (l ∷ drop (at + 1) lines) rest) is (continues_here rest begins))).0)
+          (at_end minutes case.vehicle case.stops bound end (drop (at + 1) lines) rest
+          (subst (λ (l : Line). Continues minutes case.vehicle case.stops bound (l ∷ drop (at + 1) lines) rest) is
+          (continues_here rest begins))).0)
 
       pub wrong_line : ((rest : List Line) → ¬ Continues minutes case.vehicle case.stops bound (here ∷ drop (at + 1) lines) rest) → EndsCases minutes (case ∷ []) lines start None
       wrong_line wrong = ends_nowhere minutes (case ∷ []) lines start (λ rest begins. wrong rest (continues_here rest begins))
 
     pub no_end : drop at lines ≡ [] → EndsCases minutes (case ∷ []) lines start None
     no_end none = ends_nowhere minutes (case ∷ []) lines start
-        (λ rest begins. not_without_lines minutes case.vehicle case.stops bound rest (subst (λ (ls : List Line). Continues minutes case.vehicle case.stops bound ls rest) none ((so_far rest).0 begins)))
+        (λ rest begins. not_without_lines minutes case.vehicle case.stops bound rest
+        (subst (λ (ls : List Line). Continues minutes case.vehicle case.stops bound ls rest) none
+        ((so_far rest).0 begins)))
 
 -- a right raise is of a visit
-pub visit-among : (minutes : ℕ → ℕ → Option ℕ) (vehicle : Vehicle) (stops : List Stop) (bound : ℕ → ℕ) (raise : Raise) → IsRightRaise minutes vehicle stops bound raise → visit_of raise < length stops + 2
+pub visit-among : (minutes : ℕ → ℕ → Option ℕ) (vehicle : Vehicle) (stops : List Stop) (bound : ℕ → ℕ) (raise : Raise)
+    → IsRightRaise minutes vehicle stops bound raise → visit_of raise < length stops + 2
 visit-among minutes vehicle stops bound (Window k n) right =
     let found = value_of (λ (visit : Visit). n ≤ visit.lo) (slice_get (visits vehicle stops) k) right in
     omega (arith, slice_get_within (visits vehicle stops) k found.0 found.1, length-visits vehicle stops)
 visit-among minutes vehicle stops bound (Drive zero n) right = absurd right
 visit-among minutes vehicle stops bound (Drive (suc before) n) right =
     let all = visits vehicle stops in
-    let this = value_of (λ (this : Visit). IsSomeAnd (slice_get all (suc before)) (λ next. IsSomeAnd (minutes this.place next.place) (λ drive. n ≤ bound before + this.service + drive))) (slice_get all before) right in
+    let this = value_of (λ (this : Visit). IsSomeAnd (slice_get all (suc before))
+    (λ next. IsSomeAnd (minutes this.place next.place) (λ drive. n ≤ bound before + this.service + drive)))
+    (slice_get all before) right in
     let next = value_of (λ (next : Visit). IsSomeAnd (minutes this.0.place next.place) (λ drive. n ≤ bound before + this.0.service + drive)) (slice_get all (suc before)) this.2 in
     omega (arith, slice_get_within all (suc before) next.0 next.1, length-visits vehicle stops)
 visit-among minutes vehicle stops bound (Ride zero n) right = absurd right

@@ -1,5 +1,6 @@
 -- Lines as texts: their words, and that no line's text begins another's.
-use Rattle.std.proofs.Common.{◌≡◌, ℕ, ◌+◌, ◌≤◌, ◌<◌, false, List, [], ◌∷◌, ◌++◌, length, decimal, drop, get_or, Some, suc, take, refl, sym, ap, ap₂, subst, ◌∙◌, arith, inl, inr, append_assoc, length-append}
+use Rattle.std.proofs.Common.{◌≡◌, ℕ, ◌+◌, ◌≤◌, ◌<◌, false, List, [], ◌∷◌, ◌++◌, length, decimal, drop, get_or, Some}
+use Rattle.std.proofs.Common.{suc, take, refl, sym, ap, ap₂, subst, ◌∙◌, arith, inl, inr, append_assoc, length-append}
 use Rattle.std.specs.Prelude.{◌==◌, ◌&&◌, if◌then◌else◌, codes, None, Bool, true}
 use Rattle.std.specs.Char.{digit_value}
 use Rattle.std.specs.List.{All, AllByRecursion, flat_map, position, position_from}
@@ -39,7 +40,25 @@ letters bytes each = All-from_recursion (λ b. (48 ≤ b) × (b < 91)) bytes eac
 
 -- a line begins with a word
 pub keyword-word : (line : Line) → IsWord (keyword_of line)
-keyword-word line.NoDirect = letters (codes "NODIRECT") ((omega arith, omega arith), ((omega arith, omega arith), ((omega arith, omega arith), ((omega arith, omega arith), ((omega arith, omega arith), ((omega arith, omega arith), ((omega arith, omega arith), ((omega arith, omega arith), tt))))))))
+keyword-word line.NoDirect = letters (codes "NODIRECT") (
+  (omega arith, omega arith),
+  (
+    (omega arith, omega arith),
+    (
+      (omega arith, omega arith),
+      (
+        (omega arith, omega arith),
+        (
+          (omega arith, omega arith),
+          (
+            (omega arith, omega arith),
+            ((omega arith, omega arith), ((omega arith, omega arith), tt)),
+          ),
+        ),
+      ),
+    ),
+  ),
+)
 keyword-word (line.Case v i j) = letters (codes "CASE") ((omega arith, omega arith), ((omega arith, omega arith), ((omega arith, omega arith), ((omega arith, omega arith), tt))))
 keyword-word (line.Raise (raise.Window k n)) = letters (codes "F") ((omega arith, omega arith), tt)
 keyword-word (line.Raise (raise.Drive k n)) = letters (codes "A") ((omega arith, omega arith), tt)
@@ -100,7 +119,8 @@ of_one letter k made is = go (letter == 87) (letter == 76) (letter == 77) (eqb-t
     from found same parts = subst (λ (l : Line). IsOfOne l letter k) (same_Some found made same) parts
 
     go : (late overloaded no_way : Bool) → (late ≡ true → letter ≡ 87) → (overloaded ≡ true → letter ≡ 76) → (no_way ≡ true → letter ≡ 77)
-        → (if late then Some (line.End (end.Late k)) else if overloaded then Some (line.End (end.Overloaded k)) else if no_way then Some (line.End (end.NoWay k)) else None) ≡ Some made → IsOfOne made letter k
+        → (if late then Some (line.End (end.Late k)) else if overloaded then Some (line.End (end.Overloaded k)) else
+        if no_way then Some (line.End (end.NoWay k)) else None) ≡ Some made → IsOfOne made letter k
     go true overloaded no_way a b c is = from (line.End (end.Late k)) is (record { keyword = ap (λ l. l ∷ []) (sym (a refl)); numbers = refl })
     go false true no_way a b c is = from (line.End (end.Overloaded k)) is (record { keyword = ap (λ l. l ∷ []) (sym (b refl)); numbers = refl })
     go false false true a b c is = from (line.End (end.NoWay k)) is (record { keyword = ap (λ l. l ∷ []) (sym (c refl)); numbers = refl })
@@ -124,13 +144,16 @@ pub record IsOfTwo (line : Line) (letter k n : ℕ) : Type 0 where
   pub numbers : numbers_of line ≡ k ∷ n ∷ []
 
 pub of_two : (letter k n : ℕ) (made : Line) → line_with_two letter k n ≡ Some made → IsOfTwo made letter k n
-of_two letter k n made is = go (letter == 70) (letter == 65) (letter == 80) (letter == 84) (k == 0) (eqb-true letter 70) (eqb-true letter 65) (eqb-true letter 80) (eqb-true letter 84) (eqb-true k 0) is
+of_two letter k n made is = go (letter == 70) (letter == 65) (letter == 80) (letter == 84) (k == 0)
+    (eqb-true letter 70) (eqb-true letter 65) (eqb-true letter 80) (eqb-true letter 84) (eqb-true k 0) is
   where
     from : (found : Line) → Some found ≡ Some made → IsOfTwo found letter k n → IsOfTwo made letter k n
     from found same parts = subst (λ (l : Line). IsOfTwo l letter k n) (same_Some found made same) parts
 
     go : (window drive ride duration zero : Bool) → (window ≡ true → letter ≡ 70) → (drive ≡ true → letter ≡ 65) → (ride ≡ true → letter ≡ 80) → (duration ≡ true → letter ≡ 84) → (zero ≡ true → k ≡ 0)
-        → (if window then Some (line.Raise (raise.Window k n)) else if drive then Some (line.Raise (raise.Drive k n)) else if ride then Some (line.Raise (raise.Ride k n)) else if duration && zero then Some (line.Raise (raise.Duration n)) else None) ≡ Some made → IsOfTwo made letter k n
+        → (if window then Some (line.Raise (raise.Window k n)) else if drive then Some (line.Raise (raise.Drive k n))
+        else if ride then Some (line.Raise (raise.Ride k n)) else if duration && zero then Some
+        (line.Raise (raise.Duration n)) else None) ≡ Some made → IsOfTwo made letter k n
     go true drive ride duration zero a b c d e is = from (line.Raise (raise.Window k n)) is (record { keyword = ap (λ l. l ∷ []) (sym (a refl)); numbers = refl })
     go false true ride duration zero a b c d e is = from (line.Raise (raise.Drive k n)) is (record { keyword = ap (λ l. l ∷ []) (sym (b refl)); numbers = refl })
     go false false true duration zero a b c d e is = from (line.Raise (raise.Ride k n)) is (record { keyword = ap (λ l. l ∷ []) (sym (c refl)); numbers = refl })
@@ -177,7 +200,9 @@ one_spelled line letter k parts more =
     ∙ ap (λ (t : List ℕ). letter ∷ t) (spelled_more k [] more)
 
 -- a letter and a number that make a line are its text
-pub one_line : (line : Line) (letter k : ℕ) (text rest after : List ℕ) → text ≡ letter ∷ rest → IsNumber k → rest ≡ number_text k ++ after → line_with_one letter k ≡ Some line → IsInForm line × (text ≡ words_of line ++ after)
+pub one_line : (line : Line) (letter k : ℕ) (text rest after : List ℕ) → text ≡ letter ∷ rest → IsNumber k
+    → rest ≡ number_text k ++ after → line_with_one letter k ≡ Some line → IsInForm line
+    × (text ≡ words_of line ++ after)
 one_line line letter k text rest after front small spelled is =
     let parts = of_one letter k line is in (
       subst (All IsNumber) (sym parts.numbers) (All-cons IsNumber k [] small (All-nil IsNumber)),
@@ -208,7 +233,8 @@ two_spelled line letter k n parts more =
     ∙ ap (λ (t : List ℕ). letter ∷ t) (spelled_more k (n ∷ []) more ∙ ap (λ (t : List ℕ). number_text k ++ t) (spelled_more n [] more))
 
 -- a letter and two numbers that make a line are its text
-pub two_line : (line : Line) (letter k n : ℕ) (text rest between after : List ℕ) → text ≡ letter ∷ rest → IsNumber k × (rest ≡ number_text k ++ between) → IsNumber n × (between ≡ number_text n ++ after)
+pub two_line : (line : Line) (letter k n : ℕ) (text rest between after : List ℕ) → text ≡ letter ∷ rest → IsNumber k
+    × (rest ≡ number_text k ++ between) → IsNumber n × (between ≡ number_text n ++ after)
     → line_with_two letter k n ≡ Some line → IsInForm line × (text ≡ words_of line ++ after)
 two_line line letter k n text rest between after front first second is =
     let parts = of_two letter k n line is in (
@@ -246,7 +272,9 @@ three_spelled v i j more =
     ∙ ap (λ (t : List ℕ). number_text v ++ t) (spelled_more i (j ∷ []) more ∙ ap (λ (t : List ℕ). number_text i ++ t) (spelled_more j [] more)))
 
 -- a case's word and numbers are its text
-pub three_line : (v i j : ℕ) (text one two three after : List ℕ) → text ≡ codes "CASE" ++ one → IsNumber v × (one ≡ number_text v ++ two) → IsNumber i × (two ≡ number_text i ++ three) → IsNumber j × (three ≡ number_text j ++ after)
+pub three_line : (v i j : ℕ) (text one two three after : List ℕ) → text ≡ codes "CASE" ++ one → IsNumber v
+    × (one ≡ number_text v ++ two) → IsNumber i × (two ≡ number_text i ++ three) → IsNumber j
+    × (three ≡ number_text j ++ after)
     → IsInForm (line.Case v i j) × (text ≡ words_of (line.Case v i j) ++ after)
 three_line v i j text one two three after front first second third = (
   All-cons IsNumber v (i ∷ j ∷ []) first.0 (All-cons IsNumber i (j ∷ []) second.0 (All-cons IsNumber j [] third.0 (All-nil IsNumber))),

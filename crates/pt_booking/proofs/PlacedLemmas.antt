@@ -1,5 +1,7 @@
 -- What follows of the vehicle's new route, and of the rules, from the best place.
-use Rattle.std.proofs.Common.{◌≡◌, ℕ, ◌+◌, ◌<◌, ◌≤◌, List, [], ◌∷◌, length, Any, All, AllPairs, Contains, Option, Some, None, IsSome, IfNone, Result, Ok, Err, IsErr, inl, inr, refl, sym, ap, subst, ◌∙◌, ◌↔◌, arith}
+use Rattle.std.proofs.Common.{◌≡◌, ℕ, ◌+◌, ◌<◌, ◌≤◌, List, [], ◌∷◌, length, Any, All, AllPairs, Contains, Option}
+use Rattle.std.proofs.Common.{Some, None, IsSome, IfNone, Result, Ok, Err, IsErr, inl, inr, refl, sym, ap, subst, ◌∙◌}
+use Rattle.std.proofs.Common.{◌↔◌, arith}
 use Rattle.std.proofs.lemmas.Bool.{false≢true}
 use Rattle.std.proofs.lemmas.List.Elements.{All-map}
 use Rattle.pt_base.specs.declared.rule.Rule.{Rule}

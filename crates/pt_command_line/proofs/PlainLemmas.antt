@@ -144,7 +144,37 @@ explain_read : (file zone key rider day wish from to by attendant companions : T
 unfolding clap_on_literals
 explain_read file zone key rider day wish from to by attendant companions = record {
   known = record { step = refl; turn = refl; found = refl; given = refl; wanted = refl };
-  places = (refl, refl, refl, (refl, refl, refl, (refl, refl, refl, (refl, refl, refl, (refl, refl, refl, (refl, refl, refl, (refl, refl, refl, (refl, refl, refl, (refl, refl, refl, (refl, refl, refl, (refl, refl, refl, tt)))))))))));
+  places = (
+    refl,
+    refl,
+    refl,
+    (
+      refl,
+      refl,
+      refl,
+      (
+        refl,
+        refl,
+        refl,
+        (
+          refl,
+          refl,
+          refl,
+          (
+            refl,
+            refl,
+            refl,
+            (
+              refl,
+              refl,
+              refl,
+              (refl, refl, refl, (refl, refl, refl, (refl, refl, refl, (refl, refl, refl, (refl, refl, refl, tt))))),
+            ),
+          ),
+        ),
+      ),
+    ),
+  );
   end = record { settles = refl; given = refl; wanted = refl };
   rows = refl;
   named = refl;
@@ -156,7 +186,52 @@ audit_read : (log file zone key rider day wish from to by attendant companions :
 unfolding clap_on_literals
 audit_read log file zone key rider day wish from to by attendant companions = record {
   known = record { step = refl; turn = refl; found = refl; given = refl; wanted = refl };
-  places = (refl, refl, refl, (refl, refl, refl, (refl, refl, refl, (refl, refl, refl, (refl, refl, refl, (refl, refl, refl, (refl, refl, refl, (refl, refl, refl, (refl, refl, refl, (refl, refl, refl, (refl, refl, refl, (refl, refl, refl, tt))))))))))));
+  places = (
+    refl,
+    refl,
+    refl,
+    (
+      refl,
+      refl,
+      refl,
+      (
+        refl,
+        refl,
+        refl,
+        (
+          refl,
+          refl,
+          refl,
+          (
+            refl,
+            refl,
+            refl,
+            (
+              refl,
+              refl,
+              refl,
+              (
+                refl,
+                refl,
+                refl,
+                (
+                  refl,
+                  refl,
+                  refl,
+                  (
+                    refl,
+                    refl,
+                    refl,
+                    (refl, refl, refl, (refl, refl, refl, (refl, refl, refl, tt))),
+                  ),
+                ),
+              ),
+            ),
+          ),
+        ),
+      ),
+    ),
+  );
   end = record { settles = refl; given = refl; wanted = refl };
   rows = refl;
   named = refl;

@@ -56,7 +56,8 @@ part_square_is ux uy vx vy m n =
     let both = times-add twice (ux *ℤ vx) (uy *ℤ vy) in
     sum_of_coordinates (zx *ℤ zx) (zy *ℤ zy) (twice *ℤ (ux *ℤ vx)) (twice *ℤ (uy *ℤ vy)) (twice *ℤ dot_product ux uy vx vy) _ _ both east north ∙ ap pos (omega arith)
 
-squares_add : (p q a b c d ab cd : ℤ) (i j e f g h : ℕ) → p ≡ a +ℤ b +ℤ pos 2 *ℤ ab → q +ℤ pos 2 *ℤ cd ≡ c +ℤ d → ab ≡ cd → a ≡ pos e → b ≡ pos f → c ≡ pos g → d ≡ pos h → p ≡ pos i → q ≡ pos j → i + j ≡ e + f + g + h
+squares_add : (p q a b c d ab cd : ℤ) (i j e f g h : ℕ) → p ≡ a +ℤ b +ℤ pos 2 *ℤ ab → q +ℤ pos 2 *ℤ cd ≡ c +ℤ d
+    → ab ≡ cd → a ≡ pos e → b ≡ pos f → c ≡ pos g → d ≡ pos h → p ≡ pos i → q ≡ pos j → i + j ≡ e + f + g + h
 squares_add p q a b c d ab cd i j e f g h sum difference same a_is b_is c_is d_is p_is q_is = omega (arith, ints)
 
 -- the squares of along and across make up the product of the squares
@@ -69,7 +70,10 @@ lagrange ux uy vx vy =
     let sum = square_of_sum a b in
     let difference = square_of_difference c d in
     let same : a *ℤ b ≡ c *ℤ d = times_middle ux vx uy vy ∙ ap (λ k. (ux *ℤ uy) *ℤ k) (*ℤ_comm vx vy) ∙ sym (times_middle ux vy uy vx) in
-    squares_add (dot_product ux uy vx vy *ℤ dot_product ux uy vx vy) (cross_product ux uy vx vy *ℤ cross_product ux uy vx vy) (a *ℤ a) (b *ℤ b) (c *ℤ c) (d *ℤ d) (a *ℤ b) (c *ℤ d) _ _ _ _ _ _ sum difference same (product_square ux vx) (product_square uy vy) (product_square ux vy) (product_square uy vx) (square_is (dot_product ux uy vx vy)) (square_is (cross_product ux uy vx vy))
+    squares_add (dot_product ux uy vx vy *ℤ dot_product ux uy vx vy)
+    (cross_product ux uy vx vy *ℤ cross_product ux uy vx vy) (a *ℤ a) (b *ℤ b) (c *ℤ c) (d *ℤ d) (a *ℤ b) (c *ℤ d)
+    _ _ _ _ _ _ sum difference same (product_square ux vx) (product_square uy vy) (product_square ux vy)
+    (product_square uy vx) (square_is (dot_product ux uy vx vy)) (square_is (cross_product ux uy vx vy))
     ∙ omega arith
 
 -- a sum with k times d, as natural numbers, for d at most 0 and for d at least 0
@@ -90,11 +94,15 @@ part_length_is : (ux uy vx vy : ℤ) (m n : ℕ) → part_square ux uy vx vy m n
 unfolding part_length
 part_length_is ux uy vx vy m n = length_is _ _
 
-part_back : (ux uy vx vy : ℤ) (m n : ℕ) → dot_product ux uy vx vy ≤ℤ pos 0 → part_length ux uy vx vy m n ≡ (n * n * length_of ux uy + m * m * length_of vx vy) + (2 * (n * m)) * nat_abs (dot_product ux uy vx vy)
+part_back : (ux uy vx vy : ℤ) (m n : ℕ) → dot_product ux uy vx vy ≤ℤ pos 0
+    → part_length ux uy vx vy m n ≡ (n * n * length_of ux uy + m * m * length_of vx vy) + (2 * (n * m)) * nat_abs
+    (dot_product ux uy vx vy)
 part_back ux uy vx vy m n h =
     back (part_square ux uy vx vy m n) (dot_product ux uy vx vy) _ _ _ (part_length_is ux uy vx vy m n) (part_square_is ux uy vx vy m n) h
 
-part_on : (ux uy vx vy : ℤ) (m n : ℕ) → pos 0 ≤ℤ dot_product ux uy vx vy → part_length ux uy vx vy m n + (2 * (n * m)) * nat_abs (dot_product ux uy vx vy) ≡ n * n * length_of ux uy + m * m * length_of vx vy
+part_on : (ux uy vx vy : ℤ) (m n : ℕ) → pos 0 ≤ℤ dot_product ux uy vx vy
+    → part_length ux uy vx vy m n + (2 * (n * m)) * nat_abs (dot_product ux uy vx vy) ≡ n * n * length_of ux uy + m *
+    m * length_of vx vy
 part_on ux uy vx vy m n h =
     on (part_square ux uy vx vy m n) (dot_product ux uy vx vy) _ _ _ (part_length_is ux uy vx vy m n) (part_square_is ux uy vx vy m n) h
 
@@ -143,7 +151,8 @@ between : (z d : ℤ) (p : ℕ) → z ≡ pos p → pos 0 <ℤ d → d <ℤ z �
 between z (pos n) p e after before = (omega (arith, ints), omega (arith, ints))
 between z (negsuc n) p e after before = absurd (omega (arith, ints))
 
-end_nearest_of : (near us vs ws along m n reach : ℕ) → near + (2 * (n * m)) * along ≡ n * n * us + m * m * vs → ws + 2 * along ≡ us + vs → vs ≤ along → m ≤ n → 0 < n → near ≤ (reach * n) * (reach * n) → ws ≤ reach * reach
+end_nearest_of : (near us vs ws along m n reach : ℕ) → near + (2 * (n * m)) * along ≡ n * n * us + m * m * vs
+    → ws + 2 * along ≡ us + vs → vs ≤ along → m ≤ n → 0 < n → near ≤ (reach * n) * (reach * n) → ws ≤ reach * reach
 end_nearest_of near us vs ws along m n reach e w far within positive h =
     let rest : m + (n - m) ≡ n = omega arith in
     let over : vs + (along - vs) ≡ along = omega arith in
@@ -170,7 +179,10 @@ near_end feet ux uy vx vy h =
     )
 
 -- between the two: the foot of the perpendicular is the nearest
-pub near_side : (feet : ℕ) (ux uy vx vy : ℤ) → pos 0 <ℤ dot_product ux uy vx vy → dot_product ux uy vx vy <ℤ squared_length vx vy → ((cross_product ux uy vx vy *ℤ cross_product ux uy vx vy) ≤ℤ (pos (feet * feet) *ℤ squared_length vx vy)) ↔ IsNearParts feet ux uy vx vy
+pub near_side : (feet : ℕ) (ux uy vx vy : ℤ) → pos 0 <ℤ dot_product ux uy vx vy
+    → dot_product ux uy vx vy <ℤ squared_length vx vy →
+    ((cross_product ux uy vx vy *ℤ cross_product ux uy vx vy) ≤ℤ (pos (feet * feet) *ℤ squared_length vx vy))
+    ↔ IsNearParts feet ux uy vx vy
 near_side feet ux uy vx vy after before =
     let d = dot_product ux uy vx vy in
     let c = cross_product ux uy vx vy in

@@ -41,13 +41,18 @@ test_is a b made f g e = subst (λ (k : ℤ). IsTrue (le_z (read a) k) ↔ (a �
 reach_fits : (feet : ℕ) → feet < 2 ^ 32 → FitsSigned w128 (pos (feet * feet))
 reach_fits feet small = fits_within (pos (feet * feet)) (2 ^ 64) (square_small feet small) (omega arith)
 
-pub start_decided : (feet : ℕ) (ux uy vx vy along length r s : ℤ) → feet < 2 ^ 32 → r ≡ pos feet → s ≡ pos feet → along ≡ dot_product ux uy vx vy → length ≡ squared_length ux uy → along ≤ℤ pos 0 → FitsSigned w128 length → IsTrue (le_z (read length) (read (read r *ℤ read s))) ↔ IsNearParts feet ux uy vx vy
+pub start_decided : (feet : ℕ) (ux uy vx vy along length r s : ℤ) → feet < 2 ^ 32 → r ≡ pos feet → s ≡ pos feet
+    → along ≡ dot_product ux uy vx vy → length ≡ squared_length ux uy → along ≤ℤ pos 0 → FitsSigned w128 length
+    → IsTrue (le_z (read length) (read (read r *ℤ read s))) ↔ IsNearParts feet ux uy vx vy
 start_decided feet ux uy vx vy along length r s small r_is s_is along_is length_is before length_fits =
     let test = test_is length (pos (feet * feet)) _ length_fits (reach_fits feet small) (reach_is feet r s small r_is s_is) in
     let near = near_start feet ux uy vx vy (subst (λ (k : ℤ). k ≤ℤ pos 0) along_is before) in
     both test (subst (λ (k : ℤ). (k ≤ℤ pos (feet * feet)) ↔ IsNearParts feet ux uy vx vy) (sym length_is) near)
 
-pub end_decided : (feet : ℕ) (ux uy vx vy wx wy along length rest r s : ℤ) → feet < 2 ^ 32 → r ≡ pos feet → s ≡ pos feet → along ≡ dot_product ux uy vx vy → length ≡ squared_length vx vy → rest ≡ squared_length wx wy → wx ≡ ux -ℤ vx → wy ≡ uy -ℤ vy → length ≤ℤ along → FitsSigned w128 rest → IsTrue (le_z (read rest) (read (read r *ℤ read s))) ↔ IsNearParts feet ux uy vx vy
+pub end_decided : (feet : ℕ) (ux uy vx vy wx wy along length rest r s : ℤ) → feet < 2 ^ 32 → r ≡ pos feet
+    → s ≡ pos feet → along ≡ dot_product ux uy vx vy → length ≡ squared_length vx vy → rest ≡ squared_length wx wy
+    → wx ≡ ux -ℤ vx → wy ≡ uy -ℤ vy → length ≤ℤ along → FitsSigned w128 rest
+    → IsTrue (le_z (read rest) (read (read r *ℤ read s))) ↔ IsNearParts feet ux uy vx vy
 end_decided feet ux uy vx vy wx wy along length rest r s small r_is s_is along_is length_is rest_is wx_is wy_is beyond rest_fits =
     let test = test_is rest (pos (feet * feet)) _ rest_fits (reach_fits feet small) (reach_is feet r s small r_is s_is) in
     let here : squared_length vx vy ≤ℤ dot_product ux uy vx vy = subst (λ (k : ℤ). k ≤ℤ dot_product ux uy vx vy) length_is (subst (λ (k : ℤ). length ≤ℤ k) along_is beyond) in
@@ -71,7 +76,12 @@ pub reach_times_fits : (feet : ℕ) (length : ℤ) → feet < 2 ^ 32 → unsigne
 reach_times_fits feet length small h =
     fits_within (pos (feet * feet) *ℤ length) (2 ^ 107) (product_within (pos (feet * feet)) length (2 ^ 64) (2 ^ 43) (square_small feet small) h) (omega arith)
 
-pub side_decided : (feet : ℕ) (ux uy vx vy along length across r s : ℤ) → feet < 2 ^ 32 → r ≡ pos feet → s ≡ pos feet → IsWay ux uy → unsigned_abs vx ≤ 2 ^ 21 → unsigned_abs vy ≤ 2 ^ 21 → along ≡ dot_product ux uy vx vy → length ≡ squared_length vx vy → across ≡ cross_product ux uy vx vy → pos 0 <ℤ along → along <ℤ length → FitsSigned w128 length → FitsSigned w128 across → IsTrue (le_z (read (read across *ℤ read across)) (read (read (read r *ℤ read s) *ℤ read length))) ↔ IsNearParts feet ux uy vx vy
+pub side_decided : (feet : ℕ) (ux uy vx vy along length across r s : ℤ) → feet < 2 ^ 32 → r ≡ pos feet → s ≡ pos feet
+    → IsWay ux uy → unsigned_abs vx ≤ 2 ^ 21 → unsigned_abs vy ≤ 2 ^ 21 → along ≡ dot_product ux uy vx vy
+    → length ≡ squared_length vx vy → across ≡ cross_product ux uy vx vy → pos 0 <ℤ along → along <ℤ length
+    → FitsSigned w128 length → FitsSigned w128 across → IsTrue
+    (le_z (read (read across *ℤ read across)) (read (read (read r *ℤ read s) *ℤ read length)))
+    ↔ IsNearParts feet ux uy vx vy
 side_decided feet ux uy vx vy along length across r s small r_is s_is u vx_small vy_small along_is length_is across_is after before length_fits across_fits =
     let here : pos 0 <ℤ dot_product ux uy vx vy = subst (λ (k : ℤ). pos 0 <ℤ k) along_is after in
     let there : dot_product ux uy vx vy <ℤ squared_length vx vy = subst (λ (k : ℤ). k <ℤ squared_length vx vy) along_is (subst (λ (k : ℤ). along <ℤ k) length_is before) in
@@ -89,7 +99,9 @@ side_decided feet ux uy vx vy along length across r s small r_is s_is u vx_small
     let whole = subst (λ (k : ℤ). IsTrue (le_z k (read (read (read r *ℤ read s) *ℤ read length))) ↔ ((across *ℤ across) ≤ℤ (pos (feet * feet) *ℤ length))) as_made test in
     let same_left : cross_product ux uy vx vy *ℤ cross_product ux uy vx vy ≡ across *ℤ across = ap (λ k. k *ℤ k) (sym across_is) in
     let same_right : pos (feet * feet) *ℤ squared_length vx vy ≡ pos (feet * feet) *ℤ length = ap (λ k. pos (feet * feet) *ℤ k) (sym length_is) in
-    both whole (subst (λ (k : ℤ). (k ≤ℤ (pos (feet * feet) *ℤ length)) ↔ IsNearParts feet ux uy vx vy) same_left (subst (λ (k : ℤ). ((cross_product ux uy vx vy *ℤ cross_product ux uy vx vy) ≤ℤ k) ↔ IsNearParts feet ux uy vx vy) same_right near))
+    both whole (subst (λ (k : ℤ). (k ≤ℤ (pos (feet * feet) *ℤ length)) ↔ IsNearParts feet ux uy vx vy) same_left
+    (subst (λ (k : ℤ). ((cross_product ux uy vx vy *ℤ cross_product ux uy vx vy) ≤ℤ k)
+    ↔ IsNearParts feet ux uy vx vy) same_right near))
 
 -- what the code's tests of 64 bits say
 pub not_above_zero : (a : ℤ) → FitsSigned w64 a → le_z (read64 a) (pos 0) ≡ true → a ≤ℤ pos 0

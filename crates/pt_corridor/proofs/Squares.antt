@@ -22,7 +22,10 @@ start_nearest near us vs away m n reach e positive h =
     le_of_mul-le-mul_left {m = us} {n = reach * reach} {k = n * n} (omega arith) (mul-pos positive positive)
 
 -- the segment ends before u is passed: no point of it is nearer than its end, whose way to p has the square `ws`
-pub end_nearest : (near us vs ws over m rest reach : ℕ) → near + 2 * ((m + rest) * m) * (vs + over) ≡ (m + rest) * (m + rest) * us + m * m * vs → ws + 2 * (vs + over) ≡ us + vs → 0 < m + rest → near ≤ (reach * (m + rest)) * (reach * (m + rest)) → ws ≤ reach * reach
+pub end_nearest : (near us vs ws over m rest reach : ℕ)
+    → near + 2 * ((m + rest) * m) * (vs + over) ≡ (m + rest) * (m + rest) * us + m * m * vs
+    → ws + 2 * (vs + over) ≡ us + vs → 0 < m + rest → near ≤ (reach * (m + rest)) * (reach * (m + rest))
+    → ws ≤ reach * reach
 end_nearest near us vs ws over m rest reach e w positive h =
     let n = m + rest in
     let scaled = ap (λ k. n * n * k) w in
@@ -30,7 +33,8 @@ end_nearest near us vs ws over m rest reach e w positive h =
 
 -- Between the ends, no point of the segment is nearer than the line through it. The line's distance times the segment's
 -- length has the square `across`.
-pub line_nearest : (near us vs along across m n reach : ℕ) → near + 2 * (n * m) * along ≡ n * n * us + m * m * vs → along * along + across ≡ us * vs → 0 < n → near ≤ (reach * n) * (reach * n) → across ≤ reach * reach * vs
+pub line_nearest : (near us vs along across m n reach : ℕ) → near + 2 * (n * m) * along ≡ n * n * us + m * m * vs
+    → along * along + across ≡ us * vs → 0 < n → near ≤ (reach * n) * (reach * n) → across ≤ reach * reach * vs
 line_nearest near us vs along across m n reach e lagrange positive h =
     let by_length = ap (λ k. k * vs) e in
     let by_parts = ap (λ k. n * n * k) lagrange in
@@ -39,7 +43,9 @@ line_nearest near us vs along across m n reach e lagrange positive h =
     le_of_mul-le-mul_left {m = across} {n = reach * reach * vs} {k = n * n} (omega arith) (mul-pos positive positive)
 
 -- and the foot of the perpendicular is that near
-pub foot_near : (near us vs along across reach : ℕ) → near + 2 * (vs * along) * along ≡ vs * vs * us + along * along * vs → along * along + across ≡ us * vs → across ≤ reach * reach * vs → near ≤ (reach * vs) * (reach * vs)
+pub foot_near : (near us vs along across reach : ℕ)
+    → near + 2 * (vs * along) * along ≡ vs * vs * us + along * along * vs → along * along + across ≡ us * vs
+    → across ≤ reach * reach * vs → near ≤ (reach * vs) * (reach * vs)
 foot_near near us vs along across reach e lagrange h =
     let by_length = ap (λ k. k * vs) lagrange in
     let bound = mul-le-mul_right vs h in

@@ -1,5 +1,7 @@
 -- One more call of a run.
-use Rattle.std.proofs.Common.{◌≡◌, ℕ, zero, suc, ◌<◌, ◌≤◌, ◌⊎◌, ◌++◌, List, [], ◌∷◌, Some, None, Result, Ok, Err, length, drop, get_or, drop-cons, add-one, ◌+◌, arith, refl, sym, ap, ◌∙◌, subst, inl, inr}
+use Rattle.std.proofs.Common.{◌≡◌, ℕ, zero, suc, ◌<◌, ◌≤◌, ◌⊎◌, ◌++◌, List, [], ◌∷◌, Some, None, Result, Ok, Err}
+use Rattle.std.proofs.Common.{length, drop, get_or, drop-cons, add-one, ◌+◌, arith, refl, sym, ap, ◌∙◌, subst, inl}
+use Rattle.std.proofs.Common.{inr}
 use Rattle.std.proofs.lemmas.List.{drop_all}
 use Rattle.pt_desk_rules.specs.State.{State}
 use Rattle.pt_store.specs.Store.{Store, ChangesNothing, Fails}
@@ -20,7 +22,8 @@ abbrev Reply : Type 0
 Reply = Result Answer StoreFault
 
 -- an answer before a run
-answered : (call : Call) (calls : List Call) (reply : Reply) (replies : List Reply) (old mid new : State) → AnswersCall call old mid reply → (◌≡◌ {A = Reply} reply (Err failed) → ⊥) → Runs mid calls replies new
+answered : (call : Call) (calls : List Call) (reply : Reply) (replies : List Reply) (old mid new : State)
+    → AnswersCall call old mid reply → (◌≡◌ {A = Reply} reply (Err failed) → ⊥) → Runs mid calls replies new
     → Runs old (call ∷ calls) (reply ∷ replies) new
 answered call calls (Err failed) replies old mid new told fine rest = absurd (fine refl)
 answered call calls (Err Memory) replies old mid new (told, left, tells, by) fine rest = subst (λ s. Runs s calls replies new) tells rest
@@ -28,7 +31,8 @@ answered call calls (Ok answer) replies old mid new (told, left, tells, (inl is)
     (left, subst (λ (a : Answer). IsOutcomeOf call old a left) (sym tells.0) is, subst (λ s. Runs s calls replies new) tells.1 rest)
 answered call calls (Ok answer) replies old mid new (told, left, tells, (inr fault)) fine rest = absurd fault.0
 
-refused : (call : Call) (calls : List Call) (reply : Reply) (replies : List Reply) (old new : State) → ◌≡◌ {A = Reply} reply (Err failed) → AreRefused calls replies → Runs old (call ∷ calls) (reply ∷ replies) new
+refused : (call : Call) (calls : List Call) (reply : Reply) (replies : List Reply) (old new : State)
+    → ◌≡◌ {A = Reply} reply (Err failed) → AreRefused calls replies → Runs old (call ∷ calls) (reply ∷ replies) new
 refused call calls reply replies old new is rest = subst (λ r. Runs old (call ∷ calls) (r ∷ replies) new) (sym is) rest
 
 -- one more call, with its answer
@@ -55,7 +59,8 @@ ended failures s calls i all = rw drop_all (record { runs = λ _. refl; failed =
 next : (calls : List Call) (i : ℕ) (call : Call) → i < length calls → call ≡ get_or calls i call → drop i calls ≡ call ∷ drop (i + 1) calls
 next calls i call lt here = rw add-one (drop-cons calls i call lt ∙ ap (λ c. c ∷ drop (suc i) calls) (sym here))
 
-pub goes_on_at : (calls : List Call) (i : ℕ) (call : Call) (reply : Reply) (replies : List Reply) (old mid new : State) (before now : ℕ) → i < length calls → call ≡ get_or calls i call → Fails before now reply
+pub goes_on_at : (calls : List Call) (i : ℕ) (call : Call) (reply : Reply) (replies : List Reply)
+    (old mid new : State) (before now : ℕ) → i < length calls → call ≡ get_or calls i call → Fails before now reply
     → AnswersCall call old mid reply → GoesOn now mid (drop (i + 1) calls) replies new → GoesOn before old (drop i calls) (reply ∷ replies) new
 goes_on_at calls i call reply replies old mid new before now lt here fails told rest =
     subst (λ cs. GoesOn before old cs (reply ∷ replies) new) (sym (next calls i call lt here))

@@ -37,7 +37,9 @@ booked_stands Booked booked = refl
 booked_stands status booked = absurd (cc)
 
 -- it is still in its vehicle on its day
-stands_on : (end : Outcome) (trip : Trip) (trips : List Trip) (key number : ℕ) → record_at trip_key trip.id trips ≡ Some trip → StandsIn trips key number → StandsIn (put trip_key (ended end trip) trips) key number
+stands_on : (end : Outcome) (trip : Trip) (trips : List Trip) (key number : ℕ)
+    → record_at trip_key trip.id trips ≡ Some trip → StandsIn trips key number
+    → StandsIn (put trip_key (ended end trip) trips) key number
 stands_on end trip trips key number here (there, found, standing, at) = elim (same_or_other number trip.id) [
   | inl same ↦
       let one : there ≡ trip = same_Some there trip (sym found ∙ ap (λ (n : ℕ). record_at trip_key n trips) same ∙ here) in
@@ -46,7 +48,9 @@ stands_on end trip trips key number here (there, found, standing, at) = elim (sa
   | inr other ↦ still_stands trips (ended end trip) key number other (there, found, standing, at)
 ]
 
-plans_stand : (end : Outcome) (trip : Trip) (trips : List Trip) (plans : List Plan) → record_at trip_key trip.id trips ≡ Some trip → Each (HasStandingTrips trips) plans → Each (HasStandingTrips (put trip_key (ended end trip) trips)) plans
+plans_stand : (end : Outcome) (trip : Trip) (trips : List Trip) (plans : List Plan)
+    → record_at trip_key trip.id trips ≡ Some trip → Each (HasStandingTrips trips) plans
+    → Each (HasStandingTrips (put trip_key (ended end trip) trips)) plans
 plans_stand end trip trips plans here each =
     Each-weaker (HasStandingTrips trips) (HasStandingTrips (put trip_key (ended end trip) trips))
     (λ plan standing. Each-weaker (λ (stop : PlannedStop). StandsIn trips (plan_key plan) stop.trip) (λ (stop : PlannedStop). StandsIn (put trip_key (ended end trip) trips) (plan_key plan) stop.trip)
@@ -57,7 +61,8 @@ same_stop Pickup end trip = refl
 same_stop Drop end trip = refl
 
 -- the stops of all routes are unchanged
-pub ended_stops : (end : Outcome) (trip : Trip) (trips : List Trip) → record_at trip_key trip.id trips ≡ Some trip → (stops : List PlannedStop) → stops_among (put trip_key (ended end trip) trips) stops ≡ stops_among trips stops
+pub ended_stops : (end : Outcome) (trip : Trip) (trips : List Trip) → record_at trip_key trip.id trips ≡ Some trip
+    → (stops : List PlannedStop) → stops_among (put trip_key (ended end trip) trips) stops ≡ stops_among trips stops
 ended_stops end trip trips here [] = refl
 ended_stops end trip trips here (stop ∷ later) =
     let new = put trip_key (ended end trip) trips in
@@ -79,11 +84,14 @@ pub end_sound : (end : Outcome) (id : ℕ) (trip : Trip) (s : State) → IsSound
 end_sound end id trip s sound found booked ranges =
     let here : record_at trip_key trip.id s.trips ≡ Some trip = subst (λ (n : ℕ). record_at trip_key n s.trips ≡ Some trip) (sym (found_key trip_key id trip s.trips found)) found in
     let order = IsInOrder-put trip_key (ended end trip) s.trips sound.trips_in_order in
-    let numbered = Each-put (IsNumberedTo s.last_trip) trip_key (ended end trip) s.trips sound.trips_numbered (Each-found (IsNumberedTo s.last_trip) trip_key id trip s.trips sound.trips_numbered found) in
+    let numbered = Each-put (IsNumberedTo s.last_trip) trip_key (ended end trip) s.trips sound.trips_numbered
+    (Each-found (IsNumberedTo s.last_trip) trip_key id trip s.trips sound.trips_numbered found) in
     let riders = Each-put (IsOfRider s.riders) trip_key (ended end trip) s.trips sound.trips_of_riders (Each-found (IsOfRider s.riders) trip_key id trip s.trips sound.trips_of_riders found) in
     let ends = Each-put (HasPlaces s.places) trip_key (ended end trip) s.trips sound.trip_places_there (Each-found (HasPlaces s.places) trip_key id trip s.trips sound.trip_places_there found) in
     let standing = plans_stand end trip s.trips s.planned here sound.planned_trips_stand in
-    let planned = Each-put (IsPlanned s.planned) trip_key (ended end trip) s.trips sound.standing_planned (λ _. Each-found (IsPlanned s.planned) trip_key id trip s.trips sound.standing_planned found (booked_stands trip.status booked)) in
+    let planned = Each-put (IsPlanned s.planned) trip_key (ended end trip) s.trips sound.standing_planned
+    (λ _. Each-found (IsPlanned s.planned) trip_key id trip s.trips sound.standing_planned found
+    (booked_stands trip.status booked)) in
     let fit = Each-weaker (FitsIn s.vehicles s.travel s.trips) (FitsIn s.vehicles s.travel (put trip_key (ended end trip) s.trips))
     (λ plan fits. subst (λ (stops : List Stop). CanServe s.vehicles s.travel plan.vehicle plan.day stops) (sym (ended_stops end trip s.trips here plan.stops)) fits)
     s.planned (planned_fit s sound) in

@@ -47,7 +47,9 @@ pub plans_after : (last : ℕ) (trips : List Trip) (new : Trip) (plans : List Pl
 plans_after last trips new plans is numbered each =
     Each-weaker (HasStandingTrips trips) (HasStandingTrips (put trip_key new trips))
     (λ plan standing. Each-weaker (λ (stop : PlannedStop). StandsIn trips (plan_key plan) stop.trip) (λ (stop : PlannedStop). StandsIn (put trip_key new trips) (plan_key plan) stop.trip)
-    (λ stop there. still_stands trips new (plan_key plan) stop.trip (is_later last stop.trip new.id (stands_below last trips (plan_key plan) stop.trip numbered there) is) there) plan.stops standing) plans each
+    (λ stop there. still_stands trips new (plan_key plan) stop.trip
+    (is_later last stop.trip new.id (stands_below last trips (plan_key plan) stop.trip numbered there) is) there)
+    plan.stops standing) plans each
 
 -- a plan that has a stop of a trip is that of its vehicle and day
 pub place_of_old : (trips : List Trip) (old : Trip) (plan : Plan) (stop : PlannedStop) → stop.trip ≡ old.id
@@ -77,7 +79,8 @@ standing_found trips key plans (Some plan) is each =
     subst (λ (k : ℕ). Each (λ (stop : PlannedStop). StandsIn trips k stop.trip) plan.stops) (found_key plan_key key plan plans is) (Each-found (HasStandingTrips trips) plan_key key plan plans each is)
 
 -- the stops of a vehicle on a day are those of its trips that are not cancelled
-pub standing_at : (trips : List Trip) (vehicle day : ℕ) (plans : List Plan) → Each (HasStandingTrips trips) plans → Each (λ stop. StandsIn trips (pair_key vehicle day) stop.trip) (planned_stops vehicle day plans)
+pub standing_at : (trips : List Trip) (vehicle day : ℕ) (plans : List Plan) → Each (HasStandingTrips trips) plans
+    → Each (λ stop. StandsIn trips (pair_key vehicle day) stop.trip) (planned_stops vehicle day plans)
 standing_at trips vehicle day plans each = standing_found trips (pair_key vehicle day) plans (record_at plan_key (pair_key vehicle day) plans) refl each
 
 is_no : (n k : ℕ) → not (n == k) ≡ true → n ≡ k → ⊥

@@ -16,7 +16,8 @@ use Rattle.pt_desk_rules.specs.Read.TheVariants as read
 use Rattle.pt_desk_rules.specs.Request.TheVariants as request
 
 -- a question about a rider's trips has one answer
-told_once : (first : Option Rule) (rider today : ℕ) (facts : ReadFacts) (told also : Answer) → IsToldAfter first (read.Trips rider) today facts told → IsToldAfter first (read.Trips rider) today facts also
+told_once : (first : Option Rule) (rider today : ℕ) (facts : ReadFacts) (told also : Answer)
+    → IsToldAfter first (read.Trips rider) today facts told → IsToldAfter first (read.Trips rider) today facts also
     → told ≡ also
 told_once (Some rule) rider today facts told also one two = one ∙ sym two
 told_once None rider today facts told also one two = one ∙ sym two
@@ -24,7 +25,8 @@ told_once None rider today facts told also one two = one ∙ sym two
 same_facts : (key : List ℕ) (rider : ℕ) (s other : State) → AgreeOnTrips key rider s other → read_facts_of (read.Trips rider) other ≡ read_facts_of (read.Trips rider) s
 same_facts key rider s other agree = rw (agree.record_of_rider, agree.trips) refl
 
-by_caller : (found : Option Caller) (now : Moment) (number rider : ℕ) (s other : State) (told also : Answer) (left and_left : Option State) → read_facts_of (read.Trips rider) other ≡ read_facts_of (read.Trips rider) s
+by_caller : (found : Option Caller) (now : Moment) (number rider : ℕ) (s other : State) (told also : Answer)
+    (left and_left : Option State) → read_facts_of (read.Trips rider) other ≡ read_facts_of (read.Trips rider) s
     → IsOutcomeBy found now number (request.Read (read.Trips rider)) s told left → IsOutcomeBy found now number (request.Read (read.Trips rider)) other also and_left → told ≡ also
 by_caller None now number rider s other told also left and_left same one two = one.0 ∙ sym two.0
 by_caller (Some me) now number rider s other told also left and_left same one two =

@@ -1,5 +1,7 @@
 -- A request in a sound state leaves a sound state.
-use Rattle.std.proofs.Common.{rules, ◌≡◌, ℕ, ◌+◌, ◌<◌, ◌≤◌, ◌||◌, nat_lt, Bool, true, false, not, IsTrue, List, [], ◌∷◌, ◌++◌, length, take, min, Option, Some, None, is_some, arith, cond, refl, sym, ap, ◌∙◌, subst, inl, inr}
+use Rattle.std.proofs.Common.{rules, ◌≡◌, ℕ, ◌+◌, ◌<◌, ◌≤◌, ◌||◌, nat_lt, Bool, true, false, not, IsTrue, List, []}
+use Rattle.std.proofs.Common.{◌∷◌, ◌++◌, length, take, min, Option, Some, None, is_some, arith, cond, refl, sym, ap}
+use Rattle.std.proofs.Common.{◌∙◌, subst, inl, inr}
 use Rattle.std.specs.Prelude.{◌&&◌, ◌==◌, find, filter, bytes_eq}
 use Rattle.std.proofs.lemmas.Bool.Decides.{nat_tests}
 use Rattle.std.proofs.lemmas.List.{length-map, length-take}
@@ -27,7 +29,9 @@ use Rattle.pt_spelling.specs.Replies.{reply_of}
 use Rattle.pt_spelling.specs.Requests.{spelling}
 use Rattle.pt_spelling.specs.declared.replies.KeptReply.{KeptReply}
 use Rattle.pt_spelling.specs.declared.replies.KeptReply.TheVariants as reply
-use Rattle.pt_desk_rules.specs.State.{State, caller_with, kept_of, rider_of, trip_of, file_of, caller_key, kept_key, place_key, route_key, rider_key, entry_key, vehicle_key, travel_key, trip_key, span_of, versions_from, tables_from, tables_before, entries_of, applied}
+use Rattle.pt_desk_rules.specs.State.{State, caller_with, kept_of, rider_of, trip_of, file_of, caller_key, kept_key}
+use Rattle.pt_desk_rules.specs.State.{place_key, route_key, rider_key, entry_key, vehicle_key, travel_key, trip_key}
+use Rattle.pt_desk_rules.specs.State.{span_of, versions_from, tables_from, tables_before, entries_of, applied}
 use Rattle.pt_desk_rules.specs.Facts.{cancel_facts, change_facts, facts_of, has_subject, plan_for}
 use Rattle.pt_desk_rules.specs.Chain.{Row}
 use Rattle.pt_desk_rules.proofs.FleetLemmas.{version_stays, fleet_stays}
@@ -62,7 +66,9 @@ use Rattle.pt_desk_rules.specs.Wish.{Wish}
 use Rattle.pt_desk_rules.specs.Moment.{Moment}
 use Rattle.pt_records.specs.declared.span.Span.{Span}
 use Rattle.pt_desk_rules.specs.Step.{state_after, arrival_in, sent_with, left_of, sender, IsOutcome, IsOutcomeBy, IsOutcomeAs}
-use Rattle.pt_desk_rules.specs.Sound.{IsSound, IsNumberedTo, IsSoundFile, IsIn, HasOneHolder, HasSubject, IsOfCaller, IsKeptWrite, HasFiledRider, HasAuthor, HasFirstDay, HasDepot, HasDay, HasPlaces, HasStandingTrips, IsOfPlaces, IsOfRider, IsPlanned, StandsIn, AreNumberedFrom}
+use Rattle.pt_desk_rules.specs.Sound.{IsSound, IsNumberedTo, IsSoundFile, IsIn, HasOneHolder, HasSubject, IsOfCaller}
+use Rattle.pt_desk_rules.specs.Sound.{IsKeptWrite, HasFiledRider, HasAuthor, HasFirstDay, HasDepot, HasDay, HasPlaces}
+use Rattle.pt_desk_rules.specs.Sound.{HasStandingTrips, IsOfPlaces, IsOfRider, IsPlanned, StandsIn, AreNumberedFrom}
 use Rattle.pt_desk_rules.specs.Caller.{Caller}
 use Rattle.pt_desk_rules.specs.declared.kept.Arrival.{Arrival}
 use Rattle.pt_desk_rules.specs.declared.kept.Arrival.TheVariants.{New, Repeated, Stale}
@@ -121,7 +127,9 @@ put_caller_sound new s sound subject free room ranges =
     let holders = one_holder-put new s.callers sound.one_holder_each (holders_are new s.callers sound.one_holder_each free) in
     let subjects = Each-put (HasSubject s.riders s.vehicles) caller_key new s.callers sound.subjects_there subject in
     let kept = Each-weaker (IsOfCaller s.callers) (IsOfCaller (put caller_key new s.callers)) (λ kept there. stays_there caller_key kept.caller new s.callers there) s.kept sound.kept_of_callers in
-    let authors = Each-weaker (HasAuthor s.callers) (HasAuthor (put caller_key new s.callers)) (λ filed there. stays_there caller_key filed.entered.author new s.callers there) s.entries sound.authors_there in
+    let authors = Each-weaker (HasAuthor s.callers) (HasAuthor (put caller_key new s.callers))
+    (λ filed there. stays_there caller_key filed.entered.author new s.callers there) s.entries
+    sound.authors_there in
     search rules
 
 put_policy_sound : (new : Policy) (s : State) → IsSound s → KeepsRanges (record s { policy = new }) → IsSound (record s { policy = new })
@@ -175,8 +183,11 @@ put_rider_sound : (new : Rider) (s : State) → IsSound s → IsTrue (is_nobody_
     → KeepsRanges (record s { riders = put rider_key new s.riders }) → IsSound (record s { riders = put rider_key new s.riders })
 put_rider_sound new s sound free room ranges =
     let table = IsTable-put rider_key new s.riders most_riders sound.riders room in
-    let subjects = Each-weaker (HasSubject s.riders s.vehicles) (HasSubject (put rider_key new s.riders) s.vehicles) (λ caller there. subject_stays new s.riders s.vehicles caller.role there) s.callers sound.subjects_there in
-    let files = Each-weaker (HasFiledRider s.riders) (HasFiledRider (put rider_key new s.riders)) (λ filed there. stays_there rider_key filed.rider new s.riders there) s.entries sound.entries_of_riders in
+    let subjects = Each-weaker (HasSubject s.riders s.vehicles) (HasSubject (put rider_key new s.riders) s.vehicles)
+    (λ caller there. subject_stays new s.riders s.vehicles caller.role there) s.callers sound.subjects_there
+    in
+    let files = Each-weaker (HasFiledRider s.riders) (HasFiledRider (put rider_key new s.riders))
+    (λ filed there. stays_there rider_key filed.rider new s.riders there) s.entries sound.entries_of_riders in
     let riders = Each-weaker (IsOfRider s.riders) (IsOfRider (put rider_key new s.riders)) (λ trip there. stays_there rider_key trip.rider new s.riders there) s.trips sound.trips_of_riders in
     search rules
 
@@ -208,16 +219,22 @@ longer_file new xs file at room =
     let more : length (xs ++ new ∷ []) ≡ length xs + 1 = length-append xs (new ∷ []) in
     record { numbered = numbered-more 0 xs new file.numbered (omega arith); within = omega arith }
 
-own_file : (new : FiledEntry) (entries : List FiledEntry) → IsInOrder entry_key entries → IsSoundFile (entries_of new.rider entries) → new.position ≡ length (entries_of new.rider entries) → length (entries_of new.rider entries) < 200
+own_file : (new : FiledEntry) (entries : List FiledEntry) → IsInOrder entry_key entries
+    → IsSoundFile (entries_of new.rider entries) → new.position ≡ length (entries_of new.rider entries)
+    → length (entries_of new.rider entries) < 200
     → IsSoundFile (entries_of new.rider (put entry_key new entries))
 own_file new entries order file at room =
     let here : new.position < 200 = omega arith in
     let below = Each-both (λ x. IsTrue (is_within (entry_key x) (span_of new.rider))) (λ x. x.position < 0 + length (entries_of new.rider entries)) (λ x. entry_key x < entry_key new)
-    (λ x in_it lt. key_below x new.rider new.position in_it (omega arith)) (entries_of new.rider entries) (Each-within entry_key (span_of new.rider) entries) (below_length 0 (entries_of new.rider entries) file.numbered) in
+    (λ x in_it lt. key_below x new.rider new.position in_it (omega arith)) (entries_of new.rider entries)
+    (Each-within entry_key (span_of new.rider) entries)
+    (below_length 0 (entries_of new.rider entries) file.numbered) in
     subst IsSoundFile (sym (within-put_last entry_key (span_of new.rider) new entries (in_own_span new.rider new.position here) order below))
     (longer_file new (entries_of new.rider entries) file at room)
 
-files_stay : (new : FiledEntry) (entries : List FiledEntry) → IsInOrder entry_key entries → ((rider : ℕ) → IsSoundFile (entries_of rider entries)) → new.position ≡ length (entries_of new.rider entries) → length (entries_of new.rider entries) < 200
+files_stay : (new : FiledEntry) (entries : List FiledEntry) → IsInOrder entry_key entries
+    → ((rider : ℕ) → IsSoundFile (entries_of rider entries)) → new.position ≡ length (entries_of new.rider entries)
+    → length (entries_of new.rider entries) < 200
     → (rider : ℕ) → IsSoundFile (entries_of rider (put entry_key new entries))
 files_stay new entries order files at room rider =
     let here : new.position < 200 = omega arith in
@@ -226,7 +243,9 @@ files_stay new entries order files at room rider =
       | inr other ↦ subst IsSoundFile (sym (within-put_other entry_key (span_of rider) new entries (in_no_other_span new.rider rider new.position other here))) (files rider)
     ]
 
-put_entry_sound : (new : FiledEntry) (s : State) → IsSound s → IsIn rider_key s.riders new.rider → IsIn caller_key s.callers new.entered.author → new.position ≡ length (entries_of new.rider s.entries) → length (entries_of new.rider s.entries) < 200
+put_entry_sound : (new : FiledEntry) (s : State) → IsSound s → IsIn rider_key s.riders new.rider
+    → IsIn caller_key s.callers new.entered.author → new.position ≡ length (entries_of new.rider s.entries)
+    → length (entries_of new.rider s.entries) < 200
     → KeepsRanges (record s { entries = put entry_key new s.entries }) → IsSound (record s { entries = put entry_key new s.entries })
 put_entry_sound new s sound rider author at room ranges =
     let order = IsInOrder-put entry_key new s.entries sound.entries_in_order in
@@ -303,7 +322,9 @@ put_vehicle_sound new s sound day depot free room ranges =
     let load = each_load (put vehicle_key new left) s.travel s.trips s.planned fit in
     let depots = Each-put (HasDepot s.places) vehicle_key new left (Each-filter (HasDepot s.places) kept s.vehicles sound.depots_there) depot in
     let fleet = fleet_stays new s.vehicles day (first_days s sound) sound.fleet (below_is _ 20 rooms.0) (below_is _ 50 rooms.1) in
-    let subjects = Each-weaker (HasSubject s.riders s.vehicles) (HasSubject s.riders (put vehicle_key new left)) (λ caller there. driver_stays new s.riders s.vehicles caller.role day (first_days s sound) there) s.callers sound.subjects_there in
+    let subjects = Each-weaker (HasSubject s.riders s.vehicles) (HasSubject s.riders (put vehicle_key new left))
+    (λ caller there. driver_stays new s.riders s.vehicles caller.role day (first_days s sound) there)
+    s.callers sound.subjects_there in
     search rules
 
 put_travel_sound : (new : DatedTable) (s : State) → IsSound s → IsOfPlaces s.places new
@@ -407,7 +428,8 @@ booked_stand minutes number day request trip plan s sound is on booked =
     let (vehicle, of_day, standing) = booked_plan minutes (routes_on number day s) request trip plan booked in
     booked_trips (λ (n : ℕ). StandsIn (put trip_key trip s.trips) (plan_key plan) n) minutes day (trips_on day s.trips) (planned_on day s.planned) (on_duty day s.vehicles) request trip plan
     (put_stands s.trips trip (plan_key plan) standing (rw (vehicle, of_day) refl))
-    (subst (λ (d : ℕ). Each (λ (stop : PlannedStop). StandsIn (put trip_key trip s.trips) (pair_key plan.vehicle d) stop.trip) (without request.trip (planned_stops plan.vehicle day (planned_on day s.planned))))
+    (subst (λ (d : ℕ). Each (λ (stop : PlannedStop). StandsIn (put trip_key trip s.trips) (pair_key plan.vehicle d)
+    stop.trip) (without request.trip (planned_stops plan.vehicle day (planned_on day s.planned))))
     (sym on ∙ of_day)
     (standing_without s.trips trip request.trip plan.vehicle day (planned_on day s.planned) booked.1.trip_of.number
     (Each-filter (HasStandingTrips s.trips) (λ plan. plan.day == day) s.planned sound.planned_trips_stand)))
@@ -437,7 +459,8 @@ kept_each s sound =
     sound.standing_planned sound.trips_numbered))
 
 -- the plan of a booked trip has each other trip of its vehicle and day that is not cancelled
-booked_keeps_others : (minutes : ℕ → ℕ → Option ℕ) (number day : ℕ) (request : request_of.Request) (trip : Trip) (plan : Plan) (s : State) (other : Trip) → IsSound s → request.trip ≡ number → trip.id ≡ number
+booked_keeps_others : (minutes : ℕ → ℕ → Option ℕ) (number day : ℕ) (request : request_of.Request) (trip : Trip)
+    (plan : Plan) (s : State) (other : Trip) → IsSound s → request.trip ≡ number → trip.id ≡ number
     → trip.wish.day ≡ day → IsDay day → (other.id ≡ trip.id → ⊥) → IsKept s other → IsTrue (stands other.status) → IsBookedIn minutes (routes_on number day s) request trip plan
     → pair_key other.vehicle other.wish.day ≡ plan_key plan → has_trip other.id plan.stops ≡ true
 booked_keeps_others minutes number day request trip plan s other sound is own on is_day differ kept standing booked same =
@@ -449,7 +472,9 @@ booked_keeps_others minutes number day request trip plan s other sound is own on
     = ap (λ (v : ℕ). has_trip other.id (planned_stops v day s.planned)) (sym place.0) ∙ ap (λ (d : ℕ). has_trip other.id (planned_stops other.vehicle d s.planned)) (sym other_day) ∙ kept.2 standing in
     booked_keeps minutes day (trips_on day s.trips) (planned_on day s.planned) (on_duty day s.vehicles) request trip plan other (λ alike. differ (sym alike))
     (trip_on day other s.trips other_day kept.0)
-    (left_has other.id request.trip (planned_stops plan.vehicle day (planned_on day s.planned)) (λ alike. differ (alike ∙ is ∙ sym own)) (has_on plan.vehicle day other.id s.planned is_day (planned_days s sound) there))
+    (left_has other.id request.trip (planned_stops plan.vehicle day (planned_on day s.planned))
+    (λ alike. differ (alike ∙ is ∙ sym own)) (has_on plan.vehicle day other.id s.planned is_day
+    (planned_days s sound) there))
     (subst (λ (n : ℕ). IsBookedIn minutes (routes_on n day s) request trip plan) (sym is) booked)
 
 -- it has the trip itself
@@ -540,7 +565,8 @@ change_trip_sound today None id wish s decided sound is_day puts found changes =
 change_trip_sound today (Some old) id wish s decided sound is_day puts found (scheduled.Denied rule, by, is) = subst (λ d. IsSound (state_after (left_of d s) s)) (sym is) sound
 change_trip_sound today (Some old) id wish s decided sound is_day puts found (scheduled.Booked trip plan, (request, asked, (minutes, times, (none, (chosen, at)))), (told, confirms, is)) =
     let left = without old.id (stops_of_plan (plan_for (Some old) s)) in
-    let new = Each-more IsRoutePlan (plan_of_stops old left) plan (left_routes old left (left_there old s sound)) (booked_there minutes old.id wish.day request trip plan s sound asked.trip (chosen, at)) in
+    let new = Each-more IsRoutePlan (plan_of_stops old left) plan (left_routes old left (left_there old s sound))
+    (booked_there minutes old.id wish.day request trip plan s sound asked.trip (chosen, at)) in
     let number : trip.id ≡ old.id = at.trip_of.number ∙ asked.trip in
     let on = on_day request trip wish at.trip_of.wish asked.wished in
     let old_day : HasDay old = Each-found HasDay trip_key id old s.trips (trip_days s sound) found in
@@ -650,8 +676,12 @@ made_in_range : (asked : Write) (me : ℕ) (sent : Sent) (made : Decision) → M
 made_in_range asked me sent (Denied first) makes puts = tt
 made_in_range asked me sent (Accepted told change) makes puts = puts_beside change _ makes.0 puts
 
-after_sound : (asked : Write) (me : Caller) (now : Moment) (sent : Sent) (s : State) (first : Option Rule) (decided : Decision) → IsSound s → IsIn caller_key s.callers me.id → ((reply : KeptReply) → IsKeptWrite (kept_by me.id sent reply))
-    → first_failing (rules_of asked me now (facts_of asked s)) ≡ first → IsDecisionAfter first asked me now sent (facts_of asked s) decided → IsRequest asked → PutsInRangeIf decided → IsSound (state_after (left_of decided s) s)
+after_sound : (asked : Write) (me : Caller) (now : Moment) (sent : Sent) (s : State) (first : Option Rule)
+    (decided : Decision) → IsSound s → IsIn caller_key s.callers me.id
+    → ((reply : KeptReply) → IsKeptWrite (kept_by me.id sent reply))
+    → first_failing (rules_of asked me now (facts_of asked s)) ≡ first
+    → IsDecisionAfter first asked me now sent (facts_of asked s) decided → IsRequest asked → PutsInRangeIf decided
+    → IsSound (state_after (left_of decided s) s)
 after_sound asked me now sent s (Some rule) decided sound there write first is request puts = subst (λ d. IsSound (state_after (left_of d s) s)) (sym is) sound
 after_sound asked me now sent s None decided sound there write first (made, is, keeps) request puts =
     let makes = decided_makes asked me.id now.day (facts_of asked s) made is in
@@ -666,7 +696,9 @@ write_sound : (asked : Write) (me : Caller) (now : Moment) (number : ℕ) (s : S
 write_sound asked me now number s New told left sound there comes (decided, is, (puts, ranges), tells, leaves) =
     let above = new_is_above number (spelling asked) (kept_of me.id s) comes in
     let write : (reply : KeptReply) → IsKeptWrite (kept_by me.id (sent_with number asked) reply) = λ reply. record { numbered = omega arith; spelled = (asked, ranges, refl) } in
-    subst (λ l. IsSound (state_after l s)) (sym leaves) (after_sound asked me now (sent_with number asked) s (first_failing (rules_of asked me now (facts_of asked s))) decided sound there write refl is ranges puts)
+    subst (λ l. IsSound (state_after l s)) (sym leaves)
+    (after_sound asked me now (sent_with number asked) s
+    (first_failing (rules_of asked me now (facts_of asked s))) decided sound there write refl is ranges puts)
 write_sound asked me now number s (Repeated reply) told left sound there comes (tells, leaves) = subst (λ l. IsSound (state_after l s)) (sym leaves) sound
 write_sound asked me now number s Stale told left sound there comes (tells, leaves) = subst (λ l. IsSound (state_after l s)) (sym leaves) sound
 
@@ -679,5 +711,6 @@ by_sound digest (Some me) now number (request.Write asked) s told left is sound 
     write_sound asked me now number s (arrival_in s asked me number) told left sound (found_by_key caller_key (λ caller. bytes_eq caller.digest digest) me s.callers is) refl outcome
 
 -- a request in a sound state leaves a sound state
-pub request_sound : (key : List ℕ) (now : Moment) (number : ℕ) (asked : Request) (s : State) (told : Answer) (left : Option State) → IsSound s → IsOutcome key now number asked s told left → IsSound (state_after left s)
+pub request_sound : (key : List ℕ) (now : Moment) (number : ℕ) (asked : Request) (s : State) (told : Answer)
+    (left : Option State) → IsSound s → IsOutcome key now number asked s told left → IsSound (state_after left s)
 request_sound key now number asked s told left sound outcome = by_sound (sha256 key) (sender key s) now number asked s told left refl sound outcome

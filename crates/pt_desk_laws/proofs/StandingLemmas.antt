@@ -21,7 +21,9 @@ use Rattle.pt_desk_rules.specs.Trips.{plan_of_stops, plan_span}
 kept_step : {A : Type 0} (key : A → ℕ) (k : ℕ) (x y : A) (ys kept : List A) (test : A → Bool) (here passes : Bool) → (key y == k) ≡ here → test y ≡ passes → test x ≡ true
     → (record_at key k ys ≡ Some x → record_at key k kept ≡ Some x) → cond here (Some y) (record_at key k ys) ≡ Some x → record_at key k (cond passes (y ∷ kept) kept) ≡ Some x
 kept_step key k x y ys kept test true true is tested holds rest found = ap (λ b. cond b (Some y) (record_at key k kept)) is ∙ found
-kept_step key k x y ys kept test true false is tested holds rest found = absurd (let same : y ≡ x = cc in let both : test y ≡ true = ap test same ∙ holds in let no_more : true ≡ false = sym both ∙ tested in cc)
+kept_step key k x y ys kept test true false is tested holds rest found = absurd
+    (let same : y ≡ x = cc in let both : test y ≡ true = ap test same ∙ holds in let no_more : true ≡ false = sym both
+    ∙ tested in cc)
 kept_step key k x y ys kept test false true is tested holds rest found = ap (λ b. cond b (Some y) (record_at key k kept)) is ∙ rest found
 kept_step key k x y ys kept test false false is tested holds rest found = rest found
 
@@ -45,15 +47,20 @@ same_vehicle v d w e low high same = omega arith
 pub same_day : (v d w e : ℕ) → d ≤ 47_481 → e ≤ 47_481 → pair_key v d ≡ pair_key w e → d ≡ e
 same_day v d w e low high same = omega arith
 
-plan_on : (vehicle day k : ℕ) (plans : List Plan) (found : Option Plan) → IsDay day → Each IsOnDay plans → record_at plan_key (pair_key vehicle day) plans ≡ found → has_trip k (stops_of_plan found) ≡ true
+plan_on : (vehicle day k : ℕ) (plans : List Plan) (found : Option Plan) → IsDay day → Each IsOnDay plans
+    → record_at plan_key (pair_key vehicle day) plans ≡ found → has_trip k (stops_of_plan found) ≡ true
     → has_trip k (planned_stops vehicle day (planned_on day plans)) ≡ true
 plan_on vehicle day k plans None is days found some = absurd (cc)
 plan_on vehicle day k plans (Some plan) is days found some =
-    let on : plan.day ≡ day = same_day plan.vehicle plan.day vehicle day (Each-found IsOnDay plan_key (pair_key vehicle day) plan plans days found).1 is.1 (found_key plan_key (pair_key vehicle day) plan plans found) in
+    let on : plan.day ≡ day = same_day plan.vehicle plan.day vehicle day
+    (Each-found IsOnDay plan_key (pair_key vehicle day) plan plans days found).1 is.1
+    (found_key plan_key (pair_key vehicle day) plan plans found) in
     ap (λ f. has_trip k (stops_of_plan f)) (record_at-filter plan_key (pair_key vehicle day) plan (λ p. p.day == day) plans (is_same plan.day day on) found) ∙ some
 
 -- a trip in the plans is in those of its day
-pub has_on : (vehicle day k : ℕ) (plans : List Plan) → IsDay day → Each IsOnDay plans → has_trip k (planned_stops vehicle day plans) ≡ true → has_trip k (planned_stops vehicle day (planned_on day plans)) ≡ true
+pub has_on : (vehicle day k : ℕ) (plans : List Plan) → IsDay day → Each IsOnDay plans
+    → has_trip k (planned_stops vehicle day plans) ≡ true
+    → has_trip k (planned_stops vehicle day (planned_on day plans)) ≡ true
 has_on vehicle day k plans is days some = plan_on vehicle day k plans (record_at plan_key (pair_key vehicle day) plans) is days refl some
 
 put_key : (plan : Plan) (plans : List Plan) (k : ℕ) → k ≡ plan_key plan → stops_of_plan (record_at plan_key k (put plan_key plan plans)) ≡ plan.stops
@@ -92,13 +99,17 @@ taken_elsewhere old plans k other = record_at-take_other plan_key k (plan_span o
 abbrev pub plans_left : Trip → List PlannedStop → List Plan → List Plan
 plans_left old left plans = put_all plan_key (plan_of_stops old left) (take_away plan_key (plan_span old) plans)
 
-left_elsewhere : (old : Trip) (left : List PlannedStop) (plans : List Plan) (k : ℕ) → (k ≡ pair_key old.vehicle old.wish.day → ⊥) → record_at plan_key k (plans_left old left plans) ≡ record_at plan_key k plans
+left_elsewhere : (old : Trip) (left : List PlannedStop) (plans : List Plan) (k : ℕ)
+    → (k ≡ pair_key old.vehicle old.wish.day → ⊥) → record_at plan_key k (plans_left old left plans) ≡ record_at
+    plan_key k plans
 left_elsewhere old [] plans k other = taken_elsewhere old plans k other
 left_elsewhere old (stop ∷ later) plans k other =
     record_at-put_other plan_key k (record { vehicle = old.vehicle; day = old.wish.day; stops = stop ∷ later }) (take_away plan_key (plan_span old) plans) (λ same. other (sym same))
     ∙ taken_elsewhere old plans k other
 
-left_there : (old : Trip) (left : List PlannedStop) (plans : List Plan) (k : ℕ) → has_trip k left ≡ true → has_trip k (stops_of_plan (record_at plan_key (pair_key old.vehicle old.wish.day) (plans_left old left plans))) ≡ true
+left_there : (old : Trip) (left : List PlannedStop) (plans : List Plan) (k : ℕ) → has_trip k left ≡ true
+    → has_trip k (stops_of_plan (record_at plan_key (pair_key old.vehicle old.wish.day) (plans_left old left plans)))
+    ≡ true
 left_there old [] plans k some = absurd (cc)
 left_there old (stop ∷ later) plans k some =
     ap (has_trip k) (put_key (record { vehicle = old.vehicle; day = old.wish.day; stops = stop ∷ later }) (take_away plan_key (plan_span old) plans) (pair_key old.vehicle old.wish.day) refl) ∙ some

@@ -67,7 +67,8 @@ denied change number given left_out today wish facts found rule same is by =
     (scheduled.Denied rule, subst (λ (n : ℕ). IsAnswered n left_out today wish facts (scheduled.Denied rule)) same (subst (λ s. IsAnswered given left_out today wish facts s) is by), refl)
 
 -- a wish that is booked is decided by the confirmation
-pub confirmed : (change : Trip → Plan → Change) (number given : ℕ) (left_out : Option ℕ) (today : ℕ) (wish : Wish) (facts : WriteFacts) (found : Scheduled) (trip : Trip) (plan : Plan) (made : Change) (decided : Decision)
+pub confirmed : (change : Trip → Plan → Change) (number given : ℕ) (left_out : Option ℕ) (today : ℕ) (wish : Wish)
+    (facts : WriteFacts) (found : Scheduled) (trip : Trip) (plan : Plan) (made : Change) (decided : Decision)
     → given ≡ number → found ≡ scheduled.Booked trip plan → IsAnswered given left_out today wish facts found
     → (told : Confirmation) × IsConfirmation trip told × (decided ≡ Accepted (answer.Booked told) made)
     → made ≡ change trip plan → IsBooking change number left_out today wish facts decided

@@ -45,7 +45,8 @@ length-filter-put key test new (x ∷ xs) = elim (compared (key x) (key new)) [
   | inr (inr gt) ↦ rw (put_before key new x xs gt) (one_more new (filter test (x ∷ xs)) (test new))
 ]
 
-taken_step : {A : Type 0} (test : A → Bool) (x : A) (ys xs : List A) (b : Bool) → (b ≡ false → test x ≡ false) → filter test ys ≡ filter test xs → filter test (cond b (x ∷ ys) ys) ≡ filter test (x ∷ xs)
+taken_step : {A : Type 0} (test : A → Bool) (x : A) (ys xs : List A) (b : Bool) → (b ≡ false → test x ≡ false)
+    → filter test ys ≡ filter test xs → filter test (cond b (x ∷ ys) ys) ≡ filter test (x ∷ xs)
 taken_step test x ys xs true out same = ap (λ zs. cond (test x) (x ∷ zs) zs) same
 taken_step test x ys xs false out same = same ∙ sym (ap (λ b. cond b (x ∷ filter test xs) (filter test xs)) (out refl))
 
@@ -136,7 +137,9 @@ others_stay new vehicles day days =
     ∙ filter-kept (λ version. not (version.id == new.id)) kept HasFirstDay
     (λ x first taken. no_other x.id new.id (taken_is_own new.id new.from_day x.id x.from_day first.1 taken)) vehicles days
 
-version_step : (id other : ℕ) (x : Vehicle) (ys xs : List Vehicle) (b : Bool) → (b ≡ false → (x.id == other) ≡ false) → has_version other ys ≡ has_version other xs → has_version other (cond b (x ∷ ys) ys) ≡ has_version other (x ∷ xs)
+version_step : (id other : ℕ) (x : Vehicle) (ys xs : List Vehicle) (b : Bool) → (b ≡ false → (x.id == other) ≡ false)
+    → has_version other ys ≡ has_version other xs → has_version other (cond b (x ∷ ys) ys) ≡ has_version other
+    (x ∷ xs)
 version_step id other x ys xs true out same = ap (λ found. (x.id == other) || found) same
 version_step id other x ys xs false out same = same ∙ sym (ap (λ b. b || has_version other xs) (out refl))
 
@@ -245,7 +248,9 @@ counted_step n false true = refl
 counted_step n false false = refl
 
 by_own : (id : ℕ) (x : Vehicle) (rest : List Vehicle) (own : Bool) → (x.id == id) ≡ own → (own ≡ true → x.id ≡ id) → (own ≡ false → x.id ≡ id → ⊥)
-    → vehicle_count (versions_of_others id (x ∷ rest)) ≡ cond own (vehicle_count (versions_of_others id rest)) (cond (has_version x.id rest) (vehicle_count (versions_of_others id rest)) (vehicle_count (versions_of_others id rest) + 1))
+    → vehicle_count (versions_of_others id (x ∷ rest)) ≡ cond own (vehicle_count (versions_of_others id rest))
+    (cond (has_version x.id rest) (vehicle_count (versions_of_others id rest))
+    (vehicle_count (versions_of_others id rest) + 1))
 by_own id x rest true is same other = others_skipped id x rest (same refl)
 by_own id x rest false is same other = others_counted id x rest (other refl)
 

@@ -5,7 +5,9 @@ use Rattle.std.proofs.lemmas.List.Sums.{sum_by-cons}
 use Rattle.pt_feasible.specs.ServiceTimes.{IsNeverLater}
 
 -- a bound that is raised to at most what another list has there stays at or below that list
-pub below-raised : (bounds b : List ℕ) (place needed k : ℕ) → place < length bounds → slice_index bounds k ≤ slice_index b k → needed ≤ slice_index b place → slice_index (slice_set bounds place needed) k ≤ slice_index b k
+pub below-raised : (bounds b : List ℕ) (place needed k : ℕ) → place < length bounds
+    → slice_index bounds k ≤ slice_index b k → needed ≤ slice_index b place
+    → slice_index (slice_set bounds place needed) k ≤ slice_index b k
 below-raised bounds b place needed k inside below asked = grind (arith, elements)
 
 -- a bound that is raised is never earlier

@@ -21,7 +21,9 @@ pub IfNone-from : {A : Type 0} (o : Option A) (P : Type 0) → P → IfNone o P
 IfNone-from o P p = elim o as (λ o. IfNone o P) [ None ↦ p | Some _ ↦ tt ]
 
 -- without a way no times keep the driving times
-pub no_way : (minutes : ℕ → ℕ → Option ℕ) (all : List Visit) (b : List ℕ) (k : ℕ) (this next : Visit) → slice_get all k ≡ Some this → slice_get all (k + 1) ≡ Some next → minutes this.place next.place ≡ None → ¬ KeepsDrivingTimes minutes all b
+pub no_way : (minutes : ℕ → ℕ → Option ℕ) (all : List Visit) (b : List ℕ) (k : ℕ) (this next : Visit)
+    → slice_get all k ≡ Some this → slice_get all (k + 1) ≡ Some next → minutes this.place next.place ≡ None
+    → ¬ KeepsDrivingTimes minutes all b
 no_way minutes all b k this next here there way drives =
     subst (λ (o : Option ℕ). IsSomeAnd o (λ drive. slice_index b k + this.service + drive ≤ slice_index b (k + 1))) way (drives k this next here there)
 
@@ -30,12 +32,16 @@ pub not_both : (stop : Stop) → IsTrue (is_pickup stop) → ¬ IsTrue (is_drop 
 not_both stop = elim stop.kind as (λ kind. IsTrue (takes_aboard kind) → IsTrue (lets_leave kind) → ⊥) [ Pickup ↦ λ picks drops. cc | Drop ↦ λ picks drops. cc ]
 
 -- of two stops of one trip only the first is a pickup
-pub pickup-only : (stops : List Stop) → IsPaired stops → (i j : ℕ) (first second : Stop) → i < j → slice_get stops i ≡ Some first → slice_get stops j ≡ Some second → first.trip ≡ second.trip → ¬ IsTrue (is_pickup second)
+pub pickup-only : (stops : List Stop) → IsPaired stops → (i j : ℕ) (first second : Stop) → i < j
+    → slice_get stops i ≡ Some first → slice_get stops j ≡ Some second → first.trip ≡ second.trip
+    → ¬ IsTrue (is_pickup second)
 pickup-only stops paired i j first second before here there same picks =
     not_both second picks (paired.in_order i j first second before here there same).drop_second
 
 -- a trip is picked up at one place
-pub pickup-place : (stops : List Stop) → IsPaired stops → (i k : ℕ) (first second : Stop) → slice_get stops i ≡ Some first → slice_get stops k ≡ Some second → IsTrue (is_pickup first) → IsTrue (is_pickup second) → first.trip ≡ second.trip → i ≡ k
+pub pickup-place : (stops : List Stop) → IsPaired stops → (i k : ℕ) (first second : Stop)
+    → slice_get stops i ≡ Some first → slice_get stops k ≡ Some second → IsTrue (is_pickup first)
+    → IsTrue (is_pickup second) → first.trip ≡ second.trip → i ≡ k
 pickup-place stops paired i k first second here there picks picks' same =
     elim (cases_lt i k) [
       | inl before ↦ absurd (pickup-only stops paired i k first second before here there same picks')

@@ -1,5 +1,7 @@
 -- Loads aboard: on a route of pairs what was dropped was picked up before.
-use Rattle.std.proofs.Common.{tests, ◌≡◌, ◌≢◌, ℕ, ◌+◌, ◌-◌, ◌<◌, ◌≤◌, zero, suc, Bool, true, false, nat_eq, cond, List, [], ◌∷◌, ◌++◌, length, take, Option, Some, None, IsTrue, slice_get, arith, refl, ap, sym, subst, ◌∙◌, inl, inr, ◌⊎◌, add-one}
+use Rattle.std.proofs.Common.{tests, ◌≡◌, ◌≢◌, ℕ, ◌+◌, ◌-◌, ◌<◌, ◌≤◌, zero, suc, Bool, true, false, nat_eq, cond}
+use Rattle.std.proofs.Common.{List, [], ◌∷◌, ◌++◌, length, take, Option, Some, None, IsTrue, slice_get, arith, refl}
+use Rattle.std.proofs.Common.{ap, sym, subst, ◌∙◌, inl, inr, ◌⊎◌, add-one}
 use Rattle.std.specs.Prelude.{filter, if◌then◌else◌}
 use Rattle.std.proofs.lemmas.Bool.{cases_lt, eqb-true, and_parts}
 use Rattle.std.proofs.lemmas.List.{take_more}
@@ -86,9 +88,17 @@ total_of-single part true stop = omega arith
 total_of-single part false stop = refl
 
 -- one part of the loads of the stops that pass a test, with one more stop
-pub total_of-next : (part : Load → ℕ) (p : Stop → Bool) (stops : List Stop) (k : ℕ) (stop : Stop) → slice_get stops k ≡ Some stop → total_of part (filter p (take (k + 1) stops)) ≡ total_of part (filter p (take k stops)) + load_if part (p stop) stop
+pub total_of-next : (part : Load → ℕ) (p : Stop → Bool) (stops : List Stop) (k : ℕ) (stop : Stop)
+    → slice_get stops k ≡ Some stop → total_of part (filter p (take (k + 1) stops)) ≡ total_of part
+    (filter p (take k stops)) + load_if part (p stop) stop
 total_of-next part p stops k stop here =
-    rw (take_more stops k stop (slice_get_within stops k stop here), get_or_from_slice_get stops k stop stop here, filter-append p (take k stops) (stop ∷ []), total_of-append part (filter p (take k stops)) (filter p (stop ∷ [])))
+    rw (
+      take_more stops k stop (slice_get_within stops k stop here),
+      get_or_from_slice_get stops k stop stop here,
+      filter-append p (take k stops) (stop ∷ []),
+      total_of-append part (filter p (take k stops))
+          (filter p (stop ∷ [])),
+    )
     (ap (λ (n : ℕ). total_of part (filter p (take k stops)) + n) (total_of-single part (p stop) stop))
 
 -- the sum of a function below a number
@@ -125,7 +135,9 @@ sum_below-without f i (suc n) inside = elim (cases_lt i n) [
 ]
 
 -- where each number that counts has a partner of its own that counts as much, the sum is no larger
-pub sum_below-partners : (m n : ℕ) (d p : ℕ → ℕ) (IsPartner : ℕ → ℕ → Type 0) → ((j : ℕ) → j < m → (d j ≡ 0) ⊎ ((i : ℕ) × (i < n) × (d j ≤ p i) × IsPartner i j)) → ((i j k : ℕ) → IsPartner i j → IsPartner i k → j ≡ k) → sum_below d m ≤ sum_below p n
+pub sum_below-partners : (m n : ℕ) (d p : ℕ → ℕ) (IsPartner : ℕ → ℕ → Type 0)
+    → ((j : ℕ) → j < m → (d j ≡ 0) ⊎ ((i : ℕ) × (i < n) × (d j ≤ p i) × IsPartner i j))
+    → ((i j k : ℕ) → IsPartner i j → IsPartner i k → j ≡ k) → sum_below d m ≤ sum_below p n
 sum_below-partners zero n d p IsPartner each once = omega arith
 sum_below-partners (suc m) n d p IsPartner each once = elim (each m (omega arith)) [
   | inl none ↦ omega (arith, sum_below-partners m n d p IsPartner (λ j below. each j (omega arith)) once)
@@ -153,12 +165,14 @@ element_within (x ∷ xs) zero inside = (x, refl)
 element_within (x ∷ xs) (suc k) inside = element_within xs k (omega arith)
 
 -- one part of the load of the first stops that pass a test, as a sum over places
-pub total_of-below : (part : Load → ℕ) (p : Stop → Bool) (stops : List Stop) (k : ℕ) → k ≤ length stops → total_of part (filter p (take k stops)) ≡ sum_below (λ i. load_at part p (slice_get stops i)) k
+pub total_of-below : (part : Load → ℕ) (p : Stop → Bool) (stops : List Stop) (k : ℕ) → k ≤ length stops
+    → total_of part (filter p (take k stops)) ≡ sum_below (λ i. load_at part p (slice_get stops i)) k
 total_of-below part p stops zero inside = refl
 total_of-below part p stops (suc k) inside =
     let found = element_within stops k (omega arith) in
     let next : total_of part (filter p (take (suc k) stops)) ≡ total_of part (filter p (take k stops)) + load_if part (p found.0) found.0 =
-    subst (λ (n : ℕ). total_of part (filter p (take n stops)) ≡ total_of part (filter p (take k stops)) + load_if part (p found.0) found.0) (add-one k) (total_of-next part p stops k found.0 found.1) in
+    subst (λ (n : ℕ). total_of part (filter p (take n stops)) ≡ total_of part (filter p (take k stops)) + load_if part
+    (p found.0) found.0) (add-one k) (total_of-next part p stops k found.0 found.1) in
     let at_k : load_at part p (slice_get stops k) ≡ load_if part (p found.0) found.0 = ap (load_at part p) found.1 in
     omega (arith, next, at_k, total_of-below part p stops k (omega arith))
 
@@ -183,12 +197,16 @@ partner-of-drop stop other drops partner =
     )
 
 -- of two stops of one trip the first is no drop
-pub first-is-no-drop : (stops : List Stop) → IsPaired stops → (i j : ℕ) (first second : Stop) → i < j → slice_get stops i ≡ Some first → slice_get stops j ≡ Some second → first.trip ≡ second.trip → ¬ IsTrue (is_drop first)
+pub first-is-no-drop : (stops : List Stop) → IsPaired stops → (i j : ℕ) (first second : Stop) → i < j
+    → slice_get stops i ≡ Some first → slice_get stops j ≡ Some second → first.trip ≡ second.trip
+    → ¬ IsTrue (is_drop first)
 first-is-no-drop stops paired i j first second before here there same drops =
     not_both first (paired.in_order i j first second before here there same).pickup_first drops
 
 -- a trip is dropped at one place
-pub drop-place : (stops : List Stop) → IsPaired stops → (j k : ℕ) (first second : Stop) → slice_get stops j ≡ Some first → slice_get stops k ≡ Some second → IsTrue (is_drop first) → IsTrue (is_drop second) → first.trip ≡ second.trip → j ≡ k
+pub drop-place : (stops : List Stop) → IsPaired stops → (j k : ℕ) (first second : Stop)
+    → slice_get stops j ≡ Some first → slice_get stops k ≡ Some second → IsTrue (is_drop first)
+    → IsTrue (is_drop second) → first.trip ≡ second.trip → j ≡ k
 drop-place stops paired j k first second here there drops drops' same =
     elim (cases_lt j k) [
       | inl before ↦ absurd (first-is-no-drop stops paired j k first second before here there same drops)
@@ -208,7 +226,9 @@ pub record IsRide (stops : List Stop) (i j : ℕ) : Type 0 where
   pub same : pickup.trip ≡ drop.trip
 
 -- a trip that is dropped was picked up before, and its load is the same
-pub ride-of-drop : (part : Load → ℕ) (stops : List Stop) → IsPaired stops → (j : ℕ) (stop : Stop) → slice_get stops j ≡ Some stop → IsTrue (is_drop stop) → (i : ℕ) × (i < j) × (load_at part is_drop (slice_get stops j) ≤ load_at part is_pickup (slice_get stops i)) × IsRide stops i j
+pub ride-of-drop : (part : Load → ℕ) (stops : List Stop) → IsPaired stops → (j : ℕ) (stop : Stop)
+    → slice_get stops j ≡ Some stop → IsTrue (is_drop stop) → (i : ℕ) × (i < j)
+    × (load_at part is_drop (slice_get stops j) ≤ load_at part is_pickup (slice_get stops i)) × IsRide stops i j
 ride-of-drop part stops paired j stop there drops =
     let any = Any-from_list_any (is_partner stop) stops (paired.complete j stop there) in
     let i = any.0 in
@@ -236,7 +256,8 @@ ride-of-drop part stops paired j stop there drops =
     ]
 
 -- among the first stops of a route, at most what was picked up is dropped
-pub dropped-le-picked : (part : Load → ℕ) (stops : List Stop) → IsPaired stops → (k : ℕ) → k ≤ length stops → total_of part (filter is_drop (take k stops)) ≤ total_of part (filter is_pickup (take k stops))
+pub dropped-le-picked : (part : Load → ℕ) (stops : List Stop) → IsPaired stops → (k : ℕ) → k ≤ length stops
+    → total_of part (filter is_drop (take k stops)) ≤ total_of part (filter is_pickup (take k stops))
 dropped-le-picked part stops paired k inside =
     let dropped : ℕ → ℕ = λ i. load_at part is_drop (slice_get stops i) in
     let picked : ℕ → ℕ = λ i. load_at part is_pickup (slice_get stops i) in
@@ -262,7 +283,8 @@ dropped-le-picked part stops paired k inside =
     )
 
 -- a pickup adds its load to those aboard
-pub load_aboard-pickup : (stops : List Stop) → IsPaired stops → (k : ℕ) (stop : Stop) → slice_get stops k ≡ Some stop → IsTrue (is_pickup stop) → load_aboard (take (k + 1) stops) ≡ load_sum (load_aboard (take k stops)) stop.load
+pub load_aboard-pickup : (stops : List Stop) → IsPaired stops → (k : ℕ) (stop : Stop) → slice_get stops k ≡ Some stop
+    → IsTrue (is_pickup stop) → load_aboard (take (k + 1) stops) ≡ load_sum (load_aboard (take k stops)) stop.load
 load_aboard-pickup stops paired k stop here picks =
     aboard-more (take (k + 1) stops) (take k stops) stop.load (λ part.
     (let inside = slice_get_within stops k stop here in
@@ -271,7 +293,9 @@ load_aboard-pickup stops paired k stop here picks =
     omega (arith, total_of-next part is_pickup stops k stop here, total_of-next part is_drop stops k stop here, dropped-le-picked part stops paired k (omega arith), one, none)))
 
 -- a drop takes its load from those aboard
-pub load_aboard-drop : (stops : List Stop) (k : ℕ) (stop : Stop) → slice_get stops k ≡ Some stop → IsTrue (is_drop stop) → load_aboard (take (k + 1) stops) ≡ load_difference (load_aboard (take k stops)) stop.load
+pub load_aboard-drop : (stops : List Stop) (k : ℕ) (stop : Stop) → slice_get stops k ≡ Some stop
+    → IsTrue (is_drop stop) → load_aboard (take (k + 1) stops) ≡ load_difference (load_aboard (take k stops))
+    stop.load
 load_aboard-drop stops k stop here drops =
     aboard-less (take (k + 1) stops) (take k stops) stop.load (λ part.
     (let one : load_if part (is_drop stop) stop ≡ part stop.load = ap (λ (b : Bool). load_if part b stop) drops in
@@ -279,7 +303,9 @@ load_aboard-drop stops k stop here drops =
     omega (arith, total_of-next part is_pickup stops k stop here, total_of-next part is_drop stops k stop here, one, none)))
 
 -- the loads of the stops that pass a test, with one more stop that passes
-pub total_load-takes : (p : Stop → Bool) (stops : List Stop) (k : ℕ) (stop : Stop) → slice_get stops k ≡ Some stop → p stop ≡ true → total_load (filter p (take (k + 1) stops)) ≡ load_sum (total_load (filter p (take k stops))) stop.load
+pub total_load-takes : (p : Stop → Bool) (stops : List Stop) (k : ℕ) (stop : Stop) → slice_get stops k ≡ Some stop
+    → p stop ≡ true → total_load (filter p (take (k + 1) stops)) ≡ load_sum (total_load (filter p (take k stops)))
+    stop.load
 total_load-takes p stops k stop here passes =
     let each : (part : Load → ℕ) → total_of part (filter p (take (k + 1) stops)) ≡ total_of part (filter p (take k stops)) + part stop.load = λ part.
     (total_of-next part p stops k stop here ∙ ap (λ (b : Bool). total_of part (filter p (take k stops)) + load_if part b stop) passes) in
@@ -288,7 +314,8 @@ total_load-takes p stops k stop here passes =
     (omega (arith, total-chairs (filter p (take (k + 1) stops)), total-chairs (filter p (take k stops)), each chairs_of))
 
 -- and with one more that does not pass
-pub total_load-leaves : (p : Stop → Bool) (stops : List Stop) (k : ℕ) (stop : Stop) → slice_get stops k ≡ Some stop → p stop ≡ false → total_load (filter p (take (k + 1) stops)) ≡ total_load (filter p (take k stops))
+pub total_load-leaves : (p : Stop → Bool) (stops : List Stop) (k : ℕ) (stop : Stop) → slice_get stops k ≡ Some stop
+    → p stop ≡ false → total_load (filter p (take (k + 1) stops)) ≡ total_load (filter p (take k stops))
 total_load-leaves p stops k stop here fails =
     let each : (part : Load → ℕ) → total_of part (filter p (take (k + 1) stops)) ≡ total_of part (filter p (take k stops)) + 0 = λ part.
     (total_of-next part p stops k stop here ∙ ap (λ (b : Bool). total_of part (filter p (take k stops)) + load_if part b stop) fails) in

@@ -1,5 +1,6 @@
 -- Loads that fit a vehicle still fit when a trip is taken out.
-use Rattle.std.proofs.Common.{◌≡◌, ℕ, zero, suc, ◌+◌, ◌<◌, ◌≤◌, Bool, true, false, not, cond, ◌==◌, ◌⊎◌, List, [], ◌∷◌, Some, length, take, filter, slice_get, inl, inr, refl, ap, sym, subst, ◌∙◌, arith}
+use Rattle.std.proofs.Common.{◌≡◌, ℕ, zero, suc, ◌+◌, ◌<◌, ◌≤◌, Bool, true, false, not, cond, ◌==◌, ◌⊎◌, List, []}
+use Rattle.std.proofs.Common.{◌∷◌, Some, length, take, filter, slice_get, inl, inr, refl, ap, sym, subst, ◌∙◌, arith}
 use Rattle.std.proofs.lemmas.Bool.{and_parts, eqb-true, cases_lt, cases_order, false≢true}
 use Rattle.std.proofs.lemmas.List.{length-take}
 use Rattle.std.proofs.lemmas.Option.{slice_get_within}
@@ -182,4 +183,5 @@ loads_stay trip stops paired vehicle fits k h =
     let same : load_aboard (take k (without_trip trip stops)) ≡ load_aboard (without_trip trip (take (old_place (is_of_another trip) stops k) stops)) =
     ap load_aboard (take-filter (is_of_another trip) stops k) in
     subst (λ (load : Load). FitsWithin load vehicle) (sym same)
-    (within_more (load_aboard (without_trip trip (take (old_place (is_of_another trip) stops k) stops))) (load_aboard (take (old_place (is_of_another trip) stops k) stops)) (room_of vehicle) fewer old)
+    (within_more (load_aboard (without_trip trip (take (old_place (is_of_another trip) stops k) stops)))
+    (load_aboard (take (old_place (is_of_another trip) stops k) stops)) (room_of vehicle) fewer old)

@@ -1,5 +1,7 @@
 -- Bounds that keep all constraints are service times that fit.
-use Rattle.std.proofs.Common.{◌≡◌, ℕ, zero, suc, [], ◌∷◌, ◌==◌, max, ◌+◌, ◌-◌, ◌<◌, ◌≤◌, List, length, take, Option, None, Some, IsSomeAnd, slice_get, slice_index, get_or, arith, refl, sym, subst, inl, inr, length-take}
+use Rattle.std.proofs.Common.{◌≡◌, ℕ, zero, suc, [], ◌∷◌, ◌==◌, max, ◌+◌, ◌-◌, ◌<◌, ◌≤◌, List, length, take, Option}
+use Rattle.std.proofs.Common.{None, Some, IsSomeAnd, slice_get, slice_index, get_or, arith, refl, sym, subst, inl}
+use Rattle.std.proofs.Common.{inr, length-take}
 use Rattle.std.proofs.lemmas.Bool.{cases_lt, cases_eq, eq-eqb, ne_eqb, cond-true, cond-false}
 use Rattle.pt_audit.specs.declared.line.End.TheVariants as end
 use Rattle.pt_audit.specs.declared.line.Line.TheVariants as line
@@ -110,7 +112,8 @@ room-le (x ∷ xs) [] same each = absurd (omega arith)
 room-le (x ∷ xs) (y ∷ ys) same each = omega (arith, each 0, room-le xs ys (omega arith) (λ k. each (suc k)))
 
 -- where one bound rises, and none falls, there is less room
-room-falls : (xs ys : List ℕ) (k : ℕ) → length xs ≡ length ys → ((i : ℕ) → slice_index xs i ≤ slice_index ys i) → slice_index xs k < slice_index ys k → slice_index xs k < 4_294_967_295 → room_of ys < room_of xs
+room-falls : (xs ys : List ℕ) (k : ℕ) → length xs ≡ length ys → ((i : ℕ) → slice_index xs i ≤ slice_index ys i)
+    → slice_index xs k < slice_index ys k → slice_index xs k < 4_294_967_295 → room_of ys < room_of xs
 room-falls [] [] k same each rises low = absurd (omega arith)
 room-falls [] (y ∷ ys) k same each rises low = absurd (omega arith)
 room-falls (x ∷ xs) [] k same each rises low = absurd (omega arith)
@@ -125,7 +128,9 @@ raised-no_lower bound raise k = elim (cases_eq k (visit_of raise)) [
 ]
 
 raised-there : (bound : ℕ → ℕ) (raise : Raise) → minute_of raise ≤ raised bound raise (visit_of raise)
-raised-there bound raise = subst (λ (n : ℕ). minute_of raise ≤ n) (sym (cond-true (visit_of raise == visit_of raise) (max (bound (visit_of raise)) (minute_of raise)) (bound (visit_of raise)) (eq-eqb (visit_of raise) (visit_of raise) refl))) (omega arith)
+raised-there bound raise = subst (λ (n : ℕ). minute_of raise ≤ n)
+    (sym (cond-true (visit_of raise == visit_of raise) (max (bound (visit_of raise)) (minute_of raise))
+    (bound (visit_of raise)) (eq-eqb (visit_of raise) (visit_of raise) refl))) (omega arith)
 
 minute-number : (raise : Raise) → IsInForm (line.Raise raise) → minute_of raise ≤ 4_294_967_295
 minute-number (Window k n) form = form 1 0 (omega arith)
@@ -134,7 +139,9 @@ minute-number (Ride k n) form = form 1 0 (omega arith)
 minute-number (Duration n) form = form 1 0 (omega arith)
 
 -- each raise to a later minute leaves less room
-pub raise-room : (old new : List ℕ) (raise : Raise) → length old ≡ length new → ((k : ℕ) → slice_index new k ≡ raised (slice_index old) raise k) → slice_index old (visit_of raise) < minute_of raise → IsInForm (line.Raise raise) → room_of new < room_of old
+pub raise-room : (old new : List ℕ) (raise : Raise) → length old ≡ length new
+    → ((k : ℕ) → slice_index new k ≡ raised (slice_index old) raise k)
+    → slice_index old (visit_of raise) < minute_of raise → IsInForm (line.Raise raise) → room_of new < room_of old
 raise-room old new raise same each later form =
     room-falls old new (visit_of raise) same (λ k. omega (arith, each k, raised-no_lower (slice_index old) raise k))
     (omega (arith, each (visit_of raise), raised-there (slice_index old) raise, later)) (omega (arith, minute-number raise form, later))

@@ -26,9 +26,13 @@ pub record IsBegun (minutes : ℕ → ℕ → Option ℕ) (case : Case) (old new
   pub onward : (more : List Raise) (end : End) → AreRight minutes case.vehicle case.stops bound more end → AreRight minutes case.vehicle case.stops (λ _. 0) (raises ++ more) end
 
 -- one more line was written
-one_more : (lines : List Line) (last : Line) (old between new : Option (List ℕ)) → Appends old between (flat_map line_text lines) → Appends between new (line_text last) → Appends old new (flat_map line_text (lines ++ last ∷ []))
+one_more : (lines : List Line) (last : Line) (old between new : Option (List ℕ))
+    → Appends old between (flat_map line_text lines) → Appends between new (line_text last)
+    → Appends old new (flat_map line_text (lines ++ last ∷ []))
 one_more lines last old between new first second =
-    subst (Appends old new) (ap (λ t. flat_map line_text lines ++ t) (sym (append-nil (line_text last))) ∙ sym (flat_map-append line_text lines (last ∷ []))) (Appends-trans old between new (flat_map line_text lines) (line_text last) first second)
+    subst (Appends old new) (ap (λ t. flat_map line_text lines ++ t) (sym (append-nil (line_text last)))
+    ∙ sym (flat_map-append line_text lines (last ∷ [])))
+    (Appends-trans old between new (flat_map line_text lines) (line_text last) first second)
 
 map-push : (raises : List Raise) (raise : Raise) → map line.Raise (raises ++ raise ∷ []) ≡ map line.Raise raises ++ line.Raise raise ∷ []
 map-push [] raise = refl
@@ -43,7 +47,10 @@ module _ (minutes : ℕ → ℕ → Option ℕ) (case : Case) (old new new' : Op
     onward = λ more end right. right;
   }
 
-  pub begun_raise : (bound next : ℕ → ℕ) (raise : Raise) → IsBegun minutes case old new bound → IsRightRaise minutes case.vehicle case.stops bound raise → IsInForm (line.Raise raise) → Appends new new' (line_text (line.Raise raise)) → ((k : ℕ) → next k ≡ raised bound raise k) → IsBegun minutes case old new' next
+  pub begun_raise : (bound next : ℕ → ℕ) (raise : Raise) → IsBegun minutes case old new bound
+      → IsRightRaise minutes case.vehicle case.stops bound raise → IsInForm (line.Raise raise)
+      → Appends new new' (line_text (line.Raise raise)) → ((k : ℕ) → next k ≡ raised bound raise k)
+      → IsBegun minutes case old new' next
   begun_raise bound next raise begun right form written each =
       let lines = case_line case ∷ map line.Raise begun.raises in
       let same : case_line case ∷ map line.Raise (begun.raises ++ raise ∷ []) ≡ lines ++ line.Raise raise ∷ [] = ap (λ (ls : List Line). case_line case ∷ ls) (map-push begun.raises raise) in
@@ -57,7 +64,9 @@ module _ (minutes : ℕ → ℕ → Option ℕ) (case : Case) (old new new' : Op
             (begun.onward (raise ∷ more) end (right, subst (λ (b : ℕ → ℕ). AreRight minutes case.vehicle case.stops b more end) (sym bounds) later));
       }
 
-  pub begun_end : (bound : ℕ → ℕ) (end : End) → IsBegun minutes case old new bound → IsRightEnd minutes case.vehicle case.stops bound end → IsInForm (line.End end) → Appends new new' (line_text (line.End end)) → WritesCases minutes (case ∷ []) old new'
+  pub begun_end : (bound : ℕ → ℕ) (end : End) → IsBegun minutes case old new bound
+      → IsRightEnd minutes case.vehicle case.stops bound end → IsInForm (line.End end)
+      → Appends new new' (line_text (line.End end)) → WritesCases minutes (case ∷ []) old new'
   begun_end bound end begun right form written =
       let lines = case_line case ∷ map line.Raise begun.raises in
       let all : AreRight minutes case.vehicle case.stops (λ _. 0) begun.raises end =
@@ -78,18 +87,24 @@ nothing_written minutes old = record {
   right = λ rest. refl;
 }
 
-join_begins : (minutes : ℕ → ℕ → Option ℕ) (first second : List Case) (lines between rest : List Line) → BeginsWithCases minutes first lines between → BeginsWithCases minutes second between rest → BeginsWithCases minutes (first ++ second) lines rest
+join_begins : (minutes : ℕ → ℕ → Option ℕ) (first second : List Case) (lines between rest : List Line)
+    → BeginsWithCases minutes first lines between → BeginsWithCases minutes second between rest
+    → BeginsWithCases minutes (first ++ second) lines rest
 join_begins minutes [] second lines between rest begins later = subst (λ (ls : List Line). BeginsWithCases minutes second ls rest) (sym begins) later
 join_begins minutes (case ∷ first) second lines between rest begins later =
     let (raises, end, after, same, right, more) = begins in
     (raises, end, after, same, right, join_begins minutes first second after between rest more later)
 
 -- cases after cases
-pub both_written : (minutes : ℕ → ℕ → Option ℕ) (first second : List Case) (old between new : Option (List ℕ)) → WritesCases minutes first old between → WritesCases minutes second between new → WritesCases minutes (first ++ second) old new
+pub both_written : (minutes : ℕ → ℕ → Option ℕ) (first second : List Case) (old between new : Option (List ℕ))
+    → WritesCases minutes first old between → WritesCases minutes second between new
+    → WritesCases minutes (first ++ second) old new
 both_written minutes first second old between new one other = record {
   lines = one.lines ++ other.lines;
   in_form = All-append IsInForm one.lines other.lines one.in_form other.in_form;
-  appended = subst (Appends old new) (sym (flat_map-append line_text one.lines other.lines)) (Appends-trans old between new (flat_map line_text one.lines) (flat_map line_text other.lines) one.appended other.appended);
+  appended = subst (Appends old new) (sym (flat_map-append line_text one.lines other.lines))
+      (Appends-trans old between new (flat_map line_text one.lines) (flat_map line_text other.lines) one.appended
+      other.appended);
   right = λ rest. subst (λ (ls : List Line). BeginsWithCases minutes (first ++ second) ls rest) (sym (append_assoc one.lines other.lines rest))
       (join_begins minutes first second (one.lines ++ (other.lines ++ rest)) (other.lines ++ rest) rest (one.right (other.lines ++ rest)) (other.right rest));
 }
@@ -100,14 +115,18 @@ on_ok (Ok x) P Q from holds = from holds
 on_ok (Err e) P Q from holds = tt
 
 -- the cases of one more element were written
-pub more_written : {A : Type 0} (minutes : ℕ → ℕ → Option ℕ) (cases_at : A → List Case) (done : List A) (next : A) (all : List A) (old between new : Option (List ℕ)) → all ≡ done ++ next ∷ [] → WritesCases minutes (flat_map cases_at done) old between → WritesCases minutes (cases_at next) between new → WritesCases minutes (flat_map cases_at all) old new
+pub more_written : {A : Type 0} (minutes : ℕ → ℕ → Option ℕ) (cases_at : A → List Case) (done : List A) (next : A)
+    (all : List A) (old between new : Option (List ℕ)) → all ≡ done ++ next ∷ []
+    → WritesCases minutes (flat_map cases_at done) old between → WritesCases minutes (cases_at next) between new
+    → WritesCases minutes (flat_map cases_at all) old new
 more_written minutes cases_at done next all old between new is one other =
     let same : flat_map cases_at all ≡ flat_map cases_at done ++ cases_at next =
     ap (flat_map cases_at) is ∙ flat_map-append cases_at done (next ∷ []) ∙ ap (λ (cs : List Case). flat_map cases_at done ++ cs) (append-nil (cases_at next)) in
     subst (λ (cs : List Case). WritesCases minutes cs old new) (sym same) (both_written minutes (flat_map cases_at done) (cases_at next) old between new one other)
 
 -- the cases of all vehicles are the lines of a right log
-pub day_written : (minutes : ℕ → ℕ → Option ℕ) (duties : List Duty) (asked : Asked) (old new : Option (List ℕ)) → WritesCases minutes (cases_of_day asked duties) old new → WritesLines minutes duties asked old new
+pub day_written : (minutes : ℕ → ℕ → Option ℕ) (duties : List Duty) (asked : Asked) (old new : Option (List ℕ))
+    → WritesCases minutes (cases_of_day asked duties) old new → WritesLines minutes duties asked old new
 day_written minutes duties asked old new written = record {
   lines = written.lines;
   in_form = written.in_form;
@@ -116,7 +135,9 @@ day_written minutes duties asked old new written = record {
 }
 
 -- so is the one line that there is no way
-pub no_way_written : (minutes : ℕ → ℕ → Option ℕ) (duties : List Duty) (asked : Asked) (old new : Option (List ℕ)) → minutes asked.origin asked.goal ≡ None → IsInForm line.NoDirect → Appends old new (line_text line.NoDirect) → WritesLines minutes duties asked old new
+pub no_way_written : (minutes : ℕ → ℕ → Option ℕ) (duties : List Duty) (asked : Asked) (old new : Option (List ℕ))
+    → minutes asked.origin asked.goal ≡ None → IsInForm line.NoDirect → Appends old new (line_text line.NoDirect)
+    → WritesLines minutes duties asked old new
 no_way_written minutes duties asked old new none form written = record {
   lines = line.NoDirect ∷ [];
   in_form = All-cons IsInForm line.NoDirect [] form (All-nil IsInForm);
@@ -125,11 +146,15 @@ no_way_written minutes duties asked old new none form written = record {
 }
 
 -- with the first line and the last, the lines are a log
-pub log_written : (minutes : ℕ → ℕ → Option ℕ) (duties : List Duty) (asked : Asked) (old first second new : Option (List ℕ)) → Appends old first opening → WritesLines minutes duties asked first second → Appends second new closing → WritesRightLog minutes duties asked old new
+pub log_written : (minutes : ℕ → ℕ → Option ℕ) (duties : List Duty) (asked : Asked)
+    (old first second new : Option (List ℕ)) → Appends old first opening
+    → WritesLines minutes duties asked first second → Appends second new closing
+    → WritesRightLog minutes duties asked old new
 log_written minutes duties asked old first second new opened written closed = record {
   lines = written.lines;
   text = opening ++ flat_map line_text written.lines ++ closing;
   right = written.right;
   is_text = (written.in_form, refl);
-  appended = Appends-trans old second new (opening ++ flat_map line_text written.lines) closing (Appends-trans old first second opening (flat_map line_text written.lines) opened written.appended) closed;
+  appended = Appends-trans old second new (opening ++ flat_map line_text written.lines) closing
+      (Appends-trans old first second opening (flat_map line_text written.lines) opened written.appended) closed;
 }

@@ -82,8 +82,25 @@ row_text-plain one other fields plain = ap (λ text. text ++ codes "\n") (fields
 pub row_text-trip : (trip : Trip) → row_text default_writer (trip_fields trip) ≡ trip_line trip
 unfolding ArePlain
 row_text-trip trip =
-    row_text-plain _ _ _
-    (decimal-plain _, (decimal-plain _, (day_text-plain _, (decimal-plain _, (decimal-plain _, (decimal-plain _, (decimal-plain _, (decimal-plain _, (decimal-plain _, (decimal-plain _, (status_text-plain _, tt)))))))))))
+    row_text-plain _ _ _ (
+      decimal-plain _,
+      (
+        decimal-plain _,
+        (
+          day_text-plain _,
+          (
+            decimal-plain _,
+            (
+              decimal-plain _,
+              (
+                decimal-plain _,
+                (decimal-plain _, (decimal-plain _, (decimal-plain _, (decimal-plain _, (status_text-plain _, tt))))),
+              ),
+            ),
+          ),
+        ),
+      ),
+    )
 
 pub row_text-header : row_text default_writer (codes "trip" ∷ codes "rider" ∷ codes "day" ∷ codes "wish" ∷ codes "from" ∷ codes "to" ∷ codes "vehicle"
     ∷ codes "window_from" ∷ codes "window_to" ∷ codes "due" ∷ codes "status" ∷ []) ≡ header

@@ -1,5 +1,7 @@
 -- Records in order of key, before a key and from it on.
-use Rattle.std.proofs.Common.{◌≡◌, inl, inr, ℕ, ◌<◌, ◌≤◌, Bool, true, false, not, List, [], ◌∷◌, ◌++◌, length, take, drop, zero, suc, Some, None, Result, Ok, Err, MatchResult, arith, refl, sym, ap, ◌∙◌, subst, slice_index_or}
+use Rattle.std.proofs.Common.{◌≡◌, inl, inr, ℕ, ◌<◌, ◌≤◌, Bool, true, false, not, List, [], ◌∷◌, ◌++◌, length, take}
+use Rattle.std.proofs.Common.{drop, zero, suc, Some, None, Result, Ok, Err, MatchResult, arith, refl, sym, ap, ◌∙◌}
+use Rattle.std.proofs.Common.{subst, slice_index_or}
 use Rattle.std.specs.Prelude.{cond, nat_lt, filter, insert, slice_set}
 use Rattle.std.specs.List.{AllWithin}
 use Rattle.std.specs.List.Sorted.{IsPartitionedBy}
@@ -137,12 +139,18 @@ pub within-split : {A : Type 0} (key : A → ℕ) (span : Span) (xs : List A) (n
 within-split key span xs n m before from up_to after =
     let rest = drop n xs in
     let start : within key span (take n xs) ≡ [] =
-    filter_none (λ x. is_within (key x) span) (take n xs) (Each-weaker (λ x. key x < span.from) (λ x. is_within (key x) span ≡ false) (λ x lt. before_span (key x) span.from span.to lt) (take n xs) before) in
+    filter_none (λ x. is_within (key x) span) (take n xs)
+    (Each-weaker (λ x. key x < span.from) (λ x. is_within (key x) span ≡ false)
+    (λ x lt. before_span (key x) span.from span.to lt) (take n xs) before) in
     let end : within key span (drop m rest) ≡ [] =
-    filter_none (λ x. is_within (key x) span) (drop m rest) (Each-weaker (λ x. span.to < key x) (λ x. is_within (key x) span ≡ false) (λ x lt. after_span (key x) span.from span.to lt) (drop m rest) after) in
+    filter_none (λ x. is_within (key x) span) (drop m rest)
+    (Each-weaker (λ x. span.to < key x) (λ x. is_within (key x) span ≡ false)
+    (λ x lt. after_span (key x) span.from span.to lt) (drop m rest) after) in
     let middle : within key span (take m rest) ≡ take m rest =
     filter_each (λ x. is_within (key x) span) (take m rest)
-    (Each-both (λ x. span.from ≤ key x) (λ x. key x ≤ span.to) (λ x. is_within (key x) span ≡ true) (λ x low high. in_span (key x) span.from span.to low high) (take m rest) (Each-taken (λ x. span.from ≤ key x) rest m from) up_to) in
+    (Each-both (λ x. span.from ≤ key x) (λ x. key x ≤ span.to) (λ x. is_within (key x) span ≡ true)
+    (λ x low high. in_span (key x) span.from span.to low high) (take m rest)
+    (Each-taken (λ x. span.from ≤ key x) rest m from) up_to) in
     sym (ap (within key span) (sym (take-append-drop n xs)) ∙ within-append key span (take n xs) rest ∙ ap (λ ys. ys ++ within key span rest) start
     ∙ ap (within key span) (sym (take-append-drop m rest)) ∙ within-append key span (take m rest) (drop m rest) ∙ ap (λ ys. within key span (take m rest) ++ ys) end
     ∙ append-nil (within key span (take m rest)) ∙ middle)

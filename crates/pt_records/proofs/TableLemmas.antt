@@ -1,5 +1,7 @@
 -- Tables: what edits keep of them, and what is found in them.
-use Rattle.std.proofs.Common.{◌≡◌, ◌⊎◌, inl, inr, ℕ, ◌+◌, ◌<◌, ◌≤◌, ◌||◌, nat_lt, Bool, true, false, not, IsTrue, List, [], ◌∷◌, length, Option, Some, None, is_some, arith, cond, refl, sym, ap, ◌∙◌, subst}
+use Rattle.std.proofs.Common.{◌≡◌, ◌⊎◌, inl, inr, ℕ, ◌+◌, ◌<◌, ◌≤◌, ◌||◌, nat_lt, Bool, true, false, not, IsTrue}
+use Rattle.std.proofs.Common.{List, [], ◌∷◌, length, Option, Some, None, is_some, arith, cond, refl, sym, ap, ◌∙◌}
+use Rattle.std.proofs.Common.{subst}
 use Rattle.std.specs.Prelude.{◌==◌, find, filter}
 use Rattle.std.proofs.lemmas.Bool.{cases_order}
 use Rattle.std.proofs.lemmas.Bool.Decides.{nat_tests}
@@ -32,14 +34,16 @@ pub below_is : (a b : ℕ) → IsTrue (nat_lt a b) → a < b
 below_is a b holds = grind (arith, nat_tests)
 
 -- the limit still holds after a put if there is room
-pub within_limit : {A : Type 0} (key : A → ℕ) (new : A) (xs : List A) (most : ℕ) → IsInOrder key xs → length xs ≤ most → IsTrue (is_some (record_at key (key new) xs) || nat_lt (length xs) most) → length (put key new xs) ≤ most
+pub within_limit : {A : Type 0} (key : A → ℕ) (new : A) (xs : List A) (most : ℕ) → IsInOrder key xs → length xs ≤ most
+    → IsTrue (is_some (record_at key (key new) xs) || nat_lt (length xs) most) → length (put key new xs) ≤ most
 within_limit key new xs most order within room = elim (or_cases (is_some (record_at key (key new) xs)) (nat_lt (length xs) most) room) [
   | inl there ↦ omega (arith, length-put_there key new xs order there)
   | inr below ↦ omega (arith, length-put key new xs, below_is (length xs) most below)
 ]
 
 -- after a put a table is still a table if there is room
-pub IsTable-put : {A : Type 0} (key : A → ℕ) (new : A) (xs : List A) (most : ℕ) → IsTable key most xs → IsTrue (is_some (record_at key (key new) xs) || nat_lt (length xs) most) → IsTable key most (put key new xs)
+pub IsTable-put : {A : Type 0} (key : A → ℕ) (new : A) (xs : List A) (most : ℕ) → IsTable key most xs
+    → IsTrue (is_some (record_at key (key new) xs) || nat_lt (length xs) most) → IsTable key most (put key new xs)
 IsTable-put key new xs most table room =
     record { in_order = IsInOrder-put key new xs table.in_order; within = within_limit key new xs most table.in_order table.within room }
 
@@ -99,7 +103,8 @@ IsTable-replace key span new xs most table room =
       within = omega (arith, length-put key new left, below_is (length left) most room);
     }
 
-found_kept : {A : Type 0} (key : A → ℕ) (k : ℕ) (x : A) (xs ys : List A) (b : Bool) → (key x ≡ k → b ≡ true) → record_at key k xs ≡ record_at key k ys → record_at key k (cond b (x ∷ xs) xs) ≡ record_at key k (x ∷ ys)
+found_kept : {A : Type 0} (key : A → ℕ) (k : ℕ) (x : A) (xs ys : List A) (b : Bool) → (key x ≡ k → b ≡ true)
+    → record_at key k xs ≡ record_at key k ys → record_at key k (cond b (x ∷ xs) xs) ≡ record_at key k (x ∷ ys)
 found_kept key k x xs ys true stays same = ap (λ o. cond (key x == k) (Some x) o) same
 found_kept key k x xs ys false stays same = same ∙ sym (record_at-past key k x ys (λ is. absurd (let kept = stays is in cc)))
 

@@ -49,7 +49,9 @@ within-put_last key span new (x ∷ xs) is order below = elim (compared (key x) 
       (ap (λ b. cond b (new ∷ within key span (x ∷ xs)) (within key span (x ∷ xs))) is ∙ ap (λ ys. new ∷ ys) none ∙ sym (ap (λ ys. ys ++ new ∷ []) none))
 ]
 
-each_is : {A : Type 0} (key : A → ℕ) (span : Span) (x : A) (ys : List A) (b : Bool) → is_within (key x) span ≡ b → Each (λ y. IsTrue (is_within (key y) span)) ys → Each (λ y. IsTrue (is_within (key y) span)) (cond b (x ∷ ys) ys)
+each_is : {A : Type 0} (key : A → ℕ) (span : Span) (x : A) (ys : List A) (b : Bool) → is_within (key x) span ≡ b
+    → Each (λ y. IsTrue (is_within (key y) span)) ys → Each (λ y. IsTrue (is_within (key y) span))
+    (cond b (x ∷ ys) ys)
 each_is key span x ys true is each = (is, each)
 each_is key span x ys false is each = each
 

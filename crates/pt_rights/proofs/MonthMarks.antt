@@ -1,5 +1,7 @@
 -- The numbers of the marks of a set of months.
-use Rattle.std.proofs.Common.{◌≡◌, ◌≢◌, take_all, length-set, length-take, append-nil, get_or-set_other, ℕ, zero, suc, ◌+◌, ◌-◌, ◌<◌, ◌≤◌, Bool, true, false, cond, List, [], ◌∷◌, ◌++◌, length, get_or, set, take, refl, sym, ap, ◌∙◌, subst, ⊎_elim, arith}
+use Rattle.std.proofs.Common.{◌≡◌, ◌≢◌, take_all, length-set, length-take, append-nil, get_or-set_other, ℕ, zero, suc}
+use Rattle.std.proofs.Common.{◌+◌, ◌-◌, ◌<◌, ◌≤◌, Bool, true, false, cond, List, [], ◌∷◌, ◌++◌, length, get_or, set}
+use Rattle.std.proofs.Common.{take, refl, sym, ap, ◌∙◌, subst, ⊎_elim, arith}
 use Rattle.std.specs.Prelude.{slice_index, IsTrue}
 use Rattle.std.specs.Int.{IsInRange}
 use Rattle.std.specs.List.{All, Contains}
@@ -100,7 +102,9 @@ length-numbers_from n (false ∷ marks) = let few = length-numbers_from (n + 1) 
 numbers_from-range : (n top : ℕ) (marks : List Bool) → n + length marks ≤ top + 1 → All (IsInRange n top) (numbers_from n marks)
 numbers_from-range n top [] short = All-nil (IsInRange n top)
 numbers_from-range n top (true ∷ marks) short =
-    All-cons (IsInRange n top) n _ (omega arith, omega arith) (All-weaker (IsInRange (n + 1) top) (IsInRange n top) (λ x h. let low = h.0 in (omega arith, h.1)) _ (numbers_from-range (n + 1) top marks (omega arith)))
+    All-cons (IsInRange n top) n _ (omega arith, omega arith)
+    (All-weaker (IsInRange (n + 1) top) (IsInRange n top) (λ x h. let low = h.0 in (omega arith, h.1)) _
+    (numbers_from-range (n + 1) top marks (omega arith)))
 numbers_from-range n top (false ∷ marks) short =
     All-weaker (IsInRange (n + 1) top) (IsInRange n top) (λ x h. let low = h.0 in (omega arith, h.1)) _ (numbers_from-range (n + 1) top marks (omega arith))
 
@@ -111,7 +115,9 @@ rising_cons x xs above rising (suc k) fits = let up = rising k (omega arith) in 
 numbers_from-rising : (n : ℕ) (marks : List Bool) → IsStrictlyIncreasing (numbers_from n marks)
 numbers_from-rising n [] = λ k fits. absurd (omega arith)
 numbers_from-rising n (true ∷ marks) =
-    rising_cons n _ (All-weaker (IsInRange (n + 1) (n + length marks)) (λ y. n < y) (λ x h. let low = h.0 in omega arith) _ (numbers_from-range (n + 1) (n + length marks) marks (omega arith))) (numbers_from-rising (n + 1) marks)
+    rising_cons n _ (All-weaker (IsInRange (n + 1) (n + length marks)) (λ y. n < y)
+    (λ x h. let low = h.0 in omega arith) _ (numbers_from-range (n + 1) (n + length marks) marks (omega arith)))
+    (numbers_from-rising (n + 1) marks)
 numbers_from-rising n (false ∷ marks) = numbers_from-rising (n + 1) marks
 
 -- the numbers of twelve marks, at least one of them true, are months
@@ -152,7 +158,9 @@ pub record IsRead (numbers : List ℕ) (index : ℕ) (marks : List Bool) (last :
   pub rising : (k : ℕ) → k + 1 < index → slice_index numbers k < slice_index numbers (k + 1)
 
 -- the next number rises and is a month
-pub read_more : (numbers : List ℕ) (index : ℕ) (marks : List Bool) (last : ℕ) → IsRead numbers index marks last → index < length numbers → last < slice_index numbers index → slice_index numbers index ≤ 12 → IsRead numbers (index + 1) (set marks (slice_index numbers index - 1) true) (slice_index numbers index)
+pub read_more : (numbers : List ℕ) (index : ℕ) (marks : List Bool) (last : ℕ) → IsRead numbers index marks last
+    → index < length numbers → last < slice_index numbers index → slice_index numbers index ≤ 12
+    → IsRead numbers (index + 1) (set marks (slice_index numbers index - 1) true) (slice_index numbers index)
 read_more numbers index marks last r within above top = record {
   marked =
       let size = r.size in

@@ -59,7 +59,9 @@ presumed-push [] last today = presumed_new (is_complete last.entry) (nat_le (las
   presumed_new true false = refl
   presumed_new false old = refl
 presumed-push (first ∷ file) last today =
-    let step = presumed_step (nat_le (first.day + days_to_presumption) today) (is_complete first.entry) (list_any (λ e. is_decision e.entry) file) (is_decision last.entry) (is_presumed file today) (is_complete last.entry && nat_le (last.day + days_to_presumption) today) in
+    let step = presumed_step (nat_le (first.day + days_to_presumption) today) (is_complete first.entry)
+    (list_any (λ e. is_decision e.entry) file) (is_decision last.entry) (is_presumed file today)
+    (is_complete last.entry && nat_le (last.day + days_to_presumption) today) in
     rw (list_any-append (λ (e : Entered). is_decision e.entry) file (last ∷ []), presumed-push file last today) step
 
 -- the newer grant, where there is one

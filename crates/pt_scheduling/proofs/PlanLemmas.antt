@@ -97,7 +97,8 @@ stop_trip Drop trip = refl
 abbrev pub is_of : ℕ → Stop → Bool
 is_of trip stop = stop.trip == trip
 
-among_step : (k : ℕ) (trips : List Trip) (stop : PlannedStop) (found : Option Trip) (rest : List Stop) (kept : List PlannedStop) (b : Bool) → record_at (λ trip. trip.id) stop.trip trips ≡ found → (stop.trip == k) ≡ b
+among_step : (k : ℕ) (trips : List Trip) (stop : PlannedStop) (found : Option Trip) (rest : List Stop)
+    (kept : List PlannedStop) (b : Bool) → record_at (λ trip. trip.id) stop.trip trips ≡ found → (stop.trip == k) ≡ b
     → filter (is_of k) rest ≡ stops_among trips kept → filter (is_of k) (after_stop found stop.kind rest) ≡ stops_among trips (cond b (stop ∷ kept) kept)
 among_step k trips stop None rest kept true is same ih = ih ∙ sym (ap (λ f. after_stop f stop.kind (stops_among trips kept)) is)
 among_step k trips stop None rest kept false is same ih = ih
@@ -136,7 +137,9 @@ passes : {X : Type 0} (test : X → Bool) (a : X) (xs : List X) → IsAmong a (f
 passes test a [] there = absurd there
 passes test a (x ∷ xs) there = passed test a x xs (test x) refl (passes test a xs) there
   where
-    passed : {X : Type 0} (test : X → Bool) (a x : X) (xs : List X) (b : Bool) → test x ≡ b → (IsAmong a (filter test xs) → test a ≡ true) → IsAmong a (cond b (x ∷ filter test xs) (filter test xs)) → test a ≡ true
+    passed : {X : Type 0} (test : X → Bool) (a x : X) (xs : List X) (b : Bool) → test x ≡ b
+        → (IsAmong a (filter test xs) → test a ≡ true) → IsAmong a (cond b (x ∷ filter test xs) (filter test xs))
+        → test a ≡ true
     passed test a x xs true is rest (inl same) = sym (ap test same) ∙ is
     passed test a x xs true is rest (inr there) = rest there
     passed test a x xs false is rest there = rest there
@@ -210,7 +213,8 @@ length-among trips (stop ∷ later) =
     omega (arith, fewer, one)
 
 -- where the plan has no stop of a trip, none is there
-pub among_kept_at : (trip : ℕ) (trips : List Trip) (stops : List PlannedStop) (k : ℕ) (stop : Stop) → stops_of_trip trip stops ≡ [] → slice_get (stops_among trips stops) k ≡ Some stop → stop.trip ≢ trip
+pub among_kept_at : (trip : ℕ) (trips : List Trip) (stops : List PlannedStop) (k : ℕ) (stop : Stop)
+    → stops_of_trip trip stops ≡ [] → slice_get (stops_among trips stops) k ≡ Some stop → stop.trip ≢ trip
 among_kept_at trip trips stops k stop none at same =
     let kept = among_kept (is_of trip) stop (stops_among trips stops) (ap (λ (n : ℕ). n == trip) same ∙ eq_self trip) (among_at (stops_among trips stops) k stop at) in
     let empty : filter (is_of trip) (stops_among trips stops) ≡ [] = among_of_trip trip trips stops ∙ ap (stops_among trips) none in

@@ -1,5 +1,7 @@
 -- Plans that are routes stay so: without a trip, and with the trip that is booked.
-use Rattle.std.proofs.Common.{◌≡◌, ℕ, ◌<◌, ◌≤◌, zero, suc, Bool, true, false, not, List, [], ◌∷◌, ◌++◌, length, map, take, drop, Option, Some, None, AllPairs, get_or, cond, refl, sym, ap, ◌∙◌, subst, inl, inr, arith}
+use Rattle.std.proofs.Common.{◌≡◌, ℕ, ◌<◌, ◌≤◌, zero, suc, Bool, true, false, not, List, [], ◌∷◌, ◌++◌, length, map}
+use Rattle.std.proofs.Common.{take, drop, Option, Some, None, AllPairs, get_or, cond, refl, sym, ap, ◌∙◌, subst, inl}
+use Rattle.std.proofs.Common.{inr, arith}
 use Rattle.std.specs.Prelude.{◌==◌, ◌||◌, filter, find}
 use Rattle.std.proofs.lemmas.Bool.{or_cases, or_left, or_right}
 use Rattle.std.proofs.lemmas.Bool.Decides.{nat_tests}
@@ -188,7 +190,8 @@ other_stops asked k i j xs other le =
     ∙ filter_parts (is_of k) i j xs le
 
 -- the stops of a route with one trip more are in pairs
-pairs_with : (asked : Asked) (i j : ℕ) (trips : List Trip) (stops : List PlannedStop) (k : ℕ) → i ≤ j → ((trip : ℕ) → IsPair (stops_of_trip trip stops)) → filter (is_of asked.trip) (stops_among trips stops) ≡ []
+pairs_with : (asked : Asked) (i j : ℕ) (trips : List Trip) (stops : List PlannedStop) (k : ℕ) → i ≤ j
+    → ((trip : ℕ) → IsPair (stops_of_trip trip stops)) → filter (is_of asked.trip) (stops_among trips stops) ≡ []
     → IsPair (stops_of_trip k (map planned_stop (with_trip asked i j (stops_among trips stops))))
 pairs_with asked i j trips stops k le paired none = subst IsPair (sym (map_of_trip k (with_trip asked i j (stops_among trips stops)))) (elim (same_or_other asked.trip k) [
   | inl own ↦ subst (λ xs. IsPair (map planned_stop xs))
@@ -300,7 +303,9 @@ booked_trips Q minutes day trips plans vehicles request trip plan own each (chos
     let there : Each (λ (stop : PlannedStop). Q stop.trip) (without request.trip (planned_stops vehicle.id day plans))
     = subst (λ (v : ℕ). Each (λ (stop : PlannedStop). Q stop.trip) (without request.trip (planned_stops v day plans))) number each in
     subst (λ xs. Each (λ (stop : PlannedStop). Q stop.trip) xs)
-    (sym (ap (λ (p : Plan). p.stops) plan_is ∙ ap (map planned_stop) (new.stops_with_trip ∙ ap (with_trip (asked_of trip) chosen.i chosen.j) (of_vehicle request.trip day trips plans vehicles l duty below at))))
+    (sym (ap (λ (p : Plan). p.stops) plan_is ∙ ap (map planned_stop)
+    (new.stops_with_trip ∙ ap (with_trip (asked_of trip) chosen.i chosen.j)
+    (of_vehicle request.trip day trips plans vehicles l duty below at))))
     (each_mapped Q (with_trip (asked_of trip) chosen.i chosen.j (stops_there request.trip day trips plans vehicle))
     (each_with_trip (λ (s : Stop). Q s.trip) (asked_of trip) chosen.i chosen.j (stops_there request.trip day trips plans vehicle) own own
     (each_among Q trips (without request.trip (planned_stops vehicle.id day plans)) there)))
@@ -345,7 +350,9 @@ any_here k trips trip stop rest there same =
     ∙ or_left (is_of k (trip_stop stop.kind trip)) (list_any (is_of k) rest)
     (ap (λ (n : ℕ). n == k) (stop_trip stop.kind trip ∙ found_key number_of k trip trips there) ∙ eq_self k)
 
-any_among : (k : ℕ) (trips : List Trip) (trip : Trip) (stops : List PlannedStop) → record_at number_of k trips ≡ Some trip → has_trip k stops ≡ true → list_any (is_of k) (stops_among trips stops) ≡ true
+any_among : (k : ℕ) (trips : List Trip) (trip : Trip) (stops : List PlannedStop)
+    → record_at number_of k trips ≡ Some trip → has_trip k stops ≡ true
+    → list_any (is_of k) (stops_among trips stops) ≡ true
 any_among k trips trip [] there some = absurd (cc)
 any_among k trips trip (stop ∷ later) there some = elim (or_cases (stop.trip == k) (has_trip k later) some) [
   | inl here ↦ any_here k trips trip stop (stops_among trips later) there (is_number stop.trip k here)

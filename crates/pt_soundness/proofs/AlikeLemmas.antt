@@ -130,7 +130,9 @@ vehicle_keys x y alike = ap₂ pair_key alike.id alike.from_day
 pub alike_vehicles : (callers : List Caller) (places : List Place) (xs ys : List Vehicle) → Paired AlikeVehicle xs ys → AreSoundVehicles callers places xs → AreSoundVehicles callers places ys
 alike_vehicles callers places xs ys h sound = record {
   in_order = order_paired AlikeVehicle vehicle_key vehicle_keys xs ys h sound.in_order;
-  depots_there = each_paired AlikeVehicle (HasDepot places) (HasDepot places) (λ x y alike there. subst (λ d. IsTrue (is_some (record_at (λ (p : Place). p.id) d places))) alike.depot there) xs ys h sound.depots_there;
+  depots_there = each_paired AlikeVehicle (HasDepot places) (HasDepot places)
+      (λ x y alike there. subst (λ d. IsTrue (is_some (record_at (λ (p : Place). p.id) d places))) alike.depot there)
+      xs ys h sound.depots_there;
   fleet = record {
     few = (let same = vehicle_counts xs ys h in let few = sound.fleet.few in omega arith);
     few_versions = λ id.

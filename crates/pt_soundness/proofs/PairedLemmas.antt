@@ -1,5 +1,7 @@
 -- Lists of records that are alike, one by one.
-use Rattle.std.proofs.Common.{◌≡◌, ℕ, ◌<◌, zero, suc, Bool, true, false, IsTrue, List, [], ◌∷◌, length, map, drop, get_or, cond, find, filter, Option, None, Some, is_some, refl, sym, ap, ap₂, subst, arith}
+use Rattle.std.proofs.Common.{◌≡◌, ℕ, ◌<◌, zero, suc, Bool, true, false, IsTrue, List, [], ◌∷◌, length, map, drop}
+use Rattle.std.proofs.Common.{get_or, cond, find, filter, Option, None, Some, is_some, refl, sym, ap, ap₂, subst}
+use Rattle.std.proofs.Common.{arith}
 use Rattle.std.specs.Prelude.{◌==◌, ◌||◌, Any, slice_get, slice_index_or}
 use Rattle.std.specs.List.{list_any}
 use Rattle.pt_records.specs.Records.{Each, IsInOrder, record_at}

@@ -76,7 +76,9 @@ reasons-same one other ones others e =
 pub suspension-same : (a b : List ℕ) (starts ends first last : ℕ) → IsDay starts × IsDay ends × IsReasons a → IsDay first × IsDay last × IsReasons b
     → numbers_bytes (starts ∷ ends ∷ []) ++ text_bytes a ≡ numbers_bytes (first ∷ last ∷ []) ++ text_bytes b → entry.Suspend starts ends a ≡ entry.Suspend first last b
 suspension-same a b starts ends first last ones others e =
-    let days = numbers-then (starts ∷ ends ∷ []) (first ∷ last ∷ []) (text_bytes a) (text_bytes b) refl (day-word starts ones.0, (day-word ends ones.1, tt)) (day-word first others.0, (day-word last others.1, tt)) e in
+    let days = numbers-then (starts ∷ ends ∷ []) (first ∷ last ∷ []) (text_bytes a) (text_bytes b) refl
+    (day-word starts ones.0, (day-word ends ones.1, tt))
+    (day-word first others.0, (day-word last others.1, tt)) e in
     let reasons = reasons-same a b ones.2 others.2 days.1 in
     λ i. entry.Suspend (get_or (days.0 i) 0 0) (get_or (days.0 i) 1 0) (reasons i)
 

@@ -56,29 +56,39 @@ number-then a b x y one other e =
 abbrev pub IsCode : {A : Type 0} → (A → Type 0) → (A → List ℕ) → Type 0
 IsCode {A} P bytes = (a b : A) (x y : List ℕ) → P a → P b → bytes a ++ x ≡ bytes b ++ y → (a ≡ b) × (x ≡ y)
 
-pub items-then : {A : Type 0} (P : A → Type 0) (bytes : A → List ℕ) → IsCode P bytes → (one other : List A) (x y : List ℕ) → length one ≡ length other → AllByRecursion P one → AllByRecursion P other → flat_map bytes one ++ x ≡ flat_map bytes other ++ y → (one ≡ other) × (x ≡ y)
+pub items-then : {A : Type 0} (P : A → Type 0) (bytes : A → List ℕ) → IsCode P bytes
+    → (one other : List A) (x y : List ℕ) → length one ≡ length other → AllByRecursion P one → AllByRecursion P other
+    → flat_map bytes one ++ x ≡ flat_map bytes other ++ y → (one ≡ other) × (x ≡ y)
 items-then P bytes apart [] [] x y size ones others e = (refl, e)
 items-then P bytes apart [] (b ∷ other) x y size ones others e = absurd (omega arith)
 items-then P bytes apart (a ∷ one) [] x y size ones others e = absurd (omega arith)
 items-then {A} P bytes apart (a ∷ one) (b ∷ other) x y size ones others e =
-    let grouped : bytes a ++ (flat_map bytes one ++ x) ≡ bytes b ++ (flat_map bytes other ++ y) = sym (append_assoc (bytes a) (flat_map bytes one) x) ∙ e ∙ append_assoc (bytes b) (flat_map bytes other) y in
+    let grouped : bytes a ++ (flat_map bytes one ++ x) ≡ bytes b ++ (flat_map bytes other ++ y) = sym
+    (append_assoc (bytes a) (flat_map bytes one) x) ∙ e ∙ append_assoc (bytes b) (flat_map bytes other) y in
     let first = apart a b (flat_map bytes one ++ x) (flat_map bytes other ++ y) ones.0 others.0 grouped in
     let rest = items-then P bytes apart one other x y (omega arith) ones.1 others.1 first.1 in
     (ap (λ (h : A). h ∷ one) first.0 ∙ ap (λ (t : List A). b ∷ t) rest.0, rest.1)
 
-pub numbers-then : (one other : List ℕ) (x y : List ℕ) → length one ≡ length other → AllByRecursion IsWord one → AllByRecursion IsWord other → numbers_bytes one ++ x ≡ numbers_bytes other ++ y → (one ≡ other) × (x ≡ y)
+pub numbers-then : (one other : List ℕ) (x y : List ℕ) → length one ≡ length other → AllByRecursion IsWord one
+    → AllByRecursion IsWord other → numbers_bytes one ++ x ≡ numbers_bytes other ++ y → (one ≡ other) × (x ≡ y)
 numbers-then = items-then IsWord number_bytes number-then
 
 pub numbers-same : (one other : List ℕ) → length one ≡ length other → AllByRecursion IsWord one → AllByRecursion IsWord other → numbers_bytes one ≡ numbers_bytes other → one ≡ other
 numbers-same one other size ones others e = (numbers-then one other [] [] size ones others (ap (λ (t : List ℕ). t ++ []) e)).0
 
-pub list-then : {A : Type 0} (P : A → Type 0) (bytes : A → List ℕ) → IsCode P bytes → (one other : List A) (x y : List ℕ) → IsWord (length one) → IsWord (length other) → All P one → All P other → list_bytes bytes one ++ x ≡ list_bytes bytes other ++ y → (one ≡ other) × (x ≡ y)
+pub list-then : {A : Type 0} (P : A → Type 0) (bytes : A → List ℕ) → IsCode P bytes
+    → (one other : List A) (x y : List ℕ) → IsWord (length one) → IsWord (length other) → All P one → All P other
+    → list_bytes bytes one ++ x ≡ list_bytes bytes other ++ y → (one ≡ other) × (x ≡ y)
 list-then P bytes apart one other x y few others_few ones others e =
-    let grouped : number_bytes (length one) ++ (flat_map bytes one ++ x) ≡ number_bytes (length other) ++ (flat_map bytes other ++ y) = sym (append_assoc (number_bytes (length one)) (flat_map bytes one) x) ∙ e ∙ append_assoc (number_bytes (length other)) (flat_map bytes other) y in
+    let grouped : number_bytes (length one) ++ (flat_map bytes one ++ x) ≡ number_bytes (length other) ++
+    (flat_map bytes other ++ y) = sym (append_assoc (number_bytes (length one)) (flat_map bytes one) x) ∙ e
+    ∙ append_assoc (number_bytes (length other)) (flat_map bytes other) y in
     let count = number-then (length one) (length other) (flat_map bytes one ++ x) (flat_map bytes other ++ y) few others_few grouped in
     items-then P bytes apart one other x y count.0 (recursion_from_All P one ones) (recursion_from_All P other others) count.1
 
-pub list-same : {A : Type 0} (P : A → Type 0) (bytes : A → List ℕ) → IsCode P bytes → (one other : List A) → IsWord (length one) → IsWord (length other) → All P one → All P other → list_bytes bytes one ≡ list_bytes bytes other → one ≡ other
+pub list-same : {A : Type 0} (P : A → Type 0) (bytes : A → List ℕ) → IsCode P bytes → (one other : List A)
+    → IsWord (length one) → IsWord (length other) → All P one → All P other
+    → list_bytes bytes one ≡ list_bytes bytes other → one ≡ other
 list-same P bytes apart one other few others_few ones others e =
     (list-then P bytes apart one other [] [] few others_few ones others (ap (λ (t : List ℕ). t ++ []) e)).0
 
@@ -86,7 +96,9 @@ list-same P bytes apart one other few others_few ones others e =
 
 pub text-then : (one other x y : List ℕ) → IsWord (length one) → IsWord (length other) → text_bytes one ++ x ≡ text_bytes other ++ y → (one ≡ other) × (x ≡ y)
 text-then one other x y short others_short e =
-    let grouped : number_bytes (length one) ++ (one ++ x) ≡ number_bytes (length other) ++ (other ++ y) = sym (append_assoc (number_bytes (length one)) one x) ∙ e ∙ append_assoc (number_bytes (length other)) other y in
+    let grouped : number_bytes (length one) ++ (one ++ x) ≡ number_bytes (length other) ++ (other ++ y) = sym
+    (append_assoc (number_bytes (length one)) one x) ∙ e
+    ∙ append_assoc (number_bytes (length other)) other y in
     let size = number-then (length one) (length other) (one ++ x) (other ++ y) short others_short grouped in
     parts-then (length other) one other x y size.0 refl size.1
 
@@ -147,7 +159,9 @@ pub days-same : (one other : List Bool) → IsWeek one → IsWeek other → days
 days-same one other ones others e =
     bits-same one other (ones ∙ sym others) (sym (days-bits one ones) ∙ e ∙ days-bits other others)
 
-pub optional-then : (one other : Option ℕ) (x y : List ℕ) → IfSome one (λ n. n ≤ last_minute) → IfSome other (λ n. n ≤ last_minute) → optional_bytes one ++ x ≡ optional_bytes other ++ y → (one ≡ other) × (x ≡ y)
+pub optional-then : (one other : Option ℕ) (x y : List ℕ) → IfSome one (λ n. n ≤ last_minute)
+    → IfSome other (λ n. n ≤ last_minute) → optional_bytes one ++ x ≡ optional_bytes other ++ y → (one ≡ other)
+    × (x ≡ y)
 optional-then None None x y ones others e = (refl, ap (drop 1) e)
 optional-then None (Some b) x y ones others e = absurd (omega (arith, ap (λ (bytes : List ℕ). get_or bytes 0 0) e))
 optional-then (Some a) None x y ones others e = absurd (omega (arith, ap (λ (bytes : List ℕ). get_or bytes 0 0) e))

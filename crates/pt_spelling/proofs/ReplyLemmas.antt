@@ -29,7 +29,9 @@ pub six_numbers : (bytes : List ℕ) (a b c d e f : ℕ) → length bytes ≡ 24
     → number_bytes d ≡ take 4 (drop 12 bytes) → number_bytes e ≡ take 4 (drop 16 bytes) → number_bytes f ≡ take 4 (drop 20 bytes)
     → bytes ≡ numbers_bytes (a ∷ b ∷ c ∷ d ∷ e ∷ f ∷ [])
 six_numbers bytes a b c d e f size is_a is_b is_c is_d is_e is_f =
-    piece bytes _ 0 4 a is_a refl (piece bytes _ 4 8 b is_b refl (piece bytes _ 8 12 c is_c refl (piece bytes _ 12 16 d is_d refl (piece bytes _ 16 20 e is_e refl (piece bytes [] 20 24 f is_f refl (drop_all 24 bytes (omega arith)))))))
+    piece bytes _ 0 4 a is_a refl (piece bytes _ 4 8 b is_b refl
+    (piece bytes _ 8 12 c is_c refl (piece bytes _ 12 16 d is_d refl
+    (piece bytes _ 16 20 e is_e refl (piece bytes [] 20 24 f is_f refl (drop_all 24 bytes (omega arith)))))))
 
 -- ---- the reply to a booking
 
@@ -49,7 +51,8 @@ told-same a b same = λ i. record {
   due_in_range = is_prop→PathP (λ j. get_or (same j) 5 0 ≤ 200_000) (λ j. at_most-prop _ _) a.due_in_range b.due_in_range i;
 }
 
-pub told-is : (numbers : List ℕ) (told : Confirmation) (trip vehicle from to : ℕ) → numbers_told told ≡ numbers → trip ≡ get_or numbers 0 0 → vehicle ≡ get_or numbers 1 0 → from ≡ get_or numbers 2 0 → to ≡ get_or numbers 3 0
+pub told-is : (numbers : List ℕ) (told : Confirmation) (trip vehicle from to : ℕ) → numbers_told told ≡ numbers
+    → trip ≡ get_or numbers 0 0 → vehicle ≡ get_or numbers 1 0 → from ≡ get_or numbers 2 0 → to ≡ get_or numbers 3 0
     → (trip ∷ vehicle ∷ from ∷ to ∷ get_or numbers 4 0 ∷ get_or numbers 5 0 ∷ []) ≡ numbers_told told
 told-is numbers told trip vehicle from to same is_trip is_vehicle is_from is_to =
     let a : told.trip ≡ get_or numbers 0 0 = ap (λ (t : List ℕ). get_or t 0 0) same in
@@ -71,7 +74,9 @@ told-words told fits =
     (trip, (vehicle, (omega arith, (omega arith, (omega arith, (omega arith, tt))))))
 
 -- the numbers that were read are the numbers of whatever has these bytes
-pub numbers-read : (bytes numbers : List ℕ) (told : Confirmation) → AllByRecursion IsWord numbers → bytes ≡ numbers_bytes numbers → IsTold told → bytes ≡ numbers_bytes (numbers_told told) → numbers_told told ≡ numbers
+pub numbers-read : (bytes numbers : List ℕ) (told : Confirmation) → AllByRecursion IsWord numbers
+    → bytes ≡ numbers_bytes numbers → IsTold told → bytes ≡ numbers_bytes (numbers_told told)
+    → numbers_told told ≡ numbers
 numbers-read bytes numbers told fits read is_told spelled =
     let size = length-numbers numbers in
     let others_size = length-numbers (numbers_told told) in
@@ -81,7 +86,8 @@ numbers-read bytes numbers told fits read is_told spelled =
 
 -- ---- replies
 
-pub entered-only : (bytes fields : List ℕ) (n : ℕ) (reply : KeptReply) → bytes ≡ 1 ∷ fields → length fields ≡ 4 → number_bytes n ≡ take 4 (drop 0 fields) → IsWord n → SpellsReply bytes reply → Entered n ≡ reply
+pub entered-only : (bytes fields : List ℕ) (n : ℕ) (reply : KeptReply) → bytes ≡ 1 ∷ fields → length fields ≡ 4
+    → number_bytes n ≡ take 4 (drop 0 fields) → IsWord n → SpellsReply bytes reply → Entered n ≡ reply
 entered-only bytes fields n Done whole size number word spelled = absurd (omega (arith, ap (λ (t : List ℕ). get_or t 0 0) (sym whole ∙ spelled.1)))
 entered-only bytes fields n (Entered m) whole size number word spelled =
     let rest : fields ≡ number_bytes m = ap (drop 1) (sym whole ∙ spelled.1) in

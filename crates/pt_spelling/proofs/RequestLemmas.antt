@@ -42,7 +42,9 @@ wheelchair-same true false e = absurd (let lengths = ap (length {A = ℕ}) e in 
 
 pub rider-same : (one other : Rider) → IsId one.id → IsId other.id → rider_bytes one ≡ rider_bytes other → one ≡ other
 rider-same one other ones others e =
-    let parts : (r : Rider) → rider_bytes r ≡ number_bytes r.id ++ (kind_number r.kind ∷ (truth_bytes r.attendant ++ wheelchair_bytes r.wheelchair)) = λ r. four_parts (number_bytes r.id) (kind_number r.kind ∷ []) (truth_bytes r.attendant) (wheelchair_bytes r.wheelchair) in
+    let parts : (r : Rider) → rider_bytes r ≡ number_bytes r.id ++
+    (kind_number r.kind ∷ (truth_bytes r.attendant ++ wheelchair_bytes r.wheelchair)) = λ r. four_parts
+    (number_bytes r.id) (kind_number r.kind ∷ []) (truth_bytes r.attendant) (wheelchair_bytes r.wheelchair) in
     let grouped = sym (parts one) ∙ e ∙ parts other in
     let id = number-then one.id other.id _ _ ones.1 others.1 grouped in
     let kind = byte-then (kind_number one.kind) (kind_number other.kind) _ _ id.1 in
@@ -54,15 +56,36 @@ rider-same one other ones others e =
 pub wish-same : (one other : Wish) → IsWish one → IsWish other → wish_bytes one ≡ wish_bytes other → one ≡ other
 wish-same one other ones others e =
     let ends : Wish → List ℕ = λ w. w.day ∷ w.pickup ∷ w.from ∷ w.to ∷ [] in
-    let parts : (w : Wish) → wish_bytes w ≡ numbers_bytes (ends w) ++ (optional_bytes w.by ++ (truth_bytes w.attendant ++ number_bytes w.companions)) = λ w. four_parts (numbers_bytes (ends w)) (optional_bytes w.by) (truth_bytes w.attendant) (number_bytes w.companions) in
-    let grouped : numbers_bytes (ends one) ++ (optional_bytes one.by ++ (truth_bytes one.attendant ++ number_bytes one.companions)) ≡ numbers_bytes (ends other) ++ (optional_bytes other.by ++ (truth_bytes other.attendant ++ number_bytes other.companions)) = sym (parts one) ∙ e ∙ parts other in
-    let front = numbers-then (ends one) (ends other) _ _ refl (day-word one.day ones.day, (minute-word one.pickup ones.pickup, (ones.from.1, (ones.to.1, tt)))) (day-word other.day others.day, (minute-word other.pickup others.pickup, (others.from.1, (others.to.1, tt)))) grouped in
+    let parts : (w : Wish) → wish_bytes w ≡ numbers_bytes (ends w) ++
+    (optional_bytes w.by ++ (truth_bytes w.attendant ++ number_bytes w.companions)) = λ w. four_parts
+    (numbers_bytes (ends w)) (optional_bytes w.by) (truth_bytes w.attendant) (number_bytes w.companions) in
+    let grouped : numbers_bytes (ends one) ++ (optional_bytes one.by ++
+    (truth_bytes one.attendant ++ number_bytes one.companions)) ≡ numbers_bytes (ends other) ++
+    (optional_bytes other.by ++ (truth_bytes other.attendant ++ number_bytes other.companions)) = sym
+    (parts one) ∙ e ∙ parts other in
+    let front = numbers-then (ends one) (ends other) _ _ refl
+    (day-word one.day ones.day, (minute-word one.pickup ones.pickup, (ones.from.1, (ones.to.1, tt)))) (
+      day-word other.day others.day,
+      (
+        minute-word other.pickup others.pickup,
+        (others.from.1, (others.to.1, tt)),
+      ),
+    ) grouped in
     let by = optional-then one.by other.by _ _ ones.by others.by front.1 in
     let attendant = truth-then one.attendant other.attendant _ _ by.1 in
     let few = ones.companions in
     let others_few = others.companions in
     let companions = number-same one.companions other.companions (omega arith) (omega arith) attendant.1 in
-    λ i. record { day = get_or (front.0 i) 0 0; pickup = get_or (front.0 i) 1 0; from = get_or (front.0 i) 2 0; to = get_or (front.0 i) 3 0; by = by.0 i; attendant = attendant.0 i; companions = companions i }
+    λ i. record {
+      day = get_or (front.0 i) 0 0;
+      pickup = get_or (front.0 i) 1 0;
+      from = get_or (front.0 i) 2 0;
+      to =
+          get_or (front.0 i) 3 0;
+      by = by.0 i;
+      attendant = attendant.0 i;
+      companions = companions i;
+    }
 
 pub outcome-same : (one other : Outcome) → outcome_number one ≡ outcome_number other → one ≡ other
 outcome-same outcome.Ridden outcome.Ridden e = refl
@@ -83,25 +106,32 @@ table-same one other ones others e =
 
 -- ---- requests
 
-pub entered-same : (rider id : ℕ) (one other : Entry) → IsId rider × IsEntry one → IsId id × IsEntry other → number_bytes rider ++ entry_bytes one ≡ number_bytes id ++ entry_bytes other → write.Enter rider one ≡ write.Enter id other
+pub entered-same : (rider id : ℕ) (one other : Entry) → IsId rider × IsEntry one → IsId id × IsEntry other
+    → number_bytes rider ++ entry_bytes one ≡ number_bytes id ++ entry_bytes other
+    → write.Enter rider one ≡ write.Enter id other
 entered-same rider id one other ones others e =
     let number = number-then rider id (entry_bytes one) (entry_bytes other) ones.0.1 others.0.1 e in
     let same = entry-same one other ones.1 others.1 number.1 in
     λ i. write.Enter (number.0 i) (same i)
 
-pub wished-same : (make : ℕ → Wish → Write) (a b : ℕ) (one other : Wish) → IsId a × IsWish one → IsId b × IsWish other → number_bytes a ++ wish_bytes one ≡ number_bytes b ++ wish_bytes other → make a one ≡ make b other
+pub wished-same : (make : ℕ → Wish → Write) (a b : ℕ) (one other : Wish) → IsId a × IsWish one → IsId b × IsWish other
+    → number_bytes a ++ wish_bytes one ≡ number_bytes b ++ wish_bytes other → make a one ≡ make b other
 wished-same make a b one other ones others e =
     let number = number-then a b (wish_bytes one) (wish_bytes other) ones.0.1 others.0.1 e in
     let same = wish-same one other ones.1 others.1 number.1 in
     λ i. make (number.0 i) (same i)
 
-pub ended-same : (a b : ℕ) (one other : Outcome) → IsId a → IsId b → number_bytes a ++ outcome_number one ∷ [] ≡ number_bytes b ++ outcome_number other ∷ [] → write.Outcome a one ≡ write.Outcome b other
+pub ended-same : (a b : ℕ) (one other : Outcome) → IsId a → IsId b
+    → number_bytes a ++ outcome_number one ∷ [] ≡ number_bytes b ++ outcome_number other ∷ []
+    → write.Outcome a one ≡ write.Outcome b other
 ended-same a b one other ones others e =
     let number = number-then a b (outcome_number one ∷ []) (outcome_number other ∷ []) ones.1 others.1 e in
     let same = outcome-same one other (byte-then (outcome_number one) (outcome_number other) [] [] number.1).0 in
     λ i. write.Outcome (number.0 i) (same i)
 
-pub travel-same : (a b : ℕ) (one other : List Row) → IsDay a × IsTable one × All IsRow one → IsDay b × IsTable other × All IsRow other → number_bytes a ++ list_bytes row_bytes one ≡ number_bytes b ++ list_bytes row_bytes other → write.Travel a one ≡ write.Travel b other
+pub travel-same : (a b : ℕ) (one other : List Row) → IsDay a × IsTable one × All IsRow one → IsDay b × IsTable other
+    × All IsRow other → number_bytes a ++ list_bytes row_bytes one ≡ number_bytes b ++ list_bytes row_bytes other
+    → write.Travel a one ≡ write.Travel b other
 travel-same a b one other ones others e =
     let day = number-then a b (list_bytes row_bytes one) (list_bytes row_bytes other) (day-word a ones.0) (day-word b others.0) e in
     let rows = table-same one other (ones.1, ones.2) (others.1, others.2) day.1 in

@@ -19,7 +19,9 @@ use Rattle.pt_spelling.specs.Fields.{number_bytes, numbers_bytes, truth_bytes, d
 use Rattle.pt_spelling.specs.Ranges.{IsWord, IsRole, IsCaller, IsRoute, IsVehicle, IsRow}
 use Rattle.pt_spelling.specs.Replies.{IsId}
 use Rattle.pt_spelling.specs.Requests.{role_number, subject_of, caller_bytes, policy_bytes, point_bytes, place_bytes, route_bytes, chairs_bytes, vehicle_bytes, row_bytes}
-use Rattle.pt_spelling.proofs.FieldLemmas.{four_parts, five_parts, day-word, minute-word, byte-then, length-number, number-same, number-then, numbers-then, numbers-same, list-then, signed-then, truth-then, days-same}
+use Rattle.pt_spelling.proofs.FieldLemmas.{four_parts, five_parts, day-word, minute-word, byte-then, length-number}
+use Rattle.pt_spelling.proofs.FieldLemmas.{number-same, number-then, numbers-then, numbers-same, list-then}
+use Rattle.pt_spelling.proofs.FieldLemmas.{signed-then, truth-then, days-same}
 
 pub at_most-prop : (most n : ℕ) → IsProp (n ≤ most)
 at_most-prop most n = hlevel props
@@ -53,7 +55,9 @@ subject-word Admin fits = omega arith
 
 pub caller-same : (one other : Caller) → IsCaller one → IsCaller other → caller_bytes one ≡ caller_bytes other → one ≡ other
 caller-same one other ones others e =
-    let grouped : number_bytes one.id ++ (role_number one.role ∷ (number_bytes (subject_of one.role) ++ one.digest)) ≡ number_bytes other.id ++ (role_number other.role ∷ (number_bytes (subject_of other.role) ++ other.digest)) = simp append_assoc at e in
+    let grouped : number_bytes one.id ++ (role_number one.role ∷ (number_bytes (subject_of one.role) ++ one.digest)) ≡
+    number_bytes other.id ++ (role_number other.role ∷ (number_bytes (subject_of other.role) ++ other.digest))
+    = simp append_assoc at e in
     let id = number-then one.id other.id _ _ ones.id.1 others.id.1 grouped in
     let kind = byte-then (role_number one.role) (role_number other.role) _ _ id.1 in
     let subject = number-then (subject_of one.role) (subject_of other.role) _ _ (subject-word one.role ones.role) (subject-word other.role others.role) kind.1 in
@@ -91,12 +95,25 @@ pub most-word : (most n : ℕ) → n ≤ most → most < 1_000_000 → IsWord n
 most-word most n low high = omega arith
 
 -- a policy's numbers are in their ranges
-pub policy-words : (policy : Policy) → IsWord policy.base × IsWord policy.transfer × IsWord policy.fare × IsWord policy.service × IsWord policy.extra_ride × IsWord policy.min_missed × IsWord policy.percent × IsWord policy.span_days
+pub policy-words : (policy : Policy) → IsWord policy.base × IsWord policy.transfer × IsWord policy.fare
+    × IsWord policy.service × IsWord policy.extra_ride × IsWord policy.min_missed × IsWord policy.percent
+    × IsWord policy.span_days
 policy-words policy =
     let missed = policy.min_missed_in_range.1 in
     let percent = policy.percent_in_range.1 in
-    let span = policy.span_days_in_range.1 in
-    (most-word 100_000 _ policy.base_in_range (omega arith), most-word 100_000 _ policy.transfer_in_range (omega arith), most-word 100_000 _ policy.fare_in_range (omega arith), most-word 30 _ policy.service_in_range (omega arith), most-word 240 _ policy.extra_ride_in_range (omega arith), most-word 1_000 _ missed (omega arith), most-word 100 _ percent (omega arith), most-word 366 _ span (omega arith))
+    let span = policy.span_days_in_range.1 in (
+      most-word 100_000 _ policy.base_in_range (omega arith),
+      most-word 100_000 _ policy.transfer_in_range
+          (omega arith),
+      most-word 100_000 _ policy.fare_in_range (omega arith),
+      most-word 30 _ policy.service_in_range
+          (omega arith),
+      most-word 240 _ policy.extra_ride_in_range (omega arith),
+      most-word 1_000 _ missed
+          (omega arith),
+      most-word 100 _ percent (omega arith),
+      most-word 366 _ span (omega arith),
+    )
 
 pub policy-same : (one other : Policy) → policy_bytes one ≡ policy_bytes other → one ≡ other
 unfolding settled
@@ -125,7 +142,10 @@ place-from a b id point core = λ i. record {
 
 pub place-same : (one other : Place) → IsId one.id → IsId other.id → place_bytes one ≡ place_bytes other → one ≡ other
 place-same one other ones others e =
-    let grouped : number_bytes one.id ++ (point_bytes one.at ++ truth_bytes one.core) ≡ number_bytes other.id ++ (point_bytes other.at ++ truth_bytes other.core) = sym (append_assoc (number_bytes one.id) (point_bytes one.at) (truth_bytes one.core)) ∙ e ∙ append_assoc (number_bytes other.id) (point_bytes other.at) (truth_bytes other.core) in
+    let grouped : number_bytes one.id ++ (point_bytes one.at ++ truth_bytes one.core) ≡ number_bytes other.id ++
+    (point_bytes other.at ++ truth_bytes other.core) = sym
+    (append_assoc (number_bytes one.id) (point_bytes one.at) (truth_bytes one.core)) ∙ e
+    ∙ append_assoc (number_bytes other.id) (point_bytes other.at) (truth_bytes other.core) in
     let id = number-then one.id other.id _ _ ones.1 others.1 grouped in
     let point = point-then one.at other.at (truth_bytes one.core) (truth_bytes other.core) one.on_plane other.on_plane id.1 in
     let core = truth-then one.core other.core [] [] (ap (λ (t : List ℕ). t ++ []) point.1) in
@@ -138,15 +158,39 @@ route-same one other ones others e =
     let front : Route → List ℕ = λ r. numbers_bytes (r.id ∷ r.width ∷ []) in
     let line : Route → List ℕ = λ r. list_bytes point_bytes r.points in
     let hours : Route → List ℕ = λ r. numbers_bytes (r.first ∷ r.last ∷ []) in
-    let parts : (r : Route) → route_bytes r ≡ front r ++ (line r ++ (truth_bytes r.accessible ++ (days_byte r.days ∷ hours r))) = λ r. five_parts (front r) (line r) (truth_bytes r.accessible) (days_byte r.days ∷ []) (hours r) in
-    let grouped : front one ++ (line one ++ (truth_bytes one.accessible ++ (days_byte one.days ∷ hours one))) ≡ front other ++ (line other ++ (truth_bytes other.accessible ++ (days_byte other.days ∷ hours other))) = sym (parts one) ∙ e ∙ parts other in
-    let ends = numbers-then (one.id ∷ one.width ∷ []) (other.id ∷ other.width ∷ []) _ _ refl (ones.id.1, (let most = ones.fixed.width.1 in omega arith, tt)) (others.id.1, (let most = others.fixed.width.1 in omega arith, tt)) grouped in
-    let points = list-then (λ (p : Point). IsOnPlane p.x p.y) point_bytes point-then one.points other.points _ _ (let most = ones.fixed.points.1 in omega arith) (let most = others.fixed.points.1 in omega arith) ones.fixed.on_plane others.fixed.on_plane ends.1 in
+    let parts : (r : Route) → route_bytes r ≡ front r ++
+    (line r ++ (truth_bytes r.accessible ++ (days_byte r.days ∷ hours r))) = λ r. five_parts (front r)
+    (line r) (truth_bytes r.accessible) (days_byte r.days ∷ []) (hours r) in
+    let grouped : front one ++ (line one ++ (truth_bytes one.accessible ++ (days_byte one.days ∷ hours one))) ≡ front
+    other ++ (line other ++ (truth_bytes other.accessible ++ (days_byte other.days ∷ hours other))) = sym
+    (parts one) ∙ e ∙ parts other in
+    let ends = numbers-then (one.id ∷ one.width ∷ []) (other.id ∷ other.width ∷ []) _ _ refl
+    (ones.id.1, (let most = ones.fixed.width.1 in omega arith, tt))
+    (others.id.1, (let most = others.fixed.width.1 in omega arith, tt)) grouped in
+    let points = list-then (λ (p : Point). IsOnPlane p.x p.y) point_bytes point-then one.points other.points _ _
+    (let most = ones.fixed.points.1 in omega arith) (let most = others.fixed.points.1 in omega arith)
+    ones.fixed.on_plane others.fixed.on_plane ends.1 in
     let accessible = truth-then one.accessible other.accessible _ _ points.1 in
     let days = byte-then (days_byte one.days) (days_byte other.days) _ _ accessible.1 in
-    let minutes = numbers-same (one.first ∷ one.last ∷ []) (other.first ∷ other.last ∷ []) refl (let order = ones.fixed.hours in let last = ones.last in omega arith, (minute-word one.last ones.last, tt)) (let order = others.fixed.hours in let last = others.last in omega arith, (minute-word other.last others.last, tt)) days.1 in
+    let minutes = numbers-same (one.first ∷ one.last ∷ []) (other.first ∷ other.last ∷ []) refl (
+      let order = ones.fixed.hours in let last = ones.last in omega arith,
+      (minute-word one.last ones.last, tt),
+    ) (
+      let order = others.fixed.hours in let last = others.last in omega
+          arith,
+      (minute-word other.last others.last, tt),
+    ) days.1 in
     let week = days-same one.days other.days ones.days others.days days.0 in
-    λ i. record { id = get_or (ends.0 i) 0 0; width = get_or (ends.0 i) 1 0; points = points.0 i; accessible = accessible.0 i; days = week i; first = get_or (minutes i) 0 0; last = get_or (minutes i) 1 0 }
+    λ i. record {
+      id = get_or (ends.0 i) 0 0;
+      width = get_or (ends.0 i) 1 0;
+      points = points.0 i;
+      accessible =
+          accessible.0 i;
+      days = week i;
+      first = get_or (minutes i) 0 0;
+      last = get_or (minutes i) 1 0;
+    }
 
 -- ---- vehicles
 
@@ -197,9 +241,14 @@ chairs-same (suc one) zero ones others e =
 pub vehicle-same : (one other : Vehicle) → IsVehicle one → IsVehicle other → vehicle_bytes one ≡ vehicle_bytes other → one ≡ other
 vehicle-same one other ones others e =
     let duty : Vehicle → List ℕ = λ v. v.depot ∷ v.capacity ∷ v.opens ∷ v.closes ∷ v.duration ∷ [] in
-    let parts : (v : Vehicle) → vehicle_bytes v ≡ numbers_bytes (v.id ∷ v.from_day ∷ []) ++ (days_byte v.days ∷ (numbers_bytes (duty v) ++ chairs_bytes v.chairs)) = λ v. four_parts (numbers_bytes (v.id ∷ v.from_day ∷ [])) (days_byte v.days ∷ []) (numbers_bytes (duty v)) (chairs_bytes v.chairs) in
+    let parts : (v : Vehicle) → vehicle_bytes v ≡ numbers_bytes (v.id ∷ v.from_day ∷ []) ++
+    (days_byte v.days ∷ (numbers_bytes (duty v) ++ chairs_bytes v.chairs)) = λ v. four_parts
+    (numbers_bytes (v.id ∷ v.from_day ∷ [])) (days_byte v.days ∷ []) (numbers_bytes (duty v))
+    (chairs_bytes v.chairs) in
     let grouped = sym (parts one) ∙ e ∙ parts other in
-    let front = numbers-then (one.id ∷ one.from_day ∷ []) (other.id ∷ other.from_day ∷ []) _ _ refl (ones.id.1, (day-word one.from_day ones.from_day, tt)) (others.id.1, (day-word other.from_day others.from_day, tt)) grouped in
+    let front = numbers-then (one.id ∷ one.from_day ∷ []) (other.id ∷ other.from_day ∷ []) _ _ refl
+    (ones.id.1, (day-word one.from_day ones.from_day, tt))
+    (others.id.1, (day-word other.from_day others.from_day, tt)) grouped in
     let days = byte-then (days_byte one.days) (days_byte other.days) _ _ front.1 in
     let a = duty-words one ones in
     let b = duty-words other others in
@@ -213,5 +262,6 @@ pub row-then : (one other : Row) (x y : List ℕ) → IsRow one × (one.2 ≤ 14
 row-then one other x y ones others e =
     let most = ones.1 in
     let others_most = others.1 in
-    let parts = numbers-then (one.0 ∷ one.1 ∷ one.2 ∷ []) (other.0 ∷ other.1 ∷ other.2 ∷ []) x y refl (ones.0.0.1, (ones.0.1.1, (omega arith, tt))) (others.0.0.1, (others.0.1.1, (omega arith, tt))) e in
+    let parts = numbers-then (one.0 ∷ one.1 ∷ one.2 ∷ []) (other.0 ∷ other.1 ∷ other.2 ∷ []) x y refl
+    (ones.0.0.1, (ones.0.1.1, (omega arith, tt))) (others.0.0.1, (others.0.1.1, (omega arith, tt))) e in
     (λ i. (get_or (parts.0 i) 0 0, get_or (parts.0 i) 1 0, get_or (parts.0 i) 2 0), parts.1)

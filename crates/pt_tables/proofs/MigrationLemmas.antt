@@ -19,7 +19,10 @@ use Rattle.pt_records.specs.Records.{Each}
 use Rattle.pt_tables.specs.Migration.{IsMigrated, IsMigratedDesk, IsRaised}
 use Rattle.pt_tables_opening.specs.Opening.{IsFirstVersion}
 use Rattle.pt_tables_rows.specs.Rows.{desk_row, first_version, versioned_row, number_value, row_if, rider_chair_rows, vehicle_chair_rows, trip_chair_rows}
-use Rattle.pt_tables_rows.specs.Schema.{desk_schema, first_schema, desk_table, callers_table, kept_table, places_table, fixed_table, vehicles_table, riders_table, entries_table, trips_table, stops_table, travel_table, rider_chairs_table, vehicle_chairs_table, trip_chairs_table}
+use Rattle.pt_tables_rows.specs.Schema.{desk_schema, first_schema, desk_table, callers_table, kept_table}
+use Rattle.pt_tables_rows.specs.Schema.{places_table, fixed_table, vehicles_table, riders_table, entries_table}
+use Rattle.pt_tables_rows.specs.Schema.{trips_table, stops_table, travel_table, rider_chairs_table}
+use Rattle.pt_tables_rows.specs.Schema.{vehicle_chairs_table, trip_chairs_table}
 use Rattle.pt_tables_rows.proofs.CreateLemmas.{none_there}
 use Rattle.pt_tables_rows.specs.Tables.{AddsChairs, AreRows, HasFirstRows, HasRows, columns_of}
 use Rattle.pt_tables_writing.specs.Writes.{Rewrites, RaisesVersion}
@@ -65,9 +68,15 @@ module _ (old mid new : Database) (adds : AddsChairs old mid) (raises : RaisesVe
       stops = still stops_table old.trees new.trees _ (raised.others.1.1.1.1.1.1.1.1.1.0 (λ e. cc) ∙ adds.kept.1.1.1.1.1.1.1.1.1.0) was.records.stops;
       travel = still travel_table old.trees new.trees _ (raised.others.1.1.1.1.1.1.1.1.1.1.0 (λ e. cc) ∙ adds.kept.1.1.1.1.1.1.1.1.1.1.0) was.records.travel;
     };
-    rider_chairs = none_there rider_chairs_table new.trees (flat_map rider_chair_rows content.riders) (raised.others.1.1.1.1.1.1.1.1.1.1.1.0 (λ e. cc) ∙ adds.rider_chairs) (no_riders content.riders was.no_chairs.riders);
-    vehicle_chairs = none_there vehicle_chairs_table new.trees (flat_map vehicle_chair_rows content.vehicles) (raised.others.1.1.1.1.1.1.1.1.1.1.1.1.0 (λ e. cc) ∙ adds.vehicle_chairs) (no_vehicles content.vehicles was.no_chairs.vehicles);
-    trip_chairs = none_there trip_chairs_table new.trees (flat_map trip_chair_rows content.trips) (raised.others.1.1.1.1.1.1.1.1.1.1.1.1.1.0 (λ e. cc) ∙ adds.trip_chairs) (no_trips content.trips was.no_chairs.trips);
+    rider_chairs = none_there rider_chairs_table new.trees (flat_map rider_chair_rows content.riders)
+        (raised.others.1.1.1.1.1.1.1.1.1.1.1.0 (λ e. cc) ∙ adds.rider_chairs)
+        (no_riders content.riders was.no_chairs.riders);
+    vehicle_chairs = none_there vehicle_chairs_table new.trees (flat_map vehicle_chair_rows content.vehicles)
+        (raised.others.1.1.1.1.1.1.1.1.1.1.1.1.0 (λ e. cc) ∙ adds.vehicle_chairs)
+        (no_vehicles content.vehicles was.no_chairs.vehicles);
+    trip_chairs = none_there trip_chairs_table new.trees (flat_map trip_chair_rows content.trips)
+        (raised.others.1.1.1.1.1.1.1.1.1.1.1.1.1.0 (λ e. cc) ∙ adds.trip_chairs)
+        (no_trips content.trips was.no_chairs.trips);
   }
 
 module _ {S : Type 0} (g : Ghosts S) (old begun one two : Held S) (is : begun ≡ record old { in_transaction = true })

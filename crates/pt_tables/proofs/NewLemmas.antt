@@ -21,7 +21,24 @@ use Rattle.pt_tables_rows.proofs.CreateLemmas.{stands_new}
 -- ---- the least state is new
 
 same_row : (p q : Policy) → IsLeastPolicy p → IsLeastPolicy q → desk_row p 0 ≡ desk_row q 0
-same_row p q a b = rw (a.base, a.transfer, a.fare, a.service, a.extra_ride, a.min_missed, a.percent, a.span_days, b.base, b.transfer, b.fare, b.service, b.extra_ride, b.min_missed, b.percent, b.span_days) refl
+same_row p q a b = rw (
+  a.base,
+  a.transfer,
+  a.fare,
+  a.service,
+  a.extra_ride,
+  a.min_missed,
+  a.percent,
+  a.span_days,
+  b.base,
+  b.transfer,
+  b.fare,
+  b.service,
+  b.extra_ride,
+  b.min_missed,
+  b.percent,
+  b.span_days,
+) refl
 
 pub least_is_new : (key : List ℕ) (s content : State) → IsLeastState key s → IsLeastState key content → IsNew s.policy (sha256 key) content
 least_is_new key s content least is = record {
@@ -102,7 +119,9 @@ module _ {S : Type 0} (g : Ghosts S) (old begun one two three : Held S) (policy 
       subst (λ (s : Schema). IsDatabase (record { schema = s; trees = (state g three).now.trees })) it.done.schema it.is_database
 
   -- once it is committed
-  pub kept : (end : Connected) → HasCleanDisk (state g three) → Shows (state g three) end (state g three).now (state g three).now false → (content : State) → IsNew policy digest content → IsKept content end
+  pub kept : (end : Connected) → HasCleanDisk (state g three)
+      → Shows (state g three) end (state g three).now (state g three).now false → (content : State)
+      → IsNew policy digest content → IsKept content end
   kept end clean shows content new = record {
     stands = λ here. subst (Stands content) (sym shows.now_is) (stand clean content new);
     committed = λ here. shows.committed_is ∙ sym shows.now_is;

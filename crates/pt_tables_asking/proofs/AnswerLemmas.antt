@@ -33,7 +33,9 @@ module _ {A : Type 0} (key : A → ℕ) (row_of : A → Row) (Fits : A → Type 
 module _ {A : Type 0} (key : A → ℕ) (row_of : A → Row) (Fits : A → Type 0) (columns : ℕ) (keeps : Keeps columns key row_of Fits) (home : Table) (text : List ℕ) (params : Row) (passes_row : Row → Bool)
     (asks : AsksFor columns home text params passes_row) (db : Database) (has : db.schema ≡ desk_schema) where
   -- the records in order whose rows are, in some order, those of the table that pass
-  pub has_answer : (xs : List A) → Each Fits xs → IsInOrder key xs → IsPermutation (filter passes_row (map (columns_of home) (db.trees home.tree))) (map row_of xs) → HasAnswer text params db (map row_of xs)
+  pub has_answer : (xs : List A) → Each Fits xs → IsInOrder key xs
+      → IsPermutation (filter passes_row (map (columns_of home) (db.trees home.tree))) (map row_of xs)
+      → HasAnswer text params db (map row_of xs)
   has_answer xs each order are = record {
     schema = has;
     shown = λ rows h.
@@ -43,7 +45,8 @@ module _ {A : Type 0} (key : A → ℕ) (row_of : A → Row) (Fits : A → Type 
   }
 
   -- those of the table's records that pass
-  module _ (passes : A → Bool) (passing : (x : A) → Fits x → passes_row (row_of x) ≡ passes x) (xs : List A) (each : Each Fits xs) (order : IsInOrder key xs) (are : AreRows home db.trees (map row_of xs)) where
+  module _ (passes : A → Bool) (passing : (x : A) → Fits x → passes_row (row_of x) ≡ passes x) (xs : List A)
+      (each : Each Fits xs) (order : IsInOrder key xs) (are : AreRows home db.trees (map row_of xs)) where
     filter_each : (ys : List A) → Each Fits ys → filter (λ y. passes_row (row_of y)) ys ≡ filter passes ys
     filter_each [] each = refl
     filter_each (y ∷ ys) each = ap₂ (λ b l. cond b (y ∷ l) l) (passing y each.0) (filter_each ys each.1)

@@ -32,7 +32,9 @@ use Rattle.pt_tables_asking.proofs.AskedQueries.{AsksFor}
 use Rattle.pt_tables_asking.proofs.InsideLemmas.{still_shown}
 use Rattle.pt_tables_asking.proofs.MarkLemmas.{has_row-if, in_order_by_rows, mark_rows, marked_are, marks_fit, marks_in_order, marks_of, marks_within}
 use Rattle.pt_tables_asking.proofs.ReadLemmas.{at_params}
-use Rattle.pt_tables_asking.proofs.TextLemmas.{at_least, between, entries_text, has_least, has_number, is_between, kept_text, rider_marks_text, rider_text, same_number, trip_marks_text, trip_text, trips_by_day_text, trips_by_rider_text, trips_from_day_text}
+use Rattle.pt_tables_asking.proofs.TextLemmas.{at_least, between, entries_text, has_least, has_number, is_between}
+use Rattle.pt_tables_asking.proofs.TextLemmas.{kept_text, rider_marks_text, rider_text, same_number, trip_marks_text}
+use Rattle.pt_tables_asking.proofs.TextLemmas.{trip_text, trips_by_day_text, trips_by_rider_text, trips_from_day_text}
 
 -- ---- what a read leaves
 
@@ -123,21 +125,26 @@ module _ (content : State) (readable : IsWellFormed content) where
 module _ (content : State) (readable : IsWellFormed content) (db : Database) (stands : Stands content db) where
   pub kept_answer : (caller : ℕ) → HasAnswer KEPT_BY_CALLER.now (number_value caller ∷ []) db (map kept_row (filter (λ kept. kept_key kept == caller) content.kept))
   kept_answer caller =
-      has_passing kept_key kept_row FitsKept 1 (by_one kept_key kept_row FitsKept (λ x. refl) (λ x. refl)) kept_table KEPT_BY_CALLER.now (number_value caller ∷ []) (has_number 0 caller) (kept_text caller)
+      has_passing kept_key kept_row FitsKept 1 (by_one kept_key kept_row FitsKept (λ x. refl) (λ x. refl)) kept_table
+      KEPT_BY_CALLER.now (number_value caller ∷ []) (has_number 0 caller) (kept_text caller)
       db stands.schema (λ kept. kept_key kept == caller) (λ kept fits. same_number kept.caller caller) content.kept (readable.ranges.parts part.kept) readable.kept stands.rows.records.kept
 
   pub rider_answer : (rider : ℕ) → HasAnswer RIDER_BY_NUMBER.now (number_value rider ∷ []) db (map rider_row (filter (λ r. rider_key r == rider) content.riders))
   rider_answer rider =
-      has_passing rider_key rider_row FitsRider 1 (by_one rider_key rider_row FitsRider (λ x. refl) (λ x. refl)) riders_table RIDER_BY_NUMBER.now (number_value rider ∷ []) (has_number 0 rider) (rider_text rider)
+      has_passing rider_key rider_row FitsRider 1 (by_one rider_key rider_row FitsRider (λ x. refl) (λ x. refl))
+      riders_table RIDER_BY_NUMBER.now (number_value rider ∷ []) (has_number 0 rider) (rider_text rider)
       db stands.schema (λ r. rider_key r == rider) (λ r fits. same_number r.id rider) content.riders (readable.ranges.parts part.riders) readable.riders stands.rows.records.riders
 
   pub entries_answer : (rider : ℕ) → HasAnswer ENTRIES_BY_RIDER.now (number_value rider ∷ []) db (map entry_row (entries_of rider content.entries))
   entries_answer rider =
       has_passing entry_key entry_row FitsFiled 2 (by_two entry_key entry_row FitsFiled (λ x fits. record { first = refl; second = refl; second_low = fits.position }) (λ x. refl)) entries_table
       ENTRIES_BY_RIDER.now (number_value rider ∷ []) (has_number 0 rider) (entries_text rider) db stands.schema (λ filed. is_within (entry_key filed) (span_of rider))
-      (λ filed fits. same_number filed.rider rider ∙ in_span filed.rider rider filed.position fits.position) content.entries (readable.ranges.parts part.entries) readable.entries stands.rows.records.entries
+      (λ filed fits. same_number filed.rider rider ∙ in_span filed.rider rider filed.position fits.position)
+      content.entries (readable.ranges.parts part.entries) readable.entries stands.rows.records.entries
 
-  module _ (text : List ℕ) (params : Row) (passes_row : Row → Bool) (asks : AsksFor 1 trips_table text params passes_row) (passes : Trip → Bool) (passing : (t : Trip) → passes_row (trip_row t) ≡ passes t) where
+  module _ (text : List ℕ) (params : Row) (passes_row : Row → Bool)
+      (asks : AsksFor 1 trips_table text params passes_row) (passes : Trip → Bool)
+      (passing : (t : Trip) → passes_row (trip_row t) ≡ passes t) where
     trips_answer : HasAnswer text params db (map trip_row (filter passes content.trips))
     trips_answer =
         has_passing trip_key trip_row FitsTrip 1 (by_one trip_key trip_row FitsTrip (λ x. refl) (λ x. refl)) trips_table text params passes_row asks
@@ -172,13 +179,16 @@ module _ (content : State) (readable : IsWellFormed content) (old : Connected) (
       → (given : Row) → given ≡ params → IsTrue old.is_open → HasAnswer text given old.now rows
   there text params rows answer given same here = at_params text old.now rows given params same (answer old.now (held.stands here))
 
-  pub kept_there : (caller : ℕ) (given : Row) → given ≡ number_value caller ∷ [] → IsTrue old.is_open → HasAnswer KEPT_BY_CALLER.now given old.now (map kept_row (filter (λ kept. kept_key kept == caller) content.kept))
+  pub kept_there : (caller : ℕ) (given : Row) → given ≡ number_value caller ∷ [] → IsTrue old.is_open
+      → HasAnswer KEPT_BY_CALLER.now given old.now (map kept_row
+      (filter (λ kept. kept_key kept == caller) content.kept))
   kept_there caller = there KEPT_BY_CALLER.now _ _ (λ db stands. kept_answer content readable db stands caller)
 
   pub entries_there : (rider : ℕ) (given : Row) → given ≡ number_value rider ∷ [] → IsTrue old.is_open → HasAnswer ENTRIES_BY_RIDER.now given old.now (map entry_row (entries_of rider content.entries))
   entries_there rider = there ENTRIES_BY_RIDER.now _ _ (λ db stands. entries_answer content readable db stands rider)
 
-  pub trip_there : (trip : ℕ) (given : Row) → given ≡ number_value trip ∷ [] → IsTrue old.is_open → HasAnswer TRIP_BY_NUMBER.now given old.now (map trip_row (filter (λ t. trip_key t == trip) content.trips))
+  pub trip_there : (trip : ℕ) (given : Row) → given ≡ number_value trip ∷ [] → IsTrue old.is_open
+      → HasAnswer TRIP_BY_NUMBER.now given old.now (map trip_row (filter (λ t. trip_key t == trip) content.trips))
   trip_there trip = there TRIP_BY_NUMBER.now _ _ (λ db stands. trip_answer content readable db stands trip)
 
   pub rider_trips_there : (rider : ℕ) (given : Row) → given ≡ number_value rider ∷ [] → IsTrue old.is_open → HasAnswer TRIPS_BY_RIDER.now given old.now (map trip_row (trips_of rider content.trips))
@@ -187,10 +197,13 @@ module _ (content : State) (readable : IsWellFormed content) (old : Connected) (
   pub day_trips_there : (day : ℕ) (given : Row) → given ≡ number_value day ∷ [] → IsTrue old.is_open → HasAnswer TRIPS_BY_DAY.now given old.now (map trip_row (trips_on day content.trips))
   day_trips_there day = there TRIPS_BY_DAY.now _ _ (λ db stands. day_trips_answer content readable db stands day)
 
-  pub later_trips_there : (day : ℕ) (given : Row) → given ≡ number_value day ∷ [] → IsTrue old.is_open → HasAnswer TRIPS_FROM_DAY.now given old.now (map trip_row (filter (λ t. nat_le day t.wish.day) content.trips))
+  pub later_trips_there : (day : ℕ) (given : Row) → given ≡ number_value day ∷ [] → IsTrue old.is_open
+      → HasAnswer TRIPS_FROM_DAY.now given old.now (map trip_row (filter (λ t. nat_le day t.wish.day) content.trips))
   later_trips_there day = there TRIPS_FROM_DAY.now _ _ (λ db stands. later_trips_answer content readable db stands day)
 
-  pub rider_there : (rider : ℕ) (given : Row) → given ≡ number_value rider ∷ [] → IsTrue old.is_open → HasAnswer RIDER_BY_NUMBER.now given old.now (map rider_row (filter (λ r. rider_key r == rider) content.riders))
+  pub rider_there : (rider : ℕ) (given : Row) → given ≡ number_value rider ∷ [] → IsTrue old.is_open
+      → HasAnswer RIDER_BY_NUMBER.now given old.now (map rider_row
+      (filter (λ r. rider_key r == rider) content.riders))
   rider_there rider = there RIDER_BY_NUMBER.now _ _ (λ db stands. rider_answer content readable db stands rider)
 
   -- the marks too, after a read

@@ -138,7 +138,9 @@ not_later id version later is = go (version.id == id) refl is
         differs : (version.id == id) ≡ false → version.id ≡ id → ⊥
         differs so same = grind (arith, nat_tests)
 
-above_all : (id day : ℕ) (vehicles : List Vehicle) → Each (λ v. pair_key id day < vehicle_key v) vehicles → Each (λ (v : Vehicle). v.from_day < 4_294_967_296) vehicles → has_version id vehicles ≡ false → Each (λ n. id < n) (vehicle_ids vehicles)
+above_all : (id day : ℕ) (vehicles : List Vehicle) → Each (λ v. pair_key id day < vehicle_key v) vehicles
+    → Each (λ (v : Vehicle). v.from_day < 4_294_967_296) vehicles → has_version id vehicles ≡ false
+    → Each (λ n. id < n) (vehicle_ids vehicles)
 above_all id day [] above low none = tt
 above_all id day (version ∷ later) above low none =
     let other = not_later id version later none in
@@ -173,6 +175,8 @@ pub plans_of_day : (content : State) → IsWellFormed content → Each (HasVersi
     → plans_of day content.planned (vehicle_ids content.vehicles) ≡ planned_on day content.planned
 plans_of_day content readable carried day low =
     let ids = vehicle_ids content.vehicles in
-    plans_are day low content.planned readable.planned (readable.ranges.parts part.planned) ids (ids_rise content.vehicles readable.vehicles (days_low content.vehicles (readable.ranges.parts part.vehicles)))
+    plans_are day low content.planned readable.planned (readable.ranges.parts part.planned) ids
+    (ids_rise content.vehicles readable.vehicles (days_low content.vehicles
+    (readable.ranges.parts part.vehicles)))
     ∙ filter_alike (HasVersionAmong content.vehicles) (λ plan. plan.day == day && has_id ids plan.vehicle) (λ plan. plan.day == day)
     (λ plan has. ap (λ b. plan.day == day && b) (ids_are content.vehicles plan.vehicle ∙ has) ∙ and_true (plan.day == day)) content.planned carried

@@ -33,13 +33,16 @@ unfolding Shown
 shown_open sql params old new rows h = rows_open old new sql h.0 _ rows h.0.returning h.2
 
 module _ {S : Type 0} (g : Ghosts S) (text : List ℕ) (params : Row) (old begun : Held S) (mid : Connected) (begins : begun ≡ record old { in_transaction = true }) where
-  pub shown_inside : IsPlain (understood desk_schema text) → reads_listing desk_schema text ≡ false → (rows : List Row) → Shown text params (state g begun) mid rows → IsShown text params (state g old) rows
+  pub shown_inside : IsPlain (understood desk_schema text) → reads_listing desk_schema text ≡ false
+      → (rows : List Row) → Shown text params (state g begun) mid rows → IsShown text params (state g old) rows
   shown_inside plain unlisted rows h = record {
     was_open = subst (λ (s : Held _). IsTrue (state g s).is_open) begins (shown_open text params (state g begun) mid rows h);
     answer = λ has.
         let same : (state g begun).now ≡ (state g old).now = ap (λ (s : Held _). (state g s).now) begins in
         subst (λ (d : Database). IsAnswer text params d rows) same
-        (reads_as text params (state g begun) mid desk_schema (ap (λ (d : Database). d.schema) same ∙ has) (command_in (understood desk_schema text)) (same_command (understood desk_schema text)) plain unlisted rows h);
+        (reads_as text params (state g begun) mid desk_schema (ap (λ (d : Database). d.schema) same ∙ has)
+        (command_in (understood desk_schema text)) (same_command (understood desk_schema text)) plain unlisted
+        rows h);
   }
 
 -- ---- what it leaves
@@ -49,7 +52,8 @@ unfolding IsNotRun
 not_run old new sql params e (inl h) = inl h.1
 not_run old new sql params e (inr h) = inr h.3
 
-fails_to_show : (old new : Connected) (sql : List ℕ) (c : Compiled) (params : Row) (e : Error) (o : Option Returning) → FailsToShow old new sql c params e o → IsUnchanged old new ⊎ IsRolledBack old new
+fails_to_show : (old new : Connected) (sql : List ℕ) (c : Compiled) (params : Row) (e : Error) (o : Option Returning)
+    → FailsToShow old new sql c params e o → IsUnchanged old new ⊎ IsRolledBack old new
 fails_to_show old new sql c params e None h = inl h.3
 fails_to_show old new sql c params e (Some what) (inl h) = inl h.1
 fails_to_show old new sql c params e (Some what) (inr h) = inr h.3
@@ -59,7 +63,8 @@ unfolding FailsToQuery
 fails sql params old new e (inl h) = not_run old new sql params e h
 fails sql params old new e (inr h) = fails_to_show old new sql h.0 _ e h.0.returning h.2
 
-shows_keeps : (old new : Connected) (sql : List ℕ) (c : Compiled) (params : Row) (rows : List Row) (o : Option Returning) → IsTrue old.in_transaction → ShowsRows old new sql c params rows o → KeepsCommit old new
+shows_keeps : (old new : Connected) (sql : List ℕ) (c : Compiled) (params : Row) (rows : List Row)
+    (o : Option Returning) → IsTrue old.in_transaction → ShowsRows old new sql c params rows o → KeepsCommit old new
 shows_keeps old new sql c params rows None inside h = unchanged_keeps old new (inl h.3)
 shows_keeps old new sql c params rows (Some what) inside h = record {
   was_open = λ _. h.1.shown.was_open;

@@ -1,5 +1,7 @@
 -- The marks of records in the order of their keys, by number.
-use Rattle.std.proofs.Common.{◌≡◌, ◌++◌, ◌<◌, ◌≤◌, ◌-◌, ◌&&◌, ◌^◌, zero, suc, ℕ, Bool, IsTrue, true, false, List, [], ◌∷◌, length, filter, flat_map, map, drop, slice_get, slice_index_or, slice_set, cond, Some, ◌⊎◌, inl, inr, refl, sym, ap, ap₂, subst, ◌∙◌, arith}
+use Rattle.std.proofs.Common.{◌≡◌, ◌++◌, ◌<◌, ◌≤◌, ◌-◌, ◌&&◌, ◌^◌, zero, suc, ℕ, Bool, IsTrue, true, false, List, []}
+use Rattle.std.proofs.Common.{◌∷◌, length, filter, flat_map, map, drop, slice_get, slice_index_or, slice_set, cond}
+use Rattle.std.proofs.Common.{Some, ◌⊎◌, inl, inr, refl, sym, ap, ap₂, subst, ◌∙◌, arith}
 use Rattle.std.specs.Prelude.{nat_le, is_some}
 use Rattle.std.proofs.lemmas.Bool.Decides.{nat_tests}
 use Rattle.sqlite.specs.Effect.{Database}

@@ -1,5 +1,7 @@
 -- The stops of a vehicle on a day, as a query returns them, and their plan.
-use Rattle.std.proofs.Common.{◌≡◌, ◌+◌, ◌++◌, ◌<◌, ◌≤◌, ◌==◌, ◌&&◌, ◌^◌, ℕ, Bool, true, false, IsTrue, cond, List, [], ◌∷◌, length, map, filter, flat_map, slice_get, Option, None, Some, append-nil, refl, sym, ap, ap₂, subst, ◌∙◌, arith}
+use Rattle.std.proofs.Common.{◌≡◌, ◌+◌, ◌++◌, ◌<◌, ◌≤◌, ◌==◌, ◌&&◌, ◌^◌, ℕ, Bool, true, false, IsTrue, cond, List, []}
+use Rattle.std.proofs.Common.{◌∷◌, length, map, filter, flat_map, slice_get, Option, None, Some, append-nil, refl}
+use Rattle.std.proofs.Common.{sym, ap, ap₂, subst, ◌∙◌, arith}
 use Rattle.std.specs.Prelude.{IsPermutation}
 use Rattle.std.specs.List.{AllByRecursion}
 use Rattle.std.specs.Option.{option_to_list}
@@ -134,7 +136,8 @@ plans_passing m n (plan ∷ plans) =
     ∙ ap₂ ◌++◌ (all_or_none (has_pair m n) (plan.vehicle == m && plan.day == n) (stop_rows plan) (passing_rows m n 0 plan.vehicle plan.day plan.stops)) (plans_passing m n plans)
     ∙ with_rows (plan.vehicle == m && plan.day == n) plan (filter (λ plan. plan.vehicle == m && plan.day == n) plans)
 
-rows_found : (m n : ℕ) (found : Option Plan) → ((plan : Plan) → found ≡ Some plan → (plan.vehicle ≡ m) × (plan.day ≡ n)) → flat_map stop_rows (option_to_list found) ≡ map stop_row (stops_found m n found)
+rows_found : (m n : ℕ) (found : Option Plan) → ((plan : Plan) → found ≡ Some plan → (plan.vehicle ≡ m)
+    × (plan.day ≡ n)) → flat_map stop_rows (option_to_list found) ≡ map stop_row (stops_found m n found)
 rows_found m n None is = refl
 rows_found m n (Some plan) is =
     let parts = is plan refl in
@@ -150,7 +153,8 @@ found_at m n (Some plan) = each_at 0 m n plan.stops
 
 -- ---- the plan
 
-shape : (vehicle day : ℕ) (plan : Plan) (stops : List PlannedStop) → stops ≡ plan.stops → 0 < length stops → plan.vehicle ≡ vehicle → plan.day ≡ day → plan_by_stops (stops_from 0 vehicle day stops) ≡ Some plan
+shape : (vehicle day : ℕ) (plan : Plan) (stops : List PlannedStop) → stops ≡ plan.stops → 0 < length stops
+    → plan.vehicle ≡ vehicle → plan.day ≡ day → plan_by_stops (stops_from 0 vehicle day stops) ≡ Some plan
 shape vehicle day plan [] is some bus date = absurd (omega arith)
 shape vehicle day plan (stop ∷ later) is some bus date =
     let same : map (λ (at : StopAt). at.stop) (stops_from 0 vehicle day (stop ∷ later)) ≡ plan.stops = stops_back 0 vehicle day (stop ∷ later) ∙ is in
@@ -172,7 +176,9 @@ module _ (content : State) (readable : IsWellFormed content) (m n : ℕ) (low : 
   rows_wanted =
       plans_passing m n content.planned
       ∙ ap (flat_map stop_rows) (filter_alike FitsPlan (λ plan. plan.vehicle == m && plan.day == n) (λ plan. plan_key plan == pair_key m n)
-      (λ plan fits. same_key plan.vehicle plan.day m n (day_low plan fits) low) content.planned (readable.ranges.parts part.planned) ∙ filter_found plan_key (pair_key m n) content.planned readable.planned)
+      (λ plan fits. same_key plan.vehicle plan.day m n (day_low plan fits) low) content.planned
+      (readable.ranges.parts part.planned) ∙ filter_found plan_key (pair_key m n) content.planned
+      readable.planned)
       ∙ rows_found m n found found_parts
 
   stops_answer : (db : Database) → Stands content db → HasAnswer STOPS_BY_VEHICLE_AND_DAY.now (number_value m ∷ number_value n ∷ []) db (map stop_row wanted)
@@ -182,13 +188,18 @@ module _ (content : State) (readable : IsWellFormed content) (m n : ℕ) (low : 
         let both = answers_passing desk_schema 3 stops_table STOPS_BY_VEHICLE_AND_DAY.now (number_value m ∷ number_value n ∷ []) (has_pair m n) (stops_text m n) db rows h in
         let there = filter (has_pair m n) (map (columns_of stops_table) (db.trees stops_table.tree)) in
         let are : IsPermutation there (map stop_row wanted) =
-        subst (IsPermutation there) rows_wanted (IsPermutation-filter (has_pair m n) (map (columns_of stops_table) (db.trees stops_table.tree)) (flat_map stop_rows content.planned) stands.rows.records.stops) in
+        subst (IsPermutation there) rows_wanted (IsPermutation-filter (has_pair m n)
+        (map (columns_of stops_table) (db.trees stops_table.tree)) (flat_map stop_rows content.planned)
+        stands.rows.records.stops) in
         same_order 3 (number_in 2) (IsAt m n) (place_le m n) (map stop_row wanted) rows (found_order m n found) (found_at m n found)
         (IsPermutation-trans (map stop_row wanted) there rows (IsPermutation-sym there (map stop_row wanted) are) both.0) both.1;
   }
 
-  pub stops_there : (old : Connected) → IsKept content old → (given : Row) → given ≡ number_value m ∷ number_value n ∷ [] → IsTrue old.is_open → HasAnswer STOPS_BY_VEHICLE_AND_DAY.now given old.now (map stop_row wanted)
-  stops_there old held given same here = at_params STOPS_BY_VEHICLE_AND_DAY.now old.now (map stop_row wanted) given (number_value m ∷ number_value n ∷ []) same (stops_answer old.now (held.stands here))
+  pub stops_there : (old : Connected) → IsKept content old → (given : Row)
+      → given ≡ number_value m ∷ number_value n ∷ [] → IsTrue old.is_open
+      → HasAnswer STOPS_BY_VEHICLE_AND_DAY.now given old.now (map stop_row wanted)
+  stops_there old held given same here = at_params STOPS_BY_VEHICLE_AND_DAY.now old.now (map stop_row wanted) given
+      (number_value m ∷ number_value n ∷ []) same (stops_answer old.now (held.stands here))
 
   told_by : (o : Option Plan) → found ≡ o → plan_by_stops (stops_found m n o) ≡ o
   told_by None is = refl

@@ -18,7 +18,10 @@ use Rattle.sqlite_value.specs.Keys.{ascending}
 use Rattle.sqlite_value.specs.declared.keys.Key.{Key}
 use Rattle.pt_tables_rows.specs.Rows.{number_value}
 use Rattle.pt_tables_rows.specs.Schema.{desk_schema, entries_table, kept_table, rider_chairs_table, riders_table, stops_table, trip_chairs_table, trips_table}
-use Rattle.pt_tables_asking.specs.declared.texts.TheConstants.{ENTRIES_BY_RIDER, KEPT_BY_CALLER, RIDER_BY_NUMBER, RIDER_MARKS, STOPS_BY_VEHICLE_AND_DAY, TRIPS_BY_DAY, TRIPS_BY_RIDER, TRIPS_FROM_DAY, TRIP_BY_NUMBER, TRIP_MARKS}
+use Rattle.pt_tables_asking.specs.declared.texts.TheConstants.{ENTRIES_BY_RIDER, KEPT_BY_CALLER, RIDER_BY_NUMBER}
+use Rattle.pt_tables_asking.specs.declared.texts.TheConstants.{RIDER_MARKS, STOPS_BY_VEHICLE_AND_DAY, TRIPS_BY_DAY}
+use Rattle.pt_tables_asking.specs.declared.texts.TheConstants.{TRIPS_BY_RIDER, TRIPS_FROM_DAY, TRIP_BY_NUMBER}
+use Rattle.pt_tables_asking.specs.declared.texts.TheConstants.{TRIP_MARKS}
 use Rattle.pt_tables_asking.proofs.AskedQueries.{AsksFor}
 
 -- ---- tests of rows

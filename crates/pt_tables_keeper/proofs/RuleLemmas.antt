@@ -127,7 +127,8 @@ left_there old s sound day (Some plan) is =
     let carried : HasVersionAmong s.vehicles plan = Each-found (HasVersionAmong s.vehicles) plan_key key plan s.planned (sound_carried s sound) is in
     left_carried old s (subst (λ v. IsTrue (has_version v s.vehicles)) same carried) (without old.id plan.stops)
 
-book_shaped : (s : State) (kept : Edit Kept) (number today : ℕ) (wish : Wish) (facts : WriteFacts) (made : Decision) → IsBooking booked number None today wish facts made → LeavesSound s kept made → IsShaped s made
+book_shaped : (s : State) (kept : Edit Kept) (number today : ℕ) (wish : Wish) (facts : WriteFacts) (made : Decision)
+    → IsBooking booked number None today wish facts made → LeavesSound s kept made → IsShaped s made
 book_shaped s kept number today wish facts made (scheduled.Denied rule, by, is) leaves = subst (IsShaped s) (sym is) tt
 book_shaped s kept number today wish facts made (scheduled.Booked trip plan, by, (told, confirms, is)) leaves =
     let after = applied (record (booked trip plan) { kept = kept }) s in
@@ -192,7 +193,8 @@ end_shaped (Some trip) outcome s made is =
 
 -- ---- all writes
 
-decided_shaped : (asked : Write) (author today : ℕ) (s : State) (kept : Edit Kept) (made : Decision) → IsSound s → IsDecidedBy asked author today (facts_of asked s) made → LeavesSound s kept made → IsShaped s made
+decided_shaped : (asked : Write) (author today : ℕ) (s : State) (kept : Edit Kept) (made : Decision) → IsSound s
+    → IsDecidedBy asked author today (facts_of asked s) made → LeavesSound s kept made → IsShaped s made
 decided_shaped (write.PutVehicle new) author today s kept made sound is leaves =
     no_plans s _ _ made is refl refl refl refl refl (omega arith) (inr (new, refl))
 decided_shaped (write.Book rider wish) author today s kept made sound is leaves =

@@ -34,7 +34,9 @@ use Rattle.pt_tables_opening.proofs.BesideLemmas.{beside_each, beside_in_order}
 use Rattle.pt_tables_opening.proofs.GroupOrders.{plans_keep, travel_keeps}
 use Rattle.pt_tables_opening.proofs.OrderedLemmas.{alone, keeps_all_order}
 use Rattle.pt_tables_opening.proofs.ShownRows.{AsksAll, AsksAllIn, asks_for_all}
-use Rattle.pt_tables_rows.specs.Rows.{row_if, rider_chair_rows, vehicle_chair_rows, trip_chair_rows, caller_row, kept_row, place_row, route_row, rider_row, entry_row, vehicle_row, trip_row, stop_rows, travel_rows}
+use Rattle.pt_tables_rows.specs.Rows.{row_if, rider_chair_rows, vehicle_chair_rows, trip_chair_rows, caller_row}
+use Rattle.pt_tables_rows.specs.Rows.{kept_row, place_row, route_row, rider_row, entry_row, vehicle_row, trip_row}
+use Rattle.pt_tables_rows.specs.Rows.{stop_rows, travel_rows}
 use Rattle.pt_tables_rows.specs.Schema.{desk_schema, first_schema, desk_table, callers_table, kept_table, places_table, fixed_table, vehicles_table, riders_table, entries_table, trips_table}
 use Rattle.pt_tables_rows.specs.Schema.{stops_table, travel_table, rider_chairs_table, vehicle_chairs_table, trip_chairs_table}
 use Rattle.pt_tables_rows.specs.Tables.{columns_of, IsStoredPlan}
@@ -132,7 +134,9 @@ unfolding understood everything desk_schema
 vehicle_rows_text = asks_all desk_schema 2 vehicles_table VEHICLE_ROWS.now refl (refl, refl) refl (λ r. refl) refl (λ r. (refl, (refl, tt)))
 
 pub vehicles_asked : IsAsked VEHICLE_ROWS.now vehicles_table vehicle_key (alone vehicle_row) IsVehicle
-vehicles_asked = by_two vehicle_key vehicle_row IsVehicle vehicles_table VEHICLE_ROWS.now vehicle_rows_text (λ x fits. record { first = refl; second = refl; second_low = let last = fits.from_day.1 in omega arith }) (λ x. refl)
+vehicles_asked = by_two vehicle_key vehicle_row IsVehicle vehicles_table VEHICLE_ROWS.now vehicle_rows_text
+    (λ x fits. record { first = refl; second = refl; second_low = let last = fits.from_day.1 in omega arith })
+    (λ x. refl)
 
 rider_rows_text : AsksAll 1 riders_table RIDER_ROWS.now
 unfolding understood everything desk_schema
@@ -232,7 +236,9 @@ pub vehicle_chairs_asked : AsksForAll VEHICLE_CHAIR_ROWS.now vehicle_chairs_tabl
 unfolding vehicles_beside
 vehicle_chairs_asked =
     asks_for_all 2 vehicle_chairs_table VEHICLE_CHAIR_ROWS.now (KeepsRows vehicle_key vehicle_chair_rows IsVehicle) vehicle_chair_rows_text
-    (keeps_beside vehicle_key vehicle_row vehicle_chair_rows IsVehicle vehicles_beside 2 IsPaired pair_le (λ x fits. so_all IsPaired (not (x.chairs == 0)) _ (record { first = refl; second = refl; second_low = let last = fits.from_day.1 in omega arith })))
+    (keeps_beside vehicle_key vehicle_row vehicle_chair_rows IsVehicle vehicles_beside 2 IsPaired pair_le
+    (λ x fits. so_all IsPaired (not (x.chairs == 0)) _ (record
+    { first = refl; second = refl; second_low = let last = fits.from_day.1 in omega arith })))
 
 trip_chair_rows_text : AsksAll 1 trip_chairs_table TRIP_CHAIR_ROWS.now
 unfolding understood everything desk_schema

@@ -1,5 +1,7 @@
 -- Records of one row each, and of at most one in a second table, read back from the rows of both.
-use Rattle.std.proofs.Common.{◌≡◌, ◌++◌, ◌<◌, ◌≤◌, zero, suc, ℕ, List, [], ◌∷◌, length, map, flat_map, take, drop, get_or, drop-cons, add-one, ◌⊎◌, inl, inr, None, Some, Result, Ok, Err, IfOk, IfErr, ◌+◌, refl, sym, ap, ap₂, subst, ◌∙◌, arith}
+use Rattle.std.proofs.Common.{◌≡◌, ◌++◌, ◌<◌, ◌≤◌, zero, suc, ℕ, List, [], ◌∷◌, length, map, flat_map, take, drop}
+use Rattle.std.proofs.Common.{get_or, drop-cons, add-one, ◌⊎◌, inl, inr, None, Some, Result, Ok, Err, IfOk, IfErr}
+use Rattle.std.proofs.Common.{◌+◌, refl, sym, ap, ap₂, subst, ◌∙◌, arith}
 use Rattle.std.proofs.lemmas.List.{map-append, take_more}
 use Rattle.std.specs.Prelude.{IsPermutation}
 use Rattle.std.specs.List.{AllByRecursion}
@@ -80,7 +82,8 @@ module _ {A : Type 0} (key : A → ℕ) (row_of : A → Row) (beside_of : A → 
     goes_one : 1 ≤ length left → beside_of next_one ≡ take 1 left → Goes key row_of beside_of Fits (known_one ∷ known) left → Goes key row_of beside_of Fits known (drop 1 left)
     goes_one some its g = go g.records g.each g.order g.rows g.beside
       where
-        high : (y : A) (ys : List A) (rows : List Row) → row_of y ≡ row_of known_one → Each (λ x. key y < key x) ys → flat_map beside_of ys ≡ rows → 1 ≤ length rows → beside_of next_one ≡ take 1 rows → ⊥
+        high : (y : A) (ys : List A) (rows : List Row) → row_of y ≡ row_of known_one → Each (λ x. key y < key x) ys
+            → flat_map beside_of ys ≡ rows → 1 ≤ length rows → beside_of next_one ≡ take 1 rows → ⊥
         high y ys [] is above beside long its = absurd (omega arith)
         high y ys (r ∷ rows) is above beside long its =
             let far : AllByRecursion (λ row. key y < key_in row) (r ∷ rows) = subst (AllByRecursion (λ row. key y < key_in row)) beside (rows_above key key_in beside_of laws.keyed (key y) ys above) in
@@ -135,7 +138,8 @@ module _ {A : Type 0} (key : A → ℕ) (row_of : A → Row) (beside_of : A → 
       )
 
   -- records in order that have the rows of a table have them in one order
-  same_table : (home : Table) (trees : Trees) (xs ys : List A) → IsInOrder key xs → IsInOrder key ys → AreRows home trees (map row_of xs) → AreRows home trees (map row_of ys) → map row_of xs ≡ map row_of ys
+  same_table : (home : Table) (trees : Trees) (xs ys : List A) → IsInOrder key xs → IsInOrder key ys
+      → AreRows home trees (map row_of xs) → AreRows home trees (map row_of ys) → map row_of xs ≡ map row_of ys
   same_table home trees xs ys one other ones others =
       let there = map (columns_of home) (trees home.tree) in
       same_rows key key_in row_of laws.row_keyed xs ys one other (IsPermutation-trans (map row_of xs) there (map row_of ys) (IsPermutation-sym there (map row_of xs) ones) others)

@@ -1,5 +1,7 @@
 -- Records of several rows each, divided at the first row of each.
-use Rattle.std.proofs.Common.{◌≡◌, ◌++◌, ◌<◌, ◌≤◌, zero, suc, ℕ, List, [], ◌∷◌, length, length-append, map, flat_map, take, drop, take-append-drop, append_assoc, append-nil, get_or, slice_index_or, refl, sym, ap, ap₂, subst, ◌∙◌, arith, Result, Ok, Err, IfOk, IfErr, ◌⊎◌, inl, inr}
+use Rattle.std.proofs.Common.{◌≡◌, ◌++◌, ◌<◌, ◌≤◌, zero, suc, ℕ, List, [], ◌∷◌, length, length-append, map, flat_map}
+use Rattle.std.proofs.Common.{take, drop, take-append-drop, append_assoc, append-nil, get_or, slice_index_or, refl}
+use Rattle.std.proofs.Common.{sym, ap, ap₂, subst, ◌∙◌, arith, Result, Ok, Err, IfOk, IfErr, ◌⊎◌, inl, inr}
 use Rattle.std.proofs.lemmas.Grind.{flat_map-append}
 use Rattle.std.proofs.lemmas.List.{take_at, drop_at, get_or_append_left, get_or-append_right}
 use Rattle.std.proofs.lemmas.List.Sorted.{IsPermutation-sym, IsPermutation-trans}
@@ -168,7 +170,8 @@ module _ {A : Type 0} (key : A → ℕ) (home : Table) (rows_of : A → List Row
       ]
 
   -- and so such rows are those of no records
-  pub refuses_table : {F : Type 0} (Clean Has : Type 0) → (Clean → Has → AreRows home trees rows) → (Clean → Has → KeepsOrder key rows_of Fits rows) → (memory store unsound : F) (r : Result (Edit A) F)
+  pub refuses_table : {F : Type 0} (Clean Has : Type 0) → (Clean → Has → AreRows home trees rows)
+      → (Clean → Has → KeepsOrder key rows_of Fits rows) → (memory store unsound : F) (r : Result (Edit A) F)
       → IfErr r (λ refused. (refused ≡ memory) ⊎ ((refused ≡ unsound) × GathersNothing key rows_of Fits rows))
       → IfErr r (λ refused. (refused ≡ memory) ⊎ ((refused ≡ store) ⊎ ((refused ≡ unsound) × (Clean → Has → AreRowsOfNone key home rows_of Fits trees))))
   refuses_table Clean Has are keeps memory store unsound (Ok edit) h = tt

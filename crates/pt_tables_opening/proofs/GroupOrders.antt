@@ -1,5 +1,7 @@
 -- Rows in the order of their first three columns keep the order of plans and of travel tables.
-use Rattle.std.proofs.Common.{◌≡◌, ◌+◌, ◌*◌, ◌<◌, ◌≤◌, suc, ℕ, List, [], ◌∷◌, length, map, get_or, true, false, eqb, Option, None, Some, Result, Ok, Err, IfOk, inl, inr, ⊎_elim, refl, sym, ap, subst, ◌∙◌, arith}
+use Rattle.std.proofs.Common.{◌≡◌, ◌+◌, ◌*◌, ◌<◌, ◌≤◌, suc, ℕ, List, [], ◌∷◌, length, map, get_or, true, false, eqb}
+use Rattle.std.proofs.Common.{Option, None, Some, Result, Ok, Err, IfOk, inl, inr, ⊎_elim, refl, sym, ap, subst, ◌∙◌}
+use Rattle.std.proofs.Common.{arith}
 use Rattle.std.specs.Prelude.{All, Contains, IsPermutation}
 use Rattle.std.specs.List.{AllByRecursion, IsDistinct, list_any}
 use Rattle.std.proofs.lemmas.Bool.{cases_Bool, ne_eqb}

@@ -41,7 +41,8 @@ module _ (schema : Schema) (columns : ℕ) (table : Table) (text : List ℕ) (as
       (subst (λ l. IsPermutation l rows) (all_there (map (columns_of table) (db.trees table.tree))) told.0, told.1)
 
   -- and so are those shown
-  pub shows_all : (old new : Connected) → old.now.schema ≡ schema → (r : Result (Vec Row Global) Error) → IfOk r (λ rows. Shown text [] old new rows.items) → IfOk r (λ rows. AreRows table old.now.trees rows.items)
+  pub shows_all : (old new : Connected) → old.now.schema ≡ schema → (r : Result (Vec Row Global) Error)
+      → IfOk r (λ rows. Shown text [] old new rows.items) → IfOk r (λ rows. AreRows table old.now.trees rows.items)
   shows_all old new has (Ok rows) shown =
       (answered old.now rows.items (reads_as text [] old new schema has (command_in (understood schema text)) (same_command (understood schema text)) asks.plain asks.unlisted rows.items shown)).0
   shows_all old new has (Err e) shown = tt
@@ -56,7 +57,8 @@ asks_for_all columns table text Ordered asks ordered = record {
 }
 
 -- what is shown for such a query
-pub shows_asked : {text : List ℕ} {table : Table} {Ordered : List Row → Type 0} → AsksForAll text table Ordered → (old new : Connected) → old.now.schema ≡ desk_schema → (rows : List Row) → Shown text [] old new rows
+pub shows_asked : {text : List ℕ} {table : Table} {Ordered : List Row → Type 0} → AsksForAll text table Ordered
+    → (old new : Connected) → old.now.schema ≡ desk_schema → (rows : List Row) → Shown text [] old new rows
     → AreRows table old.now.trees rows × Ordered rows
 shows_asked {text} asked old new has rows shown =
     asked.answer old.now rows (reads_as text [] old new desk_schema has (command_in (understood desk_schema text)) (same_command (understood desk_schema text)) asked.plain asked.unlisted rows shown)

@@ -1,7 +1,9 @@
 -- What holds of each table. Its place among all. What a content that is sound there, or has its rows, has in it. Two
 -- contents with its rows have the same records in it, except for wheelchairs and wheelchair places, which the last
 -- three tables have. What its rows make of a desk that has the earlier tables.
-use Rattle.std.proofs.Common.{◌≡◌, ◌+◌, ◌-◌, ◌<◌, ◌≤◌, ◌++◌, zero, suc, ℕ, List, [], ◌∷◌, length, map, take, drop, get_or, refl, sym, ap, subst, arith, false, subst₂, ◌∙◌, flat_map, Result, Ok, IsErr, IsErrAnd, inl, inr, Err, IfOk, IfErr}
+use Rattle.std.proofs.Common.{◌≡◌, ◌+◌, ◌-◌, ◌<◌, ◌≤◌, ◌++◌, zero, suc, ℕ, List, [], ◌∷◌, length, map, take, drop}
+use Rattle.std.proofs.Common.{get_or, refl, sym, ap, subst, arith, false, subst₂, ◌∙◌, flat_map, Result, Ok, IsErr}
+use Rattle.std.proofs.Common.{IsErrAnd, inl, inr, Err, IfOk, IfErr}
 use Rattle.std.specs.List.{range_with_len}
 use Rattle.std.proofs.lemmas.List.Sorted.{IsPermutation-refl}
 use Rattle.std.proofs.lemmas.List.Concat.{flat_map_single}
@@ -16,10 +18,14 @@ use Rattle.pt_records.specs.Records.{Each, IsInOrder, Edit, edited}
 use Rattle.pt_records.proofs.OrderLemmas.{Each-weaker}
 use Rattle.pt_scheduling.specs.Plan.{Plan, IsRoutePlan, plan_key}
 use Rattle.pt_desk_rules.specs.TableNames.{all_tables, number_of, table_count}
-use Rattle.pt_soundness.specs.Tables.{IsSoundIn, KeepsRangesIn, KeepsLinesIn, AreSoundCallers, AreSoundEntries, AreSoundKept, AreSoundLoads, AreSoundPlaces, AreSoundPlans, AreSoundRiders, AreSoundRoutes, AreSoundTables, AreSoundTrips, AreSoundVehicles}
+use Rattle.pt_soundness.specs.Tables.{IsSoundIn, KeepsRangesIn, KeepsLinesIn, AreSoundCallers, AreSoundEntries}
+use Rattle.pt_soundness.specs.Tables.{AreSoundKept, AreSoundLoads, AreSoundPlaces, AreSoundPlans, AreSoundRiders}
+use Rattle.pt_soundness.specs.Tables.{AreSoundRoutes, AreSoundTables, AreSoundTrips, AreSoundVehicles}
 use Rattle.pt_desk_rules.specs.declared.table_name.TableName.{TableName}
 use Rattle.pt_desk_rules.specs.declared.table_name.TableName.TheVariants as table
-use Rattle.pt_tables_rows.specs.Rows.{stop_rows, caller_row, kept_row, place_row, route_row, vehicle_row, rider_row, entry_row, trip_row, travel_rows, vehicle_chair_rows, trip_chair_rows, rider_chair_rows}
+use Rattle.pt_tables_rows.specs.Rows.{stop_rows, caller_row, kept_row, place_row, route_row, vehicle_row, rider_row}
+use Rattle.pt_tables_rows.specs.Rows.{entry_row, trip_row, travel_rows, vehicle_chair_rows, trip_chair_rows}
+use Rattle.pt_tables_rows.specs.Rows.{rider_chair_rows}
 use Rattle.pt_tables_rows.specs.Tables.{HasRows, IsStoredPlan, AreRows}
 use Rattle.pt_base.specs.declared.place.Place.{Place}
 use Rattle.pt_base.specs.declared.rider.Rider.{Rider}
@@ -41,7 +47,9 @@ use Rattle.pt_corridor.specs.Route.{Route}
 use Rattle.pt_desk_rules.specs.Deciding.{no_change}
 use Rattle.pt_desk_rules.specs.declared.change.Change.{Change}
 use Rattle.pt_desk_rules.specs.declared.kept.Kept.{Kept}
-use Rattle.pt_tables_rows.specs.Schema.{callers_table, kept_table, places_table, fixed_table, vehicles_table, riders_table, entries_table, trips_table, stops_table, travel_table, rider_chairs_table, vehicle_chairs_table, trip_chairs_table, desk_schema}
+use Rattle.pt_tables_rows.specs.Schema.{callers_table, kept_table, places_table, fixed_table, vehicles_table}
+use Rattle.pt_tables_rows.specs.Schema.{riders_table, entries_table, trips_table, stops_table, travel_table}
+use Rattle.pt_tables_rows.specs.Schema.{rider_chairs_table, vehicle_chairs_table, trip_chairs_table, desk_schema}
 use Rattle.pt_tables_opening.specs.Gathered.{FitsRows, AreRowsOfNone, IsFitting}
 use Rattle.pt_tables_opening.specs.Tables.{HasRowsIn, IsLaidIn}
 use Rattle.pt_tables_opening.proofs.ContentLemmas.{mid, anew, laid_put, rows_put}
@@ -224,7 +232,8 @@ module _ (one other : State) (trees : Trees) where
 
   same_planned : StandsIn one trees table.Stops → IsLaidIn other table.Stops → HasRowsIn other trees table.Stops → one.planned ≡ other.planned
   same_planned it laid rows =
-      rows_tell.same_planned _ one.planned other.planned (laid_in one table.Stops it.sound).0 laid.0 (stored one.planned (laid_in one table.Stops it.sound).1) (stored other.planned laid.1) it.rows rows
+      rows_tell.same_planned _ one.planned other.planned (laid_in one table.Stops it.sound).0 laid.0
+      (stored one.planned (laid_in one table.Stops it.sound).1) (stored other.planned laid.1) it.rows rows
     where
       stored : (plans : List Plan) → Each (FitsRows stop_rows IsStoredPlan) plans → Each IsStoredPlan plans
       stored = Each-weaker (FitsRows stop_rows IsStoredPlan) IsStoredPlan (λ plan fits. fits.0)
@@ -263,13 +272,15 @@ lines_there table.Entries one other trees it laid rows =
 lines_there table.Trips one other trees it laid rows =
     alike_trips one.trips other.trips (alike_in_trips one other trees it.1.1.1.1.1.1.1.1.0 laid.1.1.1.1.1.1.1.1.0 rows.1.1.1.1.1.1.1.1.0) other.places one.riders other.riders other.last_trip
     (alike_in_riders one other trees it.1.1.1.1.1.1.0 laid.1.1.1.1.1.1.0 rows.1.1.1.1.1.1.0)
-    (subst₂ (λ (places : List Place) (last : ℕ). AreSoundTrips places one.riders last one.trips) (same_places one other trees it.1.1.1.0 laid.1.1.1.0 rows.1.1.1.0) (same_last one other trees it.0 rows.0)
+    (subst₂ (λ (places : List Place) (last : ℕ). AreSoundTrips places one.riders last one.trips)
+    (same_places one other trees it.1.1.1.0 laid.1.1.1.0 rows.1.1.1.0) (same_last one other trees it.0 rows.0)
     it.1.1.1.1.1.1.1.1.0.sound.1)
 lines_there table.Stops one other trees it laid rows =
     alike_plans one.trips other.trips (alike_in_trips one other trees it.1.1.1.1.1.1.1.1.0 laid.1.1.1.1.1.1.1.1.0 rows.1.1.1.1.1.1.1.1.0) other.planned
     (subst (AreSoundPlans one.trips) (same_planned one other trees it.1.1.1.1.1.1.1.1.1.0 laid.1.1.1.1.1.1.1.1.1.0 rows.1.1.1.1.1.1.1.1.1.0) it.1.1.1.1.1.1.1.1.1.0.sound.1)
 lines_there table.Travel one other trees it laid rows =
-    alike_tables one.trips other.trips (alike_in_trips one other trees it.1.1.1.1.1.1.1.1.0 laid.1.1.1.1.1.1.1.1.0 rows.1.1.1.1.1.1.1.1.0) other.places one.vehicles other.vehicles other.planned other.travel
+    alike_tables one.trips other.trips (alike_in_trips one other trees it.1.1.1.1.1.1.1.1.0 laid.1.1.1.1.1.1.1.1.0
+    rows.1.1.1.1.1.1.1.1.0) other.places one.vehicles other.vehicles other.planned other.travel
     (alike_in_vehicles one other trees it.1.1.1.1.1.0 laid.1.1.1.1.1.0 rows.1.1.1.1.1.0)
     (subst (λ (places : List Place). AreSoundTables places one.vehicles one.trips other.planned other.travel) (same_places one other trees it.1.1.1.0 laid.1.1.1.0 rows.1.1.1.0)
     (subst₂ (λ (plans : List Plan) (travel : List DatedTable). AreSoundTables one.places one.vehicles one.trips plans travel)
@@ -371,7 +382,9 @@ puts_callers edit = record no_change { callers = edit }
 
 pub callers_reads : ReadsSo table.Callers caller_key callers_table (alone caller_row) (FitsRows (alone caller_row) IsCaller) puts_callers
 callers_reads =
-    reads_so table.Callers caller_key callers_table (alone caller_row) (map caller_row) (flat_map_single caller_row) IsCaller (FitsRows (alone caller_row) IsCaller) (λ x fits. fits.0) (one_fits caller_row IsCaller) (λ s. s.callers) puts_callers
+    reads_so table.Callers caller_key callers_table (alone caller_row) (map caller_row) (flat_map_single caller_row)
+    IsCaller (FitsRows (alone caller_row) IsCaller) (λ x fits. fits.0) (one_fits caller_row IsCaller)
+    (λ s. s.callers) puts_callers
     (λ s read. read.later.0) (λ s edit read laid. record { laid = laid; sound = read.sound; later = read.later.1 }) (λ s edit trees rows. rows) (λ s edit trees rows. rows)
     (λ s laid. laid) (λ s trees rows. rows)
 
@@ -380,7 +393,8 @@ puts_kept edit = record no_change { kept = edit }
 
 pub kept_reads : ReadsSo table.Kept kept_key kept_table (alone kept_row) (FitsRows (alone kept_row) FitsKept) puts_kept
 kept_reads =
-    reads_so table.Kept kept_key kept_table (alone kept_row) (map kept_row) (flat_map_single kept_row) FitsKept (FitsRows (alone kept_row) FitsKept) (λ x fits. fits.0) (one_fits kept_row FitsKept) (λ s. s.kept) puts_kept
+    reads_so table.Kept kept_key kept_table (alone kept_row) (map kept_row) (flat_map_single kept_row) FitsKept
+    (FitsRows (alone kept_row) FitsKept) (λ x fits. fits.0) (one_fits kept_row FitsKept) (λ s. s.kept) puts_kept
     (λ s read. read.later.0) (λ s edit read laid. record { laid = laid; sound = read.sound; later = read.later.1 }) (λ s edit trees rows. rows) (λ s edit trees rows. rows)
     (λ s laid. laid) (λ s trees rows. rows)
 
@@ -389,7 +403,9 @@ puts_places edit = record no_change { places = edit }
 
 pub places_reads : ReadsSo table.Places place_key places_table (alone place_row) (FitsRows (alone place_row) FitsPlace) puts_places
 places_reads =
-    reads_so table.Places place_key places_table (alone place_row) (map place_row) (flat_map_single place_row) FitsPlace (FitsRows (alone place_row) FitsPlace) (λ x fits. fits.0) (one_fits place_row FitsPlace) (λ s. s.places) puts_places
+    reads_so table.Places place_key places_table (alone place_row) (map place_row) (flat_map_single place_row)
+    FitsPlace (FitsRows (alone place_row) FitsPlace) (λ x fits. fits.0) (one_fits place_row FitsPlace)
+    (λ s. s.places) puts_places
     (λ s read. read.later.0) (λ s edit read laid. record { laid = laid; sound = read.sound; later = read.later.1 }) (λ s edit trees rows. rows) (λ s edit trees rows. rows)
     (λ s laid. laid) (λ s trees rows. rows)
 
@@ -398,7 +414,9 @@ puts_routes edit = record no_change { routes = edit }
 
 pub routes_reads : ReadsSo table.Fixed route_key fixed_table (alone route_row) (FitsRows (alone route_row) IsRoute) puts_routes
 routes_reads =
-    reads_so table.Fixed route_key fixed_table (alone route_row) (map route_row) (flat_map_single route_row) IsRoute (FitsRows (alone route_row) IsRoute) (λ x fits. fits.0) (one_fits route_row IsRoute) (λ s. s.routes) puts_routes
+    reads_so table.Fixed route_key fixed_table (alone route_row) (map route_row) (flat_map_single route_row) IsRoute
+    (FitsRows (alone route_row) IsRoute) (λ x fits. fits.0) (one_fits route_row IsRoute) (λ s. s.routes)
+    puts_routes
     (λ s read. read.later.0) (λ s edit read laid. record { laid = laid; sound = read.sound; later = read.later.1 }) (λ s edit trees rows. rows) (λ s edit trees rows. rows)
     (λ s laid. laid) (λ s trees rows. rows)
 
@@ -407,7 +425,9 @@ puts_vehicles edit = record no_change { vehicles = edit }
 
 pub vehicles_reads : ReadsSo table.Vehicles vehicle_key vehicles_table (alone vehicle_row) (FitsRows (alone vehicle_row) IsVehicle) puts_vehicles
 vehicles_reads =
-    reads_so table.Vehicles vehicle_key vehicles_table (alone vehicle_row) (map vehicle_row) (flat_map_single vehicle_row) IsVehicle (FitsRows (alone vehicle_row) IsVehicle) (λ x fits. fits.0) (one_fits vehicle_row IsVehicle) (λ s. s.vehicles) puts_vehicles
+    reads_so table.Vehicles vehicle_key vehicles_table (alone vehicle_row) (map vehicle_row)
+    (flat_map_single vehicle_row) IsVehicle (FitsRows (alone vehicle_row) IsVehicle) (λ x fits. fits.0)
+    (one_fits vehicle_row IsVehicle) (λ s. s.vehicles) puts_vehicles
     (λ s read. read.later.0) (λ s edit read laid. record { laid = laid; sound = read.sound; later = read.later.1 }) (λ s edit trees rows. rows) (λ s edit trees rows. rows)
     (λ s laid. laid) (λ s trees rows. rows)
 
@@ -416,7 +436,9 @@ puts_riders edit = record no_change { riders = edit }
 
 pub riders_reads : ReadsSo table.Riders rider_key riders_table (alone rider_row) (FitsRows (alone rider_row) FitsRider) puts_riders
 riders_reads =
-    reads_so table.Riders rider_key riders_table (alone rider_row) (map rider_row) (flat_map_single rider_row) FitsRider (FitsRows (alone rider_row) FitsRider) (λ x fits. fits.0) (one_fits rider_row FitsRider) (λ s. s.riders) puts_riders
+    reads_so table.Riders rider_key riders_table (alone rider_row) (map rider_row) (flat_map_single rider_row)
+    FitsRider (FitsRows (alone rider_row) FitsRider) (λ x fits. fits.0) (one_fits rider_row FitsRider)
+    (λ s. s.riders) puts_riders
     (λ s read. read.later.0) (λ s edit read laid. record { laid = laid; sound = read.sound; later = read.later.1 }) (λ s edit trees rows. rows) (λ s edit trees rows. rows)
     (λ s laid. laid) (λ s trees rows. rows)
 
@@ -425,7 +447,9 @@ puts_entries edit = record no_change { entries = edit }
 
 pub entries_reads : ReadsSo table.Entries entry_key entries_table (alone entry_row) (FitsRows (alone entry_row) FitsFiled) puts_entries
 entries_reads =
-    reads_so table.Entries entry_key entries_table (alone entry_row) (map entry_row) (flat_map_single entry_row) FitsFiled (FitsRows (alone entry_row) FitsFiled) (λ x fits. fits.0) (one_fits entry_row FitsFiled) (λ s. s.entries) puts_entries
+    reads_so table.Entries entry_key entries_table (alone entry_row) (map entry_row) (flat_map_single entry_row)
+    FitsFiled (FitsRows (alone entry_row) FitsFiled) (λ x fits. fits.0) (one_fits entry_row FitsFiled)
+    (λ s. s.entries) puts_entries
     (λ s read. read.later.0) (λ s edit read laid. record { laid = laid; sound = read.sound; later = read.later.1 }) (λ s edit trees rows. rows) (λ s edit trees rows. rows)
     (λ s laid. laid) (λ s trees rows. rows)
 
@@ -434,7 +458,8 @@ puts_trips edit = record no_change { trips = edit }
 
 pub trips_reads : ReadsSo table.Trips trip_key trips_table (alone trip_row) (FitsRows (alone trip_row) FitsTrip) puts_trips
 trips_reads =
-    reads_so table.Trips trip_key trips_table (alone trip_row) (map trip_row) (flat_map_single trip_row) FitsTrip (FitsRows (alone trip_row) FitsTrip) (λ x fits. fits.0) (one_fits trip_row FitsTrip) (λ s. s.trips) puts_trips
+    reads_so table.Trips trip_key trips_table (alone trip_row) (map trip_row) (flat_map_single trip_row) FitsTrip
+    (FitsRows (alone trip_row) FitsTrip) (λ x fits. fits.0) (one_fits trip_row FitsTrip) (λ s. s.trips) puts_trips
     (λ s read. read.later.0) (λ s edit read laid. record { laid = laid; sound = read.sound; later = read.later.1 }) (λ s edit trees rows. rows) (λ s edit trees rows. rows)
     (λ s laid. laid) (λ s trees rows. rows)
 
@@ -443,7 +468,9 @@ puts_planned edit = record no_change { planned = edit }
 
 pub planned_reads : ReadsSo table.Stops plan_key stops_table stop_rows (FitsRows stop_rows IsStoredPlan) puts_planned
 planned_reads =
-    reads_so table.Stops plan_key stops_table stop_rows (flat_map stop_rows) (λ xs. refl) (FitsRows stop_rows IsStoredPlan) (FitsRows stop_rows IsStoredPlan) (λ x fits. fits) (λ x fits. fits) (λ s. s.planned) puts_planned
+    reads_so table.Stops plan_key stops_table stop_rows (flat_map stop_rows) (λ xs. refl)
+    (FitsRows stop_rows IsStoredPlan) (FitsRows stop_rows IsStoredPlan) (λ x fits. fits) (λ x fits. fits)
+    (λ s. s.planned) puts_planned
     (λ s read. read.later.0) (λ s edit read laid. record { laid = laid; sound = read.sound; later = read.later.1 }) (λ s edit trees rows. rows) (λ s edit trees rows. rows)
     (λ s laid. laid) (λ s trees rows. rows)
 
@@ -510,7 +537,8 @@ riders_sound s xs each alike table.Entries sound = (sound.0, alike_entries s.rid
 riders_sound s xs each alike table.Trips sound = (sound.0, alike_trips s.trips s.trips (trips_self s.trips) s.places s.riders xs s.last_trip alike sound.1)
 riders_sound s xs each alike _ sound = sound
 
-riders_rows : (s : State) (xs : List Rider) (trees : Trees) → map rider_row xs ≡ map rider_row s.riders → (t : TableName) → number_of t ≤ 11 → HasRowsIn s trees t → HasRowsIn (record s { riders = xs }) trees t
+riders_rows : (s : State) (xs : List Rider) (trees : Trees) → map rider_row xs ≡ map rider_row s.riders
+    → (t : TableName) → number_of t ≤ 11 → HasRowsIn s trees t → HasRowsIn (record s { riders = xs }) trees t
 riders_rows s xs trees same table.Riders low rows = subst (AreRows riders_table trees) (sym same) rows
 riders_rows s xs trees same table.RiderChairs low rows = absurd (omega arith)
 riders_rows s xs trees same _ low rows = rows
@@ -530,7 +558,8 @@ rider_keys xs ys ones others same = paired_by (λ x y. rider_key y ≡ rider_key
 riders_anew : (s : State) (edit : Edit Rider) → IsReadTo 11 s → IsFitting rider_key FitsRider edit → map rider_row edit.puts ≡ map rider_row s.riders → edited rider_key edit s.riders ≡ edit.puts
 riders_anew s edit read fits same = anew rider_key edit s.riders fits.puts (rider_keys edit.puts s.riders fits.each read.sound.1.1.1.1.1.1.0.0 same)
 
-pub rider_chairs_read : (s : State) (edit : Edit Rider) → IsReadTo 11 s → IsFitting rider_key FitsRider edit → map rider_row edit.puts ≡ map rider_row s.riders → IsReadIn table.RiderChairs (applied (puts_riders edit) s)
+pub rider_chairs_read : (s : State) (edit : Edit Rider) → IsReadTo 11 s → IsFitting rider_key FitsRider edit
+    → map rider_row edit.puts ≡ map rider_row s.riders → IsReadIn table.RiderChairs (applied (puts_riders edit) s)
 rider_chairs_read s edit read fits same =
     subst (λ (xs : List Rider). IsReadIn table.RiderChairs (record s { riders = xs })) (sym (riders_anew s edit read fits same)) (rider_chairs_on s edit.puts read fits.each same)
 
@@ -569,12 +598,16 @@ vehicle_chairs_on s xs read each same =
     }
 
 vehicle_keys : (xs ys : List Vehicle) → Each IsVehicle xs → Each IsVehicle ys → map vehicle_row xs ≡ map vehicle_row ys → Paired (λ x y. vehicle_key y ≡ vehicle_key x) xs ys
-vehicle_keys xs ys ones others same = paired_by (λ x y. vehicle_key y ≡ vehicle_key x) IsVehicle vehicle_row (λ x y fits also same. sym (ap (λ row. pair_key (number_in 0 row) (number_in 1 row)) same)) xs ys ones others same
+vehicle_keys xs ys ones others same = paired_by (λ x y. vehicle_key y ≡ vehicle_key x) IsVehicle vehicle_row
+    (λ x y fits also same. sym (ap (λ row. pair_key (number_in 0 row) (number_in 1 row)) same)) xs ys ones others same
 
-vehicles_anew : (s : State) (edit : Edit Vehicle) → IsReadTo 12 s → IsFitting vehicle_key IsVehicle edit → map vehicle_row edit.puts ≡ map vehicle_row s.vehicles → edited vehicle_key edit s.vehicles ≡ edit.puts
+vehicles_anew : (s : State) (edit : Edit Vehicle) → IsReadTo 12 s → IsFitting vehicle_key IsVehicle edit
+    → map vehicle_row edit.puts ≡ map vehicle_row s.vehicles → edited vehicle_key edit s.vehicles ≡ edit.puts
 vehicles_anew s edit read fits same = anew vehicle_key edit s.vehicles fits.puts (vehicle_keys edit.puts s.vehicles fits.each read.sound.1.1.1.1.1.0.0 same)
 
-pub vehicle_chairs_read : (s : State) (edit : Edit Vehicle) → IsReadTo 12 s → IsFitting vehicle_key IsVehicle edit → map vehicle_row edit.puts ≡ map vehicle_row s.vehicles → IsReadIn table.VehicleChairs (applied (puts_vehicles edit) s)
+pub vehicle_chairs_read : (s : State) (edit : Edit Vehicle) → IsReadTo 12 s → IsFitting vehicle_key IsVehicle edit
+    → map vehicle_row edit.puts ≡ map vehicle_row s.vehicles
+    → IsReadIn table.VehicleChairs (applied (puts_vehicles edit) s)
 vehicle_chairs_read s edit read fits same =
     subst (λ (xs : List Vehicle). IsReadIn table.VehicleChairs (record s { vehicles = xs })) (sym (vehicles_anew s edit read fits same)) (vehicle_chairs_on s edit.puts read fits.each same)
 
@@ -598,7 +631,8 @@ trips_sound s xs each alike table.Travel low sound = (sound.0, alike_tables s.tr
 trips_sound s xs each alike table.TripChairs low sound = absurd (omega arith)
 trips_sound s xs each alike _ low sound = sound
 
-trips_rows : (s : State) (xs : List Trip) (trees : Trees) → map trip_row xs ≡ map trip_row s.trips → (t : TableName) → number_of t ≤ 13 → HasRowsIn s trees t → HasRowsIn (record s { trips = xs }) trees t
+trips_rows : (s : State) (xs : List Trip) (trees : Trees) → map trip_row xs ≡ map trip_row s.trips → (t : TableName)
+    → number_of t ≤ 13 → HasRowsIn s trees t → HasRowsIn (record s { trips = xs }) trees t
 trips_rows s xs trees same table.Trips low rows = subst (AreRows trips_table trees) (sym same) rows
 trips_rows s xs trees same table.TripChairs low rows = absurd (omega arith)
 trips_rows s xs trees same _ low rows = rows
@@ -618,7 +652,8 @@ trip_keys xs ys ones others same = paired_by (λ x y. trip_key y ≡ trip_key x)
 trips_anew : (s : State) (edit : Edit Trip) → IsReadTo 13 s → IsFitting trip_key FitsTrip edit → map trip_row edit.puts ≡ map trip_row s.trips → edited trip_key edit s.trips ≡ edit.puts
 trips_anew s edit read fits same = anew trip_key edit s.trips fits.puts (trip_keys edit.puts s.trips fits.each read.sound.1.1.1.1.1.1.1.1.0.0 same)
 
-pub trip_chairs_read : (s : State) (edit : Edit Trip) → IsReadTo 13 s → IsFitting trip_key FitsTrip edit → map trip_row edit.puts ≡ map trip_row s.trips → IsReadIn table.TripChairs (applied (puts_trips edit) s)
+pub trip_chairs_read : (s : State) (edit : Edit Trip) → IsReadTo 13 s → IsFitting trip_key FitsTrip edit
+    → map trip_row edit.puts ≡ map trip_row s.trips → IsReadIn table.TripChairs (applied (puts_trips edit) s)
 trip_chairs_read s edit read fits same =
     subst (λ (xs : List Trip). IsReadIn table.TripChairs (record s { trips = xs })) (sym (trips_anew s edit read fits same)) (trip_chairs_on s edit.puts read fits.each same)
 

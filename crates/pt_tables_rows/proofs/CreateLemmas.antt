@@ -1,5 +1,7 @@
 -- What the statements that create the tables do, one after the other, and which rows a new desk then has.
-use Rattle.std.proofs.Common.{◌≡◌, ◌≢◌, ◌<◌, ◌+◌, ◌-◌, ℕ, zero, suc, List, [], ◌∷◌, ◌++◌, IsPermutation, false, None, Some, Ok, refl, sym, ap, subst, ◌∙◌, arith, slice_get, slice_index_or, fold, map, drop, take, length}
+use Rattle.std.proofs.Common.{◌≡◌, ◌≢◌, ◌<◌, ◌+◌, ◌-◌, ℕ, zero, suc, List, [], ◌∷◌, ◌++◌, IsPermutation, false, None}
+use Rattle.std.proofs.Common.{Some, Ok, refl, sym, ap, subst, ◌∙◌, arith, slice_get, slice_index_or, fold, map, drop}
+use Rattle.std.proofs.Common.{take, length}
 use Rattle.std.specs.List.{AllByRecursion}
 use Rattle.sqlite.specs.Command.TheVariants.{CreateTable, CreateIndex}
 use Rattle.sqlite.specs.Table.{Table}
@@ -20,7 +22,9 @@ use Rattle.pt_base.specs.declared.policy.Policy.{Policy}
 use Rattle.pt_requests.specs.declared.caller.Caller.{Caller}
 use Rattle.pt_desk_rules.specs.State.{State, new_state}
 use Rattle.pt_tables_rows.specs.Rows.{desk_row, caller_row}
-use Rattle.pt_tables_rows.specs.Schema.{desk_schema, first_schema, no_schema, tables, first_tables, chairs_tables, desk_table, callers_table, kept_table, places_table, fixed_table, vehicles_table, riders_table}
+use Rattle.pt_tables_rows.specs.Schema.{desk_schema, first_schema, no_schema, tables, first_tables, chairs_tables}
+use Rattle.pt_tables_rows.specs.Schema.{desk_table, callers_table, kept_table, places_table, fixed_table}
+use Rattle.pt_tables_rows.specs.Schema.{vehicles_table, riders_table}
 use Rattle.pt_tables_rows.specs.Schema.{entries_table, trips_table, stops_table, travel_table, rider_chairs_table, vehicle_chairs_table, trip_chairs_table, trip_indexes, trips_rider, trips_day}
 use Rattle.pt_tables_rows.specs.declared.schema.TheConstants.{FIRST_TABLES, ADDITIONS}
 use Rattle.pt_tables_rows.specs.Tables.{AddsChairs, AreRows, Fills, HasRows, HaveRowids, IsBlank, IsFirstBlank, Stands, columns_of}
@@ -271,7 +275,9 @@ module _ (n : ℕ) (index : Index) (step : IndexStep n index) where
       let same : made.index ≡ as_defined index = same_value (sym made.defined ∙ step.defined) in
       let after : first.0.schema ≡ added_after (n + 1) = made.is ∙ ap (λ s. indexed s trips_table made.index) has ∙ ap (indexed (added_after n) trips_table) same ∙ step.next in
       let now : new.now ≡ first.0 = ap (λ (p : Tally × Database). p.1) (same_value first.2) in
-      let keeps : KeepsRows (first_tables ++ take n chairs_tables) old.now.trees first.0.trees = subst (λ ts. KeepsRows ts old.now.trees first.0.trees) (ap (λ (s : Schema). s.tables) has ∙ step.there) made.rows in (
+      let keeps : KeepsRows (first_tables ++ take n chairs_tables) old.now.trees first.0.trees = subst
+      (λ ts. KeepsRows ts old.now.trees first.0.trees) (ap (λ (s : Schema). s.tables) has ∙ step.there)
+      made.rows in (
         ap (λ (d : Database). d.schema) now ∙ after,
         subst (λ (d : Database). KeepsRows (first_tables ++ take n chairs_tables) old.now.trees d.trees) (sym now) keeps,
       )

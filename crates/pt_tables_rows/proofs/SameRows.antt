@@ -50,7 +50,10 @@ use Rattle.pt_records.proofs.OrderLemmas.{Each-both}
 use Rattle.pt_records.proofs.TableLemmas.{IsInOrder-edited}
 use Rattle.pt_scheduling.specs.Plan.{Plan, plan_key}
 use Rattle.pt_records.specs.Keys.{pair_key}
-use Rattle.pt_tables_rows.specs.Rows.{desk_row, caller_row, place_row, rider_row, vehicle_row, trip_row, status_number, route_row, kept_row, entry_row, first_number, second_number, entry_conditions, entry_words, row_if, rider_chair_rows, vehicle_chair_rows, trip_chair_rows, stop_rows, travel_rows}
+use Rattle.pt_tables_rows.specs.Rows.{desk_row, caller_row, place_row, rider_row, vehicle_row, trip_row}
+use Rattle.pt_tables_rows.specs.Rows.{status_number, route_row, kept_row, entry_row, first_number, second_number}
+use Rattle.pt_tables_rows.specs.Rows.{entry_conditions, entry_words, row_if, rider_chair_rows, vehicle_chair_rows}
+use Rattle.pt_tables_rows.specs.Rows.{trip_chair_rows, stop_rows, travel_rows}
 use Rattle.pt_tables_rows.proofs.SameRowsLists.{one_same, told_by_rows, told_by_row, told_by_any_row, told_beside, each_any}
 use Rattle.pt_tables_rows.proofs.SameRowsBytes.{line-told, reply-told, grant-told}
 use Rattle.pt_tables_rows.proofs.ColumnLemmas.{integer_in, number_in, known_in, bytes_in, known-value}
@@ -383,7 +386,8 @@ pair_in row = pair_key (number_in 0 row) (number_in 1 row)
 
 -- records in order, with the same rows in the table, are the same
 module _ (shown : List Row) where
-  pub same_callers : (one other : List Caller) → IsInOrder caller_key one → IsInOrder caller_key other → IsPermutation shown (map caller_row one) → IsPermutation shown (map caller_row other) → one ≡ other
+  pub same_callers : (one other : List Caller) → IsInOrder caller_key one → IsInOrder caller_key other
+      → IsPermutation shown (map caller_row one) → IsPermutation shown (map caller_row other) → one ≡ other
   same_callers one other order other_order rows other_rows =
       told_by_any_row caller_key (number_in 0) caller_row (λ x. refl) caller-told one other order other_order (shared _ _ _ rows other_rows)
 

@@ -92,7 +92,8 @@ unfolding understood everything desk_schema
 take_rider_text = record { at = 11; fields = col 1 0 ∷ []; there = refl; is = refl; plain = (refl, refl); shows = λ given r. refl }
 
 module _ (rider : Rider) (old new : State) (count : ℕ) (has : old.now.schema ≡ desk_schema) where
-  pub puts_rider_chair : IsTrue rider.wheelchair → Executes PUT_RIDER_CHAIR.now (rider_row_beside rider) old new (Ok count) → Puts rider_chairs_table rider_key FitsRider rider_chair_rows rider old.now new.now
+  pub puts_rider_chair : IsTrue rider.wheelchair → Executes PUT_RIDER_CHAIR.now (rider_row_beside rider) old new
+      (Ok count) → Puts rider_chairs_table rider_key FitsRider rider_chair_rows rider old.now new.now
   puts_rider_chair marked h =
       puts_so rider_chairs_table (λ r. refl) rider_key FitsRider (λ x. x.wheelchair) rider_row_beside (λ x. refl) rider (rider_stored rider) marked refl old.now new.now
       (upserted PUT_RIDER_CHAIR.now (rider_row_beside rider) rider_chairs_table (pos rider.id) (rider_stored rider) (put_rider_text rider) old new count has h)
@@ -189,7 +190,9 @@ so_all P true row holds = (holds, tt)
 so_all P false row holds = tt
 
 module _ (version : Vehicle) (old new : State) (count : ℕ) (has : old.now.schema ≡ desk_schema) where
-  pub adds_vehicle_chairs : IsTrue (not (version.chairs == 0)) → Executes INSERT_VEHICLE_CHAIRS.now (vehicle_row_beside version) old new (Ok count) → Adds vehicle_chairs_table (vehicle_chair_rows version) old.now new.now
+  pub adds_vehicle_chairs : IsTrue (not (version.chairs == 0))
+      → Executes INSERT_VEHICLE_CHAIRS.now (vehicle_row_beside version) old new (Ok count)
+      → Adds vehicle_chairs_table (vehicle_chair_rows version) old.now new.now
   adds_vehicle_chairs marked h =
       let own : vehicle_chair_rows version ≡ vehicle_row_beside version ∷ [] = ap (λ s. row_if s (vehicle_row_beside version)) marked in
       subst (λ rs. Adds vehicle_chairs_table rs old.now new.now) (sym own)
@@ -200,5 +203,7 @@ module _ (version : Vehicle) (old new : State) (count : ℕ) (has : old.now.sche
   takes_vehicle_chairs low h =
       let params = number_value version.id ∷ number_value version.from_day ∷ [] in
       takes vehicle_key vehicle_chair_rows vehicle_chairs_table IsVehicle version (has_columns params)
-      (λ x fits. so_all _ (not (x.chairs == 0)) (vehicle_row_beside x) (pair-told x.id x.from_day version.id version.from_day (number_value x.chairs ∷ []) (day-word x.from_day fits.from_day) low)) old.now new.now
+      (λ x fits. so_all _ (not (x.chairs == 0)) (vehicle_row_beside x)
+      (pair-told x.id x.from_day version.id version.from_day (number_value x.chairs ∷ [])
+      (day-word x.from_day fits.from_day) low)) old.now new.now
       (removes DELETE_VEHICLE_CHAIRS.now params vehicle_chairs_table (has_columns params) (vehicle_delete version.id version.from_day) old new count has h)

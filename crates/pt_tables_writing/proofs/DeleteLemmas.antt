@@ -128,7 +128,9 @@ module _ (text : List ℕ) (params : Row) (table : Table) (passing : Row → Boo
       let w : Writes old new None (Delete it.at command) (statement_of text (understood desk_schema text)) params count =
       runs_as text params old new desk_schema has (Delete it.at command) it.is it.plain count h in
       placed old new params table it.at (Delete it.at command) w.tally it.there
-      (subst (λ s. Does old.step_limit (mode_of old) params (record old.now { schema = s }) (statement_of text (understood desk_schema text)) None (Delete it.at command) (Ok (w.tally, new.now))) has w.changed)
+      (subst (λ s. Does old.step_limit (mode_of old) params (record old.now { schema = s })
+      (statement_of text (understood desk_schema text)) None (Delete it.at command) (Ok (w.tally, new.now))) has
+      w.changed)
 
   -- the ids go out of the table
   abbrev Loses : List Row → Type 0

@@ -67,6 +67,7 @@ writes_desk policy last_trip old new count has h p n =
     (IsPermutation-same _ _ (ap (λ rows. desk_row policy last_trip ∷ rows) (one_row p n)))
     (upserted WRITE_DESK.now (desk_row policy last_trip) desk_table (pos 1) (stored policy last_trip) (write_text policy last_trip) old new count has h)
 
-pub desk_sound : (policy : Policy) (last_trip : ℕ) (old new : State) (count : ℕ) → old.now.schema ≡ desk_schema → Executes WRITE_DESK.now (desk_row policy last_trip) old new (Ok count) → IsDatabase new.now
+pub desk_sound : (policy : Policy) (last_trip : ℕ) (old new : State) (count : ℕ) → old.now.schema ≡ desk_schema
+    → Executes WRITE_DESK.now (desk_row policy last_trip) old new (Ok count) → IsDatabase new.now
 desk_sound policy last_trip old new count has h =
     upserted_sound WRITE_DESK.now (desk_row policy last_trip) desk_table (pos 1) (stored policy last_trip) (write_text policy last_trip) old new count has h

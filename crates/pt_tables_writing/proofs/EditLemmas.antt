@@ -93,7 +93,9 @@ module _ (limit : Option ℕ) (params : Row) (table : Table) where
       Puts task new db (Ok w)
       ⊎ ((there : Row) × (more : List Row) × AreConflicts target (desk_schema).indexes table (db table.tree) new (there ∷ more) × Updates task q (params ++ rowid there ∷ shown table new) db (Ok w))
 
-  pub upserts : (new : Row) (db : Trees) (w : Written) (target : Option (List ℕ)) (q : Program) → Tries task Abort (record { target = target; update = Some q } ∷ []) new db (Ok w) → PutsOrUpdates new db w target q
+  pub upserts : (new : Row) (db : Trees) (w : Written) (target : Option (List ℕ)) (q : Program)
+      → Tries task Abort (record { target = target; update = Some q } ∷ []) new db (Ok w)
+      → PutsOrUpdates new db w target q
   upserts new db w target q (inl big) = absurd (let e = big.1 in cc)
   upserts new db w target q (inr tried) = judged tried.0 tried.2
     where

@@ -18,8 +18,12 @@ use Rattle.pt_base.specs.declared.trip.Trip.{Trip}
 use Rattle.pt_base.specs.declared.vehicle.Vehicle.{Vehicle}
 use Rattle.pt_desk_rules.specs.Parts as part
 use Rattle.pt_desk_rules.specs.State.{State, caller_key, kept_key, place_key, route_key, rider_key, entry_key, vehicle_key, travel_key, trip_key}
-use Rattle.pt_tables_rows.specs.Rows.{desk_row, caller_row, kept_row, place_row, route_row, vehicle_row, rider_row, entry_row, trip_row, stop_rows, travel_rows, rider_chair_rows, vehicle_chair_rows, trip_chair_rows}
-use Rattle.pt_tables_rows.specs.Schema.{desk_schema, desk_table, callers_table, kept_table, places_table, fixed_table, vehicles_table, riders_table, entries_table, trips_table, stops_table, travel_table, rider_chairs_table, vehicle_chairs_table, trip_chairs_table}
+use Rattle.pt_tables_rows.specs.Rows.{desk_row, caller_row, kept_row, place_row, route_row, vehicle_row, rider_row}
+use Rattle.pt_tables_rows.specs.Rows.{entry_row, trip_row, stop_rows, travel_rows, rider_chair_rows}
+use Rattle.pt_tables_rows.specs.Rows.{vehicle_chair_rows, trip_chair_rows}
+use Rattle.pt_tables_rows.specs.Schema.{desk_schema, desk_table, callers_table, kept_table, places_table, fixed_table}
+use Rattle.pt_tables_rows.specs.Schema.{vehicles_table, riders_table, entries_table, trips_table, stops_table}
+use Rattle.pt_tables_rows.specs.Schema.{travel_table, rider_chairs_table, vehicle_chairs_table, trip_chairs_table}
 use Rattle.pt_tables_rows.specs.Tables.{AreRows, HasRows, HaveRowids, Stands, columns_of, IsStoredPlan}
 use Rattle.pt_tables_rows.proofs.SameRowsLists.{all_back, all_front}
 use Rattle.pt_store.specs.Listed.{known_of}
@@ -341,7 +345,9 @@ people_lead change known a e four content agrees told puts stands =
     let two = three.1 in
     let m = marks_of content in
     let s1 : State = record content { callers = edited caller_key change.callers content.callers } in
-    let all_1 = step 1 s1 m a two.0 (are content a stands) (λ _. two.1 content.callers agrees.callers (puts.ranges.parts part.callers) told.callers (told.ranges.parts part.callers)) refl refl refl refl in
+    let all_1 = step 1 s1 m a two.0 (are content a stands)
+    (λ _. two.1 content.callers agrees.callers (puts.ranges.parts part.callers) told.callers
+    (told.ranges.parts part.callers)) refl refl refl refl in
     let s2 : State = record s1 { kept = edited kept_key change.kept content.kept } in
     let all_2 = step 2 s2 m two.0 three.0 all_1 (λ has. two.2 has content.kept agrees.kept (puts.ranges.parts part.kept) told.kept (told.ranges.parts part.kept)) refl refl refl refl in
     let both = three.2 all_2.schema content agrees in
@@ -395,7 +401,9 @@ trips_lead change known plans a d three content agrees told puts stands =
     let all_2 = step 13 s1 n both.0 two.0 all_1 (λ has. both.2 has (puts.ranges.parts part.trips) told.trips (told.ranges.parts part.trips)) refl refl refl refl in
     let s2 : State = record s1 { planned = edited plan_key change.planned s.planned } in
     let all_3 = step 9 s2 n two.0 three.0 all_2
-    (λ has. two.2 has content.planned agrees.1 (stored-plans change.planned.puts (puts.ranges.parts part.planned) puts.stops) told.planned (stored-plans s.planned (told.ranges.parts part.planned) told.stops)) refl refl refl refl in
+    (λ has. two.2 has content.planned agrees.1 (stored-plans change.planned.puts (puts.ranges.parts part.planned)
+    puts.stops) told.planned (stored-plans s.planned (told.ranges.parts part.planned) told.stops)) refl refl refl
+    refl in
     let s3 : State = with_trips change s in
     let all_4 = step 0 s3 n three.0 d all_3 (λ has. (three.2 has).0 content agrees.0 content.policy content.last_trip) refl refl refl refl in
     (stand s3 d all_4, (three.2 all_3.schema).1)

@@ -47,7 +47,9 @@ rowids_are table top uncounted = rw uncounted refl
 
 -- a step that puts rows
 pub puts : (table : Table) (db next : Trees) (rows : List Row) (rowids : Rowids) (sources : List Row) → (edit_of db table [] rowids 0 sources).news ≡ rows
-    → works desk_schema Enforced 0 table.tree [] rows ≡ [] → Edited desk_schema Enforced db (edit_of db table [] rowids 0 sources) (Ok next) → (next table.tree ≡ put_all (db table.tree) rows) × Others table db next
+    → works desk_schema Enforced 0 table.tree [] rows ≡ []
+    → Edited desk_schema Enforced db (edit_of db table [] rowids 0 sources) (Ok next)
+    → (next table.tree ≡ put_all (db table.tree) rows) × Others table db next
 puts table db next rows rowids sources news quiet h =
     let edit = edit_of db table [] rowids 0 sources in
     let all = one_step desk_schema Enforced db next edit (subst (λ ns. works desk_schema Enforced 0 table.tree [] ns ≡ []) (sym news) quiet) h in
@@ -77,5 +79,6 @@ module _ (text : List ℕ) (params : Row) (table : Table) (rows : List Row → L
         others = subst (λ ts. Others table db ts) (sym trees) made.1;
       }
 
-  pub inserts : (count : ℕ) → old.now.schema ≡ desk_schema → Executes text params old new (Ok count) → Leaves table (put_all (old.now.trees table.tree) (rows (old.now.trees table.tree))) old.now new.now
+  pub inserts : (count : ℕ) → old.now.schema ≡ desk_schema → Executes text params old new (Ok count)
+      → Leaves table (put_all (old.now.trees table.tree) (rows (old.now.trees table.tree))) old.now new.now
   inserts count has h = wrote (inserted text params table it.at it.there it.plain old new count has h (Values it.terms it.width) it.is)

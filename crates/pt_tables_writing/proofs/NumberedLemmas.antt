@@ -1,5 +1,7 @@
 -- The rows of a table whose rowids are the numbers of its records, with one put or removed, in any order.
-use Rattle.std.proofs.Common.{◌≡◌, ◌⊎◌, inl, inr, ℕ, ℤ, pos, ◌<◌, ◌==◌, List, [], ◌∷◌, map, filter, not, Bool, true, false, cond, refl, sym, ap, subst, ◌∙◌, Less, Equal, Greater, int_cmp, arith, true≢false}
+use Rattle.std.proofs.Common.{◌≡◌, ◌⊎◌, inl, inr, ℕ, ℤ, pos, ◌<◌, ◌==◌, List, [], ◌∷◌, map, filter, not, Bool, true}
+use Rattle.std.proofs.Common.{false, cond, refl, sym, ap, subst, ◌∙◌, Less, Equal, Greater, int_cmp, arith}
+use Rattle.std.proofs.Common.{true≢false}
 use Rattle.std.specs.Prelude.{IsPermutation}
 use Rattle.std.specs.Ordering.{match_ordering, nat_cmp, is_eq, is_lt}
 use Rattle.std.specs.declared.cmp.Ordering.{Ordering}
@@ -106,7 +108,8 @@ module _ {A : Type 0} (key : A → ℕ) where
 
   none_same : (new : A) (xs : List A) → Each (λ x. key new < key x) xs → others new xs ≡ xs
   none_same new [] above = refl
-  none_same new (x ∷ xs) above = let other : not (key x == key new) ≡ true = grind (arith, nat_tests, above.0) in ap (λ b. cond b (x ∷ others new xs) (others new xs)) other ∙ ap (λ l. x ∷ l) (none_same new xs above.1)
+  none_same new (x ∷ xs) above = let other : not (key x == key new) ≡ true = grind (arith, nat_tests, above.0) in ap
+      (λ b. cond b (x ∷ others new xs) (others new xs)) other ∙ ap (λ l. x ∷ l) (none_same new xs above.1)
 
   -- after a put, a list has the new record and those with other keys
   pub put-permutation : (new : A) (xs : List A) → IsInOrder key xs → IsPermutation (put key new xs) (new ∷ others new xs)

@@ -34,7 +34,9 @@ use Rattle.pt_tables_rows.specs.Rows.{number_value, caller_row, kept_row, place_
 use Rattle.pt_tables_rows.specs.Schema.{desk_schema, tables, callers_table, kept_table, places_table, riders_table, fixed_table, trips_table}
 use Rattle.pt_tables_rows.specs.Tables.{columns_of}
 use Rattle.pt_tables_writing.specs.Writes.{Puts, Takes}
-use Rattle.pt_tables_writing.specs.declared.numbered.TheConstants.{PUT_CALLER, TAKE_CALLER, PUT_KEPT, TAKE_KEPT, PUT_PLACE, TAKE_PLACE, PUT_RIDER, TAKE_RIDER, PUT_ROUTE, TAKE_ROUTE, PUT_TRIP, TAKE_TRIP}
+use Rattle.pt_tables_writing.specs.declared.numbered.TheConstants.{PUT_CALLER, TAKE_CALLER, PUT_KEPT, TAKE_KEPT}
+use Rattle.pt_tables_writing.specs.declared.numbered.TheConstants.{PUT_PLACE, TAKE_PLACE, PUT_RIDER, TAKE_RIDER}
+use Rattle.pt_tables_writing.specs.declared.numbered.TheConstants.{PUT_ROUTE, TAKE_ROUTE, PUT_TRIP, TAKE_TRIP}
 use Rattle.pt_tables_writing.proofs.CastLemmas.{cast_null, cast_int, optional_cast}
 use Rattle.pt_tables_writing.proofs.NumberedWrites.{IsNumbered, puts_record, takes_record}
 use Rattle.pt_tables_writing.proofs.RemovalLemmas.{IsRemoval, removed}

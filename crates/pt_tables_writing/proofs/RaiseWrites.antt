@@ -58,7 +58,8 @@ updated_is : (r : Row) (policy : Policy) (last_trip : ℕ) → columns_of desk_t
     → eval_all fields (given ∷ r ∷ []) ≡ number_value 1 ∷ stored policy last_trip
 unfolding everything
 updated_is r policy last_trip is =
-    ap (λ cs. column cs 0 ∷ column cs 0 ∷ Null ∷ number_value table_version ∷ column cs 2 ∷ column cs 3 ∷ column cs 4 ∷ column cs 5 ∷ column cs 6 ∷ column cs 7 ∷ column cs 8 ∷ column cs 9 ∷ column cs 10 ∷ []) is
+    ap (λ cs. column cs 0 ∷ column cs 0 ∷ Null ∷ number_value table_version ∷ column cs 2 ∷ column cs 3 ∷ column cs 4
+    ∷ column cs 5 ∷ column cs 6 ∷ column cs 7 ∷ column cs 8 ∷ column cs 9 ∷ column cs 10 ∷ []) is
 
 -- the statement as it was made
 module _ (old new : State) (count : ℕ) (has : old.now.schema ≡ desk_schema) (h : Executes RAISE_VERSION.now given old new (Ok count)) where
@@ -68,7 +69,9 @@ module _ (old new : State) (count : ℕ) (has : old.now.schema ≡ desk_schema) 
   wrote : Wrote old new given desk_table (Update 0 program)
   wrote =
       placed old new given desk_table 0 (Update 0 program) ran.tally refl
-      (subst (λ s. Does old.step_limit (mode_of old) given (record old.now { schema = s }) (statement_of RAISE_VERSION.now (understood desk_schema RAISE_VERSION.now)) None (Update 0 program) (Ok (ran.tally, new.now))) has ran.changed)
+      (subst (λ s. Does old.step_limit (mode_of old) given (record old.now { schema = s })
+      (statement_of RAISE_VERSION.now (understood desk_schema RAISE_VERSION.now)) None (Update 0 program)
+      (Ok (ran.tally, new.now))) has ran.changed)
 
   pub raised_sound : IsDatabase new.now
   raised_sound = ran.sound

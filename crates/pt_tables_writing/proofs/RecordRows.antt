@@ -94,8 +94,12 @@ module _ {A : Type 0} (key : A → ℕ) where
         ∙ go (key x == k) refl
       where
         go : (b : Bool) → (key x == k) ≡ b → filter (λ r. not (passes r)) (rows x) ++ flat_map rows (without k xs) ≡ flat_map rows (cond (not b) (x ∷ without k xs) (without k xs))
-        go true is = ap (λ l. l ++ flat_map rows (without k xs)) (filter_none (λ r. not (passes r)) (rows x) (all_weaker (λ r. passes r ≡ (key x == k)) (λ r. not (passes r) ≡ false) (λ r h. ap not (h ∙ is)) (rows x) (tells x fits.0)))
-        go false is = ap (λ l. l ++ flat_map rows (without k xs)) (filter_all (λ r. not (passes r)) (rows x) (all_weaker (λ r. passes r ≡ (key x == k)) (λ r. not (passes r) ≡ true) (λ r h. ap not (h ∙ is)) (rows x) (tells x fits.0)))
+        go true is = ap (λ l. l ++ flat_map rows (without k xs))
+            (filter_none (λ r. not (passes r)) (rows x) (all_weaker (λ r. passes r ≡ (key x == k))
+            (λ r. not (passes r) ≡ false) (λ r h. ap not (h ∙ is)) (rows x) (tells x fits.0)))
+        go false is = ap (λ l. l ++ flat_map rows (without k xs))
+            (filter_all (λ r. not (passes r)) (rows x) (all_weaker (λ r. passes r ≡ (key x == k))
+            (λ r. not (passes r) ≡ true) (λ r h. ap not (h ∙ is)) (rows x) (tells x fits.0)))
 
     pub takes : (table : Table) (Fits : A → Type 0) (gone : A) (passes : Row → Bool) → ((x : A) → Fits x → AllByRecursion (λ r. passes r ≡ (key x == key gone)) (rows x)) → (old new : Database)
         → Removes table passes old new → Takes table key Fits rows gone old new

@@ -1,6 +1,8 @@
 -- What the statements on the stops of vehicles mean.
 use denote.Enum.Bare.{same_true, sameb}
-use Rattle.std.proofs.Common.{◌≡◌, ◌≢◌, ℕ, ◌+◌, ◌-◌, ◌==◌, ◌&&◌, ◌<◌, ◌≤◌, ◌^◌, ℤ, pos, zero, suc, Bool, true, false, not, cond, List, [], ◌∷◌, drop, drop-cons, add-one, ◌++◌, length, map, filter, flat_map, Ok, get_or, take, refl, sym, ap, ap₂, subst, ◌∙◌, arith}
+use Rattle.std.proofs.Common.{◌≡◌, ◌≢◌, ℕ, ◌+◌, ◌-◌, ◌==◌, ◌&&◌, ◌<◌, ◌≤◌, ◌^◌, ℤ, pos, zero, suc, Bool, true, false}
+use Rattle.std.proofs.Common.{not, cond, List, [], ◌∷◌, drop, drop-cons, add-one, ◌++◌, length, map, filter, flat_map}
+use Rattle.std.proofs.Common.{Ok, get_or, take, refl, sym, ap, ap₂, subst, ◌∙◌, arith}
 use Rattle.std.specs.Prelude.{nat_le}
 use Rattle.std.specs.List.{AllByRecursion}
 use Rattle.std.proofs.lemmas.Bool.Decides.{nat_tests}
@@ -109,7 +111,11 @@ stops_delete vehicle day = record {
 told : (gone : Plan) → gone.day < 2 ^ 32 → (vehicle day : ℕ) → day < 2 ^ 32 → (place : ℕ) (stops : List PlannedStop)
     → AllByRecursion (λ r. has_columns (number_value gone.vehicle ∷ number_value gone.day ∷ []) r ≡ (pair_key vehicle day == plan_key gone)) (stop_rows_from place vehicle day stops)
 told gone low vehicle day fits place [] = tt
-told gone low vehicle day fits place (stop ∷ later) = (pair-told vehicle day gone.vehicle gone.day (drop 2 (stop_row vehicle day (pos place) stop)) fits low, told gone low vehicle day fits (place + 1) later)
+told gone low vehicle day fits place (stop ∷ later) = (
+  pair-told vehicle day gone.vehicle gone.day (drop 2 (stop_row vehicle day (pos place) stop)) fits low,
+  told gone
+      low vehicle day fits (place + 1) later,
+)
 
 pub plan-taken : (gone : Plan) → gone.day < 2 ^ 32 → (old new : State) (count : ℕ) → old.now.schema ≡ desk_schema
     → Executes DELETE_STOPS.now (number_value gone.vehicle ∷ number_value gone.day ∷ []) old new (Ok count) → Takes stops_table plan_key IsStoredPlan stop_rows gone old.now new.now

@@ -101,7 +101,9 @@ pub travel-taken : (gone : DatedTable) (old new : State) (count : ℕ) → old.n
 travel-taken gone old new count has h =
     let params = number_value gone.from_day ∷ [] in
     takes travel_key travel_rows travel_table FitsTravel gone (has_columns params)
-    (λ x fits. all-map (λ r. has_columns params r ≡ (travel_key x == travel_key gone)) (travel_row x.from_day) (λ drive. one-told x.from_day gone.from_day (drop 1 (travel_row x.from_day drive))) ((0, 0, 0) ∷ x.rows)) old.now new.now
+    (λ x fits. all-map (λ r. has_columns params r ≡ (travel_key x == travel_key gone)) (travel_row x.from_day)
+    (λ drive. one-told x.from_day gone.from_day (drop 1 (travel_row x.from_day drive))) ((0, 0, 0) ∷ x.rows))
+    old.now new.now
     (removes DELETE_TRAVEL.now params travel_table (has_columns params) (travel_delete gone.from_day) old new count has h)
 
 pub drives-more : (at from_day : ℕ) (drives : List travel.Row) (item drive : travel.Row) → at < length drives → item ≡ get_or drives at item → drive ≡ item

@@ -112,7 +112,9 @@ module _ (text : List ℕ) (params : Row) (table : Table) (id : ℤ) (stored : R
 
   -- a row with this number is updated to the stored one
   changed : (r : Row) → rowid r ≡ Int id
-      → put_all (without_all (db table.tree) (ids_of (updated_row r ∷ []))) (edit_of db table (ids_of (updated_row r ∷ [])) Given 1 (updated_row r ∷ [])).news ≡ put_row stored (without_rowid id (db table.tree))
+      → put_all (without_all (db table.tree) (ids_of (updated_row r ∷ [])))
+      (edit_of db table (ids_of (updated_row r ∷ [])) Given 1 (updated_row r ∷ [])).news ≡ put_row stored
+      (without_rowid id (db table.tree))
   changed r is =
       ap (λ v. put_row (cast_row table (drop 1 (updated_row r))) (without_rowid (id_in v) (db table.tree))) (it.shows r is)
       ∙ ap (λ new. put_row new (without_rowid id (db table.tree))) (ap (cast_row table) (it.changes r is) ∙ it.cast)
@@ -167,8 +169,12 @@ module _ (text : List ℕ) (params : Row) (table : Table) (id : ℤ) (stored : R
       let ended = went tried.2 in
       let top = count_of counted.0 in
       let each = went (subst (λ rows. TriesEach task Abort clauses rows top (nothing db) (Ok tried.0)) rows_are tried.1) in
-      let new_is : with_rowid (rowids_for table top) (db table.tree) (cast_row table stored) ≡ stored = ap (with_rowid (rowids_for table top) (db table.tree)) it.cast ∙ rowids_are table top (db table.tree) stored id it.keyed it.uncounted in
-      let one = upserts old.step_limit params table stored db each.0 (Some (0 ∷ [])) (number_program table.tree it.place it.fields) (subst (λ r. Tries task Abort clauses r db (Ok each.0)) new_is each.1) in
+      let new_is : with_rowid (rowids_for table top) (db table.tree) (cast_row table stored) ≡ stored = ap
+      (with_rowid (rowids_for table top) (db table.tree)) it.cast
+      ∙ rowids_are table top (db table.tree) stored id it.keyed it.uncounted in
+      let one = upserts old.step_limit params table stored db each.0 (Some (0 ∷ []))
+      (number_program table.tree it.place it.fields) (subst (λ r. Tries task Abort clauses r db (Ok each.0))
+      new_is each.1) in
       let made = put_or_updated text params table id stored it old.step_limit db each.0 one in
       let after : tried.0.0.trees ≡ each.0.trees = ap (λ (p : Written × ℤ). p.0.trees) (same_value each.2) in
       let uncounted : ended.0 ≡ tried.0.0.trees = counts_none task tried.0.0.trees ended.0 counted.0 _ it.uncounted ended.1 in

@@ -62,7 +62,8 @@ vehicle_delete id day = record {
 }
 
 pub vehicle-taken : (gone : Vehicle) → gone.from_day < 2 ^ 32 → (old new : State) (count : ℕ) → old.now.schema ≡ desk_schema
-    → Executes DELETE_VEHICLE.now (number_value gone.id ∷ number_value gone.from_day ∷ []) old new (Ok count) → Takes vehicles_table vehicle_key IsVehicle (λ v. vehicle_row v ∷ []) gone old.now new.now
+    → Executes DELETE_VEHICLE.now (number_value gone.id ∷ number_value gone.from_day ∷ []) old new (Ok count)
+    → Takes vehicles_table vehicle_key IsVehicle (λ v. vehicle_row v ∷ []) gone old.now new.now
 vehicle-taken gone low old new count has h =
     let params = number_value gone.id ∷ number_value gone.from_day ∷ [] in
     takes vehicle_key (λ v. vehicle_row v ∷ []) vehicles_table IsVehicle gone (has_columns params)

@@ -47,7 +47,8 @@ concluded old new params table command tally h =
     let done = went h in
     record { done = done.0; writes = done.1; now = ap (λ (p : Tally × Database). p.1) (same_value (went (went done.2).2).2) }
 
-pub placed : (old new : State) (params : Row) (table : Table) (at : ℕ) (command : Command) (tally : Tally) → slice_get tables at ≡ Some table → Placed old params command tally new.now (desk_schema).tables at
+pub placed : (old new : State) (params : Row) (table : Table) (at : ℕ) (command : Command) (tally : Tally)
+    → slice_get tables at ≡ Some table → Placed old params command tally new.now (desk_schema).tables at
     → Wrote old new params table command
 placed old new params table at command tally there h =
     let found = subst (λ ts. Placed old params command tally new.now ts at) tables_are h in
@@ -60,7 +61,9 @@ module _ (text : List ℕ) (params : Row) (table : Table) (at : ℕ) (there : sl
   inserted from is =
       let w : Writes old new None (Insert at from) (statement_of text (understood desk_schema text)) params count = runs_as text params old new desk_schema has (Insert at from) is plain count h in
       placed old new params table at (Insert at from) w.tally there
-      (subst (λ s. Does old.step_limit (mode_of old) params (record old.now { schema = s }) (statement_of text (understood desk_schema text)) None (Insert at from) (Ok (w.tally, new.now))) has w.changed)
+      (subst (λ s. Does old.step_limit (mode_of old) params (record old.now { schema = s })
+      (statement_of text (understood desk_schema text)) None (Insert at from) (Ok (w.tally, new.now))) has
+      w.changed)
 
   -- the database that is left is one
   pub inserted_sound : (from : Source) → command_of (understood desk_schema text) ≡ Insert at from → IsDatabase new.now

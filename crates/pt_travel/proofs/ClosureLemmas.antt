@@ -137,7 +137,8 @@ module _ (table : List Row) where
     pub triangles-all : length places ≤ 100 → HasTriangles (length places) lines
     triangles-all few i j k in_i in_j in_k = elim (cases_lt (entry lines i k + entry lines k j) 1440) [
       | inl within ↦
-          let over = attained-over (get_or places i 0) (get_or places k 0) (get_or places j 0) (entry lines i k) (entry lines k j) (closed.attained i k in_i in_k) (closed.attained k j in_k in_j) within in
+          let over = attained-over (get_or places i 0) (get_or places k 0) (get_or places j 0) (entry lines i k)
+          (entry lines k j) (closed.attained i k in_i in_k) (closed.attained k j in_k in_j) within in
           omega (arith, least-entry i j in_i in_j over.0 over.1, over.2)
       | inr far ↦ omega (arith, closed.capped i j (omega (arith, closed.size)) (omega arith))
     ]

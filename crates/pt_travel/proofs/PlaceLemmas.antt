@@ -35,8 +35,16 @@ pub crowded : (places list : List ℕ) (place : ℕ) → ((i j : ℕ) → i < le
     → (Contains places place → ⊥) → All (Contains list) places → Contains list place → length places < length list
 crowded places list place distinct new all one =
     let more = places ++ place ∷ [] in
-    let apart : IsDistinct eqb places = IsDistinct-from_apart eqb places (λ i j d before in_j. ne_eqb (get_or places i d) (get_or places j d) (λ e. absurd (omega (arith, distinct i j (omega arith) in_j (get_or_default places i 0 d (omega arith) ∙ e ∙ sym (get_or_default places j 0 d in_j)))))) in
-    let distinct_more : IsDistinct eqb more = IsDistinct-push nat_eq_equiv places place apart (false_from_ne_true (is_member eqb places place) (λ e. new ((is_member-Decides Decides-eqb places place).0 e))) in
+    let apart : IsDistinct eqb places = IsDistinct-from_apart eqb places
+    (λ i j d before in_j. ne_eqb (get_or places i d) (get_or places j d)
+    (λ e. absurd (omega (
+      arith,
+      distinct i j (omega arith) in_j
+          (get_or_default places i 0 d (omega arith) ∙ e ∙ sym (get_or_default places j 0 d in_j)),
+    )))) in
+    let distinct_more : IsDistinct eqb more = IsDistinct-push nat_eq_equiv places place apart
+    (false_from_ne_true (is_member eqb places place) (λ e. new
+    ((is_member-Decides Decides-eqb places place).0 e))) in
     let within : (q : ℕ) → is_member eqb more q ≡ true → is_member eqb list q ≡ true =
     λ q e. (is_member-Decides Decides-eqb list q).1 (All-contains (Contains list) more q (All-push (Contains list) places place all one) ((is_member-Decides Decides-eqb more q).0 e)) in
     omega (arith, length-le_from_is_member nat_eq_equiv more list distinct_more within, length-append places (place ∷ []))

@@ -7,7 +7,9 @@ use Rattle.csv.specs.Records.{field_at}
 use Rattle.pt_base.specs.declared.fault.Fault.{Fault}
 use Rattle.pt_travel.specs.Chain.{Row}
 use Rattle.pt_travel.specs.Table.{IsTable, NamesOnly, Rises}
-use Rattle.pt_travel.specs.Text.{AreSound, BeginsWith, Conflicts, HasFault, HasRecords, IsFirstFault, IsNextFault, IsReadSoFar, IsSortedFrom, IsSound, ReadsAs, Record, field, header, number_after, row_of}
+use Rattle.pt_travel.specs.Text.{AreSound, BeginsWith, Conflicts, HasFault, HasRecords, IsFirstFault, IsNextFault}
+use Rattle.pt_travel.specs.Text.{IsReadSoFar, IsSortedFrom, IsSound, ReadsAs, Record, field, header, number_after}
+use Rattle.pt_travel.specs.Text.{row_of}
 use Rattle.pt_travel.proofs.SortedLemmas.{rises-once}
 
 -- what a record's `get` gives, and nothing past its last field
@@ -45,7 +47,9 @@ apart-rises : (rows : List Row) → Rises rows → (row other : Row) → Contain
 apart-rises rows rises row other there here (from, to, minutes) = minutes (ap (λ (r : Row). r.2) (rises-once rows rises row other there here from to))
 
 module _ (places : List ℕ) (records : List Record) (fields : Record) where
-  sorted-more : (old new : List Row) → IsSortedFrom records old → Rises new → ((other : Row) → Contains new other ↔ (Contains old other ⊎ (other ≡ row_of fields))) → IsSortedFrom (records ++ fields ∷ []) new
+  sorted-more : (old new : List Row) → IsSortedFrom records old → Rises new
+      → ((other : Row) → Contains new other ↔ (Contains old other ⊎ (other ≡ row_of fields)))
+      → IsSortedFrom (records ++ fields ∷ []) new
   sorted-more old new sorted rises put = (rises, λ other. (into other, out other))
     where
       into : (other : Row) → Contains new other → Contains (map row_of (records ++ fields ∷ [])) other

@@ -36,7 +36,9 @@ rises uses rising j k below fits =
     (λ (same : k ≤ j). let e : j ≡ k = omega arith in rw e (omega arith))
     (cases_lt j k)
 
-least_from : (uses : List ℕ) (day bound reached : ℕ) → Contains (days_with uses day) reached → bound ≤ reached → reached ≤ day → ((k : ℕ) → k < length uses → bound ≤ slice_index uses k → reached ≤ slice_index uses k) → IsLeastFrom (days_with uses day) bound reached
+least_from : (uses : List ℕ) (day bound reached : ℕ) → Contains (days_with uses day) reached → bound ≤ reached
+    → reached ≤ day → ((k : ℕ) → k < length uses → bound ≤ slice_index uses k → reached ≤ slice_index uses k)
+    → IsLeastFrom (days_with uses day) bound reached
 least_from uses day bound reached has above within least = record {
   member = has;
   from = above;
@@ -94,7 +96,9 @@ none_counted p xs (suc i) fits fails =
     ap (λ n. count_by p (take n xs)) e ∙ count_by_more_no p xs i 0 (omega arith) (fails i (omega arith)) ∙ none_counted p xs i (omega arith) (λ k below. fails k (omega arith))
 
 -- the day or the next use opens a period
-pub walk_opens : (uses : List ℕ) (day index opening others : ℕ) → IsStrictlyIncreasing uses → IsWalked uses day index opening others → index < length uses → opening + 365 ≤ min (slice_index uses index) day → IsWalked uses day index (min (slice_index uses index) day) 0
+pub walk_opens : (uses : List ℕ) (day index opening others : ℕ) → IsStrictlyIncreasing uses
+    → IsWalked uses day index opening others → index < length uses → opening + 365 ≤ min (slice_index uses index) day
+    → IsWalked uses day index (min (slice_index uses index) day) 0
 walk_opens uses day index opening others rising w fits passed = record {
   opens = next opening _ w.opens (least_from uses day (opening + 365) _ (reached_member uses day index fits) passed (omega arith) (λ k within from.
       ⊎_elim
@@ -109,7 +113,9 @@ walk_opens uses day index opening others rising w fits passed = record {
   within = omega arith;
 }
 
-walked_behind : (uses : List ℕ) (day index opening others : ℕ) → IsWalked uses day index opening others → min (slice_index uses index) day < opening + 365 → opening + 365 ≤ day → (k : ℕ) → k < index + 1 → slice_index uses k < opening + 365
+walked_behind : (uses : List ℕ) (day index opening others : ℕ) → IsWalked uses day index opening others
+    → min (slice_index uses index) day < opening + 365 → opening + 365 ≤ day → (k : ℕ) → k < index + 1
+    → slice_index uses k < opening + 365
 walked_behind uses day index opening others w lasts later k below =
     ⊎_elim
     (λ (before : k < index). w.behind later k before)
@@ -117,7 +123,10 @@ walked_behind uses day index opening others w lasts later k below =
     (cases_lt k index)
 
 -- the next use is counted or not
-pub walk_counts : (uses : List ℕ) (day index opening others : ℕ) (b : Bool) → IsWalked uses day index opening others → index < length uses → min (slice_index uses index) day < opening + 365 → is_other opening day (slice_index uses index) ≡ b → IsWalked uses day (index + 1) opening (cond b (others + 1) others)
+pub walk_counts : (uses : List ℕ) (day index opening others : ℕ) (b : Bool) → IsWalked uses day index opening others
+    → index < length uses → min (slice_index uses index) day < opening + 365
+    → is_other opening day (slice_index uses index) ≡ b
+    → IsWalked uses day (index + 1) opening (cond b (others + 1) others)
 walk_counts uses day index opening others true w fits lasts is = record {
   opens = w.opens;
   begun = w.begun;
@@ -151,7 +160,10 @@ ended opening reached is from = grind (arith, nat_tests)
 goes_on : (opening reached : ℕ) → is_in_period opening reached ≡ true → reached < opening + 365
 goes_on opening reached is = grind (arith, nat_tests)
 
-opened : (uses : List ℕ) (day index opening others opening' others' : ℕ) → IsStrictlyIncreasing uses → IsWalked uses day index opening others → index < length uses → Opens (min (slice_index uses index) day) opening others opening' others' → IsWalked uses day index opening' others' × (min (slice_index uses index) day < opening' + 365)
+opened : (uses : List ℕ) (day index opening others opening' others' : ℕ) → IsStrictlyIncreasing uses
+    → IsWalked uses day index opening others → index < length uses
+    → Opens (min (slice_index uses index) day) opening others opening' others'
+    → IsWalked uses day index opening' others' × (min (slice_index uses index) day < opening' + 365)
 opened uses day index opening others opening' others' rising w fits (inl e) =
     let from = w.ahead index (omega arith) fits in
     let begun = w.begun in
@@ -161,7 +173,10 @@ opened uses day index opening others opening' others' rising w fits (inr e) =
     rw (e.1, e.2) (w, goes_on opening _ e.0)
 
 -- one more use is walked over
-pub walk_step : (uses : List ℕ) (day index opening others opening' others' counted : ℕ) → IsStrictlyIncreasing uses → IsWalked uses day index opening others → index < length uses → Opens (min (slice_index uses index) day) opening others opening' others' → Counts opening' day (slice_index uses index) others' counted → IsWalked uses day (index + 1) opening' counted
+pub walk_step : (uses : List ℕ) (day index opening others opening' others' counted : ℕ) → IsStrictlyIncreasing uses
+    → IsWalked uses day index opening others → index < length uses
+    → Opens (min (slice_index uses index) day) opening others opening' others'
+    → Counts opening' day (slice_index uses index) others' counted → IsWalked uses day (index + 1) opening' counted
 walk_step uses day index opening others opening' others' counted rising w fits opens (inl e) =
     let o = opened uses day index opening others opening' others' rising w fits opens in
     rw e.1 (walk_counts uses day index opening' others' true o.0 fits o.1 e.0)

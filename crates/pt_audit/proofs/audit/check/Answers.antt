@@ -40,11 +40,14 @@ none_told (Some n) true told = absurd (cc)
 none_told (Some n) false told = (λ yes. absurd (cc), λ none. absurd (cc))
 
 -- if the log is not the one line `NODIRECT`, a right log has cases
-only_cases : (minutes : ℕ → ℕ → Option ℕ) (duties : List Duty) (asked : Asked) (lines : List Line) → (lines ≡ line.NoDirect ∷ [] → ⊥) → IsRightLog minutes duties asked lines → BeginsWithCases minutes (cases_of_day asked duties) lines []
+only_cases : (minutes : ℕ → ℕ → Option ℕ) (duties : List Duty) (asked : Asked) (lines : List Line)
+    → (lines ≡ line.NoDirect ∷ [] → ⊥) → IsRightLog minutes duties asked lines
+    → BeginsWithCases minutes (cases_of_day asked duties) lines []
 only_cases minutes duties asked lines other right = elim right [ inl direct ↦ absurd (other direct.0) | inr cases ↦ cases ]
 
 -- if it is that line, the log is right exactly if there is no way
-no_way_alone : (minutes : ℕ → ℕ → Option ℕ) (duties : List Duty) (asked : Asked) (lines : List Line) → lines ≡ line.NoDirect ∷ [] → IsRightLog minutes duties asked lines ↔ (minutes asked.origin asked.goal ≡ None)
+no_way_alone : (minutes : ℕ → ℕ → Option ℕ) (duties : List Duty) (asked : Asked) (lines : List Line)
+    → lines ≡ line.NoDirect ∷ [] → IsRightLog minutes duties asked lines ↔ (minutes asked.origin asked.goal ≡ None)
 no_way_alone minutes duties asked lines same = (
   λ right. elim right [
     | inl direct ↦ direct.1
@@ -72,7 +75,9 @@ returns-in-None-clause-right g c =
     let k = c.loop-duty.duty-index in
     let duty = c.duty-item.result in
     let lines = c.as_slice-lines.result.now in
-    let around : duties ≡ take k duties ++ duty ∷ drop (suc k) duties = subst (λ (d : Duty). duties ≡ take k duties ++ d ∷ drop (suc k) duties) (sym c.duty-item.is) (list_around duties k duty c.loop-duty-test.true) in
+    let around : duties ≡ take k duties ++ duty ∷ drop (suc k) duties = subst
+    (λ (d : Duty). duties ≡ take k duties ++ d ∷ drop (suc k) duties) (sym c.duty-item.is)
+    (list_around duties k duty c.loop-duty-test.true) in
     let ends : EndsCases minutes (cases_of_day asked duties) lines 0 None =
     none_more minutes (λ (d : Duty). cases_of_vehicle asked d.vehicle.now (stops_of d.route.now)) lines 0 c.loop-duty.at
     (take k duties) c.loop-duty.invariant.right duty duties (drop (suc k) duties) around c.in-None.ensures.right in (

@@ -12,7 +12,9 @@ loop-j-init g c =
     let none : c.args.i - c.args.i ≡ 0 = omega arith in
     record {
       within = c.requires.start;
-      right = subst (λ (n : ℕ). EndsCases (g.T.Times.minutes c.args.times.now) (flat_map (one_case c.args.asked.now c.args.duty.now.vehicle.now stops c.args.i) (numbers_from c.args.i n)) c.args.lines.now c.args.start (Some c.args.start)) (sym none)
+      right = subst (λ (n : ℕ). EndsCases (g.T.Times.minutes c.args.times.now)
+          (flat_map (one_case c.args.asked.now c.args.duty.now.vehicle.now stops c.args.i) (numbers_from c.args.i n))
+          c.args.lines.now c.args.start (Some c.args.start)) (sym none)
           (ends_at_start (g.T.Times.minutes c.args.times.now) c.args.lines.now c.args.start);
     }
 
@@ -33,13 +35,21 @@ returns-in_err-at-clause-right g c =
     let cases = one_case c.args.asked.now c.args.duty.now.vehicle.now stops c.args.i in
     let ends : EndsCases (g.T.Times.minutes c.args.times.now) (flat_map cases (numbers_from c.args.i (length stops + 1 - c.args.i))) c.args.lines.now c.args.start None =
     none_more (g.T.Times.minutes c.args.times.now) cases c.args.lines.now c.args.start c.loop-j.at (numbers_from c.args.i (c.loop-j.j - c.args.i)) c.loop-j.invariant.right c.loop-j.j
-    (numbers_from c.args.i (length stops + 1 - c.args.i)) (numbers_from (c.loop-j.j + 1) (length stops + 1 - c.loop-j.j - 1)) (numbers_around c.args.i c.loop-j.j (length stops + 1) c.loop-j.auto.j (omega arith)) c.in_err-at.ensures.right in
-    subst (λ (r : Option ℕ). EndsCases (g.T.Times.minutes c.args.times.now) (cases_of_pickup c.args.asked.now c.args.duty.now.vehicle.now stops c.args.i) c.args.lines.now c.args.start r) (sym c.from_residual.ensures)
-    (subst (λ (cs : List Case). EndsCases (g.T.Times.minutes c.args.times.now) cs c.args.lines.now c.args.start None) (cases_of_pickup-one c.args.asked.now c.args.duty.now.vehicle.now stops c.args.i) ends)
+    (numbers_from c.args.i (length stops + 1 - c.args.i))
+    (numbers_from (c.loop-j.j + 1) (length stops + 1 - c.loop-j.j - 1))
+    (numbers_around c.args.i c.loop-j.j (length stops + 1) c.loop-j.auto.j (omega arith))
+    c.in_err-at.ensures.right in
+    subst (λ (r : Option ℕ). EndsCases (g.T.Times.minutes c.args.times.now)
+    (cases_of_pickup c.args.asked.now c.args.duty.now.vehicle.now stops c.args.i) c.args.lines.now c.args.start r)
+    (sym c.from_residual.ensures)
+    (subst (λ (cs : List Case). EndsCases (g.T.Times.minutes c.args.times.now) cs c.args.lines.now c.args.start None)
+    (cases_of_pickup-one c.args.asked.now c.args.duty.now.vehicle.now stops c.args.i) ends)
 
 pub returns-clause-right : goal.returns-clause-right
 returns-clause-right g c =
     let stops = stops_of c.args.duty.now.route.now in
     let end : c.loop-j.j - c.args.i ≡ length stops + 1 - c.args.i = omega arith in
     subst (λ (cs : List Case). EndsCases (g.T.Times.minutes c.args.times.now) cs c.args.lines.now c.args.start (Some c.loop-j.at))
-    (ap (λ (n : ℕ). flat_map (one_case c.args.asked.now c.args.duty.now.vehicle.now stops c.args.i) (numbers_from c.args.i n)) end ∙ cases_of_pickup-one c.args.asked.now c.args.duty.now.vehicle.now stops c.args.i) c.loop-j.invariant.right
+    (ap (λ (n : ℕ). flat_map (one_case c.args.asked.now c.args.duty.now.vehicle.now stops c.args.i)
+    (numbers_from c.args.i n)) end ∙ cases_of_pickup-one c.args.asked.now c.args.duty.now.vehicle.now stops
+    c.args.i) c.loop-j.invariant.right

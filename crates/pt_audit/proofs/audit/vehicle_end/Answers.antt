@@ -23,11 +23,17 @@ pub returns-in_err-at-clause-right : goal.returns-in_err-at-clause-right
 returns-in_err-at-clause-right g c =
     let stops = stops_of c.args.duty.now.route.now in
     let ends = none_more (g.T.Times.minutes c.args.times.now) (cases_of_pickup c.args.asked.now c.args.duty.now.vehicle.now stops) c.args.lines.now c.args.start c.loop-i.at
-    (numbers_from 0 c.loop-i.i) c.loop-i.invariant.right c.loop-i.i (numbers_from 0 (length stops + 1)) (numbers_from (c.loop-i.i + 1) (length stops + 1 - c.loop-i.i - 1)) (numbers_below_around c.loop-i.i (length stops + 1) (omega arith)) c.in_err-at.ensures.right in
-    subst (λ (r : Option ℕ). EndsCases (g.T.Times.minutes c.args.times.now) (cases_of_vehicle c.args.asked.now c.args.duty.now.vehicle.now stops) c.args.lines.now c.args.start r) (sym c.from_residual.ensures) ends
+    (numbers_from 0 c.loop-i.i) c.loop-i.invariant.right c.loop-i.i (numbers_from 0 (length stops + 1))
+    (numbers_from (c.loop-i.i + 1) (length stops + 1 - c.loop-i.i - 1))
+    (numbers_below_around c.loop-i.i (length stops + 1) (omega arith)) c.in_err-at.ensures.right in
+    subst (λ (r : Option ℕ). EndsCases (g.T.Times.minutes c.args.times.now)
+    (cases_of_vehicle c.args.asked.now c.args.duty.now.vehicle.now stops) c.args.lines.now c.args.start r)
+    (sym c.from_residual.ensures) ends
 
 pub returns-clause-right : goal.returns-clause-right
 returns-clause-right g c =
     let stops = stops_of c.args.duty.now.route.now in
     let end : c.loop-i.i ≡ length stops + 1 = omega arith in
-    subst (λ (n : ℕ). EndsCases (g.T.Times.minutes c.args.times.now) (flat_map (cases_of_pickup c.args.asked.now c.args.duty.now.vehicle.now stops) (numbers_from 0 n)) c.args.lines.now c.args.start (Some c.loop-i.at)) end c.loop-i.invariant.right
+    subst (λ (n : ℕ). EndsCases (g.T.Times.minutes c.args.times.now)
+    (flat_map (cases_of_pickup c.args.asked.now c.args.duty.now.vehicle.now stops) (numbers_from 0 n))
+    c.args.lines.now c.args.start (Some c.loop-i.at)) end c.loop-i.invariant.right

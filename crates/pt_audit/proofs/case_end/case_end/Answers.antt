@@ -40,7 +40,15 @@ pub raise_bound-requires : goal.raise_bound-requires
 raise_bound-requires g c =
     let minutes = g.T.Times.minutes c.args.times.now in
     let insertion = c.args.insertion.now in
-    omega (arith, insertion.route.now.short, length-with_trip insertion.asked.now insertion.i insertion.j (stops_of insertion.route.now) insertion.drop_later insertion.among, visit-among minutes insertion.vehicle.now (inserted_stops insertion) (slice_index c.loop-at.bounds) c.in-Raise.raise (c.is_right_raise.ensures.0 c.if-not-is_right_raise.false))
+    omega (
+      arith,
+      insertion.route.now.short,
+      length-with_trip insertion.asked.now insertion.i insertion.j
+          (stops_of insertion.route.now) insertion.drop_later insertion.among,
+      visit-among minutes insertion.vehicle.now
+          (inserted_stops insertion) (slice_index c.loop-at.bounds) c.in-Raise.raise
+          (c.is_right_raise.ensures.0 c.if-not-is_right_raise.false),
+    )
 
 pub returns-then-is_right_end-clause-right : goal.returns-then-is_right_end-clause-right
 returns-then-is_right_end-clause-right g c =

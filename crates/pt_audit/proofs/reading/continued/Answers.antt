@@ -5,13 +5,17 @@ use Rattle.pt_audit.proofs.reading.continued.Goals as goal
 pub returns-in_err-number-clause-all : goal.returns-in_err-number-clause-all
 returns-in_err-number-clause-all c = λ n more small ends is.
     let longer : ℕ = c.loop-digit.number * 10 + c.in-Some.digit in
-    let step = longer_number c.loop-digit.number c.in-Some.digit longer c.loop-digit.rest.now c.in-Some.after.now c.loop-digit.invariant.some (omega (arith, c.loop-digit.invariant.small)) c.in-Some.ensures.digit.0 refl c.in-Some.ensures.digit.1 in
+    let step = longer_number c.loop-digit.number c.in-Some.digit longer c.loop-digit.rest.now c.in-Some.after.now
+    c.loop-digit.invariant.some (omega (arith, c.loop-digit.invariant.small)) c.in-Some.ensures.digit.0 refl
+    c.in-Some.ensures.digit.1 in
     let fits = no_smaller longer n c.in-Some.after.now more (omega (arith, c.loop-digit.invariant.small, c.in-Some.ensures.digit.0)) small ends (sym step ∙ sym c.loop-digit.invariant.spelled ∙ is) in
     absurd (omega (arith, c.in_err-number.ensures.none, small, fits))
 
 pub loop-digit-preserved : goal.loop-digit-preserved
 loop-digit-preserved c =
-    let step = longer_number c.loop-digit.number c.in-Some.digit c.in_ok-number.number c.loop-digit.rest.now c.in-Some.after.now c.loop-digit.invariant.some (omega (arith, c.loop-digit.invariant.small)) c.in-Some.ensures.digit.0 c.in_ok-number.ensures.some.1 c.in-Some.ensures.digit.1 in
+    let step = longer_number c.loop-digit.number c.in-Some.digit c.in_ok-number.number c.loop-digit.rest.now
+    c.in-Some.after.now c.loop-digit.invariant.some (omega (arith, c.loop-digit.invariant.small))
+    c.in-Some.ensures.digit.0 c.in_ok-number.ensures.some.1 c.in-Some.ensures.digit.1 in
     record {
       some = omega (arith, c.loop-digit.invariant.some, c.in_ok-number.ensures.some.1);
       small = c.in_ok-number.ensures.some.0;

@@ -15,7 +15,9 @@ returns-in_err-first-clause-all c = λ n more small ends is.
 pub returns-then-first-eq0-clause-number : goal.returns-then-first-eq0-clause-number
 returns-then-first-eq0-clause-number c = (
   omega arith,
-  zero_spelled c.args.text.now c.in_ok-space.digits.now c.in_ok-first.rest.now c.in_ok-space.space.now c.in_ok-first.first c.in_ok-space.ensures.cases.0 c.if-space-ne32.false c.in_ok-first.ensures.digit.1 c.if-first-eq0.true,
+  zero_spelled c.args.text.now c.in_ok-space.digits.now c.in_ok-first.rest.now c.in_ok-space.space.now
+      c.in_ok-first.first c.in_ok-space.ensures.cases.0 c.if-space-ne32.false c.in_ok-first.ensures.digit.1
+      c.if-first-eq0.true,
 )
 
 pub returns-then-first-eq0-clause-all : goal.returns-then-first-eq0-clause-all
@@ -25,10 +27,17 @@ returns-then-first-eq0-clause-all c = λ n more small ends is.
 
 pub returns-clause-number : goal.returns-clause-number
 returns-clause-number c = if_some c.continued.result _ _ c.continued.ensures.number
-    (λ found holds. (holds.0, number_spelled c.args.text.now c.in_ok-space.digits.now c.in_ok-first.rest.now found.1.now c.in_ok-space.space.now c.in_ok-first.first c.from.result found.0 c.in_ok-space.ensures.cases.0 c.if-space-ne32.false c.in_ok-first.ensures.digit.0 c.in_ok-first.ensures.digit.1 c.from.ensures holds.1))
+    (λ found holds. (
+      holds.0,
+      number_spelled c.args.text.now c.in_ok-space.digits.now c.in_ok-first.rest.now
+          found.1.now c.in_ok-space.space.now c.in_ok-first.first c.from.result found.0 c.in_ok-space.ensures.cases.0
+          c.if-space-ne32.false c.in_ok-first.ensures.digit.0 c.in_ok-first.ensures.digit.1 c.from.ensures holds.1,
+    ))
 
 pub returns-clause-all : goal.returns-clause-all
 returns-clause-all c = λ n more small ends is.
     c.continued.ensures.all n more small ends
-    (ap (λ (x : ℕ). decimal x ++ c.in_ok-first.rest.now) c.from.ensures ∙ first_number c.in_ok-first.first c.in_ok-space.digits.now c.in_ok-first.rest.now c.in_ok-first.ensures.digit.0 c.in_ok-first.ensures.digit.1
+    (ap (λ (x : ℕ). decimal x ++ c.in_ok-first.rest.now) c.from.ensures
+    ∙ first_number c.in_ok-first.first c.in_ok-space.digits.now c.in_ok-first.rest.now
+    c.in_ok-first.ensures.digit.0 c.in_ok-first.ensures.digit.1
     ∙ ap (drop 1) (sym c.in_ok-space.ensures.cases.0 ∙ is))

@@ -24,7 +24,9 @@ returns-in_err-line-clause-all c = λ line more in_form two ends is.
     let parts = two_parts line c.in_ok-letter.letter.now c.args.text.now c.in_ok-letter.rest.now more in_form two is c.in_ok-letter.ensures.cases.0 in
     let first = c.in_ok-k.ensures.all parts.k (number_text parts.n ++ more) parts.small (space_ends parts.n more) parts.stands in
     let second = c.in_ok-n.ensures.all parts.n more parts.also_small ends first.1 in
-    let gives : c.line_with_two.result ≡ Some line = c.line_with_two.ensures ∙ ap (λ (k : ℕ). line_with_two c.in_ok-letter.letter.now k c.in_ok-n.n) first.0 ∙ ap (line_with_two c.in_ok-letter.letter.now parts.k) second.0 ∙ parts.makes in
+    let gives : c.line_with_two.result ≡ Some line = c.line_with_two.ensures
+    ∙ ap (λ (k : ℕ). line_with_two c.in_ok-letter.letter.now k c.in_ok-n.n) first.0
+    ∙ ap (line_with_two c.in_ok-letter.letter.now parts.k) second.0 ∙ parts.makes in
     (let none : c.line_with_two.result ≡ None = c.in_err-line.was in absurd (cc))
 
 pub returns-clause-line : goal.returns-clause-line

@@ -10,7 +10,8 @@ use Rattle.pt_conditions.proofs.reading.months_from.Goals as goal
 
 pub loop-part-preserved : goal.loop-part-preserved
 loop-part-preserved c = λ marks set spelled.
-    let next = YieldsList-turn (YieldsList-from_str_split 44 c.args.text.now (lit< tt) (cc) (cc) (cc)) c.loop-part.yielded _ c.loop-part.yielded_by _ _ c.in-Some.part c.in-Some.is c.next.ensures.steps in
+    let next = YieldsList-turn (YieldsList-from_str_split 44 c.args.text.now (lit< tt) (cc) (cc) (cc))
+    c.loop-part.yielded _ c.loop-part.yielded_by _ _ c.in-Some.part c.in-Some.is c.next.ensures.steps in
     let read = month_read c.args.text.now c.in-Some.part.now marks (length c.loop-part.yielded) c.parse.result set spelled next c.parse.ensures.value.0 in
     let number = ok_value c.parse.result _ _ c.in-Ok.is read.1 in
     let so_far = c.loop-part.invariant marks set spelled in
@@ -20,13 +21,15 @@ loop-part-preserved c = λ marks set spelled.
 
 pub returns-in_default : goal.returns-in_default
 returns-in_default c = λ marks set spelled.
-    let next = YieldsList-turn (YieldsList-from_str_split 44 c.args.text.now (lit< tt) (cc) (cc) (cc)) c.loop-part.yielded _ c.loop-part.yielded_by _ _ c.in-Some.part c.in-Some.is c.next.ensures.steps in
+    let next = YieldsList-turn (YieldsList-from_str_split 44 c.args.text.now (lit< tt) (cc) (cc) (cc))
+    c.loop-part.yielded _ c.loop-part.yielded_by _ _ c.in-Some.part c.in-Some.is c.next.ensures.steps in
     let read = month_read c.args.text.now c.in-Some.part.now marks (length c.loop-part.yielded) c.parse.result set spelled next c.parse.ensures.value.0 in
     absurd (ok-not_err c.parse.result _ _ read.1 c.in_default.is)
 
 pub returns-then-is_full : goal.returns-then-is_full
 returns-then-is_full c = λ marks set spelled.
-    let next = YieldsList-turn (YieldsList-from_str_split 44 c.args.text.now (lit< tt) (cc) (cc) (cc)) c.loop-part.yielded _ c.loop-part.yielded_by _ _ c.in-Some.part c.in-Some.is c.next.ensures.steps in
+    let next = YieldsList-turn (YieldsList-from_str_split 44 c.args.text.now (lit< tt) (cc) (cc) (cc))
+    c.loop-part.yielded _ c.loop-part.yielded_by _ _ c.in-Some.part c.in-Some.is c.next.ensures.steps in
     let read = month_read c.args.text.now c.in-Some.part.now marks (length c.loop-part.yielded) c.parse.result set spelled next c.parse.ensures.value.0 in
     let most = length-months marks set in
     let so_far = ap length (c.loop-part.invariant marks set spelled) ∙ length-take (length c.loop-part.yielded) (numbers_of marks) in

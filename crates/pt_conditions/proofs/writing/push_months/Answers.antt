@@ -11,7 +11,9 @@ push-requires-in-loop-index c =
     let month = length-month c.as_slice-number-items.result.now c.loop-index.index 0 months c.loop-index-test.true in
     let digits : length c.as_bytes.result.now ≤ 2 = omega (arith, ap length spelled, month) in
     let comma : length c.if-index-gt0.text.items ≤ length c.loop-index.text.items + 1 = elim c.if-index-gt0.branch [
-      | then-index-gt0 w ↦ let e : length c.if-index-gt0.text.items ≡ length c.loop-index.text.items + 1 = ap (λ t. length t.items) w.text-is ∙ ap length w.push.ensures ∙ length-append c.loop-index.text.items (44 ∷ []) in omega (arith, e)
+      | then-index-gt0 w ↦ let e : length c.if-index-gt0.text.items ≡ length c.loop-index.text.items + 1 = ap
+          (λ t. length t.items) w.text-is ∙ ap length w.push.ensures
+          ∙ length-append c.loop-index.text.items (44 ∷ []) in omega (arith, e)
       | else-index-gt0 w ↦ let e : length c.if-index-gt0.text.items ≡ length c.loop-index.text.items = ap (λ t. length t.items) w.text-is in omega (arith, e)
     ] in
     omega (arith, c.loop-index.invariant.short, digits, comma, c.as_slice-number-items.ensures.fits, c.requires, c.loop-index-test.true)
@@ -23,7 +25,9 @@ loop-index-preserved c =
     let month = length-month c.as_slice-number-items.result.now c.loop-index.index 0 months c.loop-index-test.true in
     let digits : length c.as_bytes.result.now ≤ 2 = omega (arith, ap length spelled, month) in
     let new = c.push-in-loop-index.ensures ∙ ap (λ t. c.if-index-gt0.text.items ++ t) spelled in
-    let longer : length c.push-in-loop-index.new.text.items ≡ length c.if-index-gt0.text.items + length c.as_bytes.result.now = ap length c.push-in-loop-index.ensures ∙ length-append c.if-index-gt0.text.items c.as_bytes.result.now in
+    let longer : length c.push-in-loop-index.new.text.items ≡ length c.if-index-gt0.text.items + length
+    c.as_bytes.result.now = ap length c.push-in-loop-index.ensures
+    ∙ length-append c.if-index-gt0.text.items c.as_bytes.result.now in
     elim c.if-index-gt0.branch [
       | then-index-gt0 w ↦
           let parted = ap (λ t. t.items) w.text-is ∙ w.push.ensures in

@@ -18,7 +18,9 @@ loop-end-preserved c k below a b from to near =
           let high : c.loop-end.end ≡ k + 1 = omega arith in
           let start : get_or line (c.loop-end.end - 1) origin ≡ a = ap (λ i. get_or line i origin) low ∙ get_or_from_slice_get line k a origin from in
           let end : get_or line c.loop-end.end origin ≡ b = ap (λ i. get_or line i origin) high ∙ get_or_from_slice_get line (k + 1) b origin to in
-          let near_read = subst (λ (z : Point). IsNearSegment c.args.feet c.args.point z (get_or line c.loop-end.end origin)) (sym start) (subst (λ (z : Point). IsNearSegment c.args.feet c.args.point a z) (sym end) near) in
+          let near_read = subst (λ (z : Point). IsNearSegment c.args.feet c.args.point z
+          (get_or line c.loop-end.end origin)) (sym start) (subst
+          (λ (z : Point). IsNearSegment c.args.feet c.args.point a z) (sym end) near) in
           elim c.else-not-is_outside_box.branch [
             | else-not-is_outside_box-via-then-not-is_outside_box+else-is_near_segment w ↦ let wrong = w.if-is_near_segment.ensures.1 near_read in cc
             | else-not-is_outside_box-via-else-not-is_outside_box w ↦

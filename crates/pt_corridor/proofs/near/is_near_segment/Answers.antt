@@ -15,7 +15,9 @@ returns-then-along-le0 c =
     let along_is : c.dot-along.result ≡ dot_product (p.x -ℤ a.x) (p.y -ℤ a.y) (b.x -ℤ a.x) (b.y -ℤ a.y) = cc in
     let length_is : c.squared_length.result ≡ squared_length (p.x -ℤ a.x) (p.y -ℤ a.y) = cc in
     let behind = not_above_zero c.dot-along.result (search rules) c.if-along-le0.true in
-    start_decided c.args.feet (p.x -ℤ a.x) (p.y -ℤ a.y) (b.x -ℤ a.x) (b.y -ℤ a.y) c.dot-along.result c.squared_length.result c.from.result c.from-2.result (omega arith) c.from.ensures c.from-2.ensures along_is length_is behind (search rules)
+    start_decided c.args.feet (p.x -ℤ a.x) (p.y -ℤ a.y) (b.x -ℤ a.x) (b.y -ℤ a.y) c.dot-along.result
+    c.squared_length.result c.from.result c.from-2.result (omega arith) c.from.ensures c.from-2.ensures along_is
+    length_is behind (search rules)
 
 pub returns-then-along-length : goal.returns-then-along-length
 returns-then-along-length c =
@@ -28,7 +30,9 @@ returns-then-along-length c =
     let east : p.x -ℤ b.x ≡ (p.x -ℤ a.x) -ℤ (b.x -ℤ a.x) = omega (arith, ints) in
     let north : p.y -ℤ b.y ≡ (p.y -ℤ a.y) -ℤ (b.y -ℤ a.y) = omega (arith, ints) in
     let past = not_above c.dot-length.result c.dot-along.result (search rules) (search rules) c.if-along-length.true in
-    end_decided c.args.feet (p.x -ℤ a.x) (p.y -ℤ a.y) (b.x -ℤ a.x) (b.y -ℤ a.y) (p.x -ℤ b.x) (p.y -ℤ b.y) c.dot-along.result c.dot-length.result c.squared_length-then-along-length.result c.from.result c.from-2.result (omega arith) c.from.ensures c.from-2.ensures along_is length_is rest_is east north past (search rules)
+    end_decided c.args.feet (p.x -ℤ a.x) (p.y -ℤ a.y) (b.x -ℤ a.x) (b.y -ℤ a.y) (p.x -ℤ b.x) (p.y -ℤ b.y)
+    c.dot-along.result c.dot-length.result c.squared_length-then-along-length.result c.from.result c.from-2.result
+    (omega arith) c.from.ensures c.from-2.ensures along_is length_is rest_is east north past (search rules)
 
 pub overflow_mul-result-2 : goal.overflow_mul-result-2
 overflow_mul-result-2 c =
@@ -64,4 +68,7 @@ returns c =
     let ahead = above_zero c.dot-along.result (search rules) c.if-along-le0.false in
     let inside = above c.dot-length.result c.dot-along.result (search rules) (search rules) c.if-along-length.false in
     let before = subst (λ (z : ℤ). c.dot-along.result <ℤ z) (sym length_same) inside in
-    side_decided c.args.feet (p.x -ℤ a.x) (p.y -ℤ a.y) (b.x -ℤ a.x) (b.y -ℤ a.y) c.dot-along.result c.from-length.result c.from-across.result c.from.result c.from-2.result (omega arith) c.from.ensures c.from-2.ensures (short_x, short_y) vx vy along_is (length_same ∙ dot_is) across_is ahead before (search rules) (search rules)
+    side_decided c.args.feet (p.x -ℤ a.x) (p.y -ℤ a.y) (b.x -ℤ a.x) (b.y -ℤ a.y) c.dot-along.result
+    c.from-length.result c.from-across.result c.from.result c.from-2.result (omega arith) c.from.ensures
+    c.from-2.ensures (short_x, short_y) vx vy along_is (length_same ∙ dot_is) across_is ahead before
+    (search rules) (search rules)

@@ -43,5 +43,6 @@ returns-clause-read g c =
 
 pub returns-clause-quiet : goal.returns-clause-quiet
 returns-clause-quiet g c none o clean =
-    (changes_nothing (g.K.Keeper.store c.args.keeper.now) (g.K.Keeper.store c.answer_by_rules.new.keeper) (IsOutcome c.args.key.now c.args.now c.args.number c.args.request.now) c.answer_by_rules.result
+    (changes_nothing (g.K.Keeper.store c.args.keeper.now) (g.K.Keeper.store c.answer_by_rules.new.keeper)
+    (IsOutcome c.args.key.now c.args.now c.args.number c.args.request.now) c.answer_by_rules.result
     c.answer_by_rules.ensures.goes (λ told left agrees is. none told left is)).found clean o

@@ -39,7 +39,9 @@ loop-call-preserved g c =
           (c.loop-call.invariant.only_told (reply ∷ rest) (subst (λ replies. AreOnlyTold calls replies) joined told));
       rest = λ clean rest new left.
           let was : before.doubt ≡ 0 = omega arith in
-          let on = goes_on_at calls i c.call-item.result reply rest before.content after.content new before.failures after.failures c.loop-call-test.true c.call-item.is c.answer_call-reply.ensures.fails (tells_by before after (IsOutcomeOf c.call-item.result) reply answers clean) left in
+          let on = goes_on_at calls i c.call-item.result reply rest before.content after.content new before.failures
+          after.failures c.loop-call-test.true c.call-item.is c.answer_call-reply.ensures.fails
+          (tells_by before after (IsOutcomeOf c.call-item.result) reply answers clean) left in
           rw (pushed, append_assoc) (c.loop-call.invariant.rest was (reply ∷ rest) new on);
     }
 

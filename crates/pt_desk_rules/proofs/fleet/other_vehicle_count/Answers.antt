@@ -24,5 +24,6 @@ loop-at-preserved c =
         | then-is_last_of_another w ↦ let now = w.count-is in omega arith
         | else-is_last_of_another w ↦ let now = w.count-is in omega arith
       ];
-      rest = counted_on c.args.id at c.loop-at.count c.if-is_last_of_another.count _ x xs rest c.split_at.result.1.now last is c.split_at.ensures.back c.is_last_of_another.ensures.value counted c.loop-at.invariant.rest;
+      rest = counted_on c.args.id at c.loop-at.count c.if-is_last_of_another.count _ x xs rest c.split_at.result.1.now
+          last is c.split_at.ensures.back c.is_last_of_another.ensures.value counted c.loop-at.invariant.rest;
     }

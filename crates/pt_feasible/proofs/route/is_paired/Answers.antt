@@ -8,7 +8,9 @@ use Rattle.pt_feasible.specs.Pairing.{IsPickupThenDrop, is_partner}
 use Rattle.pt_feasible.proofs.route.is_paired.Goals as goal
 
 -- what holds of each stop before a place holds of the stop that is read there
-in_order_at : (stops : List Stop) (k : ℕ) (second : Stop) → slice_get stops k ≡ Some second → All (λ first. first.trip ≡ second.trip → IsPickupThenDrop first second) (take k stops) → (i : ℕ) (first : Stop) → i < k → slice_get stops i ≡ Some first → first.trip ≡ second.trip → IsPickupThenDrop first second
+in_order_at : (stops : List Stop) (k : ℕ) (second : Stop) → slice_get stops k ≡ Some second
+    → All (λ first. first.trip ≡ second.trip → IsPickupThenDrop first second) (take k stops) → (i : ℕ) (first : Stop)
+    → i < k → slice_get stops i ≡ Some first → first.trip ≡ second.trip → IsPickupThenDrop first second
 in_order_at stops k second there each i first before here =
     let within = slice_get_within stops k second there in
     let read : get_or (take k stops) i first ≡ first = get_or-take k stops i first before ∙ get_or_from_slice_get stops i first first here in

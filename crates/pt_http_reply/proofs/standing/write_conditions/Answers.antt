@@ -10,7 +10,10 @@ loop-index-preserved c =
     let text = c.in_ok-write_condition.ensures ∙ ap (λ x. c.if-index-gt0.out.items ++ condition_json x) c.condition-item.is in
     elim c.if-index-gt0.branch [
       | then-index-gt0+in_ok-push w ↦
-          join-take 44 condition_json _ _ _ _ members c.loop-index.index c.condition-item.result c.loop-index.invariant w.if-index-gt0.true c.loop-index-test.true (ap (λ out. out.items) w.out-is ∙ w.in_ok-push.ensures) text
+          join-take 44 condition_json _ _ _ _ members c.loop-index.index c.condition-item.result
+          c.loop-index.invariant w.if-index-gt0.true c.loop-index-test.true
+          (ap (λ out. out.items) w.out-is ∙ w.in_ok-push.ensures) text
       | else-index-gt0 w ↦
-          join-first 44 condition_json _ _ _ _ members c.loop-index.index c.condition-item.result c.loop-index.invariant w.if-index-gt0.false c.loop-index-test.true (ap (λ out. out.items) w.out-is) text
+          join-first 44 condition_json _ _ _ _ members c.loop-index.index c.condition-item.result
+          c.loop-index.invariant w.if-index-gt0.false c.loop-index-test.true (ap (λ out. out.items) w.out-is) text
     ]

@@ -14,7 +14,9 @@ loop-index-preserved c =
     let new = c.in_ok-push-2.ensures ∙ ap (λ text. c.if-index-gt0.out.items ++ text) c.as_slice.ensures.value in
     elim c.if-index-gt0.branch [
       | then-index-gt0+in_ok-push w ↦
-          written_after_comma _ _ _ _ trips c.loop-index.index trip _ c.loop-index.invariant w.if-index-gt0.true c.loop-index-test.true c.index-trips-index.is is (ap (λ out. out.items) w.out-is ∙ w.in_ok-push.ensures) new
+          written_after_comma _ _ _ _ trips c.loop-index.index trip _ c.loop-index.invariant w.if-index-gt0.true
+          c.loop-index-test.true c.index-trips-index.is is (ap (λ out. out.items) w.out-is ∙ w.in_ok-push.ensures)
+          new
       | else-index-gt0 w ↦
           written_first _ _ _ _ trips c.loop-index.index trip _ c.loop-index.invariant w.if-index-gt0.false c.loop-index-test.true c.index-trips-index.is is (ap (λ out. out.items) w.out-is) new
     ]

@@ -12,7 +12,9 @@ pub returns-then-not-has_room-clause-none : goal.returns-then-not-has_room-claus
 returns-then-not-has_room-clause-none c minutes j possible =
     no_room minutes c.args.duty.now.vehicle.now (stops_of c.args.duty.now.route.now) c.args.asked.now c.args.i c.args.i
     c.args.duty.now.route.now.paired (omega arith)
-    (λ fits. false≢true (sym c.if-not-has_room.true ∙ c.has_room.ensures.1 (subst (λ (load : Load). FitsWithin (load_sum load c.args.asked.now.load) c.args.duty.now.vehicle.now) (sym c.requires.others) fits)))
+    (λ fits. false≢true (sym c.if-not-has_room.true
+    ∙ c.has_room.ensures.1 (subst (λ (load : Load). FitsWithin (load_sum load c.args.asked.now.load)
+    c.args.duty.now.vehicle.now) (sym c.requires.others) fits)))
     j possible.drop_later possible
 
 pub returns-clause-riding : goal.returns-clause-riding

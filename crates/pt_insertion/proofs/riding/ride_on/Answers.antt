@@ -55,7 +55,9 @@ pub returns-then-not-has_room-clause-none : goal.returns-then-not-has_room-claus
 returns-then-not-has_room-clause-none g c later from possible =
     no_room (g.T.Times.minutes c.args.times.now) c.args.duty.now.vehicle.now (stops_of c.args.duty.now.route.now) c.args.asked.now
     c.args.i (c.args.j + 1) c.args.duty.now.route.now.paired (omega arith)
-    (λ fits. false≢true (sym c.if-not-has_room.true ∙ c.has_room.ensures.1 (subst (λ (load : Load). FitsWithin (load_sum load c.args.asked.now.load) c.args.duty.now.vehicle.now) (sym c.in_ok-others.ensures.after) fits)))
+    (λ fits. false≢true (sym c.if-not-has_room.true
+    ∙ c.has_room.ensures.1 (subst (λ (load : Load). FitsWithin (load_sum load c.args.asked.now.load)
+    c.args.duty.now.vehicle.now) (sym c.in_ok-others.ensures.after) fits)))
     later from possible
 
 pub returns-clause-riding : goal.returns-clause-riding

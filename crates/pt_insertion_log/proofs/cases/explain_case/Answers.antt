@@ -24,10 +24,16 @@ returns-in-Some-clause-written g c =
     let contents = g.W.Write.contents in
     let same = c.number-vehicle.ensures.value in
     let form : IsInForm (case_line case) = subst (λ (v : ℕ). IsInForm (line.Case v insertion.i insertion.j)) same c.write_line.ensures.in_form in
-    let written : Appends (contents c.args.out.now) (contents c.write_line.new.out) (line_text (case_line case)) = subst (λ (v : ℕ). Appends (contents c.args.out.now) (contents c.write_line.new.out) (line_text (line.Case v insertion.i insertion.j))) same c.in_ok-write_line.ensures.line in
+    let written : Appends (contents c.args.out.now) (contents c.write_line.new.out) (line_text (case_line case)) =
+    subst (λ (v : ℕ). Appends (contents c.args.out.now) (contents c.write_line.new.out)
+    (line_text (line.Case v insertion.i insertion.j))) same c.in_ok-write_line.ensures.line in
     let begun = begun_first minutes case (contents c.args.out.now) (contents c.write_line.new.out) (contents c.write_line-in-Some.new.out) form written in
-    on_ok c.write_line-in-Some.result (Appends (contents c.write_line.new.out) (contents c.write_line-in-Some.new.out) (line_text (line.End c.in-Some.end))) (WritesCases minutes (case ∷ []) (contents c.args.out.now) (contents c.write_line-in-Some.new.out))
-    (λ last. begun_end minutes case (contents c.args.out.now) (contents c.write_line.new.out) (contents c.write_line-in-Some.new.out) (λ _. 0) c.in-Some.end begun c.in-Some.ensures.end c.write_line-in-Some.ensures.in_form last)
+    on_ok c.write_line-in-Some.result (Appends (contents c.write_line.new.out) (contents c.write_line-in-Some.new.out)
+    (line_text (line.End c.in-Some.end))) (WritesCases minutes (case ∷ []) (contents c.args.out.now)
+    (contents c.write_line-in-Some.new.out))
+    (λ last. begun_end minutes case (contents c.args.out.now) (contents c.write_line.new.out)
+    (contents c.write_line-in-Some.new.out) (λ _. 0) c.in-Some.end begun c.in-Some.ensures.end
+    c.write_line-in-Some.ensures.in_form last)
     c.write_line-in-Some.ensures.line
 
 pub loop-raise-init : goal.loop-raise-init
@@ -38,7 +44,9 @@ loop-raise-init g c =
     let contents = g.W.Write.contents in
     let same = c.number-vehicle.ensures.value in
     let form : IsInForm (case_line case) = subst (λ (v : ℕ). IsInForm (line.Case v insertion.i insertion.j)) same c.write_line.ensures.in_form in
-    let written : Appends (contents c.args.out.now) (contents c.write_line.new.out) (line_text (case_line case)) = subst (λ (v : ℕ). Appends (contents c.args.out.now) (contents c.write_line.new.out) (line_text (line.Case v insertion.i insertion.j))) same c.in_ok-write_line.ensures.line in
+    let written : Appends (contents c.args.out.now) (contents c.write_line.new.out) (line_text (case_line case)) =
+    subst (λ (v : ℕ). Appends (contents c.args.out.now) (contents c.write_line.new.out)
+    (line_text (line.Case v insertion.i insertion.j))) same c.in_ok-write_line.ensures.line in
     record {
       begun = subst (IsBegun minutes case (contents c.args.out.now) (contents c.write_line.new.out)) (sym (all_zero 104))
           (begun_first minutes case (contents c.args.out.now) (contents c.write_line.new.out) (contents c.write_line.new.out) form written);
@@ -60,12 +68,21 @@ raise_bound-requires g c =
     let minutes = g.T.Times.minutes c.args.times.now in
     let insertion = c.args.insertion.now in
     let step = rw c.in-Some-Raise.field-0-is at c.in-Some-Raise.ensures.step in
-    omega (arith, insertion.route.now.short, length-with_trip insertion.asked.now insertion.i insertion.j (stops_of insertion.route.now) insertion.drop_later insertion.among, visit-among minutes insertion.vehicle.now (inserted_stops insertion) (slice_index c.loop-raise.bounds) c.in-Some-Raise.raise step.0)
+    omega (
+      arith,
+      insertion.route.now.short,
+      length-with_trip insertion.asked.now insertion.i insertion.j
+          (stops_of insertion.route.now) insertion.drop_later insertion.among,
+      visit-among minutes insertion.vehicle.now
+          (inserted_stops insertion) (slice_index c.loop-raise.bounds) c.in-Some-Raise.raise step.0,
+    )
 
 pub loop-raise-smaller : goal.loop-raise-smaller
 loop-raise-smaller g c =
     let step = rw c.in-Some-Raise.field-0-is at c.in-Some-Raise.ensures.step in
-    raise-room c.loop-raise.bounds c.raise_bound.new.bounds c.in-Some-Raise.raise (omega (arith, c.loop-raise.invariant.long, c.raise_bound.array_long)) c.raise_bound.ensures step.1 c.write_line-in-Some-Raise.ensures.in_form
+    raise-room c.loop-raise.bounds c.raise_bound.new.bounds c.in-Some-Raise.raise
+    (omega (arith, c.loop-raise.invariant.long, c.raise_bound.array_long)) c.raise_bound.ensures step.1
+    c.write_line-in-Some-Raise.ensures.in_form
 
 pub loop-raise-preserved : goal.loop-raise-preserved
 loop-raise-preserved g c =
@@ -77,7 +94,9 @@ loop-raise-preserved g c =
     let first = rw c.in-Some-Raise.field-0-is at c.in-Some-Raise.ensures.first in
     let bounds : raised (slice_index c.loop-raise.bounds) c.in-Some-Raise.raise ≡ slice_index c.raise_bound.new.bounds = λ i k. sym (c.raise_bound.ensures k) i in
     record {
-      begun = begun_raise minutes (case_of c.args.insertion.now) (contents c.args.out.now) (contents c.loop-raise.out) (contents c.write_line-in-Some-Raise.new.out) (slice_index c.loop-raise.bounds) (slice_index c.raise_bound.new.bounds) c.in-Some-Raise.raise
+      begun = begun_raise minutes (case_of c.args.insertion.now) (contents c.args.out.now) (contents c.loop-raise.out)
+          (contents c.write_line-in-Some-Raise.new.out) (slice_index c.loop-raise.bounds)
+          (slice_index c.raise_bound.new.bounds) c.in-Some-Raise.raise
           c.loop-raise.invariant.begun step.0 c.write_line-in-Some-Raise.ensures.in_form c.in_ok-write_line-in-Some-Raise.ensures.line c.raise_bound.ensures;
       long = c.raise_bound.array_long;
       among = omega (
@@ -99,8 +118,12 @@ returns-in-Some-End-clause-written g c =
     let case = case_of c.args.insertion.now in
     let contents = g.W.Write.contents in
     let step = rw c.in-Some-End.field-0-is at c.in-Some-End.ensures.step in
-    on_ok c.write_line-in-Some-End.result (Appends (contents c.loop-raise.out) (contents c.write_line-in-Some-End.new.out) (line_text (line.End c.in-Some-End.end))) (WritesCases minutes (case ∷ []) (contents c.args.out.now) (contents c.write_line-in-Some-End.new.out))
-    (λ last. begun_end minutes case (contents c.args.out.now) (contents c.loop-raise.out) (contents c.write_line-in-Some-End.new.out) (slice_index c.loop-raise.bounds) c.in-Some-End.end c.loop-raise.invariant.begun step c.write_line-in-Some-End.ensures.in_form last)
+    on_ok c.write_line-in-Some-End.result (Appends (contents c.loop-raise.out)
+    (contents c.write_line-in-Some-End.new.out) (line_text (line.End c.in-Some-End.end)))
+    (WritesCases minutes (case ∷ []) (contents c.args.out.now) (contents c.write_line-in-Some-End.new.out))
+    (λ last. begun_end minutes case (contents c.args.out.now) (contents c.loop-raise.out)
+    (contents c.write_line-in-Some-End.new.out) (slice_index c.loop-raise.bounds) c.in-Some-End.end
+    c.loop-raise.invariant.begun step c.write_line-in-Some-End.ensures.in_form last)
     c.write_line-in-Some-End.ensures.line
 
 pub returns-in-None-clause-written : goal.returns-in-None-clause-written

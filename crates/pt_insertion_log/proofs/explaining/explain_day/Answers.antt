@@ -24,14 +24,17 @@ loop-duty-preserved g c =
     let duty = c.duty-item.result in
     more_written (g.T.Times.minutes c.args.times.now) (λ (d : Duty). cases_of_vehicle c.args.asked.now d.vehicle.now (stops_of d.route.now)) (take k duties) duty (take (k + 1) duties)
     (g.W.Write.contents c.args.out.now) (g.W.Write.contents c.loop-duty.out) (g.W.Write.contents c.explain_vehicle.new.out)
-    (subst (λ (d : Duty). take (k + 1) duties ≡ take k duties ++ d ∷ []) (sym c.duty-item.is) (take_more duties k duty c.loop-duty-test.true)) c.loop-duty.invariant c.in_ok-explain_vehicle.ensures.written
+    (subst (λ (d : Duty). take (k + 1) duties ≡ take k duties ++ d ∷ []) (sym c.duty-item.is)
+    (take_more duties k duty c.loop-duty-test.true)) c.loop-duty.invariant c.in_ok-explain_vehicle.ensures.written
 
 pub returns-clause-written : goal.returns-clause-written
 returns-clause-written g c =
     let minutes = g.T.Times.minutes c.args.times.now in
     let duties = c.args.duties.now in
     day_written minutes duties c.args.asked.now (g.W.Write.contents c.args.out.now) (g.W.Write.contents c.loop-duty.out)
-    (subst (λ (ds : List Duty). WritesCases minutes (cases_of_day c.args.asked.now ds) (g.W.Write.contents c.args.out.now) (g.W.Write.contents c.loop-duty.out)) (take_all c.loop-duty.duty-index duties (omega arith)) c.loop-duty.invariant)
+    (subst (λ (ds : List Duty). WritesCases minutes (cases_of_day c.args.asked.now ds)
+    (g.W.Write.contents c.args.out.now) (g.W.Write.contents c.loop-duty.out))
+    (take_all c.loop-duty.duty-index duties (omega arith)) c.loop-duty.invariant)
 
 -- a test whether there is no value
 told_none : (o : Option ℕ) (b : Bool) → is_some o ≡ not b → b ≡ true → o ≡ None

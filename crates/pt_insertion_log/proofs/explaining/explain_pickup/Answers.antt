@@ -22,4 +22,6 @@ returns-clause-written g c =
     let stops = stops_of c.args.duty.now.route.now in
     let end : c.loop-j.j - c.args.i ≡ length stops + 1 - c.args.i = omega arith in
     subst (λ (cs : List Case). WritesCases (g.T.Times.minutes c.args.times.now) cs (g.W.Write.contents c.args.out.now) (g.W.Write.contents c.loop-j.out))
-    (ap (λ (n : ℕ). flat_map (one_case c.args.asked.now c.args.duty.now.vehicle.now stops c.args.i) (numbers_from c.args.i n)) end ∙ cases_of_pickup-one c.args.asked.now c.args.duty.now.vehicle.now stops c.args.i) c.loop-j.invariant
+    (ap (λ (n : ℕ). flat_map (one_case c.args.asked.now c.args.duty.now.vehicle.now stops c.args.i)
+    (numbers_from c.args.i n)) end ∙ cases_of_pickup-one c.args.asked.now c.args.duty.now.vehicle.now stops
+    c.args.i) c.loop-j.invariant

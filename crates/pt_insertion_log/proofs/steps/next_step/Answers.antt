@@ -14,7 +14,8 @@ loop-k-preserved g c = below_more
     c.loop-k.k c.loop-k.invariant (c.in_default-step_at.ensures.none refl)
 
 -- where the visits before visit k keep their constraints, a step at visit k is the first
-first-at : (minutes : ℕ → ℕ → Option ℕ) (vehicle : Vehicle) (stops : List Stop) (bound : ℕ → ℕ) (k : ℕ) (next : Step) → IsAt k next → AreKeptBefore minutes vehicle stops bound k → IsFirst minutes vehicle stops bound next
+first-at : (minutes : ℕ → ℕ → Option ℕ) (vehicle : Vehicle) (stops : List Stop) (bound : ℕ → ℕ) (k : ℕ) (next : Step)
+    → IsAt k next → AreKeptBefore minutes vehicle stops bound k → IsFirst minutes vehicle stops bound next
 first-at minutes vehicle stops bound k (step.Raise raise) at kept = subst (AreKeptBefore minutes vehicle stops bound) (sym at) kept
 first-at minutes vehicle stops bound k (step.End end) at kept = tt
 

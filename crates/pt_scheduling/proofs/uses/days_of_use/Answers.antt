@@ -34,6 +34,8 @@ pub returns : goal.returns
 returns c = record {
   uses = record {
     rising = rises c.loop-trip.days.items (subst (λ xs. IsInOrder (λ day. day) xs) c.as_slice.ensures.value c.as_slice.ensures.order);
-    members = ended c.args.left_out.now c.args.trips.now c.loop-trip.days.items (drop c.loop-trip.trip-index c.args.trips.now) (drop_all c.loop-trip.trip-index c.args.trips.now (omega arith)) c.loop-trip.invariant;
+    members = ended c.args.left_out.now c.args.trips.now c.loop-trip.days.items
+        (drop c.loop-trip.trip-index c.args.trips.now) (drop_all c.loop-trip.trip-index c.args.trips.now
+        (omega arith)) c.loop-trip.invariant;
   };
 }

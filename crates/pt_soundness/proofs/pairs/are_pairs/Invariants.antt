@@ -5,4 +5,5 @@ use Rattle.pt_records.specs.Records.{Each}
 use Rattle.pt_soundness.proofs.pairs.are_pairs.Given as goal
 
 abbrev pub invariant-loop-stop : goal.invariant-loop-stop
-invariant-loop-stop l = Each (λ (stop : PlannedStop). IsPair (stops_of_trip stop.trip l.all)) (drop l.stop-index l.stops) → Each (λ (stop : PlannedStop). IsPair (stops_of_trip stop.trip l.all)) l.stops
+invariant-loop-stop l = Each (λ (stop : PlannedStop). IsPair (stops_of_trip stop.trip l.all))
+    (drop l.stop-index l.stops) → Each (λ (stop : PlannedStop). IsPair (stops_of_trip stop.trip l.all)) l.stops

@@ -12,7 +12,8 @@ loop-stop-preserved c =
 
 pub returns-then-not-stands_in : goal.returns-then-not-stands_in
 returns-then-not-stands_in c =
-    fails_at (λ (stop : PlannedStop). StandsIn c.args.trips.now.items (plan_key c.args.plan.now) stop.trip) c.stop-item.result c.args.stops.now c.loop-stop.stop-index c.stands_in.result (omega arith) c.stop-item.is
+    fails_at (λ (stop : PlannedStop). StandsIn c.args.trips.now.items (plan_key c.args.plan.now) stop.trip)
+    c.stop-item.result c.args.stops.now c.loop-stop.stop-index c.stands_in.result (omega arith) c.stop-item.is
     c.stands_in.ensures.1 c.if-not-stands_in.true
 
 pub returns : goal.returns

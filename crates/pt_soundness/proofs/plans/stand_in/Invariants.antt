@@ -6,4 +6,6 @@ use Rattle.pt_records.specs.Records.{Each}
 use Rattle.pt_soundness.proofs.plans.stand_in.Given as goal
 
 abbrev pub invariant-loop-stop : goal.invariant-loop-stop
-invariant-loop-stop l = Each (λ (stop : PlannedStop). StandsIn l.trips.items (plan_key l.plan) stop.trip) (drop l.stop-index l.stops) → Each (λ (stop : PlannedStop). StandsIn l.trips.items (plan_key l.plan) stop.trip) l.stops
+invariant-loop-stop l = Each (λ (stop : PlannedStop). StandsIn l.trips.items (plan_key l.plan) stop.trip)
+    (drop l.stop-index l.stops) → Each (λ (stop : PlannedStop). StandsIn l.trips.items (plan_key l.plan) stop.trip)
+    l.stops

@@ -13,6 +13,7 @@ of-requires c =
     record {
       order =
           subst (λ (xs : List Plan). IsInOrder plan_key xs)
-          (sym (sym (append-nil _) ∙ sym (ap (λ (rest : List Plan). c.loop-plan.found.items ++ planned_on c.args.day rest) (drop_all c.loop-plan.plan-index all (omega arith))) ∙ c.loop-plan.invariant))
+          (sym (sym (append-nil _) ∙ sym (ap (λ (rest : List Plan). c.loop-plan.found.items ++ planned_on c.args.day
+          rest) (drop_all c.loop-plan.plan-index all (omega arith))) ∙ c.loop-plan.invariant))
           (IsInOrder-filter plan_key (λ plan. plan.day == c.args.day) all c.requires.order);
     }

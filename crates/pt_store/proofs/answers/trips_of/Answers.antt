@@ -14,6 +14,7 @@ of-requires c =
     record {
       order =
           subst (λ (xs : List Trip). IsInOrder trip_key xs)
-          (sym (sym (append-nil _) ∙ sym (ap (λ (rest : List Trip). c.loop-trip.found.items ++ trips_of c.args.rider rest) (drop_all c.loop-trip.trip-index all (omega arith))) ∙ c.loop-trip.invariant))
+          (sym (sym (append-nil _) ∙ sym (ap (λ (rest : List Trip). c.loop-trip.found.items ++ trips_of c.args.rider
+          rest) (drop_all c.loop-trip.trip-index all (omega arith))) ∙ c.loop-trip.invariant))
           (IsInOrder-filter trip_key (λ trip. trip.rider == c.args.rider) all c.requires.order);
     }

@@ -7,7 +7,14 @@ pub returns : goal.returns
 returns g c = record {
   reads =
       (reads_map _ _ _ _ (λ found. record { trip = c.args.old.now; plan = found.1.1.1.0; routes = found.1.1.1.1; last_trip = found.0; trips = found.1.1.0; day = found.1.0 })
-      (reads_pair _ _ _ (λ (s : State). s.last_trip) (λ (s : State). (day_of c.args.day s, (trips_counted_for c.args.found.now s.trips, (plan_for c.args.old.now s, s.routes)))) _ _ c.in_ok-last_trip.ensures.reads
+      (reads_pair _ _ _ (λ (s : State). s.last_trip)
+      (λ (s : State). (
+        day_of c.args.day s,
+        (
+          trips_counted_for c.args.found.now s.trips,
+          (plan_for c.args.old.now s, s.routes),
+        ),
+      )) _ _ c.in_ok-last_trip.ensures.reads
       (reads_pair _ _ _ (λ (s : State). day_of c.args.day s) (λ (s : State). (trips_counted_for c.args.found.now s.trips, (plan_for c.args.old.now s, s.routes))) _ _ c.in_ok-day.ensures.reads
       (reads_pair _ _ _ (λ (s : State). trips_counted_for c.args.found.now s.trips) (λ (s : State). (plan_for c.args.old.now s, s.routes)) _ _ c.in_ok-trips.ensures.reads
       (reads_pair _ _ _ (λ (s : State). plan_for c.args.old.now s) (λ (s : State). s.routes) _ _ c.in_ok-plan.ensures.reads
@@ -18,7 +25,11 @@ pub returns-in_err-plan : goal.returns-in_err-plan
 returns-in_err-plan g c = record {
   reads =
       fault_handed _ _ _ _ _ _ _ _ _ c.from_residual-in_err-plan.ensures.1
-      (reads_pair _ _ _ (λ (s : State). s.last_trip) (λ (s : State). (day_of c.args.day s, trips_counted_for c.args.found.now s.trips)) _ _ c.in_ok-last_trip.ensures.reads (reads_pair _ _ _ (λ (s : State). day_of c.args.day s) (λ (s : State). trips_counted_for c.args.found.now s.trips) _ _ c.in_ok-day.ensures.reads c.in_ok-trips.ensures.reads))
+      (reads_pair _ _ _ (λ (s : State). s.last_trip)
+      (λ (s : State). (day_of c.args.day s, trips_counted_for c.args.found.now s.trips)) _ _
+      c.in_ok-last_trip.ensures.reads (reads_pair _ _ _ (λ (s : State). day_of c.args.day s)
+      (λ (s : State). trips_counted_for c.args.found.now s.trips) _ _ c.in_ok-day.ensures.reads
+      c.in_ok-trips.ensures.reads))
       c.in_err-plan.ensures.reads;
 }
 
@@ -26,7 +37,18 @@ pub returns-in_err-routes : goal.returns-in_err-routes
 returns-in_err-routes g c = record {
   reads =
       fault_handed _ _ _ _ _ _ _ _ _ c.from_residual-in_err-routes.ensures.1
-      (reads_pair _ _ _ (λ (s : State). s.last_trip) (λ (s : State). (day_of c.args.day s, (trips_counted_for c.args.found.now s.trips, plan_for c.args.old.now s))) _ _ c.in_ok-last_trip.ensures.reads (reads_pair _ _ _ (λ (s : State). day_of c.args.day s) (λ (s : State). (trips_counted_for c.args.found.now s.trips, plan_for c.args.old.now s)) _ _ c.in_ok-day.ensures.reads (reads_pair _ _ _ (λ (s : State). trips_counted_for c.args.found.now s.trips) (λ (s : State). plan_for c.args.old.now s) _ _ c.in_ok-trips.ensures.reads c.in_ok-plan.ensures.reads)))
+      (reads_pair _ _ _ (λ (s : State). s.last_trip)
+      (λ (s : State). (
+        day_of c.args.day s,
+        (
+          trips_counted_for c.args.found.now s.trips,
+          plan_for c.args.old.now
+              s,
+        ),
+      )) _ _ c.in_ok-last_trip.ensures.reads (reads_pair _ _ _ (λ (s : State). day_of c.args.day s)
+      (λ (s : State). (trips_counted_for c.args.found.now s.trips, plan_for c.args.old.now s)) _ _
+      c.in_ok-day.ensures.reads (reads_pair _ _ _ (λ (s : State). trips_counted_for c.args.found.now s.trips)
+      (λ (s : State). plan_for c.args.old.now s) _ _ c.in_ok-trips.ensures.reads c.in_ok-plan.ensures.reads)))
       c.in_err-routes.ensures.reads;
 }
 

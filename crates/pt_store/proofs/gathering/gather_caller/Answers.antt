@@ -8,7 +8,14 @@ pub returns : goal.returns
 returns g c = record {
   reads =
       (reads_map _ _ _ _ (λ found. record found.1.1.1.1 { has_subject = found.0; caller = found.1.0; holder = found.1.1.0; caller_count = found.1.1.1.0 })
-      (reads_pair _ _ _ (λ (s : State). has_subject c.args.new.now.role s.riders s.vehicles) (λ (s : State). (caller_of c.args.new.now.id s, (caller_with c.args.new.now.digest s, (length s.callers, no_facts s.policy)))) _ _ c.in_ok-has_subject.ensures.reads
+      (reads_pair _ _ _ (λ (s : State). has_subject c.args.new.now.role s.riders s.vehicles)
+      (λ (s : State). (
+        caller_of c.args.new.now.id s,
+        (
+          caller_with c.args.new.now.digest s,
+          (length s.callers, no_facts s.policy),
+        ),
+      )) _ _ c.in_ok-has_subject.ensures.reads
       (reads_pair _ _ _ (λ (s : State). caller_of c.args.new.now.id s) (λ (s : State). (caller_with c.args.new.now.digest s, (length s.callers, no_facts s.policy))) _ _ c.in_ok-caller.ensures.reads
       (reads_pair _ _ _ (λ (s : State). caller_with c.args.new.now.digest s) (λ (s : State). (length s.callers, no_facts s.policy)) _ _ c.in_ok-caller_with.ensures.reads
       (reads_pair _ _ _ (λ (s : State). length s.callers) (λ (s : State). no_facts s.policy) _ _ c.in_ok-caller_count.ensures.reads
@@ -19,7 +26,9 @@ pub returns-in_err-gather_policy : goal.returns-in_err-gather_policy
 returns-in_err-gather_policy g c = record {
   reads =
       fault_handed _ _ _ _ _ _ _ _ _ c.from_residual-in_err-gather_policy.ensures.1
-      (reads_pair _ _ _ (λ (s : State). has_subject c.args.new.now.role s.riders s.vehicles) (λ (s : State). (caller_of c.args.new.now.id s, (caller_with c.args.new.now.digest s, length s.callers))) _ _ c.in_ok-has_subject.ensures.reads
+      (reads_pair _ _ _ (λ (s : State). has_subject c.args.new.now.role s.riders s.vehicles)
+      (λ (s : State). (caller_of c.args.new.now.id s, (caller_with c.args.new.now.digest s, length s.callers))) _
+      _ c.in_ok-has_subject.ensures.reads
       (reads_pair _ _ _ (λ (s : State). caller_of c.args.new.now.id s) (λ (s : State). (caller_with c.args.new.now.digest s, length s.callers)) _ _ c.in_ok-caller.ensures.reads
       (reads_pair _ _ _ (λ (s : State). caller_with c.args.new.now.digest s) (λ (s : State). length s.callers) _ _ c.in_ok-caller_with.ensures.reads c.in_ok-caller_count.ensures.reads)))
       c.in_err-gather_policy.ensures.reads;
@@ -29,7 +38,9 @@ pub returns-in_err-caller_count : goal.returns-in_err-caller_count
 returns-in_err-caller_count g c = record {
   reads =
       fault_handed _ _ _ _ _ _ _ _ _ c.from_residual-in_err-caller_count.ensures.1
-      (reads_pair _ _ _ (λ (s : State). has_subject c.args.new.now.role s.riders s.vehicles) (λ (s : State). (caller_of c.args.new.now.id s, caller_with c.args.new.now.digest s)) _ _ c.in_ok-has_subject.ensures.reads
+      (reads_pair _ _ _ (λ (s : State). has_subject c.args.new.now.role s.riders s.vehicles)
+      (λ (s : State). (caller_of c.args.new.now.id s, caller_with c.args.new.now.digest s)) _ _
+      c.in_ok-has_subject.ensures.reads
       (reads_pair _ _ _ (λ (s : State). caller_of c.args.new.now.id s) (λ (s : State). caller_with c.args.new.now.digest s) _ _ c.in_ok-caller.ensures.reads c.in_ok-caller_with.ensures.reads))
       c.in_err-caller_count.ensures.reads;
 }
@@ -38,6 +49,8 @@ pub returns-in_err-caller_with : goal.returns-in_err-caller_with
 returns-in_err-caller_with g c = record {
   reads =
       fault_handed _ _ _ _ _ _ _ _ _ c.from_residual-in_err-caller_with.ensures.1
-      (reads_pair _ _ _ (λ (s : State). has_subject c.args.new.now.role s.riders s.vehicles) (λ (s : State). caller_of c.args.new.now.id s) _ _ c.in_ok-has_subject.ensures.reads c.in_ok-caller.ensures.reads)
+      (reads_pair _ _ _ (λ (s : State). has_subject c.args.new.now.role s.riders s.vehicles)
+      (λ (s : State). caller_of c.args.new.now.id s) _ _ c.in_ok-has_subject.ensures.reads
+      c.in_ok-caller.ensures.reads)
       c.in_err-caller_with.ensures.reads;
 }

@@ -7,7 +7,9 @@ pub returns : goal.returns
 returns g c = record {
   reads =
       rw c.tallies.view_is (reads_map _ _ _ _ (λ found. record found.1.1 { rider = found.1.0.0; file = found.1.0.1; tallies = found.0 })
-      (reads_pair _ _ _ (λ (s : State). tallies_for c.args.entry.now c.args.rider s) (λ (s : State). ((rider_of c.args.rider s, file_of c.args.rider s), no_facts s.policy)) _ _ c.in_ok-tallies.ensures.reads
+      (reads_pair _ _ _ (λ (s : State). tallies_for c.args.entry.now c.args.rider s)
+      (λ (s : State). ((rider_of c.args.rider s, file_of c.args.rider s), no_facts s.policy)) _ _
+      c.in_ok-tallies.ensures.reads
       (reads_pair _ _ _ (λ (s : State). (rider_of c.args.rider s, file_of c.args.rider s)) (λ (s : State). no_facts s.policy) _ _ c.in_ok-rider.ensures.reads
       c.in_ok-gather_policy.ensures.reads)));
 }
@@ -16,7 +18,9 @@ pub returns-in_err-gather_policy : goal.returns-in_err-gather_policy
 returns-in_err-gather_policy g c = record {
   reads =
       fault_handed _ _ _ _ _ _ _ _ _ c.from_residual-in_err-gather_policy.ensures.1
-      (reads_pair _ _ _ (λ (s : State). tallies_for c.args.entry.now c.args.rider s) (λ (s : State). (rider_of c.args.rider s, file_of c.args.rider s)) _ _ c.in_ok-tallies.ensures.reads c.in_ok-rider.ensures.reads)
+      (reads_pair _ _ _ (λ (s : State). tallies_for c.args.entry.now c.args.rider s)
+      (λ (s : State). (rider_of c.args.rider s, file_of c.args.rider s)) _ _ c.in_ok-tallies.ensures.reads
+      c.in_ok-rider.ensures.reads)
       c.in_err-gather_policy.ensures.reads;
 }
 

@@ -10,7 +10,9 @@ pub returns : goal.returns
 returns g c = record {
   reads =
       rw c.none.ensures.value (reads_map _ _ _ _ (λ found. record no_read_facts { rider = found.0.0; file = found.0.1; trips = found.1 })
-      (reads_by _ _ _ (λ (s : State). (rider_of c.args.rider s, file_of c.args.rider s)) (λ (found : Option Rider × List Entered) (s : State). trips_counted_for found.0 s.trips) _ _ c.in_ok-rider.ensures.reads
+      (reads_by _ _ _ (λ (s : State). (rider_of c.args.rider s, file_of c.args.rider s))
+      (λ (found : Option Rider × List Entered) (s : State). trips_counted_for found.0 s.trips) _ _
+      c.in_ok-rider.ensures.reads
       c.in_ok-trips.ensures.reads));
 }
 

@@ -9,8 +9,12 @@ pub returns : goal.returns
 returns g c = record {
   reads =
       (reads_map _ _ _ _ (λ found. record found.1.1.1 { places = found.0; tables_before = found.1.0; is_booked = found.1.1.0 })
-      (reads_pair _ _ _ (λ (s : State). s.places) (λ (s : State). (length (tables_before c.args.day s.travel), (is_booked_from None c.args.day s.trips, no_facts s.policy))) _ _ c.in_ok-places.ensures.reads
-      (reads_pair _ _ _ (λ (s : State). length (tables_before c.args.day s.travel)) (λ (s : State). (is_booked_from None c.args.day s.trips, no_facts s.policy)) _ _ c.in_ok-table_count_before.ensures.reads
+      (reads_pair _ _ _ (λ (s : State). s.places) (λ (s : State).
+      (length (tables_before c.args.day s.travel), (is_booked_from None c.args.day s.trips, no_facts s.policy))) _
+      _ c.in_ok-places.ensures.reads
+      (reads_pair _ _ _ (λ (s : State). length (tables_before c.args.day s.travel))
+      (λ (s : State). (is_booked_from None c.args.day s.trips, no_facts s.policy)) _ _
+      c.in_ok-table_count_before.ensures.reads
       (reads_pair _ _ _ (λ (s : State). is_booked_from None c.args.day s.trips) (λ (s : State). no_facts s.policy) _ _ c.in_ok-is_booked_from.ensures.reads
       c.in_ok-gather_policy.ensures.reads))));
 }
@@ -19,7 +23,11 @@ pub returns-in_err-gather_policy : goal.returns-in_err-gather_policy
 returns-in_err-gather_policy g c = record {
   reads =
       fault_handed _ _ _ _ _ _ _ _ _ c.from_residual-in_err-gather_policy.ensures.1
-      (reads_pair _ _ _ (λ (s : State). s.places) (λ (s : State). (length (tables_before c.args.day s.travel), is_booked_from None c.args.day s.trips)) _ _ c.in_ok-places.ensures.reads (reads_pair _ _ _ (λ (s : State). length (tables_before c.args.day s.travel)) (λ (s : State). is_booked_from None c.args.day s.trips) _ _ c.in_ok-table_count_before.ensures.reads c.in_ok-is_booked_from.ensures.reads))
+      (reads_pair _ _ _ (λ (s : State). s.places) (λ (s : State).
+      (length (tables_before c.args.day s.travel), is_booked_from None c.args.day s.trips)) _ _
+      c.in_ok-places.ensures.reads (reads_pair _ _ _ (λ (s : State). length (tables_before c.args.day s.travel))
+      (λ (s : State). is_booked_from None c.args.day s.trips) _ _ c.in_ok-table_count_before.ensures.reads
+      c.in_ok-is_booked_from.ensures.reads))
       c.in_err-gather_policy.ensures.reads;
 }
 

@@ -9,7 +9,14 @@ pub returns : goal.returns
 returns g c = record {
   reads =
       rw c.is_some.ensures (reads_map _ _ _ _ (λ found. record found.1.1.1 { has_place = is_some found.0; vehicles = found.1.0; is_booked = found.1.1.0 })
-      (reads_pair _ _ _ (λ (s : State). place_of c.args.new.now.depot s) (λ (s : State). (s.vehicles, (is_booked_from (Some c.args.new.now.id) c.args.new.now.from_day s.trips, no_facts s.policy))) _ _ c.in_ok-place.ensures.reads
+      (reads_pair _ _ _ (λ (s : State). place_of c.args.new.now.depot s)
+      (λ (s : State). (
+        s.vehicles,
+        (
+          is_booked_from (Some c.args.new.now.id) c.args.new.now.from_day s.trips,
+          no_facts s.policy,
+        ),
+      )) _ _ c.in_ok-place.ensures.reads
       (reads_pair _ _ _ (λ (s : State). s.vehicles) (λ (s : State). (is_booked_from (Some c.args.new.now.id) c.args.new.now.from_day s.trips, no_facts s.policy)) _ _ c.in_ok-vehicles.ensures.reads
       (reads_pair _ _ _ (λ (s : State). is_booked_from (Some c.args.new.now.id) c.args.new.now.from_day s.trips) (λ (s : State). no_facts s.policy) _ _ c.in_ok-is_booked_from.ensures.reads
       c.in_ok-gather_policy.ensures.reads))));
@@ -19,7 +26,11 @@ pub returns-in_err-gather_policy : goal.returns-in_err-gather_policy
 returns-in_err-gather_policy g c = record {
   reads =
       fault_handed _ _ _ _ _ _ _ _ _ c.from_residual-in_err-gather_policy.ensures.1
-      (reads_pair _ _ _ (λ (s : State). place_of c.args.new.now.depot s) (λ (s : State). (s.vehicles, is_booked_from (Some c.args.new.now.id) c.args.new.now.from_day s.trips)) _ _ c.in_ok-place.ensures.reads (reads_pair _ _ _ (λ (s : State). s.vehicles) (λ (s : State). is_booked_from (Some c.args.new.now.id) c.args.new.now.from_day s.trips) _ _ c.in_ok-vehicles.ensures.reads c.in_ok-is_booked_from.ensures.reads))
+      (reads_pair _ _ _ (λ (s : State). place_of c.args.new.now.depot s)
+      (λ (s : State). (s.vehicles, is_booked_from (Some c.args.new.now.id) c.args.new.now.from_day s.trips)) _ _
+      c.in_ok-place.ensures.reads (reads_pair _ _ _ (λ (s : State). s.vehicles)
+      (λ (s : State). is_booked_from (Some c.args.new.now.id) c.args.new.now.from_day s.trips) _ _
+      c.in_ok-vehicles.ensures.reads c.in_ok-is_booked_from.ensures.reads))
       c.in_err-gather_policy.ensures.reads;
 }
 

@@ -10,7 +10,10 @@ pub returns : goal.returns
 returns g c = record {
   reads =
       rw c.file.view_is (reads_map _ _ _ _ (λ found. record found.1.1 { rider = found.0.0; file = found.0.1; booking = found.1.0 })
-      (reads_by _ _ _ (λ (s : State). (rider_of c.args.rider s, file_of c.args.rider s)) (λ (found : Option Rider × List Entered) (s : State). (booking_facts found.0 c.args.wish.now.day c.args.old.now s, agency_facts s)) _ _ c.in_ok-rider.ensures.reads
+      (reads_by _ _ _ (λ (s : State). (rider_of c.args.rider s, file_of c.args.rider s))
+      (λ (found : Option Rider × List Entered) (s : State).
+      (booking_facts found.0 c.args.wish.now.day c.args.old.now s, agency_facts s)) _ _
+      c.in_ok-rider.ensures.reads
       (reads_pair _ _ _ (λ (s : State). booking_facts c.in_ok-rider.rider c.args.wish.now.day c.args.old.now s) (λ (s : State). agency_facts s) _ _ c.in_ok-booking.ensures.reads
       c.in_ok-gather_agency.ensures.reads)));
 }
@@ -19,7 +22,9 @@ pub returns-in_err-gather_agency : goal.returns-in_err-gather_agency
 returns-in_err-gather_agency g c = record {
   reads =
       fault_handed _ _ _ _ _ _ _ _ _ c.from_residual-in_err-gather_agency.ensures.1
-      (reads_by _ _ _ (λ (s : State). (rider_of c.args.rider s, file_of c.args.rider s)) (λ (found : Option Rider × List Entered) (s : State). booking_facts found.0 c.args.wish.now.day c.args.old.now s) _ _ c.in_ok-rider.ensures.reads c.in_ok-booking.ensures.reads)
+      (reads_by _ _ _ (λ (s : State). (rider_of c.args.rider s, file_of c.args.rider s))
+      (λ (found : Option Rider × List Entered) (s : State). booking_facts found.0 c.args.wish.now.day
+      c.args.old.now s) _ _ c.in_ok-rider.ensures.reads c.in_ok-booking.ensures.reads)
       c.in_err-gather_agency.ensures.reads;
 }
 

@@ -10,8 +10,12 @@ use Rattle.pt_tables.proofs.creating.create_new.Goals as goal
 
 pub returns-clause-survives : goal.returns-clause-survives
 returns-clause-survives g c =
-    let whole = survive g.S.Store c.args.conn.now c.transaction-tx.result.conn.now c.create_tables.new.tx.conn.now c.insert_desk.new.tx.conn.now c.insert_admin.new.tx.conn.now c.args.policy.now c.args.digest.now c.transaction-tx.ensures.begun c.requires.blank
-    c.create_tables.ensures.survives c.insert_desk.ensures.survives c.insert_admin.ensures.survives c.in_ok-create_tables.ensures.made c.in_ok-insert_desk.ensures.filled c.in_ok-insert_admin.ensures.filled c.in_ok-insert_admin.ensures.sound
+    let whole = survive g.S.Store c.args.conn.now c.transaction-tx.result.conn.now c.create_tables.new.tx.conn.now
+    c.insert_desk.new.tx.conn.now c.insert_admin.new.tx.conn.now c.args.policy.now c.args.digest.now
+    c.transaction-tx.ensures.begun c.requires.blank
+    c.create_tables.ensures.survives c.insert_desk.ensures.survives c.insert_admin.ensures.survives
+    c.in_ok-create_tables.ensures.made c.in_ok-insert_desk.ensures.filled c.in_ok-insert_admin.ensures.filled
+    c.in_ok-insert_admin.ensures.sound
     (state g.S.Store c.commit.new.self.0) c.commit.ensures.survives in
     let same : c.commit.new.self.0 ≡ c.conn-2-1.given.0 = search rules in
     subst (λ h. Survives (state g.S.Store c.args.conn.now) (state g.S.Store h) (IsNewDesk c.args.policy.now c.args.digest.now)) same whole
@@ -22,8 +26,12 @@ returns-clause-made g c =
     let same : c.commit.new.self.0 ≡ c.conn-2-1.given.0 = search rules in
     subst (λ h. HasCleanDisk (state g.S.Store h) → OnOk c.commit.result ((content : State) → IsNew c.args.policy.now c.args.digest.now content → IsKept content (state g.S.Store h))) same
     (λ clean. on_ok c.commit.result _ _
-    (λ all. kept g.S.Store c.args.conn.now c.transaction-tx.result.conn.now c.create_tables.new.tx.conn.now c.insert_desk.new.tx.conn.now c.insert_admin.new.tx.conn.now c.args.policy.now c.args.digest.now c.transaction-tx.ensures.begun c.requires.blank
-    c.create_tables.ensures.survives c.insert_desk.ensures.survives c.insert_admin.ensures.survives c.in_ok-create_tables.ensures.made c.in_ok-insert_desk.ensures.filled c.in_ok-insert_admin.ensures.filled c.in_ok-insert_admin.ensures.sound
+    (λ all. kept g.S.Store c.args.conn.now c.transaction-tx.result.conn.now c.create_tables.new.tx.conn.now
+    c.insert_desk.new.tx.conn.now c.insert_admin.new.tx.conn.now c.args.policy.now c.args.digest.now
+    c.transaction-tx.ensures.begun c.requires.blank
+    c.create_tables.ensures.survives c.insert_desk.ensures.survives c.insert_admin.ensures.survives
+    c.in_ok-create_tables.ensures.made c.in_ok-insert_desk.ensures.filled c.in_ok-insert_admin.ensures.filled
+    c.in_ok-insert_admin.ensures.sound
     (state g.S.Store c.commit.new.self.0) (omega (arith, c.commit.ensures.survives.clean)) all.1)
     (c.commit.ensures.ok clean))
 
@@ -32,7 +40,11 @@ returns-clause-tables g c =
     let same : c.commit.new.self.0 ≡ c.conn-2-1.given.0 = search rules in
     subst (λ h. HasCleanDisk (state g.S.Store h) → OnOk c.commit.result (IsDeskDatabase (state g.S.Store h).committed.trees)) same
     (λ clean. on_ok c.commit.result _ _
-    (λ all. tables_kept g.S.Store c.args.conn.now c.transaction-tx.result.conn.now c.create_tables.new.tx.conn.now c.insert_desk.new.tx.conn.now c.insert_admin.new.tx.conn.now c.args.policy.now c.args.digest.now c.transaction-tx.ensures.begun c.requires.blank
-    c.create_tables.ensures.survives c.insert_desk.ensures.survives c.insert_admin.ensures.survives c.in_ok-create_tables.ensures.made c.in_ok-insert_desk.ensures.filled c.in_ok-insert_admin.ensures.filled c.in_ok-insert_admin.ensures.sound
+    (λ all. tables_kept g.S.Store c.args.conn.now c.transaction-tx.result.conn.now c.create_tables.new.tx.conn.now
+    c.insert_desk.new.tx.conn.now c.insert_admin.new.tx.conn.now c.args.policy.now c.args.digest.now
+    c.transaction-tx.ensures.begun c.requires.blank
+    c.create_tables.ensures.survives c.insert_desk.ensures.survives c.insert_admin.ensures.survives
+    c.in_ok-create_tables.ensures.made c.in_ok-insert_desk.ensures.filled c.in_ok-insert_admin.ensures.filled
+    c.in_ok-insert_admin.ensures.sound
     (state g.S.Store c.commit.new.self.0) (omega (arith, clean, c.commit.ensures.survives.clean)) all.1)
     (c.commit.ensures.ok clean))

@@ -13,7 +13,9 @@ returns-clause-survives g c =
     c.add_chairs_tables.ensures.survives c.raise_version.ensures.survives c.in_ok-add_chairs_tables.ensures.added c.in_ok-raise_version.ensures.raised c.in_ok-raise_version.ensures.sound
     (state g.S.Store c.commit.new.self.0) c.commit.ensures.survives in
     let same : c.commit.new.self.0 ≡ c.conn-2-1.given.0 = search rules in
-    subst (λ h. Survives (state g.S.Store c.args.conn.now) (state g.S.Store h) (λ trees. (state g.S.Store c.args.conn.now).now.schema ≡ first_schema → IsMigratedDesk (state g.S.Store c.args.conn.now) trees)) same whole
+    subst (λ h. Survives (state g.S.Store c.args.conn.now) (state g.S.Store h)
+    (λ trees. (state g.S.Store c.args.conn.now).now.schema ≡ first_schema
+    → IsMigratedDesk (state g.S.Store c.args.conn.now) trees)) same whole
 
 pub returns-clause-raised : goal.returns-clause-raised
 returns-clause-raised g c =

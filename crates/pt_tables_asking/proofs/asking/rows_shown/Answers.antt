@@ -26,5 +26,6 @@ pub returns-clause-rests : goal.returns-clause-rests
 returns-clause-rests g c =
     let same : c.rollback.new.self.0 ≡ c.conn-2-1.given.0 = search rules in
     subst (λ h. Rests (state g.S.Store c.args.conn.now) (state g.S.Store h)) same
-    (rests_inside g.S.Store c.args.text.now (bound c.args.params.now) c.args.conn.now c.transaction-tx.result.conn.now c.query_all.new.self.conn.now c.rollback.new.self.0 c.transaction-tx.ensures.begun
+    (rests_inside g.S.Store c.args.text.now (bound c.args.params.now) c.args.conn.now c.transaction-tx.result.conn.now
+    c.query_all.new.self.conn.now c.rollback.new.self.0 c.transaction-tx.ensures.begun
     c.query_all.result c.query_all.ensures.ok c.query_all.ensures.err c.query_all.ensures.survives c.rollback.ensures.ended c.rollback.ensures.undone c.rollback.ensures.survives)

@@ -24,5 +24,7 @@ pub returns-clause-told : goal.returns-clause-told
 returns-clause-told g c clean content readable held =
     let wanted = filter (λ kept. kept_key kept == c.args.caller) content.kept in
     let found = c.in_ok-found.ensures.told clean wanted (kept_there content readable (state g.S.Store c.args.conn.now) held c.args.caller _ (search rules)) in
-    let same = same_records kept_row FitsKept kept_apart c.in_ok-found.found.items wanted found.1 (Each-filter FitsKept (λ kept. kept_key kept == c.args.caller) content.kept (readable.ranges.parts part.kept)) found.0 in
+    let same = same_records kept_row FitsKept kept_apart c.in_ok-found.found.items wanted found.1
+    (Each-filter FitsKept (λ kept. kept_key kept == c.args.caller) content.kept
+    (readable.ranges.parts part.kept)) found.0 in
     c.first.ensures.value ∙ ap (λ l. slice_get l 0) same ∙ slice_get-filter (λ kept. kept_key kept == c.args.caller) content.kept

@@ -12,5 +12,6 @@ abbrev pub invariant-loop-span : goal.invariant-loop-span
 invariant-loop-span g l = record {
   rests : Rests (state g.S.Store l.initial.conn) (state g.S.Store l.conn);
   plans : HasCleanDisk (state g.S.Store l.conn) → (content : State) → IsWellFormed content → IsKept content (state g.S.Store l.initial.conn)
-      → plans_at content.planned (map (λ (span : Span). span.from) (drop l.span-index l.spans)) l.plans.items ≡ plans_at content.planned (map (λ (span : Span). span.from) l.spans) l.initial.plans.items;
+      → plans_at content.planned (map (λ (span : Span). span.from) (drop l.span-index l.spans)) l.plans.items ≡
+      plans_at content.planned (map (λ (span : Span). span.from) l.spans) l.initial.plans.items;
 }

@@ -34,7 +34,8 @@ returns-clause-faults g c =
     refuses_beside g.T.Record.Keyed.key g.T.First.TableOf.home second g.T.First.OneRow.row_of g.T.TableOf.rows_of g.T.TableOf.Fits c.requires.beside
     trees c.args.records.now c.requires.order c.deref.result.now (HasCleanDisk new) (old.now.schema ≡ desk_schema)
     (λ clean has. subst (AreRows second trees) (sym c.deref.ensures.value) (shows_asked c.requires.asked old new has rows (c.in-Ok.ensures.shown clean)).0)
-    (λ clean has. subst (KeepsRows g.T.Record.Keyed.key g.T.TableOf.rows_of g.T.TableOf.Fits) (sym c.deref.ensures.value) (shows_asked c.requires.asked old new has rows (c.in-Ok.ensures.shown clean)).1)
+    (λ clean has. subst (KeepsRows g.T.Record.Keyed.key g.T.TableOf.rows_of g.T.TableOf.Fits)
+    (sym c.deref.ensures.value) (shows_asked c.requires.asked old new has rows (c.in-Ok.ensures.shown clean)).1)
     (fault memory_refused) (fault store_refused) (unsound (number_of c.args.table)) c.merged_table.result c.merged_table.ensures.faults
 
 pub returns-clause-same : goal.returns-clause-same

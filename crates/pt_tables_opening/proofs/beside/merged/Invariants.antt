@@ -9,6 +9,8 @@ invariant-loop-known g l = record {
   rows : map g.T.First.OneRow.row_of l.found.puts ≡ map g.T.First.OneRow.row_of (take l.known-index l.records);
   done : flat_map g.T.TableOf.rows_of l.found.puts ++ l.left ≡ l.fn.rows;
   each : Each g.T.TableOf.Fits l.found.puts;
-  back : (xs : List _) → Each g.T.TableOf.Fits xs → IsInOrder g.T.Record.Keyed.key xs → map g.T.First.OneRow.row_of xs ≡ map g.T.First.OneRow.row_of l.records → flat_map g.T.TableOf.rows_of xs ≡ l.fn.rows
+  back : (xs : List _) → Each g.T.TableOf.Fits xs → IsInOrder g.T.Record.Keyed.key xs
+      → map g.T.First.OneRow.row_of xs ≡ map g.T.First.OneRow.row_of l.records
+      → flat_map g.T.TableOf.rows_of xs ≡ l.fn.rows
       → Goes g.T.Record.Keyed.key g.T.First.OneRow.row_of g.T.TableOf.rows_of g.T.TableOf.Fits (drop l.known-index l.records) l.left;
 }

@@ -10,7 +10,8 @@ gathered_in-requires g c = record { asked = callers_asked }
 
 pub returns : goal.returns
 returns g c s read =
-    puts_read callers_reads (state g.S.Store c.args.conn.now) (state g.S.Store c.gathered_in.new.conn) s c.gathered_in.result c.gathered_in.ensures.rests read c.in_ok-callers.callers c.in_ok-callers.was
+    puts_read callers_reads (state g.S.Store c.args.conn.now) (state g.S.Store c.gathered_in.new.conn) s
+    c.gathered_in.result c.gathered_in.ensures.rests read c.in_ok-callers.callers c.in_ok-callers.was
     c.in_ok-callers.ensures.fitting c.in_ok-callers.ensures.told _ (ap (λ (change : Change). record change { callers = c.in_ok-callers.callers }) c.none.ensures.value)
 
 pub returns-in_err-callers : goal.returns-in_err-callers

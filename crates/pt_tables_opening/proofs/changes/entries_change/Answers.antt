@@ -10,7 +10,8 @@ gathered_in-requires g c = record { asked = entries_asked }
 
 pub returns : goal.returns
 returns g c s read =
-    puts_read entries_reads (state g.S.Store c.args.conn.now) (state g.S.Store c.gathered_in.new.conn) s c.gathered_in.result c.gathered_in.ensures.rests read c.in_ok-entries.entries c.in_ok-entries.was
+    puts_read entries_reads (state g.S.Store c.args.conn.now) (state g.S.Store c.gathered_in.new.conn) s
+    c.gathered_in.result c.gathered_in.ensures.rests read c.in_ok-entries.entries c.in_ok-entries.was
     c.in_ok-entries.ensures.fitting c.in_ok-entries.ensures.told _ (ap (λ (change : Change). record change { entries = c.in_ok-entries.entries }) c.none.ensures.value)
 
 pub returns-in_err-entries : goal.returns-in_err-entries

@@ -10,7 +10,8 @@ gathered_in-requires g c = record { asked = planned_asked }
 
 pub returns : goal.returns
 returns g c s read =
-    puts_read planned_reads (state g.S.Store c.args.conn.now) (state g.S.Store c.gathered_in.new.conn) s c.gathered_in.result c.gathered_in.ensures.rests read c.in_ok-planned.planned c.in_ok-planned.was
+    puts_read planned_reads (state g.S.Store c.args.conn.now) (state g.S.Store c.gathered_in.new.conn) s
+    c.gathered_in.result c.gathered_in.ensures.rests read c.in_ok-planned.planned c.in_ok-planned.was
     c.in_ok-planned.ensures.fitting c.in_ok-planned.ensures.told _ (ap (λ (change : Change). record change { planned = c.in_ok-planned.planned }) c.none.ensures.value)
 
 pub returns-in_err-planned : goal.returns-in_err-planned

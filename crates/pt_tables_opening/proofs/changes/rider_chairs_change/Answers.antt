@@ -32,4 +32,7 @@ pub returns-in_err-riders : goal.returns-in_err-riders
 returns-in_err-riders g c =
     let old = state g.S.Store c.args.conn.now in
     fails_so table.RiderChairs old (state g.S.Store c.beside_in.new.conn) c.args.keeper.now.content c.beside_in.result _ c.from_residual.result c.from_residual.ensures.0 c.from_residual.ensures.1
-    c.beside_in.ensures.rests _ (λ before none. rider_chairs_none old.now.trees (none (subst (λ (xs : List Rider). AreRows riders_table old.now.trees (map rider_row xs)) (sym (c.as_slice.ensures.value ∙ c.riders_table.ensures.value)) before.1.1.1.1.1.1.0))) c.in_err-riders.ensures.faults
+    c.beside_in.ensures.rests _ (λ before none. rider_chairs_none old.now.trees
+    (none (subst (λ (xs : List Rider). AreRows riders_table old.now.trees (map rider_row xs))
+    (sym (c.as_slice.ensures.value ∙ c.riders_table.ensures.value)) before.1.1.1.1.1.1.0)))
+    c.in_err-riders.ensures.faults

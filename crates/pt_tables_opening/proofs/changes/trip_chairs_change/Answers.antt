@@ -32,4 +32,7 @@ pub returns-in_err-trips : goal.returns-in_err-trips
 returns-in_err-trips g c =
     let old = state g.S.Store c.args.conn.now in
     fails_so table.TripChairs old (state g.S.Store c.beside_in.new.conn) c.args.keeper.now.content c.beside_in.result _ c.from_residual.result c.from_residual.ensures.0 c.from_residual.ensures.1
-    c.beside_in.ensures.rests _ (λ before none. trip_chairs_none old.now.trees (none (subst (λ (xs : List Trip). AreRows trips_table old.now.trees (map trip_row xs)) (sym (c.as_slice.ensures.value ∙ c.trips_table.ensures.value)) before.1.1.1.1.1.1.1.1.0))) c.in_err-trips.ensures.faults
+    c.beside_in.ensures.rests _ (λ before none. trip_chairs_none old.now.trees
+    (none (subst (λ (xs : List Trip). AreRows trips_table old.now.trees (map trip_row xs))
+    (sym (c.as_slice.ensures.value ∙ c.trips_table.ensures.value)) before.1.1.1.1.1.1.1.1.0)))
+    c.in_err-trips.ensures.faults

@@ -10,7 +10,8 @@ gathered_in-requires g c = record { asked = vehicles_asked }
 
 pub returns : goal.returns
 returns g c s read =
-    puts_read vehicles_reads (state g.S.Store c.args.conn.now) (state g.S.Store c.gathered_in.new.conn) s c.gathered_in.result c.gathered_in.ensures.rests read c.in_ok-vehicles.vehicles c.in_ok-vehicles.was
+    puts_read vehicles_reads (state g.S.Store c.args.conn.now) (state g.S.Store c.gathered_in.new.conn) s
+    c.gathered_in.result c.gathered_in.ensures.rests read c.in_ok-vehicles.vehicles c.in_ok-vehicles.was
     c.in_ok-vehicles.ensures.fitting c.in_ok-vehicles.ensures.told _ (ap (λ (change : Change). record change { vehicles = c.in_ok-vehicles.vehicles }) c.none.ensures.value)
 
 pub returns-in_err-vehicles : goal.returns-in_err-vehicles

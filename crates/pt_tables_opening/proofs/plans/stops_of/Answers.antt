@@ -23,5 +23,9 @@ loop-place-preserved c =
       rows_are = stops-next c.args.vehicle c.args.day c.args.rows.now c.loop-place.place c.index-rows-place.result (omega arith) c.index-rows-place.is stops c.push.new.self.items stop
           told.0 count pushed c.loop-place.invariant.rows_are;
       count = omega (arith, size, count);
-      fit = (omega (arith, size, count, place, rows-of-stops 0 c.args.vehicle c.args.day c.push.new.self.items), subst (Each FitsStop) (sym pushed) (each_push FitsStop stops stop c.loop-place.invariant.fit.1 told.1.trip));
+      fit = (
+        omega (arith, size, count, place, rows-of-stops 0 c.args.vehicle c.args.day c.push.new.self.items),
+        subst
+            (Each FitsStop) (sym pushed) (each_push FitsStop stops stop c.loop-place.invariant.fit.1 told.1.trip),
+      );
     }

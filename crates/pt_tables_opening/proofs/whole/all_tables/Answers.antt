@@ -38,7 +38,8 @@ returns-in_err-keeper-2 g c =
     let mid = state g.S.Store c.loop-table.conn in
     let new = state g.S.Store c.with_table.new.conn in
     let n = c.loop-table.number in
-    let opened = opens_next c.in-Some.table n old mid new c.loop-table.keeper c.in-Some.ensures.value c.loop-table.invariant.late c.loop-table.invariant.opens c.with_table.result c.with_table.ensures in
+    let opened = opens_next c.in-Some.table n old mid new c.loop-table.keeper c.in-Some.ensures.value
+    c.loop-table.invariant.late c.loop-table.invariant.opens c.with_table.result c.with_table.ensures in
     ends_so n table_count old new c.in_err-keeper-2.field-0.0 c.from_residual-in_err-keeper-2.result c.from_residual-in_err-keeper-2.ensures.0 c.from_residual-in_err-keeper-2.ensures.1
     (subst (OpensTo n old new) c.in_err-keeper-2.was opened)
 

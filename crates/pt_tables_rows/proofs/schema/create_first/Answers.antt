@@ -29,7 +29,10 @@ loop-statement-preserved g c =
           let before = c.loop-statement.invariant.keeps early inside in
           let made = c.loop-statement.invariant.made early inside none in
           let ran = c.in_ok-execute.ensures.runs clean before.1 in
-          makes_next n (omega arith) mid new c.in_ok-execute.field-0 made (subst (λ t. Executes t [] mid new (Ok c.in_ok-execute.field-0)) (sym (get_or-map (λ (t : Bor (List ℕ)). t.now) given n _ [] low) ∙ ap (λ ts. slice_index_or ts n []) c.requires.all) ran.0);
+          makes_next n (omega arith) mid new c.in_ok-execute.field-0 made
+          (subst (λ t. Executes t [] mid new (Ok c.in_ok-execute.field-0))
+          (sym (get_or-map (λ (t : Bor (List ℕ)). t.now) given n _ [] low)
+          ∙ ap (λ ts. slice_index_or ts n []) c.requires.all) ran.0);
     }
 
 pub returns-clause-made : goal.returns-clause-made
@@ -37,5 +40,10 @@ returns-clause-made g c clean inside =
     let now = state g.S.Store c.loop-statement.tx.conn.now in
     let kept = c.loop-statement.invariant.keeps clean inside in
     let given : List (Bor (List ℕ)) = c.args.statements.now in
-    let all : length given ≡ first_count = sym (length-map given (λ (t : Bor (List ℕ)). t.now)) ∙ ap length c.requires.all in
-    (kept.0, kept.1, λ none. ends now.now (subst (λ n. IsMade n now.now) (omega (arith, c.loop-statement-test.false, c.loop-statement.auto.statement-index-end)) (c.loop-statement.invariant.made clean inside none)))
+    let all : length given ≡ first_count = sym (length-map given (λ (t : Bor (List ℕ)). t.now)) ∙ ap length c.requires.all in (
+      kept.0,
+      kept.1,
+      λ none. ends now.now (subst (λ n. IsMade n now.now)
+          (omega (arith, c.loop-statement-test.false, c.loop-statement.auto.statement-index-end))
+          (c.loop-statement.invariant.made clean inside none)),
+    )

@@ -22,7 +22,9 @@ returns-clause-written g c =
     let G = Known-routes change known.routes in
     let K = OfEach (AgreesFor change known) (WritesFleet change) in
     let L = Known-travel change known.travel in
-    did_as {X = Unit {0}} s1 s5 (Then (Then (Then F G) K) L) (OfEach (AgreesFor change known) (λ content. Leads change content (with_people change content) (with_area change (with_people change content)))) c.write_edits-3.result
+    did_as {X = Unit {0}} s1 s5 (Then (Then (Then F G) K) L)
+    (OfEach (AgreesFor change known) (λ content. Leads change content (with_people change content)
+    (with_area change (with_people change content)))) c.write_edits-3.result
     (area_leads change known s1.now s5.now)
     (did_next {X = Unit {0}} {Y = Unit {0}} s1 s4 s5 (Then (Then F G) K) L tt c.write_edits-3.result c.write_edits-3.ensures.survives
     (did_next {X = Unit {0}} {Y = Unit {0}} s1 s3 s4 (Then F G) K tt (Ok tt) c.in_ok-write_fleet.ensures.survives

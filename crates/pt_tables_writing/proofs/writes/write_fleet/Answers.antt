@@ -18,9 +18,14 @@ returns-clause-written g c =
     let s1 = state g.S.Store c.args.tx.now.conn.now in
     let s2 = state g.S.Store c.take_spans.new.tx.conn.now in
     let s3 = state g.S.Store c.write_vehicles.new.tx.conn.now in
-    let spans = subst (λ ss. Makes {X = Unit {0}} s1 s2 (OfEach (KnowsTaken vehicle_key ss c.vehicles_table.result.now.items) (TakesSpans vehicle_chairs_table vehicle_key IsVehicle vehicle_chair_rows ss)) (Ok c.in_ok-take_spans.field-0))
+    let spans = subst (λ ss. Makes {X = Unit {0}} s1 s2
+    (OfEach (KnowsTaken vehicle_key ss c.vehicles_table.result.now.items)
+    (TakesSpans vehicle_chairs_table vehicle_key IsVehicle vehicle_chair_rows ss))
+    (Ok c.in_ok-take_spans.field-0))
     c.spans.ensures.value c.in_ok-take_spans.ensures.written in
     let one = subst (λ xs. Makes {X = Unit {0}} s1 s2 (Unmarked-vehicles change xs) (Ok c.in_ok-take_spans.field-0)) c.vehicles_table.ensures.value spans in
-    did_then {X = Unit {0}} {Y = Unit {0}} s1 s2 s3 (Unmarked-vehicles change known.vehicles) (OfEach (AgreesFor change known) (WritesVehicles change)) (OfEach (AgreesFor change known) (WritesFleet change))
+    did_then {X = Unit {0}} {Y = Unit {0}} s1 s2 s3 (Unmarked-vehicles change known.vehicles)
+    (OfEach (AgreesFor change known) (WritesVehicles change))
+    (OfEach (AgreesFor change known) (WritesFleet change))
     c.in_ok-take_spans.field-0 c.write_vehicles.result
     (λ has first next there agrees. (s2.now, first there.vehicles agrees.vehicles, λ kept. next kept there agrees)) c.write_vehicles.ensures.survives one c.write_vehicles.ensures.written

@@ -16,7 +16,9 @@ returns-clause-written g c =
     let s4 = state g.S.Store c.write_trips.new.tx.conn.now in
     let F = OfEach (AgreesFor change known) (λ content. Leads change content content (with_people change content)) in
     let G = OfEach (AgreesFor change known) (λ content. Leads change content (with_people change content) (with_area change (with_people change content))) in
-    let K = OfEach (AgreesWith change known plans) (λ content. Ends change content (with_area change (with_people change content)) (with_trips change (with_area change (with_people change content)))) in
+    let K = OfEach (AgreesWith change known plans) (λ content. Ends change content
+    (with_area change (with_people change content)) (with_trips change
+    (with_area change (with_people change content)))) in
     did_as {X = Unit {0}} s1 s4 (Then (Then F G) K) (OfEach (AgreesWith change known plans) (λ content. Ends change content content (applied change content))) c.write_trips.result
     (λ three there agrees told puts stands.
     let two = three.1 in
@@ -35,7 +37,9 @@ returns-clause-open g c clean inside =
     let s2 = state g.S.Store c.write_people.new.tx.conn.now in
     let s3 = state g.S.Store c.write_area.new.tx.conn.now in
     let s4 = state g.S.Store c.write_trips.new.tx.conn.now in
-    let one = stayed {X = Unit {0}} s1 s2 (OfEach (AgreesFor change known) (λ content. Leads change content content (with_people change content))) c.in_ok-write_people.field-0 c.in_ok-write_people.ensures.written in
+    let one = stayed {X = Unit {0}} s1 s2 (OfEach (AgreesFor change known)
+    (λ content. Leads change content content (with_people change content))) c.in_ok-write_people.field-0
+    c.in_ok-write_people.ensures.written in
     let two = stayed {X = Unit {0}} s2 s3 (OfEach (AgreesFor change known) (λ content. Leads change content (with_people change content) (with_area change (with_people change content))))
     c.in_ok-write_area.field-0 c.in_ok-write_area.ensures.written in
     open_then s1 s3 s4 c.write_trips.result c.write_trips.ensures.survives (stayed_then s1 s2 s3 c.in_ok-write_area.ensures.survives one two)

@@ -5,7 +5,9 @@ use Rattle.std.proofs.lemmas.Grind.{common_steps}
 use Rattle.pt_visitors.specs.Periods.{is_in_period}
 use Rattle.pt_visitors.proofs.Walk.{IsWalked, Opens, Counts, walk_begins, walk_empty, walk_step, walk_decides, walk_allows, ord_min-min}
 use Rattle.pt_visitors.proofs.visits.visitor_may.Goals as goal
-use Rattle.pt_visitors.proofs.visits.visitor_may.Goals.{in-Some, in-None, then-not-is_in_period, else-not-is_in_period, then-ne+then-is_in_period, else-ne, else-ne-via-then-ne+else-is_in_period, else-ne-via-else-ne}
+use Rattle.pt_visitors.proofs.visits.visitor_may.Goals.{in-Some, in-None, then-not-is_in_period}
+use Rattle.pt_visitors.proofs.visits.visitor_may.Goals.{else-not-is_in_period, then-ne+then-is_in_period, else-ne}
+use Rattle.pt_visitors.proofs.visits.visitor_may.Goals.{else-ne-via-then-ne+else-is_in_period, else-ne-via-else-ne}
 
 and_true : {a b : Bool} → a ≡ true → b ≡ true → (a && b) ≡ true
 and_true p q = rw (p, q) refl
@@ -53,7 +55,8 @@ loop-used-preserved c =
             | else-ne-via-else-ne w' ↦ inr (and_false_left _ (sym differs ∙ w'.if-ne.false), w.others-is)
           ]
     ] in
-    walk_step uses day c.loop-used.used-index c.loop-used.opening c.loop-used.others c.if-not-is_in_period.opening c.if-not-is_in_period.others c.if-ne.others c.requires c.loop-used.invariant (omega arith) opens counts
+    walk_step uses day c.loop-used.used-index c.loop-used.opening c.loop-used.others c.if-not-is_in_period.opening
+    c.if-not-is_in_period.others c.if-ne.others c.requires c.loop-used.invariant (omega arith) opens counts
 
 pub returns-then-not-is_in_period-2 : goal.returns-then-not-is_in_period-2
 returns-then-not-is_in_period-2 c =

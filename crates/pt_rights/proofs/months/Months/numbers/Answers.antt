@@ -15,7 +15,12 @@ loop-index-preserved c =
     let size = c.loop-index.invariant.1 in
     let at = ap (λ i. get_or marks i false) c.from.ensures in
     elim c.if-self-from.branch [
-      | then-self-from w ↦ (ap (λ n. n.items) w.numbers-is ∙ w.push.ensures.items ∙ ap (λ xs. xs ++ (c.loop-index.index + 1) ∷ []) c.loop-index.invariant.0 ∙ sym (numbers_of-take_yes marks c.loop-index.index (omega arith) (sym at ∙ w.if-self-from.true)), size)
+      | then-self-from w ↦ (
+        ap (λ n. n.items) w.numbers-is ∙ w.push.ensures.items
+            ∙ ap (λ xs. xs ++ (c.loop-index.index + 1) ∷ []) c.loop-index.invariant.0
+            ∙ sym (numbers_of-take_yes marks c.loop-index.index (omega arith) (sym at ∙ w.if-self-from.true)),
+        size,
+      )
       | else-self-from w ↦ (ap (λ n. n.items) w.numbers-is ∙ c.loop-index.invariant.0 ∙ sym (numbers_of-take_no marks c.loop-index.index (omega arith) (sym at ∙ w.if-self-from.false)), size)
     ]
 

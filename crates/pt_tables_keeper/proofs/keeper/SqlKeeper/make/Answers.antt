@@ -41,7 +41,9 @@ invariant_of-self-in-Ok g c =
     subst (λ a. AreInStep a c.args.rider_count f new) (sym (c.make.ensures.content ∙ ap (applied change) c.reserve.ensures.content))
     (step_made old new content after f none was (c.write_over.ensures.survives content well agrees (was.kept none)) (applied-well_formed change content was.readable may.told)
     (carried_after change content was.readable may was.carried)
-    (λ db here left. g.met.S.Store.settled c.write_over.new.conn.store db here left) c.args.rider_count (riders_counted g.S.Store c.self.inside.conn f content c.args.self.now change c.args.rider_count c.self.view_is c.requires.counted)
+    (λ db here left. g.met.S.Store.settled c.write_over.new.conn.store db here left) c.args.rider_count
+    (riders_counted g.S.Store c.self.inside.conn f content c.args.self.now change c.args.rider_count
+    c.self.view_is c.requires.counted)
     c.write_over.ensures.settled (c.in-Ok.ensures.made content well agrees (was.kept none)))
 
 pub invariant_of-self-in-Err-1 : goal.invariant_of-self-in-Err-1

@@ -46,7 +46,9 @@ returns g c =
       | in-None w ↦ record {
         reads = subst (λ r. Goes old new (riders c.args.self.now.content) None r) (sym w.result-is)
             (goes_to old new (rider_of put.id) c.in_ok-read_rider.field-0 riders w.saturating_add.result read (λ clean same.
-            w.saturating_add.ensures ∙ ap (λ n. min (n + 1) 18446744073709551615) (counted clean) ∙ riders_one_more change after.content put readable c.requires.writable.riders is (sym w.in-None.is ∙ same)));
+            w.saturating_add.ensures ∙ ap (λ n. min (n + 1) 18446744073709551615) (counted clean)
+            ∙ riders_one_more change after.content put readable c.requires.writable.riders is
+            (sym w.in-None.is ∙ same)));
         content = c.in_ok-read_rider.ensures.content;
       }
     ]

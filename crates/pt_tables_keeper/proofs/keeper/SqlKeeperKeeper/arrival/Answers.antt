@@ -14,13 +14,16 @@ returns-in_err-last-clause-reads g c =
     let passed : c.from_residual-in_err-last.result ≡ Err e = search rules in
     reads_not g.S.Store c.self.inside.conn c.kept_by_caller-found.new.conn c.self.inside.failures c.counted.new.failures c.self.inside.known.content c.kept_by_caller-found.result c.counted.result
     none c.self.invariant c.kept_by_caller-found.ensures.rests (λ db here left. g.met.S.Store.settled c.kept_by_caller-found.new.conn.store db here left) c.counted.ensures.counts
-    c.args.self.now (kept_of c.args.caller) c.self.view_is c.kept_by_caller-found.ensures.told e c.in_err-last.was (arrival_of c.args.number c.args.request.now (kept_of c.args.caller c.args.self.now.content)) c.from_residual-in_err-last.result passed
+    c.args.self.now (kept_of c.args.caller) c.self.view_is c.kept_by_caller-found.ensures.told e c.in_err-last.was
+    (arrival_of c.args.number c.args.request.now (kept_of c.args.caller c.args.self.now.content))
+    c.from_residual-in_err-last.result passed
 
 pub returns-clause-reads : goal.returns-clause-reads
 returns-clause-reads g c =
     let none : c.self.inside.failures ≡ 0 = ap (λ (k : KeptTables _). k.failures) c.self.view_is ∙ c.in_ok-serve.ensures.served in
     let made = arrival_of c.args.number c.args.request.now in
-    let read = reads_on g.S.Store c.self.inside.conn c.kept_by_caller-found.new.conn c.self.inside.failures c.counted.new.failures c.self.inside.known.content c.kept_by_caller-found.result c.counted.result
+    let read = reads_on g.S.Store c.self.inside.conn c.kept_by_caller-found.new.conn c.self.inside.failures
+    c.counted.new.failures c.self.inside.known.content c.kept_by_caller-found.result c.counted.result
     none c.self.invariant c.kept_by_caller-found.ensures.rests (λ db here left. g.met.S.Store.settled c.kept_by_caller-found.new.conn.store db here left) c.counted.ensures.counts
     c.args.self.now (kept_of c.args.caller) c.self.view_is c.kept_by_caller-found.ensures.told c.in_ok-last.last c.in_ok-last.was made in
     let after = (kept_store (state g.S.Store c.kept_by_caller-found.new.conn) c.self.inside.known.content c.counted.new.failures c.self.inside.unfit) in

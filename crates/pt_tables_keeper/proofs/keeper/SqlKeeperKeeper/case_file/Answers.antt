@@ -14,20 +14,26 @@ returns-in_err-entries-clause-reads g c =
     let passed : c.from_residual-in_err-entries.result ≡ Err e = search rules in
     reads_not g.S.Store c.self.inside.conn c.entries_by_rider-found.new.conn c.self.inside.failures c.counted.new.failures c.self.inside.known.content c.entries_by_rider-found.result c.counted.result
     none c.self.invariant c.entries_by_rider-found.ensures.rests (λ db here left. g.met.S.Store.settled c.entries_by_rider-found.new.conn.store db here left) c.counted.ensures.counts
-    c.args.self.now (λ (s : State). entries_of c.args.rider s.entries) c.self.view_is c.entries_by_rider-found.ensures.told e c.in_err-entries.was (file_of c.args.rider c.args.self.now.content) c.from_residual-in_err-entries.result passed
+    c.args.self.now (λ (s : State). entries_of c.args.rider s.entries) c.self.view_is
+    c.entries_by_rider-found.ensures.told e c.in_err-entries.was (file_of c.args.rider c.args.self.now.content)
+    c.from_residual-in_err-entries.result passed
 
 pub returns-in_err-file_with-clause-reads : goal.returns-in_err-file_with-clause-reads
 returns-in_err-file_with-clause-reads g c =
     let none : c.self.inside.failures ≡ 0 = ap (λ (k : KeptTables _). k.failures) c.self.view_is ∙ c.in_ok-serve.ensures.served in
     let wanting : c.from_residual-in_err-file_with.result ≡ Err Memory = search rules in
-    reads_wanting g.S.Store c.self.inside.conn c.entries_by_rider-found.new.conn c.self.inside.failures c.counted.new.failures c.self.inside.known.content c.entries_by_rider-found.result c.counted.result
+    reads_wanting g.S.Store c.self.inside.conn c.entries_by_rider-found.new.conn c.self.inside.failures
+    c.counted.new.failures c.self.inside.known.content c.entries_by_rider-found.result c.counted.result
     none c.self.invariant c.entries_by_rider-found.ensures.rests (λ db here left. g.met.S.Store.settled c.entries_by_rider-found.new.conn.store db here left) c.counted.ensures.counts
-    c.args.self.now (λ (s : State). entries_of c.args.rider s.entries) c.self.view_is c.entries_by_rider-found.ensures.told c.in_ok-entries.entries c.in_ok-entries.was (file_of c.args.rider c.args.self.now.content) c.from_residual-in_err-file_with.result wanting
+    c.args.self.now (λ (s : State). entries_of c.args.rider s.entries) c.self.view_is
+    c.entries_by_rider-found.ensures.told c.in_ok-entries.entries c.in_ok-entries.was
+    (file_of c.args.rider c.args.self.now.content) c.from_residual-in_err-file_with.result wanting
 
 pub returns-clause-reads : goal.returns-clause-reads
 returns-clause-reads g c =
     let none : c.self.inside.failures ≡ 0 = ap (λ (k : KeptTables _). k.failures) c.self.view_is ∙ c.in_ok-serve.ensures.served in
-    let read = reads_on g.S.Store c.self.inside.conn c.entries_by_rider-found.new.conn c.self.inside.failures c.counted.new.failures c.self.inside.known.content c.entries_by_rider-found.result c.counted.result
+    let read = reads_on g.S.Store c.self.inside.conn c.entries_by_rider-found.new.conn c.self.inside.failures
+    c.counted.new.failures c.self.inside.known.content c.entries_by_rider-found.result c.counted.result
     none c.self.invariant c.entries_by_rider-found.ensures.rests (λ db here left. g.met.S.Store.settled c.entries_by_rider-found.new.conn.store db here left) c.counted.ensures.counts
     c.args.self.now (λ (s : State). entries_of c.args.rider s.entries) c.self.view_is c.entries_by_rider-found.ensures.told c.in_ok-entries.entries c.in_ok-entries.was file_with in
     let after = (kept_store (state g.S.Store c.entries_by_rider-found.new.conn) c.self.inside.known.content c.counted.new.failures c.self.inside.unfit) in

@@ -15,13 +15,17 @@ returns-in_err-trips-clause-reads g c =
     let passed : c.from_residual-in_err-trips.result ≡ Err e = search rules in
     reads_not g.S.Store c.self.inside.conn c.trips_from_day-found.new.conn c.self.inside.failures c.counted.new.failures c.self.inside.known.content c.trips_from_day-found.result c.counted.result
     none c.self.invariant c.trips_from_day-found.ensures.rests (λ db here left. g.met.S.Store.settled c.trips_from_day-found.new.conn.store db here left) c.counted.ensures.counts
-    c.args.self.now (λ (s : State). filter (λ trip. nat_le c.args.day trip.wish.day) s.trips) c.self.view_is c.trips_from_day-found.ensures.told e c.in_err-trips.was (is_booked_from c.args.vehicle c.args.day c.args.self.now.content.trips) c.from_residual-in_err-trips.result passed
+    c.args.self.now (λ (s : State). filter (λ trip. nat_le c.args.day trip.wish.day) s.trips) c.self.view_is
+    c.trips_from_day-found.ensures.told e c.in_err-trips.was
+    (is_booked_from c.args.vehicle c.args.day c.args.self.now.content.trips) c.from_residual-in_err-trips.result
+    passed
 
 pub returns-clause-reads : goal.returns-clause-reads
 returns-clause-reads g c =
     let none : c.self.inside.failures ≡ 0 = ap (λ (k : KeptTables _). k.failures) c.self.view_is ∙ c.in_ok-serve.ensures.served in
     let made = is_booked_from c.args.vehicle c.args.day in
-    let read = reads_on g.S.Store c.self.inside.conn c.trips_from_day-found.new.conn c.self.inside.failures c.counted.new.failures c.self.inside.known.content c.trips_from_day-found.result c.counted.result
+    let read = reads_on g.S.Store c.self.inside.conn c.trips_from_day-found.new.conn c.self.inside.failures
+    c.counted.new.failures c.self.inside.known.content c.trips_from_day-found.result c.counted.result
     none c.self.invariant c.trips_from_day-found.ensures.rests (λ db here left. g.met.S.Store.settled c.trips_from_day-found.new.conn.store db here left) c.counted.ensures.counts
     c.args.self.now (λ (s : State). filter (λ trip. nat_le c.args.day trip.wish.day) s.trips) c.self.view_is c.trips_from_day-found.ensures.told c.in_ok-trips.trips c.in_ok-trips.was made in
     let after = (kept_store (state g.S.Store c.trips_from_day-found.new.conn) c.self.inside.known.content c.counted.new.failures c.self.inside.unfit) in

@@ -23,6 +23,8 @@ returns g c =
       reads = reads_by g.S.Store c.self.inside.conn c.plan_by_key-found.new.conn c.self.inside.failures c.counted.new.failures c.self.inside.known.content c.plan_by_key-found.result c.counted.result
           none c.self.invariant c.plan_by_key-found.ensures.rests (λ db here left. g.met.S.Store.settled c.plan_by_key-found.new.conn.store db here left) c.counted.ensures.counts
           c.args.self.now (plan_of c.args.vehicle c.args.day) c.self.view_is
-          (subst (λ k. Tells (state g.S.Store c.self.inside.conn) (state g.S.Store c.plan_by_key-found.new.conn) (λ (s : State). record_at plan_key k s.planned) c.plan_by_key-found.result) key c.plan_by_key-found.ensures.told);
+          (subst (λ k. Tells (state g.S.Store c.self.inside.conn) (state g.S.Store c.plan_by_key-found.new.conn)
+          (λ (s : State). record_at plan_key k s.planned) c.plan_by_key-found.result) key
+          c.plan_by_key-found.ensures.told);
       refuses = λ some. absurd (let zero : c.args.self.now.failures ≡ 0 = c.in_ok-serve.ensures.served in omega arith);
     }

@@ -11,5 +11,7 @@ pub returns-then-not-rider-clause-written : goal.returns-then-not-rider-clause-w
 returns-then-not-rider-clause-written g c clean inside =
     let rider = c.args.rider.now in
     let unmarked : rider.wheelchair ≡ false = c.if-not-rider.true in
-    changes_none rider_chairs_table rider_key FitsRider rider_chair_rows rider (ap (λ s. row_if s (number_value rider.id ∷ [])) unmarked) (state g.S.Store c.args.tx.now.conn.now) (state g.S.Store c.take.new.tx.conn.now)
+    changes_none rider_chairs_table rider_key FitsRider rider_chair_rows rider
+    (ap (λ s. row_if s (number_value rider.id ∷ [])) unmarked) (state g.S.Store c.args.tx.now.conn.now)
+    (state g.S.Store c.take.new.tx.conn.now)
     c.take.result (c.take.ensures.written clean inside)

@@ -11,5 +11,7 @@ pub returns-then-not-trip-clause-written : goal.returns-then-not-trip-clause-wri
 returns-then-not-trip-clause-written g c clean inside =
     let trip = c.args.trip.now in
     let unmarked : trip.wheelchair ≡ false = c.if-not-trip.true in
-    changes_none trip_chairs_table trip_key FitsTrip trip_chair_rows trip (ap (λ s. row_if s (number_value trip.id ∷ [])) unmarked) (state g.S.Store c.args.tx.now.conn.now) (state g.S.Store c.take.new.tx.conn.now)
+    changes_none trip_chairs_table trip_key FitsTrip trip_chair_rows trip
+    (ap (λ s. row_if s (number_value trip.id ∷ [])) unmarked) (state g.S.Store c.args.tx.now.conn.now)
+    (state g.S.Store c.take.new.tx.conn.now)
     c.take.result (c.take.ensures.written clean inside)

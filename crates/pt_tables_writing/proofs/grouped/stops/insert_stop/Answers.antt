@@ -9,4 +9,5 @@ pub returns-clause-written : goal.returns-clause-written
 returns-clause-written g c =
     let old = state g.S.Store c.args.tx.now.conn.now in
     let new = state g.S.Store c.execute.new.self.conn.now in
-    did_run old new c.in_ok-execute.ensures.runs (λ run has. stop-added c.args.vehicle c.args.day c.args.place c.args.stop old new c.in_ok-execute.field-0 has (search (rules, to_z-of_z c.ranges.place)))
+    did_run old new c.in_ok-execute.ensures.runs (λ run has. stop-added c.args.vehicle c.args.day c.args.place
+    c.args.stop old new c.in_ok-execute.field-0 has (search (rules, to_z-of_z c.ranges.place)))

@@ -16,4 +16,5 @@ returns-clause-written g c =
     did_added {X = Unit {0}} {Y = Unit {0}} travel_table (travel_row table.from_day (0, 0, 0) ∷ []) (map (travel_row table.from_day) table.rows) old mid new
     c.in_ok-insert_drive.field-0 c.insert_drives.result c.insert_drives.ensures.survives
     (subst (λ day. Makes {X = Unit {0}} old mid (Adds travel_table (travel_row day (0, 0, 0) ∷ [])) (Ok c.in_ok-insert_drive.field-0)) c.from_day.ensures.value c.in_ok-insert_drive.ensures.written)
-    (subst₂ (λ day rows. Makes {X = Unit {0}} mid new (Adds travel_table (map (travel_row day) rows)) c.insert_drives.result) c.from_day-2.ensures.value c.rows.ensures.value c.insert_drives.ensures.written)
+    (subst₂ (λ day rows. Makes {X = Unit {0}} mid new (Adds travel_table (map (travel_row day) rows))
+    c.insert_drives.result) c.from_day-2.ensures.value c.rows.ensures.value c.insert_drives.ensures.written)

@@ -8,7 +8,24 @@ returns-clause-written g c =
     let old = state g.S.Store c.args.tx.now.conn.now in
     let new = state g.S.Store c.execute.new.self.conn.now in
     did_run old new c.in_ok-execute.ensures.runs (λ ran has.
-    let run = rw (c.params-to_sql.ensures, c.params-to_sql-2.ensures, c.params-to_sql-3.ensures, c.params-to_sql-4.ensures, c.params-to_sql-5.ensures, c.params-to_sql-6.ensures, c.params-to_sql-7.ensures, c.params-to_sql-8.ensures, c.params-to_sql-9.ensures, c.params-to_sql-10.ensures, c.params-to_sql-11.ensures, c.from.ensures, c.from-2.ensures, c.from-3.ensures, c.from-4.ensures, c.from-5.ensures) at ran in (
+    let run = rw (
+      c.params-to_sql.ensures,
+      c.params-to_sql-2.ensures,
+      c.params-to_sql-3.ensures,
+      c.params-to_sql-4.ensures,
+      c.params-to_sql-5.ensures,
+      c.params-to_sql-6.ensures,
+      c.params-to_sql-7.ensures,
+      c.params-to_sql-8.ensures,
+      c.params-to_sql-9.ensures,
+      c.params-to_sql-10.ensures,
+      c.params-to_sql-11.ensures,
+      c.from.ensures,
+      c.from-2.ensures,
+      c.from-3.ensures,
+      c.from-4.ensures,
+      c.from-5.ensures,
+    ) at ran in (
       writes_desk c.args.policy.now c.args.last_trip old new c.in_ok-execute.field-0 has run,
       desk_sound c.args.policy.now c.args.last_trip old new c.in_ok-execute.field-0 has run,
     ))
