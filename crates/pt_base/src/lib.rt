@@ -12,7 +12,7 @@ pub use minute::{LAST_MINUTE, Minute};
 pub use moment::Moment;
 pub use numbers::number_from;
 pub use place::{Place, Point};
-pub use policy::Policy;
+pub use policy::{HIGHEST_FARE, Policy};
 pub use rider::{Residence, Rider};
 pub use rule::Rule;
 pub use trip::{Trip, Wish};

@@ -1,14 +1,18 @@
 ghost use Rattle.std.specs.Prelude.{◌≤◌};
 ghost use Rattle.std.specs.Int.{IsInRange};
+ghost use Rattle.pt_base.specs.Ranges.{highest_fare};
+
+/// The highest fare that a policy may set, in cents.
+pub const HIGHEST_FARE: u32 = 100_000;
 
 /// The agency's settings: fares in cents, minutes, and when missed trips make a pattern.
 #[derive(Clone, Copy)]
 pub struct Policy {
-    /// The fixed fare on one route, in cents, at most 100,000.
+    /// The fixed fare on one route, in cents, at most `HIGHEST_FARE`.
     pub base: u32,
-    /// What a transfer adds to the fixed fare, in cents, at most 100,000.
+    /// What a transfer adds to the fixed fare, in cents, at most `HIGHEST_FARE`.
     pub transfer: u32,
-    /// The agency's own fare, in cents, at most 100,000.
+    /// The agency's own fare, in cents, at most `HIGHEST_FARE`.
     pub fare: u32,
     /// Minutes at each stop, at most 30.
     pub service: u16,
@@ -20,9 +24,9 @@ pub struct Policy {
     pub percent: u16,
     /// The number of days before today in which missed trips count, 1 to 366.
     pub span_days: u16,
-    ghost base_in_range: { base ≤ 100_000 },
-    ghost transfer_in_range: { transfer ≤ 100_000 },
-    ghost fare_in_range: { fare ≤ 100_000 },
+    ghost base_in_range: { base ≤ highest_fare },
+    ghost transfer_in_range: { transfer ≤ highest_fare },
+    ghost fare_in_range: { fare ≤ highest_fare },
     ghost service_in_range: { service ≤ 30 },
     ghost extra_ride_in_range: { extra_ride ≤ 240 },
     ghost min_missed_in_range: { IsInRange 1 1_000 min_missed },

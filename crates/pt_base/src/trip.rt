@@ -1,4 +1,5 @@
 ghost use Rattle.std.specs.Prelude.{◌≤◌};
+ghost use Rattle.pt_base.specs.Ranges.{highest_fare};
 
 use crate::{Day, Minute, PlaceId, RiderId, TripId, TripStatus, VehicleId};
 
@@ -38,7 +39,7 @@ pub struct Trip {
     pub window_to: Minute,
     pub status: TripStatus,
     ghost companions_in_range: { wish.companions ≤ 1 },
-    ghost fare_in_range: { fare ≤ 100_000 },
+    ghost fare_in_range: { fare ≤ highest_fare },
     ghost service_in_range: { service ≤ 30 },
     ghost ride_in_range: { ride ≤ 1_679 },
 }

@@ -1,5 +1,6 @@
 ghost use Rattle.std.specs.Prelude.{◌≤◌};
 ghost use Rattle.std.specs.Int.{IsInRange};
+ghost use Rattle.pt_base.specs.Ranges.{last_minute};
 
 use crate::{Day, Minute, PlaceId, VehicleId, Weekdays};
 
@@ -25,5 +26,5 @@ pub struct Vehicle {
     ghost capacity_in_range: { IsInRange 1 30 capacity },
     ghost chairs_in_range: { chairs ≤ 10 },
     ghost hours_ordered: { opens ≤ closes },
-    ghost duration_in_range: { IsInRange 1 1_439 duration },
+    ghost duration_in_range: { IsInRange 1 last_minute duration },
 }

@@ -1,7 +1,7 @@
 ghost use Rattle.std.specs.Prelude.{◌≡◌, ◌≢◌, ◌+◌, ◌<◌, ◌≤◌, ◌↔◌, All, AllPairs, Any, Contains, IfSome, IfNone};
 ghost use Rattle.std.specs.Prelude.{IfOk, None, Some, length, slice_index};
 ghost use Rattle.std.specs.List.Sorted.{IsStrictlyIncreasing};
-ghost use Rattle.pt_base.specs.Ranges.{last_minute};
+ghost use Rattle.pt_base.specs.Ranges.{highest_fare, last_minute};
 ghost use Rattle.pt_base.specs.declared.rule.Rule.{Rule};
 ghost use Rattle.pt_feasible.specs.Route.{stops_of};
 ghost use Rattle.pt_insertion.specs.Choice.{IsChosenIn};
@@ -161,7 +161,7 @@ fn promised_at(request: &TripRequest<'_>, chosen: &Chosen) -> Window
 /// The fare of one person, in cents.
 fn fare_of(request: &TripRequest<'_>) -> u32
     ensures value { spec.IsFare (request_of request.now) result }
-    ensures in_range { result ≤ 100_000 }
+    ensures in_range { result ≤ highest_fare }
 {
     let wish = request.wish;
     let joined = one_route(

@@ -13,7 +13,7 @@ ghost use Rattle.pt_desk_rules.specs.Trips.{has_ends};
 
 use pt_base::{Day, Moment, Rule, TripId, Wish};
 use pt_booking::{asked_for, first_failing, riders_denial};
-use pt_desk_rules::ranges::LAST_TRIP_NUMBER;
+use pt_desk_rules::limits::LAST_TRIP_NUMBER;
 use pt_desk_rules::{
     Asking, TravelTable, WriteFacts, answer_wish, has_ends, is_dispatcher, on_duty,
 };

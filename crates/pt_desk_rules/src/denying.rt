@@ -8,13 +8,13 @@ ghost use Rattle.pt_requests.specs.declared.request.Write.TheVariants.{Enter};
 
 use crate::WriteFacts;
 use crate::fleet::{other_vehicle_count, version_count_before};
+use crate::limits::{
+    LAST_TRIP_NUMBER, MOST_CALLERS, MOST_PLACES, MOST_RIDERS, MOST_ROUTES, MOST_TABLES,
+    MOST_VEHICLES, MOST_VERSIONS,
+};
 use crate::outcomes::{awaits_outcome, has_come};
 use crate::permission::{
     is_admin, is_clerk, is_dispatcher, may_alter, may_book, may_end, may_enter,
-};
-use crate::ranges::{
-    LAST_TRIP_NUMBER, MOST_CALLERS, MOST_PLACES, MOST_RIDERS, MOST_ROUTES, MOST_TABLES,
-    MOST_VEHICLES, MOST_VERSIONS,
 };
 use crate::trips::{has_ends, is_cancellable, is_changeable};
 use pt_base::{CallerId, Moment, Place, PlaceId, Residence, Rider, RiderId, Rule, Vehicle};

@@ -21,6 +21,7 @@ mod denying;
 mod facts;
 mod fleet;
 mod kept;
+pub mod limits;
 mod outcomes;
 mod permission;
 pub mod ranges;

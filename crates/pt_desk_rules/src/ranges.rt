@@ -1,4 +1,4 @@
-//! The limits of the desk's tables, and the ranges of the fields of records, which their types ensure.
+//! The ranges of the fields of records, which their types ensure.
 //!
 //! Definitions see a day, a minute or a record's number as a bare number. Only its type shows that it is in its range.
 //! So these functions look at each field, and show no more than that.
@@ -17,30 +17,6 @@ use pt_rights::{Condition, Entry, Grant};
 use pt_scheduling::{PlannedRoute, PlannedStop};
 use pt_spelling::{days_byte, spell_reply};
 use pt_travel::Row;
-
-/// The most callers that the desk holds.
-pub const MOST_CALLERS: usize = 1_000;
-
-/// The most places that the desk holds.
-pub const MOST_PLACES: usize = 100;
-
-/// The most fixed routes that the desk holds.
-pub const MOST_ROUTES: usize = 50;
-
-/// The most riders that the desk holds.
-pub const MOST_RIDERS: usize = 100_000;
-
-/// The most vehicles that the desk holds.
-pub const MOST_VEHICLES: usize = 50;
-
-/// The most versions of one vehicle.
-pub const MOST_VERSIONS: usize = 20;
-
-/// The most travel tables that the desk holds.
-pub const MOST_TABLES: usize = 50;
-
-/// The last number that a trip can have.
-pub const LAST_TRIP_NUMBER: u32 = 4_294_967_295;
 
 /// A record whose fields have ranges.
 trait Fitting {

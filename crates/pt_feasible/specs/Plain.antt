@@ -4,6 +4,7 @@ use Rattle.std.proofs.Common.{IsSomeAnd, arith, refl, ap, ◌∙◌}
 use Rattle.std.proofs.lemmas.Bool.{eqb-true, eq-eqb}
 use Rattle.std.proofs.lemmas.Option.{same_Some, none-some}
 use Rattle.std.specs.Prelude.{if◌then◌else◌, ◌==◌}
+use Rattle.pt_base.specs.Ranges.{last_minute}
 
 -- how far apart two coordinates are
 abbrev pub apart : ℕ → ℕ → ℕ
@@ -32,7 +33,7 @@ pub across-self : (a : ℕ) → across a a ≡ 0
 across-self a = omega arith
 
 -- coordinates have three digits
-pub across-within : (a b : ℕ) → across a b ≤ 1439
+pub across-within : (a b : ℕ) → across a b ≤ last_minute
 across-within a b = omega arith
 
 pub across-triangle : (a b c : ℕ) → across a c ≤ across a b + across b c
@@ -48,14 +49,14 @@ some-across : (same : Bool) (a b m : ℕ) → (if same then Some (across a b) el
 some-across true a b m way = (refl, same_Some (across a b) m way)
 some-across false a b m way = absurd (none-some m way)
 
-pub plain-within_a_day : (a b : ℕ) → IfSome (plain_minutes a b) (λ t. t ≤ 1439)
+pub plain-within_a_day : (a b : ℕ) → IfSome (plain_minutes a b) (λ t. t ≤ last_minute)
 plain-within_a_day a b =
     elim (a / 1_000_000 == b / 1_000_000)
-    as (λ same. IfSome (if same then Some (across a b) else None) (λ t. t ≤ 1439))
+    as (λ same. IfSome (if same then Some (across a b) else None) (λ t. t ≤ last_minute))
     [ true ↦ across-within a b | false ↦ tt ]
 
 -- a way over a third place is no shorter
-pub plain-triangle : (a b c m n : ℕ) → plain_minutes a b ≡ Some m → plain_minutes b c ≡ Some n → m + n ≤ 1439 →
+pub plain-triangle : (a b c m n : ℕ) → plain_minutes a b ≡ Some m → plain_minutes b c ≡ Some n → m + n ≤ last_minute →
     IsSomeAnd (plain_minutes a c) (λ t. t ≤ m + n)
 plain-triangle a b c m n first second within =
     let one = some-across (a / 1_000_000 == b / 1_000_000) a b m first in

@@ -53,6 +53,8 @@ pub fn settle_counted<L: Ledger, S: Stops, T: Times>(
         IsLeastSchedule (T.minutes times.now) vehicle.now (S.stops stops.now) schedule.items) }
     ensures none { IfNone result
         ((b : List ℕ) → ¬ TimesFit (T.minutes times.now) vehicle.now (S.stops stops.now) b) }
+    // Times come of at least one pass.
+    ensures counted { IfSome result (λ _. passes.old < passes.new) }
     ensures passes { passes.new ≤ passes.old + length (S.stops stops.now) + 3 }
 {
     settle_by(stops, times, vehicle, &[], passes)
@@ -95,6 +97,7 @@ fn settle_by<L: Ledger, S: Stops, T: Times>(
         IsLeastSchedule (T.minutes times.now) vehicle.now (S.stops stops.now) schedule.items) }
     ensures none { IfNone result
         ((b : List ℕ) → ¬ TimesFit (T.minutes times.now) vehicle.now (S.stops stops.now) b) }
+    ensures counted { IfSome result (λ _. passes.old < passes.new) }
     ensures passes { passes.new ≤ passes.old + length (S.stops stops.now) + 3 }
 {
     let line = line_of(stops, times, vehicle, floor)?;

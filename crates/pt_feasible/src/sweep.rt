@@ -32,6 +32,7 @@ pub(crate) fn least_times<L: Ledger>(line: Line, passes: &mut Passes<L>) -> Opti
         → KeepsAll line.limits.items b → IsNeverLater times.items b) }
     ensures none { IfNone result ((b : List ℕ) → length b ≡ length line.earliest.items
         → IsNeverLater line.earliest.items b → ¬ KeepsAll line.limits.items b) }
+    ensures counted { IfSome result (λ _. passes.old < passes.new) }
     ensures passes { passes.new ≤ passes.old + length line.limits.items + 1 }
 {
     let Line {

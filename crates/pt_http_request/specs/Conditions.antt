@@ -2,6 +2,7 @@
 use Rattle.std.specs.Prelude.{ℕ, zero, suc, ◌++◌, Bool, true, false, List, [], ◌∷◌, map, filter, find, length, nat_le}
 use Rattle.std.specs.Prelude.{Option, bytes_eq}
 use Rattle.std.specs.List.{range_with_len}
+use Rattle.pt_rights.specs.Feet.{most_feet}
 use Rattle.pt_rights.specs.Months.{numbers_of}
 use Rattle.pt_rights.specs.declared.conditions.Condition.{Condition}
 use Rattle.pt_rights.specs.declared.conditions.Condition.TheVariants.{Always, Months, Farther, NoLift}
@@ -17,9 +18,9 @@ mark_sets (suc rest) =
 unfoldable pub month_sets : List (List Bool)
 month_sets = filter (λ marks. nat_le 1 (length (numbers_of marks))) (mark_sets 12)
 
--- each distance of 1 to 100,000 feet
+-- each distance in feet
 unfoldable pub distances : List ℕ
-distances = range_with_len 1 100_000
+distances = range_with_len 1 most_feet
 
 -- each condition
 abbrev pub conditions : List Condition

@@ -10,6 +10,7 @@ use Rattle.serde_json.specs.Data.{Data}
 use Rattle.serde_json.specs.Find.{get, as_bool, as_null, as_number, as_u64, as_str}
 use Rattle.pt_base.specs.SpelledDay.{day_from}
 use Rattle.pt_base.specs.SpelledNumber.{is_within}
+use Rattle.pt_rights.specs.Reasons.{longest_reasons}
 use Rattle.pt_http_request.specs.Numbers.{id_of}
 use Rattle.pt_http_request.specs.Names.{field_name}
 use Rattle.pt_http_request.specs.declared.field_name.FieldName.{FieldName}
@@ -83,9 +84,9 @@ day_at name body = do
   text ← text_at name body
   needed (day_from text) name
 
--- whether the text is 1 to 500 bytes of printable ASCII, from the space to the tilde
+-- whether the text is of printable ASCII, from the space to the tilde, and neither empty nor too long
 abbrev pub are_reasons : List ℕ → Bool
-are_reasons text = is_within 1 500 (length text) && list_all (λ byte. is_within 0x20 0x7E byte) text
+are_reasons text = is_within 1 longest_reasons (length text) && list_all (λ byte. is_within 0x20 0x7E byte) text
 
 -- the text, if it may be reasons
 abbrev pub reasons_from : List ℕ → Option (List ℕ)

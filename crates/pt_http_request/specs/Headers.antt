@@ -3,6 +3,7 @@ use Rattle.std.specs.Prelude.{◌≡◌, ◌⊎◌, ◌<◌, ℕ, List, [], ◌�
 use Rattle.std.specs.Prelude.{None, Result, Ok, Err}
 use Rattle.std.specs.Char.{to_ascii_lowercase}
 use Rattle.pt_base.specs.SpelledNumber.{SpellsNumber, number_from}
+use Rattle.pt_http_inbox.specs.Reads.{longest_body}
 use Rattle.pt_http_request.specs.Fields.{needed}
 use Rattle.pt_http_request.specs.declared.field_name.FieldName.{FieldName}
 use Rattle.pt_http_request.specs.declared.field_name.FieldName.TheVariants as field
@@ -23,10 +24,10 @@ IsGiven given.Missing values = values ≡ []
 IsGiven (given.Once value) values = values ≡ value.now ∷ []
 IsGiven given.Repeated values = 1 < length values
 
--- the length by the values of Content-Length: 0 if there are none, or one value of 1 to 16 digits, at most 16,384
+-- the length by the values of Content-Length: 0 if there are none, or one value of 1 to 16 digits, at most the longest body
 abbrev pub IsLengthIn : List (List ℕ) → ℕ → Type 0
 IsLengthIn values number =
-    ((values ≡ []) × (number ≡ 0)) ⊎ ((value : List ℕ) × (values ≡ value ∷ []) × SpellsNumber 16 16_384 value number)
+    ((values ≡ []) × (number ≡ 0)) ⊎ ((value : List ℕ) × (values ≡ value ∷ []) × SpellsNumber 16 longest_body value number)
 
 -- the body's length: there is no Transfer-Encoding, and Content-Length gives the length
 abbrev pub IsBodyLength : List (List ℕ × List ℕ) → ℕ → Type 0

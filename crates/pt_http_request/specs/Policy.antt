@@ -1,5 +1,6 @@
 -- The policy that a body spells. Fields are read in order, and the first bad field is the fault.
 use Rattle.std.specs.Prelude.{Result, Ok}
+use Rattle.pt_base.specs.Ranges.{highest_fare}
 use Rattle.pt_base.specs.declared.policy.Policy.{Policy}
 use Rattle.serde_json.specs.Data.{Data}
 use Rattle.pt_http_request.specs.Fields.{ranged_at, ◌>>=◌}
@@ -9,9 +10,9 @@ use Rattle.pt_http_request.specs.declared.field_name.FieldName.TheVariants as fi
 -- the policy that a body spells
 abbrev pub policy_in : Data → Result Policy FieldName
 policy_in body = do
-  base ← ranged_at field.Base 0 100_000 body
-  transfer ← ranged_at field.Transfer 0 100_000 body
-  fare ← ranged_at field.Fare 0 100_000 body
+  base ← ranged_at field.Base 0 highest_fare body
+  transfer ← ranged_at field.Transfer 0 highest_fare body
+  fare ← ranged_at field.Fare 0 highest_fare body
   service ← ranged_at field.Service 0 30 body
   extra_ride ← ranged_at field.ExtraRide 0 240 body
   min_missed ← ranged_at field.MinMissed 1 1_000 body

@@ -1,6 +1,7 @@
 -- The fixed route that a body spells. Fields are read in order, and the first bad field is the fault.
 use Rattle.std.specs.Prelude.{ℕ, ◌-◌, nat_le, ◌==◌, ◌&&◌, ◌||◌, Bool, false, List, [], ◌∷◌, length, Option, Some, None}
 use Rattle.std.specs.Prelude.{Result, Ok, Err, option_map, option_and_then, if◌then◌else◌, ⊤}
+use Rattle.pt_base.specs.Ranges.{last_minute}
 use Rattle.pt_base.specs.declared.place.Point.{Point}
 use Rattle.pt_corridor.specs.Route.{Route, route_of}
 use Rattle.serde_json.specs.Data.{Data, Items, no_items, item}
@@ -79,7 +80,7 @@ route_in body = do
   points ← needed (points_at body) field.Points
   accessible ← truth_at field.Accessible body
   days ← needed (days_at body) field.Days
-  first ← number_within field.First 0 1_439 body
-  last ← number_within field.Last 0 1_439 body
+  first ← number_within field.First 0 last_minute body
+  last ← number_within field.Last 0 last_minute body
   hours ← ordered first last
   Ok (route_of id width points accessible days first last)

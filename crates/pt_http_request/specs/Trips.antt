@@ -1,6 +1,7 @@
 -- The wish or the outcome of a trip that a body spells. Fields are read in order, and the first bad field is the fault.
 use Rattle.std.specs.Prelude.{ℕ, List, codes, bytes_eq, Option, Some, None, Result, Ok}
 use Rattle.std.specs.Prelude.{if◌then◌else◌}
+use Rattle.pt_base.specs.Ranges.{last_minute}
 use Rattle.pt_base.specs.declared.trip.Wish.{Wish}
 use Rattle.pt_rights.specs.declared.tally.Outcome.{Outcome}
 use Rattle.pt_rights.specs.declared.tally.Outcome.TheVariants as outcome
@@ -16,14 +17,14 @@ abbrev pub minute_if_any_at : FieldName → Data → Result (Option ℕ) FieldNa
 minute_if_any_at name body =
     if holds_nothing (get (field_name name) body) then Ok None
     else (do
-      minute ← number_within name 0 1_439 body
+      minute ← number_within name 0 last_minute body
       Ok (Some minute))
 
 -- the wish that a body spells: day, wish, from, to, by, attendant, companions
 abbrev pub wish_in : Data → Result Wish FieldName
 wish_in body = do
   day ← day_at field.Day body
-  pickup ← number_within field.Wish 0 1_439 body
+  pickup ← number_within field.Wish 0 last_minute body
   from ← id_at field.From body
   to ← id_at field.To body
   by ← minute_if_any_at field.By body

@@ -1,6 +1,7 @@
 -- The vehicle that a body spells. Fields are read in order, and the first bad field is the fault.
 use Rattle.std.specs.Prelude.{nat_le, if◌then◌else◌, Result, Ok, refl}
 use Rattle.std.proofs.lemmas.Bool.{leb-true}
+use Rattle.pt_base.specs.Ranges.{last_minute}
 use Rattle.pt_base.specs.declared.vehicle.Vehicle.{Vehicle}
 use Rattle.serde_json.specs.Data.{Data}
 use Rattle.serde_json.specs.Find.{get}
@@ -25,10 +26,10 @@ vehicle_in body = do
   days ← needed (days_at body) field.Days
   depot ← id_at field.Depot body
   capacity ← ranged_at field.Capacity 1 30 body
-  opens ← number_within field.Opens 0 1_439 body
-  closes ← number_within field.Closes 0 1_439 body
+  opens ← number_within field.Opens 0 last_minute body
+  closes ← number_within field.Closes 0 last_minute body
   hours_ordered ← tested (nat_le opens closes) (leb-true opens closes) field.Opens
-  duration ← ranged_at field.Duration 1 1_439 body
+  duration ← ranged_at field.Duration 1 last_minute body
   chairs ← chairs_at body
   Ok (record {
     id = id;

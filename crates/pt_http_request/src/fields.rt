@@ -1,5 +1,6 @@
 ghost use Rattle.std.specs.Prelude.{◌≡◌, Ok, Err, IfOk, IfErr};
 ghost use Rattle.std.specs.Int.{IsInRange};
+ghost use Rattle.pt_base.specs.Ranges.{last_minute};
 ghost use Rattle.serde_json.specs.View.{view};
 ghost use Rattle.serde_json.specs.Find.{get};
 ghost use Rattle.pt_http_request.specs.Names.{field_name};
@@ -125,7 +126,7 @@ pub(crate) fn ranged_at(
 
 /// The minute of the day at a field of an object, or the field as a fault.
 pub(crate) fn minute_at(body: &Value, name: FieldName) -> Result<Minute, FieldName>
-    ensures { result ≡ number_within name 0 1_439 (view body.now) }
+    ensures { result ≡ number_within name 0 last_minute (view body.now) }
 {
     let number = number_within(body, name, 0, LAST_MINUTE)?;
     Minute::of(number).ok_or(name)

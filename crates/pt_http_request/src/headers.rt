@@ -8,6 +8,7 @@ use crate::fault::MessageFault;
 use crate::{FieldName, RequestFault};
 use httparse::spans::HeaderSpan;
 use pt_base::number_from;
+use pt_http_inbox::LONGEST_BODY;
 use std::alloc::Global;
 
 /// What the headers of a message give under one name.
@@ -54,7 +55,7 @@ pub fn body_length(headers: &[HeaderSpan], bytes: &[u8]) -> Option<u64>
     };
     match value_of(headers, bytes, b"content-length") {
         Given::Missing => Some(0),
-        Given::Once(value) => number_from(value, 16, 16_384),
+        Given::Once(value) => number_from(value, 16, LONGEST_BODY as u64),
         Given::Repeated => None,
     }
 }

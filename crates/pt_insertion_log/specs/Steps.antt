@@ -1,5 +1,6 @@
 -- Steps of a case: a bound that a constraint raises, or a constraint that is broken.
 use Rattle.std.specs.Prelude.{⊤, ◌≡◌, ◌≢◌, ℕ, ◌+◌, ◌-◌, ◌^◌, ◌<◌, ◌≤◌, IsTrue, List, length, Option, Some, slice_get}
+use Rattle.pt_base.specs.Ranges.{last_minute}
 use Rattle.pt_base.specs.declared.vehicle.Vehicle.{Vehicle}
 use Rattle.pt_feasible.specs.declared.stop.Stop.{Stop}
 use Rattle.pt_feasible.specs.declared.visit.Visit.{Visit}
@@ -51,7 +52,7 @@ pub record IsKeptAt (minutes : ℕ → ℕ → Option ℕ) (vehicle : Vehicle) (
     (bound : ℕ → ℕ) (k : ℕ) : Type 0 where
   pub not_early : (visit : Visit) → slice_get (visits vehicle stops) k ≡ Some visit → visit.lo ≤ bound k
   pub not_late : (visit : Visit) → slice_get (visits vehicle stops) k ≡ Some visit → bound k ≤ visit.hi
-  pub within_a_day : bound k ≤ 1_439
+  pub within_a_day : bound k ≤ last_minute
   pub driven : IsDriven minutes vehicle stops bound k
   pub ridden : IsRidden stops bound k
   pub back : k ≡ 0 → bound (length stops + 1) - bound 0 ≤ vehicle.duration

@@ -4,10 +4,6 @@ use Rattle.pt_base.specs.declared.policy.Policy.{Policy}
 use Rattle.pt_party.specs.declared.party.Party.{Party}
 use Rattle.pt_party.specs.Party.{payers_of}
 
--- the most that each fare of a policy may be, in cents
-abbrev pub highest_fare : ℕ
-highest_fare = 100_000
-
 -- the full fare of the same trip by fixed routes, with a transfer if no single route serves both ends (49 CFR
 -- 37.131(c)(1))
 abbrev pub fixed_fare_of : Policy → Bool → ℕ

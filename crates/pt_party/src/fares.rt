@@ -1,11 +1,9 @@
 ghost use Rattle.std.specs.Prelude.{◌≡◌, ◌*◌, ◌≤◌};
-ghost use Rattle.pt_party.specs.Fare.{due_of, fare_of, fixed_fare_of, highest_fare};
+ghost use Rattle.pt_base.specs.Ranges.{highest_fare};
+ghost use Rattle.pt_party.specs.Fare.{due_of, fare_of, fixed_fare_of};
 
 use crate::Party;
 use pt_base::Policy;
-
-/// The highest fare that a policy may set, in cents.
-pub const HIGHEST_FARE: u32 = 100_000;
 
 /// The fare of one person, in cents.
 ///

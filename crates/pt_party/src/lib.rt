@@ -1,7 +1,7 @@
 //! Who may come along on a trip, and what is due for it.
 #![tactic(auto)]
 
-pub use fares::{HIGHEST_FARE, due, fare};
+pub use fares::{due, fare};
 pub use party::{Party, load, party_rule, persons};
 
 mod fares;

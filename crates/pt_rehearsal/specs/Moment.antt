@@ -1,6 +1,7 @@
 -- The line before each message of a rehearsal, which gives the message's moment.
 use Rattle.std.specs.Prelude.{◌≡◌, ◌≢◌, ℕ, List, ◌∷◌, ◌++◌, codes, All}
 use Rattle.std.specs.Str.Lines.{strip_carriage_return}
+use Rattle.pt_base.specs.Ranges.{last_minute}
 use Rattle.pt_base.specs.SpelledDay.{SpellsDay}
 use Rattle.pt_base.specs.SpelledNumber.{SpellsNumber}
 
@@ -15,7 +16,7 @@ pub record IsMoment (text : List ℕ) (day minute : ℕ) : Type 0 where
   pub digits : List ℕ
   pub spelled : text ≡ codes "@ " ++ date ++ 32 ∷ digits
   pub day_of_date : SpellsDay date day
-  pub minute_of_digits : SpellsNumber 4 1439 digits minute
+  pub minute_of_digits : SpellsNumber 4 last_minute digits minute
 
 -- the bytes begin with this line and a newline, and the rest follows
 pub record BeginsWithLine (bytes line rest : List ℕ) : Type 0 where

@@ -2,7 +2,7 @@ ghost use Rattle.std.specs.Prelude.{◌≡◌, ℕ, ◌+◌, ◌≤◌, ◌==◌
 ghost use Rattle.std.specs.Str.Lines.{strip_carriage_return};
 ghost use Rattle.pt_rehearsal.specs.Moment.{IsMoment, AreParts, BeginsWithLine, BeginsWithMoment};
 
-use pt_base::{Minute, Moment, day_from, number_from};
+use pt_base::{LAST_MINUTE, Minute, Moment, day_from, number_from};
 use std::str;
 
 /// The most bytes of a line with a moment, including its newline.
@@ -58,7 +58,7 @@ fn moment_from(line: &[u8]) -> Option<Moment>
     let text = str::from_utf8(line).ok()?;
     let (date, digits) = parts_of(text)?;
     let day = day_from(date)?;
-    let minute = number_from(digits.as_bytes(), 4, 1439)?;
+    let minute = number_from(digits.as_bytes(), 4, u64::from(LAST_MINUTE))?;
     Some(Moment {
         day,
         minute: Minute::of(minute as u32)?,

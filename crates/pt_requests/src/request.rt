@@ -1,4 +1,5 @@
-ghost use Rattle.std.specs.Prelude.{◌≤◌};
+ghost use Rattle.std.specs.Prelude.{◌*◌, ◌≤◌};
+ghost use Rattle.pt_base.specs.Ranges.{highest_fare};
 
 use crate::{Caller, DaySheet, Letter, VehicleSheet};
 use pt_base::{
@@ -76,8 +77,8 @@ pub struct Confirmation {
     pub fare: u32,
     /// What the rider and companions pay together, in cents.
     pub due: u32,
-    ghost fare_in_range: { fare ≤ 100_000 },
-    ghost due_in_range: { due ≤ 200_000 },
+    ghost fare_in_range: { fare ≤ highest_fare },
+    ghost due_in_range: { due ≤ 2 * highest_fare },
 }
 
 /// The desk's answer to a request.

@@ -5,6 +5,10 @@ use Rattle.std.specs.Prelude.{ℕ, ◌≤◌, List, length, All}
 abbrev pub IsPrintable : ℕ → Type 0
 IsPrintable byte = (0x20 ≤ byte) × (byte ≤ 0x7E)
 
--- 1 to 500 bytes of printable ASCII
+-- the most bytes of a text of reasons
+abbrev pub longest_reasons : ℕ
+longest_reasons = 500
+
+-- 1 to that many bytes of printable ASCII
 abbrev pub IsReasons : List ℕ → Type 0
-IsReasons bytes = (1 ≤ length bytes) × (length bytes ≤ 500) × All IsPrintable bytes
+IsReasons bytes = (1 ≤ length bytes) × (length bytes ≤ longest_reasons) × All IsPrintable bytes

@@ -3,6 +3,9 @@ ghost use Rattle.pt_rights.specs.Feet.{IsFeet};
 
 use std::marker::Model;
 
+/// The farthest distance that a condition may name, in feet.
+const MOST_FEET: u32 = 100_000;
+
 /// A distance of 1 to 100,000 feet.
 #[derive(Clone, Copy, PartialEq, Eq)]
 pub struct Feet {
@@ -28,7 +31,7 @@ impl Feet {
         ensures in_range { IsSome result ↔ IsFeet number }
         ensures value { IfSome result (λ feet. feet ≡ number) }
     {
-        if number < 1 || number > 100_000 {
+        if number < 1 || number > MOST_FEET {
             return None;
         }
         Some(Feet { feet: number })

@@ -6,6 +6,9 @@ ghost use Rattle.pt_rights.specs.Reasons.{IsReasons};
 use std::alloc::AllocError;
 use std::marker::Model;
 
+/// The most bytes of a text of reasons.
+const LONGEST_REASONS: usize = 500;
+
 /// A decision's reasons: 1 to 500 bytes of printable ASCII, 0x20 to 0x7E.
 #[derive(Drop)]
 pub struct Reasons {
@@ -30,7 +33,7 @@ impl Reasons {
         ensures in_range { IsSome result ↔ IsReasons bytes.items }
         ensures value { IfSome result (λ reasons. reasons ≡ bytes.items) }
     {
-        let fits = 1 <= bytes.len() && bytes.len() <= 500;
+        let fits = 1 <= bytes.len() && bytes.len() <= LONGEST_REASONS;
         if fits && bytes.iter().all(|&byte| 0x20 <= byte && byte <= 0x7E) {
             return Some(Reasons { bytes });
         }

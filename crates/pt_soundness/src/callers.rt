@@ -3,7 +3,7 @@ ghost use Rattle.pt_records.specs.Records.{Each};
 ghost use Rattle.pt_desk_rules.specs.Sound.{HasOneHolder};
 ghost use Rattle.pt_soundness.specs.Tables.{AreSoundCallers};
 
-use pt_desk_rules::ranges::MOST_CALLERS;
+use pt_desk_rules::limits::MOST_CALLERS;
 use pt_records::Table;
 use pt_requests::Caller;
 

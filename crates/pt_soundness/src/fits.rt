@@ -12,7 +12,7 @@ ghost use Rattle.pt_soundness.specs.Tables.{AreSoundTables};
 use crate::travel::are_of_places;
 use crate::vehicles::versions_of;
 use pt_base::{Day, Place, Trip, Vehicle};
-use pt_desk_rules::ranges::MOST_TABLES;
+use pt_desk_rules::limits::MOST_TABLES;
 use pt_desk_rules::{TravelTable, in_force, table_on};
 use pt_feasible::{Route, settle};
 use pt_records::Table;

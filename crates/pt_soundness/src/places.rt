@@ -4,7 +4,7 @@ ghost use Rattle.pt_soundness.specs.Tables.{AreSoundPlaces, AreSoundRoutes, AreS
 
 use pt_base::{Place, Rider};
 use pt_corridor::FixedRoute;
-use pt_desk_rules::ranges::{MOST_PLACES, MOST_RIDERS, MOST_ROUTES};
+use pt_desk_rules::limits::{MOST_PLACES, MOST_RIDERS, MOST_ROUTES};
 use pt_records::{Key, Table};
 use pt_requests::{Caller, Role};
 

@@ -7,7 +7,7 @@ ghost use Rattle.pt_desk_rules.specs.State.{vehicle_key, versions_from};
 ghost use Rattle.pt_soundness.specs.Tables.{AreSoundVehicles, HasDriven};
 
 use pt_base::{Place, Vehicle, VehicleId};
-use pt_desk_rules::ranges::{MOST_VEHICLES, MOST_VERSIONS};
+use pt_desk_rules::limits::{MOST_VEHICLES, MOST_VERSIONS};
 use pt_records::{Key, Span, Table};
 use pt_requests::{Caller, Role};
 

@@ -8,8 +8,7 @@ ghost use Rattle.pt_spelling.specs.Replies.{SpellsReply};
 ghost use Rattle.pt_spelling.specs.declared.replies.TheConstants.{LONGEST_REPLY_SPELLING};
 
 use arrayvec::ArrayVec;
-use pt_base::{Minute, TripId, VehicleId};
-use pt_party::HIGHEST_FARE;
+use pt_base::{HIGHEST_FARE, Minute, TripId, VehicleId};
 use pt_requests::{Answer, Confirmation};
 
 /// The most bytes in the spelling of a reply.
@@ -19,7 +18,7 @@ pub const LONGEST_REPLY_SPELLING: usize = 25;
 const CONFIRMATION_BYTES: usize = 24;
 
 /// The most that a rider and companions pay together, in cents.
-const HIGHEST_DUE: u32 = 200_000;
+const HIGHEST_DUE: u32 = 2 * HIGHEST_FARE;
 
 /// The stored reply to an accepted request, which is sent again if the same request comes again.
 #[derive(Clone, Copy)]

@@ -10,8 +10,9 @@ use crate::fields::{
     number_from, take_byte, take_bytes, take_day, take_days, take_id, take_minute, take_number,
     take_number_in, take_point, take_truth,
 };
-use pt_base::{Place, Policy, Residence, Rider, RiderId, Vehicle, VehicleId};
-use pt_party::HIGHEST_FARE;
+use pt_base::{
+    HIGHEST_FARE, LAST_MINUTE, Place, Policy, Residence, Rider, RiderId, Vehicle, VehicleId,
+};
 use pt_requests::{Caller, Digest, Role};
 
 /// The number of bytes in a digest.
@@ -112,7 +113,7 @@ pub(crate) fn vehicle_from(bytes: &[u8]) -> Option<Vehicle>
         capacity,
         opens,
         closes,
-        duration: take_number_in(&mut left, 1, 1_439)? as u16,
+        duration: take_number_in(&mut left, 1, LAST_MINUTE)? as u16,
         chairs: chairs_from(left)?,
     })
 }

@@ -1,5 +1,6 @@
 ghost use Rattle.std.specs.Prelude.{◌≤◌, IfOk, All, length};
 ghost use Rattle.std.specs.Option.{option_map};
+ghost use Rattle.pt_base.specs.Ranges.{last_minute};
 ghost use Rattle.pt_spelling.specs.Fields.{list_bytes};
 ghost use Rattle.pt_spelling.specs.Ranges.{IsWord, IsRow};
 ghost use Rattle.pt_spelling.specs.Requests.{row_bytes};
@@ -7,24 +8,25 @@ ghost use Rattle.pt_spelling_reading.specs.Reading.{Takes, Finds};
 ghost use Rattle.pt_travel.specs.Table.{IsTable};
 
 use crate::fields::{take_id, take_number, take_number_in};
+use pt_base::LAST_MINUTE;
 use pt_travel::{Raw, Row};
 use std::alloc::{AllocError, Global};
 
 /// Takes a row of a travel table.
 fn take_row(left: &mut &[u8]) -> Option<Row>
-    ensures { Takes row_bytes (λ row. IsRow row × (row.2 ≤ 1439)) left.old.now result left.new.now }
+    ensures { Takes row_bytes (λ row. IsRow row × (row.2 ≤ last_minute)) left.old.now result left.new.now }
 {
     Some((
         take_id(left)?,
         take_id(left)?,
-        take_number_in(left, 0, 1_439)? as u16,
+        take_number_in(left, 0, LAST_MINUTE)? as u16,
     ))
 }
 
 /// Takes rows, after their number. The error is out of memory, here and below.
 fn take_rows(alloc: Global, left: &mut &[u8]) -> Result<Option<Vec<Row>>, AllocError>
     ensures { IfOk result (λ found. Takes (list_bytes row_bytes)
-        (λ rows. IsWord (length rows) × All (λ row. IsRow row × (row.2 ≤ 1439)) rows)
+        (λ rows. IsWord (length rows) × All (λ row. IsRow row × (row.2 ≤ last_minute)) rows)
         left.old.now (option_map (λ rows. rows.items) found) left.new.now) }
 {
     let Some(count) = take_number(left) else {

@@ -1,7 +1,7 @@
 ghost use Rattle.pt_tables_reading.specs.Reading.{Reads, FitsAgency, agency_row};
 
 use crate::columns::{number_at, number_in};
-use pt_base::Policy;
+use pt_base::{HIGHEST_FARE, Policy};
 use pt_tables_rows::{DESK, TABLE_VERSION};
 use sqlite::Row;
 
@@ -18,9 +18,9 @@ pub fn agency_of(row: &Row) -> Option<(Policy, u32)>
     number_in(row, 0, DESK, DESK)?;
     number_in(row, 1, TABLE_VERSION, TABLE_VERSION)?;
     let policy = Policy {
-        base: number_in(row, 2, 0, 100_000)?,
-        transfer: number_in(row, 3, 0, 100_000)?,
-        fare: number_in(row, 4, 0, 100_000)?,
+        base: number_in(row, 2, 0, HIGHEST_FARE)?,
+        transfer: number_in(row, 3, 0, HIGHEST_FARE)?,
+        fare: number_in(row, 4, 0, HIGHEST_FARE)?,
         service: number_in(row, 5, 0, 30)? as u16,
         extra_ride: number_in(row, 6, 0, 240)? as u16,
         min_missed: number_in(row, 7, 1, 1_000)? as u16,

@@ -6,7 +6,7 @@ use crate::columns::{
     day_at, id_at, minute_at, number_in, optional_minute_at, status_at, truth_at,
 };
 use crate::one_row::OneRow;
-use pt_base::{Trip, Wish};
+use pt_base::{HIGHEST_FARE, Trip, Wish};
 use pt_tables_rows::tables::Trips;
 use sqlite::Row;
 use std::alloc::{AllocError, Global};
@@ -35,7 +35,7 @@ pub fn trip_of(row: &Row) -> Option<Trip>
         rider: id_at(row, 1)?,
         wish,
         wheelchair: false,
-        fare: number_in(row, 9, 0, 100_000)?,
+        fare: number_in(row, 9, 0, HIGHEST_FARE)?,
         service: number_in(row, 10, 0, 30)? as u16,
         ride: number_in(row, 11, 0, 1_679)? as u16,
         vehicle: id_at(row, 12)?,

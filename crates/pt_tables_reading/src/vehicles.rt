@@ -6,7 +6,7 @@ ghost use Rattle.pt_spelling.specs.Ranges.{IsVehicle};
 use crate::columns::{day_at, id_at, minute_at, number_in};
 use crate::one_row::OneRow;
 use crate::weekdays::days_at;
-use pt_base::Vehicle;
+use pt_base::{LAST_MINUTE, Vehicle};
 use pt_tables_rows::tables::Vehicles;
 use sqlite::Row;
 use std::alloc::{AllocError, Global};
@@ -35,7 +35,7 @@ pub fn vehicle_of(row: &Row) -> Option<Vehicle>
         chairs: 0,
         opens,
         closes,
-        duration: number_in(row, 7, 1, 1_439)? as u16,
+        duration: number_in(row, 7, 1, LAST_MINUTE)? as u16,
     })
 }
 

@@ -1,5 +1,6 @@
 -- Chains of rows of a travel table, and the driving times that they give.
 use Rattle.std.specs.Prelude.{◌≡◌, ℕ, ◌<◌, ◌≤◌, List, [], ◌∷◌, Option, None, Some, Contains, sum_by}
+use Rattle.pt_base.specs.Ranges.{last_minute}
 
 -- a row of a travel table: from one place, to another, and the minutes of the drive
 abbrev pub Row : Type 0
@@ -23,5 +24,5 @@ IsLeastTotal table from to minutes =
 
 -- the driving time by a table's chains: their least total, or None if no chain takes 1439 minutes or less
 abbrev pub IsTime : List Row → ℕ → ℕ → Option ℕ → Type 0
-IsTime table from to None = (chain : List Row) → IsChain table from to chain → 1439 < total_of chain
-IsTime table from to (Some minutes) = (minutes ≤ 1439) × IsLeastTotal table from to minutes
+IsTime table from to None = (chain : List Row) → IsChain table from to chain → last_minute < total_of chain
+IsTime table from to (Some minutes) = (minutes ≤ last_minute) × IsLeastTotal table from to minutes

@@ -1,11 +1,12 @@
 -- The driving times that a closed table returns.
 use Rattle.std.specs.Prelude.{ℕ, List, Option, None, Some, ◌==◌, nat_le, if◌then◌else◌}
 use Rattle.std.specs.List.{position}
+use Rattle.pt_base.specs.Ranges.{last_minute}
 use Rattle.pt_travel.specs.Matrix.{entry}
 
 -- the minutes if they are within a day, else None
 abbrev pub within_a_day : ℕ → Option ℕ
-within_a_day minutes = if nat_le minutes 1439 then Some minutes else None
+within_a_day minutes = if nat_le minutes last_minute then Some minutes else None
 
 -- the entry at two positions; None if one is unknown or the entry is not within a day
 abbrev pub entry_at : List (List ℕ) → Option ℕ → Option ℕ → Option ℕ

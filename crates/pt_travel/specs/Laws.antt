@@ -5,37 +5,38 @@ use Rattle.std.specs.Option.{IsSomeAnd}
 use Rattle.std.specs.List.{position}
 use Rattle.std.proofs.lemmas.Bool.{cases_eq, cases_Bool, eq-eqb, ne_eqb, le-leb, leb-true, cond-true, cond-false}
 use Rattle.std.proofs.lemmas.List.Quantifiers.{position-Some}
+use Rattle.pt_base.specs.Ranges.{last_minute}
 use Rattle.pt_travel.specs.declared.closed.Closed.{Closed}
 use Rattle.pt_travel.specs.Matrix.{entry, HasTriangles}
 use Rattle.pt_travel.specs.Closed.{within_a_day, entry_at, minutes_between}
 use Rattle.pt_travel.specs.Places.{list_of}
 use Rattle.pt_travel.specs.Times.{time_in}
 
-within-is : (x m : ℕ) → within_a_day x ≡ Some m → (x ≡ m) × (x ≤ 1439)
-within-is x m e = elim (cases_Bool (leb x 1439)) [
+within-is : (x m : ℕ) → within_a_day x ≡ Some m → (x ≡ m) × (x ≤ last_minute)
+within-is x m e = elim (cases_Bool (leb x last_minute)) [
   | inl less ↦
-      let s : Some x ≡ Some m = sym (cond-true (leb x 1439) (Some x) None less) ∙ e in
-      (cc s, leb-true x 1439 less)
-  | inr more ↦ let s : None ≡ Some m = sym (cond-false (leb x 1439) (Some x) None more) ∙ e in cc s
+      let s : Some x ≡ Some m = sym (cond-true (leb x last_minute) (Some x) None less) ∙ e in
+      (cc s, leb-true x last_minute less)
+  | inr more ↦ let s : None ≡ Some m = sym (cond-false (leb x last_minute) (Some x) None more) ∙ e in cc s
 ]
 
-within-some : (x : ℕ) → x ≤ 1439 → within_a_day x ≡ Some x
-within-some x less = cond-true (leb x 1439) (Some x) None (le-leb x 1439 less)
+within-some : (x : ℕ) → x ≤ last_minute → within_a_day x ≡ Some x
+within-some x less = cond-true (leb x last_minute) (Some x) None (le-leb x last_minute less)
 
-within-day : (x : ℕ) → IfSome (within_a_day x) (λ t. t ≤ 1439)
-within-day x = elim (cases_Bool (leb x 1439)) [
-  | inl less ↦ rw (cond-true (leb x 1439) (Some x) None less) (leb-true x 1439 less)
-  | inr more ↦ rw (cond-false (leb x 1439) (Some x) None more) tt
+within-day : (x : ℕ) → IfSome (within_a_day x) (λ t. t ≤ last_minute)
+within-day x = elim (cases_Bool (leb x last_minute)) [
+  | inl less ↦ rw (cond-true (leb x last_minute) (Some x) None less) (leb-true x last_minute less)
+  | inr more ↦ rw (cond-false (leb x last_minute) (Some x) None more) tt
 ]
 
-entry-day : (lines : List (List ℕ)) (i j : Option ℕ) → IfSome (entry_at lines i j) (λ t. t ≤ 1439)
+entry-day : (lines : List (List ℕ)) (i j : Option ℕ) → IfSome (entry_at lines i j) (λ t. t ≤ last_minute)
 entry-day lines None j = tt
 entry-day lines (Some i) None = tt
 entry-day lines (Some i) (Some j) = within-day (entry lines i j)
 
 entry-over : (lines : List (List ℕ)) (size : ℕ) → HasTriangles size lines → (i j k : Option ℕ)
     → IfSome i (λ x. x < size) → IfSome j (λ x. x < size) → IfSome k (λ x. x < size)
-    → (m n : ℕ) → entry_at lines i k ≡ Some m → entry_at lines k j ≡ Some n → m + n ≤ 1439
+    → (m n : ℕ) → entry_at lines i k ≡ Some m → entry_at lines k j ≡ Some n → m + n ≤ last_minute
     → IsSomeAnd (entry_at lines i j) (λ t. t ≤ m + n)
 entry-over lines size triangles None j k in_i in_j in_k m n first rest within = cc first
 entry-over lines size triangles (Some i) j None in_i in_j in_k m n first rest within = cc first
@@ -44,7 +45,7 @@ entry-over lines size triangles (Some i) (Some j) (Some k) in_i in_j in_k m n fi
     let a = within-is (entry lines i k) m first in
     let b = within-is (entry lines k j) n rest in
     let t = triangles i j k in_i in_j in_k in
-    let s : entry lines i j ≤ 1439 = omega arith in
+    let s : entry lines i j ≤ last_minute = omega arith in
     rw (within-some (entry lines i j) s) (omega arith)
 
 position-below : (p : ℕ → Bool) (places : List ℕ) → (o : Option ℕ) → position p places ≡ o
@@ -65,16 +66,16 @@ module _ (places : List ℕ) (lines : List (List ℕ)) where
       (position (λ p. eqb p b) places)
   between-other a b apart = cond-false (eqb a b) _ _ (ne_eqb a b apart)
 
-  between-day : (a b : ℕ) → IfSome (minutes_between places lines a b) (λ t. t ≤ 1439)
+  between-day : (a b : ℕ) → IfSome (minutes_between places lines a b) (λ t. t ≤ last_minute)
   between-day a b = elim (cases_eq a b) [
     | inl same ↦
-        subst (λ (x : ℕ). IfSome (minutes_between places lines a x) (λ t. t ≤ 1439)) same
+        subst (λ (x : ℕ). IfSome (minutes_between places lines a x) (λ t. t ≤ last_minute)) same
         (rw (between-same a) (omega arith))
     | inr apart ↦ rw (between-other a b apart) (entry-day lines _ _)
   ]
 
   between-over : (size : ℕ) → length places ≤ size → HasTriangles size lines → (a b c m n : ℕ)
-      → minutes_between places lines a b ≡ Some m → minutes_between places lines b c ≡ Some n → m + n ≤ 1439
+      → minutes_between places lines a b ≡ Some m → minutes_between places lines b c ≡ Some n → m + n ≤ last_minute
       → IsSomeAnd (minutes_between places lines a c) (λ t. t ≤ m + n)
   between-over size small triangles a b c m n first rest within =
       elim (cases_eq a b) [
@@ -109,11 +110,11 @@ module _ (places : List ℕ) (lines : List (List ℕ)) where
 pub stays_in : (closed : Closed) (a : ℕ) → time_in closed a a ≡ Some 0
 stays_in closed a = between-same (list_of closed.places) closed.lines.items a
 
-pub within_a_day_in : (closed : Closed) (a b : ℕ) → IfSome (time_in closed a b) (λ t. t ≤ 1439)
+pub within_a_day_in : (closed : Closed) (a b : ℕ) → IfSome (time_in closed a b) (λ t. t ≤ last_minute)
 within_a_day_in closed a b = between-day (list_of closed.places) closed.lines.items a b
 
 pub triangle_in : (closed : Closed) (a b c m n : ℕ) → time_in closed a b ≡ Some m → time_in closed b c ≡ Some n
-    → m + n ≤ 1439
+    → m + n ≤ last_minute
     → IsSomeAnd (time_in closed a c) (λ t. t ≤ m + n)
 triangle_in closed a b c m n first rest within =
     between-over (list_of closed.places) closed.lines.items (length (list_of closed.places)) (omega arith)

@@ -1,5 +1,6 @@
 -- The limits on the rows of a travel table.
 use Rattle.std.specs.Prelude.{◌≡◌, ℕ, ◌+◌, ◌<◌, ◌≤◌, ◌⊎◌, List, length, slice_index_or, All, Contains}
+use Rattle.pt_base.specs.Ranges.{last_minute}
 use Rattle.pt_travel.specs.Chain.{Row}
 
 -- rows are ordered by the place where they begin, and then by the place where they end
@@ -18,5 +19,5 @@ NamesOnly places rows = All (λ row. Contains places row.0 × Contains places ro
 -- the rows of a table rise, take at most 1439 minutes each, and name at most 100 places together
 pub record IsTable (rows : List Row) : Type 0 where
   pub in_order : Rises rows
-  pub within_a_day : All (λ row. row.2 ≤ 1439) rows
+  pub within_a_day : All (λ row. row.2 ≤ last_minute) rows
   pub few_places : (places : List ℕ) × (length places ≤ 100) × NamesOnly places rows

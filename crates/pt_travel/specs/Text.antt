@@ -2,6 +2,7 @@
 use Rattle.std.specs.Prelude.{◌≡◌, ◌≢◌, ℕ, ◌+◌, ◌-◌, ◌*◌, ◌^◌, ◌<◌, ◌≤◌, ◌⊎◌, ◌↔◌, List, [], ◌∷◌, ◌++◌, length}
 use Rattle.std.specs.Prelude.{map, min, codes, slice_index_or, All, Contains}
 use Rattle.std.specs.List.{fold}
+use Rattle.pt_base.specs.Ranges.{last_minute}
 use Rattle.csv.specs.Reading.{AreRecords, Reached, default_config, strip_bom}
 use Rattle.csv.specs.declared.parser.State.{State}
 use Rattle.csv.specs.declared.parser.State.TheVariants as state
@@ -42,7 +43,7 @@ IsPlace places field = IsDigits 10 field × Contains places (number_of field)
 
 -- a field gives minutes within a day
 abbrev pub IsMinutes : List ℕ → Type 0
-IsMinutes field = IsDigits 4 field × (number_of field ≤ 1439)
+IsMinutes field = IsDigits 4 field × (number_of field ≤ last_minute)
 
 -- a record's field
 abbrev pub field : Record → ℕ → List ℕ

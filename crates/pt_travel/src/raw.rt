@@ -1,9 +1,10 @@
 ghost use Rattle.std.specs.Prelude.{◌≡◌, ◌≤◌, ◌↔◌, All, IsSome, IfSome, IfOk, IsTrue};
+ghost use Rattle.pt_base.specs.Ranges.{last_minute};
 ghost use Rattle.pt_travel.specs.Table.{ComesBefore, NamesOnly, Rises, IsTable};
 ghost use Rattle.pt_travel.specs.Places.{list_of};
 
 use crate::places::Places;
-use pt_base::PlaceId;
+use pt_base::{LAST_MINUTE, PlaceId};
 use std::alloc::{AllocError, Global};
 use std::marker::Model;
 
@@ -11,7 +12,7 @@ use std::marker::Model;
 pub const MOST_PLACES: usize = 100;
 
 /// The most minutes that a row may take.
-pub const MOST_MINUTES: u16 = 1439;
+pub const MOST_MINUTES: u16 = LAST_MINUTE as u16;
 
 /// A row of a travel table: from, to, and the minutes of the drive.
 pub type Row = (PlaceId, PlaceId, u16);
@@ -106,7 +107,7 @@ pub(crate) fn comes_before(row: &Row, other: &Row) -> bool
 }
 
 fn within_a_day(rows: &[Row]) -> bool
-    ensures { IsTrue result ↔ All (λ row. row.2 ≤ 1439) rows.now }
+    ensures { IsTrue result ↔ All (λ row. row.2 ≤ last_minute) rows.now }
 {
     rows.iter().all(|row| row.2 <= MOST_MINUTES)
 }

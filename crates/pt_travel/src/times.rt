@@ -1,4 +1,5 @@
 ghost use Rattle.std.specs.Prelude.{◌≡◌, ℕ, ◌+◌, ◌≤◌, Option, Some, IfSome, IsSomeAnd};
+ghost use Rattle.pt_base.specs.Ranges.{last_minute};
 
 use pt_base::PlaceId;
 
@@ -15,10 +16,10 @@ pub trait Times {
     ghost stays: { (times : Self) (a : ℕ) → minutes times a a ≡ Some 0 };
 
     /// A driving time lies within a day.
-    ghost within_a_day: { (times : Self) (a b : ℕ) → IfSome (minutes times a b) (λ t. t ≤ 1439) };
+    ghost within_a_day: { (times : Self) (a b : ℕ) → IfSome (minutes times a b) (λ t. t ≤ last_minute) };
 
     /// A way over a third place is never shorter than the driving time.
     ghost triangle: { (times : Self) (a b c m n : ℕ)
-        → minutes times a b ≡ Some m → minutes times b c ≡ Some n → m + n ≤ 1439
+        → minutes times a b ≡ Some m → minutes times b c ≡ Some n → m + n ≤ last_minute
         → IsSomeAnd (minutes times a c) (λ t. t ≤ m + n) };
 }

@@ -32,7 +32,11 @@ is_in_period opening day = nat_le opening day && nat_lt day (opening + 365)
 abbrev pub days_of_period : ℕ → List ℕ → ℕ
 days_of_period opening days = count_by (is_in_period opening) days
 
--- a visitor may use the day if its period has at most 21 days of use, this day included
+-- the most days of a period on which a visitor may ride (49 CFR 37.127(e))
+abbrev pub most_days : ℕ
+most_days = 21
+
+-- a visitor may use the day if its period has at most that many days of use, this day included
 abbrev pub MayUse : List ℕ → ℕ → Type 0
 MayUse uses day =
-    (opening : ℕ) × OpensPeriodOf (days_with uses day) day opening × (days_of_period opening (days_with uses day) ≤ 21)
+    (opening : ℕ) × OpensPeriodOf (days_with uses day) day opening × (days_of_period opening (days_with uses day) ≤ most_days)
