@@ -10,11 +10,11 @@ held inbox = inbox.bytes.value.items
 
 -- the reader behind them
 abbrev pub reader_of : {R : Type 0} → Inbox R → R
-reader_of inbox = inbox.reader
+reader_of inbox = inbox.reader.reader
 
 -- the reads since the last request was dropped
 abbrev pub reads_of : {R : Type 0} → Inbox R → ℕ
-reads_of inbox = inbox.reads
+reads_of inbox = inbox.reader.reads
 
 -- The inbox holds more bytes of the reader at its end, and each read was counted. This speaks of the reader's bytes if
 -- they are known.

@@ -8,6 +8,7 @@ ghost use Rattle.pt_http_inbox.specs.Head.{IsHead, HasNoHead};
 ghost use Rattle.pt_http_inbox.specs.Reads.{most_reads};
 
 use crate::LONGEST_HEAD;
+use crate::counted_reader::CountedReader;
 use crate::head::{Front, Head, front_of};
 use arrayvec::ArrayVec;
 use pt_base::Fault;
@@ -31,11 +32,9 @@ const PIECE: usize = 4_096;
 /// A reader, with its bytes that have come and are not yet consumed. It allocates once, for one whole request.
 #[derive(Drop)]
 pub struct Inbox<R> {
-    reader: R,
+    /// It counts the reads since the last request was dropped.
+    reader: CountedReader<R>,
     bytes: Box<ArrayVec<u8, ROOM>>,
-    /// The reads since the last request was dropped.
-    reads: u32,
-    ghost few_reads: { reads ≤ most_reads },
 }
 
 impl<R: Read + Drop> Inbox<R> {
@@ -48,11 +47,8 @@ impl<R: Read + Drop> Inbox<R> {
         ensures fresh { IfOk result (λ inbox. reads_of inbox ≡ 0) }
     {
         let bytes = Box::new(alloc, ArrayVec::new()).map_err(AllocError::from)?;
-        Ok(Inbox {
-            reader,
-            bytes,
-            reads: 0,
-        })
+        let reader = CountedReader::new(reader);
+        Ok(Inbox { reader, bytes })
     }
 
     /// The bytes that have come and are not yet consumed.
@@ -83,19 +79,6 @@ impl<R: Read + Drop> Inbox<R> {
         Ok(count > 0)
     }
 
-    /// Reads from the reader once. It counts as a read, whatever the result: no other function reads.
-    fn ask_once(&mut self, piece: &mut [u8]) -> io::Result<usize>
-        requires { reads_of self.old < most_reads }
-        ensures counted { reads_of self.new ≡ reads_of self.old + 1 }
-        ensures bytes { ReadConsumes (R.remaining (reader_of self.old)) (R.remaining (reader_of self.new))
-            result piece.new }
-        ensures within { IfOk result (λ count. count ≤ length piece.new) }
-        ensures held { held self.new ≡ held self.old }
-    {
-        self.reads += 1;
-        self.reader.read(piece)
-    }
-
     /// Reads, and again while the reader is interrupted. The error is an interruption only if no read is left.
     fn read_piece(&mut self, piece: &mut [u8]) -> io::Result<usize>
         ensures bytes { ReadConsumes (R.remaining (reader_of self.old)) (R.remaining (reader_of self.new))
@@ -107,8 +90,8 @@ impl<R: Read + Drop> Inbox<R> {
         ensures retried { IfErr result (λ error. error_kind error ≡ ErrorKind.Interrupted
             → reads_of self.new ≡ most_reads) }
     {
-        for _ in self.reads..MOST_READS {
-            match self.ask_once(piece) {
+        for _ in self.reader.reads()..MOST_READS {
+            match self.reader.read(piece) {
                 Err(error) if error.kind() == ErrorKind::Interrupted => {}
                 answer => return answer,
             }
@@ -180,6 +163,6 @@ impl<R: Read + Drop> Inbox<R> {
         ensures fresh { reads_of self.new ≡ 0 }
     {
         self.consume(count);
-        self.reads = 0;
+        self.reader.count_anew();
     }
 }

@@ -4,5 +4,6 @@
 pub use head::{Head, LONGEST_HEAD, MOST_FIELDS};
 pub use inbox::{Inbox, LONGEST_BODY, MOST_READS};
 
+mod counted_reader;
 mod head;
 mod inbox;
