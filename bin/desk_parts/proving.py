@@ -1,7 +1,7 @@
 """Proves and builds the program: the kit's own gate, over a copy of the program's crates without their mutants.
 
-The kit proves several crates at a time, those first that most others wait for. It keeps what it proved on this machine.
-So a build that was stopped goes on, and what bin/desk proved bin/gate does not prove again.
+The kit proves several crates at a time, those first that most others wait for. Some kits keep what they proved on this
+machine. With such a kit a build that was stopped goes on, and bin/gate does not prove again what bin/desk proved.
 """
 import os
 import shutil
