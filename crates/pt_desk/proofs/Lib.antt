@@ -1,5 +1,6 @@
 mod SoundLemmas
 mod RunLemmas
+mod FindLemmas
 pub mod CrashLemmas
 mod AnswerLemmas
 mod QuietLemmas

@@ -1,12 +1,18 @@
 -- What an opening after a crash finds of calls that a store went through.
-use Rattle.std.specs.Prelude.{◌≡◌, ◌⊎◌, ℕ, ◌<◌, ◌≤◌, List, Option, Some}
-use Rattle.pt_desk_laws.specs.Numbers.{AreCalls, Call}
+use Rattle.std.specs.Prelude.{◌≡◌, ◌⊎◌, ℕ, ◌<◌, ◌≤◌, List, [], ◌∷◌, Option, Some, None, Result, Ok, Err}
+use Rattle.pt_desk_laws.specs.Numbers.{AreCalls, Call as Made}
 use Rattle.pt_desk_rules.specs.State.{State}
-use Rattle.pt_store.specs.Store.{Store}
+use Rattle.pt_desk_rules.specs.Step.{state_after}
+use Rattle.pt_requests.specs.declared.request.Answer.{Answer}
+use Rattle.pt_store.specs.Store.{FindsContent, IsLeft, Store}
+use Rattle.pt_store.specs.declared.keeper.StoreFault.{StoreFault}
+use Rattle.pt_store.specs.declared.keeper.StoreFault.TheVariants.{Memory, Store as failed}
+use Rattle.pt_desk.specs.Run.{IsOutcomeOf}
+use Rattle.pt_desk.specs.declared.running.Call.{Call}
 
 -- calls by the rules, one after another, lead from the one state to the other
 abbrev pub Reaches : State → State → Type 0
-Reaches old new = (calls : List Call) × AreCalls old calls new
+Reaches old new = (calls : List Made) × AreCalls old calls new
 
 -- an opening finds a state that calls by the rules lead to
 abbrev pub FindsReached : State → Option State → Type 0
@@ -22,3 +28,20 @@ pub record Lasts (old new : Store) : Type 0 where
   pub content : new.doubt ≡ 0 → new.failures ≡ 0 → Reaches old.content new.content
   -- a store that had failed has written nothing more
   pub silent : 0 < old.failures → (o : Option State) → new.found o → old.found o
+
+-- the store failed in this call: an opening finds the state before it, or the one that the call commits, if any
+abbrev pub FindsEither : State → Call → Store → Type 0
+FindsEither s call store =
+    (told : Answer) × (left : Option State) × (IsOutcomeOf call s told left ⊎ (left ≡ None))
+    × ((o : Option State) → store.found o → (o ≡ Some s) ⊎ IsLeft left o)
+
+-- What calls with these replies leave of a store, if an opening found this state before them. The answered calls make
+-- the content, and an opening finds it. If the store fails in a call, an opening finds the state before or after it.
+abbrev pub FindsAfter : State → List Call → List (Result Answer StoreFault) → Store → Type 0
+FindsAfter s [] [] store = (store.content ≡ s) × FindsContent store
+FindsAfter s (call ∷ calls) (Err failed ∷ replies) store = FindsEither s call store
+FindsAfter s (call ∷ calls) (Err Memory ∷ replies) store = FindsAfter s calls replies store
+FindsAfter s (call ∷ calls) (Ok told ∷ replies) store =
+    (left : Option State) × IsOutcomeOf call s told left × FindsAfter (state_after left s) calls replies store
+FindsAfter s [] (reply ∷ replies) store = ⊥
+FindsAfter s (call ∷ calls) [] store = ⊥

@@ -1,6 +1,7 @@
 ghost use Rattle.std.specs.Prelude.{◌≡◌, ◌<◌, ◌≤◌, IfOk, OnErr};
-ghost use Rattle.pt_store.specs.Store.{Store, Answers, ChangesNothing, Fails, FitsSound, IsSettled, IsSoundKept};
-ghost use Rattle.pt_desk.specs.Crash.{Lasts};
+ghost use Rattle.pt_store.specs.Store.{Store, Answers, ChangesNothing, Fails, FindsContent, FitsSound, IsSettled};
+ghost use Rattle.pt_store.specs.Store.{IsSoundKept};
+ghost use Rattle.pt_desk.specs.Crash.{FindsAfter, Lasts};
 ghost use Rattle.pt_desk.specs.Run.{AreOnlyTold, GoesOn, IsOnlyTold, IsOutcomeOf, TellOfFailure};
 
 use crate::answer;
@@ -65,6 +66,11 @@ pub fn run<K: Keeper>(
     ensures settled { IsSettled (K.store keeper.old) → IsSettled (K.store keeper.new) }
     // An opening after a crash finds what it could have found before, or what calls by the rules lead to.
     ensures lasts { Lasts (K.store keeper.old) (K.store keeper.new) }
+    // An opening finds what these calls left, as their replies have it, if it found the content before the run.
+    ensures finds { (K.store keeper.new).doubt ≡ 0 → (K.store keeper.old).failures ≡ 0
+        → FindsContent (K.store keeper.old)
+        → IfOk result (λ replies. FindsAfter (K.store keeper.old).content calls.now replies.items
+        (K.store keeper.new)) }
     ensures sound { IsSoundKept (K.store keeper.old) (K.store keeper.new) }
     ensures fits { FitsSound (K.store keeper.old) (K.store keeper.new) }
     ensures err { OnErr result (keeper.new ≡ keeper.old) }

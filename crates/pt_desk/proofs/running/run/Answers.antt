@@ -3,6 +3,7 @@ use Rattle.std.proofs.lemmas.Grind.{common_steps}
 use Rattle.pt_desk.specs.Run.{AreOnlyTold, IsOutcomeOf}
 use Rattle.pt_desk.proofs.AnswerLemmas.{tells_by}
 use Rattle.pt_desk.proofs.CrashLemmas.{lasts_further}
+use Rattle.pt_desk.proofs.FindLemmas.{found_all, found_at}
 use Rattle.pt_desk.proofs.RunLemmas.{ended, failure_told, goes_on_at, only_told_at}
 use Rattle.pt_desk.proofs.running.run.Goals as goal
 
@@ -26,6 +27,9 @@ loop-call-preserved g c =
       serves = omega arith;
       grows = omega arith;
       lasts = lasts_further (store c.args.keeper.now) before after c.loop-call.invariant.lasts c.answer_call-reply.ensures.lasts;
+      finds = λ clean none finds.
+          found_at (store c.args.keeper.now).content calls i c.call-item.result c.loop-call.replies.items c.push.new.self.items reply before after c.loop-call-test.true c.call-item.is pushed
+          (c.loop-call.invariant.finds (omega arith) none finds) answers clean (λ some. c.answer_call-reply.ensures.lasts.silent (c.loop-call.invariant.told some));
       settled = λ was. goes.settled (c.loop-call.invariant.settled was);
       sound = λ clean none sound. c.answer_call-reply.ensures.sound clean none (c.loop-call.invariant.sound (omega arith) (omega arith) sound);
       fits = λ clean sound.
@@ -54,3 +58,8 @@ pub returns-clause-only_told : goal.returns-clause-only_told
 returns-clause-only_told g c told =
     let same = (c.loop-call.invariant.only_told [] (subst (λ replies. AreOnlyTold c.args.calls.now replies) (sym (append-nil c.loop-call.replies.items)) told)).0 in
     record { content = same.content; found = same.found }
+
+pub returns-clause-finds : goal.returns-clause-finds
+returns-clause-finds g c clean none finds =
+    found_all (g.K.Keeper.store c.args.keeper.now).content c.args.calls.now c.loop-call.call-index c.loop-call.replies.items (g.K.Keeper.store c.loop-call.keeper) (omega arith)
+    (c.loop-call.invariant.finds clean none finds)

@@ -1,9 +1,9 @@
-use Rattle.std.proofs.Common.{◌≡◌, ◌+◌, ◌-◌, ◌<◌, ◌≤◌, ◌++◌, List, Result, drop, length, vec_len, vec_capacity}
+use Rattle.std.proofs.Common.{◌≡◌, ◌+◌, ◌-◌, ◌<◌, ◌≤◌, ◌++◌, List, Result, drop, take, length, vec_len, vec_capacity}
 use Rattle.pt_desk_rules.specs.State.{State}
 use Rattle.pt_desk_rules.specs.Sound.{IsSound}
-use Rattle.pt_desk.specs.Crash.{Lasts}
+use Rattle.pt_desk.specs.Crash.{FindsAfter, Lasts}
 use Rattle.pt_desk.specs.Run.{AreOnlyTold, GoesOn, TellOfFailure}
-use Rattle.pt_store.specs.Store.{FitsSound, IsSettled}
+use Rattle.pt_store.specs.Store.{FindsContent, FitsSound, IsSettled}
 use Rattle.pt_store.specs.declared.keeper.StoreFault.{StoreFault}
 use Rattle.pt_requests.specs.declared.request.Answer.{Answer}
 use Rattle.pt_desk.proofs.RunLemmas.{IsSame}
@@ -19,6 +19,8 @@ invariant-loop-call g l =
       serves : (store l.fn.keeper).shut ≤ (store l.keeper).shut;
       grows : (store l.fn.keeper).failures ≤ (store l.keeper).failures;
       lasts : Lasts (store l.fn.keeper) (store l.keeper);
+      finds : (store l.keeper).doubt ≡ 0 → (store l.fn.keeper).failures ≡ 0 → FindsContent (store l.fn.keeper)
+          → FindsAfter (store l.fn.keeper).content (take l.call-index l.calls) l.replies.items (store l.keeper);
       settled : IsSettled (store l.fn.keeper) → IsSettled (store l.keeper);
       sound : (store l.keeper).doubt ≡ 0 → (store l.keeper).failures ≡ 0 → IsSound (store l.fn.keeper).content → IsSound (store l.keeper).content;
       fits : FitsSound (store l.fn.keeper) (store l.keeper);
