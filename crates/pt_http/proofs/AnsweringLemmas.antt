@@ -14,7 +14,7 @@ use Rattle.pt_desk_rules.specs.Step.{IsOutcome}
 use Rattle.pt_http_request.specs.declared.message.Message.{Message}
 use Rattle.pt_requests.specs.declared.request.Answer.{Answer}
 use Rattle.pt_store.specs.declared.keeper.StoreFault.{StoreFault}
-use Rattle.pt_http.specs.Exchange.{IsCommittedBy, IsCommittedFrom, IsExchangedOver, IsUnanswered, IsWritten, ServesOver, desk_of}
+use Rattle.pt_http.specs.Exchange.{IsCommittedBy, IsCommittedFrom, IsExchangedOver, IsUnanswered, IsWritten, KeepsFound, ServesOver, desk_of}
 use Rattle.pt_http.specs.Input.{HasInput}
 use Rattle.pt_http.specs.Received.{BeginsWith, CommitsReceived, Responds, is_end}
 use Rattle.pt_http.specs.declared.received.Received.{Received}
@@ -175,25 +175,30 @@ pub exchanged_over : {R : Type 0} (remaining : R → Option (List ℕ)) (inbox_o
     → ((input : List ℕ) → HasInput remaining inbox_old input
     → (rest : List ℕ) × HasInput remaining inbox_new rest × BeginsWith input came rest)
     → (is_end came ≡ false → reads_of inbox_new ≡ 0)
-    → (new.doubt ≡ 0 → Responds now came (desk_of old) (desk_of new) reply) → IsSent reply sent → new.doubt ≡ 0
+    → (new.doubt ≡ 0 → Responds now came (desk_of old) (desk_of new) reply)
+    → (new.doubt ≡ 0 → (it : Response) → IsSent reply it → KeepsFound it old new) → IsSent reply sent → new.doubt ≡ 0
     → (input : List ℕ) → HasInput remaining inbox_old input
     → IsExchangedOver remaining old new now input inbox_new sent
-exchanged_over remaining inbox_old inbox_new old new now came reply sent received fresh responds is clean input has =
+exchanged_over remaining inbox_old inbox_new old new now came reply sent received fresh responds keeps is clean input has =
     let begins = received input has in
     let answers = sent_responds now came (desk_of old) (desk_of new) reply sent (responds clean) is in (
       begins.0,
       begins.1,
       exchanged now input came (desk_of old) (desk_of new) sent begins.0 begins.2 answers,
       (λ more. fresh (same_end now came (desk_of old) (desk_of new) sent answers ∙ more)),
+      keeps clean sent is,
     )
 
 -- whatever came in
 pub served_over : (old new : Store) (now : Moment) (came : Received) (reply sent : Response)
-    → (new.doubt ≡ 0 → Responds now came (desk_of old) (desk_of new) reply) → IsSent reply sent → new.doubt ≡ 0
+    → (new.doubt ≡ 0 → Responds now came (desk_of old) (desk_of new) reply)
+    → (new.doubt ≡ 0 → (it : Response) → IsSent reply it → KeepsFound it old new) → IsSent reply sent → new.doubt ≡ 0
     → ServesOver old new now sent
-served_over old new now came reply sent responds is clean =
-    served now came (desk_of old) (desk_of new) sent
-    (sent_responds now came (desk_of old) (desk_of new) reply sent (responds clean) is)
+served_over old new now came reply sent responds keeps is clean = (
+  served now came (desk_of old) (desk_of new) sent
+      (sent_responds now came (desk_of old) (desk_of new) reply sent (responds clean) is),
+  keeps clean sent is,
+)
 
 -- an exchange that was not answered
 pub exchanges_none : {R : Type 0} (remaining : R → Option (List ℕ)) (inbox_old inbox_new : Inbox R) (store : Store)

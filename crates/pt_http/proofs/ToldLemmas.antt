@@ -19,7 +19,7 @@ use Rattle.pt_http.specs.declared.received.Received.{Received}
 use Rattle.pt_http.specs.declared.received.Received.TheVariants as received
 
 -- the answer to a read is not that of an accepted write
-of_read : (told : Answer) → is_of_read told ≡ true → is_of_write told ≡ false
+pub of_read : (told : Answer) → is_of_read told ≡ true → is_of_write told ≡ false
 of_read Done reads = absurd (cc)
 of_read (Entered position) reads = absurd (cc)
 of_read (Booked told) reads = absurd (cc)

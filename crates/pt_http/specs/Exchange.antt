@@ -1,14 +1,15 @@
 -- How the desk answers the message at the front of some bytes.
-use Rattle.std.specs.Prelude.{◌≡◌, ◌⊎◌, ℕ, Bool, true, false, List, Option, Some, None, Result, Ok, option_map}
+use Rattle.std.specs.Prelude.{◌≡◌, ◌⊎◌, ℕ, Bool, true, false, List, Option, Some, None, Result, Ok, Err, option_map}
 use Rattle.pt_base.specs.Fault.{fault}
 use Rattle.pt_base.specs.declared.fault.Fault.{Fault}
 use Rattle.pt_base.specs.Codes.{memory_refused, read_failed}
 use Rattle.pt_base.specs.declared.rule.Rule.TheVariants.{Key}
 use Rattle.pt_base.specs.declared.moment.Moment.{Moment}
-use Rattle.pt_store.specs.Store.{Store, IsLeft, TellsBy, Fails}
+use Rattle.pt_store.specs.Store.{Store, FindsContent, IsLeft, TellsBy, Fails}
 use Rattle.pt_desk_rules.specs.State.{State}
 use Rattle.pt_desk_rules.specs.Step.{IsOutcome}
 use Rattle.pt_store.specs.declared.keeper.StoreFault.{StoreFault}
+use Rattle.pt_store.specs.declared.keeper.StoreFault.TheVariants.{Memory}
 use Rattle.pt_requests.specs.declared.request.Answer.{Answer}
 use Rattle.pt_requests.specs.declared.request.Answer.TheVariants.{Denied}
 use Rattle.pt_http_request.specs.declared.fault.RequestFault.TheVariants.{Head, Length}
@@ -69,9 +70,14 @@ abbrev pub Serves : Moment → Desk → Desk → Response → Type 0
 Serves now old new (response.Answered told) = (message : Message) × AnswersMessage now message old new told
 Serves now old new (response.Refused why) = new ≡ old
 
--- the same for a desk over a store, before and after
+-- if the reply is out of memory, an opening finds the content, if it would have found it before
+abbrev pub KeepsFound : Response → Store → Store → Type 0
+KeepsFound (response.Answered (Err Memory)) old new = FindsContent old → FindsContent new
+KeepsFound _ old new = Unit {0}
+
+-- the same reply by a desk over a store, before and after
 abbrev pub ServesOver : Store → Store → Moment → Response → Type 0
-ServesOver old new now reply = Serves now (desk_of old) (desk_of new) reply
+ServesOver old new now reply = Serves now (desk_of old) (desk_of new) reply × KeepsFound reply old new
 
 -- Out of memory, a failed read or too many reads: nothing was answered.
 abbrev pub IsUnanswered : Fault → Type 0
@@ -83,19 +89,14 @@ is_last (response.Refused Head) = true
 is_last (response.Refused Length) = true
 is_last _ = false
 
--- the front of the input gets this reply, and the inbox holds what follows it and counts reads anew
-abbrev pub IsExchanged : {R : Type 0} → (R → Option (List ℕ)) → Moment → List ℕ → Desk → Desk → Inbox R → Response
-    → Type 0
-IsExchanged remaining now input old new inbox reply =
-    (rest : List ℕ) × HasInput remaining inbox rest × Exchanges now input old new reply rest
-    × (is_last reply ≡ false → reads_of inbox ≡ 0)
-
--- the same for a desk over a store, before and after
+-- The front of the input gets this reply from a desk over a store, before and after. The inbox holds what follows it
+-- and counts reads anew.
 abbrev pub IsExchangedOver : {R : Type 0} → (R → Option (List ℕ)) → Store → Store → Moment → List ℕ → Inbox R
     → Response
     → Type 0
 IsExchangedOver remaining old new now input inbox reply =
-    IsExchanged remaining now input (desk_of old) (desk_of new) inbox reply
+    (rest : List ℕ) × HasInput remaining inbox rest × Exchanges now input (desk_of old) (desk_of new) reply rest
+    × (is_last reply ≡ false → reads_of inbox ≡ 0) × KeepsFound reply old new
 
 -- the bytes of the reply are appended to what was written
 abbrev pub IsWritten : Response → Option (List ℕ) → Option (List ℕ) → Type 0

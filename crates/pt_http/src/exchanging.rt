@@ -4,11 +4,12 @@ ghost use Rattle.pt_base.specs.Codes.{write_failed};
 ghost use Rattle.pt_base.specs.Fault.{fault};
 ghost use Rattle.pt_store.specs.Store.{Store};
 ghost use Rattle.pt_http.specs.Answering.{AnswersOne, CanBeAskedAgain, ExchangesOne, GoesOn};
-ghost use Rattle.pt_http.specs.Exchange.{IsExchangedOver, desk_of};
+ghost use Rattle.pt_http.specs.Exchange.{IsExchangedOver, KeepsFound, desk_of};
 ghost use Rattle.pt_http.specs.Input.{HasInput};
 ghost use Rattle.pt_desk_rules.specs.State.{State};
 ghost use Rattle.pt_http.specs.Received.{CommitsReceived, Responds};
-ghost use Rattle.pt_http_reply.specs.Reply.{bytes_of};
+ghost use Rattle.pt_http_reply.specs.Reply.{IsSent, bytes_of};
+ghost use Rattle.pt_http_reply.specs.declared.response.Response.{Response};
 ghost use Rattle.pt_http_request.specs.Targets.{desk_routes};
 
 use crate::received::{Received, receive};
@@ -31,6 +32,8 @@ fn respond<K: Keeper>(alloc: Global, keeper: &mut K, now: Moment, received: &Rec
         (desk_of (K.store keeper.new)) result }
     ensures crash { (K.store keeper.new).doubt ≡ 0 → (o : Option State) → (K.store keeper.new).found o
         → (K.store keeper.old).found o ⊎ CommitsReceived now received.now (K.store keeper.old).content o }
+    ensures keeps { (K.store keeper.new).doubt ≡ 0 → (sent : Response) → IsSent result sent
+        → KeepsFound sent (K.store keeper.old) (K.store keeper.new) }
     ensures goes { GoesOn (K.store keeper.old) (K.store keeper.new) }
 {
     match received {

@@ -42,10 +42,10 @@ returns-in_err-write_reply-clause-exchange g c =
     (contents c.write_reply.new.out) _ c.in_err-write_reply.field-0.0 reply c.in_err-write_reply.ensures.fault
     (exchanged_over remaining c.args.inbox.now c.receive.new.inbox old new c.args.now c.in_ok-received.received
     c.respond-response.result reply c.in_ok-received.ensures.received c.in_ok-received.ensures.fresh
-    c.respond-response.ensures.responds c.reply_to-response.ensures.sent)
+    c.respond-response.ensures.responds c.respond-response.ensures.keeps c.reply_to-response.ensures.sent)
     (bytes_of c.reply_to-response.result.1, c.reply_to-response.ensures.text)
     (served_over old new c.args.now c.in_ok-received.received c.respond-response.result reply
-    c.respond-response.ensures.responds c.reply_to-response.ensures.sent)
+    c.respond-response.ensures.responds c.respond-response.ensures.keeps c.reply_to-response.ensures.sent)
     (crash_over remaining c.args.inbox.now c.receive.new.inbox old new c.args.now c.in_ok-received.received
     c.in_ok-received.ensures.received c.respond-response.ensures.crash)
     c.respond-response.ensures.goes)
@@ -70,10 +70,10 @@ returns-clause-exchange g c =
     (contents c.write_reply.new.out) _ reply
     (exchanged_over remaining c.args.inbox.now c.receive.new.inbox old new c.args.now c.in_ok-received.received
     c.respond-response.result reply c.in_ok-received.ensures.received c.in_ok-received.ensures.fresh
-    c.respond-response.ensures.responds c.reply_to-response.ensures.sent)
+    c.respond-response.ensures.responds c.respond-response.ensures.keeps c.reply_to-response.ensures.sent)
     (bytes_of c.reply_to-response.result.1, c.reply_to-response.ensures.text, c.in_ok-write_reply.ensures.written)
     (served_over old new c.args.now c.in_ok-received.received c.respond-response.result reply
-    c.respond-response.ensures.responds c.reply_to-response.ensures.sent)
+    c.respond-response.ensures.responds c.respond-response.ensures.keeps c.reply_to-response.ensures.sent)
     (crash_over remaining c.args.inbox.now c.receive.new.inbox old new c.args.now c.in_ok-received.received
     c.in_ok-received.ensures.received c.respond-response.ensures.crash)
     c.respond-response.ensures.goes

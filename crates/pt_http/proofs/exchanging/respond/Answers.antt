@@ -2,6 +2,7 @@ use Rattle.std.proofs.Common.{◌≡◌, ◌⊎◌, ◌∙◌, Some, ap, option_
 use Rattle.pt_http.specs.Received.{CommitsReceived}
 use Rattle.pt_http.specs.declared.received.Received.{Received}
 use Rattle.pt_http.proofs.AnsweringLemmas.{commits_message, goes_nowhere}
+use Rattle.pt_http.proofs.KeepsLemmas.{keeps_sent, keeps_still}
 use Rattle.pt_http.proofs.exchanging.respond.Goals as goal
 
 pub returns-in-Refused-clause-goes : goal.returns-in-Refused-clause-goes
@@ -17,3 +18,15 @@ returns-in-Some-clause-crash g c clean o found =
     ap (option_map (λ given. given.items)) c.in-Some.is ∙ ap Some (sym c.deref.ensures.value) in
     subst (λ (r : Received). old.found o ⊎ CommitsReceived c.args.now r old.content o) (sym c.in-Message.is)
     (commits_message old new c.args.now message keys c.answer.result has c.answer.ensures.goes clean o found)
+
+pub returns-in-Refused-clause-keeps : goal.returns-in-Refused-clause-keeps
+returns-in-Refused-clause-keeps g c clean sent is = keeps_still sent (g.K.Keeper.store c.args.keeper.now)
+
+pub returns-in-None-clause-keeps : goal.returns-in-None-clause-keeps
+returns-in-None-clause-keeps g c clean sent is = keeps_still sent (g.K.Keeper.store c.args.keeper.now)
+
+pub returns-in-Some-clause-keeps : goal.returns-in-Some-clause-keeps
+returns-in-Some-clause-keeps g c clean sent is =
+    let message = c.in-Message.message in
+    keeps_sent (g.K.Keeper.store c.args.keeper.now) (g.K.Keeper.store c.answer.new.keeper) c.deref.result.now c.args.now message.number message.request c.answer.result sent
+    c.answer.ensures.goes clean is
