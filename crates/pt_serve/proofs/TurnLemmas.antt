@@ -60,8 +60,12 @@ answers_sent : {T : Type 0} (sent : Option (List ℕ)) (old new : Store) (now : 
     (got_old got_new : Option (List ℕ)) (Same : Type 0) (value : T)
     → AnswersFrom sent old new now got_old got_new Same (Ok value) → new.doubt ≡ 0
     → (reply : Response) × AnswersSent sent now (desk_of old) (desk_of new) reply × IsWritten reply got_old got_new
-answers_sent (Some input) old new now got_old got_new Same value answers clean = answers.answered clean input refl
-answers_sent None old new now got_old got_new Same value answers clean = answers.served clean
+answers_sent (Some input) old new now got_old got_new Same value answers clean =
+    let found = answers.answered clean input refl in
+    (found.0, (found.1.0, found.1.1), found.2)
+answers_sent None old new now got_old got_new Same value answers clean =
+    let found = answers.served clean in
+    (found.0, found.1.0, found.2)
 
 -- also where the reply was not wholly written
 answers_unheard : {T : Type 0} (sent : Option (List ℕ)) (old new : Store) (now : Moment)
@@ -69,9 +73,11 @@ answers_unheard : {T : Type 0} (sent : Option (List ℕ)) (old new : Store) (now
     → AnswersFrom {T = T} sent old new now got_old got_new Same (Err error) → new.doubt ≡ 0
     → error ≡ fault write_failed → (reply : Response) × AnswersSent sent now (desk_of old) (desk_of new) reply
 answers_unheard (Some input) old new now got_old got_new Same error answers clean write =
-    answers.unheard clean input refl (ap Err write)
+    let found = answers.unheard clean input refl (ap Err write) in
+    (found.0, (found.1.0, found.1.1))
 answers_unheard None old new now got_old got_new Same error answers clean write =
-    answers.failure.unseen clean (ap Err write)
+    let found = answers.failure.unseen clean (ap Err write) in
+    (found.0, found.1.0)
 
 -- what is so of one connection is so of another whose client sends the same
 along : (Fact : Option (List ℕ) → Type 0) (given sent : Option (List ℕ)) (got : Option (List ℕ)) → given ≡ sent

@@ -4,13 +4,13 @@ use Rattle.pt_base.specs.declared.fault.Fault.{Fault}
 use Rattle.pt_base.specs.declared.moment.Moment.{Moment}
 use Rattle.pt_store.specs.Store.{Store}
 use Rattle.pt_http.specs.Answering.{AnswersOne}
-use Rattle.pt_http.specs.Exchange.{Exchanges, desk_of}
+use Rattle.pt_http.specs.Exchange.{Exchanges, KeepsFound, desk_of}
 use Rattle.pt_http_reply.specs.declared.response.Response.{Response}
 
 -- a desk over a store answers the front of these bytes so at this moment; the store before and after
 abbrev pub IsAnsweredFrom : Store → Store → Moment → List ℕ → Response → Type 0
 IsAnsweredFrom old new now input reply =
-    (rest : List ℕ) × Exchanges now input (desk_of old) (desk_of new) reply rest
+    (rest : List ℕ) × Exchanges now input (desk_of old) (desk_of new) reply rest × KeepsFound reply old new
 
 -- the answer to the one request that a reader gives from its beginning; its bytes are these, if they are known
 abbrev pub AnswersFrom : {T : Type 0} → Option (List ℕ) → Store → Store → Moment → Option (List ℕ) → Option (List ℕ)

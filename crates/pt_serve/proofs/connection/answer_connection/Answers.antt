@@ -33,7 +33,7 @@ returns-in_err-exchange g c =
             left = bytes;
             known = ap remaining c.in_ok-inbox.ensures.reader ∙ known;
             whole = sym (ap (λ (held : List ℕ). held ++ bytes) c.in_ok-inbox.ensures.empty);
-          }) (λ input reply found. (found.0, found.2)) (λ same. same)
+          }) (λ input reply found. (found.0, found.2, found.4)) (λ same. same)
           (answers_failed remaining _ c.exchange.new.inbox old new c.args.now (contents c.args.out.now)
           (contents c.exchange.new.out) _ c.in_err-exchange.field-0.0 c.in_err-exchange.ensures.exchange));
     }
@@ -50,7 +50,7 @@ returns g c =
             left = bytes;
             known = ap remaining c.in_ok-inbox.ensures.reader ∙ known;
             whole = sym (ap (λ (held : List ℕ). held ++ bytes) c.in_ok-inbox.ensures.empty);
-          }) (λ input reply found. (found.0, found.2)) (λ same. same)
+          }) (λ input reply found. (found.0, found.2, found.4)) (λ same. same)
           (answers_told remaining _ c.exchange.new.inbox old new c.args.now (contents c.args.out.now)
           (contents c.exchange.new.out) _ c.in_ok-exchange.field-0 tt c.in_ok-exchange.ensures.exchange);
     }
