@@ -2,3 +2,5 @@ pub mod StoreLemmas
 pub mod ReadLemmas
 mod FileLemmas
 mod NewLemmas
+mod ManifestLemmas
+mod SomeLemmas

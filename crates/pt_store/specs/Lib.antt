@@ -1,3 +1,4 @@
+pub mod Enough
 pub mod LeastState
 pub mod Listed
 pub mod Store

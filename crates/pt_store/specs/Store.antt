@@ -1,5 +1,5 @@
 -- A store as contracts see it, and what calls do to it.
-use Rattle.std.specs.Prelude.{◌≡◌, ◌≤◌, ◌<◌, ◌⊎◌, ℕ, List, Option, Some, None, Result, Ok, Err, OnOk}
+use Rattle.std.specs.Prelude.{◌≡◌, ◌≤◌, ◌<◌, ◌⊎◌, ℕ, List, Option, Some, None, Result, Ok, Err, IfOk, OnOk}
 use Rattle.pt_base.specs.declared.moment.Moment.{Moment}
 use Rattle.pt_desk_rules.specs.Deciding.{IsDecision}
 use Rattle.pt_desk_rules.specs.Facts.{facts_of}
@@ -105,6 +105,12 @@ Answers {X} before after IsOutcome result =
 -- calls that only read
 abbrev pub Reads : {X : Type 0} → Store → Store → (State → X) → Result X StoreFault → Type 0
 Reads before after told result = Goes before after (told before.content) None result
+
+-- calls that only read, and return something of which this holds in the content
+pub record ReadsSome {X : Type 0} (before after : Store) (Is : State → X → Type 0) (result : Result X StoreFault) :
+    Type 0 where
+  pub goes : (value : X) × Goes before after value None result
+  pub is : after.doubt ≡ 0 → IfOk result (Is before.content)
 
 -- a commit that makes this of the content
 abbrev pub Commits : Store → Store → (State → State) → Result (Unit {0}) StoreFault → Type 0

@@ -3,14 +3,16 @@ ghost use Rattle.pt_desk_rules.specs.Facts.{no_facts, facts_of, read_facts_of, h
 ghost use Rattle.pt_desk_rules.specs.Facts.{agency_facts, booking_facts, plan_for, day_of, wish_facts};
 ghost use Rattle.pt_desk_rules.specs.Facts.{change_facts, cancel_facts, tallies_for, tour_facts, trip_facts};
 ghost use Rattle.pt_desk_rules.specs.Facts.{trips_counted_for};
-ghost use Rattle.pt_requests.specs.declared.request.Read.TheVariants.{Export, Letter, Standing, Trips};
+ghost use Rattle.pt_requests.specs.declared.request.Read.TheVariants.{Export, Letter, Manifest, Standing, Trips};
 ghost use Rattle.pt_desk_rules.specs.State.{rider_of, file_of, trip_of};
 ghost use Rattle.pt_requests.specs.declared.request.Write.TheVariants.{Enter, PutCaller, PutPlace, PutRoute};
 ghost use Rattle.pt_requests.specs.declared.request.Write.TheVariants.{PutRider, PutVehicle, Travel};
-ghost use Rattle.pt_store.specs.Store.{Store, Reads};
+ghost use Rattle.pt_store.specs.Enough.{IsEnough};
+ghost use Rattle.pt_store.specs.Store.{Store, Reads, ReadsSome};
 
+use crate::manifests::gather_manifest;
 use crate::{Keeper, StoreFault};
-use pt_base::{Day, Place, Residence, Rider, RiderId, Trip, TripId, Vehicle, Wish};
+use pt_base::{Day, Place, Residence, Rider, RiderId, Trip, TripId, Vehicle, VehicleId, Wish};
 use pt_corridor::FixedRoute;
 use pt_desk_rules::{BookingFacts, DayFacts, ReadFacts, Tallies, WriteFacts};
 use pt_records::Rows;
@@ -444,8 +446,8 @@ fn gather_tours<K: Keeper>(alloc: Global, keeper: &mut K, day: Day) -> Result<Re
     })
 }
 
-/// All facts that the read's rules and its answer need. The error is the store's or out of memory.
-pub fn gather_read<K: Keeper>(
+/// All facts of the state about the read.
+fn gather_all<K: Keeper>(
     alloc: Global,
     keeper: &mut K,
     read: &Read,
@@ -460,4 +462,33 @@ pub fn gather_read<K: Keeper>(
         Read::DaySheet(day) => gather_tours(alloc, keeper, day),
         Read::Export(day) => gather_export(alloc, keeper, day),
     }
+}
+
+/// The facts for the manifest of a vehicle.
+fn gather_run<K: Keeper>(
+    alloc: Global,
+    keeper: &mut K,
+    vehicle: VehicleId,
+    day: Day,
+) -> Result<ReadFacts, StoreFault>
+    ensures reads { ReadsSome (K.store keeper.old) (K.store keeper.new) (IsEnough (Manifest vehicle day)) result }
+{
+    match gather_manifest(alloc, keeper, vehicle, day)? {
+        Some(facts) => Ok(facts),
+        None => gather_tours(alloc, keeper, day),
+    }
+}
+
+/// The facts that the read's rules and its answer need. The error is the store's or out of memory.
+pub fn gather_read<K: Keeper>(
+    alloc: Global,
+    keeper: &mut K,
+    read: &Read,
+) -> Result<ReadFacts, StoreFault>
+    ensures reads { ReadsSome (K.store keeper.old) (K.store keeper.new) (IsEnough read.now) result }
+{
+    if let Read::Manifest { vehicle, day } = *read {
+        return gather_run(alloc, keeper, vehicle, day);
+    }
+    gather_all(alloc, keeper, read)
 }

@@ -10,3 +10,4 @@ mod answers;
 mod gathering;
 mod keeper;
 mod list_keeper;
+mod manifests;
