@@ -29,9 +29,13 @@ read_then a b c x v Is Is' r first (told, left, goes, by) gives = (
       ]),
 )
 
+-- an answer by what was read
+pub known_told : {X Y : Type 0} (a b : Store) (x v : X) (w : Y) (Is : Outcome Y) → Goes a b v None (Ok x) → (b.doubt ≡ 0 → Is a.content w None) → Answers a b Is (Ok w)
+known_told a b x v w Is first is = (w, None, reads_map a b v x (λ _. w) first, (λ clean. inl (is clean)))
+
 -- a read whose result is the answer
 pub read_told : {X Y : Type 0} (a b : Store) (x v : X) (w : Y) (Is : Outcome Y) → Goes a b v None (Ok x) → (x ≡ v → Is a.content w None) → Answers a b Is (Ok w)
-read_told a b x v w Is first is = (w, None, reads_map a b v x (λ _. w) first, (λ clean. inl (is (first.holds clean).tells.0)))
+read_told a b x v w Is first is = known_told a b x v w Is first (λ clean. is (first.holds clean).tells.0)
 
 -- a fault while something is read
 pub read_fault : {X Y : Type 0} (a b : Store) (v : X) (w : Y) (e : StoreFault) (Is : Outcome Y) → Goes {X = X} a b v None (Err e) → Answers {X = Y} a b Is (Err e)
