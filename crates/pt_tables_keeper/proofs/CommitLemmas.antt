@@ -3,6 +3,7 @@ use Rattle.std.proofs.Common.{◌≡◌, ◌<◌, ◌≤◌, ◌⊎◌, inl, inr
 use Rattle.sqlite.specs.Held.{Held, state}
 use Rattle.sqlite.specs.State.{State as Connected, HasCleanDisk, Survives}
 use Rattle.sqlite.specs.Store.{Ghosts}
+use Rattle.sqlite.specs.Tree.{Trees}
 use Rattle.pt_store.specs.Listed.{known_of}
 use Rattle.pt_store.specs.Store.{Fits, Goes, Store}
 use Rattle.pt_store.specs.declared.keeper.StoreFault.{StoreFault}
@@ -14,14 +15,13 @@ use Rattle.pt_records.specs.Records.{Each}
 use Rattle.pt_tables_asking.specs.Plans.{HasVersionAmong}
 use Rattle.pt_tables_rows.specs.Tables.{IsWellFormed, IsKept, Stands}
 use Rattle.pt_tables_keeper.proofs.ReadLemmas.{not_lasting}
-use Rattle.pt_tables_keeper.proofs.StepLemmas.{Settles, finds, settles, shut_falls}
+use Rattle.pt_tables_keeper.proofs.StepLemmas.{Settles, finds, finds_once, settles, shut_falls}
 use Rattle.pt_store.proofs.StoreLemmas.{reads_then}
 use Rattle.pt_tables_keeper.specs.Keeper.{AreInStep, KeptTables, kept_store, store_of}
 use Rattle.pt_tables_keeper.specs.Writable.{IsWritable}
-use Rattle.pt_tables_rows.proofs.SameRows.{opens_once}
 use Rattle.pt_tables_writing.proofs.GroupLemmas.{agrees_known}
 use Rattle.pt_tables_writing.specs.Groups.{AgreesFor}
-use Rattle.pt_tables_writing.specs.Committing.{IsMade, LeadsTo, MayFind}
+use Rattle.pt_tables_writing.specs.Committing.{IsDeskOf, IsMade, LeadsTo, LeavesDesk, MayFind}
 use Rattle.pt_tables_writing.specs.Least.{IsUndone}
 
 -- ---- what is known
@@ -38,13 +38,23 @@ module _ {riders : ℕ} (old new : Connected) (before after : State) (f : ℕ) (
   early : HasCleanDisk new → HasCleanDisk old
   early clean = let up = survives.clean in omega arith
 
+  -- what is committed is a desk's database of the content after the change
+  desk_after : HasCleanDisk new → (trees : Trees) → LeadsTo before after old trees → IsDeskOf after trees
+  desk_after clean trees leads =
+      let held = (was.kept none (early clean)).stands leads.was_open in
+      record { tables = leads.tables held; rows = (readable, leads.rows held) }
+
   -- a crash leaves what it could leave before, or the content after the change
   crashes : (o : Option State) → MayFind new o → MayFind old o ⊎ (o ≡ Some after)
   crashes o found = elim (survives.crash found.0 found.1 found.2) [
     | inl before_it ↦ inl (early found.0, found.1, before_it, found.3)
-    | inr leads ↦
-        let rows = leads.rows ((was.kept none (early found.0)).stands leads.was_open) in
-        inr (opens_once found.1 o (Some after) found.3 (readable, rows))
+    | inr leads ↦ inr (finds_once found.1 o (Some after) found.3 (desk_after found.0 found.1 leads))
+  ]
+
+  leaves_then : LeavesDesk new
+  leaves_then clean trees left = elim (survives.crash clean trees left) [
+    | inl before_it ↦ was.leaves (early clean) trees before_it
+    | inr leads ↦ (after, desk_after clean trees leads)
   ]
 
   made_kept : IsMade before after old new → HasCleanDisk new → IsKept after new
@@ -67,6 +77,7 @@ module _ {riders : ℕ} (old new : Connected) (before after : State) (f : ℕ) (
     settled = settled;
     readable = readable;
     carried = carried;
+    leaves = leaves_then;
     kept = λ _ clean. made_kept (made clean) clean;
     counted = λ _ clean. counted (early clean);
   }
@@ -83,7 +94,7 @@ module _ {riders : ℕ} (old new : Connected) (before after : State) (f : ℕ) (
     holds = λ clean. record {
       tells = (refl, refl);
       crash = crashes;
-      durable = λ o found. finds new after law readable (made_kept (made clean) clean) (made clean).is_open o found;
+      durable = λ o found. finds new after law leaves_then readable (made_kept (made clean) clean) (made clean).is_open o found;
       memory = λ is. absurd (cc);
       fits = λ _. refl;
     };
@@ -96,6 +107,7 @@ module _ {riders : ℕ} (old new : Connected) (before after : State) (f : ℕ) (
     settled = settled;
     readable = was.readable;
     carried = was.carried;
+    leaves = leaves_then;
     kept = λ _ clean. undone_kept (undone clean) clean;
     counted = λ _ clean. was.counted none (early clean);
   }
@@ -117,7 +129,7 @@ module _ {riders : ℕ} (old new : Connected) (before after : State) (f : ℕ) (
           tells = refl;
           crash = crashes;
           durable = tt;
-          memory = λ _ _. finds new before law was.readable (undone_kept (undone clean) clean) (open_still refl clean);
+          memory = λ _ _. finds new before law leaves_then was.readable (undone_kept (undone clean) clean) (open_still refl clean);
           fits = λ _. refl;
         };
       }

@@ -14,7 +14,7 @@ use Rattle.pt_tables_asking.proofs.ContentLemmas.{kept_still}
 use Rattle.pt_tables_asking.specs.Asking.{Rests}
 use Rattle.pt_tables_keeper.specs.Keeper.{AreInStep, kept_store, shut}
 use Rattle.pt_tables_rows.proofs.SameRows.{opens_once}
-use Rattle.pt_tables_writing.specs.Committing.{MayFind}
+use Rattle.pt_tables_writing.specs.Committing.{IsDeskOf, LeavesDesk, MayFind, OpensDesk}
 
 both : (a b : Bool) → IsTrue (a && b) → IsTrue a × IsTrue b
 both true b h = (refl, h)
@@ -40,17 +40,28 @@ shut_falls a b falls opens = only_falls (a.is_clean && a.is_open) (b.is_clean &&
 abbrev pub Settles : Connected → Type 0
 Settles s = (db : Trees) → IsTrue s.is_open → s.may_leave db → db ≡ s.committed.trees
 
+-- an opening of a database finds one thing
+pub finds_once : (trees : Trees) (one other : Option State) → OpensDesk trees one → OpensDesk trees other → one ≡ other
+finds_once trees None None ones others = refl
+finds_once trees None (Some b) ones others = absurd (ones b others)
+finds_once trees (Some a) None ones others = absurd (others a ones)
+finds_once trees (Some a) (Some b) ones others = opens_once trees (Some a) (Some b) ones.rows others.rows
+
 -- while the keeper is in step, open and has not failed, an opening finds its content
-pub finds : (s : Connected) (content : State) → Settles s → IsWellFormed content → IsKept content s → IsTrue s.is_open → (o : Option State)
+pub finds : (s : Connected) (content : State) → Settles s → LeavesDesk s → IsWellFormed content → IsKept content s → IsTrue s.is_open → (o : Option State)
     → MayFind s o → o ≡ Some content
-finds s content law readable kept here o found =
+finds s content law leaves readable kept here o found =
     let same : found.1 ≡ s.now.trees = law found.1 here found.2 ∙ ap (λ (d : Database). d.trees) (kept.committed here) in
-    opens_once found.1 o (Some content) found.3 (readable, subst (HasRows content) (sym same) (kept.stands here).rows)
+    let desk : IsDeskOf content found.1 = record {
+      tables = (leaves found.0 found.1 found.2).1.tables;
+      rows = (readable, subst (HasRows content) (sym same) (kept.stands here).rows);
+    } in
+    finds_once found.1 o (Some content) found.3 desk
 
 pub settles : {riders : ℕ} (s : Connected) (content : State) (f u : ℕ) → Settles s → AreInStep content riders f s → IsSettled (kept_store s content f u)
 settles s content f u law step open_still none o found =
     let here = open_of s open_still in
-    finds s content law step.readable (step.kept none here.0) here.1 o found
+    finds s content law step.leaves step.readable (step.kept none here.0) here.1 o found
 
 -- ---- a read
 
@@ -62,6 +73,12 @@ module _ {riders : ℕ} (old new : Connected) (content : State) (f : ℕ) (none 
   still : HasCleanDisk new → IsKept content new
   still clean = kept_still content old new rests clean (was.kept none (early clean))
 
+  leaves_still : LeavesDesk new
+  leaves_still clean trees left = elim (rests.survives.crash clean trees left) [
+    | inl before_it ↦ was.leaves (early clean) trees before_it
+    | inr nothing ↦ absurd nothing
+  ]
+
   -- they stay in step, whether the read succeeded or not
   pub step_still : (g : ℕ) → g ≤ 1 → AreInStep content riders g new
   step_still g most =
@@ -70,6 +87,7 @@ module _ {riders : ℕ} (old new : Connected) (content : State) (f : ℕ) (none 
         settled = rests.settled;
         readable = was.readable;
         carried = was.carried;
+        leaves = leaves_still;
         kept = λ _ clean. still clean;
         counted = λ _ clean. was.counted none (early clean);
       }

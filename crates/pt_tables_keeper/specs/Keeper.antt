@@ -15,7 +15,7 @@ use Rattle.pt_tables_rows.specs.Tables.{IsWellFormed, IsKept}
 use Rattle.pt_tables_asking.specs.declared.asking.Unread.{Unread}
 use Rattle.pt_tables_asking.specs.declared.asking.Unread.TheVariants.{Memory, Store as failed, Row}
 use Rattle.pt_tables_keeper.specs.Coding.{state_code}
-use Rattle.pt_tables_writing.specs.Committing.{MayFind}
+use Rattle.pt_tables_writing.specs.Committing.{LeavesDesk, MayFind}
 
 -- a connection, whether the store has failed, whether it was given a change that cannot be written, and the content of
 -- its tables
@@ -31,13 +31,15 @@ kept_tables_code {S} store =
     (λ k. (k.conn, (k.failures, (k.unfit, k.content))))
     (λ p. record { conn = p.0; failures = p.1.0; unfit = p.1.1.0; content = p.1.1.1 }) (λ _. refl)
 
--- The content can be read back from its rows, the vehicle of each plan is there, and no transaction is open. Until the
--- store fails, the tables have the content, and `riders` is the number of its riders.
+-- The content can be read back from its rows, the vehicle of each plan is there, and no transaction is open. A crash
+-- leaves a desk's database. Until the store fails, the tables have the content, and `riders` is the number of its
+-- riders.
 pub record AreInStep (content : State) (riders failures : ℕ) (s : Connected) : Type 0 where
   pub most : failures ≤ 1
   pub settled : s.in_transaction ≡ false
   pub readable : IsWellFormed content
   pub carried : Each (HasVersionAmong content.vehicles) content.planned
+  pub leaves : LeavesDesk s
   pub kept : failures ≡ 0 → HasCleanDisk s → IsKept content s
   pub counted : failures ≡ 0 → HasCleanDisk s → riders ≡ length content.riders
 

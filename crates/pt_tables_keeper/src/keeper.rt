@@ -9,6 +9,7 @@ ghost use Rattle.pt_records.specs.Records.{Each};
 ghost use Rattle.pt_tables_asking.specs.Plans.{HasVersionAmong};
 ghost use Rattle.pt_tables_asking.specs.declared.asking.Unread.TheVariants.{Memory as Wanted};
 ghost use Rattle.pt_tables_rows.specs.Tables.{IsWellFormed, IsKept};
+ghost use Rattle.pt_tables_writing.specs.Committing.{LeavesDesk};
 ghost use Rattle.pt_tables_keeper.specs.Keeper.{Counts, store_of};
 ghost use Rattle.pt_tables_keeper.specs.Writable.{IsWritable};
 
@@ -110,11 +111,13 @@ fn counted<T>(failures: &mut u32, found: Result<T, Unread>) -> Result<T, StoreFa
 
 impl<S: Alter> SqlKeeper<S> {
     /// The store over a database. Its tables must have the content that `known` is part of, with `rider_count` riders.
+    /// A crash must leave a desk's database.
     pub fn of(alloc: Global, conn: Connection<S>, known: Known, rider_count: usize) -> SqlKeeper<S>
         requires settled { conn.in_transaction ≡ false }
         requires readable { IsWellFormed known.content }
         requires carried { Each (HasVersionAmong known.content.vehicles) known.content.planned }
         requires kept { HasCleanDisk (state S.Store conn) → IsKept known.content (state S.Store conn) }
+        requires leaves { LeavesDesk (state S.Store conn) }
         requires riders { rider_count ≡ length known.content.riders }
         ensures conn { result.conn ≡ conn }
         ensures content { result.content ≡ known.content }
@@ -132,11 +135,13 @@ impl<S: Alter> SqlKeeper<S> {
     }
 
     /// Returns the connection. Unless the store has failed, its tables have the rows of the content, all committed.
+    /// Even if it has failed, a crash leaves a desk's database.
     pub fn release(self) -> Connection<S>
         ensures same { result ≡ self.conn }
         ensures settled { result.in_transaction ≡ false }
         ensures rows { self.failures ≡ 0 → HasCleanDisk (state S.Store result)
             → IsKept self.content (state S.Store result) }
+        ensures leaves { LeavesDesk (state S.Store result) }
     {
         let SqlKeeper {
             alloc: _,

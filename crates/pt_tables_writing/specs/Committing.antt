@@ -1,5 +1,5 @@
 -- What a transaction makes of the tables, and what an opening after a crash may find.
-use Rattle.std.specs.Prelude.{◌≡◌, IsTrue, Option}
+use Rattle.std.specs.Prelude.{◌≡◌, IsTrue, Option, None, Some}
 use Rattle.sqlite.specs.State.{State as Connected, HasCleanDisk}
 use Rattle.sqlite.specs.Tree.{Trees}
 use Rattle.pt_desk_rules.specs.State.{State}
@@ -20,6 +20,20 @@ pub record LeadsTo (before after : State) (old : Connected) (trees : Trees) : Ty
   pub rows : Stands before old.now → HasRows after trees
   pub tables : Stands before old.now → IsDeskDatabase trees
 
+-- a desk's database with the rows of the content
+pub record IsDeskOf (content : State) (trees : Trees) : Type 0 where
+  pub tables : IsDeskDatabase trees
+  pub rows : Opens trees (Some content)
+
+-- what an opening of the database finds: the content that it is a desk's database of, or None if there is none
+abbrev pub OpensDesk : Trees → Option State → Type 0
+OpensDesk trees (Some content) = IsDeskOf content trees
+OpensDesk trees None = (content : State) → IsDeskOf content trees → ⊥
+
 -- what an opening after a crash may find
 abbrev pub MayFind : Connected → Option State → Type 0
-MayFind s o = HasCleanDisk s × (trees : Trees) × s.may_leave trees × Opens trees o
+MayFind s o = HasCleanDisk s × (trees : Trees) × s.may_leave trees × OpensDesk trees o
+
+-- if the disk is clean, whatever a crash leaves is a desk's database of some content
+abbrev pub LeavesDesk : Connected → Type 0
+LeavesDesk s = HasCleanDisk s → (trees : Trees) → s.may_leave trees → (content : State) × IsDeskOf content trees

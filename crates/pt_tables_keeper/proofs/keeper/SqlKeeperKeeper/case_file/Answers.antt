@@ -3,9 +3,27 @@ use Rattle.sqlite.specs.Held.{state}
 use Rattle.pt_store.specs.Store.{Goes}
 use Rattle.pt_store.specs.declared.keeper.StoreFault.TheVariants.{Memory}
 use Rattle.pt_desk_rules.specs.State.{State, entries_of, file_of, file_with}
-use Rattle.pt_tables_keeper.proofs.ReadLemmas.{reads_not, reads_on, reads_wanting}
+use Rattle.pt_tables_keeper.proofs.ReadLemmas.{reads_not, reads_on, reads_wanting, step_by}
 use Rattle.pt_tables_keeper.specs.Keeper.{KeptTables, kept_store, store_of}
 use Rattle.pt_tables_keeper.proofs.keeper.SqlKeeperKeeper.case_file.Goals as goal
+
+pub invariant_of-self : goal.invariant_of-self
+invariant_of-self g c =
+    let none : c.self.inside.failures ≡ 0 = ap (λ (k : KeptTables _). k.failures) c.self.view_is ∙ c.in_ok-serve.ensures.served in
+    step_by g.S.Store c.self.inside.conn c.entries_by_rider-found.new.conn c.self.inside.failures c.counted.new.failures c.self.inside.known.content c.entries_by_rider-found.result c.counted.result
+    none c.self.invariant c.entries_by_rider-found.ensures.rests (λ db here left. g.met.S.Store.settled c.entries_by_rider-found.new.conn.store db here left) c.counted.ensures.counts
+
+pub invariant_of-self-in_err-file_with : goal.invariant_of-self-in_err-file_with
+invariant_of-self-in_err-file_with g c =
+    let none : c.self.inside.failures ≡ 0 = ap (λ (k : KeptTables _). k.failures) c.self.view_is ∙ c.in_ok-serve.ensures.served in
+    step_by g.S.Store c.self.inside.conn c.entries_by_rider-found.new.conn c.self.inside.failures c.counted.new.failures c.self.inside.known.content c.entries_by_rider-found.result c.counted.result
+    none c.self.invariant c.entries_by_rider-found.ensures.rests (λ db here left. g.met.S.Store.settled c.entries_by_rider-found.new.conn.store db here left) c.counted.ensures.counts
+
+pub invariant_of-self-2 : goal.invariant_of-self-2
+invariant_of-self-2 g c =
+    let none : c.self.inside.failures ≡ 0 = ap (λ (k : KeptTables _). k.failures) c.self.view_is ∙ c.in_ok-serve.ensures.served in
+    step_by g.S.Store c.self.inside.conn c.entries_by_rider-found.new.conn c.self.inside.failures c.counted.new.failures c.self.inside.known.content c.entries_by_rider-found.result c.counted.result
+    none c.self.invariant c.entries_by_rider-found.ensures.rests (λ db here left. g.met.S.Store.settled c.entries_by_rider-found.new.conn.store db here left) c.counted.ensures.counts
 
 pub returns-in_err-entries-clause-reads : goal.returns-in_err-entries-clause-reads
 returns-in_err-entries-clause-reads g c =

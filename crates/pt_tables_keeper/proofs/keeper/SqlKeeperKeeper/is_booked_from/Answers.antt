@@ -4,9 +4,21 @@ use Rattle.pt_store.specs.Store.{Goes}
 use Rattle.std.specs.Prelude.{nat_le}
 use Rattle.pt_desk_rules.specs.Planned.{is_booked_from}
 use Rattle.pt_desk_rules.specs.State.{State}
-use Rattle.pt_tables_keeper.proofs.ReadLemmas.{booked_later, reads_not, reads_on}
+use Rattle.pt_tables_keeper.proofs.ReadLemmas.{booked_later, reads_not, reads_on, step_by}
 use Rattle.pt_tables_keeper.specs.Keeper.{KeptTables, kept_store, store_of}
 use Rattle.pt_tables_keeper.proofs.keeper.SqlKeeperKeeper.is_booked_from.Goals as goal
+
+pub invariant_of-self : goal.invariant_of-self
+invariant_of-self g c =
+    let none : c.self.inside.failures ≡ 0 = ap (λ (k : KeptTables _). k.failures) c.self.view_is ∙ c.in_ok-serve.ensures.served in
+    step_by g.S.Store c.self.inside.conn c.trips_from_day-found.new.conn c.self.inside.failures c.counted.new.failures c.self.inside.known.content c.trips_from_day-found.result c.counted.result
+    none c.self.invariant c.trips_from_day-found.ensures.rests (λ db here left. g.met.S.Store.settled c.trips_from_day-found.new.conn.store db here left) c.counted.ensures.counts
+
+pub invariant_of-self-2 : goal.invariant_of-self-2
+invariant_of-self-2 g c =
+    let none : c.self.inside.failures ≡ 0 = ap (λ (k : KeptTables _). k.failures) c.self.view_is ∙ c.in_ok-serve.ensures.served in
+    step_by g.S.Store c.self.inside.conn c.trips_from_day-found.new.conn c.self.inside.failures c.counted.new.failures c.self.inside.known.content c.trips_from_day-found.result c.counted.result
+    none c.self.invariant c.trips_from_day-found.ensures.rests (λ db here left. g.met.S.Store.settled c.trips_from_day-found.new.conn.store db here left) c.counted.ensures.counts
 
 pub returns-in_err-trips-clause-reads : goal.returns-in_err-trips-clause-reads
 returns-in_err-trips-clause-reads g c =
