@@ -1,6 +1,7 @@
 -- A desk whose content was read from the tables, and one whose tables are refused.
-use Rattle.std.proofs.Common.{◌≡◌, ◌≤◌, inl, inr, IsTrue, sym, subst, ◌∙◌, ap, arith}
-use Rattle.sqlite.specs.Effect.{Database}
+use Rattle.std.proofs.Common.{◌≡◌, ◌≤◌, inl, inr, IsTrue, refl, sym, subst, ◌∙◌, ap, arith}
+use Rattle.sqlite.specs.Effect.{Database, IsDatabase}
+use Rattle.sqlite.specs.Schema.{Schema}
 use Rattle.sqlite.specs.State.{State as Connected, HasCleanDisk, IsLive, Survives}
 use Rattle.sqlite.specs.Tree.{Trees}
 use Rattle.sqlite.specs.View.{doubt}
@@ -8,10 +9,13 @@ use Rattle.sqlite_catalog.proofs.ReadLemmas.{lists_once}
 use Rattle.sqlite_catalog.specs.Listing.{Lists}
 use Rattle.sqlite_trees.specs.Objects.{catalog_tree}
 use Rattle.pt_desk_rules.specs.State.{State}
-use Rattle.pt_tables_opening.specs.Faults.{rows_refused, tables_refused}
+use Rattle.pt_tables_opening.specs.Faults.{rows_refused, tables_refused, unsound}
 use Rattle.pt_tables_opening.specs.Opening.{IsReopened, Stays}
 use Rattle.pt_tables_rows.specs.Schema.{desk_schema}
-use Rattle.pt_tables_rows.specs.Tables.{HasRows, IsKept, Stands}
+use Rattle.pt_tables_rows.specs.Tables.{HasRows, IsKept, IsWellFormed, Stands}
+use Rattle.pt_tables_writing.specs.Committing.{IsDeskOf}
+use Rattle.pt_tables_writing.specs.Least.{IsDeskDatabase}
+use Rattle.pt_tables_opening.proofs.AgencyLemmas.{spares_none}
 use Rattle.pt_tables_opening.specs.Refused.{AreUnsound, HasOtherTables, ListsOthers, SparesOtherVersion, TellsOf}
 use Rattle.pt_tables_opening.specs.Standing.{IsFirstAtFault}
 use Rattle.pt_tables_opening.specs.Agency.{HasOtherVersion}
@@ -23,6 +27,11 @@ left_before old new survives clean db left = elim (survives.crash clean db left)
   | inl before ↦ before
   | inr nothing ↦ absurd nothing
 ]
+
+-- a desk's database of a content has no other tables, nor those of another version
+pub no_other_tables : (content : State) (trees : Trees) → IsDeskOf content trees → HasOtherTables trees → ⊥
+no_other_tables content trees desk (inl other) = other.2 (lists_once (trees catalog_tree) other.0 desk_schema other.1 desk.tables.lists)
+no_other_tables content trees desk (inr version) = spares_none trees content.policy content.last_trip desk.rows.1.records.desk (unsound 1) version refl
 
 -- what reads show of an open connection leaves what was committed
 pub still_committed : (old new : Connected) (trees : Trees) → Stays old new → IsTrue new.is_open → trees ≡ new.committed.trees → trees ≡ old.committed.trees
@@ -69,6 +78,14 @@ module _ (old new last : Connected) (settled : IsTrue old.is_open → old.now �
       let is = same_schema ∙ has in
       let stands : Stands content last.now = record { schema = is; rows = subst (HasRows content) (sym same_rows) rows; rowids = anew.rowids is } in
       record { stands = λ _. stands; committed = λ _. anew.committed }
+
+  -- what is committed to the new connection is a desk's database of that content
+  pub desk_adopted : (content : State) → IsWellFormed content → old.now.schema ≡ desk_schema → HasRows content old.now.trees → (trees : Trees) → trees ≡ last.committed.trees
+      → IsDeskOf content trees
+  desk_adopted content readable has rows trees is =
+      let same : trees ≡ old.now.trees = is ∙ ap (λ (d : Database). d.trees) anew.committed ∙ same_rows in
+      let whole : IsDeskDatabase old.now.trees = subst (λ (s : Schema). IsDatabase (record { schema = s; trees = old.now.trees })) has (live open_first).0 in
+      record { tables = subst IsDeskDatabase (sym same) whole; rows = (readable, subst (HasRows content) (sym same) rows) }
 
   -- the store that it hands back shows what was committed
   pub handed_back : (trees : Trees) → trees ≡ last.committed.trees → trees ≡ old.committed.trees

@@ -15,7 +15,8 @@ use Rattle.pt_desk_rules.specs.State.{State}
 use Rattle.pt_tables_writing.specs.Least.{IsNew, IsAsBefore, IsDeskDatabase, IsInUse, IsUndone, IsNewDesk, IsLeastDesk, first_admin}
 use Rattle.pt_tables_rows.specs.Rows.{desk_row, caller_row}
 use Rattle.pt_tables_rows.specs.Schema.{no_schema, desk_schema, desk_table, callers_table}
-use Rattle.pt_tables_rows.specs.Tables.{HasRows, IsKept, IsBlank, Fills, Stands}
+use Rattle.pt_tables_rows.specs.Tables.{HasRows, IsKept, IsBlank, IsWellFormed, Fills, Stands}
+use Rattle.pt_tables_writing.specs.Committing.{IsDeskOf}
 use Rattle.pt_tables_rows.proofs.CreateLemmas.{stands_new}
 
 -- ---- the least state is new
@@ -69,6 +70,13 @@ committed_least key s new db least here tables made same = record {
       let kept = made content (least_is_new key s content least is) in
       subst (HasRows content) (sym (same ∙ ap (λ (d : Database). d.trees) (kept.committed here))) (kept.stands here).rows;
 }
+
+-- a desk's database of the least state
+pub least_left : (key : List ℕ) (s : State) (new : Connected) (db : Trees) → IsLeastState key s → IsWellFormed s → IsTrue new.is_open → IsDeskDatabase new.committed.trees
+    → ((any : State) → IsNew s.policy (sha256 key) any → IsKept any new) → db ≡ new.committed.trees → (content : State) × IsDeskOf content db
+least_left key s new db least readable here tables made same =
+    let desk = committed_least key s new db least here tables made same in
+    (s, record { tables = desk.tables; rows = (readable, desk.rows s least) })
 
 pub least_kept : (key : List ℕ) (s : State) (new : Connected) → IsLeastState key s → ((any : State) → IsNew s.policy (sha256 key) any → IsKept any new) → IsKept s new
 least_kept key s new least made = made s (least_is_new key s s least least)

@@ -1,9 +1,10 @@
 //! Opens the database of a desk.
 
-ghost use Rattle.std.specs.Prelude.{◌≡◌, ◌⊎◌, ◌≤◌, IsTrue, IfOk, IfErr, IsErrAnd, MatchResult, false};
+ghost use Rattle.std.specs.Prelude.{◌≡◌, ◌≢◌, ◌⊎◌, ◌≤◌, IsTrue, IfOk, IfErr, IsErrAnd, MatchResult, false};
 ghost use Rattle.pt_base.specs.Codes.{memory_refused};
 ghost use Rattle.pt_store.specs.Store.{IsSettled};
 ghost use Rattle.pt_desk_rules.specs.Sound.{IsSound};
+ghost use Rattle.pt_desk_rules.specs.State.{State};
 ghost use Rattle.sqlite.specs.Held.{state};
 ghost use Rattle.sqlite.specs.State.{HasCleanDisk};
 ghost use Rattle.sqlite.specs.Tree.{Trees};
@@ -13,6 +14,7 @@ ghost use Rattle.pt_tables_opening.specs.Opening.{IsReopened};
 ghost use Rattle.pt_tables_opening.specs.Refused.{AreUnsound, HasOtherTables, SparesOtherVersion};
 ghost use Rattle.pt_tables_opening.specs.Standing.{IsFirstAtFault};
 ghost use Rattle.pt_tables_rows.specs.Tables.{HasRows};
+ghost use Rattle.pt_tables_writing.specs.Committing.{IsDeskOf, LeavesDesk};
 
 use crate::keeping::keeper_of;
 use pt_store::Keeper;
@@ -72,6 +74,7 @@ pub fn adopt<S: Alter + Drop>(
         → HasRows keeper.content (state S.Store conn).committed.trees) }
     ensures serves { IfOk result (λ keeper. keeper.failures ≡ 0) }
     ensures settled { IfOk result (λ keeper. IsSettled (⟦<SqlKeeper<S> as Keeper>⟧.store keeper)) }
+    ensures leaves { IfOk result (λ keeper. LeavesDesk (state S.Store keeper.conn)) }
     ensures kept { IfErr result (λ refused. IsClean (S.Store.view refused.0)
         → IsTrue (S.Store.view refused.0).is_open
         → (S.Store.view refused.0).trees ≡ (state S.Store conn).committed.trees) }
@@ -83,6 +86,9 @@ pub fn adopt<S: Alter + Drop>(
     ensures faults { IfErr result (λ refused. IsRefusal refused.1) }
     ensures other_tables { IfErr result (λ refused. IsClean (S.Store.view refused.0)
         → refused.1.code ≡ tables_refused → HasOtherTables (state S.Store conn).committed.trees) }
+    // A desk's database is never refused for its tables.
+    ensures desk { IfErr result (λ refused. IsClean (S.Store.view refused.0) → (content : State)
+        → IsDeskOf content (state S.Store conn).committed.trees → refused.1.code ≢ tables_refused) }
     ensures unsound { IfErr result (λ refused. IsClean (S.Store.view refused.0)
         → refused.1.code ≡ rows_refused → AreUnsound (state S.Store conn).committed.trees) }
     ensures first { IfErr result (λ refused. IsClean (S.Store.view refused.0)

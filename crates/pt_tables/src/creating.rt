@@ -10,6 +10,7 @@ ghost use Rattle.sqlite.specs.Held.{state};
 ghost use Rattle.sqlite.specs.State.{HasCleanDisk, Survives};
 ghost use Rattle.sqlite.specs.Tree.{Trees};
 ghost use Rattle.pt_tables_opening.specs.Faults.{fault, store_refused};
+ghost use Rattle.pt_tables_writing.specs.Committing.{LeavesDesk};
 ghost use Rattle.pt_tables_writing.specs.Least.{IsNew, IsAsBefore, IsInUse, IsUndone, IsDeskDatabase};
 ghost use Rattle.pt_tables_writing.specs.Least.{IsNewDesk, IsLeastDesk};
 ghost use Rattle.pt_tables_rows.specs.Schema.{no_schema};
@@ -89,6 +90,7 @@ pub fn create<S: Alter>(
     ensures least { IfOk result (λ keeper. IsLeastState admin_key.now keeper.content) }
     ensures sound { IfOk result (λ keeper. IsSound keeper.content) }
     ensures settled { IfOk result (λ keeper. IsSettled (⟦<SqlKeeper<S> as Keeper>⟧.store keeper)) }
+    ensures leaves { IfOk result (λ keeper. LeavesDesk (state S.Store keeper.conn)) }
     ensures faults { IfErr result (λ refused.
         (refused.1 ≡ fault memory_refused) ⊎ (refused.1 ≡ fault store_refused)) }
     ensures in_use { IsInUse (state S.Store conn) → result ≡ Err (conn, fault store_refused) }

@@ -7,6 +7,7 @@ ghost use Rattle.sqlite.specs.State.{HasCleanDisk};
 ghost use Rattle.pt_records.specs.Records.{Each};
 ghost use Rattle.pt_tables_asking.specs.Plans.{HasVersionAmong};
 ghost use Rattle.pt_tables_rows.specs.Tables.{IsWellFormed, IsKept};
+ghost use Rattle.pt_tables_writing.specs.Committing.{LeavesDesk};
 
 use pt_store::{Keeper, ListKeeper};
 use pt_tables_keeper::{Content, Known, SqlKeeper};
@@ -24,10 +25,12 @@ pub(crate) fn keeper_of<S: Alter>(
     requires readable { IsWellFormed lists.content }
     requires carried { Each (HasVersionAmong lists.content.vehicles) lists.content.planned }
     requires kept { HasCleanDisk (state S.Store conn) → IsKept lists.content (state S.Store conn) }
+    requires leaves { LeavesDesk (state S.Store conn) }
     ensures conn { result.conn ≡ conn }
     ensures content { result.content ≡ lists.content }
     ensures serves { result.failures ≡ 0 }
     ensures settled { IsSettled (⟦<SqlKeeper<S> as Keeper>⟧.store result) }
+    ensures leaves { LeavesDesk (state S.Store result.conn) }
 {
     let tables = Content::of(&lists);
     let rider_count = lists.riders_table().as_slice().len();

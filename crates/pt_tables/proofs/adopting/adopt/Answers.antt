@@ -5,10 +5,11 @@ use Rattle.sqlite.specs.Tree.{Trees}
 use Rattle.pt_base.specs.Codes.{memory_refused}
 use Rattle.pt_desk_rules.specs.Sound.{IsSound}
 use Rattle.pt_desk_rules.specs.State.{State}
-use Rattle.pt_tables_opening.specs.Faults.{rows_refused, store_refused}
+use Rattle.pt_tables_opening.specs.Faults.{rows_refused, store_refused, tables_refused}
 use Rattle.pt_tables_opening.specs.declared.open_fault.OpenFault.{OpenFault}
 use Rattle.pt_tables_rows.specs.Tables.{HasRows}
-use Rattle.pt_tables.proofs.AdoptLemmas.{adopted, first_committed, handed_back, left_before, others_committed, read_committed, still_committed, unsound_committed, version_committed}
+use Rattle.pt_tables.proofs.AdoptLemmas.{adopted, desk_adopted, first_committed, handed_back, left_before, no_other_tables, others_committed, read_committed, still_committed}
+use Rattle.pt_tables.proofs.AdoptLemmas.{unsound_committed, version_committed}
 use Rattle.pt_tables_keeper.proofs.CarriedLemmas.{sound_carried}
 use Rattle.pt_tables_rows.proofs.SameRows.{sound-well_formed}
 use Rattle.pt_tables.proofs.adopting.adopt.Goals as goal
@@ -29,6 +30,14 @@ keeper_of-requires g c =
           let early : HasCleanDisk new = omega (arith, clean, falls) in
           adopted old new last (c.is_autocommit.ensures.settled c.if-not-is_autocommit.false) c.content_in-read.ensures.live c.content_in-read.ensures.stays falls c.in-Ok.ensures.was_open
           c.in-Ok.ensures.opened clean c.in-Ok-read.lists.content c.in-Ok-read.ensures.schema (c.in-Ok-read.ensures.rows early);
+      leaves = λ clean db left.
+          let early : HasCleanDisk new = omega (arith, clean, falls) in
+          let content = c.in-Ok-read.lists.content in (
+            content,
+            desk_adopted old new last (c.is_autocommit.ensures.settled c.if-not-is_autocommit.false) c.content_in-read.ensures.live c.content_in-read.ensures.stays falls
+                c.in-Ok.ensures.was_open c.in-Ok.ensures.opened clean content (sound-well_formed content c.in-Ok-read.ensures.sound) c.in-Ok-read.ensures.schema (c.in-Ok-read.ensures.rows early)
+                db (g.met.S.Store.settled c.in-Ok.conn.store db (c.in-Ok.ensures.opened clean).is_open left),
+          );
     }
 
 pub returns-in-Ok-read-clause-sound : goal.returns-in-Ok-read-clause-sound
@@ -97,6 +106,10 @@ returns-in-Err-read-clause-other_tables g c clean =
     others_committed old new last (c.is_autocommit.ensures.settled c.if-not-is_autocommit.false) c.content_in-read.ensures.live c.content_in-read.ensures.stays c.in-Ok.ensures.clean
     c.in-Ok.ensures.was_open c.in-Ok.ensures.opened again c.in-Err-read.refused (c.in-Err-read.ensures.why early)
 
+pub returns-in-Err-read-clause-desk : goal.returns-in-Err-read-clause-desk
+returns-in-Err-read-clause-desk g c clean content desk code =
+    no_other_tables content (state g.S.Store c.args.conn).committed.trees desk (returns-in-Err-read-clause-other_tables g c clean code)
+
 pub returns-in-Err-read-clause-version : goal.returns-in-Err-read-clause-version
 returns-in-Err-read-clause-version g c clean =
     let old = state g.S.Store c.args.conn in
@@ -136,4 +149,10 @@ pub returns-in-Err-clause-first : goal.returns-in-Err-clause-first
 returns-in-Err-clause-first g c clean code = elim c.in-Err.ensures.faults [
   | inl is ↦ (let other : memory_refused ≡ rows_refused = subst (λ (f : OpenFault). f.code ≡ rows_refused) is code in absurd (omega arith))
   | inr is ↦ (let other : store_refused ≡ rows_refused = subst (λ (f : OpenFault). f.code ≡ rows_refused) is code in absurd (omega arith))
+]
+
+pub returns-in-Err-clause-desk : goal.returns-in-Err-clause-desk
+returns-in-Err-clause-desk g c clean content desk code = elim c.in-Err.ensures.faults [
+  | inl is ↦ (let other : memory_refused ≡ tables_refused = subst (λ (f : OpenFault). f.code ≡ tables_refused) is code in absurd (omega arith))
+  | inr is ↦ (let other : store_refused ≡ tables_refused = subst (λ (f : OpenFault). f.code ≡ tables_refused) is code in absurd (omega arith))
 ]

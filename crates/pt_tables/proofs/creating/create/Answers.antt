@@ -8,7 +8,7 @@ use Rattle.pt_desk_rules.specs.State.{State}
 use Rattle.pt_tables_writing.specs.Least.{IsLeastDesk, IsNew, IsNewDesk}
 use Rattle.pt_tables_rows.specs.Schema.{no_schema}
 use Rattle.pt_tables_rows.specs.Tables.{IsKept}
-use Rattle.pt_tables.proofs.NewLemmas.{as_before, committed_least, least_kept, never_in_use, survives_least, untouched}
+use Rattle.pt_tables.proofs.NewLemmas.{as_before, committed_least, least_kept, least_left, never_in_use, survives_least, untouched}
 use Rattle.pt_tables_keeper.proofs.CarriedLemmas.{sound_carried}
 use Rattle.pt_tables_rows.proofs.SameRows.{sound-well_formed}
 use Rattle.pt_tables.proofs.creating.create.Goals as goal
@@ -22,6 +22,12 @@ keeper_of-requires g c =
       carried = sound_carried c.in-Ok.made.0.content c.in-Ok.ensures.sound;
       kept = λ clean. least_kept c.args.admin_key.now c.in-Ok.made.0.content new c.in-Ok.ensures.least
           (subst₂ (λ p d. (any : State) → IsNew p d any → IsKept any new) c.in-Ok.ensures.policy c.of_key.ensures.value (c.in-Ok-create_new.ensures.made clean));
+      leaves = λ clean db left.
+          let here = c.in-Ok-create_new.ensures.open clean in
+          least_left c.args.admin_key.now c.in-Ok.made.0.content new db c.in-Ok.ensures.least (sound-well_formed c.in-Ok.made.0.content c.in-Ok.ensures.sound) here
+          (c.in-Ok-create_new.ensures.tables clean)
+          (subst₂ (λ p d. (any : State) → IsNew p d any → IsKept any new) c.in-Ok.ensures.policy c.of_key.ensures.value (c.in-Ok-create_new.ensures.made clean))
+          (g.met.S.Store.settled c.create_new.new.conn.store db here left);
     }
 
 pub returns-in-Ok-create_new-clause-least : goal.returns-in-Ok-create_new-clause-least

@@ -4,6 +4,7 @@ use Rattle.pt_store.specs.Store.{IsSettled}
 use Rattle.pt_desk_rules.specs.State.{State}
 use Rattle.pt_tables_keeper.proofs.StepLemmas.{settles}
 use Rattle.pt_tables_keeper.specs.Keeper.{AreInStep, kept_store}
+use Rattle.pt_tables_writing.specs.Committing.{LeavesDesk}
 use Rattle.pt_tables.proofs.keeping.keeper_of.Goals as goal
 
 pub returns-clause-settled : goal.returns-clause-settled
@@ -15,6 +16,7 @@ returns-clause-settled g c =
       settled = c.requires.settled;
       readable = c.requires.readable;
       carried = c.requires.carried;
+      leaves = c.requires.leaves;
       kept = λ _ clean. c.requires.kept clean;
       counted = λ _ _. refl;
     } in
@@ -22,3 +24,6 @@ returns-clause-settled g c =
     subst (λ (n : ℕ). IsSettled (kept_store (state g.S.Store c.of.result.conn) c.of.result.content n c.of.result.unfit)) (sym c.of.ensures.serves)
     (subst₂ (λ (h : Held _) (t : State). IsSettled (kept_store (state g.S.Store h) t 0 c.of.result.unfit)) (sym c.of.ensures.conn) (sym same)
     (settles s content 0 c.of.result.unfit (λ db here left. g.met.S.Store.settled c.args.conn.store db here left) step))
+
+pub returns-clause-leaves : goal.returns-clause-leaves
+returns-clause-leaves g c = subst (λ (h : Held _). LeavesDesk (state g.S.Store h)) (sym c.of.ensures.conn) c.requires.leaves
