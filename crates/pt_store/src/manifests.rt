@@ -142,8 +142,8 @@ fn gather_planned<K: Keeper>(
     Ok(Some(gather_tour(alloc, keeper, day, plans, trips)?))
 }
 
-/// The facts for the manifest of a vehicle. `None` if it takes all trips of the day to tell; in a sound state it never
-/// does.
+/// The facts for the manifest of a vehicle. `None` if the trip of a stop is not on the day; no sound state has such a
+/// stop.
 pub(crate) fn gather_manifest<K: Keeper>(
     alloc: Global,
     keeper: &mut K,
