@@ -1,15 +1,13 @@
 //! Commands over a database file.
 ghost use Rattle.std.specs.Prelude.{◌≡◌, ◌⊎◌, IfErr, IfOk};
-ghost use Rattle.pt_app.specs.Codes.{file_exists, no_such_file};
+ghost use Rattle.pt_base.specs.declared.fault.Cause.TheVariants as cause;
 ghost use Rattle.pt_app.specs.Opening.{IsStoreFault};
-ghost use Rattle.pt_base.specs.Codes.{memory_refused};
 ghost use Rattle.pt_base.specs.Fault.{fault};
 ghost use Rattle.pt_desk_rules.specs.Sound.{IsSound};
 
-use pt_base::fault::MEMORY;
-use pt_base::{Fault, Moment};
+use pt_base::{Cause, Fault, Moment};
 use pt_command_line::Task;
-use pt_commands::{Outcome, STORE_REFUSED, do_task, print_done};
+use pt_commands::{Outcome, do_task, print_done};
 use pt_http_request::desk_router;
 use pt_serve::{Port, moment_at, serve};
 use pt_store::Keeper;
@@ -22,12 +20,6 @@ use sqlite_store::FileStore;
 use std::alloc::Global;
 use std::io::ErrorKind;
 use std::{fs, io};
-
-/// The file does not exist, or cannot be read.
-const NO_SUCH_FILE: u16 = 5;
-
-/// The file to make exists already.
-const FILE_EXISTS: u16 = 7;
 
 /// A task for a database file.
 #[derive(Drop)]
@@ -55,11 +47,11 @@ enum Work<'a> {
 
 /// The fault for a database that is not opened; `row` is the number of the bad table.
 fn fault_of_opening(refused: OpenFault) -> Fault
-    ensures code { result.code ≡ refused.code }
+    ensures cause { result.cause ≡ refused.cause }
     ensures row { result.row ≡ refused.table }
 {
     Fault {
-        code: refused.code,
+        cause: refused.cause,
         row: u32::from(refused.table),
     }
 }
@@ -75,29 +67,29 @@ fn fault_of_store(error: &Error) -> Fault
     ensures { IsStoreFault result }
 {
     match error {
-        Error::SqliteFailure(ErrorCode::OutOfMemory) => Fault::of(MEMORY),
-        _ => Fault::of(STORE_REFUSED),
+        Error::SqliteFailure(ErrorCode::OutOfMemory) => Fault::of(Cause::Memory),
+        _ => Fault::of(Cause::StoreFailed),
     }
 }
 
 /// The fault if a file cannot be read.
 fn fault_of_reading(error: &io::Error) -> Fault
-    ensures { (result ≡ fault memory_refused) ⊎ (result ≡ fault no_such_file) }
+    ensures { (result ≡ fault cause.Memory) ⊎ (result ≡ fault cause.NoSuchFile) }
 {
     match error.kind() {
-        ErrorKind::OutOfMemory => Fault::of(MEMORY),
-        _ => Fault::of(NO_SUCH_FILE),
+        ErrorKind::OutOfMemory => Fault::of(Cause::Memory),
+        _ => Fault::of(Cause::NoSuchFile),
     }
 }
 
 /// The fault if a file cannot be made.
 fn fault_of_making(error: &io::Error) -> Fault
-    ensures { (result ≡ fault file_exists) ⊎ IsStoreFault result }
+    ensures { (result ≡ fault cause.FileExists) ⊎ IsStoreFault result }
 {
     match error.kind() {
-        ErrorKind::AlreadyExists => Fault::of(FILE_EXISTS),
-        ErrorKind::OutOfMemory => Fault::of(MEMORY),
-        _ => Fault::of(STORE_REFUSED),
+        ErrorKind::AlreadyExists => Fault::of(Cause::FileExists),
+        ErrorKind::OutOfMemory => Fault::of(Cause::Memory),
+        _ => Fault::of(Cause::StoreFailed),
     }
 }
 
@@ -151,7 +143,7 @@ fn serve_on<K: Keeper>(
     count: u32,
 ) -> Result<Outcome, Fault> {
     let Ok(router) = desk_router(rt.alloc()) else {
-        return Err(Fault::of(MEMORY));
+        return Err(Fault::of(Cause::Memory));
     };
     let mut port = Port::open(rt, port, count)?;
     let failed = serve(rt, rt.alloc(), &router, keeper, zone, &mut port)?;
@@ -228,7 +220,7 @@ pub(crate) fn serve_file(
 
 /// The bytes of a file that must exist.
 fn read_file(rt: &HostRuntime, path: &str) -> Result<Vec<u8>, Fault>
-    ensures fault { IfErr result (λ error. (error ≡ fault memory_refused) ⊎ (error ≡ fault no_such_file)) }
+    ensures fault { IfErr result (λ error. (error ≡ fault cause.Memory) ⊎ (error ≡ fault cause.NoSuchFile)) }
 {
     match fs::read(rt, path) {
         Ok(bytes) => Ok(bytes),

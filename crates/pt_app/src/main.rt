@@ -2,9 +2,8 @@
 #![tactic(auto)]
 
 use crate::database::{ask_file, init, migrate_file, serve_file};
-use pt_base::Fault;
-use pt_base::fault::MEMORY;
-use pt_command_line::{Line, WRONG_WORDS, line, matches_in};
+use pt_base::{Cause, Fault};
+use pt_command_line::{Line, line, matches_in};
 use pt_commands::{Outcome, exit_status, outcome_of, outcome_of_refusal, rehearse_with_key};
 use std::io::ErrorKind;
 use std::process::ExitCode;
@@ -64,7 +63,7 @@ fn do_asked(rt: &HostRuntime, asked: &Line<'_>) -> Result<Outcome, Fault> {
 fn do_line(rt: &HostRuntime, words: &[String]) -> Outcome {
     match line(rt.alloc(), words) {
         Ok(asked) => outcome_of(do_asked(rt, &asked)),
-        Err(fault) if fault.code == WRONG_WORDS => refuse(rt, words),
+        Err(fault) if fault.cause == Cause::WrongWords => refuse(rt, words),
         Err(fault) => Outcome::Failed(fault),
     }
 }
@@ -72,7 +71,9 @@ fn do_line(rt: &HostRuntime, words: &[String]) -> Outcome {
 fn run(rt: &HostRuntime) -> Outcome {
     match given_words(rt) {
         Ok(words) => do_line(rt, words.as_slice()),
-        Err(error) if error.kind() == ErrorKind::OutOfMemory => Outcome::Failed(Fault::of(MEMORY)),
+        Err(error) if error.kind() == ErrorKind::OutOfMemory => Outcome::Failed(Fault::of(
+            Cause::Memory,
+        )),
         Err(_) => {
             let _shown = eprintln!(rt; "error: a word is not UTF-8");
             Outcome::WrongWords
@@ -82,8 +83,8 @@ fn run(rt: &HostRuntime) -> Outcome {
 
 fn main(rt: HostRuntime) -> ExitCode {
     let outcome = run(&rt);
-    if let Outcome::Failed(Fault { code, row }) = outcome {
-        let _shown = eprintln!(rt; "fault {code} row {row}");
+    if let Outcome::Failed(fault) = outcome {
+        let _shown = eprintln!(rt; "{fault}");
     }
     ExitCode::from(exit_status(outcome))
 }

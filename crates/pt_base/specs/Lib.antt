@@ -1,4 +1,3 @@
-pub mod Codes
 pub mod DateText
 pub mod Day
 pub mod Fault

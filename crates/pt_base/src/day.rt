@@ -5,13 +5,12 @@ ghost use Rattle.jiff_core.specs.Date.{epoch_day};
 ghost use Rattle.pt_base.specs.DateText.{IsDateText, IsInMonth};
 ghost use Rattle.pt_base.specs.Day.{IsDay, IsOutside, weekday_of, IsBookable};
 ghost use Rattle.pt_base.specs.Fault.{fault};
-ghost use Rattle.pt_base.specs.Codes.{no_such_date, date_out_of_range};
+ghost use Rattle.pt_base.specs.declared.fault.Cause.TheVariants as cause;
 ghost use Rattle.pt_base.specs.Weekday.{number_of};
 ghost use Rattle.pt_base.specs.Ranges.{last_day};
 ghost use Rattle.pt_base.specs.SpelledDay.{SpellsDay, day_from};
 
-use crate::fault::{DATE_OUT_OF_RANGE, NO_SUCH_DATE};
-use crate::{Fault, Weekday, date_text};
+use crate::{Cause, Fault, Weekday, date_text};
 use jiff_core::civil::Date;
 use std::alloc::AllocError;
 use std::marker::Model;
@@ -73,17 +72,17 @@ impl Day {
     pub fn parse(text: &str) -> Result<Self, Fault>
         ensures date { IfOk result (λ day. IsDateText (pos day) text.now) }
         ensures read { (day : ℕ) → IsDay day → IsDateText (pos day) text.now → result ≡ Ok day }
-        ensures no_such_date { (result ≡ Err (fault no_such_date))
+        ensures no_such_date { (result ≡ Err (fault cause.NoSuchDate))
             ↔ ((number : ℤ) → ¬ (IsDateText number text.now)) }
-        ensures out_of_range { (result ≡ Err (fault date_out_of_range))
+        ensures out_of_range { (result ≡ Err (fault cause.DateOutOfRange))
             ↔ ((number : ℤ) × IsDateText number text.now × IsOutside number) }
     {
         let Some(date) = date_text::read(text) else {
-            return Err(Fault::of(NO_SUCH_DATE));
+            return Err(Fault::of(Cause::NoSuchDate));
         };
         let number = date.to_unix_epoch_day();
         if number < FIRST_DAY as i32 || number > LAST_DAY as i32 {
-            return Err(Fault::of(DATE_OUT_OF_RANGE));
+            return Err(Fault::of(Cause::DateOutOfRange));
         }
         Ok(Day {
             days: number as u32,

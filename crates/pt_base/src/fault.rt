@@ -1,83 +1,167 @@
-ghost use Rattle.std.specs.Prelude.{◌≡◌, ℕ};
-ghost use Rattle.pt_base.specs.Codes.{memory_refused};
+ghost use Rattle.std.specs.Prelude.{◌≡◌};
+ghost use Rattle.pt_base.specs.Fault.{code_of};
 
 use std::alloc::AllocError;
+use std::error::Error;
+use std::fmt;
 
-/// Out of memory.
-pub const MEMORY: u16 = 0;
+/// What went wrong outside the rules.
+#[derive(Clone, Copy, Debug, PartialEq, Eq)]
+pub enum Cause {
+    Memory,
+    /// A text is not a date of the calendar in the form `YYYY-MM-DD`.
+    NoSuchDate,
+    /// A date lies outside 2000 to 2099.
+    DateOutOfRange,
+    /// A text is not a POSIX time zone rule.
+    NoSuchZone,
+    /// A file does not exist, or cannot be read.
+    NoSuchFile,
+    /// A port cannot be had.
+    PortRefused,
+    /// A file that is to be made exists already.
+    FileExists,
+    /// The words name no command, or a word is not the number or the day that its place needs.
+    WrongWords,
+    /// A fixed route has fewer than 2 or more than 200 points.
+    RoutePoints,
+    /// A fixed route's width lies outside 3,960 to 7,920 feet.
+    RouteWidth,
+    /// A fixed route has a coordinate outside the plane.
+    RouteCoordinate,
+    /// A fixed route's first minute comes after its last.
+    RouteHours,
+    /// A record of a travel table is not CSV, or does not have three fields.
+    TravelRecord,
+    /// A travel table does not begin with the header `from,to,minutes`.
+    TravelHeader,
+    /// A travel table names a place that does not exist.
+    TravelPlace,
+    /// A travel table's minutes are not 0 to 1439.
+    TravelMinutes,
+    /// A travel table gives a pair of places twice, with different minutes.
+    TravelPair,
+    /// There are more than 100 places to travel between.
+    TravelPlaces,
+    /// The tables of a database are not the desk's, or are of another version.
+    OtherTables,
+    /// The rows of a database are not a sound state.
+    UnsoundRows,
+    /// The store refused or failed.
+    StoreFailed,
+    /// A read failed, or too many reads or messages came.
+    ReadFailed,
+    WriteFailed,
+    /// A line that leads a message of a rehearsal is not `@ YYYY-MM-DD M`.
+    MomentLine,
+    /// A line of a log of refusals is not in form.
+    LogLine,
+}
 
-/// A text is not a date of the calendar in the form `YYYY-MM-DD`.
-pub const NO_SUCH_DATE: u16 = 1;
+impl Cause {
+    /// The code that programs print.
+    pub fn code(self) -> u16
+        ensures { result ≡ code_of self }
+    {
+        match self {
+            Cause::Memory => 0,
+            Cause::NoSuchDate => 1,
+            Cause::DateOutOfRange => 2,
+            Cause::NoSuchZone => 3,
+            Cause::NoSuchFile => 5,
+            Cause::PortRefused => 6,
+            Cause::FileExists => 7,
+            Cause::WrongWords => 8,
+            Cause::RoutePoints => 10,
+            Cause::RouteWidth => 11,
+            Cause::RouteCoordinate => 12,
+            Cause::RouteHours => 13,
+            Cause::TravelRecord => 20,
+            Cause::TravelHeader => 21,
+            Cause::TravelPlace => 22,
+            Cause::TravelMinutes => 23,
+            Cause::TravelPair => 24,
+            Cause::TravelPlaces => 25,
+            Cause::OtherTables => 30,
+            Cause::UnsoundRows => 31,
+            Cause::StoreFailed => 32,
+            Cause::ReadFailed => 46,
+            Cause::WriteFailed => 47,
+            Cause::MomentLine => 48,
+            Cause::LogLine => 50,
+        }
+    }
 
-/// A date lies outside 2000 to 2099.
-pub const DATE_OUT_OF_RANGE: u16 = 2;
+    /// The cause in words, as the help of the program lists them.
+    fn words(self) -> &'static str {
+        match self {
+            Cause::Memory => "out of memory",
+            Cause::NoSuchDate => "no such date",
+            Cause::DateOutOfRange => "a date outside 2000 to 2099",
+            Cause::NoSuchZone => "no such time zone rule",
+            Cause::NoSuchFile => "a file that does not exist or cannot be read",
+            Cause::PortRefused => "a port that cannot be had",
+            Cause::FileExists => "a file to be made that exists already",
+            Cause::WrongWords => "words that are no command's",
+            Cause::RoutePoints => "the points of a fixed route",
+            Cause::RouteWidth => "the width of a fixed route",
+            Cause::RouteCoordinate => "a coordinate of a fixed route",
+            Cause::RouteHours => "the hours of a fixed route",
+            Cause::TravelRecord => "a record of driving times",
+            Cause::TravelHeader => "the header of driving times",
+            Cause::TravelPlace => "a place of driving times",
+            Cause::TravelMinutes => "the minutes of driving times",
+            Cause::TravelPair => "a pair of places with two driving times",
+            Cause::TravelPlaces => "too many places to drive between",
+            Cause::OtherTables => "a database of other tables, or of another version",
+            Cause::UnsoundRows => "a database with rows of no sound state",
+            Cause::StoreFailed => "the database refused or failed",
+            Cause::ReadFailed => "a read failed, or too many came",
+            Cause::WriteFailed => "a write failed",
+            Cause::MomentLine => "a line of a rehearsal without a moment",
+            Cause::LogLine => "a line that is not one of a log of refusals",
+        }
+    }
+}
 
-/// A zone text is not a POSIX time zone rule.
-pub const NO_SUCH_ZONE: u16 = 3;
+impl fmt::Display for Cause {
+    fn fmt<W: fmt::Write>(&self, f: &mut fmt::Formatter<W>) -> fmt::Result {
+        write!(f, "{}", self.words())
+    }
+}
 
-/// A fixed route has fewer than 2 or more than 200 points.
-pub const ROUTE_POINTS: u16 = 10;
-
-/// A fixed route's width lies outside 3,960 to 7,920 feet.
-pub const ROUTE_WIDTH: u16 = 11;
-
-/// A fixed route has a coordinate outside the plane.
-pub const ROUTE_COORDINATE: u16 = 12;
-
-/// A fixed route's first minute comes after its last.
-pub const ROUTE_HOURS: u16 = 13;
-
-/// A record of a travel table is not CSV, or does not have three fields.
-pub const TRAVEL_RECORD: u16 = 20;
-
-/// A travel table does not begin with the header `from,to,minutes`.
-pub const TRAVEL_HEADER: u16 = 21;
-
-/// A travel table names a place that does not exist.
-pub const TRAVEL_PLACE: u16 = 22;
-
-/// A travel table's minutes are not 0 to 1439.
-pub const TRAVEL_MINUTES: u16 = 23;
-
-/// A travel table gives a pair of places twice, with different minutes.
-pub const TRAVEL_PAIR: u16 = 24;
-
-/// There are more than 100 places to travel between.
-pub const TRAVEL_PLACES: u16 = 25;
-
-/// A read failed, or too many reads or messages came.
-pub const READ_FAILED: u16 = 46;
-
-/// A write failed.
-pub const WRITE_FAILED: u16 = 47;
-
-/// A line that leads a message of a rehearsal is not `@ YYYY-MM-DD M`.
-pub const MOMENT_LINE: u16 = 48;
-
-/// A line of a log of refusals is not in form.
-pub const LOG_LINE: u16 = 50;
-
-/// What went wrong outside the rules: its code, and the row of the input where it was found, or 0 for none.
+/// A cause, and the row of the input where it was found, or 0 for none.
 #[derive(Clone, Copy, Debug, PartialEq, Eq)]
 pub struct Fault {
-    pub code: u16,
+    pub cause: Cause,
     pub row: u32,
 }
 
 impl Fault {
-    /// The fault with this code, in no row.
-    pub fn of(code: u16) -> Self
-        ensures code { result.code ≡ code }
+    /// The fault with this cause, in no row.
+    pub fn of(cause: Cause) -> Self
+        ensures cause { result.cause ≡ cause }
         ensures row { result.row ≡ 0 }
     {
-        Fault { code, row: 0 }
+        Fault { cause, row: 0 }
     }
 }
 
+impl fmt::Display for Fault {
+    fn fmt<W: fmt::Write>(&self, f: &mut fmt::Formatter<W>) -> fmt::Result {
+        write!(f, "fault {} row {}", self.cause.code(), self.row)
+    }
+}
+
+impl Error for Fault {}
+
 impl From<AllocError> for Fault {
-    ghost from_gives = { λ error fault. fault ≡ record { code = memory_refused; row = 0 } };
+    ghost use Rattle.pt_base.specs.Fault.{fault as fault_of};
+    ghost use Rattle.pt_base.specs.declared.fault.Cause.TheVariants.{Memory};
+
+    ghost from_gives = { λ error fault. fault ≡ fault_of Memory };
 
     fn from(_error: AllocError) -> Self {
-        Fault::of(MEMORY)
+        Fault::of(Cause::Memory)
     }
 }

@@ -2,7 +2,7 @@
 #![tactic(auto)]
 
 pub use day::{Day, FIRST_DAY, LAST_DAY, bookable, day_from};
-pub use fault::Fault;
+pub use fault::{Cause, Fault};
 pub use id::{
     CallerId, CallerKind, Id, PlaceId, PlaceKind, RiderId, RiderKind, RouteId, RouteKind, TripId,
     TripKind, VehicleId, VehicleKind,
@@ -23,7 +23,7 @@ pub use window::Window;
 
 mod date_text;
 mod day;
-pub mod fault;
+mod fault;
 mod id;
 mod load;
 mod minute;

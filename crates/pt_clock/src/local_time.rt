@@ -1,16 +1,14 @@
 ghost use Rattle.std.specs.Prelude.{◌≡◌, ◌⊎◌, ℕ, ◌+◌, ◌*◌, ◌↔◌, ℤ, pos, Ok, Err, IsNone, IfSome, IfOk, IfErr};
 ghost use Rattle.jiff.specs.Words.{epoch_day};
-ghost use Rattle.pt_base.specs.Codes.{date_out_of_range};
+ghost use Rattle.pt_base.specs.declared.fault.Cause.TheVariants as cause;
 ghost use Rattle.pt_base.specs.Day.{IsDay, IsOutside};
 ghost use Rattle.pt_base.specs.Fault.{fault};
-ghost use Rattle.pt_clock.specs.Codes.{no_such_zone};
 ghost use Rattle.pt_clock.specs.LocalTime.{IsZoneRule, IsLocalTime};
 
 use jiff::Timestamp;
 use jiff::civil::{Date, DateTime};
 use jiff::tz::TimeZone;
-use pt_base::fault::{DATE_OUT_OF_RANGE, NO_SUCH_ZONE};
-use pt_base::{Day, Fault, Minute, Moment};
+use pt_base::{Cause, Day, Fault, Minute, Moment};
 
 /// The day of a date; `None` outside 2000 to 2099.
 fn day_of(date: Date) -> Option<Day>
@@ -30,24 +28,24 @@ fn minute_of(clock: DateTime) -> Minute
 }
 
 /// The day and the minute that clocks of a zone show at an instant. The zone is a POSIX time zone rule, such as
-/// `EST5EDT,M3.2.0,M11.1.0`. The fault is `NO_SUCH_ZONE` if the text is not such a rule, and else `DATE_OUT_OF_RANGE`
+/// `EST5EDT,M3.2.0,M11.1.0`. The fault is `Cause::NoSuchZone` if the text is not such a rule, and else `Cause::DateOutOfRange`
 /// if the day is outside 2000 to 2099.
 pub fn now_in(zone: &str, instant: Timestamp) -> Result<Moment, Fault>
     ensures local { IfOk result (λ now. IsLocalTime zone.now instant.nanosecond (pos now.day) now.minute) }
     // The clocks show nothing else.
     ensures only { (day minute : ℕ) → IsDay day → IsLocalTime zone.now instant.nanosecond (pos day) minute
         → result ≡ Ok (record { day = day; minute = minute }) }
-    ensures no_such_zone { (result ≡ Err (fault no_such_zone)) ↔ ¬ (IsZoneRule zone.now) }
-    ensures out_of_range { (result ≡ Err (fault date_out_of_range))
+    ensures no_such_zone { (result ≡ Err (fault cause.NoSuchZone)) ↔ ¬ (IsZoneRule zone.now) }
+    ensures out_of_range { (result ≡ Err (fault cause.DateOutOfRange))
         ↔ ((day : ℤ) × (minute : ℕ) × IsLocalTime zone.now instant.nanosecond day minute × IsOutside day) }
-    ensures fault { IfErr result (λ error. (error ≡ fault no_such_zone) ⊎ (error ≡ fault date_out_of_range)) }
+    ensures fault { IfErr result (λ error. (error ≡ fault cause.NoSuchZone) ⊎ (error ≡ fault cause.DateOutOfRange)) }
 {
     let Ok(zone) = TimeZone::posix(zone) else {
-        return Err(Fault::of(NO_SUCH_ZONE));
+        return Err(Fault::of(Cause::NoSuchZone));
     };
     let clock = zone.to_datetime(instant);
     let Some(day) = day_of(clock.date()) else {
-        return Err(Fault::of(DATE_OUT_OF_RANGE));
+        return Err(Fault::of(Cause::DateOutOfRange));
     };
     Ok(Moment {
         day,
@@ -57,25 +55,25 @@ pub fn now_in(zone: &str, instant: Timestamp) -> Result<Moment, Fault>
 
 /// The day and the minute on the clocks of a zone; `clock` is `None` if the clock could not be read.
 ///
-/// The zone is checked first: if its text is not a time zone rule, the fault is `NO_SUCH_ZONE`. Else an unread clock,
-/// or a day outside 2000 to 2099, is the fault `DATE_OUT_OF_RANGE`.
+/// The zone is checked first: if its text is not a time zone rule, the fault is `Cause::NoSuchZone`. Else an unread clock,
+/// or a day outside 2000 to 2099, is the fault `Cause::DateOutOfRange`.
 pub fn moment_of(zone: &str, clock: Option<Timestamp>) -> Result<Moment, Fault>
     ensures local { IfSome clock (λ instant. IfOk result (λ now.
         IsLocalTime zone.now instant.nanosecond (pos now.day) now.minute)) }
     ensures only { IfSome clock (λ instant. (day minute : ℕ) → IsDay day
         → IsLocalTime zone.now instant.nanosecond (pos day) minute
         → result ≡ Ok (record { day = day; minute = minute })) }
-    ensures no_such_zone { (result ≡ Err (fault no_such_zone)) ↔ ¬ (IsZoneRule zone.now) }
-    ensures out_of_range { IfSome clock (λ instant. (result ≡ Err (fault date_out_of_range))
+    ensures no_such_zone { (result ≡ Err (fault cause.NoSuchZone)) ↔ ¬ (IsZoneRule zone.now) }
+    ensures out_of_range { IfSome clock (λ instant. (result ≡ Err (fault cause.DateOutOfRange))
         ↔ ((day : ℤ) × (minute : ℕ) × IsLocalTime zone.now instant.nanosecond day minute × IsOutside day)) }
-    ensures unread { IsNone clock → IsZoneRule zone.now → result ≡ Err (fault date_out_of_range) }
-    ensures fault { IfErr result (λ error. (error ≡ fault no_such_zone) ⊎ (error ≡ fault date_out_of_range)) }
+    ensures unread { IsNone clock → IsZoneRule zone.now → result ≡ Err (fault cause.DateOutOfRange) }
+    ensures fault { IfErr result (λ error. (error ≡ fault cause.NoSuchZone) ⊎ (error ≡ fault cause.DateOutOfRange)) }
 {
     match clock {
         Some(instant) => now_in(zone, instant),
         None => match TimeZone::posix(zone) {
-            Ok(_) => Err(Fault::of(DATE_OUT_OF_RANGE)),
-            Err(_) => Err(Fault::of(NO_SUCH_ZONE)),
+            Ok(_) => Err(Fault::of(Cause::DateOutOfRange)),
+            Err(_) => Err(Fault::of(Cause::NoSuchZone)),
         },
     }
 }

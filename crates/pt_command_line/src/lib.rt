@@ -2,7 +2,7 @@
 #![tactic(auto)]
 
 pub use asked::{Line, Task};
-pub use words::{WRONG_WORDS, line, matches_in};
+pub use words::{line, matches_in};
 
 mod asked;
 mod words;

@@ -4,22 +4,17 @@ ghost use Rattle.clap.specs.declared.error.kind.ErrorKind.TheVariants.{OutOfMemo
 ghost use Rattle.clap.specs.declared.builder.command.Command.TheViews.{out-Command as fields_of};
 ghost use Rattle.pt_command_line.specs.CommandLine.{audit_words, command, desk_words, place, program_words};
 ghost use Rattle.pt_command_line.specs.CommandLine.{with_commands, with_places};
-ghost use Rattle.pt_command_line.specs.Codes.{wrong_words};
+ghost use Rattle.pt_base.specs.declared.fault.Cause.TheVariants as cause;
 ghost use Rattle.pt_command_line.specs.Line.{IsLine, IsSameLine, SpellsLine};
 ghost use Rattle.pt_command_line.specs.declared.asked.Line.{Line};
-ghost use Rattle.pt_base.specs.Codes.{memory_refused};
 ghost use Rattle.pt_base.specs.Fault.{fault};
 
 use crate::asked;
 use crate::asked::found_line;
 use clap::error::ErrorKind;
 use clap::{Arg, ArgMatches, Command, Error};
-use pt_base::Fault;
-use pt_base::fault::MEMORY;
+use pt_base::{Cause, Fault};
 use std::alloc::{AllocError, Global};
-
-/// The code of a fault in the words: they name no command, or a word is not the number or the day that its place needs.
-pub const WRONG_WORDS: u16 = 8;
 
 const ABOUT: &str = "The office system of a transit agency that gives complementary paratransit \
 (49 CFR Part 37 Subpart F).";
@@ -30,7 +25,33 @@ const VERSION: &str = "0.9.0";
 const EXIT_STATUS: &str = "Exit status: 0 done, 1 denied, `possible` or `no`, 2 wrong words, \
 3 out of memory or the store failed, 4 another fault. With 3 and 4 standard error has the line \
 `fault C row R`.\n\
-A file of version 1 is refused with fault 30: `desk migrate FILE` turns it into one of this version.";
+A file of version 1 is refused with fault 30: `desk migrate FILE` turns it into one of this version.\n\
+The codes of faults:\n\
+0 out of memory\n\
+1 no such date\n\
+2 a date outside 2000 to 2099\n\
+3 no such time zone rule\n\
+5 a file that does not exist or cannot be read\n\
+6 a port that cannot be had\n\
+7 a file to be made that exists already\n\
+8 words that are no command's\n\
+10 the points of a fixed route\n\
+11 the width of a fixed route\n\
+12 a coordinate of a fixed route\n\
+13 the hours of a fixed route\n\
+20 a record of driving times\n\
+21 the header of driving times\n\
+22 a place of driving times\n\
+23 the minutes of driving times\n\
+24 a pair of places with two driving times\n\
+25 too many places to drive between\n\
+30 a database of other tables, or of another version\n\
+31 a database with rows of no sound state\n\
+32 the database refused or failed\n\
+46 a read failed, or too many came\n\
+47 a write failed\n\
+48 a line of a rehearsal without a moment\n\
+50 a line that is not one of a log of refusals";
 
 const REHEARSE: &str = "Answers HTTP requests from standard input, on a desk in memory that \
 begins with one admin. Each request comes after a line `@ YYYY-MM-DD M`: its day, and the \
@@ -253,30 +274,30 @@ pub fn matches_in<'a>(alloc: Global, words: &'a [String]) -> Result<ArgMatches<'
 
 /// The fault for words that are refused for this reason.
 fn refusal_of(reason: ErrorKind) -> Fault
-    ensures memory { reason ≡ OutOfMemory → result ≡ fault memory_refused }
-    ensures wrong { result ≡ fault wrong_words → reason ≢ OutOfMemory }
-    ensures fault { (result ≡ fault memory_refused) ⊎ (result ≡ fault wrong_words) }
+    ensures memory { reason ≡ OutOfMemory → result ≡ fault cause.Memory }
+    ensures wrong { result ≡ fault cause.WrongWords → reason ≢ OutOfMemory }
+    ensures fault { (result ≡ fault cause.Memory) ⊎ (result ≡ fault cause.WrongWords) }
 {
     match reason {
-        ErrorKind::OutOfMemory => Fault::of(MEMORY),
-        _ => Fault::of(WRONG_WORDS),
+        ErrorKind::OutOfMemory => Fault::of(Cause::Memory),
+        _ => Fault::of(Cause::WrongWords),
     }
 }
 
-/// The task that the words name; the program's own name comes first. The fault is `WRONG_WORDS` if they name no
+/// The task that the words name; the program's own name comes first. The fault is `Cause::WrongWords` if they name no
 /// command, or a word is not the number or the day that its place needs. Otherwise it is out of memory.
 pub fn line<'a>(alloc: Global, words: &'a [String]) -> Result<asked::Line<'a>, Fault>
     ensures line { IfOk result (IsLine (map string_bytes words.now)) }
-    ensures wrong { result ≡ Err (fault wrong_words) → (asked : Line) → ¬ (IsLine (map string_bytes words.now) asked) }
+    ensures wrong { result ≡ Err (fault cause.WrongWords) → (asked : Line) → ¬ (IsLine (map string_bytes words.now) asked) }
     // Words that do not begin with a hyphen are read unchanged.
-    ensures plain { (asked : Line) → SpellsLine (map string_bytes words.now) asked → result ≢ Err (fault wrong_words) }
+    ensures plain { (asked : Line) → SpellsLine (map string_bytes words.now) asked → result ≢ Err (fault cause.WrongWords) }
     ensures same { (asked : Line) → SpellsLine (map string_bytes words.now) asked → IfOk result (IsSameLine asked) }
-    ensures fault { IfErr result (λ error. (error ≡ fault memory_refused) ⊎ (error ≡ fault wrong_words)) }
+    ensures fault { IfErr result (λ error. (error ≡ fault cause.Memory) ⊎ (error ≡ fault cause.WrongWords)) }
 {
     match matches_in(alloc, words) {
         Ok(matches) => match found_line(&matches) {
             Some(asked) => Ok(asked),
-            None => Err(Fault::of(WRONG_WORDS)),
+            None => Err(Fault::of(Cause::WrongWords)),
         },
         Err(error) => Err(refusal_of(error.kind())),
     }

@@ -1,7 +1,7 @@
 -- The results of reading the text of a file.
 use Rattle.std.proofs.Common.{◌≡◌, ◌⊎◌, ℕ, List, Result, Ok, Err, ap, subst, sym}
 use Rattle.std.specs.Prelude.{IfErr, IfOk, IsErrAnd}
-use Rattle.pt_base.specs.Codes.{memory_refused}
+use Rattle.pt_base.specs.declared.fault.Cause.TheVariants as cause
 use Rattle.pt_base.specs.Fault.{fault}
 use Rattle.pt_base.specs.declared.fault.Fault.{Fault}
 use Rattle.pt_commands.specs.Tasks.{IsTimesRead, IsTimesReadBy}
@@ -10,7 +10,7 @@ use Rattle.pt_travel.specs.Chain.{Row}
 use Rattle.pt_travel.specs.Text.{IsFirstFault, ReadsAs}
 
 pub times_read : (text places : List ℕ) (rows : Result (List Row) Fault) → IfOk rows (λ rows. ReadsAs text places rows)
-    → IfErr rows (λ error. (error ≡ fault memory_refused) ⊎ IsFirstFault text places error) → IsTimesRead text places rows
+    → IfErr rows (λ error. (error ≡ fault cause.Memory) ⊎ IsFirstFault text places error) → IsTimesRead text places rows
 times_read text places (Ok rows) reads faulty = reads
 times_read text places (Err error) reads faulty = faulty
 

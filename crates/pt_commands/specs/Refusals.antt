@@ -3,7 +3,7 @@ use Rattle.std.specs.Prelude.{◌≡◌, ◌⊎◌, ℕ, List, ◌++◌, Option,
 use Rattle.std.specs.Io.KnownBytes.{Appends}
 use Rattle.pt_audit.specs.RightLog.{IsRightLog}
 use Rattle.pt_audit.specs.declared.line.Line.{Line}
-use Rattle.pt_base.specs.Codes.{memory_refused, write_failed}
+use Rattle.pt_base.specs.declared.fault.Cause.TheVariants as cause
 use Rattle.pt_base.specs.Fault.{fault}
 use Rattle.pt_base.specs.Rule.{name_of}
 use Rattle.pt_base.specs.declared.fault.Fault.{Fault}
@@ -50,7 +50,7 @@ NoneCan found =
 
 -- the faults of a command that do not come from the desk
 abbrev pub IsOwnFault : Fault → Type 0
-IsOwnFault error = (error ≡ fault memory_refused) ⊎ (error ≡ fault write_failed)
+IsOwnFault error = (error ≡ fault cause.Memory) ⊎ (error ≡ fault cause.WriteFailed)
 
 -- the outcome of `explain` by the facts of a refusal: its log, or the word that the wish is possible
 abbrev pub IsExplainedFrom : Refusal → Option (List ℕ) → Option (List ℕ) → Result Outcome Fault → Type 0

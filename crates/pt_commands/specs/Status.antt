@@ -1,32 +1,35 @@
 -- The outcome and the exit status of the program.
-use Rattle.std.specs.Prelude.{ℕ, ◌==◌, ◌||◌, Bool, true, false, if◌then◌else◌}
+use Rattle.std.specs.Prelude.{ℕ, Bool, true, false, if◌then◌else◌}
 use Rattle.clap.specs.declared.error.kind.ErrorKind.{ErrorKind}
 use Rattle.clap.specs.declared.error.kind.ErrorKind.TheVariants.{DisplayHelp, DisplayVersion, OutOfMemory}
 use Rattle.pt_base.specs.Fault.{fault}
-use Rattle.pt_base.specs.Codes.{memory_refused, write_failed}
-use Rattle.pt_tables_opening.specs.Faults.{rows_refused, store_refused, tables_refused}
+use Rattle.pt_base.specs.declared.fault.Cause.{Cause}
+use Rattle.pt_base.specs.declared.fault.Cause.TheVariants as cause
 use Rattle.pt_commands.specs.declared.outcome.Outcome.{Outcome}
 use Rattle.pt_commands.specs.declared.outcome.Outcome.TheVariants.{Done, Denied, WrongWords, Failed}
 
 -- Out of memory, or a fault of the store: its tables are not the desk's, its rows are not a sound state, or it refused
 -- or failed.
-abbrev pub is_of_store : ℕ → Bool
-is_of_store code =
-    code == memory_refused || code == tables_refused || code == rows_refused || code == store_refused
+abbrev pub is_of_store : Cause → Bool
+is_of_store cause.Memory = true
+is_of_store cause.OtherTables = true
+is_of_store cause.UnsoundRows = true
+is_of_store cause.StoreFailed = true
+is_of_store _ = false
 
 -- the exit status: 0 done, 1 denied, 2 wrong words, 3 out of memory or the store failed, 4 any other fault
 abbrev pub status_of : Outcome → ℕ
 status_of Done = 0
 status_of Denied = 1
 status_of WrongWords = 2
-status_of (Failed error) = if is_of_store error.code then 3 else 4
+status_of (Failed error) = if is_of_store error.cause then 3 else 4
 
 -- Refused words are wrong words, with two exceptions. Out of memory is a failure. Help and the version are done if they
 -- were shown, and a failed write if not.
 abbrev pub refusal_outcome : ErrorKind → Bool → Outcome
-refusal_outcome OutOfMemory is_shown = Failed (fault memory_refused)
+refusal_outcome OutOfMemory is_shown = Failed (fault cause.Memory)
 refusal_outcome DisplayHelp true = Done
-refusal_outcome DisplayHelp false = Failed (fault write_failed)
+refusal_outcome DisplayHelp false = Failed (fault cause.WriteFailed)
 refusal_outcome DisplayVersion true = Done
-refusal_outcome DisplayVersion false = Failed (fault write_failed)
+refusal_outcome DisplayVersion false = Failed (fault cause.WriteFailed)
 refusal_outcome _ is_shown = WrongWords

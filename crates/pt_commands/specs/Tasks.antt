@@ -3,7 +3,7 @@ use Rattle.std.specs.Prelude.{◌≡◌, ◌⊎◌, ℕ, List, map, Option, Resu
 use Rattle.std.specs.Io.KnownBytes.{Appends}
 use Rattle.pt_audit.specs.Text.{FailsAt, IsLogText}
 use Rattle.pt_audit.specs.declared.line.Line.{Line}
-use Rattle.pt_base.specs.Codes.{log_line_refused, memory_refused}
+use Rattle.pt_base.specs.declared.fault.Cause.TheVariants as cause
 use Rattle.pt_base.specs.Fault.{fault}
 use Rattle.pt_base.specs.declared.fault.Fault.{Fault}
 use Rattle.pt_base.specs.declared.moment.Moment.{Moment}
@@ -39,7 +39,7 @@ Prints key now number asked before after old new result =
 -- what reading this text as driving times of these places comes to
 abbrev pub IsTimesRead : List ℕ → List ℕ → Result (List Row) Fault → Type 0
 IsTimesRead text places (Ok rows) = ReadsAs text places rows
-IsTimesRead text places (Err error) = (error ≡ fault memory_refused) ⊎ IsFirstFault text places error
+IsTimesRead text places (Err error) = (error ≡ fault cause.Memory) ⊎ IsFirstFault text places error
 
 -- the same, where the desk was asked for its places
 abbrev pub IsTimesReadBy : List ℕ → Result (List ℕ) StoreFault → Result (List Row) Fault → Type 0
@@ -82,7 +82,7 @@ Inquires Ends key now rider wish before after old new result =
 abbrev pub IsLogRead : List ℕ → Result (List Line) Fault → Type 0
 IsLogRead text (Ok lines) = IsLogText text lines
 IsLogRead text (Err error) =
-    (error ≡ fault memory_refused) ⊎ ((error.code ≡ log_line_refused) × FailsAt text error.row)
+    (error ≡ fault cause.Memory) ⊎ ((error.cause ≡ cause.LogLine) × FailsAt text error.row)
 
 -- a log that was read is judged; a text that was not read ends the command
 abbrev pub AuditsRead : {K : Type 0} → (K → Store) → List ℕ → Moment → ℕ → Wish → Result (List Line) Fault → K → K

@@ -1,6 +1,6 @@
 -- The desk's reply to a command, the text that the command prints, and its outcome.
 use Rattle.std.specs.Prelude.{◌≡◌, ◌⊎◌, ℕ, List, [], ◌++◌, Result, Ok, Err, codes}
-use Rattle.pt_base.specs.Codes.{memory_refused, write_failed}
+use Rattle.pt_base.specs.declared.fault.Cause.TheVariants as cause
 use Rattle.pt_base.specs.Fault.{fault}
 use Rattle.pt_base.specs.Rule.{name_of}
 use Rattle.pt_base.specs.declared.fault.Fault.{Fault}
@@ -10,7 +10,6 @@ use Rattle.pt_manifest.specs.Export.{trips_text}
 use Rattle.pt_manifest.specs.Manifests.{manifest_text}
 use Rattle.pt_requests.specs.declared.request.Answer.{Answer}
 use Rattle.pt_requests.specs.declared.request.Answer.TheVariants as answer
-use Rattle.pt_tables_opening.specs.Faults.{store_refused}
 use Rattle.pt_commands.specs.declared.outcome.Outcome.{Outcome}
 use Rattle.pt_commands.specs.declared.outcome.Outcome.TheVariants.{Done, Denied}
 
@@ -30,11 +29,11 @@ ending_of _ = Done
 
 -- the program's fault for a fault of the desk's store
 abbrev pub fault_of : StoreFault → Fault
-fault_of Memory = fault memory_refused
-fault_of Store = fault store_refused
+fault_of Memory = fault cause.Memory
+fault_of Store = fault cause.StoreFailed
 
 -- the outcome of a command with this reply
 abbrev pub EndsBy : Result Answer StoreFault → Result Outcome Fault → Type 0
 EndsBy (Ok told) (Ok outcome) = outcome ≡ ending_of told
-EndsBy (Ok told) (Err error) = (error ≡ fault memory_refused) ⊎ (error ≡ fault write_failed)
+EndsBy (Ok told) (Err error) = (error ≡ fault cause.Memory) ⊎ (error ≡ fault cause.WriteFailed)
 EndsBy (Err failed) result = result ≡ Err (fault_of failed)

@@ -3,13 +3,12 @@ ghost use Rattle.std.specs.Io.KnownBytes.{Appends};
 ghost use Rattle.pt_commands.specs.declared.outcome.Outcome.TheVariants.{Done};
 ghost use Rattle.pt_commands.specs.Tasks.{Prints};
 ghost use Rattle.pt_commands.specs.Told.{EndsBy, ending_of, fault_of, told_text};
-ghost use Rattle.pt_base.specs.Codes.{memory_refused, write_failed};
+ghost use Rattle.pt_base.specs.declared.fault.Cause.TheVariants as cause;
 ghost use Rattle.pt_base.specs.Fault.{fault};
 ghost use Rattle.pt_requests.specs.declared.request.Answer.{Answer};
 
-use crate::outcome::{Outcome, STORE_REFUSED};
-use pt_base::fault::{MEMORY, WRITE_FAILED};
-use pt_base::{Fault, Moment};
+use crate::outcome::Outcome;
+use pt_base::{Cause, Fault, Moment};
 use pt_desk::answer;
 use pt_manifest::{manifest, trips_csv};
 use pt_requests::{Answer, Request};
@@ -22,8 +21,8 @@ pub fn fault_of(failed: StoreFault) -> Fault
     ensures { result ≡ fault_of failed }
 {
     match failed {
-        StoreFault::Memory => Fault::of(MEMORY),
-        StoreFault::Store => Fault::of(STORE_REFUSED),
+        StoreFault::Memory => Fault::of(Cause::Memory),
+        StoreFault::Store => Fault::of(Cause::StoreFailed),
     }
 }
 
@@ -62,10 +61,10 @@ fn ending_of(told: &Answer) -> Outcome
 /// Writes and flushes a text. The error is a failed write.
 pub(crate) fn print<W: Write>(text: &[u8], out: &mut W) -> Result<(), Fault>
     ensures written { OnOk result (Appends (W.contents out.old) (W.contents out.new) text.now) }
-    ensures fault { IfErr result (λ error. error ≡ fault write_failed) }
+    ensures fault { IfErr result (λ error. error ≡ fault cause.WriteFailed) }
 {
     if out.write_all(text).is_err() || out.flush().is_err() {
-        return Err(Fault::of(WRITE_FAILED));
+        return Err(Fault::of(Cause::WriteFailed));
     }
     Ok(())
 }
@@ -76,7 +75,7 @@ pub(crate) fn print<W: Write>(text: &[u8], out: &mut W) -> Result<(), Fault>
 pub fn print_done<W: Write>(alloc: Global, out: &mut W) -> Result<Outcome, Fault>
     ensures done { IfOk result (λ outcome. outcome ≡ Done) }
     ensures printed { OnOk result (Appends (W.contents out.old) (W.contents out.new) (codes "done\n")) }
-    ensures fault { IfErr result (λ error. (error ≡ fault memory_refused) ⊎ (error ≡ fault write_failed)) }
+    ensures fault { IfErr result (λ error. (error ≡ fault cause.Memory) ⊎ (error ≡ fault cause.WriteFailed)) }
 {
     let text = line_of(alloc, "done")?;
     print(text.as_slice(), out)?;

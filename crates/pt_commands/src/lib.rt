@@ -2,7 +2,7 @@
 #![tactic(auto)]
 
 pub use asking::{ask, fault_of, print_done};
-pub use outcome::{Outcome, STORE_REFUSED, exit_status, outcome_of, outcome_of_refusal};
+pub use outcome::{Outcome, exit_status, outcome_of, outcome_of_refusal};
 pub use refusals::{audit_refusal, explain_refusal};
 pub use rehearsal::rehearse_with_key;
 pub use tasks::do_task;

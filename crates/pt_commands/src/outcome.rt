@@ -3,17 +3,7 @@ ghost use Rattle.pt_commands.specs.Status.{is_of_store, refusal_outcome, status_
 ghost use Rattle.pt_commands.specs.declared.outcome.Outcome.TheVariants.{Failed};
 
 use clap::error::ErrorKind;
-use pt_base::Fault;
-use pt_base::fault::{MEMORY, WRITE_FAILED};
-
-/// The tables of the database are not the desk's, or are of another version.
-const TABLES_REFUSED: u16 = 30;
-
-/// The rows of the database are not a sound state.
-const ROWS_REFUSED: u16 = 31;
-
-/// The store refused or failed.
-pub const STORE_REFUSED: u16 = 32;
+use pt_base::{Cause, Fault};
 
 /// How the program ends.
 #[derive(Clone, Copy)]
@@ -43,20 +33,23 @@ pub fn outcome_of_refusal(reason: ErrorKind, is_shown: bool) -> Outcome
     ensures { result ≡ refusal_outcome reason is_shown }
 {
     match reason {
-        ErrorKind::OutOfMemory => Outcome::Failed(Fault::of(MEMORY)),
+        ErrorKind::OutOfMemory => Outcome::Failed(Fault::of(Cause::Memory)),
         ErrorKind::DisplayHelp | ErrorKind::DisplayVersion if is_shown => Outcome::Done,
         ErrorKind::DisplayHelp | ErrorKind::DisplayVersion => {
-            Outcome::Failed(Fault::of(WRITE_FAILED))
+            Outcome::Failed(Fault::of(Cause::WriteFailed))
         }
         _ => Outcome::WrongWords,
     }
 }
 
-/// Whether this code is out of memory or a fault of the store.
-fn is_of_store(code: u16) -> bool
-    ensures { result ≡ is_of_store code }
+/// Whether this cause is out of memory or a fault of the store.
+fn is_of_store(cause: Cause) -> bool
+    ensures { result ≡ is_of_store cause }
 {
-    matches!(code, MEMORY | TABLES_REFUSED | ROWS_REFUSED | STORE_REFUSED)
+    matches!(
+        cause,
+        Cause::Memory | Cause::OtherTables | Cause::UnsoundRows | Cause::StoreFailed
+    )
 }
 
 /// The exit status of an outcome.
@@ -67,7 +60,7 @@ pub fn exit_status(outcome: Outcome) -> u8
         Outcome::Done => 0,
         Outcome::Denied => 1,
         Outcome::WrongWords => 2,
-        Outcome::Failed(fault) if is_of_store(fault.code) => 3,
+        Outcome::Failed(fault) if is_of_store(fault.cause) => 3,
         Outcome::Failed(_) => 4,
     }
 }

@@ -14,8 +14,7 @@ ghost use Rattle.pt_requests.specs.declared.request.Request.TheVariants.{Explain
 use crate::asking::{line_of, print};
 use crate::{Outcome, fault_of};
 use pt_audit::{Log, check};
-use pt_base::fault::MEMORY;
-use pt_base::{Fault, Moment, RiderId, Rule, Wish};
+use pt_base::{Cause, Fault, Moment, RiderId, Rule, Wish};
 use pt_desk::facts;
 use pt_desk_reads::{Inquiry, RefusalFacts};
 use pt_insertion::best;
@@ -54,7 +53,7 @@ fn print_refusal<W: Write>(
             Ok(Outcome::Done)
         }
         // Writing to a vector fails only if memory runs out.
-        Err(_) => Err(Fault::of(MEMORY)),
+        Err(_) => Err(Fault::of(Cause::Memory)),
     }
 }
 

@@ -2,7 +2,7 @@ ghost use Rattle.std.specs.Prelude.{◌≡◌, ◌≢◌, ◌≤◌, ℕ, List, 
 ghost use Rattle.std.specs.Io.KnownBytes.{Appends};
 ghost use Rattle.pt_commands.specs.Rehearsal.{RehearsesFromLeast};
 ghost use Rattle.pt_base.specs.Fault.{fault};
-ghost use Rattle.pt_base.specs.Codes.{memory_refused, moment_line_refused, write_failed};
+ghost use Rattle.pt_base.specs.declared.fault.Cause.TheVariants as cause;
 ghost use Rattle.pt_rehearsal.specs.Rehearsal.{most_messages, Exchanged, HasBadLine, IsFinished, IsRehearsalFault};
 
 use pt_base::Fault;
@@ -28,11 +28,11 @@ pub fn rehearse_with_key<R: Read + Drop, W: Write>(
         × (length messages ≤ most_messages)) }
     // On an error the desk was in the state after the last answered message, whose reply may not be wholly written.
     ensures stopped { (bytes : List ℕ) → R.remaining input ≡ Some bytes
-        → IfErr result (λ error. error ≢ fault memory_refused
+        → IfErr result (λ error. error ≢ fault cause.Memory
         → (messages : List Exchanged) × (written : List ℕ) × (rest : List ℕ)
         × RehearsesFromLeast key.now messages bytes written rest
-        × (error ≢ fault write_failed → Appends (W.contents out.old) (W.contents out.new) written)
-        × (error ≡ fault moment_line_refused → HasBadLine rest)
+        × (error ≢ fault cause.WriteFailed → Appends (W.contents out.old) (W.contents out.new) written)
+        × (error ≡ fault cause.MomentLine → HasBadLine rest)
         × (length messages ≤ most_messages)) }
     ensures fault { IfErr result IsRehearsalFault }
 {

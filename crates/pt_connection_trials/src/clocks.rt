@@ -1,7 +1,6 @@
 //! What the clocks of zones show.
 use jiff::Timestamp;
-use pt_base::fault::{DATE_OUT_OF_RANGE, NO_SUCH_ZONE};
-use pt_base::{Day, Fault, Minute, Moment};
+use pt_base::{Cause, Day, Fault, Minute, Moment};
 use pt_clock::{moment_of, now_in};
 use std::test::Fail;
 
@@ -42,23 +41,31 @@ fn days_and_minutes_of_zones(rt: HostRuntime) -> Result<(), Fail> {
 
 #[test]
 fn zones_and_instants_that_are_refused(rt: HostRuntime) -> Result<(), Fail> {
-    for (zone, instant, code) in [
-        (EASTERN, "2000-01-01T04:59:59.999999999Z", DATE_OUT_OF_RANGE),
-        (EASTERN, "2100-01-01T05:00:00Z", DATE_OUT_OF_RANGE),
-        (EASTERN, "1969-12-31T12:00:00Z", DATE_OUT_OF_RANGE),
-        ("x", "2025-03-09T16:00:00Z", NO_SUCH_ZONE),
-        ("x", "2100-01-01T05:00:00Z", NO_SUCH_ZONE),
-        ("", "2025-03-09T16:00:00Z", NO_SUCH_ZONE),
-        ("EST5EDT", "2025-03-09T16:00:00Z", NO_SUCH_ZONE),
+    for (zone, instant, cause) in [
+        (
+            EASTERN,
+            "2000-01-01T04:59:59.999999999Z",
+            Cause::DateOutOfRange,
+        ),
+        (EASTERN, "2100-01-01T05:00:00Z", Cause::DateOutOfRange),
+        (EASTERN, "1969-12-31T12:00:00Z", Cause::DateOutOfRange),
+        ("x", "2025-03-09T16:00:00Z", Cause::NoSuchZone),
+        ("x", "2100-01-01T05:00:00Z", Cause::NoSuchZone),
+        ("", "2025-03-09T16:00:00Z", Cause::NoSuchZone),
+        ("EST5EDT", "2025-03-09T16:00:00Z", Cause::NoSuchZone),
         (
             "EST5EDT,M3.2.0,M11.1.0 ",
             "2025-03-09T16:00:00Z",
-            NO_SUCH_ZONE,
+            Cause::NoSuchZone,
         ),
-        ("America/New_York", "2025-03-09T16:00:00Z", NO_SUCH_ZONE),
+        (
+            "America/New_York",
+            "2025-03-09T16:00:00Z",
+            Cause::NoSuchZone,
+        ),
     ] {
         let now = now_in(zone, instant.parse::<Timestamp>()?);
-        assert!(rt; now == Err(Fault::of(code)), "{instant} in {zone}");
+        assert!(rt; now == Err(Fault::of(cause)), "{instant} in {zone}");
     }
     Ok(())
 }
@@ -72,9 +79,9 @@ fn clocks_that_are_read_and_one_that_cannot_be(rt: HostRuntime) -> Result<(), Fa
     };
     for (zone, clock, moment) in [
         (EASTERN, Some(noon), Ok(twelve)),
-        (EASTERN, None, Err(Fault::of(DATE_OUT_OF_RANGE))),
-        ("x", Some(noon), Err(Fault::of(NO_SUCH_ZONE))),
-        ("x", None, Err(Fault::of(NO_SUCH_ZONE))),
+        (EASTERN, None, Err(Fault::of(Cause::DateOutOfRange))),
+        ("x", Some(noon), Err(Fault::of(Cause::NoSuchZone))),
+        ("x", None, Err(Fault::of(Cause::NoSuchZone))),
     ] {
         assert!(rt; moment_of(zone, clock) == moment, "{zone}");
     }

@@ -1,7 +1,6 @@
 //! Connections with time limits.
 use crate::requests::{DONE, PUT_CLERK, eight_in_the_morning, has_clerk};
-use pt_base::Fault;
-use pt_base::fault::{READ_FAILED, WRITE_FAILED};
+use pt_base::{Cause, Fault};
 use pt_http_request::desk_router;
 use pt_serve::{MOST_DROPPED, Waits, answer_in_time, drop_rest, serve_one};
 use pt_store::ListKeeper;
@@ -145,7 +144,7 @@ const CASES: [Case; 3] = [
             Call::Read,
         ],
         told: Err(Fault {
-            code: READ_FAILED,
+            cause: Cause::ReadFailed,
             row: 0,
         }),
         is_put: false,
@@ -165,7 +164,7 @@ const CASES: [Case; 3] = [
             Call::Write,
         ],
         told: Err(Fault {
-            code: WRITE_FAILED,
+            cause: Cause::WriteFailed,
             row: 0,
         }),
         is_put: true,

@@ -1,7 +1,6 @@
 //! Readers and writers that fail at each byte.
 use crate::requests::{DONE, PUT_CLERK, eight_in_the_morning, has_clerk};
-use pt_base::Fault;
-use pt_base::fault::{READ_FAILED, WRITE_FAILED};
+use pt_base::{Cause, Fault};
 use pt_http::answer_bytes;
 use pt_http_inbox::Inbox;
 use pt_store::ListKeeper;
@@ -97,7 +96,7 @@ fn compare_reader(rt: &impl Abort, alloc: Global, request: &[u8]) {
     let expected = if came {
         Ok(())
     } else {
-        Err(Fault::of(READ_FAILED))
+        Err(Fault::of(Cause::ReadFailed))
     };
     assert_eq!(rt;
         (told, is_put, out.is_empty()),
@@ -128,7 +127,7 @@ fn compare_writer(rt: &impl Abort, alloc: Global, reply: &[u8], written: usize) 
     let expected = if written == reply.len() {
         Ok(())
     } else {
-        Err(Fault::of(WRITE_FAILED))
+        Err(Fault::of(Cause::WriteFailed))
     };
     let is_put = has_clerk(rt, &mut keeper);
     assert_eq!(rt; (answered, is_put), (expected, true), "writer {written}");

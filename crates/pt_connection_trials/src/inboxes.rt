@@ -1,6 +1,5 @@
 //! Readers that give a byte a read, are interrupted, and fail.
-use pt_base::Fault;
-use pt_base::fault::READ_FAILED;
+use pt_base::{Cause, Fault};
 use pt_http_inbox::{Inbox, MOST_READS};
 use std::alloc::{AllocError, Global};
 use std::collections::VecDeque;
@@ -64,7 +63,7 @@ fn a_byte_a_read(rt: HostRuntime) -> Result<(), Fail> {
     assert_eq!(rt; inbox.read_up_to(47)?, true);
     assert_eq!(rt; inbox.held(), &REQUEST.as_bytes()[..47]);
     // The reader fails after its last byte.
-    assert_eq!(rt; inbox.read_up_to(51), Err(Fault::of(READ_FAILED)));
+    assert_eq!(rt; inbox.read_up_to(51), Err(Fault::of(Cause::ReadFailed)));
     assert_eq!(rt; inbox.held(), REQUEST.as_bytes());
     Ok(())
 }
@@ -73,8 +72,8 @@ fn a_byte_a_read(rt: HostRuntime) -> Result<(), Fail> {
 fn a_reader_that_is_interrupted_without_end(rt: HostRuntime) -> Result<(), Fail> {
     let reader = OneByOne::of(rt.alloc(), b"GET", MOST_READS, false)?;
     let mut inbox = Inbox::new(rt.alloc(), reader)?;
-    assert_eq!(rt; inbox.read_head().err(), Some(Fault::of(READ_FAILED)));
-    assert_eq!(rt; inbox.read_up_to(1), Err(Fault::of(READ_FAILED)));
+    assert_eq!(rt; inbox.read_head().err(), Some(Fault::of(Cause::ReadFailed)));
+    assert_eq!(rt; inbox.read_up_to(1), Err(Fault::of(Cause::ReadFailed)));
     Ok(())
 }
 
@@ -83,9 +82,9 @@ fn as_many_reads_as_there_may_be(rt: HostRuntime) -> Result<(), Fail> {
     let reader = OneByOne::of(rt.alloc(), b"GET", MOST_READS - 1, false)?;
     let mut inbox = Inbox::new(rt.alloc(), reader)?;
     assert_eq!(rt; inbox.read_up_to(1)?, true);
-    assert_eq!(rt; inbox.read_up_to(2), Err(Fault::of(READ_FAILED)));
+    assert_eq!(rt; inbox.read_up_to(2), Err(Fault::of(Cause::ReadFailed)));
     inbox.consume(0);
-    assert_eq!(rt; inbox.read_up_to(2), Err(Fault::of(READ_FAILED)));
+    assert_eq!(rt; inbox.read_up_to(2), Err(Fault::of(Cause::ReadFailed)));
     inbox.finish_request(0);
     assert_eq!(rt; inbox.read_up_to(2)?, true);
     Ok(())

@@ -1,8 +1,7 @@
 //! Memory that is refused while a request is answered.
 use crate::requests::{COMPLETE, PUT_CLERK, PUT_RIDER, STANDING, eight_in_the_morning};
 use arrayvec::ArrayVec;
-use pt_base::fault::MEMORY;
-use pt_base::{CallerId, Fault, Moment, TripId};
+use pt_base::{CallerId, Cause, Fault, Moment, TripId};
 use pt_desk_rules::Arrival;
 use pt_http::answer_bytes;
 use pt_http_inbox::Inbox;
@@ -91,7 +90,7 @@ fn first_try(
     if told == Ok(()) && !out.ends_with(b"{\"denied\":\"desk.memory\"}") {
         return FirstTry::Answered;
     }
-    let named = told.is_ok() || (told == Err(Fault::of(MEMORY)) && out.is_empty());
+    let named = told.is_ok() || (told == Err(Fault::of(Cause::Memory)) && out.is_empty());
     let same = named && seen(rt, alloc, keeper) == before;
     assert!(rt; same, "a refusal that changes nothing");
     if told.is_ok() {

@@ -3,7 +3,8 @@ use Rattle.std.specs.Prelude.{◌≡◌, ℕ, ◌≤◌, Bool, List, [], ◌∷�
 use Rattle.std.specs.Int.{IsInRange}
 use Rattle.pt_base.specs.Place.{IsOnPlane}
 use Rattle.pt_base.specs.declared.place.Point.{Point}
-use Rattle.pt_base.specs.Codes.{points_refused, width_refused, coordinate_refused, hours_refused}
+use Rattle.pt_base.specs.declared.fault.Cause.{Cause}
+use Rattle.pt_base.specs.declared.fault.Cause.TheVariants as cause
 
 -- A fixed route. `width` is how far its corridor reaches on each side, in feet. `days` says of each weekday, from
 -- Monday on, whether it runs. `first` and `last` are minutes of the day.
@@ -44,13 +45,13 @@ pub record IsFixedRoute (route : Route) : Type 0 where
   pub on_plane : IsRouteOnPlane route
   pub hours : HasHours route
 
--- the code is the first of the list whose condition holds
-abbrev pub IsFirst : List (ℕ × Type 0) → ℕ → Type 0
-IsFirst [] code = ⊥
-IsFirst (f ∷ later) code = ((code ≡ f.0) × f.1) ⊎ (¬ f.1 × IsFirst later code)
+-- the cause is the first of the list whose condition holds
+abbrev pub IsFirst : List (Cause × Type 0) → Cause → Type 0
+IsFirst [] why = ⊥
+IsFirst (f ∷ later) why = ((why ≡ f.0) × f.1) ⊎ (¬ f.1 × IsFirst later why)
 
 -- the faults of a fixed route in the order in which they are tried
-abbrev pub faults : Route → List (ℕ × Type 0)
+abbrev pub faults : Route → List (Cause × Type 0)
 faults route =
-    (points_refused, ¬ HasPoints route) ∷ (width_refused, ¬ HasWidth route)
-    ∷ (coordinate_refused, ¬ IsRouteOnPlane route) ∷ (hours_refused, ¬ HasHours route) ∷ []
+    (cause.RoutePoints, ¬ HasPoints route) ∷ (cause.RouteWidth, ¬ HasWidth route)
+    ∷ (cause.RouteCoordinate, ¬ IsRouteOnPlane route) ∷ (cause.RouteHours, ¬ HasHours route) ∷ []

@@ -3,7 +3,7 @@ ghost use Rattle.pt_base.specs.Place.{IsCoordinate, IsOnPlane};
 ghost use Rattle.pt_base.specs.declared.fault.Fault.{Fault};
 ghost use Rattle.pt_corridor.specs.Route.{route_of, IsFixedRoute, IsFirst, faults, HasPoints, HasWidth, IsRouteOnPlane};
 
-use pt_base::{Fault, Minute, Point, RouteId, Weekdays, fault};
+use pt_base::{Cause, Fault, Minute, Point, RouteId, Weekdays};
 use pt_records::{Key, Keyed};
 use std::alloc::AllocError;
 use std::marker::Model;
@@ -68,19 +68,19 @@ impl FixedRoute {
         // Exactly the first fault of the list that holds, in no row.
         ensures refused { (fault : Fault) → (result ≡ Err fault)
             ↔ ((fault.row ≡ 0)
-            × IsFirst (faults (route_of id width points.items accessible days first last)) fault.code) }
+            × IsFirst (faults (route_of id width points.items accessible days first last)) fault.cause) }
     {
         if points.len() < MIN_POINTS || points.len() > MAX_POINTS {
-            return Err(Fault::of(fault::ROUTE_POINTS));
+            return Err(Fault::of(Cause::RoutePoints));
         }
         if width < MIN_WIDTH || width > MAX_WIDTH {
-            return Err(Fault::of(fault::ROUTE_WIDTH));
+            return Err(Fault::of(Cause::RouteWidth));
         }
         if !are_on_plane(&points) {
-            return Err(Fault::of(fault::ROUTE_COORDINATE));
+            return Err(Fault::of(Cause::RouteCoordinate));
         }
         if first > last {
-            return Err(Fault::of(fault::ROUTE_HOURS));
+            return Err(Fault::of(Cause::RouteHours));
         }
         Ok(FixedRoute {
             id,

@@ -2,8 +2,9 @@
 use Rattle.std.proofs.Common.{◌≡◌, ◌⊎◌, ◌∙◌, ℕ, false, List, Option, Some, None, option_map, Result, Ok, Err, ap, arith, inl, inr, sym, subst}
 use Rattle.std.proofs.lemmas.Result.{IfErr-weaker, on_ok_weaker}
 use Rattle.std.specs.Result.{IsErrAnd}
-use Rattle.pt_base.specs.Codes.{write_failed}
+use Rattle.pt_base.specs.declared.fault.Cause.TheVariants as cause
 use Rattle.pt_base.specs.Fault.{fault}
+use Rattle.pt_base.proofs.FaultLemmas.{other_fault}
 use Rattle.pt_base.specs.declared.fault.Fault.{Fault}
 use Rattle.pt_base.specs.declared.moment.Moment.{Moment}
 use Rattle.pt_desk.proofs.CrashLemmas.{lasts_further, lasts_still}
@@ -85,13 +86,9 @@ goes_further old mid new first next = record {
 }
 
 -- out of memory and a failed read are not a failed write
-pub no_write : (error : Fault) → IsUnanswered error → error ≡ fault write_failed → ⊥
-no_write error (inl memory) write =
-    let same : 0 ≡ 47 = sym (ap (λ (it : Fault). it.code) memory) ∙ ap (λ (it : Fault). it.code) write in
-    omega (arith, same)
-no_write error (inr read) write =
-    let same : 46 ≡ 47 = sym (ap (λ (it : Fault). it.code) read) ∙ ap (λ (it : Fault). it.code) write in
-    omega (arith, same)
+pub no_write : (error : Fault) → IsUnanswered error → error ≡ fault cause.WriteFailed → ⊥
+no_write error (inl memory) write = other_fault error cause.Memory cause.WriteFailed (omega arith) memory write
+no_write error (inr read) write = other_fault error cause.ReadFailed cause.WriteFailed (omega arith) read write
 
 told_error : {T : Type 0} (error other : Fault) → ◌≡◌ {A = Result T Fault} (Err error) (Err other) → error ≡ other
 told_error error other is = cc
@@ -103,14 +100,14 @@ no_error value error is = absurd (cc)
 pub tells_unanswered : {T : Type 0} (old new : Store) (now : Moment) (Same : Type 0) (error : Fault)
     → IsUnanswered error → Same → TellsFailure {T = T} old new now Same (Err error)
 tells_unanswered old new now Same error unanswered same = record {
-  unseen = λ clean is. absurd (no_write error unanswered (told_error error (fault write_failed) is));
+  unseen = λ clean is. absurd (no_write error unanswered (told_error error (fault cause.WriteFailed) is));
   unanswered = λ again. same;
   fault = inl unanswered;
 }
 
 -- the error of a call whose reply was not wholly written
 pub tells_unwritten : {T : Type 0} (old new : Store) (now : Moment) (Same : Type 0) (error : Fault)
-    → error ≡ fault write_failed → (new.doubt ≡ 0 → (reply : Response) × ServesOver old new now reply)
+    → error ≡ fault cause.WriteFailed → (new.doubt ≡ 0 → (reply : Response) × ServesOver old new now reply)
     → TellsFailure {T = T} old new now Same (Err error)
 tells_unwritten old new now Same error write served = record {
   unseen = λ clean is. served clean;
@@ -122,7 +119,7 @@ tells_unwritten old new now Same error write served = record {
 pub tells_nothing : {T : Type 0} (old new : Store) (now : Moment) (Same : Type 0) (value : T)
     → TellsFailure old new now Same (Ok value)
 tells_nothing old new now Same value = record {
-  unseen = λ clean is. absurd (no_error value (fault write_failed) is);
+  unseen = λ clean is. absurd (no_error value (fault cause.WriteFailed) is);
   unanswered = tt;
   fault = tt;
 }
@@ -143,7 +140,7 @@ pub answers_none : {T : Type 0} (Gives : List ℕ → Type 0) (Answers : List �
     → AnswersOne {T = T} Gives Answers store store now out out Same (Err error)
 answers_none Gives Answers store now out Same error unanswered same = record {
   answered = λ clean input gives. tt;
-  unheard = λ clean input gives is. absurd (no_write error unanswered (told_error error (fault write_failed) is));
+  unheard = λ clean input gives is. absurd (no_write error unanswered (told_error error (fault cause.WriteFailed) is));
   served = λ clean. tt;
   crash = λ clean input gives o found. inl found;
   failure = tells_unanswered store store now Same error unanswered same;
@@ -207,7 +204,7 @@ pub exchanges_none : {R : Type 0} (remaining : R → Option (List ℕ)) (inbox_o
 exchanges_none remaining inbox_old inbox_new store now out Same error unanswered same = record {
   answered = λ clean input has. tt;
   written = tt;
-  unheard = λ clean input has is. absurd (no_write error unanswered (told_error error (fault write_failed) is));
+  unheard = λ clean input has is. absurd (no_write error unanswered (told_error error (fault cause.WriteFailed) is));
   served = λ clean. tt;
   crash = λ clean input has o found. inl found;
   failure = tells_unanswered store store now Same error unanswered same;
@@ -228,7 +225,7 @@ crash_over remaining inbox_old inbox_new old new now came received crash clean i
 -- one whose reply was not wholly written
 pub exchanges_unwritten : {R : Type 0} (remaining : R → Option (List ℕ)) (inbox_old inbox_new : Inbox R)
     (old new : Store) (now : Moment) (out_old out_new : Option (List ℕ)) (Same : Type 0) (error : Fault)
-    (reply : Response) → error ≡ fault write_failed
+    (reply : Response) → error ≡ fault cause.WriteFailed
     → (new.doubt ≡ 0 → (input : List ℕ) → HasInput remaining inbox_old input
     → IsExchangedOver remaining old new now input inbox_new reply)
     → ((text : List ℕ) × IsReplyText reply text) → (new.doubt ≡ 0 → ServesOver old new now reply)
@@ -256,7 +253,7 @@ pub exchanges : {R : Type 0} (remaining : R → Option (List ℕ)) (inbox_old in
 exchanges remaining inbox_old inbox_new old new now out_old out_new Same reply exchanged written served crash goes = record {
   answered = exchanged;
   written = written;
-  unheard = λ clean input has is. absurd (no_error reply (fault write_failed) is);
+  unheard = λ clean input has is. absurd (no_error reply (fault cause.WriteFailed) is);
   served = served;
   crash = crash;
   failure = tells_nothing old new now Same reply;
@@ -271,7 +268,7 @@ pub answers_told : {R T : Type 0} (remaining : R → Option (List ℕ)) (inbox_o
     now out_old out_new Same (Ok value)
 answers_told remaining inbox_old inbox_new old new now out_old out_new Same reply value one = record {
   answered = λ clean input has. (reply, one.answered clean input has, one.written);
-  unheard = λ clean input has is. absurd (no_error value (fault write_failed) is);
+  unheard = λ clean input has is. absurd (no_error value (fault cause.WriteFailed) is);
   served = λ clean. (reply, one.served clean, one.written);
   crash = one.crash;
   failure = tells_nothing old new now Same value;
@@ -286,12 +283,12 @@ pub answers_failed : {R T : Type 0} (remaining : R → Option (List ℕ)) (inbox
 answers_failed remaining inbox_old inbox_new old new now out_old out_new Same error one = record {
   answered = λ clean input has. tt;
   unheard = λ clean input has is.
-      let found = one.unheard clean input has (ap Err (told_error error (fault write_failed) is)) in
+      let found = one.unheard clean input has (ap Err (told_error error (fault cause.WriteFailed) is)) in
       (found.0, found.1);
   served = λ clean. tt;
   crash = one.crash;
   failure = record {
-    unseen = λ clean is. one.failure.unseen clean (ap Err (told_error error (fault write_failed) is));
+    unseen = λ clean is. one.failure.unseen clean (ap Err (told_error error (fault cause.WriteFailed) is));
     unanswered = one.failure.unanswered;
     fault = one.failure.fault;
   };
@@ -304,7 +301,7 @@ pub again_told : {R T : Type 0} (remaining : R → Option (List ℕ)) (old new :
 again_told remaining old new value = record { still_there = tt; still_held = tt }
 
 pub again_unwritten : {R T : Type 0} (remaining : R → Option (List ℕ)) (old new : Inbox R) (error : Fault)
-    → error ≡ fault write_failed → CanBeAskedAgain {T = T} remaining old new (Err error)
+    → error ≡ fault cause.WriteFailed → CanBeAskedAgain {T = T} remaining old new (Err error)
 again_unwritten remaining old new error write = record {
   still_there = λ unanswered. absurd (no_write error unanswered write);
   still_held = λ unanswered. absurd (no_write error unanswered write);

@@ -1,6 +1,6 @@
 -- What a call that answers one request ensures about the answer, an error, the store and the inbox.
 use Rattle.std.specs.Prelude.{◌≡◌, ◌⊎◌, ℕ, ◌≤◌, List, Option, Result, Err, IfOk, IfErr, OnOk}
-use Rattle.pt_base.specs.Codes.{write_failed}
+use Rattle.pt_base.specs.declared.fault.Cause.TheVariants as cause
 use Rattle.pt_base.specs.Fault.{fault}
 use Rattle.pt_base.specs.declared.fault.Fault.{Fault}
 use Rattle.pt_base.specs.declared.moment.Moment.{Moment}
@@ -29,12 +29,12 @@ pub record GoesOn (old new : Store) : Type 0 where
 pub record TellsFailure {T : Type 0} (old new : Store) (now : Moment) (Same : Type 0) (result : Result T Fault)
     : Type 0 where
   -- the request was answered, but the reply was not wholly written
-  pub unseen : new.doubt ≡ 0 → result ≡ Err (fault write_failed)
+  pub unseen : new.doubt ≡ 0 → result ≡ Err (fault cause.WriteFailed)
       → (reply : Response) × ServesOver old new now reply
   -- a request that was not answered changed nothing
   pub unanswered : IfErr result (λ error. IsUnanswered error → Same)
   -- there is no other error
-  pub fault : IfErr result (λ error. IsUnanswered error ⊎ (error ≡ fault write_failed))
+  pub fault : IfErr result (λ error. IsUnanswered error ⊎ (error ≡ fault cause.WriteFailed))
 
 -- One request is answered. `Gives input` says that the reader gives these bytes, `Answers input reply` that their first
 -- message gets this reply. `out_old` and `out_new` are what was written before and after.
@@ -45,7 +45,7 @@ pub record AnswersOne {T : Type 0} (Gives : List ℕ → Type 0) (Answers : List
   pub answered : new.doubt ≡ 0 → (input : List ℕ) → Gives input
       → OnOk result ((reply : Response) × Answers input reply × IsWritten reply out_old out_new)
   -- the request was answered, but the reply was not wholly written
-  pub unheard : new.doubt ≡ 0 → (input : List ℕ) → Gives input → result ≡ Err (fault write_failed)
+  pub unheard : new.doubt ≡ 0 → (input : List ℕ) → Gives input → result ≡ Err (fault cause.WriteFailed)
       → (reply : Response) × Answers input reply
   -- this holds whatever the reader gives, also if its bytes are not known
   pub served : new.doubt ≡ 0
@@ -67,7 +67,7 @@ pub record ExchangesOne {R : Type 0} (remaining : R → Option (List ℕ)) (inbo
   pub written : IfOk result (λ reply. IsWritten reply out_old out_new)
   -- the request was answered, but the reply was not wholly written
   pub unheard : new.doubt ≡ 0 → (input : List ℕ) → HasInput remaining inbox_old input
-      → result ≡ Err (fault write_failed) → (reply : Response)
+      → result ≡ Err (fault cause.WriteFailed) → (reply : Response)
       × IsExchangedOver remaining old new now input inbox_new reply × ((text : List ℕ) × IsReplyText reply text)
   -- this holds whatever the reader gives, also if its bytes are not known
   pub served : new.doubt ≡ 0 → IfOk result (ServesOver old new now)

@@ -2,7 +2,7 @@
 use Rattle.std.specs.Prelude.{◌≡◌, ◌⊎◌, ℕ, Bool, true, false, List, Option, Some, None, Result, Ok, Err, option_map}
 use Rattle.pt_base.specs.Fault.{fault}
 use Rattle.pt_base.specs.declared.fault.Fault.{Fault}
-use Rattle.pt_base.specs.Codes.{memory_refused, read_failed}
+use Rattle.pt_base.specs.declared.fault.Cause.TheVariants as cause
 use Rattle.pt_base.specs.declared.rule.Rule.TheVariants.{Key}
 use Rattle.pt_base.specs.declared.moment.Moment.{Moment}
 use Rattle.pt_store.specs.Store.{Store, FindsContent, IsLeft, TellsBy, Fails}
@@ -81,7 +81,7 @@ ServesOver old new now reply = Serves now (desk_of old) (desk_of new) reply × K
 
 -- Out of memory, a failed read or too many reads: nothing was answered.
 abbrev pub IsUnanswered : Fault → Type 0
-IsUnanswered error = (error ≡ fault memory_refused) ⊎ (error ≡ fault read_failed)
+IsUnanswered error = (error ≡ fault cause.Memory) ⊎ (error ≡ fault cause.ReadFailed)
 
 -- after a bad head or a bad length, the start of the next message is not known
 abbrev pub is_last : Response → Bool

@@ -1,6 +1,6 @@
 ghost use Rattle.std.specs.Prelude.{◌≡◌, ◌⊎◌, IfErr, OnOk, Option};
 ghost use Rattle.std.specs.Io.KnownBytes.{Appends};
-ghost use Rattle.pt_base.specs.Codes.{write_failed};
+ghost use Rattle.pt_base.specs.declared.fault.Cause.TheVariants as cause;
 ghost use Rattle.pt_base.specs.Fault.{fault};
 ghost use Rattle.pt_store.specs.Store.{Store};
 ghost use Rattle.pt_http.specs.Answering.{AnswersOne, CanBeAskedAgain, ExchangesOne, GoesOn};
@@ -14,8 +14,7 @@ ghost use Rattle.pt_http_request.specs.Targets.{desk_routes};
 
 use crate::received::{Received, receive};
 use matchit::Router;
-use pt_base::fault::{MEMORY, WRITE_FAILED};
-use pt_base::{Fault, Moment, Rule};
+use pt_base::{Cause, Fault, Moment, Rule};
 use pt_desk::answer;
 use pt_http_inbox::Inbox;
 use pt_http_reply::{ReplyBytes, Response, reply_to};
@@ -51,13 +50,13 @@ fn respond<K: Keeper>(alloc: Global, keeper: &mut K, now: Moment, received: &Rec
 /// Writes and flushes a reply. The error is a failed write.
 fn write_reply<W: Write>(reply: &ReplyBytes, out: &mut W) -> Result<(), Fault>
     ensures written { OnOk result (Appends (W.contents out.old) (W.contents out.new) (bytes_of reply.now)) }
-    ensures fault { IfErr result (λ error. error ≡ fault write_failed) }
+    ensures fault { IfErr result (λ error. error ≡ fault cause.WriteFailed) }
 {
     if out.write_all(reply.front.as_slice()).is_err()
         || out.write_all(reply.rest.as_slice()).is_err()
         || out.flush().is_err()
     {
-        return Err(Fault::of(WRITE_FAILED));
+        return Err(Fault::of(Cause::WriteFailed));
     }
     Ok(())
 }
@@ -101,7 +100,7 @@ pub fn answer_bytes<K: Keeper, R: Read + Drop, W: Write>(
     ensures again { CanBeAskedAgain R.remaining inbox.old inbox.new result }
 {
     let Ok(router) = desk_router(alloc) else {
-        return Err(Fault::of(MEMORY));
+        return Err(Fault::of(Cause::Memory));
     };
     exchange(alloc, &router, keeper, now, inbox, out)?;
     Ok(())

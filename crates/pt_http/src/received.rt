@@ -3,15 +3,14 @@ ghost use Rattle.pt_http.specs.Exchange.{IsUnanswered};
 ghost use Rattle.pt_http.specs.Input.{HasInput};
 ghost use Rattle.httparse.specs.Grammar.{RequestHead};
 ghost use Rattle.pt_base.specs.Fault.{fault};
-ghost use Rattle.pt_base.specs.Codes.{memory_refused};
+ghost use Rattle.pt_base.specs.declared.fault.Cause.TheVariants as cause;
 ghost use Rattle.pt_http.specs.Parts.{AreParts};
 ghost use Rattle.pt_http.specs.Received.{IsSpelledBy, BeginsWith, is_end};
 ghost use Rattle.pt_http_inbox.specs.Inbox.{reads_of, ReadsOn};
 ghost use Rattle.pt_http_request.specs.Targets.{desk_routes};
 
 use matchit::Router;
-use pt_base::Fault;
-use pt_base::fault::MEMORY;
+use pt_base::{Cause, Fault};
 use pt_http_inbox::{Head, Inbox};
 use pt_http_request::{Message, MessageFault, Path, RequestFault, body_length, message_from};
 use std::alloc::Global;
@@ -38,13 +37,13 @@ fn received_from(
     requires parts { (whole : RequestHead) × AreParts bytes.now head.now whole }
     ensures spelled { (whole : RequestHead) → AreParts bytes.now head.now whole
         → IfOk result (IsSpelledBy whole body.now) }
-    ensures memory { IfErr result (λ error. error ≡ fault memory_refused) }
+    ensures memory { IfErr result (λ error. error ≡ fault cause.Memory) }
 {
     let (method, target) = (head.method.of(bytes), head.target.of(bytes));
     match message_from(alloc, router, method, target, &head.lines, bytes, body) {
         Ok(message) => Ok(Received::Message(message)),
         Err(MessageFault::Refused(fault)) => Ok(Received::Refused(fault)),
-        Err(MessageFault::Memory) => Err(Fault::of(MEMORY)),
+        Err(MessageFault::Memory) => Err(Fault::of(Cause::Memory)),
     }
 }
 

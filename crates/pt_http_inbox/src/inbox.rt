@@ -3,7 +3,7 @@ ghost use Rattle.std.specs.Prelude.{length, drop, IfOk, IfErr, OnErr, IfSome};
 ghost use Rattle.std.specs.Io.KnownBytes.{IsAtEnd, ReadConsumes};
 ghost use Rattle.std.specs.IoError.{error_kind};
 ghost use Rattle.pt_base.specs.Fault.{fault};
-ghost use Rattle.pt_base.specs.Codes.{read_failed};
+ghost use Rattle.pt_base.specs.declared.fault.Cause.TheVariants as cause;
 ghost use Rattle.pt_http_inbox.specs.Head.{IsHead, HasNoHead};
 ghost use Rattle.pt_http_inbox.specs.Reads.{most_reads};
 
@@ -11,8 +11,7 @@ use crate::LONGEST_HEAD;
 use crate::counted_reader::CountedReader;
 use crate::head::{Front, Head, front_of};
 use arrayvec::ArrayVec;
-use pt_base::Fault;
-use pt_base::fault::READ_FAILED;
+use pt_base::{Cause, Fault};
 use std::alloc::{AllocError, Global};
 use std::io;
 use std::io::{ErrorKind, Read};
@@ -68,12 +67,12 @@ impl<R: Read + Drop> Inbox<R> {
         ensures end { result ≡ Ok false → IsAtEnd (R.remaining (reader_of self.new)) }
         ensures nothing { result ≡ Ok false → held self.new ≡ held self.old }
         ensures err { OnErr result (held self.new ≡ held self.old) }
-        ensures fault { IfErr result (λ error. error ≡ fault read_failed) }
+        ensures fault { IfErr result (λ error. error ≡ fault cause.ReadFailed) }
     {
         let mut piece = [0; PIECE];
         let room = self.bytes.remaining_capacity().min(PIECE);
         let Ok(count) = self.read_piece(&mut piece[..room]) else {
-            return Err(Fault::of(READ_FAILED));
+            return Err(Fault::of(Cause::ReadFailed));
         };
         let _fits = self.bytes.try_extend_from_slice(&piece[..count]);
         Ok(count > 0)
@@ -106,7 +105,7 @@ impl<R: Read + Drop> Inbox<R> {
         ensures head { IfOk result (λ found. IfSome found (IsHead (held self.new))) }
         ensures none { result ≡ Ok None → (more : List ℕ) → R.remaining (reader_of self.new) ≡ Some more
             → HasNoHead (held self.new ++ more) }
-        ensures fault { IfErr result (λ error. error ≡ fault read_failed) }
+        ensures fault { IfErr result (λ error. error ≡ fault cause.ReadFailed) }
     {
         for _ in 0..=MOST_READS {
             match front_of(self.held()) {
@@ -119,7 +118,7 @@ impl<R: Read + Drop> Inbox<R> {
                 }
             }
         }
-        Err(Fault::of(READ_FAILED))
+        Err(Fault::of(Cause::ReadFailed))
     }
 
     /// Reads until `count` bytes are held; `false` if the input ends before. The error is a failed read, or too many
@@ -130,7 +129,7 @@ impl<R: Read + Drop> Inbox<R> {
         ensures enough { result ≡ Ok true → count ≤ length (held self.new) }
         ensures short { result ≡ Ok false → length (held self.new) < count }
         ensures end { result ≡ Ok false → IsAtEnd (R.remaining (reader_of self.new)) }
-        ensures fault { IfErr result (λ error. error ≡ fault read_failed) }
+        ensures fault { IfErr result (λ error. error ≡ fault cause.ReadFailed) }
     {
         for _ in 0..=MOST_READS {
             if self.bytes.len() >= count {
@@ -140,7 +139,7 @@ impl<R: Read + Drop> Inbox<R> {
                 return Ok(false);
             }
         }
-        Err(Fault::of(READ_FAILED))
+        Err(Fault::of(Cause::ReadFailed))
     }
 
     /// Drops the first `count` bytes, which come before a request. The count of reads continues.

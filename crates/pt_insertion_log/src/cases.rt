@@ -1,6 +1,6 @@
 ghost use Rattle.std.specs.Prelude.{◌≡◌, ℕ, ◌+◌, ◌<◌, ◌≤◌, [], ◌∷◌, length, IsSome, IsNone, IfSome, OnOk, IfErr};
 ghost use Rattle.pt_base.specs.Fault.{fault};
-ghost use Rattle.pt_base.specs.Codes.{write_failed};
+ghost use Rattle.pt_base.specs.declared.fault.Cause.TheVariants as cause;
 ghost use Rattle.pt_feasible.specs.Route.{stops_of};
 ghost use Rattle.pt_insertion.specs.Possible.{IsPossible};
 ghost use Rattle.pt_audit.specs.Insertion.{case_of, inserted_stops};
@@ -28,7 +28,7 @@ pub(crate) fn explain_case<T: Times, W: Write>(
         (stops_of insertion.now.route.now) insertion.now.asked.now insertion.now.i insertion.now.j }
     ensures written { OnOk result (WritesCases (T.minutes times.now) (case_of insertion.now ∷ [])
         (W.contents out.old) (W.contents out.new)) }
-    ensures fault { IfErr result (λ error. error ≡ fault write_failed) }
+    ensures fault { IfErr result (λ error. error ≡ fault cause.WriteFailed) }
 {
     let vehicle = insertion.vehicle.id.number();
     write_line(

@@ -1,6 +1,6 @@
 ghost use Rattle.std.specs.Prelude.{◌≡◌, ℕ, ◌≤◌, length, All, IsSome, OnOk, IfErr};
 ghost use Rattle.pt_base.specs.Fault.{fault};
-ghost use Rattle.pt_base.specs.Codes.{write_failed};
+ghost use Rattle.pt_base.specs.declared.fault.Cause.TheVariants as cause;
 ghost use Rattle.pt_feasible.specs.Route.{stops_of};
 ghost use Rattle.pt_insertion.specs.Insertion.{IsWithout};
 ghost use Rattle.pt_insertion.specs.Possible.{IsPossible};
@@ -30,7 +30,7 @@ pub fn explain<T: Times, W: Write>(
     requires nowhere { IsNowherePossible (T.minutes times.now) duties.now asked.now }
     ensures log { OnOk result (WritesRightLog (T.minutes times.now) duties.now asked.now
         (W.contents out.old) (W.contents out.new)) }
-    ensures fault { IfErr result (λ error. error ≡ fault write_failed) }
+    ensures fault { IfErr result (λ error. error ≡ fault cause.WriteFailed) }
 {
     write_bytes(b"AUDIT 1\n", out)?;
     explain_day(duties, asked, times, out)?;
@@ -48,7 +48,7 @@ fn explain_day<T: Times, W: Write>(
     requires nowhere { IsNowherePossible (T.minutes times.now) duties.now asked.now }
     ensures written { OnOk result (WritesLines (T.minutes times.now) duties.now asked.now
         (W.contents out.old) (W.contents out.new)) }
-    ensures fault { IfErr result (λ error. error ≡ fault write_failed) }
+    ensures fault { IfErr result (λ error. error ≡ fault cause.WriteFailed) }
 {
     if times.minutes(asked.origin, asked.goal).is_none() {
         return write_line(Line::NoDirect, out);
@@ -73,7 +73,7 @@ fn explain_vehicle<T: Times, W: Write>(
     ensures written { OnOk result (WritesCases (T.minutes times.now)
         (cases_of_vehicle asked.now duty.now.vehicle.now (stops_of duty.now.route.now))
         (W.contents out.old) (W.contents out.new)) }
-    ensures fault { IfErr result (λ error. error ≡ fault write_failed) }
+    ensures fault { IfErr result (λ error. error ≡ fault cause.WriteFailed) }
 {
     for i in 0..duty.route.len() + 1 {
         explain_pickup(duty, asked, times, i, out)?;
@@ -97,7 +97,7 @@ fn explain_pickup<T: Times, W: Write>(
     ensures written { OnOk result (WritesCases (T.minutes times.now)
         (cases_of_pickup asked.now duty.now.vehicle.now (stops_of duty.now.route.now) i)
         (W.contents out.old) (W.contents out.new)) }
-    ensures fault { IfErr result (λ error. error ≡ fault write_failed) }
+    ensures fault { IfErr result (λ error. error ≡ fault cause.WriteFailed) }
 {
     for j in i..duty.route.len() + 1 {
         let insertion = Insertion {

@@ -9,8 +9,9 @@ use Rattle.pt_rehearsal.specs.Moment.{BeginsWithMoment}
 use Rattle.pt_http_reply.specs.Response.{IsReplyText}
 use Rattle.pt_http_reply.specs.declared.response.Response.{Response}
 use Rattle.pt_base.specs.Fault.{fault}
+use Rattle.pt_base.proofs.FaultLemmas.{other_cause, other_fault}
 use Rattle.pt_base.specs.declared.fault.Fault.{Fault}
-use Rattle.pt_base.specs.Codes.{memory_refused, read_failed, write_failed, moment_line_refused}
+use Rattle.pt_base.specs.declared.fault.Cause.TheVariants as cause
 use Rattle.pt_base.specs.declared.moment.Moment.{Moment}
 use Rattle.pt_http.specs.Exchange.{Desk, Exchanges, IsUnanswered, is_last}
 use Rattle.pt_http.specs.Input.{HasInput}
@@ -107,33 +108,29 @@ went_on remaining input rest old now new before after later inbox next one stand
   appended = Appends-trans before after later stands.written one.text stands.appended adds;
 }
 
--- a fault has one code
-code_of : (error : Fault) (one other : ℕ) → error ≡ fault one → error ≡ fault other → one ≡ other
-code_of error one other is also = ap (λ (e : Fault). e.code) (sym is ∙ also)
+pub unanswered_no_line : (error : Fault) → IsUnanswered error → error ≡ fault cause.MomentLine → ⊥
+unanswered_no_line error (inl is) line = other_fault error cause.Memory cause.MomentLine (omega arith) is line
+unanswered_no_line error (inr is) line = other_fault error cause.ReadFailed cause.MomentLine (omega arith) is line
 
-pub unanswered_no_line : (error : Fault) → IsUnanswered error → error ≡ fault moment_line_refused → ⊥
-unanswered_no_line error (inl is) line = let same : 0 ≡ 48 = code_of error 0 48 is line in omega (arith, same)
-unanswered_no_line error (inr is) line = let same : 46 ≡ 48 = code_of error 46 48 is line in omega (arith, same)
+pub read_no_line : (error : Fault) → error ≡ fault cause.ReadFailed → error ≡ fault cause.MomentLine → ⊥
+read_no_line error is line = other_fault error cause.ReadFailed cause.MomentLine (omega arith) is line
 
-pub read_no_line : (error : Fault) → error ≡ fault read_failed → error ≡ fault moment_line_refused → ⊥
-read_no_line error is line = let same : 46 ≡ 48 = code_of error 46 48 is line in omega (arith, same)
-
-pub write_no_line : (error : Fault) → error ≡ fault write_failed → error ≡ fault moment_line_refused → ⊥
-write_no_line error is line = let same : 47 ≡ 48 = code_of error 47 48 is line in omega (arith, same)
+pub write_no_line : (error : Fault) → error ≡ fault cause.WriteFailed → error ≡ fault cause.MomentLine → ⊥
+write_no_line error is line = other_fault error cause.WriteFailed cause.MomentLine (omega arith) is line
 
 -- the state of a rehearsal that ended before the end of its input
 abbrev pub Stopped : List ℕ → Desk → Desk → Option (List ℕ) → Option (List ℕ) → Fault → Type 0
 Stopped input old new before after error =
     (messages : List Exchanged) × (written : List ℕ) × (rest : List ℕ) × Rehearses messages input old written rest new
-    × (error ≢ fault write_failed → Appends before after written)
-    × (error ≡ fault moment_line_refused → HasBadLine rest)
+    × (error ≢ fault cause.WriteFailed → Appends before after written)
+    × (error ≡ fault cause.MomentLine → HasBadLine rest)
     × (length messages ≤ most_messages)
 
 -- it ended in the state that it had
 pub stopped_here : {R : Type 0} {count : ℕ} (remaining : R → Option (List ℕ)) (input : List ℕ) (old now : Desk)
     (before after : Option (List ℕ)) (inbox : Inbox R) (error : Fault)
     → (stands : StandsAt remaining input old before inbox now after count) → count ≤ most_messages
-    → (error ≡ fault moment_line_refused → HasBadLine stands.left) → Stopped input old now before after error
+    → (error ≡ fault cause.MomentLine → HasBadLine stands.left) → Stopped input old now before after error
 stopped_here remaining input old now before after inbox error stands few line = (
   stands.messages,
   stands.written,
@@ -157,7 +154,7 @@ stopped_unanswered remaining input old now new before after later inbox error st
 pub stopped_unheard : {R : Type 0} {count : ℕ} (remaining : R → Option (List ℕ)) (input rest : List ℕ)
     (old now new : Desk) (before after later : Option (List ℕ)) (inbox : Inbox R) (one : Exchanged) (error : Fault)
     → (stands : StandsAt remaining input old before inbox now after count) → count < most_messages
-    → error ≡ fault write_failed → IsStep one stands.left now rest new → Stopped input old new before later error
+    → error ≡ fault cause.WriteFailed → IsStep one stands.left now rest new → Stopped input old new before later error
 stopped_unheard remaining input rest old now new before after later inbox one error stands few is step = (
   stands.messages ++ one ∷ [],
   stands.written ++ one.text,
@@ -173,8 +170,8 @@ pub either : {P Q R : Type 0} → P ⊎ Q → (P → R) → (Q → R) → R
 either (inl p) one other = one p
 either (inr q) one other = other q
 
-pub read_code_no_line : (error : Fault) → error.code ≡ read_failed → error ≡ fault moment_line_refused → ⊥
-read_code_no_line error is line = let same : 46 ≡ 48 = sym is ∙ ap (λ (e : Fault). e.code) line in omega (arith, same)
+pub read_cause_no_line : (error : Fault) → error.cause ≡ cause.ReadFailed → error ≡ fault cause.MomentLine → ⊥
+read_cause_no_line error is line = other_cause cause.ReadFailed cause.MomentLine (omega arith) (sym is ∙ ap (λ (e : Fault). e.cause) line)
 
-pub memory_code_no_line : (error : Fault) → error.code ≡ memory_refused → error ≡ fault moment_line_refused → ⊥
-memory_code_no_line error is line = let same : 0 ≡ 48 = sym is ∙ ap (λ (e : Fault). e.code) line in omega (arith, same)
+pub memory_cause_no_line : (error : Fault) → error.cause ≡ cause.Memory → error ≡ fault cause.MomentLine → ⊥
+memory_cause_no_line error is line = other_cause cause.Memory cause.MomentLine (omega arith) (sym is ∙ ap (λ (e : Fault). e.cause) line)

@@ -3,7 +3,7 @@ use Rattle.std.specs.Prelude.{◌≡◌, ◌≢◌, ◌⊎◌, ℕ, true, List, 
 use Rattle.pt_base.specs.Fault.{fault}
 use Rattle.pt_base.specs.declared.moment.Moment.{Moment}
 use Rattle.pt_base.specs.declared.fault.Fault.{Fault}
-use Rattle.pt_base.specs.Codes.{write_failed, moment_line_refused}
+use Rattle.pt_base.specs.declared.fault.Cause.TheVariants as cause
 use Rattle.pt_rehearsal.specs.Moment.{BeginsWithMoment}
 use Rattle.pt_http_reply.specs.Response.{IsReplyText}
 use Rattle.pt_http_reply.specs.declared.response.Response.{Response}
@@ -50,4 +50,4 @@ HasBadLine bytes = (bytes ≢ []) × HasNoMoment bytes
 
 -- the errors of a rehearsal: out of memory, a failed read or write, a bad line, or too many messages
 abbrev pub IsRehearsalFault : Fault → Type 0
-IsRehearsalFault error = IsUnanswered error ⊎ (error ≡ fault write_failed) ⊎ (error ≡ fault moment_line_refused)
+IsRehearsalFault error = IsUnanswered error ⊎ (error ≡ fault cause.WriteFailed) ⊎ (error ≡ fault cause.MomentLine)

@@ -1,7 +1,7 @@
 ghost use Rattle.std.specs.Prelude.{◌≡◌, ◌≢◌, ◌⊎◌, ℕ, ◌≤◌, List, length, Err, IfOk, IfErr, OnOk};
 ghost use Rattle.std.specs.Io.KnownBytes.{Appends};
 ghost use Rattle.pt_base.specs.Fault.{fault};
-ghost use Rattle.pt_base.specs.Codes.{read_failed, write_failed, moment_line_refused};
+ghost use Rattle.pt_base.specs.declared.fault.Cause.TheVariants as cause;
 ghost use Rattle.pt_http_inbox.specs.Inbox.{reads_of};
 ghost use Rattle.pt_http.specs.Answering.{GoesOn};
 ghost use Rattle.pt_http.specs.Exchange.{Desk, desk_of, IsUnanswered, is_last};
@@ -14,8 +14,7 @@ ghost use Rattle.pt_rehearsal.specs.Rehearsal.{IsRehearsalFault};
 
 use crate::moment::{LONGEST_MOMENT_LINE, moment_at};
 use matchit::Router;
-use pt_base::fault::{MEMORY, MOMENT_LINE, READ_FAILED};
-use pt_base::{Fault, Moment};
+use pt_base::{Cause, Fault, Moment};
 use pt_http::exchange;
 use pt_http_inbox::Inbox;
 use pt_http_reply::Response;
@@ -32,17 +31,17 @@ fn next_moment<R: Read + Drop>(inbox: &mut Inbox<R>) -> Result<Option<Moment>, F
     ensures next { (input : List ℕ) → HasInput R.remaining inbox.old input
         → IfOk result (IsNext R.remaining inbox.new input) }
     ensures line { (input : List ℕ) → HasInput R.remaining inbox.old input
-        → result ≡ Err (fault moment_line_refused) → HasBadLine input }
+        → result ≡ Err (fault cause.MomentLine) → HasBadLine input }
     // The reads of the line count with those of its message.
     ensures counted { reads_of inbox.old ≤ reads_of inbox.new }
-    ensures fault { IfErr result (λ error. (error ≡ fault read_failed) ⊎ (error ≡ fault moment_line_refused)) }
+    ensures fault { IfErr result (λ error. (error ≡ fault cause.ReadFailed) ⊎ (error ≡ fault cause.MomentLine)) }
 {
     if !inbox.read_up_to(1)? {
         return Ok(None);
     }
     inbox.read_up_to(LONGEST_MOMENT_LINE)?;
     let Some(line) = moment_at(inbox.held()) else {
-        return Err(Fault::of(MOMENT_LINE));
+        return Err(Fault::of(Cause::MomentLine));
     };
     inbox.consume(line.end);
     Ok(Some(line.moment))
@@ -78,8 +77,8 @@ fn go_through<K: Keeper, R: Read + Drop, W: Write>(
         → (input : List ℕ) → HasInput R.remaining inbox.old input
         → IfErr result (λ error. (messages : List Exchanged) × (written : List ℕ) × (rest : List ℕ)
         × Rehearses messages input (desk_of (K.store keeper.old)) written rest (desk_of (K.store keeper.new))
-        × (error ≢ fault write_failed → Appends (W.contents out.old) (W.contents out.new) written)
-        × (error ≡ fault moment_line_refused → HasBadLine rest)
+        × (error ≢ fault cause.WriteFailed → Appends (W.contents out.old) (W.contents out.new) written)
+        × (error ≡ fault cause.MomentLine → HasBadLine rest)
         × (length messages ≤ most_messages)) }
     ensures fault { IfErr result IsRehearsalFault }
     ensures goes { GoesOn (K.store keeper.old) (K.store keeper.new) }
@@ -94,7 +93,7 @@ fn go_through<K: Keeper, R: Read + Drop, W: Write>(
         }
     }
     if inbox.read_up_to(1)? {
-        return Err(Fault::of(READ_FAILED));
+        return Err(Fault::of(Cause::ReadFailed));
     }
     Ok(())
 }
@@ -120,14 +119,14 @@ pub fn rehearse<K: Keeper, R: Read + Drop, W: Write>(
         → (input : List ℕ) → HasInput R.remaining inbox.old input
         → IfErr result (λ error. (messages : List Exchanged) × (written : List ℕ) × (rest : List ℕ)
         × Rehearses messages input (desk_of (K.store keeper.old)) written rest (desk_of (K.store keeper.new))
-        × (error ≢ fault write_failed → Appends (W.contents out.old) (W.contents out.new) written)
-        × (error ≡ fault moment_line_refused → HasBadLine rest)
+        × (error ≢ fault cause.WriteFailed → Appends (W.contents out.old) (W.contents out.new) written)
+        × (error ≡ fault cause.MomentLine → HasBadLine rest)
         × (length messages ≤ most_messages)) }
     ensures fault { IfErr result IsRehearsalFault }
     ensures goes { GoesOn (K.store keeper.old) (K.store keeper.new) }
 {
     let Ok(router) = desk_router(alloc) else {
-        return Err(Fault::of(MEMORY));
+        return Err(Fault::of(Cause::Memory));
     };
     go_through(alloc, &router, keeper, inbox, out)
 }

@@ -1,5 +1,5 @@
 ghost use Rattle.std.specs.Prelude.{◌≡◌, ◌<◌, ◌≤◌, ◌↔◌, [], ◌∷◌, ◌++◌, length, IsTrue, IfErr, OnOk, OnErr};
-ghost use Rattle.pt_base.specs.Codes.{memory_refused};
+ghost use Rattle.pt_base.specs.declared.fault.Cause.TheVariants as cause;
 ghost use Rattle.pt_rights.specs.Admission.{admission_rules};
 ghost use Rattle.pt_rights.specs.ByPosition.{IsWaiting, IsPresumed, IsOverdue, IsGrantedFor, IsSuspended};
 ghost use Rattle.pt_rights.specs.Kinds.{grant_of};
@@ -11,8 +11,7 @@ ghost use Rattle.pt_rights.specs.declared.entry.Grant.{Grant};
 ghost use Rattle.pt_rights.specs.Limits.{most_entries};
 
 use crate::{Entered, Entry, Grant, Tally, appeals, notices, suspensions};
-use pt_base::fault::MEMORY;
-use pt_base::{CallerId, Day, Fault, Policy, Residence, Rider, Rule};
+use pt_base::{CallerId, Cause, Day, Fault, Policy, Residence, Rider, Rule};
 use std::alloc::{AllocError, Global};
 use std::marker::Model;
 
@@ -174,7 +173,7 @@ impl CaseFile {
             ≡ self.old ++ record { entry = entry; day = today; author = author } ∷ []) }
         ensures unchanged { OnErr result (self.new ≡ self.old) }
         ensures returned { IfErr result (λ refused. refused.0 ≡ entry) }
-        ensures fault { IfErr result (λ refused. refused.1 ≡ record { code = memory_refused; row = 0 }) }
+        ensures fault { IfErr result (λ refused. refused.1 ≡ record { cause = cause.Memory; row = 0 }) }
     {
         let waiting = waiting_after(self.waiting, &entry, today);
         let granted = entry.granted();
@@ -192,7 +191,7 @@ impl CaseFile {
                 self.heard = appeals::heard_since(&self.entries);
                 Ok(())
             }
-            Err(refused) => Err((refused.value.entry, Fault::of(MEMORY))),
+            Err(refused) => Err((refused.value.entry, Fault::of(Cause::Memory))),
         }
     }
 

@@ -1,7 +1,7 @@
 -- What comes of one connection.
 use Rattle.std.proofs.Common.{◌≡◌, ◌⊎◌, ◌∙◌, ℕ, ℤ, List, [], Option, Some, None, Ok, Err, ap, inl, inr, refl, subst, sym}
 use Rattle.std.specs.Io.KnownBytes.{Appends}
-use Rattle.pt_base.specs.Codes.{read_failed, write_failed}
+use Rattle.pt_base.specs.declared.fault.Cause.TheVariants as cause
 use Rattle.pt_base.specs.Fault.{fault}
 use Rattle.pt_base.specs.declared.fault.Fault.{Fault}
 use Rattle.pt_base.specs.declared.moment.Moment.{Moment}
@@ -71,7 +71,7 @@ answers_sent None old new now got_old got_new Same value answers clean =
 answers_unheard : {T : Type 0} (sent : Option (List ℕ)) (old new : Store) (now : Moment)
     (got_old got_new : Option (List ℕ)) (Same : Type 0) (error : Fault)
     → AnswersFrom {T = T} sent old new now got_old got_new Same (Err error) → new.doubt ≡ 0
-    → error ≡ fault write_failed → (reply : Response) × AnswersSent sent now (desk_of old) (desk_of new) reply
+    → error ≡ fault cause.WriteFailed → (reply : Response) × AnswersSent sent now (desk_of old) (desk_of new) reply
 answers_unheard (Some input) old new now got_old got_new Same error answers clean write =
     let found = answers.unheard clean input refl (ap Err write) in
     (found.0, (found.1.0, found.1.1))
@@ -115,7 +115,7 @@ pub failed_turn : {T : Type 0} (Shows : Option (List ℕ) → ℤ → Type 0) (F
     → given ≡ sent → got_old ≡ nothing_of sent → IsMomentAt (Shows given) zone now
     → AnswersFrom {T = T} given old new now got_old got_new Same (Err error) → Fails given
     → (Same → (desk_of new ≡ desk_of old) × (got_new ≡ got_old)) → Adds replied_old got_new replied_new
-    → (error ≡ fault read_failed) ⊎ (error ≡ fault write_failed) → new.doubt ≡ 0
+    → (error ≡ fault cause.ReadFailed) ⊎ (error ≡ fault cause.WriteFailed) → new.doubt ≡ 0
     → ServesATurn Shows Fails zone sent (Some error) (progress_of old replied_old) (progress_of new replied_new)
 failed_turn Shows Fails zone given sent old new now got_old got_new Same error replied_old replied_new same first moment
     answers fails kept adds (inl read) clean =
@@ -146,7 +146,7 @@ failed_turn Shows Fails zone given sent old new now got_old got_new Same error r
 -- and one that was not accepted
 pub refused_turn : (Shows : Option (List ℕ) → ℤ → Type 0) (Fails : Option (List ℕ) → Type 0) (zone : List ℕ)
     (sent : Option (List ℕ)) (store : Store) (replied : Option (List (List ℕ))) → sent ≡ None → Fails sent
-    → ServesATurn Shows Fails zone sent (Some (fault read_failed)) (progress_of store replied)
+    → ServesATurn Shows Fails zone sent (Some (fault cause.ReadFailed)) (progress_of store replied)
     (progress_of store replied)
 refused_turn Shows Fails zone sent store replied unknown fails = (
   unanswered,
@@ -155,8 +155,8 @@ refused_turn Shows Fails zone sent store replied unknown fails = (
 )
 
 -- a connection that does not end the serving failed to be read or to be written
-pub read_or_write : (error : Fault) → (error.code ≡ 0 → ⊥) → IsUnanswered error ⊎ (error ≡ fault write_failed)
-    → (error ≡ fault read_failed) ⊎ (error ≡ fault write_failed)
-read_or_write error other (inl (inl memory)) = absurd (other (ap (λ (it : Fault). it.code) memory))
+pub read_or_write : (error : Fault) → (error.cause ≡ cause.Memory → ⊥) → IsUnanswered error ⊎ (error ≡ fault cause.WriteFailed)
+    → (error ≡ fault cause.ReadFailed) ⊎ (error ≡ fault cause.WriteFailed)
+read_or_write error other (inl (inl memory)) = absurd (other (ap (λ (it : Fault). it.cause) memory))
 read_or_write error other (inl (inr read)) = inl read
 read_or_write error other (inr write) = inr write

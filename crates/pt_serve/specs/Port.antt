@@ -17,10 +17,6 @@ IsOwnAddress number address =
     (ip : Ipv4Addr) × (socket_ip address ≡ V4 ip) × (ipv4_octets ip ≡ 127 ∷ 0 ∷ 0 ∷ 1 ∷ [])
     × (socket_port address ≡ number)
 
--- a port that cannot be had
-abbrev pub port_refused : ℕ
-port_refused = 6
-
 -- these connections; of none is it known what its client sends
 abbrev pub comes_to : Port → List (Option (List ℕ))
 comes_to port = replicate (left_of port) None

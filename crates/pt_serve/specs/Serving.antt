@@ -1,11 +1,10 @@
 -- What a desk has served on connections one after another.
 use Rattle.std.specs.Prelude.{◌≡◌, ◌⊎◌, ℕ, Bool, List, [], ◌∷◌, ◌++◌, ℤ, pos, Option, Some, None, is_some, ⊤}
 use Rattle.std.specs.List.{count_by}
-use Rattle.pt_base.specs.Codes.{memory_refused, date_out_of_range, read_failed, write_failed}
+use Rattle.pt_base.specs.declared.fault.Cause.TheVariants as cause
 use Rattle.pt_base.specs.Fault.{fault}
 use Rattle.pt_base.specs.declared.fault.Fault.{Fault}
 use Rattle.pt_base.specs.declared.moment.Moment.{Moment}
-use Rattle.pt_clock.specs.Codes.{no_such_zone}
 use Rattle.pt_clock.specs.LocalTime.{IsLocalTime}
 use Rattle.pt_store.specs.Store.{Store}
 use Rattle.pt_http.specs.Exchange.{Desk, Exchanges, Serves, desk_of}
@@ -54,8 +53,8 @@ pub data Turn : Type 0 where
 -- how a connection failed, if it did
 abbrev pub failure_of : Turn → Option Fault
 failure_of (heard one) = None
-failure_of (unheard one) = Some (fault write_failed)
-failure_of unanswered = Some (fault read_failed)
+failure_of (unheard one) = Some (fault cause.WriteFailed)
+failure_of unanswered = Some (fault cause.ReadFailed)
 
 -- the reply on the connection was not wholly written
 abbrev pub has_failed : Turn → Bool
@@ -109,4 +108,4 @@ ServesInTurn _ _ _ _ _ _ _ = ⊥
 -- the faults that end the serving: out of memory, a text that is no zone's rule, or a clock that is out of range or
 -- cannot be read
 abbrev pub EndsServing : Fault → Type 0
-EndsServing error = (error ≡ fault memory_refused) ⊎ (error ≡ fault no_such_zone) ⊎ (error ≡ fault date_out_of_range)
+EndsServing error = (error ≡ fault cause.Memory) ⊎ (error ≡ fault cause.NoSuchZone) ⊎ (error ≡ fault cause.DateOutOfRange)

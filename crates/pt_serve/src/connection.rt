@@ -7,8 +7,7 @@ ghost use Rattle.pt_serve.specs.Connection.{AnswersFrom};
 use crate::accepting::Connection;
 use crate::bounded::{Bounded, Ends, Waits};
 use matchit::Router;
-use pt_base::fault::READ_FAILED;
-use pt_base::{Fault, Moment};
+use pt_base::{Cause, Fault, Moment};
 use pt_http::exchange;
 use pt_http_inbox::Inbox;
 use pt_http_request::Path;
@@ -59,7 +58,7 @@ pub fn answer_in_time<C: Clock, K: Keeper, R: Read + Waits + Drop, W: Write + Wa
         (W.contents out) (W.contents result.0) ((keeper.new ≡ keeper.old) × (result.0 ≡ out)) result.1 }
 {
     let Ok(ends) = Ends::from_now(clock) else {
-        return (out, Err(Fault::of(READ_FAILED)));
+        return (out, Err(Fault::of(Cause::ReadFailed)));
     };
     let reader = Bounded {
         stream: reader,

@@ -5,7 +5,7 @@ pub use accepting::{Accepts, Connection};
 pub use bounded::{LONGEST_READING, LONGEST_SERVING, LONGEST_WAIT, Waits};
 pub use closing::{LONGEST_CLOSING, MOST_DROPPED, drop_rest};
 pub use connection::{Answering, answer_connection, answer_in_time, serve_one};
-pub use listening::{Listens, PORT_REFUSED, Port};
+pub use listening::{Listens, Port};
 pub use serving::{moment_at, serve};
 
 mod accepting;

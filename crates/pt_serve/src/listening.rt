@@ -1,16 +1,14 @@
 ghost use Rattle.std.specs.Prelude.{◌≡◌, ◌+◌, ◌<◌, ◌^◌, ◌↔◌, None, ⊤, IfErr, IfOk, IsNone, IsSome};
 ghost use Rattle.pt_base.specs.Fault.{fault};
-ghost use Rattle.pt_serve.specs.Port.{IsOwnAddress, comes_to, left_of, port_refused};
+ghost use Rattle.pt_serve.specs.Port.{IsOwnAddress, comes_to, left_of};
+ghost use Rattle.pt_base.specs.declared.fault.Cause.TheVariants as cause;
 
 use crate::accepting::Accepts;
 use crate::closing::let_go;
-use pt_base::Fault;
+use pt_base::{Cause, Fault};
 use std::io;
 use std::net::{IpAddr, Ipv4Addr, Net, SocketAddr, TcpListener, TcpStream};
 use std::time::Clock;
-
-/// A port that cannot be had.
-pub const PORT_REFUSED: u16 = 6;
 
 /// A port that is listened on, for so many connections. There is none of a port that cannot be had.
 #[derive(Drop)]
@@ -59,10 +57,10 @@ impl Port {
         ensures address { IfOk result (λ port. (address : SocketAddr) × IsOwnAddress number address
             × R.listens port.listener address) }
         ensures left { IfOk result (λ port. left_of port ≡ connections) }
-        ensures fault { IfErr result (λ error. error ≡ fault port_refused) }
+        ensures fault { IfErr result (λ error. error ≡ fault cause.PortRefused) }
     {
         let Ok(listener) = rt.listen(own_address(number)) else {
-            return Err(Fault::of(PORT_REFUSED));
+            return Err(Fault::of(Cause::PortRefused));
         };
         let _shown = eprintln!(rt; "listening on 127.0.0.1:{number}");
         Ok(Port {

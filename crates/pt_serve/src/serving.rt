@@ -1,8 +1,7 @@
 ghost use Rattle.std.specs.Prelude.{◌≡◌, ◌⊎◌, ◌<◌, ◌≤◌, ◌↔◌, ◌++◌, ℕ, List, [], ◌∷◌, Option, Some, Ok, Err};
 ghost use Rattle.std.specs.Prelude.{IfErr, IfOk, IfSome, OnErr, OnOk, length};
-ghost use Rattle.pt_base.specs.Codes.{read_failed, write_failed};
+ghost use Rattle.pt_base.specs.declared.fault.Cause.TheVariants as cause;
 ghost use Rattle.pt_base.specs.Fault.{fault};
-ghost use Rattle.pt_clock.specs.Codes.{no_such_zone};
 ghost use Rattle.pt_clock.specs.LocalTime.{IsZoneRule};
 ghost use Rattle.pt_store.specs.Store.{Store};
 ghost use Rattle.pt_http.specs.Answering.{GoesOn};
@@ -15,8 +14,7 @@ use crate::accepting::{Accepts, Connection};
 use crate::connection::serve_one;
 use jiff::Timestamp;
 use matchit::Router;
-use pt_base::fault::{DATE_OUT_OF_RANGE, MEMORY, READ_FAILED};
-use pt_base::{Fault, Moment};
+use pt_base::{Cause, Fault, Moment};
 use pt_clock::{moment_of, now_in};
 use pt_http_request::Path;
 use pt_store::Keeper;
@@ -27,10 +25,10 @@ use std::time::Clock;
 /// Why a clock that cannot be read gives no moment: the zone's text, or else the clock.
 fn unread(zone: &str) -> Fault
     ensures ends { EndsServing result }
-    ensures zone { (result ≡ fault no_such_zone) ↔ ¬ (IsZoneRule zone.now) }
+    ensures zone { (result ≡ fault cause.NoSuchZone) ↔ ¬ (IsZoneRule zone.now) }
 {
     match moment_of(zone, None) {
-        Ok(_) => Fault::of(DATE_OUT_OF_RANGE),
+        Ok(_) => Fault::of(Cause::DateOutOfRange),
         Err(fault) => fault,
     }
 }
@@ -39,7 +37,7 @@ fn unread(zone: &str) -> Fault
 /// 2, a clock that shows no day of 2000 to 2099.
 pub fn moment_at<C: Clock>(clock: &C, zone: &str) -> Result<Moment, Fault>
     ensures moment { IfOk result (λ now. IsMomentIn zone.now now) }
-    ensures zone { (result ≡ Err (fault no_such_zone)) ↔ ¬ (IsZoneRule zone.now) }
+    ensures zone { (result ≡ Err (fault cause.NoSuchZone)) ↔ ¬ (IsZoneRule zone.now) }
     ensures fault { IfErr result EndsServing }
 {
     match Timestamp::now(clock) {
@@ -51,7 +49,7 @@ pub fn moment_at<C: Clock>(clock: &C, zone: &str) -> Result<Moment, Fault>
 /// The day and the minute that clocks of a zone show while a connection is open. The errors are those of `moment_at`.
 fn moment_on<C: Clock, S: Connection>(clock: &C, zone: &str, stream: &S) -> Result<Moment, Fault>
     ensures moment { IfOk result (IsMomentAt (S.shows (S.sends stream.now)) zone.now) }
-    ensures zone { (result ≡ Err (fault no_such_zone)) ↔ ¬ (IsZoneRule zone.now) }
+    ensures zone { (result ≡ Err (fault cause.NoSuchZone)) ↔ ¬ (IsZoneRule zone.now) }
     ensures fault { IfErr result EndsServing }
 {
     match stream.instant(clock) {
@@ -79,18 +77,18 @@ fn serve_next<C: Clock, K: Keeper, A: Accepts>(
         → IfOk result (λ failed. ServesATurn A.Stream.shows A.Stream.fails zone.now sent failed
         (progress_of (K.store keeper.old) (A.replied port.old))
         (progress_of (K.store keeper.new) (A.replied port.new))) }
-    ensures unread { result ≡ Ok (Some (fault read_failed)) → keeper.new ≡ keeper.old }
-    ensures refused { OnErr connection (result ≡ Ok (Some (fault read_failed))) }
+    ensures unread { result ≡ Ok (Some (fault cause.ReadFailed)) → keeper.new ≡ keeper.old }
+    ensures refused { OnErr connection (result ≡ Ok (Some (fault cause.ReadFailed))) }
     ensures failed { IfOk result (λ failed. IfSome failed (λ error.
-        (error ≡ fault read_failed) ⊎ (error ≡ fault write_failed))) }
+        (error ≡ fault cause.ReadFailed) ⊎ (error ≡ fault cause.WriteFailed))) }
     ensures others { A.comes port.new ≡ A.comes port.old }
     ensures ends { IfErr result EndsServing }
     ensures ended { OnErr result ((keeper.new ≡ keeper.old) × (port.new ≡ port.old)) }
-    ensures zone { result ≡ Err (fault no_such_zone) → ¬ (IsZoneRule zone.now) }
+    ensures zone { result ≡ Err (fault cause.NoSuchZone) → ¬ (IsZoneRule zone.now) }
     ensures goes { GoesOn (K.store keeper.old) (K.store keeper.new) }
 {
     let Ok(mut stream) = connection else {
-        return Ok(Some(Fault::of(READ_FAILED)));
+        return Ok(Some(Fault::of(Cause::ReadFailed)));
     };
     let now = moment_on(clock, zone, &stream)?;
     match serve_one(clock, alloc, router, keeper, now, &mut stream) {
@@ -98,7 +96,7 @@ fn serve_next<C: Clock, K: Keeper, A: Accepts>(
             port.leave(clock, stream, true);
             Ok(None)
         }
-        Err(fault) if fault.code == MEMORY => Err(fault),
+        Err(fault) if fault.cause == Cause::Memory => Err(fault),
         Err(fault) => {
             port.leave(clock, stream, false);
             Ok(Some(fault))
@@ -141,16 +139,14 @@ pub fn serve<R: Clock + Eprint, K: Keeper, A: Accepts>(
     ensures all { OnOk result (A.comes port.new ≡ []) }
     ensures ended { OnErr result (length (A.comes port.new) < length (A.comes port.old)) }
     ensures fault { IfErr result EndsServing }
-    ensures zone { result ≡ Err (fault no_such_zone) → ¬ (IsZoneRule zone.now) }
+    ensures zone { result ≡ Err (fault cause.NoSuchZone) → ¬ (IsZoneRule zone.now) }
     ensures goes { GoesOn (K.store keeper.old) (K.store keeper.new) }
 {
     let mut failed = 0;
     while let Some(connection) = port.accept() {
-        if let Some(Fault { code, row }) = serve_next(
-            rt, alloc, router, keeper, zone, port, connection,
-        )? {
+        if let Some(fault) = serve_next(rt, alloc, router, keeper, zone, port, connection)? {
             failed += 1;
-            let _shown = eprintln!(rt; "connection: fault {code} row {row}");
+            let _shown = eprintln!(rt; "connection: {fault}");
         }
     }
     Ok(failed)

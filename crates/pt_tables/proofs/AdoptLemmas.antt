@@ -9,7 +9,8 @@ use Rattle.sqlite_catalog.proofs.ReadLemmas.{lists_once}
 use Rattle.sqlite_catalog.specs.Listing.{Lists}
 use Rattle.sqlite_trees.specs.Objects.{catalog_tree}
 use Rattle.pt_desk_rules.specs.State.{State}
-use Rattle.pt_tables_opening.specs.Faults.{rows_refused, tables_refused, unsound}
+use Rattle.pt_tables_opening.specs.Faults.{unsound}
+use Rattle.pt_base.specs.declared.fault.Cause.TheVariants as cause
 use Rattle.pt_tables_opening.specs.Opening.{IsReopened, Stays}
 use Rattle.pt_tables_rows.specs.Schema.{desk_schema}
 use Rattle.pt_tables_rows.specs.Tables.{HasRows, IsKept, IsWellFormed, Stands}
@@ -94,13 +95,13 @@ module _ (old new last : Connected) (settled : IsTrue old.is_open → old.now �
   -- ---- why a database is not adopted
 
   module _ (refused : OpenFault) (why : TellsOf old.now refused) where
-    pub unsound_committed : refused.code ≡ rows_refused → AreUnsound old.committed.trees
+    pub unsound_committed : refused.cause ≡ cause.UnsoundRows → AreUnsound old.committed.trees
     unsound_committed code = subst AreUnsound shown (why.rows code)
 
-    pub first_committed : refused.code ≡ rows_refused → IsFirstAtFault old.committed.trees refused.table
+    pub first_committed : refused.cause ≡ cause.UnsoundRows → IsFirstAtFault old.committed.trees refused.table
     first_committed code = subst (λ trees. IsFirstAtFault trees refused.table) shown (why.first code)
 
-    pub others_committed : refused.code ≡ tables_refused → HasOtherTables old.committed.trees
+    pub others_committed : refused.cause ≡ cause.OtherTables → HasOtherTables old.committed.trees
     others_committed code = elim (why.tables code) [
       | inl other ↦ inl (subst ListsOthers shown (old.now.schema, lists, other))
       | inr version ↦ inr (subst HasOtherVersion shown version)

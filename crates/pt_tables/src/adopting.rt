@@ -1,7 +1,7 @@
 //! Opens the database of a desk.
 
 ghost use Rattle.std.specs.Prelude.{◌≡◌, ◌≢◌, ◌⊎◌, ◌≤◌, IsTrue, IfOk, IfErr, IsErrAnd, MatchResult, false};
-ghost use Rattle.pt_base.specs.Codes.{memory_refused};
+ghost use Rattle.pt_base.specs.declared.fault.Cause.TheVariants as cause;
 ghost use Rattle.pt_store.specs.Store.{IsSettled};
 ghost use Rattle.pt_desk_rules.specs.Sound.{IsSound};
 ghost use Rattle.pt_desk_rules.specs.State.{State};
@@ -9,7 +9,7 @@ ghost use Rattle.sqlite.specs.Held.{state};
 ghost use Rattle.sqlite.specs.State.{HasCleanDisk};
 ghost use Rattle.sqlite.specs.Tree.{Trees};
 ghost use Rattle.sqlite.specs.View.{IsClean, doubt};
-ghost use Rattle.pt_tables_opening.specs.Faults.{IsRefusal, fault, rows_refused, store_refused, tables_refused};
+ghost use Rattle.pt_tables_opening.specs.Faults.{IsRefusal, fault};
 ghost use Rattle.pt_tables_opening.specs.Opening.{IsReopened};
 ghost use Rattle.pt_tables_opening.specs.Refused.{AreUnsound, HasOtherTables, SparesOtherVersion};
 ghost use Rattle.pt_tables_opening.specs.Standing.{IsFirstAtFault};
@@ -47,7 +47,7 @@ fn reopened<S: Alter + Drop>(
         (λ refused. IsClean (S.Store.view refused.0) → IsTrue (S.Store.view refused.0).is_open
         → IsTrue (state S.Store conn).is_open) }
     ensures faults { IfErr result (λ refused.
-        (refused.1 ≡ fault memory_refused) ⊎ (refused.1 ≡ fault store_refused)) }
+        (refused.1 ≡ fault cause.Memory) ⊎ (refused.1 ≡ fault cause.StoreFailed)) }
 {
     let store = conn.into_store();
     if store.is_broken() {
@@ -85,19 +85,19 @@ pub fn adopt<S: Alter + Drop>(
         → S.Store.recovers refused.0 trees → (state S.Store conn).may_leave trees) }
     ensures faults { IfErr result (λ refused. IsRefusal refused.1) }
     ensures other_tables { IfErr result (λ refused. IsClean (S.Store.view refused.0)
-        → refused.1.code ≡ tables_refused → HasOtherTables (state S.Store conn).committed.trees) }
+        → refused.1.cause ≡ cause.OtherTables → HasOtherTables (state S.Store conn).committed.trees) }
     // A desk's database is never refused for its tables.
     ensures desk { IfErr result (λ refused. IsClean (S.Store.view refused.0) → (content : State)
-        → IsDeskOf content (state S.Store conn).committed.trees → refused.1.code ≢ tables_refused) }
+        → IsDeskOf content (state S.Store conn).committed.trees → refused.1.cause ≢ cause.OtherTables) }
     ensures unsound { IfErr result (λ refused. IsClean (S.Store.view refused.0)
-        → refused.1.code ≡ rows_refused → AreUnsound (state S.Store conn).committed.trees) }
+        → refused.1.cause ≡ cause.UnsoundRows → AreUnsound (state S.Store conn).committed.trees) }
     ensures first { IfErr result (λ refused. IsClean (S.Store.view refused.0)
-        → refused.1.code ≡ rows_refused
+        → refused.1.cause ≡ cause.UnsoundRows
         → IsFirstAtFault (state S.Store conn).committed.trees refused.1.table) }
     ensures version { IfErr result (λ refused. IsClean (S.Store.view refused.0)
         → SparesOtherVersion (state S.Store conn).committed.trees refused.1) }
     ensures in_use { IsTrue (state S.Store conn).in_transaction
-        → IsErrAnd result (λ refused. refused.1 ≡ fault store_refused) }
+        → IsErrAnd result (λ refused. refused.1 ≡ fault cause.StoreFailed) }
 {
     if !conn.is_autocommit() {
         return Err((conn.into_store(), OpenFault::STORE));

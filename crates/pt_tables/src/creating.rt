@@ -1,7 +1,7 @@
 //! Creates the tables of a new desk.
 
 ghost use Rattle.std.specs.Prelude.{◌≡◌, ◌⊎◌, ◌↔◌, IsTrue, IfOk, IfErr, OnOk, OnErr, MatchResult, false};
-ghost use Rattle.pt_base.specs.Codes.{memory_refused};
+ghost use Rattle.pt_base.specs.declared.fault.Cause.TheVariants as cause;
 ghost use Rattle.pt_store.specs.LeastState.{IsLeastState};
 ghost use Rattle.pt_store.specs.Store.{IsSettled};
 ghost use Rattle.pt_desk_rules.specs.Sound.{IsSound};
@@ -9,7 +9,7 @@ ghost use Rattle.pt_desk_rules.specs.State.{State};
 ghost use Rattle.sqlite.specs.Held.{state};
 ghost use Rattle.sqlite.specs.State.{HasCleanDisk, Survives};
 ghost use Rattle.sqlite.specs.Tree.{Trees};
-ghost use Rattle.pt_tables_opening.specs.Faults.{fault, store_refused};
+ghost use Rattle.pt_tables_opening.specs.Faults.{fault};
 ghost use Rattle.pt_tables_writing.specs.Committing.{LeavesDesk};
 ghost use Rattle.pt_tables_writing.specs.Least.{IsNew, IsAsBefore, IsInUse, IsUndone, IsDeskDatabase};
 ghost use Rattle.pt_tables_writing.specs.Least.{IsNewDesk, IsLeastDesk};
@@ -69,7 +69,7 @@ fn least(alloc: Global, admin_key: &[u8]) -> Result<(ListKeeper, Policy), OpenFa
     ensures least { IfOk result (λ made. IsLeastState admin_key.now made.0.content) }
     ensures sound { IfOk result (λ made. IsSound made.0.content) }
     ensures policy { IfOk result (λ made. made.1 ≡ made.0.content.policy) }
-    ensures memory { IfErr result (λ refused. refused ≡ fault memory_refused) }
+    ensures memory { IfErr result (λ refused. refused ≡ fault cause.Memory) }
 {
     let Ok(lists) = ListKeeper::new(alloc, admin_key) else {
         return Err(OpenFault::MEMORY);
@@ -92,8 +92,8 @@ pub fn create<S: Alter>(
     ensures settled { IfOk result (λ keeper. IsSettled (⟦<SqlKeeper<S> as Keeper>⟧.store keeper)) }
     ensures leaves { IfOk result (λ keeper. LeavesDesk (state S.Store keeper.conn)) }
     ensures faults { IfErr result (λ refused.
-        (refused.1 ≡ fault memory_refused) ⊎ (refused.1 ≡ fault store_refused)) }
-    ensures in_use { IsInUse (state S.Store conn) → result ≡ Err (conn, fault store_refused) }
+        (refused.1 ≡ fault cause.Memory) ⊎ (refused.1 ≡ fault cause.StoreFailed)) }
+    ensures in_use { IsInUse (state S.Store conn) → result ≡ Err (conn, fault cause.StoreFailed) }
     ensures unchanged { IfErr result (λ refused. HasCleanDisk (state S.Store refused.0)
         → IsAsBefore (state S.Store conn) (state S.Store refused.0)) }
     ensures crash { MatchResult result

@@ -1,9 +1,9 @@
 ghost use Rattle.std.specs.Prelude.{◌≡◌, ◌⊎◌, IsTrue, IfOk, IfErr, OnOk, OnErr, false};
 ghost use Rattle.sqlite.specs.Held.{state};
 ghost use Rattle.sqlite.specs.State.{HasCleanDisk, Survives};
-ghost use Rattle.pt_base.specs.Codes.{memory_refused};
+ghost use Rattle.pt_base.specs.declared.fault.Cause.TheVariants as cause;
 ghost use Rattle.pt_tables.specs.Migration.{IsMigrated, IsMigratedDesk, IsRaised};
-ghost use Rattle.pt_tables_opening.specs.Faults.{fault, store_refused, tables_refused};
+ghost use Rattle.pt_tables_opening.specs.Faults.{fault};
 ghost use Rattle.pt_tables_opening.specs.Opening.{IsFirstVersion};
 ghost use Rattle.pt_tables_rows.specs.Schema.{first_schema};
 ghost use Rattle.pt_tables_writing.specs.Least.{IsAsBefore, IsUndone};
@@ -41,11 +41,11 @@ pub fn migrate<S: Alter>(alloc: Global, conn: &mut Connection<S>) -> Result<(), 
     ensures settled { conn.old.in_transaction ≡ false → conn.new.in_transaction ≡ false }
     ensures migrated { HasCleanDisk (state S.Store conn.new)
         → OnOk result (IsMigrated (state S.Store conn.old) (state S.Store conn.new)) }
-    ensures in_use { IsTrue (state S.Store conn.old).in_transaction → result ≡ Err (fault store_refused) }
-    ensures faults { IfErr result (λ refused. (refused ≡ fault memory_refused)
-        ⊎ ((refused ≡ fault store_refused) ⊎ (refused ≡ fault tables_refused))) }
+    ensures in_use { IsTrue (state S.Store conn.old).in_transaction → result ≡ Err (fault cause.StoreFailed) }
+    ensures faults { IfErr result (λ refused. (refused ≡ fault cause.Memory)
+        ⊎ ((refused ≡ fault cause.StoreFailed) ⊎ (refused ≡ fault cause.OtherTables))) }
     ensures other_tables { HasCleanDisk (state S.Store conn.new) → IfErr result (λ refused.
-        refused.code ≡ tables_refused → IsFirstVersion (state S.Store conn.old).now → ⊥) }
+        refused.cause ≡ cause.OtherTables → IsFirstVersion (state S.Store conn.old).now → ⊥) }
     ensures unchanged { HasCleanDisk (state S.Store conn.new)
         → OnErr result (IsAsBefore (state S.Store conn.old) (state S.Store conn.new)) }
     ensures crash { Survives (state S.Store conn.old) (state S.Store conn.new)

@@ -3,7 +3,8 @@ use Rattle.std.proofs.Common.{◌≡◌, ◌-◌, ◌<◌, ◌⊎◌, inl, inr, 
 use Rattle.sqlite.specs.Effect.{Database}
 use Rattle.sqlite.specs.State.{State as Connected, HasCleanDisk}
 use Rattle.sqlite.specs.Tree.{Trees}
-use Rattle.pt_base.specs.Codes.{memory_refused}
+use Rattle.pt_base.specs.Fault.{code_of}
+use Rattle.pt_base.specs.declared.fault.Cause.TheVariants as cause
 use Rattle.pt_store.specs.Listed.{Listed}
 use Rattle.pt_desk_rules.specs.Sound.{IsSound}
 use Rattle.pt_desk_rules.specs.State.{State, applied}
@@ -15,7 +16,7 @@ use Rattle.pt_soundness.specs.Tables.{IsSoundIn}
 use Rattle.pt_desk_rules.specs.declared.table_name.TableName.{TableName}
 use Rattle.pt_desk_rules.specs.declared.table_name.TableName.TheVariants as table
 use Rattle.pt_soundness.proofs.TableLemmas.{each_table, sound_in, sound_of}
-use Rattle.pt_tables_opening.specs.Faults.{IsRefusal, fault, store_refused, tables_refused, unsound}
+use Rattle.pt_tables_opening.specs.Faults.{IsRefusal, fault, unsound}
 use Rattle.pt_tables_opening.specs.Opening.{Rests}
 use Rattle.pt_tables_opening.specs.Refused.{AreUnsound, SparesOtherVersion, TellsWhy}
 use Rattle.pt_tables_opening.specs.Standing.{IsFirstAtFault, NoneStandsTo, StandsIn}
@@ -44,56 +45,56 @@ none_sound n trees none = λ s sound has. none s (each_table (StandsIn s trees) 
 
 -- ---- what a refusal says
 
-abbrev code_of : OpenFault → ℕ
-code_of it = it.code
+abbrev code_in : OpenFault → ℕ
+code_in it = code_of it.cause
 
 -- a refusal because memory ran out or the store failed
-pub tells_nothing : (trees : Trees) (it : OpenFault) → (it ≡ fault memory_refused) ⊎ (it ≡ fault store_refused) → TellsWhy trees it
+pub tells_nothing : (trees : Trees) (it : OpenFault) → (it ≡ fault cause.Memory) ⊎ (it ≡ fault cause.StoreFailed) → TellsWhy trees it
 tells_nothing trees it (inl memory) =
-    let code : it.code ≡ 0 = ap code_of memory in
+    let code : code_of it.cause ≡ 0 = ap code_in memory in
     record {
-      version = λ same. let n : it.code ≡ 30 = same in absurd (omega arith);
-      rows = λ same. let n : it.code ≡ 31 = same in absurd (omega arith);
-      first = λ same. let n : it.code ≡ 31 = same in absurd (omega arith);
+      version = λ same. let n : code_of it.cause ≡ 30 = ap code_of same in absurd (omega arith);
+      rows = λ same. let n : code_of it.cause ≡ 31 = ap code_of same in absurd (omega arith);
+      first = λ same. let n : code_of it.cause ≡ 31 = ap code_of same in absurd (omega arith);
     }
 tells_nothing trees it (inr store) =
-    let code : it.code ≡ 32 = ap code_of store in
+    let code : code_of it.cause ≡ 32 = ap code_in store in
     record {
-      version = λ same. let n : it.code ≡ 30 = same in absurd (omega arith);
-      rows = λ same. let n : it.code ≡ 31 = same in absurd (omega arith);
-      first = λ same. let n : it.code ≡ 31 = same in absurd (omega arith);
+      version = λ same. let n : code_of it.cause ≡ 30 = ap code_of same in absurd (omega arith);
+      rows = λ same. let n : code_of it.cause ≡ 31 = ap code_of same in absurd (omega arith);
+      first = λ same. let n : code_of it.cause ≡ 31 = ap code_of same in absurd (omega arith);
     }
 
 tells_rows : (trees : Trees) (number : ℕ) (it : OpenFault) → it ≡ unsound number → IsFirstAtFault trees number → TellsWhy trees it
 tells_rows trees number it is first =
-    let code : it.code ≡ 31 = ap code_of is in
+    let code : code_of it.cause ≡ 31 = ap code_in is in
     record {
-      version = λ same. let n : it.code ≡ 30 = same in absurd (omega arith);
+      version = λ same. let n : code_of it.cause ≡ 30 = ap code_of same in absurd (omega arith);
       rows = λ same. none_sound number trees first.none;
       first = λ same. subst (IsFirstAtFault trees) (sym (ap (λ (f : OpenFault). f.table) is)) first;
     }
 
-tells_version : (trees : Trees) (it : OpenFault) → it ≡ fault tables_refused → HasOtherVersion trees → TellsWhy trees it
+tells_version : (trees : Trees) (it : OpenFault) → it ≡ fault cause.OtherTables → HasOtherVersion trees → TellsWhy trees it
 tells_version trees it is version =
-    let code : it.code ≡ 30 = ap code_of is in
+    let code : code_of it.cause ≡ 30 = ap code_in is in
     record {
       version = λ same. version;
-      rows = λ same. let n : it.code ≡ 31 = same in absurd (omega arith);
-      first = λ same. let n : it.code ≡ 31 = same in absurd (omega arith);
+      rows = λ same. let n : code_of it.cause ≡ 31 = ap code_of same in absurd (omega arith);
+      first = λ same. let n : code_of it.cause ≡ 31 = ap code_of same in absurd (omega arith);
     }
 
 -- ---- one table that was read is checked
 
 pub judged_so : (t : TableName) (old new : Connected) (s : State) (read_as : Result Change OpenFault) (change : Change) → read_as ≡ Ok change → ReadsTable t old new s read_as
     → (r : Result Listed OpenFault) → IfOk r (λ judged. judged.content ≡ applied change s) → IfOk r (λ judged. IsSoundIn (applied change s) t)
-    → IfErr r (λ it. (it ≡ fault memory_refused) ⊎ ((it ≡ unsound (number_of t)) × (IsSoundIn (applied change s) t → ⊥)))
+    → IfErr r (λ it. (it ≡ fault cause.Memory) ⊎ ((it ≡ unsound (number_of t)) × (IsSoundIn (applied change s) t → ⊥)))
     → OpensTable t old new s r
 judged_so t old new s read_as change is h r content sound faults =
     let it = subst (ReadsTable t old new s) is h in
     go it r content sound faults (rests_so old new change it.rests r)
   where
     go : ReadsTable t old new s (Ok change) → (r : Result Listed OpenFault) → IfOk r (λ judged. judged.content ≡ applied change s) → IfOk r (λ judged. IsSoundIn (applied change s) t)
-        → IfErr r (λ it. (it ≡ fault memory_refused) ⊎ ((it ≡ unsound (number_of t)) × (IsSoundIn (applied change s) t → ⊥))) → Rests old new r → OpensTable t old new s r
+        → IfErr r (λ it. (it ≡ fault cause.Memory) ⊎ ((it ≡ unsound (number_of t)) × (IsSoundIn (applied change s) t → ⊥))) → Rests old new r → OpensTable t old new s r
     go it (Ok keeper) content sound faults rests = record {
       rests = rests;
       read = subst (IsReadTo (number_of t)) (sym content)
@@ -186,8 +187,8 @@ ends_so n m old new e out bad same h = record {
 
 abbrev pub IsAgencyFault : Connected → Connected → OpenFault → Type 0
 IsAgencyFault old new it =
-    (it ≡ fault memory_refused) ⊎ ((it ≡ fault store_refused)
-    ⊎ (((it ≡ fault tables_refused) × (HasCleanDisk new → old.now.schema ≡ desk_schema → HasOtherVersion old.now.trees))
+    (it ≡ fault cause.Memory) ⊎ ((it ≡ fault cause.StoreFailed)
+    ⊎ (((it ≡ fault cause.OtherTables) × (HasCleanDisk new → old.now.schema ≡ desk_schema → HasOtherVersion old.now.trees))
     ⊎ ((it ≡ unsound 1) × (HasCleanDisk new → old.now.schema ≡ desk_schema → NoneStandsTo 1 old.now.trees))))
 
 agency_refusal : (old new : Connected) (it : OpenFault) → IsAgencyFault old new it → IsRefusal it

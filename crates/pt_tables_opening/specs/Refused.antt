@@ -7,7 +7,7 @@ use Rattle.sqlite_schema.specs.declared.schema.Schema.{Schema}
 use Rattle.sqlite_trees.specs.Objects.{catalog_tree}
 use Rattle.pt_desk_rules.specs.Sound.{IsSound}
 use Rattle.pt_desk_rules.specs.State.{State}
-use Rattle.pt_tables_opening.specs.Faults.{rows_refused, tables_refused}
+use Rattle.pt_base.specs.declared.fault.Cause.TheVariants as cause
 use Rattle.pt_tables_rows.specs.Schema.{desk_schema}
 use Rattle.pt_tables_rows.specs.Tables.{HasRows}
 use Rattle.pt_tables_opening.specs.Standing.{IsFirstAtFault}
@@ -28,16 +28,16 @@ HasOtherTables trees = ListsOthers trees ⊎ HasOtherVersion trees
 
 -- if the tables are of another version, the refusal is not about their rows
 abbrev pub SparesOtherVersion : Trees → OpenFault → Type 0
-SparesOtherVersion trees refused = HasOtherVersion trees → refused.code ≢ rows_refused
+SparesOtherVersion trees refused = HasOtherVersion trees → refused.cause ≢ cause.UnsoundRows
 
 -- what a refusal says of the rows of the desk's tables
 pub record TellsWhy (trees : Trees) (refused : OpenFault) : Type 0 where
-  pub version : refused.code ≡ tables_refused → HasOtherVersion trees
-  pub rows : refused.code ≡ rows_refused → AreUnsound trees
-  pub first : refused.code ≡ rows_refused → IsFirstAtFault trees refused.table
+  pub version : refused.cause ≡ cause.OtherTables → HasOtherVersion trees
+  pub rows : refused.cause ≡ cause.UnsoundRows → AreUnsound trees
+  pub first : refused.cause ≡ cause.UnsoundRows → IsFirstAtFault trees refused.table
 
 -- what a refusal says of a database that may have other tables
 pub record TellsOf (db : Database) (refused : OpenFault) : Type 0 where
-  pub tables : refused.code ≡ tables_refused → (db.schema ≢ desk_schema) ⊎ HasOtherVersion db.trees
-  pub rows : refused.code ≡ rows_refused → AreUnsound db.trees
-  pub first : refused.code ≡ rows_refused → IsFirstAtFault db.trees refused.table
+  pub tables : refused.cause ≡ cause.OtherTables → (db.schema ≢ desk_schema) ⊎ HasOtherVersion db.trees
+  pub rows : refused.cause ≡ cause.UnsoundRows → AreUnsound db.trees
+  pub first : refused.cause ≡ cause.UnsoundRows → IsFirstAtFault db.trees refused.table

@@ -2,7 +2,7 @@
 use Rattle.std.specs.Prelude.{◌≡◌, ◌⊎◌, ℕ, ◌-◌, take, drop, Result, IfOk, IfErr}
 use Rattle.sqlite.specs.State.{State as Connected, HasCleanDisk}
 use Rattle.sqlite.specs.Tree.{Trees}
-use Rattle.pt_base.specs.Codes.{memory_refused}
+use Rattle.pt_base.specs.declared.fault.Cause.TheVariants as cause
 use Rattle.pt_store.specs.Listed.{Listed}
 use Rattle.pt_desk_rules.specs.State.{State, applied}
 use Rattle.pt_desk_rules.specs.declared.change.Change.{Change}
@@ -10,7 +10,7 @@ use Rattle.pt_records.specs.Records.{Each}
 use Rattle.pt_desk_rules.specs.TableNames.{all_tables, number_of}
 use Rattle.pt_soundness.specs.Tables.{IsSoundBefore, IsSoundTo}
 use Rattle.pt_desk_rules.specs.declared.table_name.TableName.{TableName}
-use Rattle.pt_tables_opening.specs.Faults.{IsRefusal, fault, store_refused, unsound}
+use Rattle.pt_tables_opening.specs.Faults.{IsRefusal, fault, unsound}
 use Rattle.pt_tables_opening.specs.Opening.{Rests}
 use Rattle.pt_tables_opening.specs.Refused.{SparesOtherVersion, TellsWhy}
 use Rattle.pt_tables_opening.specs.Standing.{NoneStandsTo}
@@ -36,8 +36,8 @@ HasRowsTo number s trees = Each (HasRowsIn s trees) (take number all_tables)
 -- out of memory, the store failed, or the rows of the table are at fault for this reason
 abbrev pub IsFaultOf : TableName → Type 0 → OpenFault → Type 0
 IsFaultOf table Why refused =
-    (refused ≡ fault memory_refused)
-    ⊎ ((refused ≡ fault store_refused) ⊎ ((refused ≡ unsound (number_of table)) × Why))
+    (refused ≡ fault cause.Memory)
+    ⊎ ((refused ≡ fault cause.StoreFailed) ⊎ ((refused ≡ unsound (number_of table)) × Why))
 
 -- A table is read: if the content has the rows of all earlier tables, the change adds the records of this one.
 pub record ReadsTable (table : TableName) (old new : Connected) (s : State) (result : Result Change OpenFault)

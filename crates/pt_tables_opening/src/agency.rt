@@ -1,8 +1,8 @@
 ghost use Rattle.std.specs.Prelude.{◌≡◌, ◌⊎◌, ◌∷◌, [], None, IfOk, IfErr};
 ghost use Rattle.sqlite.specs.Held.{state};
-ghost use Rattle.pt_base.specs.Codes.{memory_refused};
+ghost use Rattle.pt_base.specs.declared.fault.Cause.TheVariants as cause;
 ghost use Rattle.pt_base.specs.declared.policy.Policy.{Policy};
-ghost use Rattle.pt_tables_opening.specs.Faults.{fault, store_refused, tables_refused, unsound};
+ghost use Rattle.pt_tables_opening.specs.Faults.{fault, unsound};
 ghost use Rattle.pt_tables_opening.specs.Opening.{ReadsTables, Rests};
 ghost use Rattle.pt_tables_reading.specs.Reading.{agency_row, FitsAgency};
 ghost use Rattle.pt_tables_opening.specs.Refused.{SparesOtherVersion};
@@ -23,7 +23,7 @@ use sqlite::{Alter, Connection, Row};
 /// tables. Code 31: there is not exactly one row, or it has no policy.
 fn agency_from(rows: &[Row]) -> Result<(Policy, u32), OpenFault>
     ensures told { IfOk result (λ agency. (agency_row agency ∷ [] ≡ rows.now) × FitsAgency agency) }
-    ensures faults { IfErr result (λ refused. ((refused ≡ fault tables_refused) × IsOtherVersion rows.now)
+    ensures faults { IfErr result (λ refused. ((refused ≡ fault cause.OtherTables) × IsOtherVersion rows.now)
         ⊎ ((refused ≡ unsound 1) × TellsNoAgency rows.now)) }
 {
     let [row] = rows else {
@@ -44,8 +44,8 @@ fn agency_from(rows: &[Row]) -> Result<(Policy, u32), OpenFault>
 pub(crate) fn agency_in<S: Alter>(conn: &mut Connection<S>) -> Result<(Policy, u32), OpenFault>
     ensures told { ReadsTables (state S.Store conn.old) (state S.Store conn.new)
         (λ trees. IfOk result (IsAgencyOf trees)) }
-    ensures faults { IfErr result (λ refused. (refused ≡ fault memory_refused) ⊎ ((refused ≡ fault store_refused)
-        ⊎ (((refused ≡ fault tables_refused) × (ReadsTables (state S.Store conn.old) (state S.Store conn.new)
+    ensures faults { IfErr result (λ refused. (refused ≡ fault cause.Memory) ⊎ ((refused ≡ fault cause.StoreFailed)
+        ⊎ (((refused ≡ fault cause.OtherTables) × (ReadsTables (state S.Store conn.old) (state S.Store conn.new)
         HasOtherVersion))
         ⊎ ((refused ≡ unsound 1) × (ReadsTables (state S.Store conn.old) (state S.Store conn.new)
         (NoneStandsTo 1)))))) }

@@ -3,11 +3,11 @@
 ghost use Rattle.std.specs.Prelude.{◌≡◌, ◌⊎◌, ◌≤◌, ◌∷◌, [], List, None, Some, length, take, IfOk, IfErr, map, flat_map};
 ghost use Rattle.sqlite.specs.Order.{Row as StoredRow};
 ghost use Rattle.sqlite.specs.Held.{state};
-ghost use Rattle.pt_base.specs.Codes.{memory_refused};
+ghost use Rattle.pt_base.specs.declared.fault.Cause.TheVariants as cause;
 ghost use Rattle.pt_records.specs.Records.{Each, IsInOrder};
 ghost use Rattle.pt_desk_rules.specs.TableNames.{number_of};
 ghost use Rattle.pt_tables_opening.specs.Beside.{AreBeside, IsAlone, NoneBeside, TellsBeside};
-ghost use Rattle.pt_tables_opening.specs.Faults.{fault, store_refused, unsound};
+ghost use Rattle.pt_tables_opening.specs.Faults.{fault, unsound};
 ghost use Rattle.pt_tables_opening.specs.Gathered.{IsFitting, KeepsRows};
 ghost use Rattle.pt_tables_opening.specs.Opening.{AsksForAll, ReadsTables, Rests};
 ghost use Rattle.pt_tables_reading.specs.Reading.{ReadsBeside};
@@ -160,7 +160,7 @@ fn merged_table<T: Beside>(
     requires order { IsInOrder T.Record.key records.now }
     ensures told { IfOk result (λ edit.
         TellsBeside T.Record.key T.First.row_of T.rows_of T.Fits records.now rows.now (Some edit)) }
-    ensures faults { IfErr result (λ refused. (refused ≡ fault memory_refused)
+    ensures faults { IfErr result (λ refused. (refused ≡ fault cause.Memory)
         ⊎ ((refused ≡ unsound (number_of table))
         × TellsBeside T.Record.key T.First.row_of T.rows_of T.Fits records.now rows.now None)) }
 {
@@ -189,7 +189,7 @@ pub(crate) fn beside_in<S: Alter, T: Beside>(
     ensures same { IfOk result (λ edit. map T.First.row_of edit.puts ≡ map T.First.row_of records.now) }
     ensures told { ReadsTables (state S.Store conn.old) (state S.Store conn.new)
         (λ trees. IfOk result (λ edit. AreRows T.home trees (flat_map T.rows_of edit.puts))) }
-    ensures faults { IfErr result (λ refused. (refused ≡ fault memory_refused) ⊎ ((refused ≡ fault store_refused)
+    ensures faults { IfErr result (λ refused. (refused ≡ fault cause.Memory) ⊎ ((refused ≡ fault cause.StoreFailed)
         ⊎ ((refused ≡ unsound (number_of table)) × (ReadsTables (state S.Store conn.old) (state S.Store conn.new)
         (λ trees. AreRows T.First.home trees (map T.First.row_of records.now)
         → NoneBeside T.Record.key T.First.home T.home T.First.row_of T.rows_of T.Fits trees))))) }

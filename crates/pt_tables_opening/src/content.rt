@@ -1,5 +1,5 @@
 ghost use Rattle.std.specs.Prelude.{◌≡◌, ◌∷◌, [], Some, IfOk, IfErr};
-ghost use Rattle.pt_base.specs.Codes.{memory_refused};
+ghost use Rattle.pt_base.specs.declared.fault.Cause.TheVariants as cause;
 ghost use Rattle.pt_desk_rules.specs.Deciding.{no_change};
 ghost use Rattle.pt_desk_rules.specs.State.{applied};
 ghost use Rattle.pt_records.specs.Records.{Each};
@@ -22,7 +22,7 @@ const NO_KEY: &[u8] = &[];
 /// The desk after the change. Code 0: out of memory.
 pub(crate) fn with_change(keeper: ListKeeper, change: Change) -> Result<ListKeeper, OpenFault>
     ensures content { IfOk result (λ made. made.content ≡ applied change keeper.content) }
-    ensures memory { IfErr result (λ refused. refused ≡ fault memory_refused) }
+    ensures memory { IfErr result (λ refused. refused ≡ fault cause.Memory) }
 {
     let mut keeper = keeper;
     match keeper.reserve(&change) {
@@ -46,7 +46,7 @@ fn agency_change(
       policy = Some policy;
       last_trip = last_trip;
     }) }
-    ensures memory { IfErr result (λ refused. refused ≡ fault memory_refused) }
+    ensures memory { IfErr result (λ refused. refused ≡ fault cause.Memory) }
 {
     let mut change = Change {
         policy: Some(policy),
@@ -69,7 +69,7 @@ pub(crate) fn desk_of(
     ensures last_trip { IfOk result (λ keeper. keeper.content.last_trip ≡ last_trip) }
     ensures word { IfOk result (λ keeper. IsWord keeper.content.last_trip) }
     ensures none { IfOk result (λ keeper. Each (HasNoneIn keeper.content) all_tables) }
-    ensures memory { IfErr result (λ refused. refused ≡ fault memory_refused) }
+    ensures memory { IfErr result (λ refused. refused ≡ fault cause.Memory) }
 {
     let change = agency_change(alloc, policy, TripId::of(last_trip))?;
     match ListKeeper::new(alloc, NO_KEY) {

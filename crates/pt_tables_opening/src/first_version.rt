@@ -4,8 +4,8 @@ ghost use Rattle.std.specs.Prelude.{◌≡◌, ◌⊎◌, ◌↔◌, ◌∷◌, 
 ghost use Rattle.sqlite.specs.Held.{state};
 ghost use Rattle.sqlite.specs.Order.{Row as StoredRow, column};
 ghost use Rattle.sqlite.specs.State.{HasCleanDisk, IsUnchanged, Survives};
-ghost use Rattle.pt_base.specs.Codes.{memory_refused};
-ghost use Rattle.pt_tables_opening.specs.Faults.{fault, store_refused};
+ghost use Rattle.pt_base.specs.declared.fault.Cause.TheVariants as cause;
+ghost use Rattle.pt_tables_opening.specs.Faults.{fault};
 ghost use Rattle.pt_tables_opening.specs.Opening.{IsFirstVersion, RestsOn, Stays};
 ghost use Rattle.pt_tables_rows.specs.Rows.{number_value};
 ghost use Rattle.pt_tables_rows.specs.Schema.{first_schema, no_schema};
@@ -34,7 +34,7 @@ fn make_first_tables<S: Alter>(conn: &mut Connection<S>) -> Result<(), Error>
 /// Whether a schema is that of the tables of the first version. Fails if out of memory, or if the store fails.
 fn is_first_schema(alloc: Global, schema: &Schema) -> Result<bool, OpenFault>
     ensures value { IfOk result (λ is. IsTrue is ↔ (schema.now ≡ first_schema)) }
-    ensures faults { IfErr result (λ refused. (refused ≡ fault memory_refused) ⊎ (refused ≡ fault store_refused)) }
+    ensures faults { IfErr result (λ refused. (refused ≡ fault cause.Memory) ⊎ (refused ≡ fault cause.StoreFailed)) }
 {
     let Ok(mut conn) = Connection::open_in_memory(alloc) else {
         return Err(OpenFault::MEMORY);
@@ -60,7 +60,7 @@ fn tells_version(rows: &[Row], version: u32) -> bool
 fn tells_first<S: Alter>(conn: &mut Connection<S>) -> Result<bool, OpenFault>
     ensures value { HasCleanDisk (state S.Store conn.new) → (state S.Store conn.old).now.schema ≡ first_schema
         → IfOk result (λ is. IsTrue is ↔ IsFirstVersion (state S.Store conn.old).now) }
-    ensures faults { IfErr result (λ refused. (refused ≡ fault memory_refused) ⊎ (refused ≡ fault store_refused)) }
+    ensures faults { IfErr result (λ refused. (refused ≡ fault cause.Memory) ⊎ (refused ≡ fault cause.StoreFailed)) }
     ensures rests { RestsOn first_schema (state S.Store conn.old) (state S.Store conn.new) result }
 {
     match desk_rows(conn) {
@@ -79,7 +79,7 @@ pub fn is_first_version<S: Alter>(
         → IfOk result (λ is. IsTrue is ↔ IsFirstVersion (state S.Store conn.old).now) }
     ensures schema { HasCleanDisk (state S.Store conn.new)
         → IfOk result (λ is. IsTrue is → conn.new.schema ≡ first_schema) }
-    ensures faults { IfErr result (λ refused. (refused ≡ fault memory_refused) ⊎ (refused ≡ fault store_refused)) }
+    ensures faults { IfErr result (λ refused. (refused ≡ fault cause.Memory) ⊎ (refused ≡ fault cause.StoreFailed)) }
     ensures settled { conn.old.in_transaction ≡ false → conn.new.in_transaction ≡ false }
     ensures same { HasCleanDisk (state S.Store conn.new)
         → IfOk result (λ is. IsTrue is → IsUnchanged (state S.Store conn.old) (state S.Store conn.new)) }

@@ -5,9 +5,9 @@ ghost use Rattle.std.specs.Prelude.{◌≡◌, ◌⊎◌, ◌↔◌, ◌<◌, �
 ghost use Rattle.std.specs.Prelude.{slice_index_or};
 ghost use Rattle.sqlite.specs.Order.{Row as StoredRow, column};
 ghost use Rattle.sqlite.specs.Held.{state};
-ghost use Rattle.pt_base.specs.Codes.{memory_refused};
+ghost use Rattle.pt_base.specs.declared.fault.Cause.TheVariants as cause;
 ghost use Rattle.pt_desk_rules.specs.TableNames.{number_of};
-ghost use Rattle.pt_tables_opening.specs.Faults.{fault, store_refused, unsound};
+ghost use Rattle.pt_tables_opening.specs.Faults.{fault, unsound};
 ghost use Rattle.pt_tables_opening.specs.Gathered.{AreRowsOfNone, BeginsOnce, FitsRows, GathersNothing, IsFitting};
 ghost use Rattle.pt_tables_opening.specs.Gathered.{KeepsOrder, TellsGathered};
 ghost use Rattle.pt_tables_opening.specs.Opening.{AsksForAll, ReadsTables, Rests};
@@ -95,7 +95,7 @@ fn gathered_table<T: Gathered>(
 ) -> Result<Edits<T::Record>, OpenFault>
     ensures fitting { IfOk result (IsFitting T.Record.key (FitsRows T.rows_of T.Fits)) }
     ensures told { IfOk result (λ edit. flat_map T.rows_of edit.puts ≡ rows.now) }
-    ensures faults { IfErr result (λ refused. (refused ≡ fault memory_refused) ⊎ ((refused ≡ unsound (number_of table))
+    ensures faults { IfErr result (λ refused. (refused ≡ fault cause.Memory) ⊎ ((refused ≡ unsound (number_of table))
         × GathersNothing T.Record.key T.rows_of (FitsRows T.rows_of T.Fits) rows.now)) }
 {
     let Ok(found) = gathered_of::<T>(alloc, rows) else {
@@ -122,7 +122,7 @@ pub(crate) fn gathered_in<S: Alter, T: Gathered>(
     ensures fitting { IfOk result (IsFitting T.Record.key (FitsRows T.rows_of T.Fits)) }
     ensures told { ReadsTables (state S.Store conn.old) (state S.Store conn.new)
         (λ trees. IfOk result (λ edit. AreRows T.home trees (flat_map T.rows_of edit.puts))) }
-    ensures faults { IfErr result (λ refused. (refused ≡ fault memory_refused) ⊎ ((refused ≡ fault store_refused)
+    ensures faults { IfErr result (λ refused. (refused ≡ fault cause.Memory) ⊎ ((refused ≡ fault cause.StoreFailed)
         ⊎ ((refused ≡ unsound (number_of table)) × (ReadsTables (state S.Store conn.old) (state S.Store conn.new)
         (AreRowsOfNone T.Record.key T.home T.rows_of (FitsRows T.rows_of T.Fits)))))) }
     ensures rests { Rests (state S.Store conn.old) (state S.Store conn.new) result }

@@ -6,8 +6,8 @@ ghost use Rattle.std.specs.Prelude.{◌≡◌, ◌⊎◌, ◌↔◌, IsTrue, IfO
 ghost use Rattle.std.specs.List.{AllByRecursion};
 ghost use Rattle.sqlite.specs.Held.{state};
 ghost use Rattle.sqlite.specs.State.{HasCleanDisk};
-ghost use Rattle.pt_base.specs.Codes.{memory_refused};
-ghost use Rattle.pt_tables_opening.specs.Faults.{fault, store_refused};
+ghost use Rattle.pt_base.specs.declared.fault.Cause.TheVariants as cause;
+ghost use Rattle.pt_tables_opening.specs.Faults.{fault};
 ghost use Rattle.pt_tables_opening.specs.Plain.{IsPlainColumn, IsPlainTable, IsPlainSchema, no_stamps};
 ghost use Rattle.pt_tables_rows.specs.Schema.{desk_schema, no_schema};
 
@@ -201,7 +201,7 @@ fn make_tables<S: Alter>(conn: &mut Connection<S>) -> Result<(), Error>
 /// Whether a schema is that of the desk's tables. Fails if out of memory, or if the store fails.
 pub(crate) fn is_desk_schema(alloc: Global, schema: &Schema) -> Result<bool, OpenFault>
     ensures value { IfOk result (λ is. IsTrue is ↔ (schema.now ≡ desk_schema)) }
-    ensures faults { IfErr result (λ refused. (refused ≡ fault memory_refused) ⊎ (refused ≡ fault store_refused)) }
+    ensures faults { IfErr result (λ refused. (refused ≡ fault cause.Memory) ⊎ (refused ≡ fault cause.StoreFailed)) }
 {
     let Ok(mut conn) = Connection::open_in_memory(alloc) else {
         return Err(OpenFault::MEMORY);

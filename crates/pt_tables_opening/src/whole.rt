@@ -1,7 +1,7 @@
 ghost use Rattle.std.specs.Prelude.{◌≡◌, ◌⊎◌, ◌-◌, ◌<◌, IfOk, IfErr};
 ghost use Rattle.sqlite.specs.Held.{state};
 ghost use Rattle.sqlite.specs.State.{HasCleanDisk, IsLive, Survives};
-ghost use Rattle.pt_base.specs.Codes.{memory_refused};
+ghost use Rattle.pt_base.specs.declared.fault.Cause.TheVariants as cause;
 ghost use Rattle.pt_desk_rules.specs.Sound.{IsSound};
 ghost use Rattle.pt_desk_rules.specs.State.{applied};
 ghost use Rattle.pt_desk_rules.specs.TableNames.{number_of, table_count};
@@ -47,7 +47,7 @@ fn judged(
     requires laid { IsLaidIn (applied change keeper.content) table }
     ensures content { IfOk result (λ judged. judged.content ≡ applied change keeper.content) }
     ensures sound { IfOk result (λ judged. IsSoundIn (applied change keeper.content) table) }
-    ensures faults { IfErr result (λ refused. (refused ≡ fault memory_refused)
+    ensures faults { IfErr result (λ refused. (refused ≡ fault cause.Memory)
         ⊎ ((refused ≡ unsound (number_of table)) × ¬ IsSoundIn (applied change keeper.content) table)) }
 {
     let keeper = with_change(keeper, change)?;

@@ -82,7 +82,7 @@ module _ (places : List ℕ) (seen : List Record) (fields : Record) where
 
   -- a fault below the header
   pub next-fault : (rows : List Row) (fault : Fault) → 0 < length seen → IsReadSoFar places seen rows
-      → ((records : List Record) → IsSortedFrom records rows → HasFault places records fields fault.code) → fault.row ≡ number_after (length seen) → IsNextFault places seen fields fault
+      → ((records : List Record) → IsSortedFrom records rows → HasFault places records fields fault.cause) → fault.row ≡ number_after (length seen) → IsNextFault places seen fields fault
   next-fault rows fault some (inl (none, empty)) has number = absurd (omega (arith, ap length none))
   next-fault rows fault some (inr (records, is, sound, sorted)) has number = inr (records, is, sound, has records sorted, number)
 

@@ -1,6 +1,7 @@
 -- What a text reads as for a list of places depends on which places are in it alone.
 use Rattle.std.proofs.Common.{ℕ, ◌≤◌, inl, inr, ◌↔◌, List, length, Contains, arith}
 use Rattle.std.proofs.lemmas.List.Elements.{All-weaker}
+use Rattle.pt_base.specs.declared.fault.Cause.{Cause}
 use Rattle.pt_base.specs.declared.fault.Fault.{Fault}
 use Rattle.pt_travel.specs.Chain.{Row}
 use Rattle.pt_travel.specs.Text.{AreSound, HasFault, IsFirstFault, IsSound, NamesPlaces, ReadsAs, Record}
@@ -15,11 +16,11 @@ module _ (places others : List ℕ) (same : (p : ℕ) → Contains places p ↔ 
   all-same : (records : List Record) → AreSound places records → AreSound others records
   all-same records (sound, apart) = (All-weaker (IsSound places) (IsSound others) sound-same records sound, apart)
 
-  fault-same : (earlier : List Record) (fields : Record) (code : ℕ) → HasFault places earlier fields code → HasFault others earlier fields code
-  fault-same earlier fields code (inl few) = inl few
-  fault-same earlier fields code (inr (inl (is, three, other))) = inr (inl (is, three, λ names. other (names-same others places (λ p. (same p).1) fields names)))
-  fault-same earlier fields code (inr (inr (inl (is, three, names, other)))) = inr (inr (inl (is, three, names-same places others (λ p. (same p).0) fields names, other)))
-  fault-same earlier fields code (inr (inr (inr (is, sound, other, there, conflict)))) = inr (inr (inr (is, sound-same fields sound, other, there, conflict)))
+  fault-same : (earlier : List Record) (fields : Record) (why : Cause) → HasFault places earlier fields why → HasFault others earlier fields why
+  fault-same earlier fields why (inl few) = inl few
+  fault-same earlier fields why (inr (inl (is, three, other))) = inr (inl (is, three, λ names. other (names-same others places (λ p. (same p).1) fields names)))
+  fault-same earlier fields why (inr (inr (inl (is, three, names, other)))) = inr (inr (inl (is, three, names-same places others (λ p. (same p).0) fields names, other)))
+  fault-same earlier fields why (inr (inr (inr (is, sound, other, there, conflict)))) = inr (inr (inr (is, sound-same fields sound, other, there, conflict)))
 
   pub reads-same : (text : List ℕ) (rows : List Row) → length others ≤ 100 → ReadsAs text places rows → ReadsAs text others rows
   reads-same text rows few reads =
@@ -29,4 +30,4 @@ module _ (places others : List ℕ) (same : (p : ℕ) → Contains places p ↔ 
   first-fault-same text fault few few' (inl (is, many)) = absurd (omega arith)
   first-fault-same text fault few few' (inr (inl (is, _, lacks))) = inr (inl (is, few', lacks))
   first-fault-same text fault few few' (inr (inr (_, (earlier, fields, begins, sound, has, number)))) =
-      inr (inr (few', (earlier, fields, begins, all-same earlier sound, fault-same earlier fields fault.code has, number)))
+      inr (inr (few', (earlier, fields, begins, all-same earlier sound, fault-same earlier fields fault.cause has, number)))

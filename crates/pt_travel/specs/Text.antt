@@ -7,8 +7,8 @@ use Rattle.csv.specs.Reading.{AreRecords, Reached, default_config, strip_bom}
 use Rattle.csv.specs.declared.parser.State.{State}
 use Rattle.csv.specs.declared.parser.State.TheVariants as state
 use Rattle.pt_base.specs.declared.fault.Fault.{Fault}
-use Rattle.pt_base.specs.Codes.{record_refused, header_refused, place_refused, minutes_refused, pair_refused}
-use Rattle.pt_base.specs.Codes.{places_refused}
+use Rattle.pt_base.specs.declared.fault.Cause.{Cause}
+use Rattle.pt_base.specs.declared.fault.Cause.TheVariants as cause
 use Rattle.pt_travel.specs.Chain.{Row}
 use Rattle.pt_travel.specs.Table.{Rises}
 
@@ -76,12 +76,12 @@ abbrev pub IsSortedFrom : List Record → List Row → Type 0
 IsSortedFrom records rows = Rises rows × ((row : Row) → Contains rows row ↔ Contains (map row_of records) row)
 
 -- what is wrong with a record, after others that are sound
-abbrev pub HasFault : List ℕ → List Record → Record → ℕ → Type 0
-HasFault places earlier fields code =
-    ((code ≡ record_refused) × (length fields ≢ 3))
-    ⊎ ((code ≡ place_refused) × (length fields ≡ 3) × (NamesPlaces places fields → ⊥))
-    ⊎ ((code ≡ minutes_refused) × (length fields ≡ 3) × NamesPlaces places fields × (IsMinutes (field fields 2) → ⊥))
-    ⊎ ((code ≡ pair_refused) × IsSound places fields × (other : Row) × Contains (map row_of earlier) other
+abbrev pub HasFault : List ℕ → List Record → Record → Cause → Type 0
+HasFault places earlier fields why =
+    ((why ≡ cause.TravelRecord) × (length fields ≢ 3))
+    ⊎ ((why ≡ cause.TravelPlace) × (length fields ≡ 3) × (NamesPlaces places fields → ⊥))
+    ⊎ ((why ≡ cause.TravelMinutes) × (length fields ≡ 3) × NamesPlaces places fields × (IsMinutes (field fields 2) → ⊥))
+    ⊎ ((why ≡ cause.TravelPair) × IsSound places fields × (other : Row) × Contains (map row_of earlier) other
     × Conflicts (row_of fields) other)
 
 -- what was read so far: nothing, or the header row and sound records below it, with their rows in order
@@ -97,9 +97,9 @@ number_after count = min (count + 1) (2 ^ 32 - 1)
 -- the fault of the record after those that were read so far
 abbrev pub IsNextFault : List ℕ → List Record → Record → Fault → Type 0
 IsNextFault places seen fields fault =
-    ((seen ≡ []) × (fault ≡ record { code = header_refused; row = 1 }) × (fields ≢ header))
+    ((seen ≡ []) × (fault ≡ record { cause = cause.TravelHeader; row = 1 }) × (fields ≢ header))
     ⊎ ((records : List Record) × (seen ≡ header ∷ records) × AreSound places records
-    × HasFault places records fields fault.code
+    × HasFault places records fields fault.cause
     × (fault.row ≡ number_after (length seen)))
 
 -- a text reads as a table of these rows
@@ -118,12 +118,12 @@ LacksHeader text = HasRecords text [] ⊎ ((first : Record) × BeginsWith text (
 abbrev pub FailsAt : List ℕ → List ℕ → Fault → Type 0
 FailsAt text places fault =
     (earlier : List Record) × (fields : Record) × BeginsWith text (header ∷ earlier ++ (fields ∷ []))
-    × AreSound places earlier × HasFault places earlier fields fault.code
+    × AreSound places earlier × HasFault places earlier fields fault.cause
     × (fault.row ≡ number_after (length earlier + 1))
 
 -- the first fault of a text: too many places, then no header row, then that of the first record that is not sound
 abbrev pub IsFirstFault : List ℕ → List ℕ → Fault → Type 0
 IsFirstFault text places fault =
-    ((fault ≡ record { code = places_refused; row = 0 }) × (100 < length places))
-    ⊎ ((fault ≡ record { code = header_refused; row = 1 }) × (length places ≤ 100) × LacksHeader text)
+    ((fault ≡ record { cause = cause.TravelPlaces; row = 0 }) × (100 < length places))
+    ⊎ ((fault ≡ record { cause = cause.TravelHeader; row = 1 }) × (length places ≤ 100) × LacksHeader text)
     ⊎ ((length places ≤ 100) × FailsAt text places fault)

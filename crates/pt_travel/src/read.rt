@@ -2,7 +2,7 @@ ghost use Rattle.std.specs.Prelude.{◌≡◌, ◌⊎◌, true, Some, IfOk, IfEr
 ghost use Rattle.csv.specs.Reading.{ReadRecord, Ready, reader_trim};
 ghost use Rattle.csv.specs.Records.{fields_of};
 ghost use Rattle.csv.specs.declared.reader.Trim.TheVariants as trim;
-ghost use Rattle.pt_base.specs.Codes.{memory_refused};
+ghost use Rattle.pt_base.specs.declared.fault.Cause.TheVariants as cause;
 ghost use Rattle.pt_travel.specs.Places.{list_of};
 ghost use Rattle.pt_travel.specs.Text.{IsFirstFault, ReadsAs};
 
@@ -10,8 +10,7 @@ use crate::places::Places;
 use crate::raw::{MOST_PLACES, Raw, Row};
 use crate::record;
 use csv::{ByteRecord, Reader, ReaderBuilder};
-use pt_base::fault::{TRAVEL_HEADER, TRAVEL_PLACES};
-use pt_base::{Fault, PlaceId};
+use pt_base::{Cause, Fault, PlaceId};
 use std::alloc::Global;
 
 impl Raw {
@@ -24,11 +23,11 @@ impl Raw {
     /// with other minutes is 24. Rows count records, and the header is row 1.
     pub fn read(alloc: Global, text: &[u8], places: &[PlaceId]) -> Result<Self, Fault>
         ensures reads { IfOk result (λ raw. ReadsAs text.now places.now raw) }
-        ensures faulty { IfErr result (λ fault. (fault ≡ record { code = memory_refused; row = 0 })
+        ensures faulty { IfErr result (λ fault. (fault ≡ record { cause = cause.Memory; row = 0 })
             ⊎ IsFirstFault text.now places.now fault) }
     {
         if places.len() > MOST_PLACES {
-            return Err(Fault::of(TRAVEL_PLACES));
+            return Err(Fault::of(Cause::TravelPlaces));
         }
         let places = Places::listed(places);
         let rows = read_rows(alloc, text, &places)?;
@@ -39,7 +38,7 @@ impl Raw {
 // The rows of the records below the header, in order and each once.
 fn read_rows(alloc: Global, text: &[u8], places: &Places) -> Result<Vec<Row>, Fault>
     ensures reads { IfOk result (λ rows. ReadsAs text.now (list_of places.now) rows.items) }
-    ensures faulty { IfErr result (λ fault. (fault ≡ record { code = memory_refused; row = 0 })
+    ensures faulty { IfErr result (λ fault. (fault ≡ record { cause = cause.Memory; row = 0 })
         ⊎ IsFirstFault text.now (list_of places.now) fault) }
 {
     let mut reader = ReaderBuilder::new()
@@ -55,7 +54,7 @@ fn read_rows(alloc: Global, text: &[u8], places: &Places) -> Result<Vec<Row>, Fa
     }
     if number == 0 {
         return Err(Fault {
-            code: TRAVEL_HEADER,
+            cause: Cause::TravelHeader,
             row: 1,
         });
     }
@@ -69,11 +68,11 @@ fn next_record(reader: &mut Reader<&[u8]>, given: &mut ByteRecord) -> Result<boo
     ensures reads { IfOk result
         (λ found. ReadRecord (λ s. Some s.now) reader.old reader.new found (fields_of given.new)) }
     ensures ready { IfOk result (λ found. found ≡ true → Ready reader.new) }
-    ensures refused { IfErr result (λ fault. fault ≡ record { code = memory_refused; row = 0 }) }
+    ensures refused { IfErr result (λ fault. fault ≡ record { cause = cause.Memory; row = 0 }) }
 {
     // The bytes lie in memory and a record may have any length, so a read fails only if out of memory.
     match reader.read_byte_record(given) {
         Ok(found) => Ok(found),
-        Err(_) => Err(Fault::of(pt_base::fault::MEMORY)),
+        Err(_) => Err(Fault::of(Cause::Memory)),
     }
 }

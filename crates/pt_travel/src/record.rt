@@ -1,7 +1,7 @@
 ghost use Rattle.std.specs.Prelude.{◌≡◌, ℕ, ◌⊎◌, ◌↔◌, List, [], ◌∷◌, ◌++◌, length, slice_index_or};
 ghost use Rattle.std.specs.Prelude.{IsTrue, IfOk, OnOk, IfErr};
 ghost use Rattle.csv.specs.Records.{fields_of};
-ghost use Rattle.pt_base.specs.Codes.{memory_refused, header_refused};
+ghost use Rattle.pt_base.specs.declared.fault.Cause.TheVariants as cause;
 ghost use Rattle.pt_travel.specs.Places.{list_of};
 ghost use Rattle.pt_travel.specs.Table.{Rises};
 ghost use Rattle.pt_travel.specs.Text.{HasFault, IsNextFault, IsReadSoFar, IsSound, Record};
@@ -11,8 +11,7 @@ use crate::places::Places;
 use crate::raw::Row;
 use crate::{fields, sorted};
 use csv::ByteRecord;
-use pt_base::Fault;
-use pt_base::fault::{TRAVEL_HEADER, TRAVEL_MINUTES, TRAVEL_PLACE, TRAVEL_RECORD};
+use pt_base::{Cause, Fault};
 
 /// Takes the record of this number: the header row, or a row that is put among the others in order.
 pub(crate) fn take(
@@ -25,7 +24,7 @@ pub(crate) fn take(
     ensures taken { OnOk result ((seen : List Record) → number ≡ number_after (length seen)
         → IsReadSoFar (list_of places.now) seen rows.old.items
         → IsReadSoFar (list_of places.now) (seen ++ fields_of given.now ∷ []) rows.new.items) }
-    ensures faulty { IfErr result (λ fault. (fault ≡ record { code = memory_refused; row = 0 })
+    ensures faulty { IfErr result (λ fault. (fault ≡ record { cause = cause.Memory; row = 0 })
         ⊎ ((seen : List Record) → number ≡ number_after (length seen)
         → IsReadSoFar (list_of places.now) seen rows.old.items
         → IsNextFault (list_of places.now) seen (fields_of given.now) fault)) }
@@ -35,7 +34,7 @@ pub(crate) fn take(
     }
     match row(given, places) {
         Ok(row) => sorted::put(rows, row, number),
-        Err(code) => Err(Fault { code, row: number }),
+        Err(cause) => Err(Fault { cause, row: number }),
     }
 }
 
@@ -43,7 +42,7 @@ pub(crate) fn take(
 #[tactic(auto, using(crate::proofs::RecordLemmas::header_from))]
 fn header(given: &ByteRecord) -> Result<(), Fault>
     ensures header { OnOk result (fields_of given.now ≡ header) }
-    ensures other { IfErr result (λ fault. (fault ≡ record { code = header_refused; row = 1 })
+    ensures other { IfErr result (λ fault. (fault ≡ record { cause = cause.TravelHeader; row = 1 })
         × (fields_of given.now ≡ header → ⊥)) }
 {
     if given.len() == 3
@@ -54,30 +53,30 @@ fn header(given: &ByteRecord) -> Result<(), Fault>
         return Ok(());
     }
     Err(Fault {
-        code: TRAVEL_HEADER,
+        cause: Cause::TravelHeader,
         row: 1,
     })
 }
 
-// The row that a record spells, or the code of its fault.
-fn row(given: &ByteRecord, places: &Places) -> Result<Row, u16>
+// The row that a record spells, or the cause of its fault.
+fn row(given: &ByteRecord, places: &Places) -> Result<Row, Cause>
     ensures sound { IfOk result (λ row. IsSound (list_of places.now) (fields_of given.now)
         × (row ≡ row_of (fields_of given.now))) }
-    ensures faulty { IfErr result (λ code. (earlier : List Record)
-        → HasFault (list_of places.now) earlier (fields_of given.now) code) }
+    ensures faulty { IfErr result (λ why. (earlier : List Record)
+        → HasFault (list_of places.now) earlier (fields_of given.now) why) }
 {
     if given.len() != 3 {
-        return Err(TRAVEL_RECORD);
+        return Err(Cause::TravelRecord);
     }
     let (Some(from), Some(to)) = (
         fields::place(field(given, 0), places),
         fields::place(field(given, 1), places),
     ) else {
-        return Err(TRAVEL_PLACE);
+        return Err(Cause::TravelPlace);
     };
     match fields::minutes(field(given, 2)) {
         Some(minutes) => Ok((from, to, minutes)),
-        None => Err(TRAVEL_MINUTES),
+        None => Err(Cause::TravelMinutes),
     }
 }
 

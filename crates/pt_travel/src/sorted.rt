@@ -1,11 +1,10 @@
 ghost use Rattle.std.specs.Prelude.{◌≡◌, ℕ, ◌<◌, ◌≤◌, ◌⊎◌, ◌↔◌, length, slice_index_or, Contains, IsTrue, OnOk, IfErr};
-ghost use Rattle.pt_base.specs.Codes.{memory_refused, pair_refused};
+ghost use Rattle.pt_base.specs.declared.fault.Cause.TheVariants as cause;
 ghost use Rattle.pt_travel.specs.Table.{ComesBefore, Rises};
 ghost use Rattle.pt_travel.specs.Text.{Conflicts};
 
 use crate::raw::{Row, comes_before};
-use pt_base::Fault;
-use pt_base::fault::TRAVEL_PAIR;
+use pt_base::{Cause, Fault};
 use std::alloc::AllocError;
 
 /// Puts a row among others in order, unless it is there; `number` is the number of its record.
@@ -14,8 +13,8 @@ pub(crate) fn put(rows: &mut Vec<Row>, row: Row, number: u32) -> Result<(), Faul
     ensures rises { OnOk result (Rises rows.new.items) }
     ensures rows { OnOk result ((other : ℕ × ℕ × ℕ) → Contains rows.new.items other
         ↔ (Contains rows.old.items other ⊎ (other ≡ row))) }
-    ensures refused { IfErr result (λ fault. (fault ≡ record { code = memory_refused; row = 0 })
-        ⊎ ((fault ≡ record { code = pair_refused; row = number }) × (other : ℕ × ℕ × ℕ)
+    ensures refused { IfErr result (λ fault. (fault ≡ record { cause = cause.Memory; row = 0 })
+        ⊎ ((fault ≡ record { cause = cause.TravelPair; row = number }) × (other : ℕ × ℕ × ℕ)
         × Contains rows.old.items other × Conflicts row other)) }
 {
     let k = place_for(rows, &row);
@@ -24,7 +23,7 @@ pub(crate) fn put(rows: &mut Vec<Row>, row: Row, number: u32) -> Result<(), Faul
             return Ok(());
         }
         return Err(Fault {
-            code: TRAVEL_PAIR,
+            cause: Cause::TravelPair,
             row: number,
         });
     }

@@ -3,7 +3,7 @@ use crate::asking::is_right;
 use crate::four_places::Place::{A, Away, B};
 use crate::four_places::{asked, empty, seated, vehicle};
 use pt_audit::{End, Line, Raise, read_log};
-use pt_base::Fault;
+use pt_base::{Cause, Fault};
 use pt_insertion::{Asked, Duty};
 use std::alloc::Global;
 use std::process::Abort;
@@ -147,7 +147,14 @@ fn finds_the_first_row_out_of_form(rt: HostRuntime) -> Result<(), Fail> {
         ("AUDIT 1\n\nDONE\n", 2),
     ] {
         let fault = read_log(rt.alloc(), text.as_bytes()).err();
-        assert_eq!(rt; fault, Some(Fault { code: 50, row }), "{text}");
+        assert_eq!(rt;
+            fault,
+            Some(Fault {
+                cause: Cause::LogLine,
+                row
+            }),
+            "{text}"
+        );
     }
     let log = read_log(
         rt.alloc(),

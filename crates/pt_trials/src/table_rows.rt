@@ -1,5 +1,5 @@
 //! Tables of driving times, as examples.
-use pt_base::{Fault, PlaceId};
+use pt_base::{Cause, Fault, PlaceId};
 use pt_travel::{Closed, Raw, Row, Times};
 use std::alloc::{AllocError, Global};
 use std::test::Fail;
@@ -122,7 +122,7 @@ fn at_most_100_places_are_read_for(rt: HostRuntime) -> Result<(), Fail> {
     assert_eq!(rt; Raw::read(alloc, text, &hundred)?.rows().len(), 1);
     assert_eq!(rt;
         Raw::read(alloc, b"", &more).err(),
-        Some(Fault { code: 25, row: 0 })
+        Some(Fault::of(Cause::TravelPlaces))
     );
     Ok(())
 }

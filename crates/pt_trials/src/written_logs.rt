@@ -2,8 +2,7 @@
 use crate::four_places::Place::{A, Away, B};
 use crate::four_places::{asked, empty, seated, vehicle};
 use crate::times::Plain;
-use pt_base::Fault;
-use pt_base::fault::WRITE_FAILED;
+use pt_base::{Cause, Fault};
 use pt_insertion::{Asked, Duty, are_rising, are_without, best};
 use pt_insertion_log::explain;
 use std::io::{ErrorKind, Write};
@@ -66,6 +65,6 @@ impl Write for Full {
 #[test]
 fn tells_a_write_that_failed(rt: HostRuntime) -> Result<(), Fail> {
     let fault = refuse(&[], &asked(1, (A, B), (480, 600), seated(2)), &mut Full)?;
-    assert_eq!(rt; fault, Err(Fault::of(WRITE_FAILED)));
+    assert_eq!(rt; fault, Err(Fault::of(Cause::WriteFailed)));
     Ok(())
 }

@@ -1,6 +1,6 @@
 use Rattle.std.proofs.Common.{◌≡◌, ◌∙◌, Global, map, refl, string_bytes, subst, sym}
 use Rattle.pt_base.specs.Fault.{fault}
-use Rattle.pt_command_line.specs.Codes.{wrong_words}
+use Rattle.pt_base.specs.declared.fault.Cause.TheVariants as cause
 use Rattle.pt_command_line.specs.Line.{AsksOf}
 use Rattle.pt_command_line.proofs.PlainLemmas.{spelled_is_line}
 use Rattle.pt_command_line.proofs.SameLemmas.{same_line}
@@ -18,7 +18,7 @@ returns-in-Ok-clause-plain c = λ asked spells is.
 
 pub returns-clause-wrong : goal.returns-clause-wrong
 returns-clause-wrong c = λ is asked line.
-    let wrong : c.refusal_of.result ≡ fault wrong_words = cc is in
+    let wrong : c.refusal_of.result ≡ fault cause.WrongWords = cc is in
     c.refusal_of.ensures.wrong wrong (c.kind.ensures ∙ memory_alone _ c.in-Err.error line.0 c.in-Err.ensures.refused)
 
 pub returns-clause-plain : goal.returns-clause-plain

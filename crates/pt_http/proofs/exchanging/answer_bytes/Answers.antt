@@ -1,5 +1,5 @@
 use Rattle.std.proofs.Common.{◌≡◌, inl, refl, rules}
-use Rattle.pt_base.specs.Codes.{memory_refused}
+use Rattle.pt_base.specs.declared.fault.Cause.TheVariants as cause
 use Rattle.pt_base.specs.Fault.{fault}
 use Rattle.pt_http.specs.Answering.{AnswersOne, CanBeAskedAgain}
 use Rattle.pt_http.specs.Exchange.{IsExchangedOver}
@@ -9,7 +9,7 @@ use Rattle.pt_http.proofs.exchanging.answer_bytes.Goals as goal
 
 pub returns-in_default-clause-answers : goal.returns-in_default-clause-answers
 returns-in_default-clause-answers g c =
-    let none : c.of.result ≡ fault memory_refused = search rules in
+    let none : c.of.result ≡ fault cause.Memory = search rules in
     answers_none _ _ (g.K.Keeper.store c.args.keeper.now) c.args.now (g.W.Write.contents c.args.out.now) _ c.of.result
     (inl none) (refl, refl)
 

@@ -7,7 +7,7 @@ use Rattle.pt_rehearsal.proofs.NextLemmas.{next_some, next_none, nothing_left}
 use Rattle.pt_http.proofs.ReceivedLemmas.{reads_input, none_left}
 use Rattle.pt_rehearsal.proofs.RehearsalLemmas.{begun, stops, ends, step_of, one_longer, one_more, went_on}
 use Rattle.pt_rehearsal.proofs.RehearsalLemmas.{stopped_here, stopped_unanswered, stopped_unheard, either, read_no_line}
-use Rattle.pt_rehearsal.proofs.RehearsalLemmas.{read_code_no_line}
+use Rattle.pt_rehearsal.proofs.RehearsalLemmas.{read_cause_no_line}
 use Rattle.pt_rehearsal.proofs.rehearsal.go_through.Goals as goal
 
 pub loop-init : goal.loop-init
@@ -113,7 +113,7 @@ pub returns-then-branch-clause-stopped : goal.returns-then-branch-clause-stopped
 returns-then-branch-clause-stopped g c = λ clean input has.
     let st = c.loop.invariant.stands clean input has in
     stopped_here _ input _ _ _ _ _ c.of.result st c.loop.auto.counter-end
-    (λ line. absurd (read_code_no_line c.of.result c.of.ensures.code line))
+    (λ line. absurd (read_cause_no_line c.of.result c.of.ensures.cause line))
 
 pub returns-clause-finished : goal.returns-clause-finished
 returns-clause-finished g c = λ clean input has.

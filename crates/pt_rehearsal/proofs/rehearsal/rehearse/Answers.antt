@@ -1,6 +1,6 @@
 use Rattle.std.proofs.Common.{arith}
 use Rattle.pt_http.proofs.AnsweringLemmas.{goes_nowhere}
-use Rattle.pt_rehearsal.proofs.RehearsalLemmas.{begun, stopped_here, memory_code_no_line}
+use Rattle.pt_rehearsal.proofs.RehearsalLemmas.{begun, stopped_here, memory_cause_no_line}
 use Rattle.pt_rehearsal.proofs.rehearsal.rehearse.Goals as goal
 
 pub returns-in_default-clause-goes : goal.returns-in_default-clause-goes
@@ -10,4 +10,4 @@ pub returns-in_default-clause-stopped : goal.returns-in_default-clause-stopped
 returns-in_default-clause-stopped g c = λ clean input has.
     stopped_here g.R.Read.remaining input _ _ _ _ c.args.inbox.now c.of.result
     (begun g.R.Read.remaining input _ _ c.args.inbox.now has) (omega arith)
-    (λ line. absurd (memory_code_no_line c.of.result c.of.ensures.code line))
+    (λ line. absurd (memory_cause_no_line c.of.result c.of.ensures.cause line))

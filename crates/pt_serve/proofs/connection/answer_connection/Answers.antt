@@ -1,5 +1,5 @@
 use Rattle.std.proofs.Common.{◌≡◌, ◌∙◌, ℕ, List, ◌++◌, Some, ap, inl, refl, sym}
-use Rattle.pt_base.specs.Codes.{memory_refused}
+use Rattle.pt_base.specs.declared.fault.Cause.TheVariants as cause
 use Rattle.pt_base.specs.Fault.{fault}
 use Rattle.pt_http.proofs.AnsweringLemmas.{answers_failed, answers_none, answers_otherwise, answers_told, handed}
 use Rattle.pt_serve.specs.Connection.{AnswersFrom, IsAnsweredFrom}
@@ -12,9 +12,9 @@ returns-in_err-inbox g c =
     record {
       answers = handed
           (λ result. AnswersFrom (g.R.Read.remaining c.args.reader) store store c.args.now written written
-          ((c.args.keeper.now ≡ c.args.keeper.now) × (c.args.out.now ≡ c.args.out.now)) result) (fault memory_refused)
+          ((c.args.keeper.now ≡ c.args.keeper.now) × (c.args.out.now ≡ c.args.out.now)) result) (fault cause.Memory)
           c.from_residual.result c.from_residual.ensures.1
-          (answers_none _ _ store c.args.now written _ (fault memory_refused) (inl refl) (refl, refl));
+          (answers_none _ _ store c.args.now written _ (fault cause.Memory) (inl refl) (refl, refl));
     }
 
 pub returns-in_err-exchange : goal.returns-in_err-exchange

@@ -1,5 +1,5 @@
 use Rattle.std.proofs.Common.{◌≡◌, Some, ap, inr, refl, rules}
-use Rattle.pt_base.specs.Codes.{read_failed}
+use Rattle.pt_base.specs.declared.fault.Cause.TheVariants as cause
 use Rattle.pt_base.specs.Fault.{fault}
 use Rattle.pt_http.proofs.AnsweringLemmas.{answers_none, answers_otherwise}
 use Rattle.pt_serve.specs.Connection.{IsAnsweredFrom}
@@ -10,7 +10,7 @@ along one other f is = ap f is
 
 pub returns-in_default : goal.returns-in_default
 returns-in_default g c =
-    let none : c.of.result ≡ fault read_failed = search rules in
+    let none : c.of.result ≡ fault cause.ReadFailed = search rules in
     record {
       answers = answers_none _ _ (g.K.Keeper.store c.args.keeper.now) c.args.now (g.W.Write.contents c.args.out) _
           c.of.result (inr none) (refl, refl);

@@ -1,11 +1,11 @@
-use Rattle.std.proofs.Common.{◌≡◌, inl, inr, subst, subst₂, sym, arith}
+use Rattle.std.proofs.Common.{◌≡◌, ap, inl, inr, subst, subst₂, sym, arith}
 use Rattle.sqlite.specs.Held.{Held, state}
 use Rattle.sqlite.specs.State.{HasCleanDisk}
 use Rattle.sqlite.specs.Tree.{Trees}
-use Rattle.pt_base.specs.Codes.{memory_refused}
+use Rattle.pt_base.specs.Fault.{code_of}
+use Rattle.pt_base.specs.declared.fault.Cause.TheVariants as cause
 use Rattle.pt_desk_rules.specs.Sound.{IsSound}
 use Rattle.pt_desk_rules.specs.State.{State}
-use Rattle.pt_tables_opening.specs.Faults.{rows_refused, store_refused, tables_refused}
 use Rattle.pt_tables_opening.specs.declared.open_fault.OpenFault.{OpenFault}
 use Rattle.pt_tables_rows.specs.Tables.{HasRows}
 use Rattle.pt_tables.proofs.AdoptLemmas.{adopted, desk_adopted, first_committed, handed_back, left_before, no_other_tables, others_committed, read_committed, still_committed}
@@ -147,12 +147,12 @@ returns-in-Err-clause-kept g c clean here =
 
 pub returns-in-Err-clause-first : goal.returns-in-Err-clause-first
 returns-in-Err-clause-first g c clean code = elim c.in-Err.ensures.faults [
-  | inl is ↦ (let other : memory_refused ≡ rows_refused = subst (λ (f : OpenFault). f.code ≡ rows_refused) is code in absurd (omega arith))
-  | inr is ↦ (let other : store_refused ≡ rows_refused = subst (λ (f : OpenFault). f.code ≡ rows_refused) is code in absurd (omega arith))
+  | inl is ↦ (let other : 0 ≡ 31 = ap code_of (subst (λ (f : OpenFault). f.cause ≡ cause.UnsoundRows) is code) in absurd (omega arith))
+  | inr is ↦ (let other : 32 ≡ 31 = ap code_of (subst (λ (f : OpenFault). f.cause ≡ cause.UnsoundRows) is code) in absurd (omega arith))
 ]
 
 pub returns-in-Err-clause-desk : goal.returns-in-Err-clause-desk
 returns-in-Err-clause-desk g c clean content desk code = elim c.in-Err.ensures.faults [
-  | inl is ↦ (let other : memory_refused ≡ tables_refused = subst (λ (f : OpenFault). f.code ≡ tables_refused) is code in absurd (omega arith))
-  | inr is ↦ (let other : store_refused ≡ tables_refused = subst (λ (f : OpenFault). f.code ≡ tables_refused) is code in absurd (omega arith))
+  | inl is ↦ (let other : 0 ≡ 30 = ap code_of (subst (λ (f : OpenFault). f.cause ≡ cause.OtherTables) is code) in absurd (omega arith))
+  | inr is ↦ (let other : 32 ≡ 30 = ap code_of (subst (λ (f : OpenFault). f.cause ≡ cause.OtherTables) is code) in absurd (omega arith))
 ]

@@ -1,8 +1,8 @@
 use Rattle.std.proofs.Common.{◌≡◌, sym, subst}
 use Rattle.sqlite.specs.Held.{state}
 use Rattle.sqlite.specs.State.{HasCleanDisk}
-use Rattle.pt_base.specs.Codes.{memory_refused}
-use Rattle.pt_tables_opening.specs.Faults.{fault, store_refused, tables_refused, unsound}
+use Rattle.pt_base.specs.declared.fault.Cause.TheVariants as cause
+use Rattle.pt_tables_opening.specs.Faults.{fault, unsound}
 use Rattle.pt_tables_opening.specs.Opening.{Rests}
 use Rattle.pt_tables_rows.specs.Schema.{desk_schema, desk_table}
 use Rattle.pt_tables_rows.specs.Tables.{AreRows}
@@ -28,7 +28,7 @@ returns-clause-faults g c =
     agency_refused trees c.deref.result.now (HasCleanDisk (state g.S.Store c.desk_rows.new.conn))
     ((state g.S.Store c.args.conn.now).now.schema ≡ desk_schema)
     (λ clean has. subst (AreRows desk_table trees) (sym c.deref.ensures.value) (c.in-Ok.ensures.rows clean has))
-    (fault memory_refused) (fault store_refused) (fault tables_refused) (unsound 1) c.agency_from.result c.agency_from.ensures.faults
+    (fault cause.Memory) (fault cause.StoreFailed) (fault cause.OtherTables) (unsound 1) c.agency_from.result c.agency_from.ensures.faults
 
 pub returns-clause-version : goal.returns-clause-version
 returns-clause-version g c clean has =

@@ -1,8 +1,8 @@
 use Rattle.std.proofs.Common.{◌≡◌, refl, sym, subst}
 use Rattle.sqlite.specs.Held.{state}
 use Rattle.sqlite.specs.State.{HasCleanDisk}
-use Rattle.pt_base.specs.Codes.{memory_refused}
-use Rattle.pt_tables_opening.specs.Faults.{fault, store_refused, unsound}
+use Rattle.pt_base.specs.declared.fault.Cause.TheVariants as cause
+use Rattle.pt_tables_opening.specs.Faults.{fault, unsound}
 use Rattle.pt_tables_opening.specs.Gathered.{KeepsRows}
 use Rattle.pt_tables_rows.specs.Schema.{desk_schema}
 use Rattle.pt_tables_rows.specs.Tables.{AreRows}
@@ -36,7 +36,7 @@ returns-clause-faults g c =
     (λ clean has. subst (AreRows second trees) (sym c.deref.ensures.value) (shows_asked c.requires.asked old new has rows (c.in-Ok.ensures.shown clean)).0)
     (λ clean has. subst (KeepsRows g.T.Record.Keyed.key g.T.TableOf.rows_of g.T.TableOf.Fits)
     (sym c.deref.ensures.value) (shows_asked c.requires.asked old new has rows (c.in-Ok.ensures.shown clean)).1)
-    (fault memory_refused) (fault store_refused) (unsound (number_of c.args.table)) c.merged_table.result c.merged_table.ensures.faults
+    (fault cause.Memory) (fault cause.StoreFailed) (unsound (number_of c.args.table)) c.merged_table.result c.merged_table.ensures.faults
 
 pub returns-clause-same : goal.returns-clause-same
 returns-clause-same g c =

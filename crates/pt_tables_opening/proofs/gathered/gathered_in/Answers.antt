@@ -1,8 +1,8 @@
 use Rattle.std.proofs.Common.{◌≡◌, refl, sym, subst}
 use Rattle.sqlite.specs.Held.{state}
 use Rattle.sqlite.specs.State.{HasCleanDisk}
-use Rattle.pt_base.specs.Codes.{memory_refused}
-use Rattle.pt_tables_opening.specs.Faults.{fault, store_refused, unsound}
+use Rattle.pt_base.specs.declared.fault.Cause.TheVariants as cause
+use Rattle.pt_tables_opening.specs.Faults.{fault, unsound}
 use Rattle.pt_tables_opening.specs.Gathered.{FitsRows, KeepsOrder}
 use Rattle.pt_tables_rows.specs.Schema.{desk_schema}
 use Rattle.pt_tables_rows.specs.Tables.{AreRows}
@@ -44,4 +44,4 @@ returns-clause-faults g c =
     refuses_table key home rows_of Fits old.now.trees c.deref.result.now (HasCleanDisk new) (old.now.schema ≡ desk_schema)
     (λ clean has. subst (AreRows home old.now.trees) (sym c.deref.ensures.value) (shows_asked c.requires.asked old new has rows (c.in-Ok.ensures.shown clean)).0)
     (λ clean has. subst (KeepsOrder key rows_of Fits) (sym c.deref.ensures.value) (shows_asked c.requires.asked old new has rows (c.in-Ok.ensures.shown clean)).1)
-    (fault memory_refused) (fault store_refused) (unsound (number_of c.args.table)) c.gathered_table.result c.gathered_table.ensures.faults
+    (fault cause.Memory) (fault cause.StoreFailed) (unsound (number_of c.args.table)) c.gathered_table.result c.gathered_table.ensures.faults

@@ -3,7 +3,7 @@ use Rattle.std.proofs.lemmas.List.{length-append, length-take}
 use Rattle.std.proofs.lemmas.Result.{err_from_is_err_and}
 use Rattle.csv.specs.Reading.{Reached, strip_bom}
 use Rattle.csv.specs.Records.{fields_of}
-use Rattle.pt_base.specs.Codes.{memory_refused}
+use Rattle.pt_base.specs.declared.fault.Cause.TheVariants as cause
 use Rattle.pt_travel.specs.Places.{list_of}
 use Rattle.pt_travel.specs.Text.{HasRecords, IsFirstFault}
 use Rattle.pt_travel.specs.declared.places.Places.{Places}
@@ -79,7 +79,7 @@ returns-in_err-take-clause-faulty c =
     let fault = c.in_err-take.field-0.0 in
     let after = given ((goal.at.returns-in_err-take-clause-faulty c).After-take) in
     let places = list_of c.args.places.now in
-    let why : (fault ≡ record { code = memory_refused; row = 0 }) ⊎ IsFirstFault c.args.text.now places fault =
+    let why : (fault ≡ record { cause = cause.Memory; row = 0 }) ⊎ IsFirstFault c.args.text.now places fault =
     elim c.in_err-take.ensures.faulty [
       | inl memory ↦ inl memory
       | inr next ↦

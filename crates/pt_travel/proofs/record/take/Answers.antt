@@ -36,7 +36,7 @@ returns-in-Ok-clause-faulty c =
           (λ seen number so_far.
           next-fault (list_of c.args.places.now) seen fields c.args.rows.now.items fault (omega (arith, number)) so_far
           (λ records sorted.
-          inr (inr (inr (ap (λ (f : Fault). f.code) at, sound, other, (sorted.1 other).0 there, subst (λ (r : Row). Conflicts r other) is conflict))))
+          inr (inr (inr (ap (λ (f : Fault). f.cause) at, sound, other, (sorted.1 other).0 there, subst (λ (r : Row). Conflicts r other) is conflict))))
           (ap (λ (f : Fault). f.row) at ∙ number))
     ])
     c.put.ensures.refused

@@ -1,7 +1,7 @@
 use Rattle.std.proofs.Common.{◌≡◌, ◌≤◌, ◌⊎◌, inl, inr, length, arith}
 use Rattle.std.proofs.lemmas.List.{length-take}
 use Rattle.std.proofs.lemmas.Result.{err_from_is_err_and}
-use Rattle.pt_base.specs.Codes.{memory_refused}
+use Rattle.pt_base.specs.declared.fault.Cause.TheVariants as cause
 use Rattle.pt_travel.specs.Places.{list_of}
 use Rattle.pt_travel.specs.Text.{IsFirstFault}
 use Rattle.pt_travel.specs.declared.places.Places.{Places}
@@ -18,7 +18,7 @@ returns-in_err-rows-clause-faulty c =
     let text = c.args.text.now in
     let places = c.args.places.now in
     let fault = c.in_err-rows.field-0.0 in
-    let why : (fault ≡ record { code = memory_refused; row = 0 }) ⊎ IsFirstFault text places fault =
+    let why : (fault ≡ record { cause = cause.Memory; row = 0 }) ⊎ IsFirstFault text places fault =
     elim c.in_err-rows.ensures.faulty [
       | inl memory ↦ inl memory
       | inr first ↦ inr (first-fault-same (list_of c.listed-places.result) places c.listed-places.ensures text fault (few c.listed-places.result) (omega arith) first)
