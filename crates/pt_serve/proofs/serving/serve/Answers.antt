@@ -32,7 +32,7 @@ loop-connection-preserved-in-Some-2 g c =
     let fails = g.A.Stream.Connection.fails in
     let before = c.loop-connection.invariant in
     let taken = c.in-Some.ensures.next in
-    let next : Option Fault = c.in_ok-code.field-0 in
+    let next : Option Fault = c.in_ok-fault.field-0 in
     let counts : count_of (is_some next) ≡ 1 = ap (λ (o : Option Fault). count_of (is_some o)) c.in-Some-2.is in
     let one : comes c.loop-connection.port ≡ taken.0 ∷ comes c.serve_next.new.port =
     taken.1 ∙ ap (λ (it : List _). taken.0 ∷ it) (sym c.serve_next.ensures.others) in
@@ -51,7 +51,7 @@ loop-connection-preserved-in-Some-2 g c =
           (λ clean. subst (λ (it : Option (List (List ℕ))). ServesATurn shows fails c.args.zone.now taken.0 next
           (progress_of (store c.loop-connection.keeper) it)
           (progress_of (store c.serve_next.new.keeper) (replied c.serve_next.new.port)))
-          (c.in-Some.ensures.kept refl) (c.in_ok-code.ensures.turn clean taken.0 taken.2));
+          (c.in-Some.ensures.kept refl) (c.in_ok-fault.ensures.turn clean taken.0 taken.2));
     }
 
 pub loop-connection-preserved : goal.loop-connection-preserved
@@ -63,7 +63,7 @@ loop-connection-preserved g c =
     let fails = g.A.Stream.Connection.fails in
     let before = c.loop-connection.invariant in
     let taken = c.in-Some.ensures.next in
-    let next : Option Fault = c.in_ok-code.field-0 in
+    let next : Option Fault = c.in_ok-fault.field-0 in
     let counts : count_of (is_some next) ≡ 0 = ap (λ (o : Option Fault). count_of (is_some o)) c.in_default-2.is in
     let one : comes c.loop-connection.port ≡ taken.0 ∷ comes c.serve_next.new.port =
     taken.1 ∙ ap (λ (it : List _). taken.0 ∷ it) (sym c.serve_next.ensures.others) in
@@ -82,23 +82,23 @@ loop-connection-preserved g c =
           (λ clean. subst (λ (it : Option (List (List ℕ))). ServesATurn shows fails c.args.zone.now taken.0 next
           (progress_of (store c.loop-connection.keeper) it)
           (progress_of (store c.serve_next.new.keeper) (replied c.serve_next.new.port)))
-          (c.in-Some.ensures.kept refl) (c.in_ok-code.ensures.turn clean taken.0 taken.2));
+          (c.in-Some.ensures.kept refl) (c.in_ok-fault.ensures.turn clean taken.0 taken.2));
     }
 
-pub returns-in_err-code-clause-goes : goal.returns-in_err-code-clause-goes
-returns-in_err-code-clause-goes g c =
+pub returns-in_err-fault-clause-goes : goal.returns-in_err-fault-clause-goes
+returns-in_err-fault-clause-goes g c =
     goes_further (g.K.Keeper.store c.args.keeper.now) (g.K.Keeper.store c.loop-connection.keeper)
     (g.K.Keeper.store c.serve_next.new.keeper) c.loop-connection.invariant.goes c.serve_next.ensures.goes
 
-pub returns-in_err-code-clause-broken_off : goal.returns-in_err-code-clause-broken_off
-returns-in_err-code-clause-broken_off g c = λ clean.
+pub returns-in_err-fault-clause-broken_off : goal.returns-in_err-fault-clause-broken_off
+returns-in_err-fault-clause-broken_off g c = λ clean.
     let store = g.K.Keeper.store in
     let comes = g.A.Accepts.comes in
     let replied = g.A.Accepts.replied in
     let shows = g.A.Stream.Connection.shows in
     let fails = g.A.Stream.Connection.fails in
     let taken = c.in-Some.ensures.next in
-    let same = c.in_err-code.ensures.ended in
+    let same = c.in_err-fault.ensures.ended in
     let one : comes c.loop-connection.port ≡ taken.0 ∷ comes c.serve_next.new.port =
     taken.1 ∙ ap (λ (it : List _). taken.0 ∷ it) (sym c.serve_next.ensures.others) in
     let was_clean : (store c.loop-connection.keeper).doubt ≡ 0 =

@@ -1,4 +1,5 @@
-use Rattle.std.proofs.Common.{ap}
+use Rattle.std.proofs.Common.{◌∙◌, ap, sym}
+use Rattle.std.proofs.lemmas.Bool.{false≢true}
 use Rattle.pt_http.specs.Exchange.{desk_of}
 use Rattle.pt_serve.proofs.TurnLemmas.{failed_turn, heard_turn, read_or_write}
 use Rattle.pt_serve.proofs.serving.serve_next.Goals as goal
@@ -25,4 +26,4 @@ returns-in-Err-2-clause-turn g c = λ clean sent coming.
     c.in-Err.fault (replied c.args.port.now) (replied c.leave-in-Err-2.new.self) came.0 came.1
     c.in_ok-now.ensures.moment c.in-Err.ensures.answers c.in-Err.ensures.fails
     (λ same. (ap (λ keeper. desk_of (store keeper)) same.0, same.1)) c.leave-in-Err-2.ensures.left
-    (read_or_write c.in-Err.fault c.if-cause-eq-Memory.false c.in-Err.ensures.answers.failure.fault) clean
+    (read_or_write c.in-Err.fault (λ same. let is = rw same at c.eq.ensures in false≢true (sym c.if-eq.false ∙ is)) c.in-Err.ensures.answers.failure.fault) clean
