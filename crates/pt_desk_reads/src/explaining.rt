@@ -1,21 +1,18 @@
-ghost use Rattle.std.specs.Prelude.{◌≡◌, ◌+◌, ◌<◌, All, AllPairs, IfOk, IsTrue, is_some};
+ghost use Rattle.std.specs.Prelude.{◌≡◌, ◌<◌, All, AllPairs, None, Some, IfErr, IfOk};
 ghost use Rattle.pt_booking.specs.Planning.{on_duty};
 ghost use Rattle.pt_feasible.specs.Route.{stops_of};
 ghost use Rattle.pt_insertion.specs.Insertion.{IsWithout};
 ghost use Rattle.pt_rights.specs.Rules.{first_failing};
 ghost use Rattle.pt_travel.specs.Times.{time_in};
-ghost use Rattle.pt_desk_rules.specs.Booking.{AreTimes, rows_of};
-ghost use Rattle.pt_desk_rules.specs.Explaining.{IsExplained, IsToldPossible};
+ghost use Rattle.pt_desk_rules.specs.Booking.{AreTimes, IsAsking, rows_of};
+ghost use Rattle.pt_desk_rules.specs.Explaining.{next_trip, IsExplained, IsToldPossible};
 ghost use Rattle.pt_desk_reads.specs.Inquiry.{AreRoutesOf, IsInquiry, IsInquiryAfter};
-ghost use Rattle.pt_desk_rules.specs.State.{last_trip_number};
 ghost use Rattle.pt_desk_rules.specs.Rules.{explain_rules};
-ghost use Rattle.pt_desk_rules.specs.Trips.{has_ends};
 
 use pt_base::{Day, Moment, Rule, TripId, Wish};
-use pt_booking::{asked_for, first_failing, riders_denial};
-use pt_desk_rules::limits::LAST_TRIP_NUMBER;
+use pt_booking::{asked_for, riders_denial};
 use pt_desk_rules::{
-    Asking, TravelTable, WriteFacts, answer_wish, has_ends, is_dispatcher, on_duty,
+    Asking, TravelTable, WriteFacts, answer_wish, is_dispatcher, new_trip, on_duty, uses_of,
 };
 use pt_insertion::{Asked, Duty};
 use pt_requests::{Answer, Caller};
@@ -88,26 +85,18 @@ pub enum Inquiry {
     Denied(Rule),
 }
 
-/// The first rule that denies an explanation, before the rules of the trip itself.
-fn explain_denial(facts: &WriteFacts, me: &Caller, wish: &Wish) -> Option<Rule>
-    ensures value { result ≡ first_failing (explain_rules wish.now me.now facts.now) }
+/// What a dispatcher asks of a new trip, and its number; otherwise the first rule that denies the question before the
+/// rules of the trip itself.
+fn trip_to_explain(facts: &WriteFacts, me: &Caller, wish: &Wish) -> Result<(Asking, TripId), Rule>
+    ensures denied { IfErr result (λ rule. first_failing (explain_rules wish.now me.now facts.now) ≡ Some rule) }
+    ensures allowed { IfOk result (λ found. first_failing (explain_rules wish.now me.now facts.now) ≡ None) }
+    ensures asking { IfOk result (λ found. IsAsking wish.now facts.now found.0) }
+    ensures number { IfOk result (λ found. found.1 ≡ next_trip facts.now) }
 {
-    first_failing(&[
-        (Rule::Caller, is_dispatcher(me.role)),
-        (
-            Rule::Unknown,
-            facts.rider.is_some() && has_ends(wish, &facts.places),
-        ),
-        (Rule::Full, facts.booking.last_trip < LAST_TRIP_NUMBER),
-    ])
-}
-
-/// The number that a trip would get now.
-fn next_trip(facts: &WriteFacts) -> TripId
-    requires { facts.now.booking.last_trip < last_trip_number }
-    ensures { result ≡ facts.now.booking.last_trip + 1 }
-{
-    TripId::of(facts.booking.last_trip + 1).unwrap()
+    if !is_dispatcher(me.role) {
+        return Err(Rule::Caller);
+    }
+    new_trip(facts, wish)
 }
 
 /// The answer, if a booking would end like this.
@@ -131,11 +120,13 @@ pub fn explain(
 ) -> Result<Answer, AllocError>
     ensures value { IfOk result (λ told. IsExplained wish.now me.now now facts.now told) }
 {
-    if let Some(rule) = explain_denial(facts, me, wish) {
-        return Ok(Answer::Denied(rule));
+    match trip_to_explain(facts, me, wish) {
+        Ok((asking, trip)) => {
+            let found = answer_wish(alloc, facts, &asking, trip, &None, now.day, wish)?;
+            Ok(told_of(&found))
+        }
+        Err(rule) => Ok(Answer::Denied(rule)),
     }
-    let found = answer_wish(alloc, facts, next_trip(facts), &None, now.day, wish)?;
-    Ok(told_of(&found))
 }
 
 /// The driving times that the facts give.
@@ -173,23 +164,22 @@ fn routes_of(
     Ok(Some(routes))
 }
 
-/// The facts of a refusal, if none of the wish's other rules fails.
+/// The facts of a refusal of a wish under this number, or the first rule of the rider that denies it.
 fn inquire(
     alloc: Global,
     facts: &WriteFacts,
+    asking: &Asking,
+    trip: TripId,
     today: Day,
     wish: &Wish,
 ) -> Result<Inquiry, AllocError>
-    requires rider { IsTrue (is_some facts.now.rider) }
-    requires ends { IsTrue (has_ends wish.now facts.now.places) }
-    requires number { facts.now.booking.last_trip < last_trip_number }
-    ensures { IfOk result (λ found. IsInquiryAfter wish.now today facts.now found) }
+    ensures { IsAsking wish.now facts.now asking.now → trip ≡ next_trip facts.now
+        → IfOk result (IsInquiryAfter wish.now today facts.now) }
 {
-    let trip = next_trip(facts);
     let table = table_of(alloc, facts, wish.day)?;
     let times = table.times();
-    let asking = Asking::of(alloc, facts, &None, wish)?;
-    let request = asking.request(facts, trip, today, wish);
+    let uses = uses_of(alloc, facts, &None)?;
+    let request = asking.request(facts, &uses, trip, today, wish);
     if let Some(rule) = riders_denial(&request) {
         return Ok(Inquiry::Denied(rule));
     }
@@ -215,8 +205,8 @@ pub fn refusal_facts(
 ) -> Result<Inquiry, AllocError>
     ensures value { IfOk result (λ found. IsInquiry wish.now me.now now facts.now found) }
 {
-    if let Some(rule) = explain_denial(facts, me, wish) {
-        return Ok(Inquiry::Denied(rule));
+    match trip_to_explain(facts, me, wish) {
+        Ok((asking, trip)) => inquire(alloc, facts, &asking, trip, now.day, wish),
+        Err(rule) => Ok(Inquiry::Denied(rule)),
     }
-    inquire(alloc, facts, now.day, wish)
 }

@@ -2,4 +2,5 @@ pub mod PartLemmas
 pub mod RangeLemmas
 pub mod FleetLemmas
 mod BookingLemmas
+mod RulingLemmas
 pub mod TourLemmas

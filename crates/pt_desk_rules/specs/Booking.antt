@@ -40,12 +40,11 @@ pub record IsRequestBy (facts : WriteFacts) (number : ℕ) (left_out : Option �
   pub day : request.today ≡ today
   pub wished : request.wish ≡ wish
 
--- the rider, the places and the days of use that a request needs in addition to the facts
-pub record IsAsking (left_out : Option ℕ) (wish : Wish) (facts : WriteFacts) (asking : Asking) : Type 0 where
+-- the rider and both places of a wish
+pub record IsAsking (wish : Wish) (facts : WriteFacts) (asking : Asking) : Type 0 where
   pub rider : facts.rider ≡ Some asking.rider
   pub from : record_at place_key wish.from facts.places ≡ Some asking.from
   pub to : record_at place_key wish.to facts.places ≡ Some asking.to
-  pub uses : AreUses left_out facts.booking.trips asking.uses.items
 
 -- before the first travel table there are no rows
 abbrev pub rows_of : Option DatedTable → List Row

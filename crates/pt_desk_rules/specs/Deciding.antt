@@ -1,5 +1,5 @@
 -- The decision on a request, from the facts alone.
-use Rattle.std.specs.Prelude.{◌≡◌, ℕ, ◌+◌, ◌<◌, ◌↔◌, Bool, IsTrue, List, length, Option, Some, None, is_some}
+use Rattle.std.specs.Prelude.{◌≡◌, ℕ, ◌+◌, ◌↔◌, Bool, IsTrue, List, length, Option, Some, None}
 use Rattle.std.specs.Option.{unwrap_or}
 use Rattle.pt_base.specs.declared.rider.Residence.{Residence}
 use Rattle.pt_base.specs.declared.rider.Residence.TheVariants.{Resident, Visitor}
@@ -24,10 +24,10 @@ use Rattle.pt_desk_rules.specs.Fleet.{duty_of}
 use Rattle.pt_rights.specs.declared.tally.Outcome.{Outcome}
 use Rattle.pt_desk_rules.specs.Letters.{letter_at, IsToldLetter}
 use Rattle.pt_desk_rules.specs.Outcomes.{ended}
-use Rattle.pt_desk_rules.specs.State.{no_edit, puts_one, replaces, versions_from, tables_from, last_trip_number}
+use Rattle.pt_desk_rules.specs.State.{no_edit, puts_one, replaces, versions_from, tables_from}
 use Rattle.pt_desk_rules.specs.Rules.{rules_of, read_rules}
 use Rattle.pt_desk_rules.specs.Tours.{IsDaySheet, IsManifestOf}
-use Rattle.pt_desk_rules.specs.Trips.{cancelled, gives_up, has_ends, moves_to}
+use Rattle.pt_desk_rules.specs.Trips.{cancelled, gives_up, moves_to}
 use Rattle.pt_requests.specs.declared.caller.Caller.{Caller}
 use Rattle.pt_desk_rules.specs.declared.kept.Kept.{Kept}
 use Rattle.pt_desk_rules.specs.declared.kept.Sent.{Sent}
@@ -139,15 +139,15 @@ IsDecidedBy (write.Change trip wish) author today facts decided =
 IsDecidedBy (write.Cancel trip) author today facts decided = IsCancelDecided facts.booking.trip facts decided
 IsDecidedBy (write.Outcome trip outcome) author today facts decided = IsEndDecided facts.booking.trip outcome decided
 
--- if none of its own rules fails, what a trip needs is there
-abbrev pub IsReady : Write → WriteFacts → Type 0
-IsReady (write.Book rider wish) facts =
-    IsTrue (is_some facts.rider) × IsTrue (has_ends wish facts.places) × (facts.booking.last_trip < last_trip_number)
-IsReady (write.Change trip wish) facts =
-    IsTrue (is_some facts.booking.trip) × IsTrue (is_some facts.rider) × IsTrue (has_ends wish facts.places)
-IsReady (write.Cancel trip) facts = IsTrue (is_some facts.booking.trip)
-IsReady (write.Outcome trip outcome) facts = IsTrue (is_some facts.booking.trip)
-IsReady _ facts = Unit {0}
+-- the decision except its kept request, if this is the first of the write's own rules to fail, or none fails
+abbrev pub IsRulingAfter : Option Rule → Write → ℕ → ℕ → WriteFacts → Decision → Type 0
+IsRulingAfter (Some first) asked author today facts decided = decided ≡ Denied first
+IsRulingAfter None asked author today facts decided = IsDecidedBy asked author today facts decided
+
+-- the decision on a write by this caller at this moment, except its kept request
+abbrev pub IsRuling : Write → Caller → Moment → WriteFacts → Decision → Type 0
+IsRuling asked me now facts decided =
+    IsRulingAfter (first_failing (rules_of asked me now facts)) asked me.id now.day facts decided
 
 -- the decision, if this is the first of the write's own rules to fail, or none fails
 abbrev pub IsDecisionAfter : Option Rule → Write → Caller → Moment → Sent → WriteFacts → Decision → Type 0

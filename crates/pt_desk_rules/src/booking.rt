@@ -1,23 +1,30 @@
-ghost use Rattle.std.specs.Prelude.{◌≡◌, ℕ, ◌+◌, ◌<◌, Option, None, Some, IsTrue, is_some, IfOk};
+ghost use Rattle.std.specs.Prelude.{◌≡◌, ℕ, ◌&&◌, nat_lt, Option, None, Some, is_some, IfErr, IfOk, IfSome};
 ghost use Rattle.std.specs.List.Sorted.{IsStrictlyIncreasing};
 ghost use Rattle.pt_booking.specs.Request.{request_of};
+ghost use Rattle.pt_rights.specs.Rules.{first_failing};
 ghost use Rattle.pt_scheduling.specs.Routes.{routes_without};
+ghost use Rattle.pt_scheduling.specs.Uses.{AreUses};
 ghost use Rattle.pt_desk_rules.specs.Booking.{IsAnswered, IsAsking, IsBooking, IsRequestBy, IsScheduledBy, rows_of};
-ghost use Rattle.pt_desk_rules.specs.Deciding.{booked, given_up, IsChangeDecided};
+ghost use Rattle.pt_desk_rules.specs.Deciding.{booked, changed, given_up, IsRuling};
+ghost use Rattle.pt_desk_rules.specs.Explaining.{next_trip};
+ghost use Rattle.pt_desk_rules.specs.Rules.{wish_rules};
 ghost use Rattle.pt_desk_rules.specs.declared.deciding.Decision.TheVariants.{Accepted};
 ghost use Rattle.pt_requests.specs.declared.request.Answer.TheVariants.{Booked, Done};
 ghost use Rattle.pt_requests.specs.declared.request.Confirmation.{Confirmation};
+ghost use Rattle.pt_requests.specs.declared.request.Write.TheVariants as write;
 ghost use Rattle.pt_desk_rules.specs.State.{last_trip_number, place_key};
 ghost use Rattle.pt_desk_rules.specs.Trips.{has_ends, IsConfirmation};
 ghost use Rattle.pt_records.specs.Records.{record_at};
 
 use crate::change::one;
-use crate::trips::{cancelled, confirmation_of, giving_up, moving};
+use crate::limits::LAST_TRIP_NUMBER;
+use crate::permission::{may_alter, may_book};
+use crate::trips::{cancelled, confirmation_of, giving_up, is_cancellable, is_changeable, moving};
 use crate::{Change, DayFacts, Decision, TravelTable, WriteFacts, on_duty};
-use pt_base::{Day, Place, PlaceId, Rider, Trip, TripId, Vehicle, Wish};
+use pt_base::{Day, Moment, Place, PlaceId, Rider, RiderId, Rule, Trip, TripId, Vehicle, Wish};
 use pt_booking::TripRequest;
 use pt_records::{Key, Rows, Table};
-use pt_requests::Answer;
+use pt_requests::{Answer, Caller};
 use pt_scheduling::{DayPlans, PlannedRoute, Scheduled, days_of_use, schedule};
 use std::alloc::{AllocError, Global};
 
@@ -46,61 +53,52 @@ fn schedule_on(
 }
 
 /// The place of this number.
-fn place_at(places: &Rows<Place>, id: PlaceId) -> Place
-    requires { IsTrue (is_some (record_at place_key id places.now)) }
-    ensures { record_at place_key id places.now ≡ Some result }
+fn place_at(id: PlaceId, places: &Rows<Place>) -> Option<Place>
+    ensures { result ≡ record_at place_key id places.now }
 {
-    *places.find(&Key::of(id.number())).unwrap()
+    places.find(&Key::of(id.number())).copied()
 }
 
-/// What a request needs in addition to the facts: the rider, both places, and a visitor's days of use.
+/// The rider and both places of a wish.
 #[derive(Drop)]
 pub struct Asking {
     pub rider: Rider,
     pub from: Place,
     pub to: Place,
-    /// In order, each day once.
-    pub uses: Table<Day>,
 }
 
 impl Asking {
-    /// Takes them from the facts. The trip `left_out` makes no day of use. The error is out of memory.
-    pub fn of(
-        alloc: Global,
-        facts: &WriteFacts,
-        left_out: &Option<TripId>,
-        wish: &Wish,
-    ) -> Result<Self, AllocError>
-        requires rider { IsTrue (is_some facts.now.rider) }
-        requires ends { IsTrue (has_ends wish.now facts.now.places) }
-        ensures value { IfOk result (λ asking. IsAsking left_out.now wish.now facts.now asking) }
+    /// `None` if the rider or a place does not exist.
+    pub fn of(facts: &WriteFacts, wish: &Wish) -> Option<Self>
+        ensures exists { is_some result ≡ (is_some facts.now.rider && has_ends wish.now facts.now.places) }
+        ensures value { IfSome result (IsAsking wish.now facts.now) }
     {
-        Ok(Asking {
-            rider: facts.rider.unwrap(),
-            from: place_at(&facts.places, wish.from),
-            to: place_at(&facts.places, wish.to),
-            uses: days_of_use(alloc, facts.booking.trips.as_slice(), left_out)?,
-        })
+        let rider = facts.rider?;
+        let from = place_at(wish.from, &facts.places)?;
+        let to = place_at(wish.to, &facts.places)?;
+        Some(Asking { rider, from, to })
     }
 
-    /// The request that the facts make of a wish, for a trip of this number.
+    /// The request that the facts make of the wish, for a trip of this number. `uses` are a visitor's days of use.
     pub fn request<'a>(
         &'a self,
         facts: &'a WriteFacts,
+        uses: &'a Table<Day>,
         trip: TripId,
         today: Day,
         wish: &Wish,
     ) -> TripRequest<'a>
-        ensures value { (left_out : Option ℕ) → IsAsking left_out wish.now facts.now self.now
+        ensures value { (left_out : Option ℕ) → IsAsking wish.now facts.now self.now
+            → AreUses left_out facts.now.booking.trips uses.now.items
             → IsRequestBy facts.now trip left_out today wish.now (request_of result) }
-        ensures uses { (left_out : Option ℕ) → IsAsking left_out wish.now facts.now self.now
-            → IsStrictlyIncreasing result.uses.now }
+        ensures uses { result.uses.now ≡ uses.now.items }
+        ensures trip { result.trip ≡ trip }
     {
         TripRequest {
             trip,
             rider: &self.rider,
             file: &facts.file,
-            uses: self.uses.as_slice(),
+            uses: uses.as_slice(),
             policy: &facts.policy,
             routes: facts.booking.routes.as_slice(),
             from: &self.from,
@@ -111,22 +109,60 @@ impl Asking {
     }
 }
 
+/// A visitor's days of use, in order, each day once. The trip `left_out` makes none. The error is out of memory.
+pub fn uses_of(
+    alloc: Global,
+    facts: &WriteFacts,
+    left_out: &Option<TripId>,
+) -> Result<Table<Day>, AllocError>
+    ensures value { IfOk result (λ uses. AreUses left_out.now facts.now.booking.trips uses.items) }
+{
+    days_of_use(alloc, facts.booking.trips.as_slice(), left_out)
+}
+
+/// The number that a new trip would get; `None` after the last.
+fn next_trip(facts: &WriteFacts) -> Option<TripId>
+    ensures room { is_some result ≡ nat_lt facts.now.booking.last_trip last_trip_number }
+    ensures value { IfSome result (λ number. number ≡ next_trip facts.now) }
+{
+    if facts.booking.last_trip >= LAST_TRIP_NUMBER {
+        return None;
+    }
+    TripId::of(facts.booking.last_trip + 1)
+}
+
+/// What is asked of a new trip, and its number; otherwise the first rule that denies the wish before the trip's own.
+pub fn new_trip(facts: &WriteFacts, wish: &Wish) -> Result<(Asking, TripId), Rule>
+    ensures denied { IfErr result (λ rule. first_failing (wish_rules wish.now facts.now) ≡ Some rule) }
+    ensures allowed { IfOk result (λ found. first_failing (wish_rules wish.now facts.now) ≡ None) }
+    ensures asking { IfOk result (λ found. IsAsking wish.now facts.now found.0) }
+    ensures number { IfOk result (λ found. found.1 ≡ next_trip facts.now) }
+{
+    let Some(asking) = Asking::of(facts, wish) else {
+        return Err(Rule::Unknown);
+    };
+    let Some(number) = next_trip(facts) else {
+        return Err(Rule::Full);
+    };
+    Ok((asking, number))
+}
+
 /// Schedules a wish for a trip of this number. The trip `left_out` makes no day of use. The error is out of memory.
 pub fn answer_wish(
     alloc: Global,
     facts: &WriteFacts,
+    asking: &Asking,
     trip: TripId,
     left_out: &Option<TripId>,
     today: Day,
     wish: &Wish,
 ) -> Result<Scheduled, AllocError>
-    requires rider { IsTrue (is_some facts.now.rider) }
-    requires ends { IsTrue (has_ends wish.now facts.now.places) }
-    ensures value { IfOk result (λ scheduled. IsAnswered trip left_out.now today wish.now facts.now scheduled) }
+    ensures value { IsAsking wish.now facts.now asking.now
+        → IfOk result (λ scheduled. IsAnswered trip left_out.now today wish.now facts.now scheduled) }
 {
-    let asking = Asking::of(alloc, facts, left_out, wish)?;
+    let uses = uses_of(alloc, facts, left_out)?;
     let vehicles = on_duty(alloc, facts.vehicles.as_slice(), wish.day)?;
-    let request = asking.request(facts, trip, today, wish);
+    let request = asking.request(facts, &uses, trip, today, wish);
     schedule_on(alloc, &facts.booking.day, &vehicles, &request)
 }
 
@@ -140,21 +176,19 @@ fn confirmed(trip: &Trip, change: Change) -> Decision
     }
 }
 
-/// Decides a booking: its trip gets the next number.
-pub(crate) fn decide_booking(
+/// Books a new trip under this number, or denies it by the first of its rules that fails.
+fn book(
     alloc: Global,
     facts: &WriteFacts,
+    asking: &Asking,
+    number: TripId,
     today: Day,
     wish: &Wish,
 ) -> Result<Decision, AllocError>
-    requires rider { IsTrue (is_some facts.now.rider) }
-    requires ends { IsTrue (has_ends wish.now facts.now.places) }
-    requires number { facts.now.booking.last_trip < last_trip_number }
-    ensures { IfOk result (λ decided.
-        IsBooking booked (facts.now.booking.last_trip + 1) None today wish.now facts.now decided) }
+    ensures { IsAsking wish.now facts.now asking.now
+        → IfOk result (IsBooking booked number None today wish.now facts.now) }
 {
-    let number = TripId::of(facts.booking.last_trip + 1).unwrap();
-    match answer_wish(alloc, facts, number, &None, today, wish)? {
+    match answer_wish(alloc, facts, asking, number, &None, today, wish)? {
         Scheduled::Denied(rule) => Ok(Decision::Denied(rule)),
         Scheduled::Booked { trip, plan } => {
             let planned = one(alloc, plan)?;
@@ -170,23 +204,42 @@ pub(crate) fn decide_booking(
     }
 }
 
-/// Decides the change of a trip: it is asked for anew, as if it were not booked, and keeps its number.
-pub(crate) fn decide_change(
+/// Decides a booking: its trip gets the next number.
+pub(crate) fn decide_booking(
     alloc: Global,
     facts: &WriteFacts,
+    me: &Caller,
+    now: Moment,
+    rider: RiderId,
+    wish: &Wish,
+) -> Result<Decision, AllocError>
+    ensures ruling { IfOk result (IsRuling (write.Book rider wish.now) me.now now facts.now) }
+{
+    if !may_book(me.role, rider, &facts.rider) {
+        return Ok(Decision::Denied(Rule::Caller));
+    }
+    match new_trip(facts, wish) {
+        Ok((asking, number)) => book(alloc, facts, &asking, number, now.day, wish),
+        Err(rule) => Ok(Decision::Denied(rule)),
+    }
+}
+
+/// Books a trip again under its number, as if it were not booked, or denies it by the first of its rules that fails.
+fn rebook(
+    alloc: Global,
+    facts: &WriteFacts,
+    old: &Trip,
+    asking: &Asking,
     today: Day,
     wish: &Wish,
 ) -> Result<Decision, AllocError>
-    requires trip { IsTrue (is_some facts.now.booking.trip) }
-    requires rider { IsTrue (is_some facts.now.rider) }
-    requires ends { IsTrue (has_ends wish.now facts.now.places) }
-    ensures { IfOk result (λ decided. IsChangeDecided facts.now.booking.trip wish.now today facts.now decided) }
+    ensures { IsAsking wish.now facts.now asking.now → IfOk result (IsBooking
+        (changed old.now facts.now.booking.plan) old.now.id (Some old.now.id) today wish.now facts.now) }
 {
-    let old = facts.booking.trip.unwrap();
-    match answer_wish(alloc, facts, old.id, &Some(old.id), today, wish)? {
+    match answer_wish(alloc, facts, asking, old.id, &Some(old.id), today, wish)? {
         Scheduled::Denied(rule) => Ok(Decision::Denied(rule)),
         Scheduled::Booked { trip, plan } => {
-            let planned = moving(alloc, &old, &facts.booking.plan, plan)?;
+            let planned = moving(alloc, old, &facts.booking.plan, plan)?;
             let trips = one(alloc, trip)?;
             let change = Change {
                 trips,
@@ -198,12 +251,33 @@ pub(crate) fn decide_change(
     }
 }
 
-/// Decides the cancellation of a trip.
-pub(crate) fn decide_cancel(
+/// Decides the change of a trip.
+pub(crate) fn decide_change(
     alloc: Global,
-    trip: &Trip,
-    plan: &Option<PlannedRoute>,
+    facts: &WriteFacts,
+    me: &Caller,
+    now: Moment,
+    wish: &Wish,
 ) -> Result<Decision, AllocError>
+    ensures ruling { (trip : ℕ) → IfOk result (IsRuling (write.Change trip wish.now) me.now now facts.now) }
+{
+    if !may_alter(me.role, &facts.booking.trip, &facts.rider) {
+        return Ok(Decision::Denied(Rule::Caller));
+    }
+    let Some(old) = &facts.booking.trip else {
+        return Ok(Decision::Denied(Rule::Unknown));
+    };
+    let Some(asking) = Asking::of(facts, wish) else {
+        return Ok(Decision::Denied(Rule::Unknown));
+    };
+    if !is_changeable(now.day, old) {
+        return Ok(Decision::Denied(Rule::Over));
+    }
+    rebook(alloc, facts, old, &asking, now.day, wish)
+}
+
+/// Cancels a trip.
+fn cancel(alloc: Global, trip: &Trip, plan: &Option<PlannedRoute>) -> Result<Decision, AllocError>
     ensures { IfOk result (λ decided. decided ≡ Accepted Done (given_up trip.now plan.now)) }
 {
     let wish: Wish = trip.wish;
@@ -217,4 +291,25 @@ pub(crate) fn decide_cancel(
             ..Change::none(alloc)
         },
     })
+}
+
+/// Decides the cancellation of a trip.
+pub(crate) fn decide_cancel(
+    alloc: Global,
+    facts: &WriteFacts,
+    me: &Caller,
+    now: Moment,
+) -> Result<Decision, AllocError>
+    ensures ruling { (trip : ℕ) → IfOk result (IsRuling (write.Cancel trip) me.now now facts.now) }
+{
+    if !may_alter(me.role, &facts.booking.trip, &facts.rider) {
+        return Ok(Decision::Denied(Rule::Caller));
+    }
+    let Some(trip) = &facts.booking.trip else {
+        return Ok(Decision::Denied(Rule::Unknown));
+    };
+    if !is_cancellable(now, trip) {
+        return Ok(Decision::Denied(Rule::Over));
+    }
+    cancel(alloc, trip, &facts.booking.plan)
 }

@@ -1,18 +1,27 @@
-ghost use Rattle.std.specs.Prelude.{◌≡◌, Some, IfOk};
+ghost use Rattle.std.specs.Prelude.{◌≡◌, IfOk};
 ghost use Rattle.pt_base.specs.Day.{IsDay};
-ghost use Rattle.pt_desk_rules.specs.Deciding.{kept_of, no_change, with_kept};
-ghost use Rattle.pt_desk_rules.specs.Deciding.{IsReady, IsDecidedBy, IsDecision, PutsInRangeIf};
+ghost use Rattle.pt_base.specs.declared.moment.Moment.{Moment};
+ghost use Rattle.pt_desk_rules.specs.Deciding.{kept_of, with_kept};
+ghost use Rattle.pt_desk_rules.specs.Deciding.{IsDecision, IsRuling, PutsInRangeIf};
 ghost use Rattle.pt_desk_rules.specs.declared.deciding.Decision.TheVariants.{Accepted};
+ghost use Rattle.pt_desk_rules.specs.declared.facts.WriteFacts.{WriteFacts};
 ghost use Rattle.pt_requests.specs.declared.request.Answer.TheVariants.{Done};
-ghost use Rattle.pt_requests.specs.declared.request.Write.TheVariants.{Enter};
-ghost use Rattle.pt_desk_rules.specs.State.{puts_one, replaces, versions_from, tables_from};
+ghost use Rattle.pt_requests.specs.declared.request.Write.TheVariants.{Enter, PutCaller, PutPlace, PutPolicy};
+ghost use Rattle.pt_requests.specs.declared.request.Write.TheVariants.{PutRider, PutRoute, PutVehicle, Travel};
+ghost use Rattle.pt_desk_rules.specs.State.{versions_from, tables_from};
 
 use crate::booking::{decide_booking, decide_cancel, decide_change};
 use crate::change::{one, replacing};
+use crate::denying::{
+    are_there, entry_denial, has_room_for, is_nobody_else, is_nobody_of_another_kind,
+};
+use crate::limits::{MOST_CALLERS, MOST_PLACES, MOST_RIDERS, MOST_ROUTES, MOST_TABLES};
 use crate::outcomes::decide_outcome;
+use crate::permission::{is_admin, is_clerk, is_dispatcher};
 use crate::ranges::puts_in_range;
-use crate::{Change, FiledEntry, Kept, Sent, TravelTable, WriteFacts, denial};
+use crate::{Change, FiledEntry, Kept, Sent, TravelTable, WriteFacts};
 use pt_base::{CallerId, Day, Moment, Place, Policy, Rider, RiderId, Rule, Vehicle};
+use pt_booking::first_failing;
 use pt_corridor::FixedRoute;
 use pt_records::{Edits, Key, Span};
 use pt_requests::{Answer, Caller, Write};
@@ -62,10 +71,27 @@ fn done(change: Change) -> Decision
     }
 }
 
-fn put_caller(alloc: Global, new: &Caller) -> Result<Decision, AllocError>
-    ensures decided { IfOk result (λ decided.
-        decided ≡ Accepted Done (record no_change { callers = puts_one new.now })) }
+/// Decides the record of a caller, which is new or takes the place of an older one.
+fn put_caller(
+    alloc: Global,
+    facts: &WriteFacts,
+    me: &Caller,
+    new: &Caller,
+) -> Result<Decision, AllocError>
+    ensures ruling { (now : Moment) → IfOk result (IsRuling (PutCaller new.now) me.now now facts.now) }
 {
+    let denied = first_failing(&[
+        (Rule::Caller, is_admin(me.role)),
+        (Rule::Unknown, facts.has_subject),
+        (Rule::Exists, is_nobody_else(new.id, facts.holder)),
+        (
+            Rule::Full,
+            facts.caller.is_some() || facts.caller_count < MOST_CALLERS,
+        ),
+    ]);
+    if let Some(rule) = denied {
+        return Ok(Decision::Denied(rule));
+    }
     let Caller { id, role, digest } = new.copied();
     let callers = one(alloc, Caller { id, role, digest })?;
     Ok(done(Change {
@@ -74,19 +100,36 @@ fn put_caller(alloc: Global, new: &Caller) -> Result<Decision, AllocError>
     }))
 }
 
-fn put_policy(alloc: Global, new: &Policy) -> Decision
-    ensures { result ≡ Accepted Done (record no_change { policy = Some new.now }) }
+/// Decides the policy.
+fn put_policy(alloc: Global, me: &Caller, new: &Policy) -> Decision
+    ensures ruling { (now : Moment) (facts : WriteFacts) → IsRuling (PutPolicy new.now) me.now now facts result }
 {
+    if !is_admin(me.role) {
+        return Decision::Denied(Rule::Caller);
+    }
     done(Change {
         policy: Some(*new),
         ..Change::none(alloc)
     })
 }
 
-fn put_place(alloc: Global, new: &Place) -> Result<Decision, AllocError>
-    ensures decided { IfOk result (λ decided.
-        decided ≡ Accepted Done (record no_change { places = puts_one new.now })) }
+/// Decides a new place.
+fn put_place(
+    alloc: Global,
+    facts: &WriteFacts,
+    me: &Caller,
+    new: &Place,
+) -> Result<Decision, AllocError>
+    ensures ruling { (now : Moment) → IfOk result (IsRuling (PutPlace new.now) me.now now facts.now) }
 {
+    let denied = first_failing(&[
+        (Rule::Caller, is_admin(me.role)),
+        (Rule::Exists, !facts.has_place),
+        (Rule::Full, facts.place_count < MOST_PLACES),
+    ]);
+    if let Some(rule) = denied {
+        return Ok(Decision::Denied(rule));
+    }
     let places = one(alloc, *new)?;
     Ok(done(Change {
         places,
@@ -94,10 +137,25 @@ fn put_place(alloc: Global, new: &Place) -> Result<Decision, AllocError>
     }))
 }
 
-fn put_route(alloc: Global, new: &FixedRoute) -> Result<Decision, AllocError>
-    ensures decided { IfOk result (λ decided.
-        decided ≡ Accepted Done (record no_change { routes = puts_one new.now })) }
+/// Decides a fixed route, which is new or takes the place of an older one.
+fn put_route(
+    alloc: Global,
+    facts: &WriteFacts,
+    me: &Caller,
+    new: &FixedRoute,
+) -> Result<Decision, AllocError>
+    ensures ruling { (now : Moment) → IfOk result (IsRuling (PutRoute new.now) me.now now facts.now) }
 {
+    let denied = first_failing(&[
+        (Rule::Caller, is_admin(me.role)),
+        (
+            Rule::Full,
+            facts.has_route || facts.route_count < MOST_ROUTES,
+        ),
+    ]);
+    if let Some(rule) = denied {
+        return Ok(Decision::Denied(rule));
+    }
     let routes = one(alloc, new.clone()?)?;
     Ok(done(Change {
         routes,
@@ -105,10 +163,29 @@ fn put_route(alloc: Global, new: &FixedRoute) -> Result<Decision, AllocError>
     }))
 }
 
-fn put_rider(alloc: Global, new: &Rider) -> Result<Decision, AllocError>
-    ensures decided { IfOk result (λ decided.
-        decided ≡ Accepted Done (record no_change { riders = puts_one new.now })) }
+/// Decides the record of a rider, which is new or takes the place of an older one.
+fn put_rider(
+    alloc: Global,
+    facts: &WriteFacts,
+    me: &Caller,
+    new: &Rider,
+) -> Result<Decision, AllocError>
+    ensures ruling { (now : Moment) → IfOk result (IsRuling (PutRider new.now) me.now now facts.now) }
 {
+    let denied = first_failing(&[
+        (Rule::Caller, is_clerk(me.role)),
+        (
+            Rule::Exists,
+            is_nobody_of_another_kind(new.kind, facts.rider),
+        ),
+        (
+            Rule::Full,
+            facts.rider.is_some() || facts.rider_count < MOST_RIDERS,
+        ),
+    ]);
+    if let Some(rule) = denied {
+        return Ok(Decision::Denied(rule));
+    }
     let riders = one(alloc, *new)?;
     Ok(done(Change {
         riders,
@@ -116,24 +193,28 @@ fn put_rider(alloc: Global, new: &Rider) -> Result<Decision, AllocError>
     }))
 }
 
+/// Decides the next entry of a rider's case file.
 fn enter(
     alloc: Global,
     facts: &WriteFacts,
-    me: CallerId,
-    today: Day,
+    me: &Caller,
+    now: Moment,
     rider: RiderId,
     entry: &Entry,
 ) -> Result<Decision, AllocError>
-    ensures { IfOk result (λ decided. IsDecidedBy (Enter rider entry.now) me today facts.now decided) }
+    ensures ruling { IfOk result (IsRuling (Enter rider entry.now) me.now now facts.now) }
 {
+    if let Some(rule) = entry_denial(facts, me, now, rider, entry) {
+        return Ok(Decision::Denied(rule));
+    }
     let position = facts.file.len() as u32;
     let filed = FiledEntry {
         rider,
         position,
         entered: Entered {
             entry: entry.clone()?,
-            day: today,
-            author: me,
+            day: now.day,
+            author: me.id,
         },
     };
     let entries = one(alloc, filed)?;
@@ -146,10 +227,24 @@ fn enter(
     })
 }
 
-fn put_vehicle(alloc: Global, new: &Vehicle) -> Result<Decision, AllocError>
-    ensures decided { IfOk result (λ decided. decided ≡ Accepted Done
-        (record no_change { vehicles = replaces (versions_from new.now.id new.now.from_day) new.now })) }
+/// Decides a version of a vehicle. It takes the place of the versions from its day on.
+fn put_vehicle(
+    alloc: Global,
+    facts: &WriteFacts,
+    me: &Caller,
+    new: &Vehicle,
+) -> Result<Decision, AllocError>
+    ensures ruling { (now : Moment) → IfOk result (IsRuling (PutVehicle new.now) me.now now facts.now) }
 {
+    let denied = first_failing(&[
+        (Rule::Caller, is_dispatcher(me.role)),
+        (Rule::Unknown, facts.has_place),
+        (Rule::Booked, !facts.is_booked),
+        (Rule::Full, has_room_for(new, facts.vehicles.as_slice())),
+    ]);
+    if let Some(rule) = denied {
+        return Ok(Decision::Denied(rule));
+    }
     let vehicles = replacing(alloc, versions_from(new), *new)?;
     Ok(done(Change {
         vehicles,
@@ -157,11 +252,25 @@ fn put_vehicle(alloc: Global, new: &Vehicle) -> Result<Decision, AllocError>
     }))
 }
 
-fn put_travel(alloc: Global, day: Day, rows: &Raw) -> Result<Decision, AllocError>
-    ensures decided { IfOk result (λ decided. decided ≡ Accepted Done (record no_change {
-      travel = replaces (tables_from day) (record { from_day = day; rows = rows.now });
-    })) }
+/// Decides a travel table. It takes the place of the tables from its day on.
+fn put_travel(
+    alloc: Global,
+    facts: &WriteFacts,
+    me: &Caller,
+    day: Day,
+    rows: &Raw,
+) -> Result<Decision, AllocError>
+    ensures ruling { (now : Moment) → IfOk result (IsRuling (Travel day rows.now) me.now now facts.now) }
 {
+    let denied = first_failing(&[
+        (Rule::Caller, is_dispatcher(me.role)),
+        (Rule::Unknown, are_there(rows.rows(), &facts.places)),
+        (Rule::Booked, !facts.is_booked),
+        (Rule::Full, facts.tables_before < MOST_TABLES),
+    ]);
+    if let Some(rule) = denied {
+        return Ok(Decision::Denied(rule));
+    }
     let table = TravelTable::of(alloc, day, rows.copy(alloc)?)?;
     let travel = replacing(alloc, tables_from(day), table)?;
     Ok(done(Change {
@@ -170,36 +279,29 @@ fn put_travel(alloc: Global, day: Day, rows: &Raw) -> Result<Decision, AllocErro
     }))
 }
 
-/// Decides a write that none of its own rules denies.
-fn decide_by(
+/// The decision on a write except its kept request.
+fn ruling(
     alloc: Global,
     facts: &WriteFacts,
-    me: CallerId,
-    today: Day,
+    me: &Caller,
+    now: Moment,
     write: &Write,
 ) -> Result<Decision, AllocError>
-    requires ready { IsReady write.now facts.now }
-    ensures decided { IfOk result (λ decided. IsDecidedBy write.now me today facts.now decided) }
+    ensures ruling { IfOk result (IsRuling write.now me.now now facts.now) }
 {
     match write {
-        Write::PutCaller(new) => put_caller(alloc, new),
-        Write::PutPolicy(new) => Ok(put_policy(alloc, new)),
-        Write::PutPlace(new) => put_place(alloc, new),
-        Write::PutRoute(new) => put_route(alloc, new),
-        Write::PutRider(new) => put_rider(alloc, new),
-        Write::Enter { rider, entry } => enter(alloc, facts, me, today, *rider, entry),
-        Write::PutVehicle(new) => put_vehicle(alloc, new),
-        Write::Travel { day, rows } => put_travel(alloc, *day, rows),
-        Write::Book { rider: _, wish } => decide_booking(alloc, facts, today, wish),
-        Write::Change { trip: _, wish } => decide_change(alloc, facts, today, wish),
-        Write::Cancel(_) => decide_cancel(
-            alloc,
-            facts.booking.trip.as_ref().unwrap(),
-            &facts.booking.plan,
-        ),
-        Write::Outcome { trip: _, outcome } => {
-            decide_outcome(alloc, facts.booking.trip.as_ref().unwrap(), *outcome)
-        }
+        Write::PutCaller(new) => put_caller(alloc, facts, me, new),
+        Write::PutPolicy(new) => Ok(put_policy(alloc, me, new)),
+        Write::PutPlace(new) => put_place(alloc, facts, me, new),
+        Write::PutRoute(new) => put_route(alloc, facts, me, new),
+        Write::PutRider(new) => put_rider(alloc, facts, me, new),
+        Write::Enter { rider, entry } => enter(alloc, facts, me, now, *rider, entry),
+        Write::PutVehicle(new) => put_vehicle(alloc, facts, me, new),
+        Write::Travel { day, rows } => put_travel(alloc, facts, me, *day, rows),
+        Write::Book { rider, wish } => decide_booking(alloc, facts, me, now, *rider, wish),
+        Write::Change { trip: _, wish } => decide_change(alloc, facts, me, now, wish),
+        Write::Cancel(_) => decide_cancel(alloc, facts, me, now),
+        Write::Outcome { trip: _, outcome } => decide_outcome(alloc, facts, me, now, *outcome),
     }
 }
 
@@ -258,11 +360,7 @@ pub fn decide(
     ensures decided { IfOk result (λ decided. IsDecision write.now me.now now sent facts.now decided) }
     ensures ranges { IfOk result PutsInRangeIf }
 {
-    let today = now.day;
-    if let Some(rule) = denial(facts, me, now, write) {
-        return Ok(Decision::Denied(rule));
-    }
-    let made = decide_by(alloc, facts, me.id, today, write)?;
+    let made = ruling(alloc, facts, me, now, write)?;
     let decided = with_kept(alloc, made, me.id, sent)?;
     puts_in_range_if(&decided);
     Ok(decided)

@@ -1,10 +1,9 @@
 //! The desk's tables, the requests to it, and what the rules decide on each request. This crate has no store.
 #![tactic(auto)]
 
-pub use booking::{Asking, answer_wish};
+pub use booking::{Asking, answer_wish, new_trip, uses_of};
 pub use change::{Change, FiledEntry};
 pub use deciding::{Decision, decide};
-pub use denying::denial;
 pub use facts::{BookingFacts, DayFacts, ReadFacts, WriteFacts};
 pub use fleet::{duty_of, has_version, in_force, on_duty};
 pub use kept::{Arrival, Kept, Sent};

@@ -1,35 +1,31 @@
-ghost use Rattle.std.specs.Prelude.{◌≡◌, IfOk};
-ghost use Rattle.pt_desk_rules.specs.Deciding.{no_change};
+ghost use Rattle.std.specs.Prelude.{◌≡◌, ℕ, Some, IfOk};
+ghost use Rattle.pt_desk_rules.specs.Deciding.{no_change, IsRuling};
 ghost use Rattle.pt_desk_rules.specs.Outcomes.{awaits_outcome, ended, has_come, status_of};
 ghost use Rattle.pt_desk_rules.specs.State.{puts_one};
 ghost use Rattle.pt_desk_rules.specs.declared.deciding.Decision.TheVariants.{Accepted};
 ghost use Rattle.pt_requests.specs.declared.request.Answer.TheVariants.{Done};
+ghost use Rattle.pt_requests.specs.declared.request.Write.TheVariants as write;
 
 use crate::change::one;
-use crate::{Change, Decision};
-use pt_base::{Day, Trip, TripStatus, Wish};
-use pt_requests::Answer;
+use crate::permission::may_end;
+use crate::{Change, Decision, WriteFacts};
+use pt_base::{Day, Moment, Rule, Trip, TripStatus, Wish};
+use pt_requests::{Answer, Caller};
 use pt_rights::Outcome;
 use std::alloc::{AllocError, Global};
 
-/// Whether the trip exists and is booked, so that it has no outcome yet.
-pub(crate) fn awaits_outcome(trip: &Option<Trip>) -> bool
-    ensures { result ≡ awaits_outcome trip.now }
+/// Whether the trip is booked, so that it has no outcome yet.
+fn awaits_outcome(trip: &Trip) -> bool
+    ensures { result ≡ awaits_outcome (Some trip.now) }
 {
-    match trip {
-        Some(there) => there.status == TripStatus::Booked,
-        None => false,
-    }
+    trip.status == TripStatus::Booked
 }
 
-/// Whether the trip exists and its day has come.
-pub(crate) fn has_come(today: Day, trip: &Option<Trip>) -> bool
-    ensures { result ≡ has_come today trip.now }
+/// Whether the trip's day has come.
+fn has_come(today: Day, trip: &Trip) -> bool
+    ensures { result ≡ has_come today (Some trip.now) }
 {
-    match trip {
-        Some(there) => there.wish.day <= today,
-        None => false,
-    }
+    trip.wish.day <= today
 }
 
 /// The status of a trip with this outcome.
@@ -63,12 +59,8 @@ fn ended(trip: &Trip, wish: Wish, outcome: Outcome) -> Trip
     }
 }
 
-/// Decides the outcome of a trip.
-pub(crate) fn decide_outcome(
-    alloc: Global,
-    trip: &Trip,
-    outcome: Outcome,
-) -> Result<Decision, AllocError>
+/// Gives a trip this outcome.
+fn end(alloc: Global, trip: &Trip, outcome: Outcome) -> Result<Decision, AllocError>
     ensures { IfOk result (λ decided. decided
         ≡ Accepted Done (record no_change { trips = puts_one (ended outcome trip.now) })) }
 {
@@ -81,4 +73,29 @@ pub(crate) fn decide_outcome(
             ..Change::none(alloc)
         },
     })
+}
+
+/// Decides the outcome of a trip.
+pub(crate) fn decide_outcome(
+    alloc: Global,
+    facts: &WriteFacts,
+    me: &Caller,
+    now: Moment,
+    outcome: Outcome,
+) -> Result<Decision, AllocError>
+    ensures ruling { (trip : ℕ) → IfOk result (IsRuling (write.Outcome trip outcome) me.now now facts.now) }
+{
+    if !may_end(me.role, &facts.booking.trip) {
+        return Ok(Decision::Denied(Rule::Caller));
+    }
+    let Some(trip) = &facts.booking.trip else {
+        return Ok(Decision::Denied(Rule::Unknown));
+    };
+    if !awaits_outcome(trip) {
+        return Ok(Decision::Denied(Rule::Over));
+    }
+    if !has_come(now.day, trip) {
+        return Ok(Decision::Denied(Rule::Early));
+    }
+    end(alloc, trip, outcome)
 }

@@ -1,4 +1,4 @@
-ghost use Rattle.std.specs.Prelude.{◌≡◌, ◌==◌, ◌&&◌, ◌||◌, ◌↔◌, nat_lt, IfOk, IsTrue};
+ghost use Rattle.std.specs.Prelude.{◌≡◌, ◌==◌, ◌&&◌, ◌||◌, ◌↔◌, nat_lt, Some, IfOk, IsTrue};
 ghost use Rattle.pt_desk_rules.specs.Sound.{HasStops};
 ghost use Rattle.pt_desk_rules.specs.Trips.{has_ends, is_cancellable, is_changeable, cancelled, plan_span};
 ghost use Rattle.pt_desk_rules.specs.Trips.{gives_up, moves_to, IsConfirmation};
@@ -21,23 +21,17 @@ pub fn has_ends(wish: &Wish, places: &Rows<Place>) -> bool
 }
 
 /// Whether the trip may be changed today.
-pub(crate) fn is_changeable(today: Day, trip: &Option<Trip>) -> bool
-    ensures { result ≡ is_changeable today trip.now }
+pub(crate) fn is_changeable(today: Day, trip: &Trip) -> bool
+    ensures { result ≡ is_changeable today (Some trip.now) }
 {
-    match trip {
-        Some(there) => there.status == TripStatus::Booked && today < there.wish.day,
-        None => false,
-    }
+    trip.status == TripStatus::Booked && today < trip.wish.day
 }
 
 /// Whether the trip may be cancelled at the moment `now`.
-pub(crate) fn is_cancellable(now: Moment, trip: &Option<Trip>) -> bool
-    ensures { result ≡ is_cancellable now trip.now }
+pub(crate) fn is_cancellable(now: Moment, trip: &Trip) -> bool
+    ensures { result ≡ is_cancellable now (Some trip.now) }
 {
-    match trip {
-        Some(there) => there.status == TripStatus::Booked && is_to_come(now, there),
-        None => false,
-    }
+    trip.status == TripStatus::Booked && is_to_come(now, trip)
 }
 
 /// Whether the trip's promised window has not begun.

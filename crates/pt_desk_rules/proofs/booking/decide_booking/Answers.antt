@@ -1,16 +1,21 @@
-use Rattle.std.proofs.Common.{◌+◌, None}
-use Rattle.pt_desk_rules.specs.Deciding.{booked}
-use Rattle.pt_desk_rules.proofs.BookingLemmas.{denied, confirmed, booked_made}
+use Rattle.std.proofs.Common.{None}
+use Rattle.pt_desk_rules.specs.Booking.{IsBooking}
+use Rattle.pt_desk_rules.specs.Deciding.{booked, IsRuling}
+use Rattle.pt_requests.specs.declared.request.Write.TheVariants as write
+use Rattle.pt_desk_rules.proofs.BookingLemmas.{if_ok}
+use Rattle.pt_desk_rules.proofs.RulingLemmas.{booked_by}
 use Rattle.pt_desk_rules.proofs.booking.decide_booking.Goals as goal
 
-pub returns-in-Denied : goal.returns-in-Denied
-returns-in-Denied c =
-    denied booked (c.args.facts.now.booking.last_trip + 1) c.unwrap-number.result None c.args.today c.args.wish.now c.args.facts.now c.in_ok-rule.field-0
-    c.in-Denied.rule (rw c.unwrap-number.ensures at c.of.ensures.value) c.in-Denied.is c.in_ok-rule.ensures.value
-
-pub returns-in_ok-trips-in-Booked : goal.returns-in_ok-trips-in-Booked
-returns-in_ok-trips-in-Booked c =
-    confirmed booked (c.args.facts.now.booking.last_trip + 1) c.unwrap-number.result None c.args.today c.args.wish.now c.args.facts.now c.in_ok-rule.field-0 c.in-Booked.trip c.in-Booked.plan
-    _ c.confirmed.result (rw c.unwrap-number.ensures at c.of.ensures.value) c.in-Booked.is c.in_ok-rule.ensures.value c.confirmed.ensures
-    (booked_made c.none.result c.in_ok-trips-in-Booked.trips c.in_ok-planned-in-Booked.planned c.in-Booked.trip c.in-Booked.plan
-    c.none.ensures.value c.in_ok-trips-in-Booked.ensures c.in_ok-planned-in-Booked.ensures)
+pub returns-in-Ok : goal.returns-in-Ok
+returns-in-Ok c =
+    let facts = c.args.facts.now in
+    let wish = c.args.wish.now in
+    let me = c.args.me.now in
+    let now = c.args.now in
+    let rider = c.args.rider in
+    record {
+      ruling = if_ok (IsBooking booked c.in-Ok.number None now.day wish facts) (IsRuling (write.Book rider wish) me now facts)
+          (λ made by. booked_by rider c.in-Ok.number wish me now facts made (let may = c.if-not-may_book.false in cc)
+          c.in-Ok.ensures.allowed c.in-Ok.ensures.number by)
+          c.book.result (c.book.ensures c.in-Ok.ensures.asking);
+    }

@@ -1,21 +1,23 @@
-use Rattle.std.proofs.Common.{Some, refl}
-use Rattle.pt_desk_rules.specs.Deciding.{changed}
-use Rattle.pt_desk_rules.proofs.BookingLemmas.{denied, confirmed, of_trip, changed_made}
+use Rattle.std.proofs.Common.{Some, sym, ◌∙◌}
+use Rattle.pt_desk_rules.specs.Booking.{IsBooking}
+use Rattle.pt_desk_rules.specs.Deciding.{changed, IsRuling}
+use Rattle.pt_requests.specs.declared.request.Write.TheVariants as write
+use Rattle.pt_desk_rules.proofs.BookingLemmas.{if_ok}
+use Rattle.pt_desk_rules.proofs.RulingLemmas.{changed_by}
 use Rattle.pt_desk_rules.proofs.booking.decide_change.Goals as goal
 
-pub returns-in-Denied : goal.returns-in-Denied
-returns-in-Denied c =
+pub returns : goal.returns
+returns c =
     let facts = c.args.facts.now in
-    let old = c.unwrap-old.result in
-    of_trip facts.booking.trip old c.args.today c.args.wish.now facts _ c.unwrap-old.ensures
-    (denied (changed old facts.booking.plan) old.id old.id (Some old.id) c.args.today c.args.wish.now facts c.in_ok-rule.field-0 c.in-Denied.rule refl c.in-Denied.is c.in_ok-rule.ensures.value)
-
-pub returns-in_ok-trips-in-Booked : goal.returns-in_ok-trips-in-Booked
-returns-in_ok-trips-in-Booked c =
-    let facts = c.args.facts.now in
-    let old = c.unwrap-old.result in
-    of_trip facts.booking.trip old c.args.today c.args.wish.now facts c.confirmed.result c.unwrap-old.ensures
-    (confirmed (changed old facts.booking.plan) old.id old.id (Some old.id) c.args.today c.args.wish.now facts c.in_ok-rule.field-0 c.in-Booked.trip c.in-Booked.plan
-    _ c.confirmed.result refl c.in-Booked.is c.in_ok-rule.ensures.value c.confirmed.ensures
-    (changed_made c.none.result c.in_ok-trips-in-Booked.trips c.in_ok-planned-in-Booked.planned old facts.booking.plan c.in-Booked.trip c.in-Booked.plan
-    c.none.ensures.value c.in_ok-trips-in-Booked.ensures c.in_ok-planned-in-Booked.ensures.value))
+    let wish = c.args.wish.now in
+    let me = c.args.me.now in
+    let now = c.args.now in
+    let old = c.in-Some.old in
+    record {
+      ruling = λ trip. if_ok (IsBooking (changed old facts.booking.plan) old.id (Some old.id) now.day wish facts)
+          (IsRuling (write.Change trip wish) me now facts)
+          (λ made by. changed_by trip old wish me now facts made
+          (sym c.may_alter.ensures ∙ c.if-not-may_alter.false) c.in-Some.is (sym c.in-Some-of.ensures.exists)
+          (sym c.is_changeable.ensures ∙ c.if-not-is_changeable.false) by)
+          c.rebook.result (c.rebook.ensures c.in-Some-of.ensures.value);
+    }

@@ -1,7 +1,6 @@
-use Rattle.std.proofs.Common.{◌≡◌, ◌∙◌, None, sym, subst}
 use Rattle.pt_rights.specs.Rules.{first_failing}
-use Rattle.pt_desk_rules.specs.Deciding.{IsDecisionAfter}
 use Rattle.pt_desk_rules.specs.Rules.{rules_of}
+use Rattle.pt_desk_rules.proofs.RulingLemmas.{with_its_kept}
 use Rattle.pt_desk_rules.proofs.deciding.decide.Goals as goal
 
 pub returns-clause-decided : goal.returns-clause-decided
@@ -9,10 +8,6 @@ returns-clause-decided c =
     let asked = c.args.write.now in
     let me = c.args.me.now in
     let now = c.args.now in
-    let sent = c.args.sent in
     let facts = c.args.facts.now in
-    let made = c.in_ok-made.made in
-    let decided = c.in_ok-decided.decided in
-    let none : first_failing (rules_of asked me now facts) ≡ None = sym c.denial.ensures.value ∙ c.in_default.is in
-    subst (λ first. IsDecisionAfter first asked me now sent facts decided) (sym none)
-    (made, c.in_ok-made.ensures.decided, c.in_ok-decided.ensures)
+    with_its_kept (first_failing (rules_of asked me now facts)) asked me now c.args.sent facts c.in_ok-made.made
+    c.in_ok-decided.decided c.in_ok-made.ensures.ruling c.in_ok-decided.ensures
