@@ -73,13 +73,16 @@ fault_of {X} {Y} a b v w e read = record {
       };
 }
 
--- a fault after something was read
-pub fault_after : {X Y Z : Type 0} (a b c : Store) (x v : X) (w : Y) (u : Z) (e : StoreFault) → Goes {X = X} a b v None (Ok x) → Goes {X = Y} b c w None (Err e) → Goes {X = Z} a c u None (Err e)
-fault_after {X} {Y} {Z} a b c x v w u e first fault =
-    reads_then a b c x v u u None None (Err e) first (fault_of {X = Y} {Y = Z} b c w u e fault) (λ _ _ _. (refl, refl))
+fault_as : {Y Z : Type 0} (a b : Store) (v : Y) (u : Z) (e : StoreFault) (r : Result Z StoreFault) → IsErrAnd r (λ error. error ≡ e) → Goes {X = Y} a b v None (Err e)
+    → Goes {X = Z} a b u None r
+fault_as a b v u e (Ok z) is fault = absurd is
+fault_as {Y} {Z} a b v u e (Err error) is fault = subst (λ (f : StoreFault). Goes {X = Z} a b u None (Err f)) (sym is) (fault_of {X = Y} {Y = Z} a b v u e fault)
 
--- a fault after something was read, as `?` returns it
-pub fault_handed : {X Y Z : Type 0} (a b c : Store) (x v : X) (w : Y) (u : Z) (e : StoreFault) (r : Result Z StoreFault) → IsErrAnd r (λ error. error ≡ e)
-    → Goes {X = X} a b v None (Ok x) → Goes {X = Y} b c w None (Err e) → Goes {X = Z} a c u None r
-fault_handed a b c x v w u e (Ok z) is first fault = absurd is
-fault_handed {X} {Y} {Z} a b c x v w u e (Err error) is first fault = subst (λ (f : StoreFault). Goes {X = Z} a c u None (Err f)) (sym is) (fault_after a b c x v w u e first fault)
+-- a fault, as `?` returns it
+pub fault_handed : {Y Z : Type 0} {a b : Store} {v : Y} {u : Z} {e : StoreFault} {r : Result Z StoreFault} → IsErrAnd r (λ error. error ≡ e)
+    → Goes {X = Y} a b v None (Err e) → Goes {X = Z} a b u None r
+fault_handed {Y} {Z} {a} {b} {v} {u} {e} {r} is fault = fault_as {Y = Y} {Z = Z} a b v u e r is fault
+
+-- what comes after a read
+pub after : {X Y : Type 0} {a b c : Store} {x v : X} {w : Y} {r : Result Y StoreFault} → Goes a b v None (Ok x) → Goes b c w None r → Goes a c w None r
+after {X} {Y} {a} {b} {c} {x} {v} {w} {r} first next = reads_then a b c x v w w None None r first next (λ _ _ _. (refl, refl))

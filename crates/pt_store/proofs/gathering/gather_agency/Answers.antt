@@ -1,6 +1,6 @@
 use Rattle.pt_desk_rules.specs.Facts.{no_facts}
 use Rattle.pt_desk_rules.specs.State.{State}
-use Rattle.pt_store.proofs.ReadLemmas.{reads_pair, reads_map, fault_handed}
+use Rattle.pt_store.proofs.ReadLemmas.{after, reads_pair, reads_map, fault_handed}
 use Rattle.pt_store.proofs.gathering.gather_agency.Goals as goal
 
 pub returns : goal.returns
@@ -15,15 +15,14 @@ returns g c = record {
 pub returns-in_err-gather_policy : goal.returns-in_err-gather_policy
 returns-in_err-gather_policy g c = record {
   reads =
-      fault_handed _ _ _ _ _ _ _ _ _ c.from_residual-in_err-gather_policy.ensures.1
-      (reads_pair _ _ _ (λ (s : State). s.places) (λ (s : State). s.vehicles) _ _ c.in_ok-places.ensures.reads c.in_ok-vehicles.ensures.reads)
-      c.in_err-gather_policy.ensures.reads;
+      after c.in_ok-places.ensures.reads
+      (after c.in_ok-vehicles.ensures.reads
+      (fault_handed c.from_residual-in_err-gather_policy.ensures.1 c.in_err-gather_policy.ensures.reads));
 }
 
 pub returns-in_err-vehicles : goal.returns-in_err-vehicles
 returns-in_err-vehicles g c = record {
   reads =
-      fault_handed _ _ _ _ _ _ _ _ _ c.from_residual-in_err-vehicles.ensures.1
-      c.in_ok-places.ensures.reads
-      c.in_err-vehicles.ensures.reads;
+      after c.in_ok-places.ensures.reads
+      (fault_handed c.from_residual-in_err-vehicles.ensures.1 c.in_err-vehicles.ensures.reads);
 }

@@ -1,6 +1,6 @@
 use Rattle.pt_desk_rules.specs.Facts.{day_of, plan_for, trips_counted_for}
 use Rattle.pt_desk_rules.specs.State.{State}
-use Rattle.pt_store.proofs.ReadLemmas.{reads_pair, reads_map, fault_handed}
+use Rattle.pt_store.proofs.ReadLemmas.{after, reads_pair, reads_map, fault_handed}
 use Rattle.pt_store.proofs.gathering.gather_booking.Goals as goal
 
 pub returns : goal.returns
@@ -24,46 +24,33 @@ returns g c = record {
 pub returns-in_err-plan : goal.returns-in_err-plan
 returns-in_err-plan g c = record {
   reads =
-      fault_handed _ _ _ _ _ _ _ _ _ c.from_residual-in_err-plan.ensures.1
-      (reads_pair _ _ _ (λ (s : State). s.last_trip)
-      (λ (s : State). (day_of c.args.day s, trips_counted_for c.args.found.now s.trips)) _ _
-      c.in_ok-last_trip.ensures.reads (reads_pair _ _ _ (λ (s : State). day_of c.args.day s)
-      (λ (s : State). trips_counted_for c.args.found.now s.trips) _ _ c.in_ok-day.ensures.reads
-      c.in_ok-trips.ensures.reads))
-      c.in_err-plan.ensures.reads;
+      after c.in_ok-last_trip.ensures.reads
+      (after c.in_ok-day.ensures.reads
+      (after c.in_ok-trips.ensures.reads
+      (fault_handed c.from_residual-in_err-plan.ensures.1 c.in_err-plan.ensures.reads)));
 }
 
 pub returns-in_err-routes : goal.returns-in_err-routes
 returns-in_err-routes g c = record {
   reads =
-      fault_handed _ _ _ _ _ _ _ _ _ c.from_residual-in_err-routes.ensures.1
-      (reads_pair _ _ _ (λ (s : State). s.last_trip)
-      (λ (s : State). (
-        day_of c.args.day s,
-        (
-          trips_counted_for c.args.found.now s.trips,
-          plan_for c.args.old.now
-              s,
-        ),
-      )) _ _ c.in_ok-last_trip.ensures.reads (reads_pair _ _ _ (λ (s : State). day_of c.args.day s)
-      (λ (s : State). (trips_counted_for c.args.found.now s.trips, plan_for c.args.old.now s)) _ _
-      c.in_ok-day.ensures.reads (reads_pair _ _ _ (λ (s : State). trips_counted_for c.args.found.now s.trips)
-      (λ (s : State). plan_for c.args.old.now s) _ _ c.in_ok-trips.ensures.reads c.in_ok-plan.ensures.reads)))
-      c.in_err-routes.ensures.reads;
+      after c.in_ok-last_trip.ensures.reads
+      (after c.in_ok-day.ensures.reads
+      (after c.in_ok-trips.ensures.reads
+      (after c.in_ok-plan.ensures.reads
+      (fault_handed c.from_residual-in_err-routes.ensures.1 c.in_err-routes.ensures.reads))));
 }
 
 pub returns-in_err-trips : goal.returns-in_err-trips
 returns-in_err-trips g c = record {
   reads =
-      fault_handed _ _ _ _ _ _ _ _ _ c.from_residual-in_err-trips.ensures.1
-      (reads_pair _ _ _ (λ (s : State). s.last_trip) (λ (s : State). day_of c.args.day s) _ _ c.in_ok-last_trip.ensures.reads c.in_ok-day.ensures.reads)
-      c.in_err-trips.ensures.reads;
+      after c.in_ok-last_trip.ensures.reads
+      (after c.in_ok-day.ensures.reads
+      (fault_handed c.from_residual-in_err-trips.ensures.1 c.in_err-trips.ensures.reads));
 }
 
 pub returns-in_err-day : goal.returns-in_err-day
 returns-in_err-day g c = record {
   reads =
-      fault_handed _ _ _ _ _ _ _ _ _ c.from_residual-in_err-day.ensures.1
-      c.in_ok-last_trip.ensures.reads
-      c.in_err-day.ensures.reads;
+      after c.in_ok-last_trip.ensures.reads
+      (fault_handed c.from_residual-in_err-day.ensures.1 c.in_err-day.ensures.reads);
 }

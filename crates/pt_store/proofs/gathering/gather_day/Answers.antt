@@ -1,7 +1,7 @@
 use Rattle.pt_desk_rules.specs.Planned.{planned_on, trips_on}
 use Rattle.pt_desk_rules.specs.State.{State}
 use Rattle.pt_desk_rules.specs.Travel.{table_on}
-use Rattle.pt_store.proofs.ReadLemmas.{reads_pair, reads_map, fault_handed}
+use Rattle.pt_store.proofs.ReadLemmas.{after, reads_pair, reads_map, fault_handed}
 use Rattle.pt_store.proofs.gathering.gather_day.Goals as goal
 
 pub returns : goal.returns
@@ -16,15 +16,14 @@ returns g c = record {
 pub returns-in_err-plans : goal.returns-in_err-plans
 returns-in_err-plans g c = record {
   reads =
-      fault_handed _ _ _ _ _ _ _ _ _ c.from_residual-in_err-plans.ensures.1
-      (reads_pair _ _ _ (λ (s : State). table_on c.args.day s.travel) (λ (s : State). trips_on c.args.day s.trips) _ _ c.in_ok-travel.ensures.reads c.in_ok-trips.ensures.reads)
-      c.in_err-plans.ensures.reads;
+      after c.in_ok-travel.ensures.reads
+      (after c.in_ok-trips.ensures.reads
+      (fault_handed c.from_residual-in_err-plans.ensures.1 c.in_err-plans.ensures.reads));
 }
 
 pub returns-in_err-trips : goal.returns-in_err-trips
 returns-in_err-trips g c = record {
   reads =
-      fault_handed _ _ _ _ _ _ _ _ _ c.from_residual-in_err-trips.ensures.1
-      c.in_ok-travel.ensures.reads
-      c.in_err-trips.ensures.reads;
+      after c.in_ok-travel.ensures.reads
+      (fault_handed c.from_residual-in_err-trips.ensures.1 c.in_err-trips.ensures.reads);
 }

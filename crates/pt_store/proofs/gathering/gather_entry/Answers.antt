@@ -1,6 +1,6 @@
 use Rattle.pt_desk_rules.specs.Facts.{no_facts, tallies_for}
 use Rattle.pt_desk_rules.specs.State.{State, file_of, rider_of}
-use Rattle.pt_store.proofs.ReadLemmas.{reads_pair, reads_map, fault_handed}
+use Rattle.pt_store.proofs.ReadLemmas.{after, reads_pair, reads_map, fault_handed}
 use Rattle.pt_store.proofs.gathering.gather_entry.Goals as goal
 
 pub returns : goal.returns
@@ -17,17 +17,14 @@ returns g c = record {
 pub returns-in_err-gather_policy : goal.returns-in_err-gather_policy
 returns-in_err-gather_policy g c = record {
   reads =
-      fault_handed _ _ _ _ _ _ _ _ _ c.from_residual-in_err-gather_policy.ensures.1
-      (reads_pair _ _ _ (λ (s : State). tallies_for c.args.entry.now c.args.rider s)
-      (λ (s : State). (rider_of c.args.rider s, file_of c.args.rider s)) _ _ c.in_ok-tallies.ensures.reads
-      c.in_ok-rider.ensures.reads)
-      c.in_err-gather_policy.ensures.reads;
+      after c.in_ok-tallies.ensures.reads
+      (after c.in_ok-rider.ensures.reads
+      (fault_handed c.from_residual-in_err-gather_policy.ensures.1 c.in_err-gather_policy.ensures.reads));
 }
 
 pub returns-in_err-rider : goal.returns-in_err-rider
 returns-in_err-rider g c = record {
   reads =
-      fault_handed _ _ _ _ _ _ _ _ _ c.from_residual-in_err-rider.ensures.1
-      c.in_ok-tallies.ensures.reads
-      c.in_err-rider.ensures.reads;
+      after c.in_ok-tallies.ensures.reads
+      (fault_handed c.from_residual-in_err-rider.ensures.1 c.in_err-rider.ensures.reads);
 }

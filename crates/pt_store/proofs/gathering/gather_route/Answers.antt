@@ -2,7 +2,7 @@ use Rattle.std.proofs.Common.{sym}
 use Rattle.std.specs.Prelude.{is_some, length}
 use Rattle.pt_desk_rules.specs.Facts.{no_facts}
 use Rattle.pt_desk_rules.specs.State.{State, route_of}
-use Rattle.pt_store.proofs.ReadLemmas.{reads_pair, reads_map, fault_handed}
+use Rattle.pt_store.proofs.ReadLemmas.{after, reads_pair, reads_map, fault_handed}
 use Rattle.pt_store.proofs.gathering.gather_route.Goals as goal
 
 pub returns : goal.returns
@@ -17,15 +17,14 @@ returns g c = record {
 pub returns-in_err-gather_policy : goal.returns-in_err-gather_policy
 returns-in_err-gather_policy g c = record {
   reads =
-      fault_handed _ _ _ _ _ _ _ _ _ c.from_residual-in_err-gather_policy.ensures.1
-      (reads_pair _ _ _ (λ (s : State). is_some (route_of c.id.result s)) (λ (s : State). length s.routes) _ _ c.in_ok-has_route.ensures.reads c.in_ok-route_count.ensures.reads)
-      c.in_err-gather_policy.ensures.reads;
+      after c.in_ok-has_route.ensures.reads
+      (after c.in_ok-route_count.ensures.reads
+      (fault_handed c.from_residual-in_err-gather_policy.ensures.1 c.in_err-gather_policy.ensures.reads));
 }
 
 pub returns-in_err-route_count : goal.returns-in_err-route_count
 returns-in_err-route_count g c = record {
   reads =
-      fault_handed _ _ _ _ _ _ _ _ _ c.from_residual-in_err-route_count.ensures.1
-      c.in_ok-has_route.ensures.reads
-      c.in_err-route_count.ensures.reads;
+      after c.in_ok-has_route.ensures.reads
+      (fault_handed c.from_residual-in_err-route_count.ensures.1 c.in_err-route_count.ensures.reads);
 }

@@ -3,7 +3,7 @@ use Rattle.pt_base.specs.declared.rider.Rider.{Rider}
 use Rattle.pt_rights.specs.declared.entry.Entered.{Entered}
 use Rattle.pt_desk_rules.specs.Facts.{no_read_facts, trips_counted_for}
 use Rattle.pt_desk_rules.specs.State.{State, file_of, rider_of}
-use Rattle.pt_store.proofs.ReadLemmas.{reads_by, reads_map, fault_handed}
+use Rattle.pt_store.proofs.ReadLemmas.{after, reads_by, reads_map, fault_handed}
 use Rattle.pt_store.proofs.gathering.gather_standing.Goals as goal
 
 pub returns : goal.returns
@@ -19,7 +19,6 @@ returns g c = record {
 pub returns-in_err-trips : goal.returns-in_err-trips
 returns-in_err-trips g c = record {
   reads =
-      fault_handed _ _ _ _ _ _ _ _ _ c.from_residual-in_err-trips.ensures.1
-      c.in_ok-rider.ensures.reads
-      c.in_err-trips.ensures.reads;
+      after c.in_ok-rider.ensures.reads
+      (fault_handed c.from_residual-in_err-trips.ensures.1 c.in_err-trips.ensures.reads);
 }

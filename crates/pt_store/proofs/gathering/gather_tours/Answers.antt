@@ -1,6 +1,6 @@
 use Rattle.pt_desk_rules.specs.Facts.{day_of, no_read_facts}
 use Rattle.pt_desk_rules.specs.State.{State}
-use Rattle.pt_store.proofs.ReadLemmas.{reads_pair, reads_map, fault_handed}
+use Rattle.pt_store.proofs.ReadLemmas.{after, reads_pair, reads_map, fault_handed}
 use Rattle.pt_store.proofs.gathering.gather_tours.Goals as goal
 
 pub returns : goal.returns
@@ -13,7 +13,6 @@ returns g c = record {
 pub returns-in_err-day : goal.returns-in_err-day
 returns-in_err-day g c = record {
   reads =
-      fault_handed _ _ _ _ _ _ _ _ _ c.from_residual-in_err-day.ensures.1
-      c.in_ok-vehicles.ensures.reads
-      c.in_err-day.ensures.reads;
+      after c.in_ok-vehicles.ensures.reads
+      (fault_handed c.from_residual-in_err-day.ensures.1 c.in_err-day.ensures.reads);
 }

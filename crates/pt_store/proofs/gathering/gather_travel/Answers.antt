@@ -2,7 +2,7 @@ use Rattle.std.specs.Prelude.{length, None}
 use Rattle.pt_desk_rules.specs.Facts.{no_facts}
 use Rattle.pt_desk_rules.specs.Planned.{is_booked_from}
 use Rattle.pt_desk_rules.specs.State.{State, tables_before}
-use Rattle.pt_store.proofs.ReadLemmas.{reads_pair, reads_map, fault_handed}
+use Rattle.pt_store.proofs.ReadLemmas.{after, reads_pair, reads_map, fault_handed}
 use Rattle.pt_store.proofs.gathering.gather_travel.Goals as goal
 
 pub returns : goal.returns
@@ -22,27 +22,23 @@ returns g c = record {
 pub returns-in_err-gather_policy : goal.returns-in_err-gather_policy
 returns-in_err-gather_policy g c = record {
   reads =
-      fault_handed _ _ _ _ _ _ _ _ _ c.from_residual-in_err-gather_policy.ensures.1
-      (reads_pair _ _ _ (λ (s : State). s.places) (λ (s : State).
-      (length (tables_before c.args.day s.travel), is_booked_from None c.args.day s.trips)) _ _
-      c.in_ok-places.ensures.reads (reads_pair _ _ _ (λ (s : State). length (tables_before c.args.day s.travel))
-      (λ (s : State). is_booked_from None c.args.day s.trips) _ _ c.in_ok-table_count_before.ensures.reads
-      c.in_ok-is_booked_from.ensures.reads))
-      c.in_err-gather_policy.ensures.reads;
+      after c.in_ok-places.ensures.reads
+      (after c.in_ok-table_count_before.ensures.reads
+      (after c.in_ok-is_booked_from.ensures.reads
+      (fault_handed c.from_residual-in_err-gather_policy.ensures.1 c.in_err-gather_policy.ensures.reads)));
 }
 
 pub returns-in_err-is_booked_from : goal.returns-in_err-is_booked_from
 returns-in_err-is_booked_from g c = record {
   reads =
-      fault_handed _ _ _ _ _ _ _ _ _ c.from_residual-in_err-is_booked_from.ensures.1
-      (reads_pair _ _ _ (λ (s : State). s.places) (λ (s : State). length (tables_before c.args.day s.travel)) _ _ c.in_ok-places.ensures.reads c.in_ok-table_count_before.ensures.reads)
-      c.in_err-is_booked_from.ensures.reads;
+      after c.in_ok-places.ensures.reads
+      (after c.in_ok-table_count_before.ensures.reads
+      (fault_handed c.from_residual-in_err-is_booked_from.ensures.1 c.in_err-is_booked_from.ensures.reads));
 }
 
 pub returns-in_err-table_count_before : goal.returns-in_err-table_count_before
 returns-in_err-table_count_before g c = record {
   reads =
-      fault_handed _ _ _ _ _ _ _ _ _ c.from_residual-in_err-table_count_before.ensures.1
-      c.in_ok-places.ensures.reads
-      c.in_err-table_count_before.ensures.reads;
+      after c.in_ok-places.ensures.reads
+      (fault_handed c.from_residual-in_err-table_count_before.ensures.1 c.in_err-table_count_before.ensures.reads);
 }

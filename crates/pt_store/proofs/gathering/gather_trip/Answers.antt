@@ -1,6 +1,6 @@
 use Rattle.pt_desk_rules.specs.Facts.{no_booking, no_facts}
 use Rattle.pt_desk_rules.specs.State.{State, trip_of}
-use Rattle.pt_store.proofs.ReadLemmas.{reads_pair, reads_map, fault_handed}
+use Rattle.pt_store.proofs.ReadLemmas.{after, reads_pair, reads_map, fault_handed}
 use Rattle.pt_store.proofs.gathering.gather_trip.Goals as goal
 
 pub returns : goal.returns
@@ -13,7 +13,6 @@ returns g c = record {
 pub returns-in_err-gather_policy : goal.returns-in_err-gather_policy
 returns-in_err-gather_policy g c = record {
   reads =
-      fault_handed _ _ _ _ _ _ _ _ _ c.from_residual-in_err-gather_policy.ensures.1
-      c.in_ok-trip.ensures.reads
-      c.in_err-gather_policy.ensures.reads;
+      after c.in_ok-trip.ensures.reads
+      (fault_handed c.from_residual-in_err-gather_policy.ensures.1 c.in_err-gather_policy.ensures.reads);
 }

@@ -3,7 +3,7 @@ use Rattle.pt_base.specs.declared.rider.Rider.{Rider}
 use Rattle.pt_rights.specs.declared.entry.Entered.{Entered}
 use Rattle.pt_desk_rules.specs.Facts.{agency_facts, booking_facts}
 use Rattle.pt_desk_rules.specs.State.{State, file_of, rider_of}
-use Rattle.pt_store.proofs.ReadLemmas.{reads_by, reads_pair, reads_map, fault_handed}
+use Rattle.pt_store.proofs.ReadLemmas.{after, reads_by, reads_pair, reads_map, fault_handed}
 use Rattle.pt_store.proofs.gathering.gather_wish.Goals as goal
 
 pub returns : goal.returns
@@ -21,17 +21,14 @@ returns g c = record {
 pub returns-in_err-gather_agency : goal.returns-in_err-gather_agency
 returns-in_err-gather_agency g c = record {
   reads =
-      fault_handed _ _ _ _ _ _ _ _ _ c.from_residual-in_err-gather_agency.ensures.1
-      (reads_by _ _ _ (λ (s : State). (rider_of c.args.rider s, file_of c.args.rider s))
-      (λ (found : Option Rider × List Entered) (s : State). booking_facts found.0 c.args.wish.now.day
-      c.args.old.now s) _ _ c.in_ok-rider.ensures.reads c.in_ok-booking.ensures.reads)
-      c.in_err-gather_agency.ensures.reads;
+      after c.in_ok-rider.ensures.reads
+      (after c.in_ok-booking.ensures.reads
+      (fault_handed c.from_residual-in_err-gather_agency.ensures.1 c.in_err-gather_agency.ensures.reads));
 }
 
 pub returns-in_err-booking : goal.returns-in_err-booking
 returns-in_err-booking g c = record {
   reads =
-      fault_handed _ _ _ _ _ _ _ _ _ c.from_residual-in_err-booking.ensures.1
-      c.in_ok-rider.ensures.reads
-      c.in_err-booking.ensures.reads;
+      after c.in_ok-rider.ensures.reads
+      (fault_handed c.from_residual-in_err-booking.ensures.1 c.in_err-booking.ensures.reads);
 }
