@@ -9,3 +9,4 @@ pub mod SplicedStops
 pub mod BestBelow
 pub mod Bounds
 pub mod Riding
+pub mod DropSearch

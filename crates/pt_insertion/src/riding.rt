@@ -8,7 +8,7 @@ ghost use Rattle.pt_insertion.specs.Insertion.{IsWithout};
 ghost use Rattle.pt_insertion.specs.Possible.{IsPossible};
 ghost use Rattle.pt_insertion.specs.Riding.{IsRiding};
 
-use crate::bounds::Bounds;
+use crate::drop_search::DropSearch;
 use crate::window::Window;
 use crate::{Asked, Duty};
 use pt_base::{Load, PlaceId, Vehicle};
@@ -62,25 +62,30 @@ pub(crate) fn boarded(
 ///
 /// Then no later drop is possible. Only driving and service count in a ride's length: a wait makes it no shorter.
 pub(crate) fn ride_on<T: Times>(
-    duty: &Duty<'_>,
-    asked: &Asked,
+    drops: &DropSearch<'_>,
     times: &T,
-    bounds: &Bounds,
     riding: Riding,
-    i: usize,
     j: usize,
 ) -> Option<Riding>
-    requires drop_later { i ≤ j }
-    requires stop { j < length (stops_of duty.now.route.now) }
-    requires new_trip { IsWithout asked.now.trip (stops_of duty.now.route.now) }
-    requires bounds { AreBounds (T.minutes times.now) duty.now.vehicle.now (stops_of duty.now.route.now) bounds.now }
-    requires riding { IsRiding (T.minutes times.now) duty.now.vehicle.now
-        (stops_of duty.now.route.now) asked.now i j riding }
-    ensures riding { IfSome result (λ on.
-        IsRiding (T.minutes times.now) duty.now.vehicle.now (stops_of duty.now.route.now) asked.now i (j + 1) on) }
+    requires drop_later { drops.now.i ≤ j }
+    requires stop { j < length (stops_of drops.now.duty.route.now) }
+    requires new_trip { IsWithout drops.now.asked.now.trip (stops_of drops.now.duty.route.now) }
+    requires bounds { AreBounds (T.minutes times.now) drops.now.duty.vehicle.now
+        (stops_of drops.now.duty.route.now) drops.now.bounds.now }
+    requires riding { IsRiding (T.minutes times.now) drops.now.duty.vehicle.now
+        (stops_of drops.now.duty.route.now) drops.now.asked.now drops.now.i j riding }
+    ensures riding { IfSome result (λ on. IsRiding (T.minutes times.now) drops.now.duty.vehicle.now
+        (stops_of drops.now.duty.route.now) drops.now.asked.now drops.now.i (j + 1) on) }
     ensures none { IfNone result ((later : ℕ) → j + 1 ≤ later →
-        ¬ IsPossible (T.minutes times.now) duty.now.vehicle.now (stops_of duty.now.route.now) asked.now i later) }
+        ¬ IsPossible (T.minutes times.now) drops.now.duty.vehicle.now
+        (stops_of drops.now.duty.route.now) drops.now.asked.now drops.now.i later) }
 {
+    let DropSearch {
+        duty,
+        asked,
+        bounds,
+        ..
+    } = *drops;
     let Asked { goal, ride, .. } = *asked;
     let here = visit_at(duty.route, duty.vehicle, j + 1);
     let others = aboard_after(duty.route, j, riding.others)?;
