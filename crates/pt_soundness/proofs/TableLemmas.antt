@@ -1,9 +1,10 @@
 -- A state is sound if each of its tables is.
-use Rattle.std.proofs.Common.{ℕ, zero, suc, ◌≤◌, IsTrue, List, Option, None, Some, [], ◌∷◌, take, refl, arith}
+use Rattle.std.proofs.Common.{ℕ, zero, suc, ◌-◌, ◌≤◌, IsTrue, List, Option, None, Some, [], ◌∷◌, lit<, lit≤, take, refl, arith}
 use Rattle.pt_base.specs.declared.rider.Rider.{Rider}
 use Rattle.pt_base.specs.declared.vehicle.Vehicle.{Vehicle}
 use Rattle.pt_records.specs.Records.{Each}
 use Rattle.pt_records.proofs.OrderLemmas.{Each-both, Each-weaker}
+use Rattle.pt_records.proofs.SplitLemmas.{Each-at}
 use Rattle.pt_requests.specs.declared.caller.Role.{Role}
 use Rattle.pt_requests.specs.declared.caller.Role.TheVariants as role
 use Rattle.pt_desk_rules.specs.Facts.{has_subject}
@@ -12,7 +13,7 @@ use Rattle.pt_desk_rules.specs.Parts as part
 use Rattle.pt_desk_rules.specs.Sound.{HasFirstDay, HasSubject, IsSound}
 use Rattle.pt_desk_rules.specs.State.{State}
 use Rattle.pt_scheduling.specs.Plan.{IsRoutePlan}
-use Rattle.pt_desk_rules.specs.TableNames.{all_tables, part_of, table_count}
+use Rattle.pt_desk_rules.specs.TableNames.{all_tables, number_of, part_of, table_count}
 use Rattle.pt_soundness.specs.Tables.{has_driven, has_rider, HasDriven, HasRider, IsSoundIn, IsSoundTo, KeepsLinesIn, KeepsRangesIn, keeps_ranges}
 use Rattle.pt_spelling.specs.Ranges.{IsVehicle}
 use Rattle.pt_desk_rules.specs.Ranges.{FitsIn, KeepsRanges}
@@ -111,33 +112,58 @@ each_table P all (t ∷ ts) = (all t, each_table P all ts)
 pub sound_to : (s : State) → IsSound s → IsSoundTo table_count s
 sound_to s sound = each_table (IsSoundIn s) (sound_in s sound) all_tables
 
+-- a property of the first n holds for fewer
+fewer : {A : Type 0} (P : A → Type 0) (m n : ℕ) (xs : List A) → m ≤ n → Each P (take n xs) → Each P (take m xs)
+fewer P zero n [] le each = tt
+fewer P zero n (x ∷ xs) le each = tt
+fewer P (suc m) n [] le each = tt
+fewer P (suc m) zero (x ∷ xs) le each = absurd (omega arith)
+fewer P (suc m) (suc n) (x ∷ xs) le each = (each.0, fewer P m n xs (omega arith) each.1)
+
+-- what holds of the tables up to one holds of that one
+here_in : (P : TableName → Type 0) (t : TableName) → Each P (take (number_of t) all_tables) → P t
+here_in P table.Desk each = each.0
+here_in P t each = Each-at P (take (number_of t) all_tables) each (number_of t - 1) t (lit< tt)
+
+-- what holds of the first n tables holds of one among them
+among : (P : TableName → Type 0) (n : ℕ) → Each P (take n all_tables) → (t : TableName) → number_of t ≤ n → P t
+among P n each t within = here_in P t (fewer P (number_of t) n all_tables within each)
+
+last_table : (t : TableName) → number_of t ≤ table_count
+last_table table.Desk = lit≤ tt
+last_table _ = lit≤ tt
+
+-- where all tables are sound, each is
+each_sound : (s : State) → IsSoundTo table_count s → (t : TableName) → IsSoundIn s t
+each_sound s each t = among (IsSoundIn s) table_count each t (last_table t)
+
 -- each part is in its ranges
 ranges_of : (s : State) → IsSoundTo table_count s → (p : Part) → Each (FitsIn p) (records_of p s)
-ranges_of s each part.callers = each.1.0.0
-ranges_of s each part.kept = each.1.1.0.0
-ranges_of s each part.places = each.1.1.1.0.0
-ranges_of s each part.routes = each.1.1.1.1.0.0
-ranges_of s each part.vehicles = each.1.1.1.1.1.0.0
-ranges_of s each part.riders = each.1.1.1.1.1.1.0.0
-ranges_of s each part.entries = each.1.1.1.1.1.1.1.0.0
-ranges_of s each part.trips = each.1.1.1.1.1.1.1.1.0.0
-ranges_of s each part.planned = each.1.1.1.1.1.1.1.1.1.0.0
-ranges_of s each part.travel = each.1.1.1.1.1.1.1.1.1.1.0.0
+ranges_of s each part.callers = (each_sound s each table.Callers).0
+ranges_of s each part.kept = (each_sound s each table.Kept).0
+ranges_of s each part.places = (each_sound s each table.Places).0
+ranges_of s each part.routes = (each_sound s each table.Fixed).0
+ranges_of s each part.vehicles = (each_sound s each table.Vehicles).0
+ranges_of s each part.riders = (each_sound s each table.Riders).0
+ranges_of s each part.entries = (each_sound s each table.Entries).0
+ranges_of s each part.trips = (each_sound s each table.Trips).0
+ranges_of s each part.planned = (each_sound s each table.Stops).0
+ranges_of s each part.travel = (each_sound s each table.Travel).0
 
 pub sound_of : (s : State) → IsSoundTo table_count s → IsSound s
 sound_of s each =
-    let desk : IsSoundIn s table.Desk = each.0 in
-    let callers : IsSoundIn s table.Callers = each.1.0 in
-    let kept : IsSoundIn s table.Kept = each.1.1.0 in
-    let places : IsSoundIn s table.Places = each.1.1.1.0 in
-    let routes : IsSoundIn s table.Fixed = each.1.1.1.1.0 in
-    let vehicles : IsSoundIn s table.Vehicles = each.1.1.1.1.1.0 in
-    let riders : IsSoundIn s table.Riders = each.1.1.1.1.1.1.0 in
-    let entries : IsSoundIn s table.Entries = each.1.1.1.1.1.1.1.0 in
-    let trips : IsSoundIn s table.Trips = each.1.1.1.1.1.1.1.1.0 in
-    let plans : IsSoundIn s table.Stops = each.1.1.1.1.1.1.1.1.1.0 in
-    let travel : IsSoundIn s table.Travel = each.1.1.1.1.1.1.1.1.1.1.0 in
-    let loads : IsSoundIn s table.TripChairs = each.1.1.1.1.1.1.1.1.1.1.1.1.1.0 in
+    let desk : IsSoundIn s table.Desk = each_sound s each table.Desk in
+    let callers : IsSoundIn s table.Callers = each_sound s each table.Callers in
+    let kept : IsSoundIn s table.Kept = each_sound s each table.Kept in
+    let places : IsSoundIn s table.Places = each_sound s each table.Places in
+    let routes : IsSoundIn s table.Fixed = each_sound s each table.Fixed in
+    let vehicles : IsSoundIn s table.Vehicles = each_sound s each table.Vehicles in
+    let riders : IsSoundIn s table.Riders = each_sound s each table.Riders in
+    let entries : IsSoundIn s table.Entries = each_sound s each table.Entries in
+    let trips : IsSoundIn s table.Trips = each_sound s each table.Trips in
+    let plans : IsSoundIn s table.Stops = each_sound s each table.Stops in
+    let travel : IsSoundIn s table.Travel = each_sound s each table.Travel in
+    let loads : IsSoundIn s table.TripChairs = each_sound s each table.TripChairs in
     record {
       ranges = record { parts = ranges_of s each; last_trip = desk.0 };
       callers = callers.1.table;
@@ -179,18 +205,10 @@ pub days_in : (vehicles : List Vehicle) → Each IsVehicle vehicles → Each Has
 days_in vehicles each = Each-weaker IsVehicle HasFirstDay (λ version is. is.from_day) vehicles each
 
 pub days_to : (s : State) → IsSoundTo 10 s → Each HasFirstDay s.vehicles
-days_to s each = let vehicles : IsSoundIn s table.Vehicles = each.1.1.1.1.1.0 in days_in s.vehicles vehicles.0
+days_to s each = let vehicles : IsSoundIn s table.Vehicles = among (IsSoundIn s) 10 each table.Vehicles (lit≤ tt) in days_in s.vehicles vehicles.0
 
 pub routes_to : (s : State) → IsSoundTo 10 s → Each IsRoutePlan s.planned
-routes_to s each = let plans : IsSoundIn s table.Stops = each.1.1.1.1.1.1.1.1.1.0 in plans.1.routes
-
--- a property of the first n holds for fewer
-fewer : {A : Type 0} (P : A → Type 0) (m n : ℕ) (xs : List A) → m ≤ n → Each P (take n xs) → Each P (take m xs)
-fewer P zero n [] le each = tt
-fewer P zero n (x ∷ xs) le each = tt
-fewer P (suc m) n [] le each = tt
-fewer P (suc m) zero (x ∷ xs) le each = absurd (omega arith)
-fewer P (suc m) (suc n) (x ∷ xs) le each = (each.0, fewer P m n xs (omega arith) each.1)
+routes_to s each = let plans : IsSoundIn s table.Stops = among (IsSoundIn s) 10 each table.Stops (lit≤ tt) in plans.1.routes
 
 pub first_ten : (s : State) → IsSoundTo 13 s → IsSoundTo 10 s
 first_ten s each = fewer (IsSoundIn s) 10 13 all_tables (omega arith) each
