@@ -1,3 +1,4 @@
+mod EndLemmas
 mod PortLemmas
 mod ServingLemmas
 mod TurnLemmas

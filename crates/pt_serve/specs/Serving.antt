@@ -1,11 +1,12 @@
 -- What a desk has served on connections one after another.
 use Rattle.std.specs.Prelude.{◌≡◌, ◌⊎◌, ℕ, Bool, List, [], ◌∷◌, ◌++◌, ℤ, pos, Option, Some, None, is_some, ⊤}
+use Rattle.std.specs.Prelude.{Result, Ok, Err, IfOk, IfErr, IfSome, OnErr}
 use Rattle.std.specs.List.{count_by}
 use Rattle.pt_base.specs.declared.fault.Cause.TheVariants as cause
 use Rattle.pt_base.specs.Fault.{fault}
 use Rattle.pt_base.specs.declared.fault.Fault.{Fault}
 use Rattle.pt_base.specs.declared.moment.Moment.{Moment}
-use Rattle.pt_clock.specs.LocalTime.{IsLocalTime}
+use Rattle.pt_clock.specs.LocalTime.{IsLocalTime, IsZoneRule}
 use Rattle.pt_store.specs.Store.{Store}
 use Rattle.pt_http.specs.Exchange.{Desk, Exchanges, Serves, desk_of}
 use Rattle.pt_http_reply.specs.Response.{IsReplyText}
@@ -109,3 +110,18 @@ ServesInTurn _ _ _ _ _ _ _ = ⊥
 -- cannot be read
 abbrev pub EndsServing : Fault → Type 0
 EndsServing error = (error ≡ fault cause.Memory) ⊎ (error ≡ fault cause.NoSuchZone) ⊎ (error ≡ fault cause.DateOutOfRange)
+
+-- The result of one connection: how it failed, if it did, or an error that ends the serving. `SameStore` and `SamePort`
+-- say that nothing changed there.
+pub record EndsConnection {S E : Type 0} (connection : Result S E) (zone : List ℕ) (SameStore SamePort : Type 0)
+    (result : Result (Option Fault) Fault) : Type 0 where
+  -- one that was not accepted is a failed read
+  pub refused : OnErr connection (result ≡ Ok (Some (fault cause.ReadFailed)))
+  -- a request that was not read changed nothing
+  pub unread : result ≡ Ok (Some (fault cause.ReadFailed)) → SameStore
+  pub failed : IfOk result (λ failed. IfSome failed (λ error.
+      (error ≡ fault cause.ReadFailed) ⊎ (error ≡ fault cause.WriteFailed)))
+  -- an error ends the serving, and changed nothing
+  pub error : IfErr result EndsServing
+  pub ended : OnErr result (SameStore × SamePort)
+  pub no_rule : result ≡ Err (fault cause.NoSuchZone) → ¬ (IsZoneRule zone)

@@ -1,5 +1,5 @@
-ghost use Rattle.std.specs.Prelude.{◌≡◌, ◌⊎◌, ◌<◌, ◌≤◌, ◌↔◌, ◌++◌, ℕ, List, [], ◌∷◌, Option, Some, Ok, Err};
-ghost use Rattle.std.specs.Prelude.{IfErr, IfOk, IfSome, OnErr, OnOk, length};
+ghost use Rattle.std.specs.Prelude.{◌≡◌, ◌<◌, ◌≤◌, ◌↔◌, ◌++◌, ℕ, List, [], ◌∷◌, Option, Err};
+ghost use Rattle.std.specs.Prelude.{IfErr, IfOk, OnErr, OnOk, length};
 ghost use Rattle.pt_base.specs.declared.fault.Cause.TheVariants as cause;
 ghost use Rattle.pt_base.specs.Fault.{fault};
 ghost use Rattle.pt_clock.specs.LocalTime.{IsZoneRule};
@@ -7,7 +7,8 @@ ghost use Rattle.pt_store.specs.Store.{Store};
 ghost use Rattle.pt_http.specs.Answering.{GoesOn};
 ghost use Rattle.pt_http_request.specs.Targets.{desk_routes};
 ghost use Rattle.pt_serve.specs.Connection.{IsComing};
-ghost use Rattle.pt_serve.specs.Serving.{EndsServing, IsMomentAt, IsMomentIn, ServesATurn, ServesInTurn, Turn};
+ghost use Rattle.pt_serve.specs.Serving.{EndsConnection, EndsServing, IsMomentAt, IsMomentIn};
+ghost use Rattle.pt_serve.specs.Serving.{ServesATurn, ServesInTurn, Turn};
 ghost use Rattle.pt_serve.specs.Serving.{failures_in, progress_of};
 
 use crate::accepting::{Accepts, Connection};
@@ -77,14 +78,8 @@ fn serve_next<C: Clock, K: Keeper, A: Accepts>(
         → IfOk result (λ failed. ServesATurn A.Stream.shows A.Stream.fails zone.now sent failed
         (progress_of (K.store keeper.old) (A.replied port.old))
         (progress_of (K.store keeper.new) (A.replied port.new))) }
-    ensures unread { result ≡ Ok (Some (fault cause.ReadFailed)) → keeper.new ≡ keeper.old }
-    ensures refused { OnErr connection (result ≡ Ok (Some (fault cause.ReadFailed))) }
-    ensures failed { IfOk result (λ failed. IfSome failed (λ error.
-        (error ≡ fault cause.ReadFailed) ⊎ (error ≡ fault cause.WriteFailed))) }
+    ensures ends { EndsConnection connection zone.now (keeper.new ≡ keeper.old) (port.new ≡ port.old) result }
     ensures others { A.comes port.new ≡ A.comes port.old }
-    ensures ends { IfErr result EndsServing }
-    ensures ended { OnErr result ((keeper.new ≡ keeper.old) × (port.new ≡ port.old)) }
-    ensures zone { result ≡ Err (fault cause.NoSuchZone) → ¬ (IsZoneRule zone.now) }
     ensures goes { GoesOn (K.store keeper.old) (K.store keeper.new) }
 {
     let Ok(mut stream) = connection else {

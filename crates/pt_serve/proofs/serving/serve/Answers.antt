@@ -1,8 +1,11 @@
-use Rattle.std.proofs.Common.{◌≡◌, ◌∙◌, ◌+◌, ℕ, List, [], ◌∷◌, Option, ap, arith, inl, inr, is_some, length, refl, subst, suc, sym}
+use Rattle.std.proofs.Common.{◌≡◌, ◌∙◌, ◌+◌, ℕ, List, [], ◌∷◌, Err, IfErr, Option, ap, arith, inl, inr, is_some, length, refl, subst, suc, sym}
+use Rattle.pt_base.specs.Fault.{fault}
 use Rattle.pt_base.specs.declared.fault.Fault.{Fault}
-use Rattle.pt_http.proofs.AnsweringLemmas.{goes_further, goes_nowhere}
+use Rattle.pt_base.specs.declared.fault.Cause.TheVariants as cause
+use Rattle.pt_clock.specs.LocalTime.{IsZoneRule}
+use Rattle.pt_http.proofs.AnsweringLemmas.{goes_further, goes_nowhere, handed}
 use Rattle.pt_serve.proofs.ServingLemmas.{broken_off, count_of, fits_still, goes_on_clean, has_served_all, same_progress, so_of_error}
-use Rattle.pt_serve.specs.Serving.{Progress, ServesATurn, ServesInTurn, Turn, failures_in, progress_of}
+use Rattle.pt_serve.specs.Serving.{EndsServing, Progress, ServesATurn, ServesInTurn, Turn, failures_in, progress_of}
 use Rattle.pt_serve.proofs.serving.serve.Goals as goal
 
 pub loop-connection-init : goal.loop-connection-init
@@ -90,6 +93,17 @@ returns-in_err-fault-clause-goes g c =
     goes_further (g.K.Keeper.store c.args.keeper.now) (g.K.Keeper.store c.loop-connection.keeper)
     (g.K.Keeper.store c.serve_next.new.keeper) c.loop-connection.invariant.goes c.serve_next.ensures.goes
 
+pub returns-in_err-fault-clause-fault : goal.returns-in_err-fault-clause-fault
+returns-in_err-fault-clause-fault g c =
+    handed (λ result. IfErr result EndsServing) c.in_err-fault.field-0.0 c.from_residual.result c.from_residual.ensures.1
+    c.in_err-fault.ensures.ends.error
+
+pub returns-in_err-fault-clause-zone : goal.returns-in_err-fault-clause-zone
+returns-in_err-fault-clause-zone g c =
+    let error = c.in_err-fault.field-0.0 in
+    handed (λ result. result ≡ Err (fault cause.NoSuchZone) → ¬ (IsZoneRule c.args.zone.now)) error c.from_residual.result c.from_residual.ensures.1
+    (λ is. (let unruled : error ≡ fault cause.NoSuchZone = cc in c.in_err-fault.ensures.ends.no_rule (ap Err unruled)))
+
 pub returns-in_err-fault-clause-broken_off : goal.returns-in_err-fault-clause-broken_off
 returns-in_err-fault-clause-broken_off g c = λ clean.
     let store = g.K.Keeper.store in
@@ -98,7 +112,7 @@ returns-in_err-fault-clause-broken_off g c = λ clean.
     let shows = g.A.Stream.Connection.shows in
     let fails = g.A.Stream.Connection.fails in
     let taken = c.in-Some.ensures.next in
-    let same = c.in_err-fault.ensures.ended in
+    let same = c.in_err-fault.ensures.ends.ended in
     let one : comes c.loop-connection.port ≡ taken.0 ∷ comes c.serve_next.new.port =
     taken.1 ∙ ap (λ (it : List _). taken.0 ∷ it) (sym c.serve_next.ensures.others) in
     let was_clean : (store c.loop-connection.keeper).doubt ≡ 0 =

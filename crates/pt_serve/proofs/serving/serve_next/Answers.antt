@@ -1,7 +1,14 @@
-use Rattle.std.proofs.Common.{◌∙◌, ap, sym}
+use denote.Enum.Bare.{same_true}
+use Rattle.std.proofs.Common.{◌≡◌, ◌∙◌, Err, ap, inr, refl, rules, sym}
 use Rattle.std.proofs.lemmas.Bool.{false≢true}
+use Rattle.pt_base.specs.contracts.fault.Cause.{the_type}
+use Rattle.pt_base.specs.declared.fault.Cause.TheVariants as cause
+use Rattle.pt_base.specs.Fault.{fault}
+use Rattle.pt_http.proofs.AnsweringLemmas.{handed}
 use Rattle.pt_http.specs.Exchange.{desk_of}
+use Rattle.pt_serve.proofs.EndLemmas.{ends_failed, ends_refused, ends_serving, ends_well, ends_without_memory}
 use Rattle.pt_serve.proofs.TurnLemmas.{failed_turn, heard_turn, read_or_write}
+use Rattle.pt_serve.specs.Serving.{EndsConnection}
 use Rattle.pt_serve.proofs.serving.serve_next.Goals as goal
 
 pub returns-in-Ok-serve_one-clause-turn : goal.returns-in-Ok-serve_one-clause-turn
@@ -27,3 +34,31 @@ returns-in-Err-2-clause-turn g c = λ clean sent coming.
     c.in_ok-now.ensures.moment c.in-Err.ensures.answers c.in-Err.ensures.fails
     (λ same. (ap (λ keeper. desk_of (store keeper)) same.0, same.1)) c.leave-in-Err-2.ensures.left
     (read_or_write c.in-Err.fault (λ same. let is = rw same at c.eq.ensures in false≢true (sym c.if-eq.false ∙ is)) c.in-Err.ensures.answers.failure.fault) clean
+
+pub returns-in_default-clause-ends : goal.returns-in_default-clause-ends
+returns-in_default-clause-ends g c =
+    let read : c.of.result ≡ fault cause.ReadFailed = search rules in
+    ends_refused c.args.connection c.args.zone.now _ _ c.of.result read refl
+
+pub returns-in_err-now-clause-ends : goal.returns-in_err-now-clause-ends
+returns-in_err-now-clause-ends g c =
+    let error = c.in_err-now.field-0.0 in
+    handed (EndsConnection c.args.connection c.args.zone.now (c.args.keeper.now ≡ c.args.keeper.now) (c.args.port.now ≡ c.args.port.now))
+    error c.from_residual.result c.from_residual.ensures.1
+    (ends_serving c.args.connection c.in-Ok.stream c.args.zone.now _ _ error c.in-Ok.is c.in_err-now.ensures.fault (refl, refl)
+    (λ unruled. c.in_err-now.ensures.zone.0 (ap Err unruled)))
+
+pub returns-in-Ok-serve_one-clause-ends : goal.returns-in-Ok-serve_one-clause-ends
+returns-in-Ok-serve_one-clause-ends g c = ends_well c.args.connection c.in-Ok.stream c.args.zone.now _ _ c.in-Ok.is
+
+pub returns-in-Err-clause-ends : goal.returns-in-Err-clause-ends
+returns-in-Err-clause-ends g c =
+    let failure = c.in-Err.ensures.answers.failure in
+    ends_without_memory c.args.connection c.in-Ok.stream c.args.zone.now _ _ c.in-Err.fault c.in-Ok.is (same_true the_type tt c.in-Err.fault.cause cause.Memory (sym c.eq.ensures ∙ c.if-eq.true)) failure.fault
+    (λ unanswered. (failure.unanswered unanswered).0) refl
+
+pub returns-in-Err-2-clause-ends : goal.returns-in-Err-2-clause-ends
+returns-in-Err-2-clause-ends g c =
+    let failure = c.in-Err.ensures.answers.failure in
+    ends_failed c.args.connection c.in-Ok.stream c.args.zone.now _ _ c.in-Err.fault c.in-Ok.is
+    (read_or_write c.in-Err.fault (λ same. let is = rw same at c.eq.ensures in false≢true (sym c.if-eq.false ∙ is)) failure.fault) (λ read. (failure.unanswered (inr read)).0)
