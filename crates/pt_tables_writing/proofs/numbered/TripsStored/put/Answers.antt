@@ -1,6 +1,6 @@
 use Rattle.std.proofs.Common.{SFits, w64, to_z-of_z}
 use Rattle.sqlite.specs.Held.{state}
-use Rattle.pt_tables_writing.proofs.NumberedTables.{puts_trip}
+use Rattle.pt_tables_writing.proofs.NumberedTables.{trip_stored}
 use Rattle.pt_tables_writing.proofs.ChangeLemmas.{did_run}
 use Rattle.pt_tables_writing.proofs.numbered.TripsStored.put.Goals as goal
 
@@ -9,7 +9,7 @@ returns-clause-written g c =
     let old = state g.S.Store c.args.tx.now.conn.now in
     let new = state g.S.Store c.execute.new.self.conn.now in
     let fits : SFits w64 c.optional_number.result = record { sfits = c.optional_number.type_inv } in
-    did_run old new c.in_ok-execute.ensures.runs (λ run has. puts_trip c.args.trip.now old new c.in_ok-execute.field-0
+    did_run old new c.in_ok-execute.ensures.runs (λ run has. trip_stored.puts c.args.trip.now old new c.in_ok-execute.field-0
     has (rw (
       c.params-to_sql.ensures,
       c.params-to_sql-2.ensures,
