@@ -16,6 +16,7 @@ use Rattle.sqlite_trees.proofs.ListLemmas.{all_both}
 use Rattle.pt_base.specs.declared.rider.Rider.{Rider}
 use Rattle.pt_base.specs.declared.trip.Trip.{Trip}
 use Rattle.pt_base.specs.declared.vehicle.Vehicle.{Vehicle}
+use Rattle.pt_desk_rules.specs.Parts.{Part, edit_of, key_in, records_of}
 use Rattle.pt_desk_rules.specs.Parts as part
 use Rattle.pt_desk_rules.specs.State.{State, caller_key, kept_key, place_key, route_key, rider_key, entry_key, vehicle_key, travel_key, trip_key}
 use Rattle.pt_tables_rows.specs.Rows.{desk_row, caller_row, kept_row, place_row, route_row, vehicle_row, rider_row}
@@ -43,12 +44,12 @@ use Rattle.pt_desk_rules.specs.declared.change.FiledEntry.{FiledEntry}
 use Rattle.pt_desk_rules.specs.declared.kept.Kept.{Kept}
 use Rattle.pt_requests.specs.declared.caller.Caller.{Caller}
 use Rattle.pt_tables_writing.specs.Writes.{Holds, Rewrites}
-use Rattle.pt_tables_writing.specs.Groups.{AgreesFor, Ends, KnowsTaken, Leads, Then, WritesFleet, WritesRiders, WritesTrips, with_people, with_area, with_trips, AgreesWith, KnowsEdited, OfEach}
+use Rattle.pt_tables_writing.specs.Groups.{AgreesFor, Ends, KnowsIn, KnowsTaken, Leads, Then, WritesFleet, WritesRiders, WritesTrips, with_people, with_area, with_trips, AgreesWith, KnowsEdited, OfEach}
 use Rattle.pt_tables_writing.proofs.StoredLemmas.{Each-take_all}
 use Rattle.pt_tables_writing.specs.Stored.{EditsTable, PutsAll, TakesSpans}
 
 -- a table, and the rows that it has
-pub record Part : Type 0 where
+pub record HeldTable : Type 0 where
   pub table : Table
   pub rows : List Row
 
@@ -66,7 +67,7 @@ abbrev pub marks_of : State → Marks
 marks_of s = record { riders = s.riders; vehicles = s.vehicles; trips = s.trips }
 
 -- the parts of a content, in the order of the tables, with the rows of these records in the last three
-abbrev pub parts : State → Marks → List Part
+abbrev pub parts : State → Marks → List HeldTable
 parts s m =
     record { table = desk_table; rows = desk_row s.policy s.last_trip ∷ [] }
     ∷ record { table = callers_table; rows = each_row caller_row s.callers }
@@ -84,7 +85,7 @@ parts s m =
     ∷ record { table = trip_chairs_table; rows = flat_map trip_chair_rows m.trips } ∷ []
 
 -- each table has its rows
-abbrev pub HoldAll : Trees → List Part → Type 0
+abbrev pub HoldAll : Trees → List HeldTable → Type 0
 HoldAll trees ps = AllByRecursion (λ p. Holds p.table p.rows trees) ps
 
 as_map : {A : Type 0} (t : Table) (row : A → Row) (xs : List A) (trees : Trees) → AreRows t trees (each_row row xs)
@@ -96,11 +97,11 @@ as_flat_map : {A : Type 0} (t : Table) (row : A → Row) (xs : List A) (trees : 
 as_flat_map t row xs trees h = subst (AreRows t trees) (sym (flat_map_single row xs)) h
 
 -- the tables of some parts hold their rows, if these are their rows and their rowids are integers in ascending order
-hold_all : (ps : List Part) (trees : Trees) → AllByRecursion (λ p. AreRows p.table trees p.rows) ps → AllByRecursion (λ t. HaveRowids (trees t.tree)) (map (λ p. p.table) ps) → HoldAll trees ps
+hold_all : (ps : List HeldTable) (trees : Trees) → AllByRecursion (λ p. AreRows p.table trees p.rows) ps → AllByRecursion (λ t. HaveRowids (trees t.tree)) (map (λ p. p.table) ps) → HoldAll trees ps
 hold_all [] trees are ids = tt
 hold_all (p ∷ ps) trees are ids = (record { rows = are.0; rising = ids.0.rising; whole = ids.0.whole }, hold_all ps trees are.1 ids.1)
 
-have_rowids : (ps : List Part) (trees : Trees) → HoldAll trees ps → AllByRecursion (λ t. HaveRowids (trees t.tree)) (map (λ p. p.table) ps)
+have_rowids : (ps : List HeldTable) (trees : Trees) → HoldAll trees ps → AllByRecursion (λ t. HaveRowids (trees t.tree)) (map (λ p. p.table) ps)
 have_rowids [] trees held = tt
 have_rowids (p ∷ ps) trees held = (record { rising = held.0.rising; whole = held.0.whole }, have_rowids ps trees held.1)
 
@@ -180,10 +181,10 @@ differs : (m n : ℕ) → not (m == n) ≡ true → m ≢ n
 differs m n other = grind (arith, nat_tests)
 
 module _ (t : Table) (before after : List Row) (a b : Database) (change : Rewrites t before after a b) where
-  abbrev IsOther : Part → Type 0
+  abbrev IsOther : HeldTable → Type 0
   IsOther p = p.table.tree ≢ t.tree → b.trees p.table.tree ≡ a.trees p.table.tree
 
-  still : (p : Part) → IsOther p → not (p.table.tree == t.tree) ≡ true → Holds p.table p.rows a.trees
+  still : (p : HeldTable) → IsOther p → not (p.table.tree == t.tree) ≡ true → Holds p.table p.rows a.trees
       → Holds p.table p.rows b.trees
   still p other apart held =
       let same : b.trees p.table.tree ≡ a.trees p.table.tree = other (differs p.table.tree t.tree apart) in
@@ -193,7 +194,7 @@ module _ (t : Table) (before after : List Row) (a b : Database) (change : Rewrit
         whole = subst (AllByRecursion (λ row. IsTrue (is_int (rowid row)))) (sym same) held.whole;
       }
 
-  still_all : (ps : List Part) → AllByRecursion IsOther ps → list_all (λ p. not (p.table.tree == t.tree)) ps ≡ true
+  still_all : (ps : List HeldTable) → AllByRecursion IsOther ps → list_all (λ p. not (p.table.tree == t.tree)) ps ≡ true
       → HoldAll a.trees ps → HoldAll b.trees ps
   still_all ps others apart held =
       all_both (λ p. IsOther p × (not (p.table.tree == t.tree) ≡ true)) (λ p. Holds p.table p.rows a.trees)
@@ -201,16 +202,16 @@ module _ (t : Table) (before after : List Row) (a b : Database) (change : Rewrit
       (all_both IsOther (λ p. not (p.table.tree == t.tree) ≡ true) (λ p. IsOther p × (not (p.table.tree == t.tree) ≡ true))
       (λ p one two. (one, two)) ps others (all_from_test (λ p. not (p.table.tree == t.tree)) ps apart)) held
 
-  turned : (front back : List Part) → list_all (λ p. not (p.table.tree == t.tree)) front ≡ true
+  turned : (front back : List HeldTable) → list_all (λ p. not (p.table.tree == t.tree)) front ≡ true
       → list_all (λ p. not (p.table.tree == t.tree)) back ≡ true
       → AllByRecursion IsOther (front ++ record { table = t; rows = before } ∷ back)
       → HoldAll a.trees (front ++ record { table = t; rows = before } ∷ back)
       → HoldAll b.trees (front ++ record { table = t; rows = after } ∷ back)
   turned front back apart apart_back others held =
-      let one : Part = record { table = t; rows = before } in
-      let new : Part = record { table = t; rows = after } in
-      let P : Part → Type 0 = λ p. Holds p.table p.rows a.trees in
-      let Q : Part → Type 0 = λ p. Holds p.table p.rows b.trees in
+      let one : HeldTable = record { table = t; rows = before } in
+      let new : HeldTable = record { table = t; rows = after } in
+      let P : HeldTable → Type 0 = λ p. Holds p.table p.rows a.trees in
+      let Q : HeldTable → Type 0 = λ p. Holds p.table p.rows b.trees in
       let rest = all_back P front (one ∷ back) held in
       let rest_others = all_back IsOther front (one ∷ back) others in
       all-append Q front (new ∷ back)
@@ -243,19 +244,15 @@ taken_nothing key spans known there none = subst (λ ss. KnowsTaken key ss known
 -- the lists of what a keeper has in memory agree, if the change removes only plans from the other tables
 pub agrees_known : (change : Change) (there : State) → change.kept.away ≡ [] → change.riders.away ≡ [] → change.entries.away ≡ []
     → change.trips.away ≡ [] → AgreesFor change (known_of there) there
-agrees_known change there kept riders entries trips = record {
-  callers = taken_whole caller_key change.callers.away there.callers;
-  kept = taken_nothing kept_key change.kept.away [] there.kept kept;
-  policy = refl;
-  places = taken_whole place_key change.places.away there.places;
-  routes = taken_whole route_key change.routes.away there.routes;
-  riders = taken_nothing rider_key change.riders.away [] there.riders riders;
-  entries = taken_nothing entry_key change.entries.away [] there.entries entries;
-  vehicles = taken_whole vehicle_key change.vehicles.away there.vehicles;
-  travel = taken_whole travel_key change.travel.away there.travel;
-  trips = taken_nothing trip_key change.trips.away [] there.trips trips;
-  last_trip = refl;
-}
+agrees_known change there kept riders entries trips = record { parts = knows; policy = refl; last_trip = refl }
+  where
+    knows : (p : Part) → KnowsIn p change (known_of there) there
+    knows part.kept = taken_nothing kept_key change.kept.away [] there.kept kept
+    knows part.riders = taken_nothing rider_key change.riders.away [] there.riders riders
+    knows part.entries = taken_nothing entry_key change.entries.away [] there.entries entries
+    knows part.trips = taken_nothing trip_key change.trips.away [] there.trips trips
+    knows part.planned = tt
+    knows p = taken_whole (key_in p) (edit_of p change).away (records_of p there)
 
 -- the edit of a table, where these records of it are known
 abbrev pub Known : {A : Type 0} → Table → (A → ℕ) → (A → Type 0) → (A → List Row) → Edit A → List A → Database → Database → Type 0
@@ -346,17 +343,17 @@ people_lead change known a e four content agrees told puts stands =
     let m = marks_of content in
     let s1 : State = record content { callers = edited caller_key change.callers content.callers } in
     let all_1 = step 1 s1 m a two.0 (are content a stands)
-    (λ _. two.1 content.callers agrees.callers (puts.ranges.parts part.callers) told.callers
+    (λ _. two.1 content.callers (agrees.parts part.callers) (puts.ranges.parts part.callers) told.callers
     (told.ranges.parts part.callers)) refl refl refl refl in
     let s2 : State = record s1 { kept = edited kept_key change.kept content.kept } in
-    let all_2 = step 2 s2 m two.0 three.0 all_1 (λ has. two.2 has content.kept agrees.kept (puts.ranges.parts part.kept) told.kept (told.ranges.parts part.kept)) refl refl refl refl in
+    let all_2 = step 2 s2 m two.0 three.0 all_1 (λ has. two.2 has content.kept (agrees.parts part.kept) (puts.ranges.parts part.kept) told.kept (told.ranges.parts part.kept)) refl refl refl refl in
     let both = three.2 all_2.schema content agrees in
     let s3 : State = record s2 { riders = edited rider_key change.riders content.riders } in
     let all_3 = step 6 s3 m three.0 both.0 all_2 (λ _. both.1 (puts.ranges.parts part.riders) told.riders (told.ranges.parts part.riders)) refl refl refl refl in
     let n : Marks = record m { riders = edited rider_key change.riders m.riders } in
     let all_4 = step 11 s3 n both.0 four.0 all_3 (λ has. both.2 has (puts.ranges.parts part.riders) told.riders (told.ranges.parts part.riders)) refl refl refl refl in
     let s4 : State = record s3 { entries = edited entry_key change.entries content.entries } in
-    let all_5 = step 7 s4 n four.0 e all_4 (λ has. four.2 has content.entries agrees.entries (puts.ranges.parts part.entries) told.entries (told.ranges.parts part.entries)) refl refl refl refl in
+    let all_5 = step 7 s4 n four.0 e all_4 (λ has. four.2 has content.entries (agrees.parts part.entries) (puts.ranges.parts part.entries) told.entries (told.ranges.parts part.entries)) refl refl refl refl in
     stand (with_people change content) e all_5
 
 pub area_leads : (change : Change) (known : State) (a e : Database)
@@ -369,9 +366,9 @@ area_leads change known a e four content agrees told puts stands =
     let s = with_people change content in
     let m = marks_of s in
     let s1 : State = record s { places = edited place_key change.places s.places } in
-    let all_1 = step 3 s1 m a two.0 (are s a stands) (λ _. two.1 content.places agrees.places (puts.ranges.parts part.places) told.places (told.ranges.parts part.places)) refl refl refl refl in
+    let all_1 = step 3 s1 m a two.0 (are s a stands) (λ _. two.1 content.places (agrees.parts part.places) (puts.ranges.parts part.places) told.places (told.ranges.parts part.places)) refl refl refl refl in
     let s2 : State = record s1 { routes = edited route_key change.routes s.routes } in
-    let all_2 = step 4 s2 m two.0 three.0 all_1 (λ has. two.2 has content.routes agrees.routes (puts.ranges.parts part.routes) told.routes (told.ranges.parts part.routes)) refl refl refl refl in
+    let all_2 = step 4 s2 m two.0 three.0 all_1 (λ has. two.2 has content.routes (agrees.parts part.routes) (puts.ranges.parts part.routes) told.routes (told.ranges.parts part.routes)) refl refl refl refl in
     let first = three.2 all_2.schema content agrees in
     let left : Marks = record m { vehicles = take_all vehicle_key change.vehicles.away m.vehicles } in
     let all_3 = step 12 s2 left three.0 first.0 all_2 (λ _. first.1 told.vehicles (told.ranges.parts part.vehicles)) refl refl refl refl in
@@ -383,7 +380,7 @@ area_leads change known a e four content agrees told puts stands =
     (λ has. rest.2 has (puts.ranges.parts part.vehicles) left.vehicles (IsInOrder-take_all vehicle_key change.vehicles.away m.vehicles told.vehicles)
     (Each-take_all IsVehicle vehicle_key change.vehicles.away m.vehicles (told.ranges.parts part.vehicles))) refl refl refl refl in
     let s4 : State = record s3 { travel = edited travel_key change.travel s.travel } in
-    let all_6 = step 10 s4 n four.0 e all_5 (λ has. four.2 has content.travel agrees.travel (puts.ranges.parts part.travel) told.travel (told.ranges.parts part.travel)) refl refl refl refl in
+    let all_6 = step 10 s4 n four.0 e all_5 (λ has. four.2 has content.travel (agrees.parts part.travel) (puts.ranges.parts part.travel) told.travel (told.ranges.parts part.travel)) refl refl refl refl in
     stand (with_area change s) e all_6
 
 pub trips_lead : (change : Change) (known : State) (plans : List Plan) (a d : Database)

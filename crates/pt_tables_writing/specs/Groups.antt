@@ -3,6 +3,8 @@
 use Rattle.std.specs.Prelude.{◌≡◌, ◌⊎◌, ℕ, List, None, [], ◌∷◌}
 use Rattle.std.specs.Option.{unwrap_or}
 use Rattle.sqlite.specs.Effect.{Database, IsDatabase}
+use Rattle.pt_desk_rules.specs.Parts.{Part, edit_of, key_in, records_of}
+use Rattle.pt_desk_rules.specs.Parts as part
 use Rattle.pt_desk_rules.specs.State.{State, caller_key, kept_key, place_key, route_key, rider_key, entry_key}
 use Rattle.pt_desk_rules.specs.State.{vehicle_key, travel_key, trip_key}
 use Rattle.pt_desk_rules.specs.declared.change.Change.{Change}
@@ -33,19 +35,16 @@ pub record KnowsEdited {A : Type 0} (key : A → ℕ) (edit : Edit A) (known the
   pub taken : KnowsTaken key edit.away known there
   pub replaced : KnowsReplaced key edit.puts known there
 
+-- the known records of a part that the change removes are the stored ones; nothing is said of plans
+abbrev pub KnowsIn : Part → Change → State → State → Type 0
+KnowsIn part.planned change known there = Unit {0}
+KnowsIn p change known there = KnowsTaken (key_in p) (edit_of p change).away (records_of p known) (records_of p there)
+
 -- Except for plans, the known records that the change removes are the stored ones. So are the policy and the number
 -- last given to a trip, unless the change gives new ones.
 pub record AgreesFor (change : Change) (known there : State) : Type 0 where
-  pub callers : KnowsTaken caller_key change.callers.away known.callers there.callers
-  pub kept : KnowsTaken kept_key change.kept.away known.kept there.kept
+  pub parts : (p : Part) → KnowsIn p change known there
   pub policy : unwrap_or change.policy known.policy ≡ unwrap_or change.policy there.policy
-  pub places : KnowsTaken place_key change.places.away known.places there.places
-  pub routes : KnowsTaken route_key change.routes.away known.routes there.routes
-  pub riders : KnowsTaken rider_key change.riders.away known.riders there.riders
-  pub entries : KnowsTaken entry_key change.entries.away known.entries there.entries
-  pub vehicles : KnowsTaken vehicle_key change.vehicles.away known.vehicles there.vehicles
-  pub travel : KnowsTaken travel_key change.travel.away known.travel there.travel
-  pub trips : KnowsTaken trip_key change.trips.away known.trips there.trips
   pub last_trip : unwrap_or change.last_trip known.last_trip ≡ unwrap_or change.last_trip there.last_trip
 
 -- what is known of the content agrees with the stored one, and so do these plans

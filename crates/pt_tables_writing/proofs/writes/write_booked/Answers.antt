@@ -1,5 +1,6 @@
 use Rattle.std.proofs.Common.{Ok, subst}
 use Rattle.sqlite.specs.Held.{state}
+use Rattle.pt_desk_rules.specs.Parts as part
 use Rattle.pt_tables_rows.specs.Tables.{Makes}
 use Rattle.pt_tables_writing.specs.Groups.{AgreesFor, OfEach, WritesTrips}
 use Rattle.pt_tables_writing.proofs.GroupLemmas.{Known-trips, Marked-trips}
@@ -17,5 +18,5 @@ returns-clause-written g c =
     let two = subst (λ xs. Makes {X = Unit {0}} s2 s3 (Marked-trips change xs) c.write_edits-2.result) c.trips_table-trips.ensures.value c.write_edits-2.ensures.written in
     did_then {X = Unit {0}} {Y = Unit {0}} s1 s2 s3 (Known-trips change known.trips) (Marked-trips change known.trips) (OfEach (AgreesFor change known) (WritesTrips change))
     c.in_ok-write_edits.field-0 c.write_edits-2.result
-    (λ has first next there agrees. (s2.now, first there.trips agrees.trips, λ kept. next kept there.trips agrees.trips))
+    (λ has first next there agrees. (s2.now, first there.trips (agrees.parts part.trips), λ kept. next kept there.trips (agrees.parts part.trips)))
     c.write_edits-2.ensures.survives one two

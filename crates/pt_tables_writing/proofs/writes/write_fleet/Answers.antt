@@ -1,5 +1,6 @@
 use Rattle.std.proofs.Common.{Ok, subst}
 use Rattle.sqlite.specs.Held.{state}
+use Rattle.pt_desk_rules.specs.Parts as part
 use Rattle.pt_desk_rules.specs.State.{vehicle_key}
 use Rattle.pt_tables_rows.specs.Rows.{vehicle_chair_rows}
 use Rattle.pt_tables_rows.specs.Schema.{vehicle_chairs_table}
@@ -28,4 +29,4 @@ returns-clause-written g c =
     (OfEach (AgreesFor change known) (WritesVehicles change))
     (OfEach (AgreesFor change known) (WritesFleet change))
     c.in_ok-take_spans.field-0 c.write_vehicles.result
-    (λ has first next there agrees. (s2.now, first there.vehicles agrees.vehicles, λ kept. next kept there agrees)) c.write_vehicles.ensures.survives one c.write_vehicles.ensures.written
+    (λ has first next there agrees. (s2.now, first there.vehicles (agrees.parts part.vehicles), λ kept. next kept there agrees)) c.write_vehicles.ensures.survives one c.write_vehicles.ensures.written

@@ -1,5 +1,6 @@
 use Rattle.std.proofs.Common.{Ok, subst}
 use Rattle.sqlite.specs.Held.{state}
+use Rattle.pt_desk_rules.specs.Parts as part
 use Rattle.pt_tables_rows.specs.Tables.{Makes}
 use Rattle.pt_tables_writing.specs.Groups.{AgreesFor, OfEach, WritesRiders}
 use Rattle.pt_tables_writing.proofs.GroupLemmas.{Known-riders, Marked-riders}
@@ -17,5 +18,5 @@ returns-clause-written g c =
     let two = subst (λ xs. Makes {X = Unit {0}} s2 s3 (Marked-riders change xs) c.write_edits-2.result) c.riders_table-riders.ensures.value c.write_edits-2.ensures.written in
     did_then {X = Unit {0}} {Y = Unit {0}} s1 s2 s3 (Known-riders change known.riders) (Marked-riders change known.riders) (OfEach (AgreesFor change known) (WritesRiders change))
     c.in_ok-write_edits.field-0 c.write_edits-2.result
-    (λ has first next there agrees. (s2.now, first there.riders agrees.riders, λ kept. next kept there.riders agrees.riders))
+    (λ has first next there agrees. (s2.now, first there.riders (agrees.parts part.riders), λ kept. next kept there.riders (agrees.parts part.riders)))
     c.write_edits-2.ensures.survives one two

@@ -1,5 +1,6 @@
 use Rattle.std.proofs.Common.{Ok, subst}
 use Rattle.sqlite.specs.Held.{state}
+use Rattle.pt_desk_rules.specs.Parts as part
 use Rattle.pt_desk_rules.specs.State.{vehicle_key}
 use Rattle.pt_tables_rows.specs.Rows.{vehicle_chair_rows}
 use Rattle.pt_tables_rows.specs.Schema.{vehicle_chairs_table}
@@ -22,4 +23,4 @@ returns-clause-written g c =
     let two = subst (λ xs. Makes {X = Unit {0}} s2 s3 (PutsAll vehicle_chairs_table vehicle_key IsVehicle vehicle_chair_rows xs) c.put_each.result) c.puts.ensures.value c.put_each.ensures.written in
     did_then {X = Unit {0}} {Y = Unit {0}} s1 s2 s3 (Known-vehicles change known.vehicles) (Marks-vehicles change) (OfEach (AgreesFor change known) (WritesVehicles change))
     c.in_ok-write_edits.field-0 c.put_each.result
-    (λ has first next there agrees. (s2.now, first there.vehicles agrees.vehicles, next)) c.put_each.ensures.survives one two
+    (λ has first next there agrees. (s2.now, first there.vehicles (agrees.parts part.vehicles), next)) c.put_each.ensures.survives one two
