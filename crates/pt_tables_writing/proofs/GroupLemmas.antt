@@ -1,6 +1,6 @@
 -- The tables of a content one by one, and what edits of some tables do to all, one after the other. The edits use lists
 -- that agree with the stored records.
-use Rattle.std.proofs.Common.{◌≡◌, ◌≢◌, ◌++◌, ◌+◌, ℕ, true, not, IsTrue, List, [], ◌∷◌, take, drop, map, flat_map, IsPermutation, sym, subst, arith, refl}
+use Rattle.std.proofs.Common.{◌≡◌, ◌≢◌, ◌++◌, ◌+◌, ◌-◌, ℕ, zero, suc, true, not, IsTrue, List, [], ◌∷◌, take, drop, map, flat_map, IsPermutation, sym, subst, arith, refl}
 use Rattle.std.specs.Prelude.{◌==◌}
 use Rattle.std.specs.List.{AllByRecursion, list_all}
 use Rattle.std.proofs.lemmas.Bool.Decides.{nat_tests}
@@ -28,7 +28,10 @@ use Rattle.pt_tables_rows.specs.Schema.{travel_table, rider_chairs_table, vehicl
 use Rattle.pt_tables_rows.specs.Tables.{AreRows, HasRows, HaveRowids, Stands, columns_of, IsStoredPlan}
 use Rattle.pt_tables_rows.proofs.SameRowsLists.{all_back, all_front}
 use Rattle.pt_store.specs.Listed.{known_of}
+use Rattle.pt_desk_rules.specs.TableNames.{all_tables, number_of}
 use Rattle.pt_desk_rules.specs.declared.change.Change.{Change}
+use Rattle.pt_desk_rules.specs.declared.table_name.TableName.{TableName}
+use Rattle.pt_desk_rules.specs.declared.table_name.TableName.TheVariants as name
 use Rattle.pt_records.specs.declared.span.Span.{Span}
 use Rattle.pt_base.specs.declared.policy.Policy.{Policy}
 use Rattle.pt_records.specs.Records.{Edit, edited, take_all}
@@ -44,7 +47,8 @@ use Rattle.pt_desk_rules.specs.declared.change.FiledEntry.{FiledEntry}
 use Rattle.pt_desk_rules.specs.declared.kept.Kept.{Kept}
 use Rattle.pt_requests.specs.declared.caller.Caller.{Caller}
 use Rattle.pt_tables_writing.specs.Writes.{Holds, Rewrites}
-use Rattle.pt_tables_writing.specs.Groups.{AgreesFor, Ends, KnowsIn, KnowsTaken, Leads, Then, WritesFleet, WritesRiders, WritesTrips, with_people, with_area, with_trips, AgreesWith, KnowsEdited, OfEach}
+use Rattle.pt_tables_writing.specs.Groups.{AgreesFor, Ends, KnowsIn, KnowsTaken, Leads, Then, WritesFleet, WritesRiders}
+use Rattle.pt_tables_writing.specs.Groups.{WritesTrips, with_people, with_area, with_trips, AgreesWith, KnowsEdited, OfEach}
 use Rattle.pt_tables_writing.proofs.StoredLemmas.{Each-take_all}
 use Rattle.pt_tables_writing.specs.Stored.{EditsTable, PutsAll, TakesSpans}
 
@@ -66,23 +70,26 @@ pub record Marks : Type 0 where
 abbrev pub marks_of : State → Marks
 marks_of s = record { riders = s.riders; vehicles = s.vehicles; trips = s.trips }
 
--- the parts of a content, in the order of the tables, with the rows of these records in the last three
+-- a table of a content; the last three have the rows of these records
+abbrev pub held_in : State → Marks → TableName → HeldTable
+held_in s m name.Desk = record { table = desk_table; rows = desk_row s.policy s.last_trip ∷ [] }
+held_in s m name.Callers = record { table = callers_table; rows = each_row caller_row s.callers }
+held_in s m name.Kept = record { table = kept_table; rows = each_row kept_row s.kept }
+held_in s m name.Places = record { table = places_table; rows = each_row place_row s.places }
+held_in s m name.Fixed = record { table = fixed_table; rows = each_row route_row s.routes }
+held_in s m name.Vehicles = record { table = vehicles_table; rows = each_row vehicle_row s.vehicles }
+held_in s m name.Riders = record { table = riders_table; rows = each_row rider_row s.riders }
+held_in s m name.Entries = record { table = entries_table; rows = each_row entry_row s.entries }
+held_in s m name.Trips = record { table = trips_table; rows = each_row trip_row s.trips }
+held_in s m name.Stops = record { table = stops_table; rows = flat_map stop_rows s.planned }
+held_in s m name.Travel = record { table = travel_table; rows = flat_map travel_rows s.travel }
+held_in s m name.RiderChairs = record { table = rider_chairs_table; rows = flat_map rider_chair_rows m.riders }
+held_in s m name.VehicleChairs = record { table = vehicle_chairs_table; rows = flat_map vehicle_chair_rows m.vehicles }
+held_in s m name.TripChairs = record { table = trip_chairs_table; rows = flat_map trip_chair_rows m.trips }
+
+-- all of them, in their order
 abbrev pub parts : State → Marks → List HeldTable
-parts s m =
-    record { table = desk_table; rows = desk_row s.policy s.last_trip ∷ [] }
-    ∷ record { table = callers_table; rows = each_row caller_row s.callers }
-    ∷ record { table = kept_table; rows = each_row kept_row s.kept }
-    ∷ record { table = places_table; rows = each_row place_row s.places }
-    ∷ record { table = fixed_table; rows = each_row route_row s.routes }
-    ∷ record { table = vehicles_table; rows = each_row vehicle_row s.vehicles }
-    ∷ record { table = riders_table; rows = each_row rider_row s.riders }
-    ∷ record { table = entries_table; rows = each_row entry_row s.entries }
-    ∷ record { table = trips_table; rows = each_row trip_row s.trips }
-    ∷ record { table = stops_table; rows = flat_map stop_rows s.planned }
-    ∷ record { table = travel_table; rows = flat_map travel_rows s.travel }
-    ∷ record { table = rider_chairs_table; rows = flat_map rider_chair_rows m.riders }
-    ∷ record { table = vehicle_chairs_table; rows = flat_map vehicle_chair_rows m.vehicles }
-    ∷ record { table = trip_chairs_table; rows = flat_map trip_chair_rows m.trips } ∷ []
+parts s m = map (held_in s m) all_tables
 
 -- each table has its rows
 abbrev pub HoldAll : Trees → List HeldTable → Type 0
@@ -105,48 +112,42 @@ have_rowids : (ps : List HeldTable) (trees : Trees) → HoldAll trees ps → All
 have_rowids [] trees held = tt
 have_rowids (p ∷ ps) trees held = (record { rising = held.0.rising; whole = held.0.whole }, have_rowids ps trees held.1)
 
+each_held : (P : HeldTable → Type 0) (f : TableName → HeldTable) → ((t : TableName) → P (f t)) → (ts : List TableName) → AllByRecursion P (map f ts)
+each_held P f all [] = tt
+each_held P f all (t ∷ ts) = (all t, each_held P f all ts)
+
+each_from : (P : HeldTable → Type 0) (f : TableName → HeldTable) (n : ℕ) (ts : List TableName) → AllByRecursion P (map f ts) → AllByRecursion P (map f (drop n ts))
+each_from P f zero [] all = tt
+each_from P f zero (t ∷ ts) all = all
+each_from P f (suc n) [] all = tt
+each_from P f (suc n) (t ∷ ts) all = each_from P f n ts all.1
+
+from_table : (t : TableName) → drop (number_of t - 1) all_tables ≡ t ∷ drop (number_of t) all_tables
+from_table name.Desk = refl
+from_table _ = refl
+
+-- what holds of all tables holds of this one
+held_at : (P : HeldTable → Type 0) (f : TableName → HeldTable) → AllByRecursion P (map f all_tables) → (t : TableName) → P (f t)
+held_at P f all t = (subst (λ ts. AllByRecursion P (map f ts)) (from_table t) (each_from P f (number_of t - 1) all_tables all)).0
+
+rows_at : (s : State) (trees : Trees) → HasRows s trees → (t : TableName) → AreRows (held_in s (marks_of s) t).table trees (held_in s (marks_of s) t).rows
+rows_at s trees h name.Desk = h.records.desk
+rows_at s trees h name.Callers = as_flat_map callers_table caller_row s.callers trees h.records.callers
+rows_at s trees h name.Kept = as_flat_map kept_table kept_row s.kept trees h.records.kept
+rows_at s trees h name.Places = as_flat_map places_table place_row s.places trees h.records.places
+rows_at s trees h name.Fixed = as_flat_map fixed_table route_row s.routes trees h.records.fixed
+rows_at s trees h name.Vehicles = as_flat_map vehicles_table vehicle_row s.vehicles trees h.records.vehicles
+rows_at s trees h name.Riders = as_flat_map riders_table rider_row s.riders trees h.records.riders
+rows_at s trees h name.Entries = as_flat_map entries_table entry_row s.entries trees h.records.entries
+rows_at s trees h name.Trips = as_flat_map trips_table trip_row s.trips trees h.records.trips
+rows_at s trees h name.Stops = h.records.stops
+rows_at s trees h name.Travel = h.records.travel
+rows_at s trees h name.RiderChairs = h.rider_chairs
+rows_at s trees h name.VehicleChairs = h.vehicle_chairs
+rows_at s trees h name.TripChairs = h.trip_chairs
+
 rows_are : (s : State) (trees : Trees) → HasRows s trees → AllByRecursion (λ p. AreRows p.table trees p.rows) (parts s (marks_of s))
-rows_are s trees h =
-    let r = h.records in (
-      r.desk,
-      (
-        as_flat_map callers_table caller_row s.callers trees r.callers,
-        (
-          as_flat_map kept_table kept_row s.kept trees r.kept,
-          (
-            as_flat_map places_table place_row s.places trees r.places,
-            (
-              as_flat_map fixed_table route_row s.routes trees r.fixed,
-              (
-                as_flat_map vehicles_table vehicle_row s.vehicles trees r.vehicles,
-                (
-                  as_flat_map riders_table rider_row s.riders trees r.riders,
-                  (
-                    as_flat_map entries_table entry_row s.entries trees r.entries,
-                    (
-                      as_flat_map trips_table trip_row s.trips trees r.trips,
-                      (
-                        r.stops,
-                        (
-                          r.travel,
-                          (
-                            h.rider_chairs,
-                            (
-                              h.vehicle_chairs,
-                              (h.trip_chairs, tt),
-                            ),
-                          ),
-                        ),
-                      ),
-                    ),
-                  ),
-                ),
-              ),
-            ),
-          ),
-        ),
-      ),
-    )
+rows_are s trees h = each_held (λ p. AreRows p.table trees p.rows) (held_in s (marks_of s)) (rows_at s trees h) all_tables
 
 pub parted : (s : State) (db : Database) → Stands s db → HoldAll db.trees (parts s (marks_of s))
 parted s db h = hold_all (parts s (marks_of s)) db.trees (rows_are s db.trees h.rows) h.rowids
@@ -154,25 +155,26 @@ parted s db h = hold_all (parts s (marks_of s)) db.trees (rows_are s db.trees h.
 pub whole : (s : State) (db : Database) → db.schema ≡ desk_schema → HoldAll db.trees (parts s (marks_of s)) → Stands s db
 whole s db has h =
     let trees = db.trees in
+    let at = held_at (λ p. Holds p.table p.rows trees) (held_in s (marks_of s)) h in
     record {
       schema = has;
       rows = record {
         records = record {
-          desk = h.0.rows;
-          callers = as_map callers_table caller_row s.callers trees h.1.0.rows;
-          kept = as_map kept_table kept_row s.kept trees h.1.1.0.rows;
-          places = as_map places_table place_row s.places trees h.1.1.1.0.rows;
-          fixed = as_map fixed_table route_row s.routes trees h.1.1.1.1.0.rows;
-          vehicles = as_map vehicles_table vehicle_row s.vehicles trees h.1.1.1.1.1.0.rows;
-          riders = as_map riders_table rider_row s.riders trees h.1.1.1.1.1.1.0.rows;
-          entries = as_map entries_table entry_row s.entries trees h.1.1.1.1.1.1.1.0.rows;
-          trips = as_map trips_table trip_row s.trips trees h.1.1.1.1.1.1.1.1.0.rows;
-          stops = h.1.1.1.1.1.1.1.1.1.0.rows;
-          travel = h.1.1.1.1.1.1.1.1.1.1.0.rows;
+          desk = (at name.Desk).rows;
+          callers = as_map callers_table caller_row s.callers trees (at name.Callers).rows;
+          kept = as_map kept_table kept_row s.kept trees (at name.Kept).rows;
+          places = as_map places_table place_row s.places trees (at name.Places).rows;
+          fixed = as_map fixed_table route_row s.routes trees (at name.Fixed).rows;
+          vehicles = as_map vehicles_table vehicle_row s.vehicles trees (at name.Vehicles).rows;
+          riders = as_map riders_table rider_row s.riders trees (at name.Riders).rows;
+          entries = as_map entries_table entry_row s.entries trees (at name.Entries).rows;
+          trips = as_map trips_table trip_row s.trips trees (at name.Trips).rows;
+          stops = (at name.Stops).rows;
+          travel = (at name.Travel).rows;
         };
-        rider_chairs = h.1.1.1.1.1.1.1.1.1.1.1.0.rows;
-        vehicle_chairs = h.1.1.1.1.1.1.1.1.1.1.1.1.0.rows;
-        trip_chairs = h.1.1.1.1.1.1.1.1.1.1.1.1.1.0.rows;
+        rider_chairs = (at name.RiderChairs).rows;
+        vehicle_chairs = (at name.VehicleChairs).rows;
+        trip_chairs = (at name.TripChairs).rows;
       };
       rowids = have_rowids (parts s (marks_of s)) trees h;
     }
@@ -353,7 +355,8 @@ people_lead change known a e four content agrees told puts stands =
     let n : Marks = record m { riders = edited rider_key change.riders m.riders } in
     let all_4 = step 11 s3 n both.0 four.0 all_3 (λ has. both.2 has (puts.ranges.parts part.riders) told.riders (told.ranges.parts part.riders)) refl refl refl refl in
     let s4 : State = record s3 { entries = edited entry_key change.entries content.entries } in
-    let all_5 = step 7 s4 n four.0 e all_4 (λ has. four.2 has content.entries (agrees.parts part.entries) (puts.ranges.parts part.entries) told.entries (told.ranges.parts part.entries)) refl refl refl refl in
+    let all_5 = step 7 s4 n four.0 e all_4
+    (λ has. four.2 has content.entries (agrees.parts part.entries) (puts.ranges.parts part.entries) told.entries (told.ranges.parts part.entries)) refl refl refl refl in
     stand (with_people change content) e all_5
 
 pub area_leads : (change : Change) (known : State) (a e : Database)
@@ -366,9 +369,11 @@ area_leads change known a e four content agrees told puts stands =
     let s = with_people change content in
     let m = marks_of s in
     let s1 : State = record s { places = edited place_key change.places s.places } in
-    let all_1 = step 3 s1 m a two.0 (are s a stands) (λ _. two.1 content.places (agrees.parts part.places) (puts.ranges.parts part.places) told.places (told.ranges.parts part.places)) refl refl refl refl in
+    let all_1 = step 3 s1 m a two.0 (are s a stands)
+    (λ _. two.1 content.places (agrees.parts part.places) (puts.ranges.parts part.places) told.places (told.ranges.parts part.places)) refl refl refl refl in
     let s2 : State = record s1 { routes = edited route_key change.routes s.routes } in
-    let all_2 = step 4 s2 m two.0 three.0 all_1 (λ has. two.2 has content.routes (agrees.parts part.routes) (puts.ranges.parts part.routes) told.routes (told.ranges.parts part.routes)) refl refl refl refl in
+    let all_2 = step 4 s2 m two.0 three.0 all_1
+    (λ has. two.2 has content.routes (agrees.parts part.routes) (puts.ranges.parts part.routes) told.routes (told.ranges.parts part.routes)) refl refl refl refl in
     let first = three.2 all_2.schema content agrees in
     let left : Marks = record m { vehicles = take_all vehicle_key change.vehicles.away m.vehicles } in
     let all_3 = step 12 s2 left three.0 first.0 all_2 (λ _. first.1 told.vehicles (told.ranges.parts part.vehicles)) refl refl refl refl in
@@ -380,7 +385,8 @@ area_leads change known a e four content agrees told puts stands =
     (λ has. rest.2 has (puts.ranges.parts part.vehicles) left.vehicles (IsInOrder-take_all vehicle_key change.vehicles.away m.vehicles told.vehicles)
     (Each-take_all IsVehicle vehicle_key change.vehicles.away m.vehicles (told.ranges.parts part.vehicles))) refl refl refl refl in
     let s4 : State = record s3 { travel = edited travel_key change.travel s.travel } in
-    let all_6 = step 10 s4 n four.0 e all_5 (λ has. four.2 has content.travel (agrees.parts part.travel) (puts.ranges.parts part.travel) told.travel (told.ranges.parts part.travel)) refl refl refl refl in
+    let all_6 = step 10 s4 n four.0 e all_5
+    (λ has. four.2 has content.travel (agrees.parts part.travel) (puts.ranges.parts part.travel) told.travel (told.ranges.parts part.travel)) refl refl refl refl in
     stand (with_area change s) e all_6
 
 pub trips_lead : (change : Change) (known : State) (plans : List Plan) (a d : Database)
