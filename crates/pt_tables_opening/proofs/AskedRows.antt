@@ -101,79 +101,60 @@ module _ {A : Type 0} (key : A → ℕ) (row_of : A → Row) (Fits : A → Type 
       asks_for_all 2 table text (KeepsOrder key (alone row_of) (FitsRows (alone row_of) Fits)) asks
       (keeps_all_order 2 double_key IsPaired pair_le key row_of (FitsRows (alone row_of) Fits) (λ x fits. is x fits.0) keyed)
 
-caller_rows_text : AsksAll 1 callers_table CALLER_ROWS.now
-unfolding understood everything desk_schema
-caller_rows_text = asks_all desk_schema 1 callers_table CALLER_ROWS.now refl (refl, refl) refl (λ r. refl) refl (λ r. (refl, tt))
-
 pub callers_asked : IsAsked CALLER_ROWS.now callers_table caller_key (alone caller_row) IsCaller
-callers_asked = by_one caller_key caller_row IsCaller callers_table CALLER_ROWS.now caller_rows_text (λ x. refl) (λ x. refl)
-
-kept_rows_text : AsksAll 1 kept_table KEPT_ROWS.now
 unfolding understood everything desk_schema
-kept_rows_text = asks_all desk_schema 1 kept_table KEPT_ROWS.now refl (refl, refl) refl (λ r. refl) refl (λ r. (refl, tt))
+callers_asked = by_one caller_key caller_row IsCaller callers_table CALLER_ROWS.now
+    (asks_all desk_schema 1 callers_table CALLER_ROWS.now refl (refl, refl) refl (λ r. refl) refl (λ r. (refl, tt))) (λ x. refl) (λ x. refl)
 
 pub kept_asked : IsAsked KEPT_ROWS.now kept_table kept_key (alone kept_row) FitsKept
-kept_asked = by_one kept_key kept_row FitsKept kept_table KEPT_ROWS.now kept_rows_text (λ x. refl) (λ x. refl)
-
-place_rows_text : AsksAll 1 places_table PLACE_ROWS.now
 unfolding understood everything desk_schema
-place_rows_text = asks_all desk_schema 1 places_table PLACE_ROWS.now refl (refl, refl) refl (λ r. refl) refl (λ r. (refl, tt))
+kept_asked = by_one kept_key kept_row FitsKept kept_table KEPT_ROWS.now
+    (asks_all desk_schema 1 kept_table KEPT_ROWS.now refl (refl, refl) refl (λ r. refl) refl (λ r. (refl, tt))) (λ x. refl) (λ x. refl)
 
 pub places_asked : IsAsked PLACE_ROWS.now places_table place_key (alone place_row) FitsPlace
-places_asked = by_one place_key place_row FitsPlace places_table PLACE_ROWS.now place_rows_text (λ x. refl) (λ x. refl)
-
-route_rows_text : AsksAll 1 fixed_table ROUTE_ROWS.now
 unfolding understood everything desk_schema
-route_rows_text = asks_all desk_schema 1 fixed_table ROUTE_ROWS.now refl (refl, refl) refl (λ r. refl) refl (λ r. (refl, tt))
+places_asked = by_one place_key place_row FitsPlace places_table PLACE_ROWS.now
+    (asks_all desk_schema 1 places_table PLACE_ROWS.now refl (refl, refl) refl (λ r. refl) refl (λ r. (refl, tt))) (λ x. refl) (λ x. refl)
 
 pub routes_asked : IsAsked ROUTE_ROWS.now fixed_table route_key (alone route_row) IsRoute
-routes_asked = by_one route_key route_row IsRoute fixed_table ROUTE_ROWS.now route_rows_text (λ x. refl) (λ x. refl)
-
-vehicle_rows_text : AsksAll 2 vehicles_table VEHICLE_ROWS.now
 unfolding understood everything desk_schema
-vehicle_rows_text = asks_all desk_schema 2 vehicles_table VEHICLE_ROWS.now refl (refl, refl) refl (λ r. refl) refl (λ r. (refl, (refl, tt)))
+routes_asked = by_one route_key route_row IsRoute fixed_table ROUTE_ROWS.now
+    (asks_all desk_schema 1 fixed_table ROUTE_ROWS.now refl (refl, refl) refl (λ r. refl) refl (λ r. (refl, tt))) (λ x. refl) (λ x. refl)
 
 pub vehicles_asked : IsAsked VEHICLE_ROWS.now vehicles_table vehicle_key (alone vehicle_row) IsVehicle
-vehicles_asked = by_two vehicle_key vehicle_row IsVehicle vehicles_table VEHICLE_ROWS.now vehicle_rows_text
+unfolding understood everything desk_schema
+vehicles_asked = by_two vehicle_key vehicle_row IsVehicle vehicles_table VEHICLE_ROWS.now
+    (asks_all desk_schema 2 vehicles_table VEHICLE_ROWS.now refl (refl, refl) refl (λ r. refl) refl (λ r. (refl, (refl, tt))))
     (λ x fits. record { first = refl; second = refl; second_low = let last = fits.from_day.1 in omega arith })
     (λ x. refl)
 
-rider_rows_text : AsksAll 1 riders_table RIDER_ROWS.now
-unfolding understood everything desk_schema
-rider_rows_text = asks_all desk_schema 1 riders_table RIDER_ROWS.now refl (refl, refl) refl (λ r. refl) refl (λ r. (refl, tt))
-
 pub riders_asked : IsAsked RIDER_ROWS.now riders_table rider_key (alone rider_row) FitsRider
-riders_asked = by_one rider_key rider_row FitsRider riders_table RIDER_ROWS.now rider_rows_text (λ x. refl) (λ x. refl)
-
-entry_rows_text : AsksAll 2 entries_table ENTRY_ROWS.now
 unfolding understood everything desk_schema
-entry_rows_text = asks_all desk_schema 2 entries_table ENTRY_ROWS.now refl (refl, refl) refl (λ r. refl) refl (λ r. (refl, (refl, tt)))
+riders_asked = by_one rider_key rider_row FitsRider riders_table RIDER_ROWS.now
+    (asks_all desk_schema 1 riders_table RIDER_ROWS.now refl (refl, refl) refl (λ r. refl) refl (λ r. (refl, tt))) (λ x. refl) (λ x. refl)
 
 pub entries_asked : IsAsked ENTRY_ROWS.now entries_table entry_key (alone entry_row) FitsFiled
-entries_asked = by_two entry_key entry_row FitsFiled entries_table ENTRY_ROWS.now entry_rows_text (λ x fits. record { first = refl; second = refl; second_low = fits.position }) (λ x. refl)
-
-trip_rows_text : AsksAll 1 trips_table TRIP_ROWS.now
 unfolding understood everything desk_schema
-trip_rows_text = asks_all desk_schema 1 trips_table TRIP_ROWS.now refl (refl, refl) refl (λ r. refl) refl (λ r. (refl, tt))
+entries_asked = by_two entry_key entry_row FitsFiled entries_table ENTRY_ROWS.now
+    (asks_all desk_schema 2 entries_table ENTRY_ROWS.now refl (refl, refl) refl (λ r. refl) refl (λ r. (refl, (refl, tt))))
+    (λ x fits. record { first = refl; second = refl; second_low = fits.position }) (λ x. refl)
 
 pub trips_asked : IsAsked TRIP_ROWS.now trips_table trip_key (alone trip_row) FitsTrip
-trips_asked = by_one trip_key trip_row FitsTrip trips_table TRIP_ROWS.now trip_rows_text (λ x. refl) (λ x. refl)
+unfolding understood everything desk_schema
+trips_asked = by_one trip_key trip_row FitsTrip trips_table TRIP_ROWS.now
+    (asks_all desk_schema 1 trips_table TRIP_ROWS.now refl (refl, refl) refl (λ r. refl) refl (λ r. (refl, tt))) (λ x. refl) (λ x. refl)
 
 -- ---- records of several rows each
 
-stop_rows_text : AsksAll 3 stops_table STOP_ROWS.now
-unfolding understood everything desk_schema
-stop_rows_text = asks_all desk_schema 3 stops_table STOP_ROWS.now refl (refl, refl) refl (λ r. refl) refl (λ r. (refl, (refl, (refl, tt))))
-
 pub planned_asked : IsAsked STOP_ROWS.now stops_table plan_key stop_rows IsStoredPlan
-planned_asked = asks_for_all 3 stops_table STOP_ROWS.now (KeepsOrder plan_key stop_rows (FitsRows stop_rows IsStoredPlan)) stop_rows_text plans_keep
-
-travel_rows_text : AsksAll 3 travel_table TRAVEL_ROWS.now
 unfolding understood everything desk_schema
-travel_rows_text = asks_all desk_schema 3 travel_table TRAVEL_ROWS.now refl (refl, refl) refl (λ r. refl) refl (λ r. (refl, (refl, (refl, tt))))
+planned_asked = asks_for_all 3 stops_table STOP_ROWS.now (KeepsOrder plan_key stop_rows (FitsRows stop_rows IsStoredPlan))
+    (asks_all desk_schema 3 stops_table STOP_ROWS.now refl (refl, refl) refl (λ r. refl) refl (λ r. (refl, (refl, (refl, tt))))) plans_keep
 
 pub travel_asked : IsAsked TRAVEL_ROWS.now travel_table travel_key travel_rows FitsTravel
-travel_asked = asks_for_all 3 travel_table TRAVEL_ROWS.now (KeepsOrder travel_key travel_rows (FitsRows travel_rows FitsTravel)) travel_rows_text travel_keeps
+unfolding understood everything desk_schema
+travel_asked = asks_for_all 3 travel_table TRAVEL_ROWS.now (KeepsOrder travel_key travel_rows (FitsRows travel_rows FitsTravel))
+    (asks_all desk_schema 3 travel_table TRAVEL_ROWS.now refl (refl, refl) refl (λ r. refl) refl (λ r. (refl, (refl, (refl, tt))))) travel_keeps
 
 -- ---- rows of second tables
 
@@ -218,34 +199,25 @@ module _ {A : Type 0} (key : A → ℕ) (row_of : A → Row) (beside_of : A → 
       same_order columns laws.key_in Is le (flat_map beside_of xs) rows (beside_in_order key row_of beside_of Fits laws xs ordered)
       (beside_each key row_of beside_of Fits laws Is is xs each) same order
 
-rider_chair_rows_text : AsksAll 1 rider_chairs_table RIDER_CHAIR_ROWS.now
-unfolding understood everything desk_schema
-rider_chair_rows_text = asks_all desk_schema 1 rider_chairs_table RIDER_CHAIR_ROWS.now refl (refl, refl) refl (λ r. refl) refl (λ r. (refl, tt))
-
 pub rider_chairs_asked : AsksForAll RIDER_CHAIR_ROWS.now rider_chairs_table (KeepsRows rider_key rider_chair_rows FitsRider)
-unfolding riders_beside
+unfolding understood everything desk_schema riders_beside
 rider_chairs_asked =
-    asks_for_all 1 rider_chairs_table RIDER_CHAIR_ROWS.now (KeepsRows rider_key rider_chair_rows FitsRider) rider_chair_rows_text
+    asks_for_all 1 rider_chairs_table RIDER_CHAIR_ROWS.now (KeepsRows rider_key rider_chair_rows FitsRider)
+    (asks_all desk_schema 1 rider_chairs_table RIDER_CHAIR_ROWS.now refl (refl, refl) refl (λ r. refl) refl (λ r. (refl, tt)))
     (keeps_beside rider_key rider_row rider_chair_rows FitsRider riders_beside 1 IsCounted count_le (λ x fits. so_all IsCounted x.wheelchair _ refl))
 
-vehicle_chair_rows_text : AsksAll 2 vehicle_chairs_table VEHICLE_CHAIR_ROWS.now
-unfolding understood everything desk_schema
-vehicle_chair_rows_text = asks_all desk_schema 2 vehicle_chairs_table VEHICLE_CHAIR_ROWS.now refl (refl, refl) refl (λ r. refl) refl (λ r. (refl, (refl, tt)))
-
 pub vehicle_chairs_asked : AsksForAll VEHICLE_CHAIR_ROWS.now vehicle_chairs_table (KeepsRows vehicle_key vehicle_chair_rows IsVehicle)
-unfolding vehicles_beside
+unfolding understood everything desk_schema vehicles_beside
 vehicle_chairs_asked =
-    asks_for_all 2 vehicle_chairs_table VEHICLE_CHAIR_ROWS.now (KeepsRows vehicle_key vehicle_chair_rows IsVehicle) vehicle_chair_rows_text
+    asks_for_all 2 vehicle_chairs_table VEHICLE_CHAIR_ROWS.now (KeepsRows vehicle_key vehicle_chair_rows IsVehicle)
+    (asks_all desk_schema 2 vehicle_chairs_table VEHICLE_CHAIR_ROWS.now refl (refl, refl) refl (λ r. refl) refl (λ r. (refl, (refl, tt))))
     (keeps_beside vehicle_key vehicle_row vehicle_chair_rows IsVehicle vehicles_beside 2 IsPaired pair_le
     (λ x fits. so_all IsPaired (not (x.chairs == 0)) _ (record
     { first = refl; second = refl; second_low = let last = fits.from_day.1 in omega arith })))
 
-trip_chair_rows_text : AsksAll 1 trip_chairs_table TRIP_CHAIR_ROWS.now
-unfolding understood everything desk_schema
-trip_chair_rows_text = asks_all desk_schema 1 trip_chairs_table TRIP_CHAIR_ROWS.now refl (refl, refl) refl (λ r. refl) refl (λ r. (refl, tt))
-
 pub trip_chairs_asked : AsksForAll TRIP_CHAIR_ROWS.now trip_chairs_table (KeepsRows trip_key trip_chair_rows FitsTrip)
-unfolding trips_beside
+unfolding understood everything desk_schema trips_beside
 trip_chairs_asked =
-    asks_for_all 1 trip_chairs_table TRIP_CHAIR_ROWS.now (KeepsRows trip_key trip_chair_rows FitsTrip) trip_chair_rows_text
+    asks_for_all 1 trip_chairs_table TRIP_CHAIR_ROWS.now (KeepsRows trip_key trip_chair_rows FitsTrip)
+    (asks_all desk_schema 1 trip_chairs_table TRIP_CHAIR_ROWS.now refl (refl, refl) refl (λ r. refl) refl (λ r. (refl, tt)))
     (keeps_beside trip_key trip_row trip_chair_rows FitsTrip trips_beside 1 IsCounted count_le (λ x fits. so_all IsCounted x.wheelchair _ refl))
