@@ -1,3 +1,4 @@
+pub mod AddedTables
 pub mod AgencyLemmas
 pub mod AskedRows
 pub mod BesideLemmas
