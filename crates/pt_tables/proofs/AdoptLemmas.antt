@@ -1,16 +1,18 @@
 -- A desk whose content was read from the tables, and one whose tables are refused.
-use Rattle.std.proofs.Common.{◌≡◌, ◌≤◌, inl, inr, IsTrue, refl, sym, subst, ◌∙◌, ap, arith}
+use Rattle.std.proofs.Common.{◌≡◌, ◌≢◌, ◌⊎◌, ◌≤◌, inl, inr, IsTrue, refl, sym, subst, ◌∙◌, ap, arith}
 use Rattle.sqlite.specs.Effect.{Database, IsDatabase}
 use Rattle.sqlite.specs.Schema.{Schema}
 use Rattle.sqlite.specs.State.{State as Connected, HasCleanDisk, IsLive, Survives}
 use Rattle.sqlite.specs.Tree.{Trees}
-use Rattle.sqlite.specs.View.{doubt}
+use Rattle.sqlite.specs.View.{View, doubt}
 use Rattle.sqlite_catalog.proofs.ReadLemmas.{lists_once}
 use Rattle.sqlite_catalog.specs.Listing.{Lists}
 use Rattle.sqlite_trees.specs.Objects.{catalog_tree}
 use Rattle.pt_desk_rules.specs.State.{State}
-use Rattle.pt_tables_opening.specs.Faults.{unsound}
 use Rattle.pt_base.specs.declared.fault.Cause.TheVariants as cause
+use Rattle.pt_base.proofs.FaultLemmas.{other_cause}
+use Rattle.pt_tables.specs.RefusedBy.{RefusedBy}
+use Rattle.pt_tables_opening.specs.Faults.{fault, unsound}
 use Rattle.pt_tables_opening.specs.Opening.{IsReopened, Stays}
 use Rattle.pt_tables_rows.specs.Schema.{desk_schema}
 use Rattle.pt_tables_rows.specs.Tables.{HasRows, IsKept, IsWellFormed, Stands}
@@ -30,9 +32,40 @@ left_before old new survives clean db left = elim (survives.crash clean db left)
 ]
 
 -- a desk's database of a content has no other tables, nor those of another version
-pub no_other_tables : (content : State) (trees : Trees) → IsDeskOf content trees → HasOtherTables trees → ⊥
+no_other_tables : (content : State) (trees : Trees) → IsDeskOf content trees → HasOtherTables trees → ⊥
 no_other_tables content trees desk (inl other) = other.2 (lists_once (trees catalog_tree) other.0 desk_schema other.1 desk.tables.lists)
 no_other_tables content trees desk (inr version) = spares_none trees content.policy content.last_trip desk.rows.1.records.desk (unsound 1) version refl
+
+-- a refusal of the store, or for memory, has neither of these causes
+cause_elsewhere : (refused : OpenFault) → (refused ≡ fault cause.Memory) ⊎ (refused ≡ fault cause.StoreFailed)
+    → (refused.cause ≢ cause.OtherTables) × (refused.cause ≢ cause.UnsoundRows)
+cause_elsewhere refused (inl is) =
+    let memory : refused.cause ≡ cause.Memory = ap (λ (f : OpenFault). f.cause) is in (
+      λ same. other_cause cause.Memory cause.OtherTables (omega arith) (sym memory ∙ same),
+      λ same. other_cause cause.Memory cause.UnsoundRows (omega arith) (sym memory ∙ same),
+    )
+cause_elsewhere refused (inr is) =
+    let failed : refused.cause ≡ cause.StoreFailed = ap (λ (f : OpenFault). f.cause) is in (
+      λ same. other_cause cause.StoreFailed cause.OtherTables (omega arith) (sym failed ∙ same),
+      λ same. other_cause cause.StoreFailed cause.UnsoundRows (omega arith) (sym failed ∙ same),
+    )
+
+-- such a refusal says nothing of the tables
+pub refused_otherwise : (old : Connected) (store : View) (Recovers : Trees → Type 0) (refused : OpenFault)
+    → (refused ≡ fault cause.Memory) ⊎ (refused ≡ fault cause.StoreFailed)
+    → (IsTrue store.is_open → store.trees ≡ old.committed.trees) → ((trees : Trees) → Recovers trees → old.may_leave trees)
+    → RefusedBy old store Recovers refused
+refused_otherwise old store Recovers refused is kept crash =
+    let (not_tables, not_rows) = cause_elsewhere refused is in
+    record {
+      kept = kept;
+      crash = crash;
+      other_tables = λ code. absurd (not_tables code);
+      desk = λ content desk. not_tables;
+      unsound = λ code. absurd (not_rows code);
+      first = λ code. absurd (not_rows code);
+      version = λ other. not_rows;
+    }
 
 -- what reads show of an open connection leaves what was committed
 pub still_committed : (old new : Connected) (trees : Trees) → Stays old new → IsTrue new.is_open → trees ≡ new.committed.trees → trees ≡ old.committed.trees
@@ -89,23 +122,37 @@ module _ (old new last : Connected) (settled : IsTrue old.is_open → old.now �
       record { tables = subst IsDeskDatabase (sym same) whole; rows = (readable, subst (HasRows content) (sym same) rows) }
 
   -- the store that it hands back shows what was committed
-  pub handed_back : (trees : Trees) → trees ≡ last.committed.trees → trees ≡ old.committed.trees
+  handed_back : (trees : Trees) → trees ≡ last.committed.trees → trees ≡ old.committed.trees
   handed_back trees is = is ∙ ap (λ (d : Database). d.trees) anew.committed ∙ still_committed old new last.now.trees stay open_then anew.rows
 
   -- ---- why a database is not adopted
 
+  version_committed : (refused : OpenFault) → SparesOtherVersion old.now.trees refused → SparesOtherVersion old.committed.trees refused
+  version_committed refused spares = subst (λ trees. SparesOtherVersion trees refused) shown spares
+
   module _ (refused : OpenFault) (why : TellsOf old.now refused) where
-    pub unsound_committed : refused.cause ≡ cause.UnsoundRows → AreUnsound old.committed.trees
+    unsound_committed : refused.cause ≡ cause.UnsoundRows → AreUnsound old.committed.trees
     unsound_committed code = subst AreUnsound shown (why.rows code)
 
-    pub first_committed : refused.cause ≡ cause.UnsoundRows → IsFirstAtFault old.committed.trees refused.table
+    first_committed : refused.cause ≡ cause.UnsoundRows → IsFirstAtFault old.committed.trees refused.table
     first_committed code = subst (λ trees. IsFirstAtFault trees refused.table) shown (why.first code)
 
-    pub others_committed : refused.cause ≡ cause.OtherTables → HasOtherTables old.committed.trees
+    others_committed : refused.cause ≡ cause.OtherTables → HasOtherTables old.committed.trees
     others_committed code = elim (why.tables code) [
       | inl other ↦ inl (subst ListsOthers shown (old.now.schema, lists, other))
       | inr version ↦ inr (subst HasOtherVersion shown version)
     ]
 
-  pub version_committed : (refused : OpenFault) → SparesOtherVersion old.now.trees refused → SparesOtherVersion old.committed.trees refused
-  version_committed refused spares = subst (λ trees. SparesOtherVersion trees refused) shown spares
+    -- the refusal of what was read
+    pub refused_for : (store : View) (Recovers : Trees → Type 0) → (IsTrue store.is_open → store.trees ≡ last.committed.trees)
+        → ((trees : Trees) → Recovers trees → old.may_leave trees) → SparesOtherVersion old.now.trees refused
+        → RefusedBy old store Recovers refused
+    refused_for store Recovers shows crash spares = record {
+      kept = λ here. handed_back store.trees (shows here);
+      crash = crash;
+      other_tables = others_committed;
+      desk = λ content desk code. no_other_tables content old.committed.trees desk (others_committed code);
+      unsound = unsound_committed;
+      first = first_committed;
+      version = version_committed refused spares;
+    }

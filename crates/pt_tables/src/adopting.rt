@@ -1,20 +1,18 @@
 //! Opens the database of a desk.
 
-ghost use Rattle.std.specs.Prelude.{◌≡◌, ◌≢◌, ◌⊎◌, ◌≤◌, IsTrue, IfOk, IfErr, IsErrAnd, MatchResult, false};
+ghost use Rattle.std.specs.Prelude.{◌≡◌, ◌⊎◌, ◌≤◌, IsTrue, IfOk, IfErr, IsErrAnd, MatchResult, false};
 ghost use Rattle.pt_base.specs.declared.fault.Cause.TheVariants as cause;
 ghost use Rattle.pt_store.specs.Store.{IsSettled};
 ghost use Rattle.pt_desk_rules.specs.Sound.{IsSound};
-ghost use Rattle.pt_desk_rules.specs.State.{State};
 ghost use Rattle.sqlite.specs.Held.{state};
 ghost use Rattle.sqlite.specs.State.{HasCleanDisk};
 ghost use Rattle.sqlite.specs.Tree.{Trees};
 ghost use Rattle.sqlite.specs.View.{IsClean, doubt};
+ghost use Rattle.pt_tables.specs.RefusedBy.{RefusedBy};
 ghost use Rattle.pt_tables_opening.specs.Faults.{IsRefusal, fault};
 ghost use Rattle.pt_tables_opening.specs.Opening.{IsReopened};
-ghost use Rattle.pt_tables_opening.specs.Refused.{AreUnsound, HasOtherTables, SparesOtherVersion};
-ghost use Rattle.pt_tables_opening.specs.Standing.{IsFirstAtFault};
 ghost use Rattle.pt_tables_rows.specs.Tables.{HasRows};
-ghost use Rattle.pt_tables_writing.specs.Committing.{IsDeskOf, LeavesDesk};
+ghost use Rattle.pt_tables_writing.specs.Committing.{LeavesDesk};
 
 use crate::keeping::keeper_of;
 use pt_store::Keeper;
@@ -75,27 +73,11 @@ pub fn adopt<S: Alter + Drop>(
     ensures serves { IfOk result (λ keeper. keeper.failures ≡ 0) }
     ensures settled { IfOk result (λ keeper. IsSettled (⟦<SqlKeeper<S> as Keeper>⟧.store keeper)) }
     ensures leaves { IfOk result (λ keeper. LeavesDesk (state S.Store keeper.conn)) }
-    ensures kept { IfErr result (λ refused. IsClean (S.Store.view refused.0)
-        → IsTrue (S.Store.view refused.0).is_open
-        → (S.Store.view refused.0).trees ≡ (state S.Store conn).committed.trees) }
-    ensures crash { MatchResult result
-        (λ keeper. HasCleanDisk (state S.Store keeper.conn) → (trees : Trees)
-        → (state S.Store keeper.conn).may_leave trees → (state S.Store conn).may_leave trees)
-        (λ refused. IsClean (S.Store.view refused.0) → (trees : Trees)
-        → S.Store.recovers refused.0 trees → (state S.Store conn).may_leave trees) }
+    ensures crash { IfOk result (λ keeper. HasCleanDisk (state S.Store keeper.conn) → (trees : Trees)
+        → (state S.Store keeper.conn).may_leave trees → (state S.Store conn).may_leave trees) }
     ensures faults { IfErr result (λ refused. IsRefusal refused.1) }
-    ensures other_tables { IfErr result (λ refused. IsClean (S.Store.view refused.0)
-        → refused.1.cause ≡ cause.OtherTables → HasOtherTables (state S.Store conn).committed.trees) }
-    // A desk's database is never refused for its tables.
-    ensures desk { IfErr result (λ refused. IsClean (S.Store.view refused.0) → (content : State)
-        → IsDeskOf content (state S.Store conn).committed.trees → refused.1.cause ≢ cause.OtherTables) }
-    ensures unsound { IfErr result (λ refused. IsClean (S.Store.view refused.0)
-        → refused.1.cause ≡ cause.UnsoundRows → AreUnsound (state S.Store conn).committed.trees) }
-    ensures first { IfErr result (λ refused. IsClean (S.Store.view refused.0)
-        → refused.1.cause ≡ cause.UnsoundRows
-        → IsFirstAtFault (state S.Store conn).committed.trees refused.1.table) }
-    ensures version { IfErr result (λ refused. IsClean (S.Store.view refused.0)
-        → SparesOtherVersion (state S.Store conn).committed.trees refused.1) }
+    ensures refused { IfErr result (λ refused. IsClean (S.Store.view refused.0)
+        → RefusedBy (state S.Store conn) (S.Store.view refused.0) (S.Store.recovers refused.0) refused.1) }
     ensures in_use { IsTrue (state S.Store conn).in_transaction
         → IsErrAnd result (λ refused. refused.1 ≡ fault cause.StoreFailed) }
 {
