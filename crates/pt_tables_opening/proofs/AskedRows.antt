@@ -1,5 +1,5 @@
 -- The queries for all rows of each table: what they mean, and that the rows are in the order of the records' keys.
-use Rattle.std.proofs.Common.{◌≡◌, ◌≤◌, ℕ, Bool, true, false, not, List, [], ◌∷◌, length, map, take, flat_map, ◌⊎◌, inl, inr, refl, arith}
+use Rattle.std.proofs.Common.{◌≡◌, ◌≤◌, ℕ, zero, suc, Bool, true, false, not, List, [], ◌∷◌, length, map, take, flat_map, ◌⊎◌, inl, inr, refl, arith}
 use Rattle.std.specs.Prelude.{◌==◌}
 use Rattle.std.specs.List.{AllByRecursion, range_with_len}
 use Rattle.std.specs.Ordering.{is_lt}
@@ -37,7 +37,7 @@ use Rattle.pt_tables_opening.proofs.ShownRows.{AsksAll, AsksAllIn, asks_for_all}
 use Rattle.pt_tables_rows.specs.Rows.{row_if, rider_chair_rows, vehicle_chair_rows, trip_chair_rows, caller_row}
 use Rattle.pt_tables_rows.specs.Rows.{kept_row, place_row, route_row, rider_row, entry_row, vehicle_row, trip_row}
 use Rattle.pt_tables_rows.specs.Rows.{stop_rows, travel_rows}
-use Rattle.pt_tables_rows.specs.Schema.{desk_schema, first_schema, desk_table, callers_table, kept_table, places_table, fixed_table, vehicles_table, riders_table, entries_table, trips_table}
+use Rattle.pt_tables_rows.specs.Schema.{IsEarlier, desk_schema, schema_of, desk_table, callers_table, kept_table, places_table, fixed_table, vehicles_table, riders_table, entries_table, trips_table}
 use Rattle.pt_tables_rows.specs.Schema.{stops_table, travel_table, rider_chairs_table, vehicle_chairs_table, trip_chairs_table}
 use Rattle.pt_tables_rows.specs.Tables.{columns_of, IsStoredPlan}
 use Rattle.pt_tables_rows.proofs.ColumnLemmas.{number_in}
@@ -77,10 +77,12 @@ pub desk_rows_text : AsksAll 1 desk_table DESK_ROWS.now
 unfolding understood everything desk_schema
 desk_rows_text = asks_all desk_schema 1 desk_table DESK_ROWS.now refl (refl, refl) refl (λ r. refl) refl (λ r. (refl, tt))
 
--- the same where the tables are those of the first version
-pub first_rows_text : AsksAllIn first_schema 1 desk_table DESK_ROWS.now
-unfolding understood everything first_schema
-first_rows_text = asks_all first_schema 1 desk_table DESK_ROWS.now refl (refl, refl) refl (λ r. refl) refl (λ r. (refl, tt))
+-- the same where the tables are those of an earlier version
+pub earlier_rows_text : (version : ℕ) → IsEarlier version → AsksAllIn (schema_of version) 1 desk_table DESK_ROWS.now
+unfolding understood everything schema_of
+earlier_rows_text zero early = absurd (omega (arith, early.0))
+earlier_rows_text (suc zero) early = asks_all (schema_of 1) 1 desk_table DESK_ROWS.now refl (refl, refl) refl (λ r. refl) refl (λ r. (refl, tt))
+earlier_rows_text (suc (suc version)) early = absurd (omega (arith, early.1))
 
 -- ---- records of one row each
 

@@ -3,7 +3,7 @@ pub mod AgencyLemmas
 pub mod AskedRows
 pub mod BesideLemmas
 pub mod ContentLemmas
-pub mod FirstLemmas
+pub mod EarlierLemmas
 pub mod GatheredLemmas
 pub mod GroupOrders
 pub mod OrderedLemmas

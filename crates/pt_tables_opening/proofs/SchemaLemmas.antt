@@ -1,12 +1,21 @@
--- The schemas of both versions are plain, so they can be compared field by field.
-use Rattle.std.proofs.Common.{◌≡◌, ◌↔◌, List, [], ◌∷◌, map, drop, get_or, Bool, IsTrue, refl, sym, ap, subst}
+-- The schemas of all versions are plain, so they can be compared field by field.
+use Rattle.std.proofs.Common.{◌≡◌, ◌∙◌, ◌↔◌, ℕ, List, [], ◌∷◌, ◌++◌, map, flat_map, take, drop, get_or, Bool, IsTrue, refl, sym, ap, subst}
+use Rattle.std.proofs.Common.{Result, Ok, Err, IfOk, ◌≤◌, false, true, arith}
+use Rattle.std.proofs.lemmas.List.{take-append-drop}
+use Rattle.std.proofs.lemmas.List.Concat.{flat_map-append}
 use Rattle.std.specs.List.{AllByRecursion}
+use Rattle.sqlite.specs.Effect.{Database}
+use Rattle.sqlite.specs.Held.{Held, state}
 use Rattle.sqlite.specs.Schema.{Schema}
+use Rattle.sqlite.specs.State.{State as Connected, HasCleanDisk, KeepsCommit, Shows}
+use Rattle.sqlite.specs.Store.{Ghosts}
 use Rattle.sqlite.specs.Table.{Table}
 use Rattle.sqlite.specs.declared.types.Value.TheVariants.{Null}
 use Rattle.sqlite_schema.specs.declared.schema.Column.{Column}
 use Rattle.pt_tables_opening.specs.Plain.{IsPlainColumn, IsPlainTable, IsPlainSchema, no_stamps}
-use Rattle.pt_tables_rows.specs.Schema.{desk_schema, first_schema, first_tables, tables}
+use Rattle.pt_tables_rows.proofs.SameRowsLists.{all_front}
+use Rattle.pt_tables_rows.specs.Schema.{Version, versions, table_version, tables_of, schema_of, desk_schema, no_schema, tables}
+use Rattle.pt_tables_rows.specs.Tables.{AddsVersions}
 
 -- with no default
 abbrev bare_column : Column → Column
@@ -32,13 +41,20 @@ plain_tables : (ts : List Table) → map bare_table ts ≡ ts → AllByRecursion
 plain_tables [] same = tt
 plain_tables (t ∷ ts) same = (plain_table t (ap (λ (l : List Table). get_or l 0 t) same), plain_tables ts (ap (drop 1) same))
 
-pub desk_schema_plain : IsPlainSchema desk_schema
-unfolding desk_schema
-desk_schema_plain = record { tables = plain_tables tables refl; views = refl }
+plain_among : (version : ℕ) → AllByRecursion IsPlainTable (tables_of version)
+plain_among version =
+    let adds = λ (v : Version). v.tables in
+    let all : flat_map adds (take version versions ++ drop version versions) ≡ tables = ap (flat_map adds) (take-append-drop version versions) in
+    all_front IsPlainTable (tables_of version) (flat_map adds (drop version versions))
+    (subst (AllByRecursion IsPlainTable) (sym all ∙ flat_map-append adds (take version versions) (drop version versions)) (plain_tables tables refl))
 
-pub first_schema_plain : IsPlainSchema first_schema
-unfolding first_schema
-first_schema_plain = record { tables = plain_tables first_tables refl; views = refl }
+pub schema_plain : (version : ℕ) → IsPlainSchema (schema_of version)
+unfolding schema_of
+schema_plain version = record { tables = plain_among version; views = refl }
+
+desk_schema_is : schema_of table_version ≡ desk_schema
+unfolding desk_schema
+desk_schema_is = refl
 
 -- a schema that was made as a plain one
 module _ (made plain : Schema) (is : made ≡ plain) where
@@ -47,3 +63,26 @@ module _ (made plain : Schema) (is : made ≡ plain) where
 
   pub same_as : (schema : Schema) (same : Bool) → (IsTrue same ↔ (schema ≡ made)) → (IsTrue same ↔ (schema ≡ plain))
   same_as schema same h = subst (λ s. IsTrue same ↔ (schema ≡ s)) is h
+
+-- what is said of the last version is said of the desk's schema
+pub desk_so : {E : Type 0} (schema : Schema) (result : Result Bool E) → IfOk result (λ is. IsTrue is ↔ (schema ≡ schema_of table_version)) → IfOk result (λ is. IsTrue is ↔ (schema ≡ desk_schema))
+desk_so schema (Ok is) h = subst (λ s. IsTrue is ↔ (schema ≡ s)) desk_schema_is h
+desk_so schema (Err e) h = tt
+
+-- ---- a schema that was made in memory
+
+nothing_is : no_schema ≡ schema_of 0
+unfolding schema_of
+nothing_is = refl
+
+module _ {S : Type 0} (g : Ghosts S) (version : ℕ) (old begun one : Held S) (is : begun ≡ record old { in_transaction = true }) (blank : old.schema ≡ no_schema) (known : version ≤ table_version)
+    (added : HasCleanDisk (state g one) → IsTrue begun.in_transaction
+    → KeepsCommit (state g begun) (state g one) × IsTrue one.in_transaction
+    × (0 ≤ version → version ≤ table_version → (state g begun).now.schema ≡ schema_of 0 → AddsVersions 0 version (state g begun).now (state g one).now)) where
+  -- once it is committed
+  pub made_schema : HasCleanDisk (state g one) → (end : Connected) → Shows (state g one) end (state g one).now (state g one).now false → end.now.schema ≡ schema_of version
+  made_schema clean end shows =
+      let inside : IsTrue begun.in_transaction = subst (λ (h : Held S). IsTrue h.in_transaction) (sym is) refl in
+      let none : begun.schema ≡ schema_of 0 = ap (λ (h : Held S). h.schema) is ∙ blank ∙ nothing_is in
+      let adds = (added clean inside).2 (omega arith) known none in
+      ap (λ (d : Database). d.schema) shows.now_is ∙ adds.schema

@@ -5,8 +5,8 @@ use Rattle.sqlite.specs.Tree.{Trees}
 use Rattle.pt_base.specs.declared.policy.Policy.{Policy}
 use Rattle.pt_records.specs.declared.span.Span.{Span}
 use Rattle.pt_tables_reading.specs.Reading.{agency_row, FitsAgency}
-use Rattle.pt_tables_rows.specs.Rows.{number_value, table_version}
-use Rattle.pt_tables_rows.specs.Schema.{desk_table}
+use Rattle.pt_tables_rows.specs.Rows.{number_value}
+use Rattle.pt_tables_rows.specs.Schema.{table_version, desk_table}
 use Rattle.pt_tables_rows.specs.Tables.{AreRows}
 
 -- there is exactly one row, with another version of the tables

@@ -12,8 +12,8 @@ use Rattle.sqlite.specs.Tree.{Trees}
 use Rattle.sqlite_catalog.specs.Listing.{Lists}
 use Rattle.sqlite_trees.specs.Objects.{catalog_tree}
 use Rattle.pt_tables_asking.specs.Asking.{IsAnswer}
-use Rattle.pt_tables_rows.specs.Rows.{first_version, number_value}
-use Rattle.pt_tables_rows.specs.Schema.{desk_schema, desk_table, first_schema, tables}
+use Rattle.pt_tables_rows.specs.Rows.{number_value}
+use Rattle.pt_tables_rows.specs.Schema.{IsEarlier, schema_of, desk_schema, desk_table, tables}
 use Rattle.pt_tables_rows.specs.Tables.{AreRows, HaveRowids}
 
 -- an open connection was open before, keeps what was committed, and still shows it if it did before
@@ -52,9 +52,10 @@ pub record IsReopened (old new : Connected) : Type 0 where
   pub lists : Lists (new.now.trees catalog_tree) new.now.schema
   pub rowids : new.now.schema ≡ desk_schema → AllByRecursion (λ t. HaveRowids (new.now.trees t.tree)) tables
 
--- the schema is that of the first version, and the agency's only row has that version
-pub record IsFirstVersion (db : Database) : Type 0 where
-  pub schema : db.schema ≡ first_schema
+-- the schema is that of this earlier version, and the agency's only row has that version
+pub record IsEarlierVersion (version : ℕ) (db : Database) : Type 0 where
+  pub earlier : IsEarlier version
+  pub schema : db.schema ≡ schema_of version
   pub row : Row
   pub rows : AreRows desk_table db.trees (row ∷ [])
-  pub version : column row 1 ≡ number_value first_version
+  pub version_is : column row 1 ≡ number_value version

@@ -1,7 +1,7 @@
 //! The content of a database, read back from its tables.
 #![tactic(auto)]
 
-pub use first_version::is_first_version;
+pub use earlier_version::earlier_version_of;
 pub use open_fault::{OpenFault, fault_of};
 pub use whole::content_in;
 
@@ -9,7 +9,7 @@ mod agency;
 mod beside;
 mod changes;
 mod content;
-mod first_version;
+mod earlier_version;
 mod gathered;
 mod one_row;
 mod open_fault;

@@ -1,19 +1,19 @@
 //! Whether the schema of a database is the desk's. It is compared, field by field, with a schema made in memory.
 //!
-//! The desk's schema has no default, no CHECK and no view, so any of these makes a difference.
+//! The desk's schema, of any version, has no default, no CHECK and no view, so any of these makes a difference.
 
-ghost use Rattle.std.specs.Prelude.{◌≡◌, ◌⊎◌, ◌↔◌, IsTrue, IfOk, IfErr, OnOk, false, []};
+ghost use Rattle.std.specs.Prelude.{◌≡◌, ◌⊎◌, ◌↔◌, ◌≤◌, IsTrue, IfOk, IfErr, OnOk, false, []};
 ghost use Rattle.std.specs.List.{AllByRecursion};
 ghost use Rattle.sqlite.specs.Held.{state};
 ghost use Rattle.sqlite.specs.State.{HasCleanDisk};
 ghost use Rattle.pt_base.specs.declared.fault.Cause.TheVariants as cause;
 ghost use Rattle.pt_tables_opening.specs.Faults.{fault};
 ghost use Rattle.pt_tables_opening.specs.Plain.{IsPlainColumn, IsPlainTable, IsPlainSchema, no_stamps};
-ghost use Rattle.pt_tables_rows.specs.Schema.{desk_schema, no_schema};
+ghost use Rattle.pt_tables_rows.specs.Schema.{desk_schema, no_schema, schema_of, table_version};
 
 use crate::OpenFault;
 use crate::open_fault::fault_of;
-use pt_tables_rows::create_tables;
+use pt_tables_rows::{TABLE_VERSION, add_versions};
 use sqlite::{Alter, Connection, Error};
 use sqlite_items::Items;
 use sqlite_schema::code::Terms;
@@ -187,15 +187,31 @@ pub(crate) fn is_same_schema(schema: &Schema, plain: &Schema) -> bool
         && schema.views.is_empty()
 }
 
-/// Creates the desk's tables in an empty database.
-fn make_tables<S: Alter>(conn: &mut Connection<S>) -> Result<(), Error>
+/// Creates the tables of a version in an empty database.
+fn make_tables<S: Alter>(conn: &mut Connection<S>, version: u32) -> Result<(), Error>
+    requires known { version ≤ table_version }
     requires settled { conn.old.in_transaction ≡ false }
     requires blank { conn.old.schema ≡ no_schema }
-    ensures made { HasCleanDisk (state S.Store conn.new) → OnOk result (conn.new.schema ≡ desk_schema) }
+    ensures made { HasCleanDisk (state S.Store conn.new) → OnOk result (conn.new.schema ≡ schema_of version) }
 {
     let mut tx = conn.transaction();
-    create_tables(&mut tx)?;
+    add_versions(&mut tx, 0, version)?;
     tx.commit()
+}
+
+/// Whether a schema is that of the tables of a version. Fails if out of memory, or if the store fails.
+pub(crate) fn is_schema_of(alloc: Global, schema: &Schema, version: u32) -> Result<bool, OpenFault>
+    requires known { version ≤ table_version }
+    ensures value { IfOk result (λ is. IsTrue is ↔ (schema.now ≡ schema_of version)) }
+    ensures faults { IfErr result (λ refused. (refused ≡ fault cause.Memory) ⊎ (refused ≡ fault cause.StoreFailed)) }
+{
+    let Ok(mut conn) = Connection::open_in_memory(alloc) else {
+        return Err(OpenFault::MEMORY);
+    };
+    match make_tables(&mut conn, version) {
+        Ok(()) => Ok(is_same_schema(schema, conn.schema())),
+        Err(error) => Err(fault_of(&error)),
+    }
 }
 
 /// Whether a schema is that of the desk's tables. Fails if out of memory, or if the store fails.
@@ -203,11 +219,5 @@ pub(crate) fn is_desk_schema(alloc: Global, schema: &Schema) -> Result<bool, Ope
     ensures value { IfOk result (λ is. IsTrue is ↔ (schema.now ≡ desk_schema)) }
     ensures faults { IfErr result (λ refused. (refused ≡ fault cause.Memory) ⊎ (refused ≡ fault cause.StoreFailed)) }
 {
-    let Ok(mut conn) = Connection::open_in_memory(alloc) else {
-        return Err(OpenFault::MEMORY);
-    };
-    match make_tables(&mut conn) {
-        Ok(()) => Ok(is_same_schema(schema, conn.schema())),
-        Err(error) => Err(fault_of(&error)),
-    }
+    is_schema_of(alloc, schema, TABLE_VERSION)
 }

@@ -1,13 +1,13 @@
 //! The rows of a table, as a query returns them.
 
-ghost use Rattle.std.specs.Prelude.{◌≡◌, [], IfOk};
+ghost use Rattle.std.specs.Prelude.{◌≡◌, ℕ, [], IfOk};
 ghost use Rattle.sqlite.specs.Given.{IsPlain};
 ghost use Rattle.sqlite.specs.Held.{state};
 ghost use Rattle.sqlite.specs.Listing.{understood};
 ghost use Rattle.sqlite.specs.Schema.{Schema};
 ghost use Rattle.sqlite.specs.State.{HasCleanDisk, Shown};
 ghost use Rattle.pt_tables_opening.specs.Opening.{ReadsTables, Rests, RestsOn};
-ghost use Rattle.pt_tables_rows.specs.Schema.{desk_table, first_schema};
+ghost use Rattle.pt_tables_rows.specs.Schema.{IsEarlier, desk_table, schema_of};
 ghost use Rattle.pt_tables_rows.specs.Tables.{AreRows};
 
 use sqlite::{Alter, Connection, Error, Row};
@@ -29,14 +29,16 @@ pub(crate) fn rows_of_table<S: Alter>(
     conn.query_all(text, &[])
 }
 
-/// The row of the desk, in tables of either version.
+/// The row of the desk, in tables of any version.
 pub(crate) fn desk_rows<S: Alter>(conn: &mut Connection<S>) -> Result<Vec<Row>, Error>
     ensures rows { ReadsTables (state S.Store conn.old) (state S.Store conn.new)
         (λ trees. IfOk result (λ rows. AreRows desk_table trees rows.items)) }
     ensures rests { Rests (state S.Store conn.old) (state S.Store conn.new) result }
-    ensures first_rows { HasCleanDisk (state S.Store conn.new) → (state S.Store conn.old).now.schema ≡ first_schema
+    ensures earlier_rows { HasCleanDisk (state S.Store conn.new) → (version : ℕ) → IsEarlier version
+        → (state S.Store conn.old).now.schema ≡ schema_of version
         → IfOk result (λ rows. AreRows desk_table (state S.Store conn.old).now.trees rows.items) }
-    ensures first_rests { RestsOn first_schema (state S.Store conn.old) (state S.Store conn.new) result }
+    ensures earlier_rests { (version : ℕ) → IsEarlier version
+        → RestsOn (schema_of version) (state S.Store conn.old) (state S.Store conn.new) result }
 {
     rows_of_table(conn, DESK_ROWS)
 }

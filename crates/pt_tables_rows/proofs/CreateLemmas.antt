@@ -1,10 +1,15 @@
 -- What the statements that create the tables do, one after the other, and which rows a new desk then has.
-use Rattle.std.proofs.Common.{◌≡◌, ◌≢◌, ◌<◌, ◌+◌, ◌-◌, ℕ, zero, suc, List, [], ◌∷◌, ◌++◌, IsPermutation, false, None}
-use Rattle.std.proofs.Common.{Some, Ok, refl, sym, ap, subst, ◌∙◌, arith, slice_get, slice_index_or, fold, map, drop}
+use Rattle.std.proofs.Common.{◌≡◌, ◌≢◌, ◌<◌, ◌≤◌, ◌+◌, ℕ, zero, suc, List, [], ◌∷◌, ◌++◌, IsPermutation, false, None}
+use Rattle.std.proofs.Common.{inl, inr, Some, Result, Ok, Err, refl, sym, ap, subst, ◌∙◌, arith, slice_get, slice_index_or, fold, map, flat_map, drop}
 use Rattle.std.proofs.Common.{take, length}
-use Rattle.std.specs.List.{AllByRecursion}
+use Rattle.std.proofs.lemmas.Bool.{cases_lt}
+use Rattle.std.proofs.lemmas.List.{append-nil, append_assoc, append_cancel_left, take-append-drop, take-take, take_all}
+use Rattle.std.proofs.lemmas.List.Concat.{flat_map-append}
+use Rattle.std.proofs.lemmas.List.Sums.{sum_by-append}
+use Rattle.std.specs.List.{AllByRecursion, sum_by}
 use Rattle.sqlite.specs.Command.TheVariants.{CreateTable, CreateIndex}
 use Rattle.sqlite.specs.Table.{Table}
+use Rattle.sqlite.specs.declared.error.Error.{Error}
 use Rattle.sqlite.specs.Schema.{Schema}
 use Rattle.sqlite.specs.Order.{Row}
 use Rattle.sqlite.specs.Tree.{Trees}
@@ -22,104 +27,252 @@ use Rattle.pt_base.specs.declared.policy.Policy.{Policy}
 use Rattle.pt_requests.specs.declared.caller.Caller.{Caller}
 use Rattle.pt_desk_rules.specs.State.{State, new_state}
 use Rattle.pt_tables_rows.specs.Rows.{desk_row, caller_row}
-use Rattle.pt_tables_rows.specs.Schema.{desk_schema, first_schema, no_schema, tables, first_tables, chairs_tables}
+use Rattle.pt_tables_rows.specs.Schema.{Version, versions, table_version, tables_of, tables_between, indexes_of, statement_count, schema_of}
+use Rattle.pt_tables_rows.specs.Schema.{desk_schema, no_schema, tables, first_tables, chairs_tables}
 use Rattle.pt_tables_rows.specs.Schema.{desk_table, callers_table, kept_table, places_table, fixed_table}
 use Rattle.pt_tables_rows.specs.Schema.{vehicles_table, riders_table}
 use Rattle.pt_tables_rows.specs.Schema.{entries_table, trips_table, stops_table, travel_table, rider_chairs_table, vehicle_chairs_table, trip_chairs_table, trip_indexes, trips_rider, trips_day}
-use Rattle.pt_tables_rows.specs.declared.schema.TheConstants.{FIRST_TABLES, ADDITIONS}
-use Rattle.pt_tables_rows.specs.Tables.{AddsChairs, AreRows, Fills, HasRows, HaveRowids, IsBlank, IsFirstBlank, Stands, columns_of}
+use Rattle.pt_tables_rows.specs.declared.schema.TheConstants.{STATEMENTS}
+use Rattle.pt_tables_rows.specs.Tables.{AddsIfOk, AddsVersions, AreRows, Fills, HasRows, HaveRowids, IsBlank, LeadsIfOk, Stands, columns_of}
 use Rattle.pt_tables_rows.proofs.PartLemmas.{went, same_value}
 use Rattle.pt_tables_rows.proofs.SameRowsLists.{all_back, all_front}
 
--- the statements that make the tables of the first version
-abbrev pub statements_of_tables : List (List ℕ)
-statements_of_tables = map (λ statement. statement.now) FIRST_TABLES
+-- ---- the statements
 
--- how many they are
-abbrev pub first_count : ℕ
-first_count = length first_tables
+-- their texts
+abbrev pub texts : List (List ℕ)
+texts = map (λ statement. statement.now) STATEMENTS
 
--- the schema after this many of the statements
-abbrev pub schema_after : ℕ → Schema
-schema_after n = fold created no_schema (take n first_tables)
+abbrev pub text_at : ℕ → List ℕ
+text_at n = slice_index_or texts n []
 
-whole : schema_after first_count ≡ first_schema
-unfolding first_schema everything
-whole = refl
+-- what a statement makes: a table, or an index of a table
+pub data Made : Type 0 where
+  a_table : Table → Made
+  an_index : Table → Index → Made
 
 abbrev as_read : Table → Table
 as_read table = record table { tree = 0 }
 
+-- an index as its text alone defines it
+abbrev as_defined : Index → Index
+as_defined index = record index { tree = 0 }
+
+abbrev made_in : Schema → Made → Schema
+made_in schema (a_table table) = created schema (as_read table)
+made_in schema (an_index table index) = indexed schema table (as_defined index)
+
+-- what each of them makes
+abbrev made_by : List Made
+made_by = map a_table (first_tables ++ chairs_tables) ++ map (an_index trips_table) trip_indexes
+
+-- the schema after this many of the statements
+abbrev pub schema_after : ℕ → Schema
+schema_after n = fold made_in no_schema (take n made_by)
+
 -- the text makes this table in a database with this schema
-record Step (schema : Schema) (text : List ℕ) (table : Table) : Type 0 where
+record TableStep (schema : Schema) (text : List ℕ) (table : Table) : Type 0 where
   is : command_of (understood schema text) ≡ CreateTable
   whole : statement_of text (understood schema text) ≡ text
   plain : IsPlain (understood schema text)
   defined : table_defined_by text ≡ Ok (as_read table)
   counts : lacks_sequence (created schema (as_read table)) ≡ false
 
--- the text at this place makes the table at this place
-abbrev StepAt : ℕ → Type 0
-StepAt n = Step (schema_after n) (slice_index_or statements_of_tables n []) (slice_index_or first_tables n desk_table)
+-- the text makes this index of the table at this place
+record IndexStep (schema : Schema) (text : List ℕ) (place : ℕ) (table : Table) (index : Index) : Type 0 where
+  is : command_of (understood schema text) ≡ CreateIndex place
+  whole : statement_of text (understood schema text) ≡ text
+  plain : IsPlain (understood schema text)
+  on : slice_get schema.tables place ≡ Some table
+  defined : index_defined_by table text ≡ Ok (as_defined index)
 
-step_0 : StepAt 0
+-- what the statement at this place makes
+data Step (n : ℕ) : Type 0 where
+  makes_table : (table : Table) → TableStep (schema_after n) (text_at n) table → schema_after (n + 1) ≡ created (schema_after n) (as_read table) → Step n
+  makes_index : (place : ℕ) (table : Table) (index : Index) → IndexStep (schema_after n) (text_at n) place table index
+      → schema_after (n + 1) ≡ indexed (schema_after n) table (as_defined index) → Step n
+
+step_0 : Step 0
 unfolding understood everything
-step_0 = record { is = refl; whole = refl; plain = (refl, refl); defined = refl; counts = refl }
+step_0 = makes_table desk_table (record { is = refl; whole = refl; plain = (refl, refl); defined = refl; counts = refl }) refl
 
-step_1 : StepAt 1
+step_1 : Step 1
 unfolding understood everything
-step_1 = record { is = refl; whole = refl; plain = (refl, refl); defined = refl; counts = refl }
+step_1 = makes_table callers_table (record { is = refl; whole = refl; plain = (refl, refl); defined = refl; counts = refl }) refl
 
-step_2 : StepAt 2
+step_2 : Step 2
 unfolding understood everything
-step_2 = record { is = refl; whole = refl; plain = (refl, refl); defined = refl; counts = refl }
+step_2 = makes_table kept_table (record { is = refl; whole = refl; plain = (refl, refl); defined = refl; counts = refl }) refl
 
-step_3 : StepAt 3
+step_3 : Step 3
 unfolding understood everything
-step_3 = record { is = refl; whole = refl; plain = (refl, refl); defined = refl; counts = refl }
+step_3 = makes_table places_table (record { is = refl; whole = refl; plain = (refl, refl); defined = refl; counts = refl }) refl
 
-step_4 : StepAt 4
+step_4 : Step 4
 unfolding understood everything
-step_4 = record { is = refl; whole = refl; plain = (refl, refl); defined = refl; counts = refl }
+step_4 = makes_table fixed_table (record { is = refl; whole = refl; plain = (refl, refl); defined = refl; counts = refl }) refl
 
-step_5 : StepAt 5
+step_5 : Step 5
 unfolding understood everything
-step_5 = record { is = refl; whole = refl; plain = (refl, refl); defined = refl; counts = refl }
+step_5 = makes_table vehicles_table (record { is = refl; whole = refl; plain = (refl, refl); defined = refl; counts = refl }) refl
 
-step_6 : StepAt 6
+step_6 : Step 6
 unfolding understood everything
-step_6 = record { is = refl; whole = refl; plain = (refl, refl); defined = refl; counts = refl }
+step_6 = makes_table riders_table (record { is = refl; whole = refl; plain = (refl, refl); defined = refl; counts = refl }) refl
 
-step_7 : StepAt 7
+step_7 : Step 7
 unfolding understood everything
-step_7 = record { is = refl; whole = refl; plain = (refl, refl); defined = refl; counts = refl }
+step_7 = makes_table entries_table (record { is = refl; whole = refl; plain = (refl, refl); defined = refl; counts = refl }) refl
 
-step_8 : StepAt 8
+step_8 : Step 8
 unfolding understood everything
-step_8 = record { is = refl; whole = refl; plain = (refl, refl); defined = refl; counts = refl }
+step_8 = makes_table trips_table (record { is = refl; whole = refl; plain = (refl, refl); defined = refl; counts = refl }) refl
 
-step_9 : StepAt 9
+step_9 : Step 9
 unfolding understood everything
-step_9 = record { is = refl; whole = refl; plain = (refl, refl); defined = refl; counts = refl }
+step_9 = makes_table stops_table (record { is = refl; whole = refl; plain = (refl, refl); defined = refl; counts = refl }) refl
 
-step_10 : StepAt 10
+step_10 : Step 10
 unfolding understood everything
-step_10 = record { is = refl; whole = refl; plain = (refl, refl); defined = refl; counts = refl }
+step_10 = makes_table travel_table (record { is = refl; whole = refl; plain = (refl, refl); defined = refl; counts = refl }) refl
 
--- this many of the tables are there, and have no row
-pub record IsMade (n : ℕ) (db : Database) : Type 0 where
-  pub schema : db.schema ≡ schema_after n
-  pub rows : AllByRecursion (λ t. db.trees t.tree ≡ []) (schema_after n).tables
+step_11 : Step 11
+unfolding understood everything
+step_11 = makes_table rider_chairs_table (record { is = refl; whole = refl; plain = (refl, refl); defined = refl; counts = refl }) refl
 
-still_empty : (ts : List Table) (old new : Trees) → KeepsRows ts old new → AllByRecursion (λ t. old t.tree ≡ []) ts → AllByRecursion (λ t. new t.tree ≡ []) ts
+step_12 : Step 12
+unfolding understood everything
+step_12 = makes_table vehicle_chairs_table (record { is = refl; whole = refl; plain = (refl, refl); defined = refl; counts = refl }) refl
+
+step_13 : Step 13
+unfolding understood everything
+step_13 = makes_table trip_chairs_table (record { is = refl; whole = refl; plain = (refl, refl); defined = refl; counts = refl }) refl
+
+-- the place of trips among the tables
+abbrev trips_place : ℕ
+trips_place = 8
+
+step_14 : Step 14
+unfolding understood everything
+step_14 = makes_index trips_place trips_table trips_rider (record { is = refl; whole = refl; plain = (refl, refl); on = refl; defined = refl }) refl
+
+step_15 : Step 15
+unfolding understood everything
+step_15 = makes_index trips_place trips_table trips_day (record { is = refl; whole = refl; plain = (refl, refl); on = refl; defined = refl }) refl
+
+step_at : (n : ℕ) → n < length texts → Step n
+step_at zero low = step_0
+step_at (suc zero) low = step_1
+step_at (suc (suc zero)) low = step_2
+step_at (suc (suc (suc zero))) low = step_3
+step_at (suc (suc (suc (suc zero)))) low = step_4
+step_at (suc (suc (suc (suc (suc zero))))) low = step_5
+step_at (suc (suc (suc (suc (suc (suc zero)))))) low = step_6
+step_at (suc (suc (suc (suc (suc (suc (suc zero))))))) low = step_7
+step_at (suc (suc (suc (suc (suc (suc (suc (suc zero)))))))) low = step_8
+step_at (suc (suc (suc (suc (suc (suc (suc (suc (suc zero))))))))) low = step_9
+step_at (suc (suc (suc (suc (suc (suc (suc (suc (suc (suc zero)))))))))) low = step_10
+step_at (suc (suc (suc (suc (suc (suc (suc (suc (suc (suc (suc zero))))))))))) low = step_11
+step_at (suc (suc (suc (suc (suc (suc (suc (suc (suc (suc (suc (suc zero)))))))))))) low = step_12
+step_at (suc (suc (suc (suc (suc (suc (suc (suc (suc (suc (suc (suc (suc zero))))))))))))) low = step_13
+step_at (suc (suc (suc (suc (suc (suc (suc (suc (suc (suc (suc (suc (suc (suc zero)))))))))))))) low = step_14
+step_at (suc (suc (suc (suc (suc (suc (suc (suc (suc (suc (suc (suc (suc (suc (suc zero))))))))))))))) low = step_15
+step_at (suc (suc (suc (suc (suc (suc (suc (suc (suc (suc (suc (suc (suc (suc (suc (suc n)))))))))))))))) low = absurd (omega arith)
+
+-- ---- versions
+
+-- a later version has all statements
+all_statements : (version : ℕ) → table_version ≤ version → statement_count version ≡ length texts
+all_statements version late = ap (sum_by (λ (v : Version). v.statements)) (take_all version versions late)
+
+pub counts : (version : ℕ) → statement_count version ≤ length texts
+counts zero = omega arith
+counts (suc zero) = omega arith
+counts (suc (suc version)) = subst (λ n. n ≤ length texts) (sym (all_statements (suc (suc version)) (omega arith))) (omega arith)
+
+-- the statements of a version make its schema
+version_made : (version : ℕ) → version ≤ table_version → schema_after (statement_count version) ≡ schema_of version
+unfolding schema_of everything
+version_made zero low = refl
+version_made (suc zero) low = refl
+version_made (suc (suc zero)) low = refl
+version_made (suc (suc (suc version))) low = absurd (omega arith)
+
+tables_made : (version : ℕ) → version ≤ table_version → (schema_after (statement_count version)).tables ≡ tables_of version
+unfolding schema_of
+tables_made version low = ap (λ (s : Schema). s.tables) (version_made version low)
+
+pub counts_rise : (from to : ℕ) → from ≤ to → statement_count from ≤ statement_count to
+counts_rise from to order =
+    let count = λ (v : Version). v.statements in
+    let vs = take to versions in
+    let split : statement_count to ≡ sum_by count (take from vs) + sum_by count (drop from vs) =
+    ap (sum_by count) (sym (take-append-drop from vs)) ∙ sum_by-append count (take from vs) (drop from vs) in
+    let front : sum_by count (take from vs) ≡ statement_count from = ap (sum_by count) (take-take from to versions order) in
+    omega (arith, split, front)
+
+pub tables_split : (from to : ℕ) → from ≤ to → tables_of to ≡ tables_of from ++ tables_between from to
+tables_split from to order =
+    let adds = λ (v : Version). v.tables in
+    let vs = take to versions in
+    ap (flat_map adds) (sym (take-append-drop from vs)) ∙ flat_map-append adds (take from vs) (drop from vs)
+    ∙ ap (λ front. flat_map adds front ++ tables_between from to) (take-take from to versions order)
+
+-- each version adds an index
+adds_index : (version : ℕ) → version < table_version → length (indexes_of version) < length (indexes_of (version + 1))
+adds_index zero low = omega arith
+adds_index (suc zero) low = omega arith
+adds_index (suc (suc version)) low = absurd (omega arith)
+
+indexes_rise : (version later : ℕ) → version < later → later ≤ table_version → length (indexes_of version) < length (indexes_of later)
+indexes_rise version zero less low = absurd (omega arith)
+indexes_rise version (suc later) less low =
+    let one_more : later + 1 ≡ suc later = omega arith in
+    let next : length (indexes_of later) < length (indexes_of (suc later)) =
+    subst (λ n. length (indexes_of later) < length (indexes_of n)) one_more (adds_index later (omega arith)) in
+    elim (cases_lt version later) [
+      | inl before ↦ let rest = indexes_rise version later before (omega arith) in omega (arith, rest, next)
+      | inr at ↦ let same : later ≡ version = omega (arith, less, at) in subst (λ n. length (indexes_of n) < length (indexes_of (suc later))) same next
+    ]
+
+-- two versions never have the same schema
+pub versions_differ : (one other : ℕ) → one ≤ table_version → other ≤ table_version → schema_of one ≡ schema_of other → one ≡ other
+unfolding schema_of
+versions_differ one other low top same =
+    let counts : length (indexes_of one) ≡ length (indexes_of other) = ap (λ (s : Schema). length s.indexes) same in
+    elim (cases_lt one other) [
+      | inl less ↦ absurd (let rise = indexes_rise one other less top in omega (arith, counts, rise))
+      | inr over ↦ elim (cases_lt other one) [
+        | inl more ↦ absurd (let rise = indexes_rise other one more low in omega (arith, counts, rise))
+        | inr under ↦ omega (arith, over, under)
+      ]
+    ]
+
+-- ---- what a statement does
+
+abbrev Same : Trees → Trees → Table → Type 0
+Same old new t = new t.tree ≡ old t.tree
+
+abbrev Empty : Trees → Table → Type 0
+Empty trees t = trees t.tree ≡ []
+
+still_empty : (ts : List Table) (old new : Trees) → KeepsRows ts old new → AllByRecursion (Empty old) ts → AllByRecursion (Empty new) ts
 still_empty [] old new keeps empty = tt
 still_empty (t ∷ ts) old new keeps empty = (keeps.0 ∙ empty.0, still_empty ts old new keeps.1 empty.1)
 
-module _ (schema : Schema) (text : List ℕ) (table : Table) (step : Step schema text table) where
+still_same : (ts : List Table) (old mid new : Trees) → AllByRecursion (Same mid new) ts → AllByRecursion (Same old mid) ts → AllByRecursion (Same old new) ts
+still_same [] old mid new later early = tt
+still_same (t ∷ ts) old mid new later early = (later.0 ∙ early.0, still_same ts old mid new later.1 early.1)
+
+all_same : (ts : List Table) (old : Trees) → AllByRecursion (Same old old) ts
+all_same [] old = tt
+all_same (t ∷ ts) old = (refl, all_same ts old)
+
+module _ (schema : Schema) (text : List ℕ) (old new : Connected) (count : ℕ) (has : old.now.schema ≡ schema) (h : Executes text [] old new (Ok count)) where
   -- what a CREATE TABLE makes: a table with no row, and the other tables keep theirs
-  creates : (old new : Connected) (count : ℕ) → old.now.schema ≡ schema → Executes text [] old new (Ok count)
+  creates : (table : Table) → TableStep schema text table
       → (new.now.schema ≡ created schema (as_read table)) × KeepsRows schema.tables old.now.trees new.now.trees × (new.now.trees (next_tree schema) ≡ [])
-  creates old new count has h =
+  creates table step =
       let w = subst (λ t. Writes old new None CreateTable t [] count) step.whole (runs_as text [] old new schema has CreateTable step.is step.plain count h) in
       let all = went w.changed in
       let first = went all.1 in
@@ -135,225 +288,113 @@ module _ (schema : Schema) (text : List ℕ) (table : Table) (step : Step schema
         subst (λ (d : Database). d.trees (next_tree schema) ≡ []) (sym now) none_new,
       )
 
-abbrev Next : ℕ → Type 0
-Next n = created (schema_after n) (as_read (slice_index_or first_tables n desk_table)) ≡ schema_after (n + 1)
-
-next : (n : ℕ) → n < first_count → StepAt n × Next n
-unfolding everything
-next zero low = (step_0, refl)
-next (suc zero) low = (step_1, refl)
-next (suc (suc zero)) low = (step_2, refl)
-next (suc (suc (suc zero))) low = (step_3, refl)
-next (suc (suc (suc (suc zero)))) low = (step_4, refl)
-next (suc (suc (suc (suc (suc zero))))) low = (step_5, refl)
-next (suc (suc (suc (suc (suc (suc zero)))))) low = (step_6, refl)
-next (suc (suc (suc (suc (suc (suc (suc zero))))))) low = (step_7, refl)
-next (suc (suc (suc (suc (suc (suc (suc (suc zero)))))))) low = (step_8, refl)
-next (suc (suc (suc (suc (suc (suc (suc (suc (suc zero))))))))) low = (step_9, refl)
-next (suc (suc (suc (suc (suc (suc (suc (suc (suc (suc zero)))))))))) low = (step_10, refl)
-next (suc (suc (suc (suc (suc (suc (suc (suc (suc (suc (suc n))))))))))) low = absurd (omega arith)
-
-pub makes_next : (n : ℕ) → n < first_count → (old new : Connected) (count : ℕ) → IsMade n old.now → Executes (slice_index_or statements_of_tables n []) [] old new (Ok count) → IsMade (n + 1) new.now
-makes_next n low old new count made h =
-    let schema = schema_after n in
-    let table = slice_index_or first_tables n desk_table in
-    let it = creates schema (slice_index_or statements_of_tables n []) table (next n low).0 old new count made.schema h in
-    let rows : AllByRecursion (λ t. new.now.trees t.tree ≡ []) (created schema (as_read table)).tables =
-    all-append (λ t. new.now.trees t.tree ≡ []) schema.tables (record table { tree = next_tree schema } ∷ []) (still_empty schema.tables old.now.trees new.now.trees it.1 made.rows) (it.2, tt) in
-    record {
-      schema = it.0 ∙ (next n low).1;
-      rows = subst (λ (s : Schema). AllByRecursion (λ t. new.now.trees t.tree ≡ []) s.tables) (next n low).1 rows;
-    }
-
-pub begins : (db : Database) → db.schema ≡ no_schema → IsMade 0 db
-begins db is = record { schema = is; rows = tt }
-
-pub ends : (db : Database) → IsMade first_count db → IsFirstBlank db
-unfolding first_schema
-ends db made = record { schema = made.schema ∙ whole; rows = made.rows }
-
--- ---- the tables and the indexes that are added to those of the first version
-
--- the statements that make them
-abbrev pub statements_of_others : List (List ℕ)
-statements_of_others = map (λ statement. statement.now) ADDITIONS
-
--- how many they are
-abbrev pub other_count : ℕ
-other_count = length statements_of_others
-
-abbrev statement_at : ℕ → List ℕ
-statement_at n = slice_index_or statements_of_others n []
-
--- the schema after this many of the statements
-abbrev pub added_after : ℕ → Schema
-added_after n = fold (λ schema index. indexed schema trips_table index) (fold created first_schema (take n chairs_tables)) (take (n - length chairs_tables) trip_indexes)
-
--- the table that the statement at this place makes
-abbrev chairs_table : ℕ → Table
-chairs_table n = slice_index_or chairs_tables n rider_chairs_table
-
--- the text at this place makes the table at this place, after those that are there
-record ChairsStep (n : ℕ) : Type 0 where
-  step : Step (added_after n) (statement_at n) (chairs_table n)
-  next : created (added_after n) (as_read (chairs_table n)) ≡ added_after (n + 1)
-  there : (added_after n).tables ≡ first_tables ++ take n chairs_tables
-  tree : next_tree (added_after n) ≡ (chairs_table n).tree
-  more : take n chairs_tables ++ chairs_table n ∷ [] ≡ take (n + 1) chairs_tables
-
-chairs_0 : ChairsStep 0
-unfolding understood first_schema everything
-chairs_0 = record {
-  step = record { is = refl; whole = refl; plain = (refl, refl); defined = refl; counts = refl };
-  next = refl;
-  there = refl;
-  tree = refl;
-  more = refl;
-}
-
-chairs_1 : ChairsStep 1
-unfolding understood first_schema everything
-chairs_1 = record {
-  step = record { is = refl; whole = refl; plain = (refl, refl); defined = refl; counts = refl };
-  next = refl;
-  there = refl;
-  tree = refl;
-  more = refl;
-}
-
-chairs_2 : ChairsStep 2
-unfolding understood first_schema everything
-chairs_2 = record {
-  step = record { is = refl; whole = refl; plain = (refl, refl); defined = refl; counts = refl };
-  next = refl;
-  there = refl;
-  tree = refl;
-  more = refl;
-}
-
--- an index as its text alone defines it
-abbrev as_defined : Index → Index
-as_defined index = record index { tree = 0 }
-
--- the place of trips among the tables
-abbrev trips_place : ℕ
-trips_place = 8
-
--- the text at this place makes this index of trips, after all tables
-record IndexStep (n : ℕ) (index : Index) : Type 0 where
-  is : command_of (understood (added_after n) (statement_at n)) ≡ CreateIndex trips_place
-  whole : statement_of (statement_at n) (understood (added_after n) (statement_at n)) ≡ statement_at n
-  plain : IsPlain (understood (added_after n) (statement_at n))
-  on : slice_get (added_after n).tables trips_place ≡ Some trips_table
-  defined : index_defined_by trips_table (statement_at n) ≡ Ok (as_defined index)
-  next : indexed (added_after n) trips_table (as_defined index) ≡ added_after (n + 1)
-  there : (added_after n).tables ≡ first_tables ++ take n chairs_tables
-  all : take n chairs_tables ≡ take (n + 1) chairs_tables
-
-index_3 : IndexStep 3 trips_rider
-unfolding understood first_schema everything
-index_3 = record { is = refl; whole = refl; plain = (refl, refl); on = refl; defined = refl; next = refl; there = refl; all = refl }
-
-index_4 : IndexStep 4 trips_day
-unfolding understood first_schema everything
-index_4 = record { is = refl; whole = refl; plain = (refl, refl); on = refl; defined = refl; next = refl; there = refl; all = refl }
-
-whole_added : added_after other_count ≡ desk_schema
-unfolding first_schema desk_schema everything
-whole_added = refl
-
-module _ (n : ℕ) (index : Index) (step : IndexStep n index) where
-  -- what a CREATE INDEX of trips makes: the index, and each table keeps its rows
-  indexes : (old new : Connected) (count : ℕ) → old.now.schema ≡ added_after n → Executes (statement_at n) [] old new (Ok count)
-      → (new.now.schema ≡ added_after (n + 1)) × KeepsRows (first_tables ++ take n chairs_tables) old.now.trees new.now.trees
-  indexes old new count has h =
-      let text = statement_at n in
-      let w = subst (λ t. Writes old new None (CreateIndex trips_place) t [] count) step.whole (runs_as text [] old new (added_after n) has (CreateIndex trips_place) step.is step.plain count h) in
-      let found : slice_get old.now.schema.tables trips_place ≡ Some trips_table = ap (λ s. slice_get s.tables trips_place) has ∙ step.on in
+  -- what a CREATE INDEX makes: the index, and each table keeps its rows
+  indexes : (place : ℕ) (table : Table) (index : Index) → IndexStep schema text place table index
+      → (new.now.schema ≡ indexed schema table (as_defined index)) × KeepsRows schema.tables old.now.trees new.now.trees
+  indexes place table index step =
+      let w = subst (λ t. Writes old new None (CreateIndex place) t [] count) step.whole (runs_as text [] old new schema has (CreateIndex place) step.is step.plain count h) in
+      let found : slice_get old.now.schema.tables place ≡ Some table = ap (λ s. slice_get s.tables place) has ∙ step.on in
       let first = went (subst (λ o. AtPlace (λ t. Defines (mode_of old) (MakesIndex text old.now t)) o (Ok (w.tally, new.now))) found w.changed) in
       let made = first.1 in
       let same : made.index ≡ as_defined index = same_value (sym made.defined ∙ step.defined) in
-      let after : first.0.schema ≡ added_after (n + 1) = made.is ∙ ap (λ s. indexed s trips_table made.index) has ∙ ap (indexed (added_after n) trips_table) same ∙ step.next in
+      let after : first.0.schema ≡ indexed schema table (as_defined index) = made.is ∙ ap (λ s. indexed s table made.index) has ∙ ap (indexed schema table) same in
       let now : new.now ≡ first.0 = ap (λ (p : Tally × Database). p.1) (same_value first.2) in
-      let keeps : KeepsRows (first_tables ++ take n chairs_tables) old.now.trees first.0.trees = subst
-      (λ ts. KeepsRows ts old.now.trees first.0.trees) (ap (λ (s : Schema). s.tables) has ∙ step.there)
-      made.rows in (
+      let keeps : KeepsRows schema.tables old.now.trees first.0.trees = subst (λ s. KeepsRows s.tables old.now.trees first.0.trees) has made.rows in (
         ap (λ (d : Database). d.schema) now ∙ after,
-        subst (λ (d : Database). KeepsRows (first_tables ++ take n chairs_tables) old.now.trees d.trees) (sym now) keeps,
+        subst (λ (d : Database). KeepsRows schema.tables old.now.trees d.trees) (sym now) keeps,
       )
 
-abbrev Same : Trees → Trees → Table → Type 0
-Same old new t = new t.tree ≡ old t.tree
+-- what a statement leaves: the next schema, the rows that the tables had, and no row in the table that it adds
+record Leaves (n : ℕ) (old new : Database) : Type 0 where
+  schema : new.schema ≡ schema_after (n + 1)
+  kept : KeepsRows (schema_after n).tables old.trees new.trees
+  added : List Table
+  more : (schema_after (n + 1)).tables ≡ (schema_after n).tables ++ added
+  empty : AllByRecursion (Empty new.trees) added
 
-abbrev Empty : Trees → Table → Type 0
-Empty trees t = trees t.tree ≡ []
+leaves : (n : ℕ) → Step n → (old new : Connected) (count : ℕ) → old.now.schema ≡ schema_after n → Executes (text_at n) [] old new (Ok count) → Leaves n old.now new.now
+leaves n (makes_table table step next) old new count has h =
+    let it = creates (schema_after n) (text_at n) old new count has h table step in
+    record {
+      schema = it.0 ∙ sym next;
+      kept = it.1;
+      added = record table { tree = next_tree (schema_after n) } ∷ [];
+      more = ap (λ (s : Schema). s.tables) next;
+      empty = (it.2, tt);
+    }
+leaves n (makes_index place table index step next) old new count has h =
+    let it = indexes (schema_after n) (text_at n) old new count has h place table index step in
+    record {
+      schema = it.0 ∙ sym next;
+      kept = it.1;
+      added = [];
+      more = ap (λ (s : Schema). s.tables) next ∙ sym (append-nil (schema_after n).tables);
+      empty = tt;
+    }
 
--- after this many of the statements, the added tables are there with no row, next to the first ones
-pub record IsAdded (n : ℕ) (old db : Database) : Type 0 where
-  pub schema : db.schema ≡ added_after n
-  pub kept : AllByRecursion (λ t. db.trees t.tree ≡ old.trees t.tree) first_tables
-  pub empty : AllByRecursion (λ t. db.trees t.tree ≡ []) (take n chairs_tables)
+-- after this many of the statements the tables of the first `from` keep their rows, and the later tables have none
+pub record IsAdded (from n : ℕ) (old db : Database) : Type 0 where
+  pub schema : db.schema ≡ schema_after n
+  pub kept : AllByRecursion (Same old.trees db.trees) (schema_after from).tables
+  pub later : List Table
+  pub more : (schema_after n).tables ≡ (schema_after from).tables ++ later
+  pub empty : AllByRecursion (Empty db.trees) later
 
-still_same : (ts : List Table) (old mid new : Trees) → AllByRecursion (Same mid new) ts → AllByRecursion (Same old mid) ts → AllByRecursion (Same old new) ts
-still_same [] old mid new later early = tt
-still_same (t ∷ ts) old mid new later early = (later.0 ∙ early.0, still_same ts old mid new later.1 early.1)
+pub adds_next : (from n : ℕ) → n < length texts → (base : Database) (old new : Connected) (count : ℕ) → IsAdded from n base old.now → Executes (text_at n) [] old new (Ok count)
+    → IsAdded from (n + 1) base new.now
+adds_next from n low base old new count added h =
+    let it = leaves n (step_at n low) old new count added.schema h in
+    let ts = (schema_after from).tables in
+    let same = Same old.now.trees new.now.trees in
+    let keeps : AllByRecursion same (ts ++ added.later) = subst (AllByRecursion same) added.more it.kept in
+    record {
+      schema = it.schema;
+      kept = still_same ts base.trees old.now.trees new.now.trees (all_front same ts added.later keeps) added.kept;
+      later = added.later ++ it.added;
+      more = it.more ∙ ap (λ all. all ++ it.added) added.more ∙ append_assoc ts added.later it.added;
+      empty = all-append (Empty new.now.trees) added.later it.added
+          (still_empty added.later old.now.trees new.now.trees (all_back same ts added.later keeps) added.empty) it.empty;
+    }
 
-all_same : (ts : List Table) (old : Trees) → AllByRecursion (Same old old) ts
-all_same [] old = tt
-all_same (t ∷ ts) old = (refl, all_same ts old)
+pub adding_begins : (from : ℕ) → from ≤ table_version → (db : Database) → db.schema ≡ schema_of from → IsAdded (statement_count from) (statement_count from) db db
+adding_begins from low db has =
+    let ts = (schema_after (statement_count from)).tables in
+    record {
+      schema = has ∙ sym (version_made from low);
+      kept = all_same ts db.trees;
+      later = [];
+      more = sym (append-nil ts);
+      empty = tt;
+    }
 
-module _ (base : Database) (old new : Connected) (count : ℕ) where
-  adds_table : (n : ℕ) → ChairsStep n → IsAdded n base old.now → Executes (statement_at n) [] old new (Ok count) → IsAdded (n + 1) base new.now
-  adds_table n s added h =
-      let it = creates (added_after n) (statement_at n) (chairs_table n) s.step old new count added.schema h in
-      let keeps : AllByRecursion (Same old.now.trees new.now.trees) (first_tables ++ take n chairs_tables) = subst (AllByRecursion (Same old.now.trees new.now.trees)) s.there it.1 in
-      let none : new.now.trees (chairs_table n).tree ≡ [] = subst (λ tree. new.now.trees tree ≡ []) s.tree it.2 in
-      record {
-        schema = it.0 ∙ s.next;
-        kept = still_same first_tables base.trees old.now.trees new.now.trees (all_front (Same old.now.trees new.now.trees) first_tables (take n chairs_tables) keeps) added.kept;
-        empty = subst (AllByRecursion (Empty new.now.trees)) s.more
-            (all-append (Empty new.now.trees) (take n chairs_tables) (chairs_table n ∷ [])
-            (still_empty (take n chairs_tables) old.now.trees new.now.trees (all_back (Same old.now.trees new.now.trees) first_tables (take n chairs_tables) keeps) added.empty) (none, tt));
-      }
-
-  adds_index : (n : ℕ) (index : Index) → IndexStep n index → IsAdded n base old.now → Executes (statement_at n) [] old new (Ok count) → IsAdded (n + 1) base new.now
-  adds_index n index s added h =
-      let it = indexes n index s old new count added.schema h in
-      record {
-        schema = it.0;
-        kept = still_same first_tables base.trees old.now.trees new.now.trees (all_front (Same old.now.trees new.now.trees) first_tables (take n chairs_tables) it.1) added.kept;
-        empty = subst (AllByRecursion (Empty new.now.trees)) s.all
-            (still_empty (take n chairs_tables) old.now.trees new.now.trees (all_back (Same old.now.trees new.now.trees) first_tables (take n chairs_tables) it.1) added.empty);
-      }
-
-  pub adds_next : (n : ℕ) → n < other_count → IsAdded n base old.now → Executes (statement_at n) [] old new (Ok count) → IsAdded (n + 1) base new.now
-  adds_next zero low = adds_table 0 chairs_0
-  adds_next (suc zero) low = adds_table 1 chairs_1
-  adds_next (suc (suc zero)) low = adds_table 2 chairs_2
-  adds_next (suc (suc (suc zero))) low = adds_index 3 trips_rider index_3
-  adds_next (suc (suc (suc (suc zero)))) low = adds_index 4 trips_day index_4
-  adds_next (suc (suc (suc (suc (suc n))))) low = absurd (omega arith)
-
-pub adding_begins : (db : Database) → db.schema ≡ first_schema → IsAdded 0 db db
-adding_begins db is = record { schema = is; kept = all_same first_tables db.trees; empty = tt }
-
-pub adding_ends : (old db : Database) → IsAdded other_count old db → AddsChairs old db
-adding_ends old db added = record {
-  schema = added.schema ∙ whole_added;
-  kept = added.kept;
-  rider_chairs = added.empty.0;
-  vehicle_chairs = added.empty.1.0;
-  trip_chairs = added.empty.1.1.0;
-}
+pub adding_ends : (from to : ℕ) → from ≤ to → to ≤ table_version → (old db : Database) → IsAdded (statement_count from) (statement_count to) old db → AddsVersions from to old db
+adding_ends from to order low old db added =
+    let first = tables_made from (omega arith) in
+    let all : tables_of from ++ tables_between from to ≡ tables_of from ++ added.later =
+    sym (tables_split from to order) ∙ sym (tables_made to low) ∙ added.more ∙ ap (λ ts. ts ++ added.later) first in
+    record {
+      schema = added.schema ∙ version_made to low;
+      kept = subst (AllByRecursion (Same old.trees db.trees)) first added.kept;
+      added = subst (AllByRecursion (Empty db.trees)) (sym (append_cancel_left (tables_of from) (tables_between from to) added.later all)) added.empty;
+    }
 
 -- ---- all tables
 
-pub blank_then : (old new : Database) → IsFirstBlank old → AddsChairs old new → IsBlank new
-blank_then old new blank adds = record {
-  schema = adds.schema;
-  rows = all-append (Empty new.trees) first_tables chairs_tables (still_empty first_tables old.trees new.trees adds.kept blank.rows)
-      (adds.rider_chairs, (adds.vehicle_chairs, (adds.trip_chairs, tt)));
-}
+nothing_made : (db : Database) → db.schema ≡ no_schema → db.schema ≡ schema_of 0
+unfolding schema_of
+nothing_made db is = is
+
+desk_is : schema_of table_version ≡ desk_schema
+unfolding desk_schema
+desk_is = refl
+
+blank_then : (old new : Database) → AddsVersions 0 table_version old new → IsBlank new
+blank_then old new adds = record { schema = adds.schema ∙ desk_is; rows = adds.added }
+
+pub leads_to_blank : {X : Type 0} (old new : Connected) (result : Result X Error) → AddsIfOk 0 table_version old new result
+    → LeadsIfOk old new (λ db. db.schema ≡ no_schema) IsBlank result
+leads_to_blank old new (Ok x) adds = (adds.0, adds.1, λ none. blank_then old.now new.now (adds.2 (omega arith) (omega arith) (nothing_made old.now none)))
+leads_to_blank old new (Err e) keeps = keeps
 
 -- ---- the rows of a new desk
 

@@ -30,15 +30,8 @@ use Rattle.pt_scheduling.specs.declared.planned.PlannedStop.{PlannedStop}
 use Rattle.pt_spelling.specs.Fields.{days_byte}
 use Rattle.pt_spelling.specs.Replies.{reply_spelling}
 use Rattle.pt_spelling.specs.Requests.{role_number, subject_of, kind_number, entry_number, point_bytes}
+use Rattle.pt_tables_rows.specs.Schema.{table_version}
 use Rattle.pt_desk_rules.specs.Chain as travel
-
--- the current version of the tables
-abbrev pub table_version : ℕ
-table_version = 2
-
--- the first version, which stores nothing about wheelchairs
-abbrev pub first_version : ℕ
-first_version = 1
 
 abbrev pub number_value : ℕ → Value
 number_value n = Int (pos n)

@@ -1,5 +1,6 @@
--- The tables and indexes of the second version, and those of the first.
-use Rattle.std.specs.Prelude.{ℕ, List, [], ◌∷◌, ◌++◌, ◌+◌, true, false, None, Some, codes}
+-- The tables and indexes of each version.
+use Rattle.std.specs.Prelude.{ℕ, List, [], ◌∷◌, ◌+◌, ◌≤◌, ◌<◌, flat_map, take, drop, true, false, None, Some, codes}
+use Rattle.std.specs.List.{sum_by}
 use Rattle.sqlite.specs.Collation.TheVariants.{Binary}
 use Rattle.sqlite.specs.declared.types.Value.TheVariants.{Null}
 use Rattle.sqlite.specs.Table.{Table}
@@ -170,9 +171,6 @@ first_tables =
 abbrev pub chairs_tables : List Table
 chairs_tables = rider_chairs_table ∷ vehicle_chairs_table ∷ trip_chairs_table ∷ []
 
-abbrev pub tables : List Table
-tables = first_tables ++ chairs_tables
-
 -- the index that keeps the keys of a table unique
 abbrev pub key_index : List ℕ → Table → List ℕ → Index
 key_index name table columns = record {
@@ -209,13 +207,56 @@ trips_day = trips_by 21 (codes "trips_day") 3
 abbrev pub trip_indexes : List Index
 trip_indexes = trips_rider ∷ trips_day ∷ []
 
--- the database has these tables and indexes, and no others
-unfoldable pub desk_schema : Schema
-desk_schema = record { tables = tables; indexes = first_indexes ++ chairs_index ∷ trip_indexes; views = [] }
+-- ---- versions
 
--- the database has those of the first version, and no others
-unfoldable pub first_schema : Schema
-first_schema = record { tables = first_tables; indexes = first_indexes; views = [] }
+-- what a version adds to the one before it
+pub record Version : Type 0 where
+  pub tables : List Table
+  pub indexes : List Index
+  -- how many statements make them
+  pub statements : ℕ
+
+-- the versions by number, from 1 on
+abbrev pub versions : List Version
+versions =
+    record { tables = first_tables; indexes = first_indexes; statements = 11 }
+    ∷ record { tables = chairs_tables; indexes = chairs_index ∷ trip_indexes; statements = 5 } ∷ []
+
+-- the current version, the last one
+abbrev pub table_version : ℕ
+table_version = 2
+
+-- a version before the current one
+abbrev pub IsEarlier : ℕ → Type 0
+IsEarlier version = (1 ≤ version) × (version < table_version)
+
+-- the tables of a version: those that it and the versions before it add
+abbrev pub tables_of : ℕ → List Table
+tables_of version = flat_map (λ (v : Version). v.tables) (take version versions)
+
+-- the tables that the versions after `from` add, up to `to`
+abbrev pub tables_between : ℕ → ℕ → List Table
+tables_between from to = flat_map (λ (v : Version). v.tables) (drop from (take to versions))
+
+abbrev pub indexes_of : ℕ → List Index
+indexes_of version = flat_map (λ (v : Version). v.indexes) (take version versions)
+
+-- how many statements make a version, with those before it
+abbrev pub statement_count : ℕ → ℕ
+statement_count version = sum_by (λ (v : Version). v.statements) (take version versions)
+
+-- the tables of the current version
+abbrev pub tables : List Table
+tables = tables_of table_version
+
+-- the database has the tables and indexes of this version, and no others
+unfoldable pub schema_of : ℕ → Schema
+schema_of version = record { tables = tables_of version; indexes = indexes_of version; views = [] }
+
+-- those of the current version
+unfoldable pub desk_schema : Schema
+unfolding schema_of
+desk_schema = schema_of table_version
 
 -- a database with nothing in it
 abbrev pub no_schema : Schema

@@ -1,8 +1,8 @@
 -- The tables of a database, the content that they have, and the contents that rows can represent. The records of such a
 -- content are in the order of their keys and in their ranges. Each of its plans has a stop, since a plan with no stop
 -- has no row.
-use Rattle.std.specs.Prelude.{◌≡◌, ◌≢◌, ℕ, false, List, [], ◌∷◌, drop, map, flat_map, IsTrue, IsPermutation, Result, Ok}
-use Rattle.std.specs.Prelude.{Err}
+use Rattle.std.specs.Prelude.{◌≡◌, ◌≢◌, ◌≤◌, ◌<◌, ℕ, false, List, [], ◌∷◌, drop, map, flat_map, IsTrue, IsPermutation}
+use Rattle.std.specs.Prelude.{Result, Ok, Err}
 use Rattle.std.specs.List.{AllByRecursion}
 use Rattle.sqlite.specs.declared.error.Error.{Error}
 use Rattle.sqlite.specs.Effect.{Database}
@@ -19,26 +19,20 @@ use Rattle.pt_desk_rules.specs.State.{vehicle_key, travel_key, trip_key}
 use Rattle.pt_desk_rules.specs.declared.change.Change.{Change}
 use Rattle.pt_records.specs.Records.{Each, IsInOrder}
 use Rattle.pt_scheduling.specs.Plan.{Plan, plan_key}
-use Rattle.pt_tables_rows.specs.Rows.{versioned_row, first_version, table_version, caller_row, kept_row, place_row}
+use Rattle.pt_tables_rows.specs.Rows.{versioned_row, caller_row, kept_row, place_row}
 use Rattle.pt_tables_rows.specs.Rows.{route_row, vehicle_row, rider_row, entry_row, trip_row, stop_rows, travel_rows}
 use Rattle.pt_tables_rows.specs.Rows.{rider_chair_rows, vehicle_chair_rows, trip_chair_rows}
-use Rattle.pt_tables_rows.specs.Schema.{desk_schema, tables, desk_table, callers_table, kept_table, places_table}
+use Rattle.pt_tables_rows.specs.Schema.{table_version, tables_of, tables_between, schema_of, desk_schema, tables}
+use Rattle.pt_tables_rows.specs.Schema.{desk_table, callers_table, kept_table, places_table}
 use Rattle.pt_tables_rows.specs.Schema.{fixed_table, vehicles_table, riders_table, entries_table, trips_table}
-use Rattle.pt_tables_rows.specs.Schema.{stops_table, travel_table, first_tables, first_schema, rider_chairs_table}
+use Rattle.pt_tables_rows.specs.Schema.{stops_table, travel_table, rider_chairs_table}
 use Rattle.pt_tables_rows.specs.Schema.{vehicle_chairs_table, trip_chairs_table}
 
--- the tables of the first version are there, and have no row
-pub record IsFirstBlank (db : Database) : Type 0 where
-  pub schema : db.schema ≡ first_schema
-  pub rows : AllByRecursion (λ t. db.trees t.tree ≡ []) first_tables
-
--- the tables of the first version keep their rows, and the added tables have no row
-pub record AddsChairs (old new : Database) : Type 0 where
-  pub schema : new.schema ≡ desk_schema
-  pub kept : AllByRecursion (λ t. new.trees t.tree ≡ old.trees t.tree) first_tables
-  pub rider_chairs : new.trees rider_chairs_table.tree ≡ []
-  pub vehicle_chairs : new.trees vehicle_chairs_table.tree ≡ []
-  pub trip_chairs : new.trees trip_chairs_table.tree ≡ []
+-- the tables of version `from` keep their rows, and those that the versions after it add, up to `to`, have no row
+pub record AddsVersions (from to : ℕ) (old new : Database) : Type 0 where
+  pub schema : new.schema ≡ schema_of to
+  pub kept : AllByRecursion (λ t. new.trees t.tree ≡ old.trees t.tree) (tables_of from)
+  pub added : AllByRecursion (λ t. new.trees t.tree ≡ []) (tables_between from to)
 
 -- the tables are there, and have no row
 pub record IsBlank (db : Database) : Type 0 where
@@ -53,7 +47,7 @@ columns_of table row = drop 1 (shown table row)
 abbrev pub AreRows : Table → Trees → List Row → Type 0
 AreRows table trees rows = IsPermutation (map (columns_of table) (trees table.tree)) rows
 
--- the tables that both versions have hold the rows of the content, and the agency's row has this version
+-- the tables that each version has hold the rows of the content, and the agency's row has this version
 pub record HasRecords (version : ℕ) (content : State) (trees : Trees) : Type 0 where
   pub desk : AreRows desk_table trees (versioned_row version content.policy content.last_trip ∷ [])
   pub callers : AreRows callers_table trees (map caller_row content.callers)
@@ -80,10 +74,13 @@ pub record HasNoChairs (content : State) : Type 0 where
   pub vehicles : Each (λ version. version.chairs ≡ 0) content.vehicles
   pub trips : Each (λ trip. trip.wheelchair ≡ false) content.trips
 
--- the rows of the tables of the first version are those of the content
-pub record HasFirstRows (content : State) (trees : Trees) : Type 0 where
-  pub records : HasRecords first_version content trees
-  pub no_chairs : HasNoChairs content
+-- the rows of the tables of this version are those of the content; version 1 stores nothing about wheelchairs
+pub record HasRowsOf (version : ℕ) (content : State) (trees : Trees) : Type 0 where
+  pub records : HasRecords version content trees
+  pub no_chairs : version < 2 → HasNoChairs content
+  pub rider_chairs : 2 ≤ version → AreRows rider_chairs_table trees (flat_map rider_chair_rows content.riders)
+  pub vehicle_chairs : 2 ≤ version → AreRows vehicle_chairs_table trees (flat_map vehicle_chair_rows content.vehicles)
+  pub trip_chairs : 2 ≤ version → AreRows trip_chairs_table trees (flat_map trip_chair_rows content.trips)
 
 -- the rowids are integers in ascending order
 pub record HaveRowids (rows : List Row) : Type 0 where
@@ -122,12 +119,12 @@ ChangesIfOk old new Changes (Err e) = KeepsCommit old new
 abbrev pub Makes : {X : Type 0} → Connected → Connected → (Database → Database → Type 0) → Result X Error → Type 0
 Makes old new Changes result = HasCleanDisk new → IsTrue old.in_transaction → ChangesIfOk old new Changes result
 
--- On Ok, statements in a transaction add the tables of wheelchairs to those of the first version. They commit nothing,
--- even on an error.
-abbrev pub AddsIfOk : {X : Type 0} → Connected → Connected → Result X Error → Type 0
-AddsIfOk old new (Ok x) =
-    KeepsCommit old new × IsTrue new.in_transaction × (old.now.schema ≡ first_schema → AddsChairs old.now new.now)
-AddsIfOk old new (Err e) = KeepsCommit old new
+-- On Ok, statements in a transaction add the versions after `from`, up to `to`. They commit nothing, even on an error.
+abbrev pub AddsIfOk : {X : Type 0} → ℕ → ℕ → Connected → Connected → Result X Error → Type 0
+AddsIfOk from to old new (Ok x) =
+    KeepsCommit old new × IsTrue new.in_transaction
+    × (from ≤ to → to ≤ table_version → old.now.schema ≡ schema_of from → AddsVersions from to old.now new.now)
+AddsIfOk from to old new (Err e) = KeepsCommit old new
 
 -- On Ok, statements in a transaction lead from a `From` database to a `To` database. They commit nothing, even on an
 -- error.

@@ -2,9 +2,7 @@
 #![tactic(auto)]
 
 pub use laws::{an_opening_finds_one_thing, same_rows_same_content};
-pub use schema::{
-    DESK, FIRST_VERSION, TABLE_VERSION, add_chairs_tables, create_first_tables, create_tables,
-};
+pub use schema::{DESK, TABLE_VERSION, add_versions, create_tables};
 
 mod laws;
 mod schema;

@@ -1,22 +1,21 @@
 ghost use Rattle.std.specs.Prelude.{◌≡◌, IsTrue, map};
 ghost use Rattle.sqlite.specs.Held.{state};
 ghost use Rattle.sqlite.specs.State.{HasCleanDisk, Survives};
-ghost use Rattle.pt_tables_rows.specs.Schema.{no_schema};
-ghost use Rattle.pt_tables_rows.specs.Tables.{AddsIfOk, IsBlank, IsFirstBlank, LeadsIfOk};
+ghost use Rattle.pt_tables_rows.specs.Schema.{no_schema, statement_count};
+ghost use Rattle.pt_tables_rows.specs.Tables.{AddsIfOk, IsBlank, LeadsIfOk};
 
 use sqlite::{Alter, Error, Transaction};
 
 /// The current version of the tables, in column `version` of the agency's row.
 pub const TABLE_VERSION: u32 = 2;
 
-/// The first version of the tables, which stores nothing about wheelchairs.
-pub const FIRST_VERSION: u32 = 1;
-
 /// The `id` of the agency's row, the only one of table `desk`.
 pub const DESK: u32 = 1;
 
-/// The statements that create the tables of the first version. A table comes after the tables that it references.
-const FIRST_TABLES: [&str; 11] = [
+/// The statements that create the tables and indexes, in the order of the versions. A table comes after the tables that
+/// it references.
+const STATEMENTS: [&str; 16] = [
+    // Version 1.
     "CREATE TABLE desk (id INTEGER PRIMARY KEY, version INTEGER NOT NULL, base INTEGER NOT NULL, \
      transfer INTEGER NOT NULL, fare INTEGER NOT NULL, service INTEGER NOT NULL, \
      extra_ride INTEGER NOT NULL, min_missed INTEGER NOT NULL, percent INTEGER NOT NULL, \
@@ -52,11 +51,7 @@ const FIRST_TABLES: [&str; 11] = [
      PRIMARY KEY (vehicle, day, place)) STRICT",
     "CREATE TABLE travel (from_day INTEGER NOT NULL, a INTEGER NOT NULL, b INTEGER NOT NULL, \
      minutes INTEGER NOT NULL, PRIMARY KEY (from_day, a, b)) STRICT",
-];
-
-/// The statements that add what the second version has: the tables of wheelchairs, and indexes of trips by rider and by
-/// day.
-const ADDITIONS: [&str; 5] = [
+    // Version 2: the tables of wheelchairs, and indexes of trips by rider and by day.
     "CREATE TABLE rider_chairs (rider INTEGER PRIMARY KEY REFERENCES riders (id)) STRICT",
     "CREATE TABLE vehicle_chairs (id INTEGER NOT NULL, from_day INTEGER NOT NULL, \
      chairs INTEGER NOT NULL, PRIMARY KEY (id, from_day), \
@@ -66,59 +61,50 @@ const ADDITIONS: [&str; 5] = [
     "CREATE INDEX trips_day ON trips (day)",
 ];
 
-/// Runs the statements that create the tables of the first version, in an empty database.
-fn create_first<S: Alter>(tx: &mut Transaction<'_, S>, statements: &[&str]) -> Result<(), Error>
-    requires all { map (λ statement. statement.now) statements.now ≡ map (λ statement. statement.now) FIRST_TABLES }
+/// How many of the statements make a version: its own, and those of the versions before it.
+fn statement_count(version: u32) -> usize
+    ensures value { result ≡ statement_count version }
+{
+    match version {
+        0 => 0,
+        1 => 11,
+        _ => 16,
+    }
+}
+
+/// Runs the statements of the versions after `from`, up to `to`.
+fn run<S: Alter>(
+    tx: &mut Transaction<'_, S>,
+    statements: &[&str],
+    from: u32,
+    to: u32,
+) -> Result<(), Error>
+    requires all { map (λ statement. statement.now) statements.now ≡ map (λ statement. statement.now) STATEMENTS }
     ensures same_reference { tx.new.conn.ghost_name ≡ tx.old.conn.ghost_name }
-    ensures made { HasCleanDisk (state S.Store tx.new.conn.now) → IsTrue (state S.Store tx.old.conn.now).in_transaction
-        → LeadsIfOk (state S.Store tx.old.conn.now) (state S.Store tx.new.conn.now)
-        (λ db. db.schema ≡ no_schema) IsFirstBlank result }
+    ensures added { HasCleanDisk (state S.Store tx.new.conn.now)
+        → IsTrue (state S.Store tx.old.conn.now).in_transaction
+        → AddsIfOk from to (state S.Store tx.old.conn.now) (state S.Store tx.new.conn.now) result }
     ensures survives { Survives (state S.Store tx.old.conn.now) (state S.Store tx.new.conn.now) (λ _. ⊥) }
 {
-    for statement in statements {
-        tx.execute(statement, &[])?;
+    for place in statement_count(from)..statement_count(to) {
+        tx.execute(statements[place], &[])?;
     }
     Ok(())
 }
 
-/// Runs the statements that add the other tables and the indexes, in a database with the tables of the first version.
-fn add_others<S: Alter>(tx: &mut Transaction<'_, S>, statements: &[&str]) -> Result<(), Error>
-    requires all { map (λ statement. statement.now) statements.now ≡ map (λ statement. statement.now) ADDITIONS }
+/// Adds the tables and indexes of the versions after `from`, up to `to`, to a database of version `from`. A database of
+/// version 0 is empty.
+pub fn add_versions<S: Alter>(tx: &mut Transaction<'_, S>, from: u32, to: u32) -> Result<(), Error>
     ensures same_reference { tx.new.conn.ghost_name ≡ tx.old.conn.ghost_name }
     ensures added { HasCleanDisk (state S.Store tx.new.conn.now)
         → IsTrue (state S.Store tx.old.conn.now).in_transaction
-        → AddsIfOk (state S.Store tx.old.conn.now) (state S.Store tx.new.conn.now) result }
+        → AddsIfOk from to (state S.Store tx.old.conn.now) (state S.Store tx.new.conn.now) result }
     ensures survives { Survives (state S.Store tx.old.conn.now) (state S.Store tx.new.conn.now) (λ _. ⊥) }
 {
-    for statement in statements {
-        tx.execute(statement, &[])?;
-    }
-    Ok(())
+    run(tx, &STATEMENTS, from, to)
 }
 
-/// Creates the tables of the first version in an empty database.
-pub fn create_first_tables<S: Alter>(tx: &mut Transaction<'_, S>) -> Result<(), Error>
-    ensures same_reference { tx.new.conn.ghost_name ≡ tx.old.conn.ghost_name }
-    ensures made { HasCleanDisk (state S.Store tx.new.conn.now) → IsTrue (state S.Store tx.old.conn.now).in_transaction
-        → LeadsIfOk (state S.Store tx.old.conn.now) (state S.Store tx.new.conn.now)
-        (λ db. db.schema ≡ no_schema) IsFirstBlank result }
-    ensures survives { Survives (state S.Store tx.old.conn.now) (state S.Store tx.new.conn.now) (λ _. ⊥) }
-{
-    create_first(tx, &FIRST_TABLES)
-}
-
-/// Adds the tables of wheelchairs and wheelchair places to those of the first version, and the indexes of trips.
-pub fn add_chairs_tables<S: Alter>(tx: &mut Transaction<'_, S>) -> Result<(), Error>
-    ensures same_reference { tx.new.conn.ghost_name ≡ tx.old.conn.ghost_name }
-    ensures added { HasCleanDisk (state S.Store tx.new.conn.now)
-        → IsTrue (state S.Store tx.old.conn.now).in_transaction
-        → AddsIfOk (state S.Store tx.old.conn.now) (state S.Store tx.new.conn.now) result }
-    ensures survives { Survives (state S.Store tx.old.conn.now) (state S.Store tx.new.conn.now) (λ _. ⊥) }
-{
-    add_others(tx, &ADDITIONS)
-}
-
-/// Creates all tables and indexes in an empty database.
+/// Creates the tables and indexes of the current version in an empty database.
 pub fn create_tables<S: Alter>(tx: &mut Transaction<'_, S>) -> Result<(), Error>
     ensures same_reference { tx.new.conn.ghost_name ≡ tx.old.conn.ghost_name }
     ensures made { HasCleanDisk (state S.Store tx.new.conn.now) → IsTrue (state S.Store tx.old.conn.now).in_transaction
@@ -126,6 +112,5 @@ pub fn create_tables<S: Alter>(tx: &mut Transaction<'_, S>) -> Result<(), Error>
         (λ db. db.schema ≡ no_schema) IsBlank result }
     ensures survives { Survives (state S.Store tx.old.conn.now) (state S.Store tx.new.conn.now) (λ _. ⊥) }
 {
-    create_first_tables(tx)?;
-    add_chairs_tables(tx)
+    add_versions(tx, 0, TABLE_VERSION)
 }

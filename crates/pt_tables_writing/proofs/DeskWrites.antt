@@ -14,8 +14,8 @@ use Rattle.sqlite_tied.specs.Compute.{everything}
 use Rattle.sqlite_value.specs.Keys.{first_key}
 use Rattle.sqlite_value.proofs.OrderLemmas.{value_cmp-Int}
 use Rattle.pt_base.specs.declared.policy.Policy.{Policy}
-use Rattle.pt_tables_rows.specs.Rows.{number_value, table_version, desk_row}
-use Rattle.pt_tables_rows.specs.Schema.{desk_schema, desk_table}
+use Rattle.pt_tables_rows.specs.Rows.{number_value, desk_row}
+use Rattle.pt_tables_rows.specs.Schema.{table_version, desk_schema, desk_table}
 use Rattle.pt_tables_writing.specs.Writes.{Rewrites}
 use Rattle.pt_tables_writing.specs.declared.numbered.desk.TheConstants.{WRITE_DESK}
 use Rattle.pt_tables_writing.proofs.CastLemmas.{cast_null, cast_int}

@@ -17,8 +17,8 @@ use Rattle.sqlite_keyed.proofs.ListLemmas.{IsPermutation-same}
 use Rattle.sqlite_tied.specs.Compute.{everything}
 use Rattle.pt_base.specs.declared.policy.Policy.{Policy}
 use Rattle.pt_tables_writing.specs.Least.{first_admin}
-use Rattle.pt_tables_rows.specs.Rows.{number_value, table_version, desk_row, caller_row}
-use Rattle.pt_tables_rows.specs.Schema.{desk_schema, desk_table, callers_table}
+use Rattle.pt_tables_rows.specs.Rows.{number_value, desk_row, caller_row}
+use Rattle.pt_tables_rows.specs.Schema.{table_version, desk_schema, desk_table, callers_table}
 use Rattle.pt_tables_rows.specs.Tables.{columns_of, Fills, HaveRowids}
 use Rattle.pt_tables_writing.specs.declared.first_rows.TheConstants.{INSERT_DESK, INSERT_CALLER}
 use Rattle.pt_tables_writing.proofs.CastLemmas.{cast_null, cast_int}

@@ -23,8 +23,8 @@ use Rattle.sqlite_tied.specs.Compute.{everything}
 use Rattle.sqlite_value.specs.Keys.{first_key}
 use Rattle.sqlite_value.proofs.OrderLemmas.{value_cmp-Int}
 use Rattle.pt_base.specs.declared.policy.Policy.{Policy}
-use Rattle.pt_tables_rows.specs.Rows.{number_value, table_version, first_version, versioned_row, desk_row}
-use Rattle.pt_tables_rows.specs.Schema.{desk_schema, desk_table}
+use Rattle.pt_tables_rows.specs.Rows.{number_value, versioned_row, desk_row}
+use Rattle.pt_tables_rows.specs.Schema.{table_version, desk_schema, desk_table}
 use Rattle.pt_tables_rows.specs.Tables.{columns_of, AreRows, Others}
 use Rattle.pt_tables_rows.proofs.NumberQueries.{number_program, answers_one}
 use Rattle.pt_tables_writing.specs.Writes.{Holds, Rewrites}
@@ -54,10 +54,10 @@ unfolding understood everything desk_schema first_key
 text_plain = (refl, refl)
 
 -- the row that the statement makes of the stored one
-updated_is : (r : Row) (policy : Policy) (last_trip : ℕ) → columns_of desk_table r ≡ versioned_row first_version policy last_trip
+updated_is : (r : Row) (version : ℕ) (policy : Policy) (last_trip : ℕ) → columns_of desk_table r ≡ versioned_row version policy last_trip
     → eval_all fields (given ∷ r ∷ []) ≡ number_value 1 ∷ stored policy last_trip
 unfolding everything
-updated_is r policy last_trip is =
+updated_is r version policy last_trip is =
     ap (λ cs. column cs 0 ∷ column cs 0 ∷ Null ∷ number_value table_version ∷ column cs 2 ∷ column cs 3 ∷ column cs 4
     ∷ column cs 5 ∷ column cs 6 ∷ column cs 7 ∷ column cs 8 ∷ column cs 9 ∷ column cs 10 ∷ []) is
 
@@ -79,9 +79,9 @@ module _ (old new : State) (count : ℕ) (has : old.now.schema ≡ desk_schema) 
   pub schema_stays : new.now.schema ≡ desk_schema
   schema_stays = ap (λ (d : Database). d.schema) wrote.now
 
-module _ (policy : Policy) (last_trip : ℕ) where
+module _ (version : ℕ) (policy : Policy) (last_trip : ℕ) where
   abbrev before : Row
-  before = versioned_row first_version policy last_trip
+  before = versioned_row version policy last_trip
 
   -- the one row of the table
   record TheRow (tree : List Row) : Type 0 where
@@ -127,7 +127,7 @@ module _ (policy : Policy) (last_trip : ℕ) where
         let found : filter (has_rowid (pos 1)) (db desk_table.tree) ≡ r ∷ [] = ap (filter (has_rowid (pos 1))) one.alone ∙ ap (λ b. cond b (r ∷ []) []) here in
         let rest : without_rowid (pos 1) (db desk_table.tree) ≡ [] = ap (without_rowid (pos 1)) one.alone ∙ ap (λ b. cond (not b) (r ∷ []) []) here in
         let rows : u.0 ≡ (number_value 1 ∷ stored policy last_trip) ∷ [] =
-        answers_one desk_table.tree 0 fields db given (pos 1) refl u.0 (u.1.answer Null) r found ∙ ap (λ x. x ∷ []) (updated_is r policy last_trip one.shows) in
+        answers_one desk_table.tree 0 fields db given (pos 1) refl u.0 (u.1.answer Null) r found ∙ ap (λ x. x ∷ []) (updated_is r version policy last_trip one.shows) in
         ap (λ (d : Database). d.trees desk_table.tree) w.now ∙ u.2.0
         ∙ ap (λ rs. put_all (without_all (db desk_table.tree) (ids_of rs)) (edit_of db desk_table (ids_of rs) Given 1 rs).news) rows
         ∙ ap (λ new. put_row new (without_rowid (pos 1) (db desk_table.tree))) (stored_cast policy last_trip)

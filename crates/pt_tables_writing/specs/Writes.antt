@@ -8,7 +8,7 @@ use Rattle.sqlite.specs.Tree.{Trees, IsTable, rowid}
 use Rattle.sqlite.specs.View.{is_int}
 use Rattle.pt_records.specs.Records.{Each, IsInOrder, put, record_at}
 use Rattle.pt_base.specs.declared.policy.Policy.{Policy}
-use Rattle.pt_tables_rows.specs.Rows.{desk_row, first_version, versioned_row}
+use Rattle.pt_tables_rows.specs.Rows.{desk_row, versioned_row}
 use Rattle.pt_tables_rows.specs.Schema.{desk_schema, desk_table}
 use Rattle.pt_tables_rows.specs.Tables.{AreRows, Others}
 
@@ -43,8 +43,8 @@ Replaces {A} table key Fits rows before new old_db new_db =
     Fits new → (xs : List A) → IsInOrder key xs → Each Fits xs → record_at key (key new) xs ≡ Some before
     → Rewrites table (flat_map rows xs) (flat_map rows (put key new xs)) old_db new_db
 
--- if the agency's row had the first version, it has the current one; the other tables keep their rows
+-- if the agency's row had any version, it has the current one; the other tables keep their rows
 pub record RaisesVersion (old new : Database) : Type 0 where
   pub schema : new.schema ≡ desk_schema
-  pub rows : (policy : Policy) (last_trip : ℕ)
-      → Rewrites desk_table (versioned_row first_version policy last_trip ∷ []) (desk_row policy last_trip ∷ []) old new
+  pub rows : (version : ℕ) (policy : Policy) (last_trip : ℕ)
+      → Rewrites desk_table (versioned_row version policy last_trip ∷ []) (desk_row policy last_trip ∷ []) old new

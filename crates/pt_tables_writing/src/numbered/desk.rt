@@ -54,7 +54,7 @@ pub(crate) fn write_desk<S: Alter>(
     Ok(())
 }
 
-/// Sets the version in the agency's row to the current one, if it is the first.
+/// Sets the version in the agency's row to the current one.
 pub fn raise_version<S: Alter>(tx: &mut Transaction<'_, S>) -> Result<(), Error>
     ensures same_reference { tx.new.conn.ghost_name ≡ tx.old.conn.ghost_name }
     ensures raised { Makes (state S.Store tx.old.conn.now) (state S.Store tx.new.conn.now)

@@ -1,15 +1,5 @@
-use Rattle.std.proofs.Common.{◌∙◌}
-use Rattle.sqlite.proofs.Callers.{memory_is_clean}
-use Rattle.pt_tables_rows.specs.Schema.{desk_schema}
-use Rattle.pt_tables_opening.proofs.SchemaLemmas.{desk_schema_plain, made_plain, same_as}
+use Rattle.pt_tables_opening.proofs.SchemaLemmas.{desk_so}
 use Rattle.pt_tables_opening.proofs.schema_check.is_desk_schema.Goals as goal
 
-pub is_same_schema-requires : goal.is_same_schema-requires
-is_same_schema-requires c =
-    let is = c.schema.ensures.value ∙ c.in-Ok-make_tables.ensures.made (memory_is_clean c.make_tables.new.conn) in
-    record { plain = made_plain c.schema.result.now desk_schema is desk_schema_plain }
-
-pub returns-in-Ok-make_tables-clause-value : goal.returns-in-Ok-make_tables-clause-value
-returns-in-Ok-make_tables-clause-value c =
-    let is = c.schema.ensures.value ∙ c.in-Ok-make_tables.ensures.made (memory_is_clean c.make_tables.new.conn) in
-    same_as c.schema.result.now desk_schema is c.args.schema.now c.is_same_schema.result c.is_same_schema.ensures.value
+pub returns-clause-value : goal.returns-clause-value
+returns-clause-value c = desk_so c.args.schema.now c.is_schema_of.result c.is_schema_of.ensures.value

@@ -1,7 +1,7 @@
 use Rattle.sqlite.specs.Held.{state}
-use Rattle.pt_tables_rows.specs.Schema.{desk_schema, desk_table, first_schema}
+use Rattle.pt_tables_rows.specs.Schema.{desk_schema, desk_table, schema_of}
 use Rattle.pt_tables_opening.specs.declared.table_rows.TheConstants.{DESK_ROWS}
-use Rattle.pt_tables_opening.proofs.AskedRows.{desk_rows_text, first_rows_text}
+use Rattle.pt_tables_opening.proofs.AskedRows.{desk_rows_text, earlier_rows_text}
 use Rattle.pt_tables_opening.proofs.ShownRows.{shows_all}
 use Rattle.pt_tables_opening.proofs.table_rows.desk_rows.Goals as goal
 
@@ -13,10 +13,10 @@ returns-clause-rows g c clean has =
 pub returns-clause-rests : goal.returns-clause-rests
 returns-clause-rests g c = c.rows_of_table.ensures.rests desk_schema desk_rows_text.plain
 
-pub returns-clause-first_rows : goal.returns-clause-first_rows
-returns-clause-first_rows g c clean has =
-    shows_all first_schema 1 desk_table DESK_ROWS.now first_rows_text (state g.S.Store c.args.conn.now) (state g.S.Store c.rows_of_table.new.conn)
+pub returns-clause-earlier_rows : goal.returns-clause-earlier_rows
+returns-clause-earlier_rows g c clean version early has =
+    shows_all (schema_of version) 1 desk_table DESK_ROWS.now (earlier_rows_text version early) (state g.S.Store c.args.conn.now) (state g.S.Store c.rows_of_table.new.conn)
     has c.rows_of_table.result (c.rows_of_table.ensures.shown clean)
 
-pub returns-clause-first_rests : goal.returns-clause-first_rests
-returns-clause-first_rests g c = c.rows_of_table.ensures.rests first_schema first_rows_text.plain
+pub returns-clause-earlier_rests : goal.returns-clause-earlier_rests
+returns-clause-earlier_rests g c version early = c.rows_of_table.ensures.rests (schema_of version) (earlier_rows_text version early).plain

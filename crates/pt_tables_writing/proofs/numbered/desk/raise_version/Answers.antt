@@ -11,7 +11,7 @@ returns-clause-raised g c =
     let run = rw (c.params-to_sql.ensures, c.params-to_sql-2.ensures) at ran in
     record {
       schema = schema_stays old new c.in_ok-execute.field-0 has run;
-      rows = λ p n. raises p n old new c.in_ok-execute.field-0 has run;
+      rows = λ v p n. raises v p n old new c.in_ok-execute.field-0 has run;
     })
 
 pub returns-clause-open : goal.returns-clause-open
