@@ -7,7 +7,7 @@ ghost use Rattle.pt_desk_rules.specs.Sound.{IsSound};
 
 use pt_base::{Cause, Fault, Moment};
 use pt_command_line::Task;
-use pt_commands::{Outcome, do_task, print_done};
+use pt_commands::{Ending, do_task, print_done};
 use pt_http_request::desk_router;
 use pt_serve::{Port, moment_at, serve};
 use pt_store::Keeper;
@@ -94,7 +94,7 @@ fn fault_of_making(error: &io::Error) -> Fault
 }
 
 /// A connection to a database file.
-fn connected(rt: &HostRuntime, file: &str) -> Result<Connection<FileStore<File>>, Fault>
+fn connect(rt: &HostRuntime, file: &str) -> Result<Connection<FileStore<File>>, Fault>
     ensures fault { IfErr result IsStoreFault }
 {
     match Connection::open(rt, file) {
@@ -108,15 +108,15 @@ fn make_desk<S: Alter + Drop>(
     alloc: Global,
     conn: Connection<S>,
     key: &str,
-) -> Result<Outcome, Fault> {
+) -> Result<Ending, Fault> {
     match create(alloc, conn, key.as_bytes()) {
-        Ok(_) => Ok(Outcome::Done),
+        Ok(_) => Ok(Ending::Done),
         Err((_, refused)) => Err(fault_of_opening(refused)),
     }
 }
 
 /// Migrates the tables of the first version to this version, and prints `done`.
-fn migrate_desk<S: Alter + Drop>(rt: &HostRuntime, conn: Connection<S>) -> Result<Outcome, Fault> {
+fn migrate_desk<S: Alter + Drop>(rt: &HostRuntime, conn: Connection<S>) -> Result<Ending, Fault> {
     let mut conn = conn;
     match migrate(rt.alloc(), &mut conn) {
         Ok(()) => print_done(rt.alloc(), &mut rt.stdout()),
@@ -141,14 +141,14 @@ fn serve_on<K: Keeper>(
     zone: &str,
     port: u16,
     count: u32,
-) -> Result<Outcome, Fault> {
+) -> Result<Ending, Fault> {
     let Ok(router) = desk_router(rt.alloc()) else {
         return Err(Fault::of(Cause::Memory));
     };
     let mut port = Port::open(rt, port, count)?;
     let failed = serve(rt, rt.alloc(), &router, keeper, zone, &mut port)?;
     let _shown = eprintln!(rt; "connections: {count}, failed: {failed}");
-    Ok(Outcome::Done)
+    Ok(Ending::Done)
 }
 
 /// Does this task with the database of a connection.
@@ -158,7 +158,7 @@ fn do_work<S: Alter + Drop>(
     rt: &HostRuntime,
     conn: Connection<S>,
     work: Work<'_>,
-) -> Result<Outcome, Fault> {
+) -> Result<Ending, Fault> {
     match work {
         Work::Make { key } => make_desk(rt.alloc(), conn, key),
         Work::Migrate => migrate_desk(rt, conn),
@@ -181,12 +181,12 @@ fn do_work<S: Alter + Drop>(
 }
 
 /// Does this task with a database file.
-fn over_file(rt: &HostRuntime, file: &str, work: Work<'_>) -> Result<Outcome, Fault> {
-    do_work(rt, connected(rt, file)?, work)
+fn over_file(rt: &HostRuntime, file: &str, work: Work<'_>) -> Result<Ending, Fault> {
+    do_work(rt, connect(rt, file)?, work)
 }
 
 /// The same for a file that must exist.
-fn over_known_file(rt: &HostRuntime, file: &str, work: Work<'_>) -> Result<Outcome, Fault> {
+fn over_known_file(rt: &HostRuntime, file: &str, work: Work<'_>) -> Result<Ending, Fault> {
     if let Err(error) = fs::open(rt, file) {
         return Err(fault_of_reading(&error));
     }
@@ -194,7 +194,7 @@ fn over_known_file(rt: &HostRuntime, file: &str, work: Work<'_>) -> Result<Outco
 }
 
 /// Makes a file, which must not exist, with the tables of a desk whose admin has this key.
-pub(crate) fn init(rt: &HostRuntime, file: &str, key: &str) -> Result<Outcome, Fault> {
+pub(crate) fn init(rt: &HostRuntime, file: &str, key: &str) -> Result<Ending, Fault> {
     if let Err(error) = fs::File::create_new(rt, file) {
         return Err(fault_of_making(&error));
     }
@@ -202,7 +202,7 @@ pub(crate) fn init(rt: &HostRuntime, file: &str, key: &str) -> Result<Outcome, F
 }
 
 /// Migrates the tables of the first version in a file to this version, and prints `done`.
-pub(crate) fn migrate_file(rt: &HostRuntime, file: &str) -> Result<Outcome, Fault> {
+pub(crate) fn migrate_file(rt: &HostRuntime, file: &str) -> Result<Ending, Fault> {
     over_known_file(rt, file, Work::Migrate)
 }
 
@@ -213,7 +213,7 @@ pub(crate) fn serve_file(
     zone: &str,
     port: u16,
     count: u32,
-) -> Result<Outcome, Fault> {
+) -> Result<Ending, Fault> {
     moment_at(rt, zone)?;
     over_known_file(rt, file, Work::Serve { zone, port, count })
 }
@@ -244,7 +244,7 @@ pub(crate) fn ask_file(
     zone: &str,
     key: &str,
     task: &Task<'_>,
-) -> Result<Outcome, Fault> {
+) -> Result<Ending, Fault> {
     let now = moment_at(rt, zone)?;
     let text = text_for(rt, task)?;
     let work = Work::Ask {

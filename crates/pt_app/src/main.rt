@@ -4,7 +4,7 @@
 use crate::database::{ask_file, init, migrate_file, serve_file};
 use pt_base::{Cause, Fault};
 use pt_command_line::{Line, line, matches_in};
-use pt_commands::{Outcome, exit_status, outcome_of, outcome_of_refusal, rehearse_with_key};
+use pt_commands::{Ending, ending_of_refusal, ending_of_task, exit_status, rehearse_with_key};
 use std::io::ErrorKind;
 use std::process::ExitCode;
 use std::{env, io};
@@ -20,27 +20,27 @@ fn given_words(rt: &HostRuntime) -> io::Result<Vec<String>> {
 }
 
 /// Prints what is wrong with refused words, or the help or the version that they ask for.
-fn refuse(rt: &HostRuntime, words: &[String]) -> Outcome {
+fn refuse(rt: &HostRuntime, words: &[String]) -> Ending {
     match matches_in(rt.alloc(), words) {
         Ok(_) => {
             let _shown = eprintln!(rt;
                 "error: a word is not the number or the day that its place asks for"
             );
-            Outcome::WrongWords
+            Ending::WrongWords
         }
         Err(refusal) => {
             let is_shown = refusal.print(rt).is_ok();
-            outcome_of_refusal(refusal.kind(), is_shown)
+            ending_of_refusal(refusal.kind(), is_shown)
         }
     }
 }
 
 /// Does the task.
-fn do_asked(rt: &HostRuntime, asked: &Line<'_>) -> Result<Outcome, Fault> {
+fn do_asked(rt: &HostRuntime, asked: &Line<'_>) -> Result<Ending, Fault> {
     match asked {
         Line::Rehearse { key } => {
             rehearse_with_key(rt.alloc(), key.as_bytes(), rt.stdin(), &mut rt.stdout())?;
-            Ok(Outcome::Done)
+            Ok(Ending::Done)
         }
         Line::Init { file, key } => init(rt, file, key),
         Line::Migrate { file } => migrate_file(rt, file),
@@ -60,31 +60,31 @@ fn do_asked(rt: &HostRuntime, asked: &Line<'_>) -> Result<Outcome, Fault> {
 }
 
 /// Does the task that the words name.
-fn do_line(rt: &HostRuntime, words: &[String]) -> Outcome {
+fn do_line(rt: &HostRuntime, words: &[String]) -> Ending {
     match line(rt.alloc(), words) {
-        Ok(asked) => outcome_of(do_asked(rt, &asked)),
+        Ok(asked) => ending_of_task(do_asked(rt, &asked)),
         Err(fault) if fault.cause == Cause::WrongWords => refuse(rt, words),
-        Err(fault) => Outcome::Failed(fault),
+        Err(fault) => Ending::Failed(fault),
     }
 }
 
-fn run(rt: &HostRuntime) -> Outcome {
+fn run(rt: &HostRuntime) -> Ending {
     match given_words(rt) {
         Ok(words) => do_line(rt, words.as_slice()),
-        Err(error) if error.kind() == ErrorKind::OutOfMemory => Outcome::Failed(Fault::of(
+        Err(error) if error.kind() == ErrorKind::OutOfMemory => Ending::Failed(Fault::of(
             Cause::Memory,
         )),
         Err(_) => {
             let _shown = eprintln!(rt; "error: a word is not UTF-8");
-            Outcome::WrongWords
+            Ending::WrongWords
         }
     }
 }
 
 fn main(rt: HostRuntime) -> ExitCode {
-    let outcome = run(&rt);
-    if let Outcome::Failed(fault) = outcome {
+    let ending = run(&rt);
+    if let Ending::Failed(fault) = ending {
         let _shown = eprintln!(rt; "{fault}");
     }
-    ExitCode::from(exit_status(outcome))
+    ExitCode::from(exit_status(ending))
 }

@@ -201,11 +201,11 @@ fn number(text: &[u8]) -> Option<(u32, &[u8])>
     if first == 0 {
         return Some((0, rest));
     }
-    continued(u32::from(first), rest)
+    with_digits(u32::from(first), rest)
 }
 
 /// The number whose first digits are in `value` and whose other digits begin the text, and what follows them.
-fn continued(value: u32, text: &[u8]) -> Option<(u32, &[u8])>
+fn with_digits(value: u32, text: &[u8]) -> Option<(u32, &[u8])>
     requires { 0 < value }
     ensures number { IfSome result (λ found. IsNumber found.0
         × (decimal value ++ text.now ≡ decimal found.0 ++ found.1.now)) }

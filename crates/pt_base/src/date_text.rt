@@ -28,7 +28,7 @@ fn two_digit_number(tens: u8, units: u8) -> Option<u8>
 }
 
 /// The date as `YYYY-MM-DD`.
-pub(crate) fn spelled(date: Date) -> [u8; LENGTH]
+pub(crate) fn spell(date: Date) -> [u8; LENGTH]
     requires { pos 0 ≤ℤ date.year }
     ensures { result ≡ date_text date }
 {

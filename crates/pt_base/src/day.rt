@@ -98,7 +98,7 @@ impl Day {
             → out.new.items ≡ out.old.items ++ text) }
         ensures err { OnErr result (out.new.items ≡ out.old.items) }
     {
-        out.extend_from_slice(&date_text::spelled(self.date()))?;
+        out.extend_from_slice(&date_text::spell(self.date()))?;
         Ok(())
     }
 

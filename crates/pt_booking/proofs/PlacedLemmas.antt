@@ -25,8 +25,8 @@ use Rattle.pt_booking.specs.Booking.{promised_at, planned_pickup, IsAllowed, IsN
 use Rattle.pt_booking.specs.Planning.{OnDuty, on_duty, asked_for, asked_of, SomeVehicleCan, IsBestPlace, booking_rules}
 use Rattle.pt_booking.specs.Request.{Request}
 use Rattle.pt_booking.specs.Rules.{IsFirstFailing, riders_rules}
-use Rattle.pt_booking.specs.declared.booking.Decision.{Decision}
-use Rattle.pt_booking.specs.declared.booking.Decision.TheVariants.{Denied}
+use Rattle.pt_booking.specs.declared.booking.BookingDecision.{BookingDecision}
+use Rattle.pt_booking.specs.declared.booking.BookingDecision.TheVariants.{Denied}
 use Rattle.pt_base.specs.declared.window.Window.{Window}
 use Rattle.pt_booking.proofs.DutyLemmas.{Any-map, no_any, same-duty}
 use Rattle.pt_booking.proofs.RuleLemmas.{first-unique, first-behind}
@@ -148,14 +148,14 @@ module _ (minutes : ℕ → ℕ → Option ℕ) (duties : List Duty) (request : 
 
 -- the denial by the first failing rule is the only one
 pub denied-only : {E : Type 0} (rules : List (Rule × Type 0)) (found rule : Rule) → IsFirstFailing rules (Some found) →
-    (result : Result Decision E) → result ≡ Ok (Denied found) → (result ≡ Ok (Denied rule)) ↔ IsFirstFailing rules (Some rule)
+    (result : Result BookingDecision E) → result ≡ Ok (Denied found) → (result ≡ Ok (Denied rule)) ↔ IsFirstFailing rules (Some rule)
 denied-only rules found rule first result is = (
   λ same. let it : found ≡ rule = cc in subst (λ (r : Rule). IsFirstFailing rules (Some r)) it first,
   λ other. let it : Some found ≡ Some rule = first-unique rules _ _ first other in cc,
 )
 
 -- where all rules hold nothing is denied
-pub not-denied : {E : Type 0} (rules : List (Rule × Type 0)) (result : Result Decision E) (rule : Rule) → IsFirstFailing rules None →
+pub not-denied : {E : Type 0} (rules : List (Rule × Type 0)) (result : Result BookingDecision E) (rule : Rule) → IsFirstFailing rules None →
     (result ≡ Ok (Denied rule) → ⊥) → (result ≡ Ok (Denied rule)) ↔ IsFirstFailing rules (Some rule)
 not-denied rules result rule none never = (
   λ same. absurd (never same),
@@ -163,14 +163,14 @@ not-denied rules result rule none never = (
 )
 
 -- out of memory is no denial
-pub refused-not-denied : {E : Type 0} (rules : List (Rule × Type 0)) (result : Result Decision E) (rule : Rule) → IsFirstFailing rules None →
+pub refused-not-denied : {E : Type 0} (rules : List (Rule × Type 0)) (result : Result BookingDecision E) (rule : Rule) → IsFirstFailing rules None →
     IsErr result → (result ≡ Ok (Denied rule)) ↔ IsFirstFailing rules (Some rule)
 refused-not-denied {E} rules result rule none refused =
     not-denied rules result rule none
-    (λ same. let ok : IsErr {E = E} (Ok (Denied rule)) = subst (λ (r : Result Decision E). IsErr r) same refused in absurd (false≢true ok))
+    (λ same. let ok : IsErr {E = E} (Ok (Denied rule)) = subst (λ (r : Result BookingDecision E). IsErr r) same refused in absurd (false≢true ok))
 
 -- if memory was refused, `IsAllowed` is equivalent to any fact that holds
-pub allowed-if-refused : {E : Type 0} (P : Type 0) (result : Result Decision E) → IsErr result → P → IsAllowed result ↔ P
+pub allowed-if-refused : {E : Type 0} (P : Type 0) (result : Result BookingDecision E) → IsErr result → P → IsAllowed result ↔ P
 allowed-if-refused P (Ok decision) refused holds = absurd (false≢true refused)
 allowed-if-refused P (Err fault) refused holds = (λ _. holds, λ _. tt)
 

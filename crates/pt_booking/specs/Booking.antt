@@ -13,8 +13,8 @@ use Rattle.pt_booking.specs.Planning.{OnDuty, asked_of, ride_limit}
 use Rattle.pt_booking.specs.Request.{Request}
 use Rattle.pt_booking.specs.Window.{wished_window, promised_window}
 use Rattle.pt_booking.specs.declared.booking.Booking.{Booking}
-use Rattle.pt_booking.specs.declared.booking.Decision.{Decision}
-use Rattle.pt_booking.specs.declared.booking.Decision.TheVariants.{Booked, Denied}
+use Rattle.pt_booking.specs.declared.booking.BookingDecision.{BookingDecision}
+use Rattle.pt_booking.specs.declared.booking.BookingDecision.TheVariants.{Booked, Denied}
 use Rattle.pt_base.specs.declared.window.Window.{Window}
 
 -- the fare, by whether one route that runs at the day and the wished minute joins both ends (49 CFR 37.131(c)(1))
@@ -61,13 +61,13 @@ pub record IsNewRoute (minutes : ℕ → ℕ → Option ℕ) (duty : OnDuty) (tr
   pub schedule : IsLeastSchedule minutes duty.vehicle stops chosen.schedule.items
 
 -- the trip is booked, or the call ran out of memory; no rule denies it
-abbrev pub IsAllowed : {E : Type 0} → Result Decision E → Type 0
+abbrev pub IsAllowed : {E : Type 0} → Result BookingDecision E → Type 0
 IsAllowed (Ok (Booked booking)) = Unit {0}
 IsAllowed (Ok (Denied rule)) = ⊥
 IsAllowed (Err error) = Unit {0}
 
 -- P holds for the booking, if there is one
-abbrev pub IfBooked : {E : Type 0} → Result Decision E → (Booking → Type 0) → Type 0
+abbrev pub IfBooked : {E : Type 0} → Result BookingDecision E → (Booking → Type 0) → Type 0
 IfBooked (Ok (Booked booking)) P = P booking
 IfBooked (Ok (Denied rule)) P = Unit {0}
 IfBooked (Err error) P = Unit {0}

@@ -34,7 +34,7 @@ pub struct Booking {
 
 /// The decision on a request.
 #[derive(Drop)]
-pub enum Decision {
+pub enum BookingDecision {
     /// The trip is booked.
     Booked(Booking),
     /// The first rule that fails.
@@ -50,13 +50,13 @@ pub fn book<T: Times>(
     request: &TripRequest<'_>,
     duties: &[Duty<'_>],
     times: &T,
-) -> Result<Decision, AllocError>
+) -> Result<BookingDecision, AllocError>
     requires uses { IsStrictlyIncreasing request.now.uses.now }
     requires rising { AllPairs (λ first second. first.vehicle.now.id < second.vehicle.now.id) duties.now }
     requires new_trip { All (λ duty. IsWithout request.now.trip (stops_of duty.route.now)) duties.now }
 
     // `NoVehicle` is the last of the rules: it says that nothing is possible in any route.
-    ensures denied { (rule : Rule) → (result ≡ Ok (Decision.Denied rule)) ↔ IsFirstFailing
+    ensures denied { (rule : Rule) → (result ≡ Ok (BookingDecision.Denied rule)) ↔ IsFirstFailing
         (booking_rules (T.minutes times.now) (on_duty duties.now) (request_of request.now)) (Some rule) }
     ensures allowed { spec.IsAllowed result ↔ IsFirstFailing
         (booking_rules (T.minutes times.now) (on_duty duties.now) (request_of request.now)) None }
@@ -69,18 +69,18 @@ pub fn book<T: Times>(
         (T.minutes times.now) duty booking.trip booking.chosen (stops_of booking.route)) (on_duty duties.now)) }
 {
     if let Some(rule) = riders_denial(request) {
-        return Ok(Decision::Denied(rule));
+        return Ok(BookingDecision::Denied(rule));
     }
     match best(duties, &asked_for(request, times), times) {
         Some(chosen) => {
             let (trip, route) = placed_at(alloc, request, duties, times, &chosen)?;
-            Ok(Decision::Booked(Booking {
+            Ok(BookingDecision::Booked(Booking {
                 trip,
                 chosen,
                 route,
             }))
         }
-        None => Ok(Decision::Denied(Rule::NoVehicle)),
+        None => Ok(BookingDecision::Denied(Rule::NoVehicle)),
     }
 }
 

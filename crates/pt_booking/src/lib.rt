@@ -2,7 +2,7 @@
 //! vehicle's new route.
 #![tactic(auto)]
 
-pub use booking::{Booking, Decision, book};
+pub use booking::{Booking, BookingDecision, book};
 pub use planning::{asked_for, asked_of};
 pub use request::{TripRequest, party_of};
 pub use riders::{first_failing, riders_denial};

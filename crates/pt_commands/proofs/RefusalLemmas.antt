@@ -30,8 +30,8 @@ use Rattle.pt_requests.specs.declared.request.Answer.{Answer}
 use Rattle.pt_requests.specs.declared.request.Answer.TheVariants as answer
 use Rattle.pt_requests.specs.declared.request.Request.TheVariants.{Explain}
 use Rattle.pt_commands.specs.Refusals.{IsAuditedFrom, IsExplainedFrom, NoneCan, SomeCan}
-use Rattle.pt_commands.specs.declared.outcome.Outcome.{Outcome}
-use Rattle.pt_commands.specs.declared.outcome.Outcome.TheVariants.{Done}
+use Rattle.pt_commands.specs.declared.ending.Ending.{Ending}
+use Rattle.pt_commands.specs.declared.ending.Ending.TheVariants.{Done}
 use Rattle.pt_audit.specs.declared.line.Line.{Line}
 
 abbrev lent : Duty → OnDuty
@@ -98,7 +98,7 @@ told_none key now rider wish s found (minutes, times, never) facts sound number 
     refusals_are_told key now number rider wish s found None left minutes told sound facts times never outcome
 
 pub explained_none : (key : List ℕ) (now : Moment) (rider : ℕ) (wish : Wish) (s : State) (given : Inquiry)
-    (found : Refusal) (old new : Option (List ℕ)) (result : Result Outcome Fault) → given ≡ inquiry.Facts found
+    (found : Refusal) (old new : Option (List ℕ)) (result : Result Ending Fault) → given ≡ inquiry.Facts found
     → IsExplainedFrom found old new result → result ≡ Ok Done → IsFacts key now rider wish s given None → IsSound s
     → (number : ℕ) (told : Answer) (left : Option State) → IsOutcome key now number (Explain rider wish) s told left
     → told ≡ answer.Denied NoVehicle
@@ -107,7 +107,7 @@ explained_none key now rider wish s given found old new result is ends done fact
     (subst (λ f. IsFacts key now rider wish s f None) is facts) sound number told left outcome
 
 pub audited_none : (key : List ℕ) (now : Moment) (rider : ℕ) (wish : Wish) (s : State) (lines : List Line)
-    (given : Inquiry) (found : Refusal) (old new : Option (List ℕ)) (result : Result Outcome Fault)
+    (given : Inquiry) (found : Refusal) (old new : Option (List ℕ)) (result : Result Ending Fault)
     → given ≡ inquiry.Facts found → IsAuditedFrom lines found old new result → result ≡ Ok Done
     → IsFacts key now rider wish s given None → IsSound s → (number : ℕ) (told : Answer) (left : Option State)
     → IsOutcome key now number (Explain rider wish) s told left → told ≡ answer.Denied NoVehicle

@@ -1,4 +1,4 @@
--- What `explain` and `audit` print about a refusal, and their outcomes.
+-- What `explain` and `audit` print about a refusal, and their endings.
 use Rattle.std.specs.Prelude.{◌≡◌, ◌⊎◌, ℕ, List, ◌++◌, Option, Result, Ok, Err, codes}
 use Rattle.std.specs.Io.KnownBytes.{Appends}
 use Rattle.pt_audit.specs.RightLog.{IsRightLog}
@@ -16,8 +16,8 @@ use Rattle.pt_desk_reads.specs.declared.explaining.Inquiry.TheVariants as inquir
 use Rattle.pt_insertion.specs.declared.duty.Duty.{Duty}
 use Rattle.pt_insertion_log.specs.Written.{WritesRightLog}
 use Rattle.pt_commands.specs.Told.{fault_of}
-use Rattle.pt_commands.specs.declared.outcome.Outcome.{Outcome}
-use Rattle.pt_commands.specs.declared.outcome.Outcome.TheVariants.{Done, Denied}
+use Rattle.pt_commands.specs.declared.ending.Ending.{Ending}
+use Rattle.pt_commands.specs.declared.ending.Ending.TheVariants.{Done, Denied}
 
 -- this holds for the vehicles of a refusal, borrowed with their routes, by the driving times of its rows
 abbrev pub OfRefusal : ((ℕ → ℕ → Option ℕ) → List Duty → Type 0) → Refusal → Type 0
@@ -52,28 +52,28 @@ NoneCan found =
 abbrev pub IsOwnFault : Fault → Type 0
 IsOwnFault error = (error ≡ fault cause.Memory) ⊎ (error ≡ fault cause.WriteFailed)
 
--- the outcome of `explain` by the facts of a refusal: its log, or the word that the wish is possible
-abbrev pub IsExplainedFrom : Refusal → Option (List ℕ) → Option (List ℕ) → Result Outcome Fault → Type 0
+-- the ending of `explain` by the facts of a refusal: its log, or the word that the wish is possible
+abbrev pub IsExplainedFrom : Refusal → Option (List ℕ) → Option (List ℕ) → Result Ending Fault → Type 0
 IsExplainedFrom found old new (Ok Done) = NoneCan found × WritesRefusal found old new
 IsExplainedFrom found old new (Ok Denied) = SomeCan found × Appends old new (codes "possible\n")
-IsExplainedFrom found old new (Ok outcome) = ⊥
+IsExplainedFrom found old new (Ok ending) = ⊥
 IsExplainedFrom found old new (Err error) = IsOwnFault error
 
--- the outcome of `audit` for a log of these lines
-abbrev pub IsAuditedFrom : List Line → Refusal → Option (List ℕ) → Option (List ℕ) → Result Outcome Fault → Type 0
+-- the ending of `audit` for a log of these lines
+abbrev pub IsAuditedFrom : List Line → Refusal → Option (List ℕ) → Option (List ℕ) → Result Ending Fault → Type 0
 IsAuditedFrom lines found old new (Ok Done) = NoneCan found × IsLogOf found lines × Appends old new (codes "yes\n")
 IsAuditedFrom lines found old new (Ok Denied) = IsNoLogOf found lines × Appends old new (codes "no\n")
-IsAuditedFrom lines found old new (Ok outcome) = ⊥
+IsAuditedFrom lines found old new (Ok ending) = ⊥
 IsAuditedFrom lines found old new (Err error) = IsOwnFault error
 
 -- a denial is printed as the name of its rule
-abbrev pub IsDeniedBy : List ℕ → Option (List ℕ) → Option (List ℕ) → Result Outcome Fault → Type 0
-IsDeniedBy name old new (Ok outcome) = (outcome ≡ Denied) × Appends old new (name ++ codes "\n")
+abbrev pub IsDeniedBy : List ℕ → Option (List ℕ) → Option (List ℕ) → Result Ending Fault → Type 0
+IsDeniedBy name old new (Ok ending) = (ending ≡ Denied) × Appends old new (name ++ codes "\n")
 IsDeniedBy name old new (Err error) = IsOwnFault error
 
--- the outcome of a command by the reply to a question for the facts of a refusal
-abbrev pub EndsByFacts : (Refusal → Option (List ℕ) → Option (List ℕ) → Result Outcome Fault → Type 0)
-    → Result Inquiry StoreFault → Option (List ℕ) → Option (List ℕ) → Result Outcome Fault → Type 0
+-- the ending of a command by the reply to a question for the facts of a refusal
+abbrev pub EndsByFacts : (Refusal → Option (List ℕ) → Option (List ℕ) → Result Ending Fault → Type 0)
+    → Result Inquiry StoreFault → Option (List ℕ) → Option (List ℕ) → Result Ending Fault → Type 0
 EndsByFacts Ends (Err failed) old new result = result ≡ Err (fault_of failed)
 EndsByFacts Ends (Ok (inquiry.Denied first)) old new result = IsDeniedBy (name_of first) old new result
 EndsByFacts Ends (Ok (inquiry.Facts found)) old new result = Ends found old new result

@@ -12,7 +12,7 @@ use Rattle.pt_command_line.specs.declared.asked.Task.{Task}
 use Rattle.pt_command_line.specs.declared.asked.Task.TheVariants as task
 use Rattle.pt_commands.specs.Refusals.{EndsByFacts, IsAuditedFrom, IsExplainedFrom}
 use Rattle.pt_commands.specs.Told.{EndsBy, fault_of, told_text}
-use Rattle.pt_commands.specs.declared.outcome.Outcome.{Outcome}
+use Rattle.pt_commands.specs.declared.ending.Ending.{Ending}
 use Rattle.pt_desk.specs.Refusals.{IsFacts}
 use Rattle.pt_desk_reads.specs.Refusal.{Refusal}
 use Rattle.pt_desk_reads.specs.declared.explaining.Inquiry.{Inquiry}
@@ -30,7 +30,7 @@ use Rattle.pt_travel.specs.Text.{IsFirstFault, ReadsAs}
 
 -- the caller with this key makes a request, under a number if it is a write, and the answer is printed
 abbrev pub Prints : List ℕ → Moment → ℕ → Request → Store → Store → Option (List ℕ) → Option (List ℕ)
-    → Result Outcome Fault → Type 0
+    → Result Ending Fault → Type 0
 Prints key now number asked before after old new result =
     (reply : Result Answer StoreFault) × Answers before after (IsOutcome key now number asked) reply
     × EndsBy reply result
@@ -53,12 +53,12 @@ ReadsTimes text before after rows =
     × IsTimesReadBy text places rows
 
 -- the command ends with this error, changes nothing if `Same` says so, and prints nothing
-abbrev pub EndsUnread : Fault → Type 0 → Option (List ℕ) → Option (List ℕ) → Result Outcome Fault → Type 0
+abbrev pub EndsUnread : Fault → Type 0 → Option (List ℕ) → Option (List ℕ) → Result Ending Fault → Type 0
 EndsUnread error Same old new result = (result ≡ Err error) × Same × (new ≡ old)
 
 -- times that were read are put under this number, from this day on; a text that was not read ends the command
 abbrev pub PutsRead : {K : Type 0} → (K → Store) → List ℕ → Moment → ℕ → ℕ → Result (List Row) Fault → K → K
-    → Option (List ℕ) → Option (List ℕ) → Result Outcome Fault → Type 0
+    → Option (List ℕ) → Option (List ℕ) → Result Ending Fault → Type 0
 PutsRead store key now number day (Ok rows) before after old new result =
     Prints key now number (request.Write (write.Travel day rows)) (store before) (store after) old new result
 PutsRead store key now number day (Err error) before after old new result =
@@ -66,14 +66,14 @@ PutsRead store key now number day (Err error) before after old new result =
 
 -- the times of a text are read and put
 abbrev pub PutsTimes : {K : Type 0} → (K → Store) → List ℕ → Moment → ℕ → ℕ → List ℕ → K → K → Option (List ℕ)
-    → Option (List ℕ) → Result Outcome Fault → Type 0
+    → Option (List ℕ) → Result Ending Fault → Type 0
 PutsTimes {K} store key now number day text before after old new result =
     (between : K) × (rows : Result (List Row) Fault) × ReadsTimes text (store before) (store between) rows
     × PutsRead store key now number day rows between after old new result
 
 -- why a rider's wish would be refused is asked, and this is made of the answer
-abbrev pub Inquires : (Refusal → Option (List ℕ) → Option (List ℕ) → Result Outcome Fault → Type 0) → List ℕ → Moment
-    → ℕ → Wish → Store → Store → Option (List ℕ) → Option (List ℕ) → Result Outcome Fault → Type 0
+abbrev pub Inquires : (Refusal → Option (List ℕ) → Option (List ℕ) → Result Ending Fault → Type 0) → List ℕ → Moment
+    → ℕ → Wish → Store → Store → Option (List ℕ) → Option (List ℕ) → Result Ending Fault → Type 0
 Inquires Ends key now rider wish before after old new result =
     (found : Result Inquiry StoreFault) × Answers before after (IsFacts key now rider wish) found
     × EndsByFacts Ends found old new result
@@ -86,7 +86,7 @@ IsLogRead text (Err error) =
 
 -- a log that was read is judged; a text that was not read ends the command
 abbrev pub AuditsRead : {K : Type 0} → (K → Store) → List ℕ → Moment → ℕ → Wish → Result (List Line) Fault → K → K
-    → Option (List ℕ) → Option (List ℕ) → Result Outcome Fault → Type 0
+    → Option (List ℕ) → Option (List ℕ) → Result Ending Fault → Type 0
 AuditsRead store key now rider wish (Ok lines) before after old new result =
     Inquires (IsAuditedFrom lines) key now rider wish (store before) (store after) old new result
 AuditsRead store key now rider wish (Err error) before after old new result =
@@ -94,14 +94,14 @@ AuditsRead store key now rider wish (Err error) before after old new result =
 
 -- the log of a text is read and judged
 abbrev pub AuditsLog : {K : Type 0} → (K → Store) → List ℕ → Moment → ℕ → Wish → List ℕ → K → K → Option (List ℕ)
-    → Option (List ℕ) → Result Outcome Fault → Type 0
+    → Option (List ℕ) → Result Ending Fault → Type 0
 AuditsLog store key now rider wish text before after old new result =
     (lines : Result (List Line) Fault) × IsLogRead text lines
     × AuditsRead store key now rider wish lines before after old new result
 
 -- the caller with this key has the desk do this task at this moment; the text is that of the file that it names, if any
 abbrev pub DoesTask : {K : Type 0} → (K → Store) → List ℕ → Moment → Task → List ℕ → K → K → Option (List ℕ)
-    → Option (List ℕ) → Result Outcome Fault → Type 0
+    → Option (List ℕ) → Result Ending Fault → Type 0
 DoesTask store key now (task.Travel number day csv) text before after old new result =
     PutsTimes store key now number day text before after old new result
 DoesTask store key now (task.Manifest vehicle day) text before after old new result =

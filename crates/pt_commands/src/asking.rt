@@ -1,13 +1,13 @@
 ghost use Rattle.std.specs.Prelude.{◌≡◌, ◌⊎◌, ◌++◌, codes, IfErr, IfOk, OnOk, Ok};
 ghost use Rattle.std.specs.Io.KnownBytes.{Appends};
-ghost use Rattle.pt_commands.specs.declared.outcome.Outcome.TheVariants.{Done};
+ghost use Rattle.pt_commands.specs.declared.ending.Ending.TheVariants.{Done};
 ghost use Rattle.pt_commands.specs.Tasks.{Prints};
 ghost use Rattle.pt_commands.specs.Told.{EndsBy, ending_of, fault_of, told_text};
 ghost use Rattle.pt_base.specs.declared.fault.Cause.TheVariants as cause;
 ghost use Rattle.pt_base.specs.Fault.{fault};
 ghost use Rattle.pt_requests.specs.declared.request.Answer.{Answer};
 
-use crate::outcome::Outcome;
+use crate::ending::Ending;
 use pt_base::{Cause, Fault, Moment};
 use pt_desk::answer;
 use pt_manifest::{manifest, trips_csv};
@@ -48,13 +48,13 @@ fn text_of(alloc: Global, told: &Answer) -> Result<Vec<u8>, AllocError>
     }
 }
 
-/// The outcome of a command with this answer.
-fn ending_of(told: &Answer) -> Outcome
+/// The ending of a command with this answer.
+fn ending_of(told: &Answer) -> Ending
     ensures { result ≡ ending_of told.now }
 {
     match told {
-        Answer::Denied(_) => Outcome::Denied,
-        _ => Outcome::Done,
+        Answer::Denied(_) => Ending::Denied,
+        _ => Ending::Done,
     }
 }
 
@@ -72,18 +72,18 @@ pub(crate) fn print<W: Write>(text: &[u8], out: &mut W) -> Result<(), Fault>
 /// Prints that the task is done.
 ///
 /// The error is out of memory or a failed write. The task is done all the same.
-pub fn print_done<W: Write>(alloc: Global, out: &mut W) -> Result<Outcome, Fault>
-    ensures done { IfOk result (λ outcome. outcome ≡ Done) }
+pub fn print_done<W: Write>(alloc: Global, out: &mut W) -> Result<Ending, Fault>
+    ensures done { IfOk result (λ ending. ending ≡ Done) }
     ensures printed { OnOk result (Appends (W.contents out.old) (W.contents out.new) (codes "done\n")) }
     ensures fault { IfErr result (λ error. (error ≡ fault cause.Memory) ⊎ (error ≡ fault cause.WriteFailed)) }
 {
     let text = line_of(alloc, "done")?;
     print(text.as_slice(), out)?;
-    Ok(Outcome::Done)
+    Ok(Ending::Done)
 }
 
 /// Prints the answer in a reply.
-fn print_reply<W: Write>(alloc: Global, reply: &Reply, out: &mut W) -> Result<Outcome, Fault>
+fn print_reply<W: Write>(alloc: Global, reply: &Reply, out: &mut W) -> Result<Ending, Fault>
     ensures ends { EndsBy reply.now result }
     ensures printed { (told : Answer) → reply.now ≡ Ok told
         → OnOk result (Appends (W.contents out.old) (W.contents out.new) (told_text told)) }
@@ -110,7 +110,7 @@ pub fn ask<K: Keeper, W: Write>(
     number: u32,
     request: &Request,
     out: &mut W,
-) -> Result<Outcome, Fault>
+) -> Result<Ending, Fault>
     ensures asked { Prints key.now now number request.now (K.store keeper.old) (K.store keeper.new)
         (W.contents out.old) (W.contents out.new) result }
 {

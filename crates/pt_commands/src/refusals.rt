@@ -3,7 +3,7 @@ ghost use Rattle.pt_base.specs.Rule.{name_of};
 ghost use Rattle.pt_base.specs.declared.rule.Rule.TheVariants.{NoVehicle};
 ghost use Rattle.pt_commands.specs.Refusals.{IsAuditedFrom, IsDeniedBy, IsExplainedFrom};
 ghost use Rattle.pt_commands.specs.Tasks.{Inquires};
-ghost use Rattle.pt_commands.specs.declared.outcome.Outcome.TheVariants.{Done};
+ghost use Rattle.pt_commands.specs.declared.ending.Ending.TheVariants.{Done};
 ghost use Rattle.pt_desk_rules.specs.Sound.{IsSound};
 ghost use Rattle.pt_desk_rules.specs.State.{State};
 ghost use Rattle.pt_desk_rules.specs.Step.{IsOutcome};
@@ -12,7 +12,7 @@ ghost use Rattle.pt_requests.specs.declared.request.Answer.TheVariants as answer
 ghost use Rattle.pt_requests.specs.declared.request.Request.TheVariants.{Explain};
 
 use crate::asking::{line_of, print};
-use crate::{Outcome, fault_of};
+use crate::{Ending, fault_of};
 use pt_audit::{Log, check};
 use pt_base::{Cause, Fault, Moment, RiderId, Rule, Wish};
 use pt_desk::facts;
@@ -24,12 +24,12 @@ use std::alloc::Global;
 use std::io::Write;
 
 /// Prints the rule that denies a question.
-fn print_denial<W: Write>(alloc: Global, rule: Rule, out: &mut W) -> Result<Outcome, Fault>
+fn print_denial<W: Write>(alloc: Global, rule: Rule, out: &mut W) -> Result<Ending, Fault>
     ensures { IsDeniedBy (name_of rule) (W.contents out.old) (W.contents out.new) result }
 {
     let text = line_of(alloc, rule.name())?;
     print(text.as_slice(), out)?;
-    Ok(Outcome::Denied)
+    Ok(Ending::Denied)
 }
 
 /// Prints the log of a refusal, or that the wish is possible.
@@ -37,20 +37,20 @@ fn print_refusal<W: Write>(
     alloc: Global,
     found: &RefusalFacts,
     out: &mut W,
-) -> Result<Outcome, Fault>
+) -> Result<Ending, Fault>
     ensures { IsExplainedFrom found.now (W.contents out.old) (W.contents out.new) result }
 {
     let duties = found.duties(alloc)?;
-    let (lent, asked, times) = (duties.as_slice(), found.asked(), found.times());
+    let (lent, asked, times) = (duties.as_slice(), found.requested_trip(), found.times());
     if best(lent, asked, times).is_some() {
         print(b"possible\n", out)?;
-        return Ok(Outcome::Denied);
+        return Ok(Ending::Denied);
     }
     let mut log = Vec::new(alloc);
     match explain(lent, asked, times, &mut log) {
         Ok(()) => {
             print(log.as_slice(), out)?;
-            Ok(Outcome::Done)
+            Ok(Ending::Done)
         }
         // Writing to a vector fails only if memory runs out.
         Err(_) => Err(Fault::of(Cause::Memory)),
@@ -63,16 +63,21 @@ fn print_verdict<W: Write>(
     log: &Log,
     found: &RefusalFacts,
     out: &mut W,
-) -> Result<Outcome, Fault>
+) -> Result<Ending, Fault>
     ensures { IsAuditedFrom log.now.lines.items found.now (W.contents out.old) (W.contents out.new) result }
 {
     let duties = found.duties(alloc)?;
-    if check(log, duties.as_slice(), found.asked(), found.times()) {
+    if check(
+        log,
+        duties.as_slice(),
+        found.requested_trip(),
+        found.times(),
+    ) {
         print(b"yes\n", out)?;
-        return Ok(Outcome::Done);
+        return Ok(Ending::Done);
     }
     print(b"no\n", out)?;
-    Ok(Outcome::Denied)
+    Ok(Ending::Denied)
 }
 
 /// Asks, as the caller with this key, why a rider's wish would be denied `no vehicle`, and prints the log of the
@@ -88,7 +93,7 @@ pub fn explain_refusal<K: Keeper, W: Write>(
     rider: RiderId,
     wish: &Wish,
     out: &mut W,
-) -> Result<Outcome, Fault>
+) -> Result<Ending, Fault>
     ensures asked { Inquires IsExplainedFrom key.now now rider wish.now (K.store keeper.old) (K.store keeper.new)
         (W.contents out.old) (W.contents out.new) result }
     // If a log is printed, a booking with this wish is denied `no vehicle`, and by no other rule.
@@ -117,7 +122,7 @@ pub fn audit_refusal<K: Keeper, W: Write>(
     wish: &Wish,
     log: &Log,
     out: &mut W,
-) -> Result<Outcome, Fault>
+) -> Result<Ending, Fault>
     ensures asked { Inquires (IsAuditedFrom log.now.lines.items) key.now now rider wish.now (K.store keeper.old)
         (K.store keeper.new) (W.contents out.old) (W.contents out.new) result }
     // A yes means that the desk answers this very question in this very state with `no vehicle`, whoever made the log.

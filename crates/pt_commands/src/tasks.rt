@@ -1,7 +1,7 @@
 ghost use Rattle.pt_commands.specs.Tasks.{AuditsLog, DoesTask, PutsTimes, ReadsTimes};
 
 use crate::asking::{ask, fault_of};
-use crate::outcome::Outcome;
+use crate::ending::Ending;
 use crate::refusals::{audit_refusal, explain_refusal};
 use pt_audit::read_log;
 use pt_base::{Day, Fault, Moment, RiderId, Wish};
@@ -33,7 +33,7 @@ fn put_times<K: Keeper, W: Write>(
     day: Day,
     text: &[u8],
     out: &mut W,
-) -> Result<Outcome, Fault>
+) -> Result<Ending, Fault>
     ensures put { PutsTimes K.store key.now now number day text.now keeper.old keeper.new (W.contents out.old)
         (W.contents out.new) result }
 {
@@ -52,7 +52,7 @@ fn audit_text<K: Keeper, W: Write>(
     wish: &Wish,
     text: &[u8],
     out: &mut W,
-) -> Result<Outcome, Fault>
+) -> Result<Ending, Fault>
     ensures audited { AuditsLog K.store key.now now rider wish.now text.now keeper.old keeper.new
         (W.contents out.old) (W.contents out.new) result }
 {
@@ -72,7 +72,7 @@ pub fn do_task<K: Keeper, W: Write>(
     task: &Task<'_>,
     text: &[u8],
     out: &mut W,
-) -> Result<Outcome, Fault>
+) -> Result<Ending, Fault>
     ensures done { DoesTask K.store key.now now task.now text.now keeper.old keeper.new (W.contents out.old)
         (W.contents out.new) result }
 {

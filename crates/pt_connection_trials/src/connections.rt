@@ -264,7 +264,7 @@ fn a_client_that_goes_on_sending_is_read_from_for_a_while(rt: HostRuntime) {
 }
 
 /// The result of the one request of a connection to a new desk, and whether the desk has the clerk then.
-fn served<R: Abort + Clock>(
+fn serve_client<R: Abort + Clock>(
     rt: &R,
     alloc: Global,
     stream: &mut TcpStream,
@@ -282,7 +282,7 @@ fn a_client_gets_the_whole_reply(rt: HostRuntime) -> Result<(), Fail> {
     let mut client = TcpStream::connect(&rt, listener.local_addr()?)?;
     client.write_all(PUT_CLERK.as_bytes())?;
     let (mut stream, _peer) = listener.accept()?;
-    let (told, is_put) = served(&rt, rt.alloc(), &mut stream);
+    let (told, is_put) = serve_client(&rt, rt.alloc(), &mut stream);
     drop(stream);
     let mut reply = Vec::new(rt.alloc());
     client.read_to_end(&mut reply)?;

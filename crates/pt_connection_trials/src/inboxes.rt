@@ -59,12 +59,12 @@ fn a_byte_a_read(rt: HostRuntime) -> Result<(), Fail> {
     let reader = OneByOne::of(rt.alloc(), REQUEST.as_bytes(), 3, true)?;
     let mut inbox = Inbox::new(rt.alloc(), reader)?;
     assert_eq!(rt; inbox.read_head()?.map(|head| head.length), Some(45));
-    assert_eq!(rt; inbox.held().len(), 45);
+    assert_eq!(rt; inbox.buffer().len(), 45);
     assert_eq!(rt; inbox.read_up_to(47)?, true);
-    assert_eq!(rt; inbox.held(), &REQUEST.as_bytes()[..47]);
+    assert_eq!(rt; inbox.buffer(), &REQUEST.as_bytes()[..47]);
     // The reader fails after its last byte.
     assert_eq!(rt; inbox.read_up_to(51), Err(Fault::of(Cause::ReadFailed)));
-    assert_eq!(rt; inbox.held(), REQUEST.as_bytes());
+    assert_eq!(rt; inbox.buffer(), REQUEST.as_bytes());
     Ok(())
 }
 

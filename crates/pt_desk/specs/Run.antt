@@ -11,9 +11,9 @@ use Rattle.pt_requests.specs.declared.request.Answer.{Answer}
 use Rattle.pt_requests.specs.declared.request.Answer.TheVariants.{Denied}
 use Rattle.pt_requests.specs.declared.request.Request.{Request}
 use Rattle.pt_requests.specs.declared.request.Request.TheVariants.{Explain, Read, Write}
-use Rattle.pt_store.specs.Store.{Answers, IsSettled, Store as Kept, TellsBy}
+use Rattle.pt_store.specs.Store.{Answers, IsSettled, Store, TellsBy}
 use Rattle.pt_store.specs.declared.keeper.StoreFault.{StoreFault}
-use Rattle.pt_store.specs.declared.keeper.StoreFault.TheVariants.{Memory, Store}
+use Rattle.pt_store.specs.declared.keeper.StoreFault.TheVariants.{Memory, Store as Failed}
 use Rattle.pt_desk.specs.declared.running.Call.{Call}
 
 -- a request that only reads
@@ -48,14 +48,14 @@ AnswersCall call old new reply = TellsBy old new (IsOutcomeOf call) reply
 -- the store has failed, and the reply to each of these calls says so
 abbrev pub AreRefused : List Call → List (Result Answer StoreFault) → Type 0
 AreRefused [] [] = Unit {0}
-AreRefused (call ∷ calls) (reply ∷ replies) = (reply ≡ Err Store) × AreRefused calls replies
+AreRefused (call ∷ calls) (reply ∷ replies) = (reply ≡ Err Failed) × AreRefused calls replies
 AreRefused _ _ = ⊥
 
 -- Each reply is the rules' answer, or it is out of memory and nothing changes. Once the store has failed, each reply
 -- says so, and nothing is claimed about the state that is left.
 abbrev pub Runs : State → List Call → List (Result Answer StoreFault) → State → Type 0
 Runs old [] [] new = new ≡ old
-Runs old (call ∷ calls) (Err Store ∷ replies) new = AreRefused calls replies
+Runs old (call ∷ calls) (Err Failed ∷ replies) new = AreRefused calls replies
 Runs old (call ∷ calls) (Err Memory ∷ replies) new = Runs old calls replies new
 Runs old (call ∷ calls) (Ok told ∷ replies) new =
     (left : Option State) × IsOutcomeOf call old told left × Runs (state_after left old) calls replies new
@@ -84,11 +84,11 @@ AreAnswered _ _ _ = ⊥
 -- some reply says that the store has failed
 abbrev pub TellOfFailure : List (Result Answer StoreFault) → Type 0
 TellOfFailure [] = ⊥
-TellOfFailure (reply ∷ replies) = (reply ≡ Err Store) ⊎ TellOfFailure replies
+TellOfFailure (reply ∷ replies) = (reply ≡ Err Failed) ⊎ TellOfFailure replies
 
 -- the reply is an answer, or out of memory
 abbrev pub IsServed : Result Answer StoreFault → Type 0
-IsServed reply = reply ≢ Err Store
+IsServed reply = reply ≢ Err Failed
 
 -- the answered calls of a run, and the state that they leave
 pub record IsRunOf (old new : State) (calls : List Call) (replies : List (Result Answer StoreFault)) : Type 0 where
@@ -111,14 +111,14 @@ RunsLeaveAcceptedWrites = (old new : State) (calls : List Call) (replies : List 
     (answered : List Made) × AreAnswered calls replies answered × AreMadeBy old new answered (committed answered)
 
 -- the store is clean, serves and has not failed
-pub record IsServing (s : Kept) : Type 0 where
+pub record IsServing (s : Store) : Type 0 where
   pub clean : s.doubt ≡ 0
   pub serves : s.shut ≡ 0
   pub whole : s.failures ≡ 0
 
 -- A settled store with a sound content answers a call and still serves. An opening after a crash finds what the call
 -- left. If the call comes again there at the same moment, it gets the same answer and changes nothing.
-abbrev pub IsToldAfterACrash : Kept → Kept → Type 0
+abbrev pub IsToldAfterACrash : Store → Store → Type 0
 IsToldAfterACrash before after = (call : Call) (told again : Answer) (opened : State) (left : Option State) →
     IsSound before.content → IsSettled before → IsServing after → Answers before after (IsOutcomeOf call) (Ok told) →
     after.found (Some opened) → IsOutcomeOf call opened again left →

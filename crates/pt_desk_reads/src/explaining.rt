@@ -62,7 +62,7 @@ impl RefusalFacts {
     }
 
     /// The trip that the vehicles are asked for, under the number that it would get.
-    pub fn asked(&self) -> &Asked
+    pub fn requested_trip(&self) -> &Asked
         ensures value { result.now ≡ self.now.asked }
     {
         &self.asked

@@ -19,7 +19,9 @@ ghost use Rattle.pt_records.specs.Records.{record_at};
 use crate::change::one;
 use crate::limits::LAST_TRIP_NUMBER;
 use crate::permission::{may_alter, may_book};
-use crate::trips::{cancelled, confirmation_of, giving_up, is_cancellable, is_changeable, moving};
+use crate::trips::{
+    cancelled_trip, confirmation_of, giving_up, is_cancellable, is_changeable, moving,
+};
 use crate::{Change, DayFacts, Decision, TravelTable, WriteFacts, on_duty};
 use pt_base::{Day, Moment, Place, PlaceId, Rider, RiderId, Rule, Trip, TripId, Vehicle, Wish};
 use pt_booking::TripRequest;
@@ -167,7 +169,7 @@ pub fn answer_wish(
 }
 
 /// Accepts with the confirmation of a booked trip.
-fn confirmed(trip: &Trip, change: Change) -> Decision
+fn confirm(trip: &Trip, change: Change) -> Decision
     ensures { (told : Confirmation) × IsConfirmation trip.now told × (result ≡ Accepted (Booked told) change) }
 {
     Decision::Accepted {
@@ -199,7 +201,7 @@ fn book(
                 last_trip: Some(trip.id),
                 ..Change::none(alloc)
             };
-            Ok(confirmed(&trip, change))
+            Ok(confirm(&trip, change))
         }
     }
 }
@@ -246,7 +248,7 @@ fn rebook(
                 planned,
                 ..Change::none(alloc)
             };
-            Ok(confirmed(&trip, change))
+            Ok(confirm(&trip, change))
         }
     }
 }
@@ -281,7 +283,7 @@ fn cancel(alloc: Global, trip: &Trip, plan: &Option<PlannedRoute>) -> Result<Dec
     ensures { IfOk result (λ decided. decided ≡ Accepted Done (given_up trip.now plan.now)) }
 {
     let wish: Wish = trip.wish;
-    let trips = one(alloc, cancelled(trip, wish))?;
+    let trips = one(alloc, cancelled_trip(trip, wish))?;
     let planned = giving_up(alloc, trip, plan)?;
     Ok(Decision::Accepted {
         answer: Answer::Done,

@@ -92,7 +92,7 @@ fn put_caller(
     if let Some(rule) = denied {
         return Ok(Decision::Denied(rule));
     }
-    let Caller { id, role, digest } = new.copied();
+    let Caller { id, role, digest } = new.copy();
     let callers = one(alloc, Caller { id, role, digest })?;
     Ok(done(Change {
         callers,
@@ -315,7 +315,7 @@ fn kept_of(
     ensures { IfOk result (λ kept. kept ≡ kept_of me sent answer.now) }
 {
     let reply = KeptReply::of(answer).unwrap_or(KeptReply::Done);
-    one(alloc, sent.kept(me, reply))
+    one(alloc, sent.into_kept(me, reply))
 }
 
 /// The decision together with the kept request of the write, if it is accepted.

@@ -16,7 +16,7 @@ pub struct Sent {
 
 impl Sent {
     /// The kept request of an accepted write with this reply.
-    pub(crate) fn kept(self, caller: CallerId, reply: KeptReply) -> Kept
+    pub(crate) fn into_kept(self, caller: CallerId, reply: KeptReply) -> Kept
         ensures value { result ≡ kept_by caller self reply }
     {
         Kept {

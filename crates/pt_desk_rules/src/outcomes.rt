@@ -40,7 +40,7 @@ fn status_of(outcome: Outcome) -> TripStatus
 }
 
 /// The trip with this outcome.
-fn ended(trip: &Trip, wish: Wish, outcome: Outcome) -> Trip
+fn with_outcome(trip: &Trip, wish: Wish, outcome: Outcome) -> Trip
     requires { wish ≡ trip.now.wish }
     ensures { result ≡ ended outcome trip.now }
 {
@@ -65,7 +65,7 @@ fn end(alloc: Global, trip: &Trip, outcome: Outcome) -> Result<Decision, AllocEr
         ≡ Accepted Done (record no_change { trips = puts_one (ended outcome trip.now) })) }
 {
     let wish: Wish = trip.wish;
-    let trips = one(alloc, ended(trip, wish, outcome))?;
+    let trips = one(alloc, with_outcome(trip, wish, outcome))?;
     Ok(Decision::Accepted {
         answer: Answer::Done,
         change: Change {

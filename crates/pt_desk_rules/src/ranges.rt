@@ -58,7 +58,7 @@ impl Fitting for Caller {
     fn fits(&self) {
         let _id = self.id.number();
         fits_role(self.role);
-        let _copy = self.copied();
+        let _copy = self.copy();
     }
 }
 

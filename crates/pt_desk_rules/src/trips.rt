@@ -58,7 +58,7 @@ pub(crate) fn confirmation_of(trip: &Trip) -> Confirmation
 }
 
 /// The trip with the status cancelled. `wish` is the trip's own wish.
-pub(crate) fn cancelled(trip: &Trip, wish: Wish) -> Trip
+pub(crate) fn cancelled_trip(trip: &Trip, wish: Wish) -> Trip
     requires { wish ≡ trip.now.wish }
     ensures { result ≡ cancelled trip.now }
 {

@@ -6,6 +6,6 @@ pub mod Route
 pub mod ServiceTimes
 pub mod Stop
 pub mod Visit
-pub mod Line
+pub mod Timeline
 pub mod Sweep
 pub mod Steps

@@ -1,4 +1,4 @@
--- How the bounds of the times of a line rise.
+-- How the bounds of the times of a timeline rise.
 use Rattle.std.specs.Prelude.{◌≡◌, ℕ, ◌+◌, ◌<◌, ◌≤◌, List, length, slice_index, slice_index_or, sum}
 use Rattle.pt_feasible.specs.declared.limits.Limits.{Limits}
 use Rattle.pt_feasible.specs.declared.sweep.Pass.{Pass}

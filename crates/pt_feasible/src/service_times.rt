@@ -2,8 +2,8 @@ ghost use Rattle.std.specs.Prelude.{◌≡◌, ℕ, ◌+◌, ◌<◌, ◌≤◌,
 ghost use Rattle.pt_feasible.specs.Pairing.{most_stops};
 ghost use Rattle.pt_feasible.specs.ServiceTimes.{TimesFit, IsNeverLater, IsLeastSchedule};
 
-use crate::line::line_of;
 use crate::sweep::least_times;
+use crate::timeline::timeline_of;
 use crate::{Passes, Schedule, Stops};
 use pt_base::Vehicle;
 use pt_travel::Times;
@@ -100,6 +100,6 @@ fn settle_by<L: Ledger, S: Stops, T: Times>(
     ensures counted { IfSome result (λ _. passes.old < passes.new) }
     ensures passes { passes.new ≤ passes.old + length (S.stops stops.now) + 3 }
 {
-    let line = line_of(stops, times, vehicle, floor)?;
-    least_times(line, passes)
+    let timeline = timeline_of(stops, times, vehicle, floor)?;
+    least_times(timeline, passes)
 }

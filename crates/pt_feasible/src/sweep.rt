@@ -5,7 +5,7 @@ ghost use Rattle.pt_feasible.specs.Sweep.{Raises, IsWalkedTo};
 ghost use Rattle.pt_feasible.specs.ServiceTimes.{IsNeverLater};
 
 use crate::limits::Limits;
-use crate::line::Line;
+use crate::timeline::Timeline;
 use crate::{Passes, Schedule};
 use std::sync::ledger::Ledger;
 
@@ -20,25 +20,25 @@ pub(crate) enum Pass {
     Broken,
 }
 
-/// The least times, from the line's bounds on, that keep all its limits; `None` if there are none.
-pub(crate) fn least_times<L: Ledger>(line: Line, passes: &mut Passes<L>) -> Option<Schedule>
-    requires same_length { length line.earliest.items ≡ length line.limits.items }
-    requires look_back { LookBack line.limits.items }
-    requires in_windows { AreInWindows line.limits.items line.earliest.items }
-    ensures count { IfSome result (λ times. length times.items ≡ length line.earliest.items) }
-    ensures rises { IfSome result (λ times. IsNeverLater line.earliest.items times.items) }
-    ensures kept { IfSome result (λ times. KeepsAll line.limits.items times.items) }
-    ensures least { IfSome result (λ times. (b : List ℕ) → IsNeverLater line.earliest.items b
-        → KeepsAll line.limits.items b → IsNeverLater times.items b) }
-    ensures none { IfNone result ((b : List ℕ) → length b ≡ length line.earliest.items
-        → IsNeverLater line.earliest.items b → ¬ KeepsAll line.limits.items b) }
+/// The least times, from the timeline's bounds on, that keep all its limits; `None` if there are none.
+pub(crate) fn least_times<L: Ledger>(timeline: Timeline, passes: &mut Passes<L>) -> Option<Schedule>
+    requires same_length { length timeline.earliest.items ≡ length timeline.limits.items }
+    requires look_back { LookBack timeline.limits.items }
+    requires in_windows { AreInWindows timeline.limits.items timeline.earliest.items }
+    ensures count { IfSome result (λ times. length times.items ≡ length timeline.earliest.items) }
+    ensures rises { IfSome result (λ times. IsNeverLater timeline.earliest.items times.items) }
+    ensures kept { IfSome result (λ times. KeepsAll timeline.limits.items times.items) }
+    ensures least { IfSome result (λ times. (b : List ℕ) → IsNeverLater timeline.earliest.items b
+        → KeepsAll timeline.limits.items b → IsNeverLater times.items b) }
+    ensures none { IfNone result ((b : List ℕ) → length b ≡ length timeline.earliest.items
+        → IsNeverLater timeline.earliest.items b → ¬ KeepsAll timeline.limits.items b) }
     ensures counted { IfSome result (λ _. passes.old < passes.new) }
-    ensures passes { passes.new ≤ passes.old + length line.limits.items + 1 }
+    ensures passes { passes.new ≤ passes.old + length timeline.limits.items + 1 }
 {
-    let Line {
+    let Timeline {
         earliest: mut bounds,
         limits,
-    } = line;
+    } = timeline;
     for _ in 0..limits.len() + 1 {
         match sweep(bounds.as_mut_slice(), limits.as_slice(), passes) {
             Pass::Stayed => return Some(bounds),

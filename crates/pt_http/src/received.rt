@@ -68,15 +68,15 @@ pub(crate) fn receive<R: Read + Drop>(
     let Some(head) = inbox.read_head()? else {
         return Ok(Received::Refused(RequestFault::Head));
     };
-    let Some(length) = body_length(&head.lines, &inbox.held()[..head.length]) else {
+    let Some(length) = body_length(&head.lines, &inbox.buffer()[..head.length]) else {
         return Ok(Received::Refused(RequestFault::Length));
     };
     let end = head.length + length as usize;
     if !inbox.read_up_to(end)? {
         return Ok(Received::Refused(RequestFault::Length));
     }
-    let held = inbox.held();
-    let (front, body) = (&held[..head.length], &held[head.length..end]);
+    let buffer = inbox.buffer();
+    let (front, body) = (&buffer[..head.length], &buffer[head.length..end]);
     let received = received_from(alloc, router, &head, front, body)?;
     inbox.finish_request(end);
     Ok(received)

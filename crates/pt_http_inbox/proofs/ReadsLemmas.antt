@@ -2,7 +2,7 @@
 use Rattle.std.proofs.Common.{◌≡◌, ℕ, List, [], ◌++◌, Option, Some, None, unwrap_or, refl, sym, ap, ◌∙◌, append_assoc}
 use Rattle.std.proofs.Common.{append-nil, arith, length-append}
 use Rattle.std.specs.Io.KnownBytes.{Consumes, Keeps}
-use Rattle.pt_http_inbox.specs.Inbox.{held, reader_of, ReadsOn}
+use Rattle.pt_http_inbox.specs.Inbox.{buffer, reader_of, ReadsOn}
 use Rattle.pt_http_inbox.specs.declared.inbox.Inbox.{Inbox}
 
 consumes_none : (known : Option (List ℕ)) → Consumes known known []
@@ -22,7 +22,7 @@ pub reads_none : {R : Type 0} (remaining : R → Option (List ℕ)) (inbox : Inb
 reads_none remaining inbox = record {
   more = [];
   consumed = consumes_none (remaining (reader_of inbox));
-  appended = sym (append-nil (held inbox));
+  appended = sym (append-nil (buffer inbox));
   counted = omega arith;
 }
 
@@ -33,7 +33,7 @@ reads_then remaining a b c x y = record {
   more = x.more ++ y.more;
   consumed = consumes_then (remaining (reader_of a)) (remaining (reader_of b)) (remaining (reader_of c)) x.more y.more
       x.consumed y.consumed;
-  appended = y.appended ∙ ap (λ t. t ++ y.more) x.appended ∙ append_assoc (held a) x.more y.more;
+  appended = y.appended ∙ ap (λ t. t ++ y.more) x.appended ∙ append_assoc (buffer a) x.more y.more;
   counted = omega (arith, x.counted, y.counted, length-append x.more y.more);
 }
 
@@ -69,6 +69,6 @@ known_rest (Some xs) (Some ys) old new more left consumed appended is =
 pub reads_known : {R : Type 0} (remaining : R → Option (List ℕ)) (old new : Inbox R) (left : List ℕ)
     → ReadsOn remaining old new
     → remaining (reader_of old) ≡ Some left
-    → (rest : List ℕ) × (remaining (reader_of new) ≡ Some rest) × (held old ++ left ≡ held new ++ rest)
+    → (rest : List ℕ) × (remaining (reader_of new) ≡ Some rest) × (buffer old ++ left ≡ buffer new ++ rest)
 reads_known remaining old new left reads is = known_rest (remaining (reader_of old)) (remaining (reader_of new))
-    (held old) (held new) reads.more left reads.consumed reads.appended is
+    (buffer old) (buffer new) reads.more left reads.consumed reads.appended is

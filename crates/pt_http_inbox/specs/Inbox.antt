@@ -5,8 +5,8 @@ use Rattle.pt_http_inbox.specs.declared.inbox.Inbox.{Inbox}
 use Rattle.pt_http_inbox.specs.Reads.{longest_piece}
 
 -- the bytes that have been read and not yet consumed
-abbrev pub held : {R : Type 0} → Inbox R → List ℕ
-held inbox = inbox.bytes.value.items
+abbrev pub buffer : {R : Type 0} → Inbox R → List ℕ
+buffer inbox = inbox.bytes.value.items
 
 -- the reader behind them
 abbrev pub reader_of : {R : Type 0} → Inbox R → R
@@ -21,5 +21,5 @@ reads_of inbox = inbox.reader.reads
 pub record ReadsOn {R : Type 0} (remaining : R → Option (List ℕ)) (old new : Inbox R) : Type 0 where
   pub more : List ℕ
   pub consumed : Consumes (remaining (reader_of old)) (remaining (reader_of new)) more
-  pub appended : held new ≡ held old ++ more
+  pub appended : buffer new ≡ buffer old ++ more
   pub counted : length more + longest_piece * reads_of old ≤ longest_piece * reads_of new

@@ -37,11 +37,11 @@ pub struct Inbox<R> {
 }
 
 impl<R: Read + Drop> Inbox<R> {
-    ghost use Rattle.pt_http_inbox.specs.Inbox.{held, reader_of, reads_of, ReadsOn};
+    ghost use Rattle.pt_http_inbox.specs.Inbox.{buffer, reader_of, reads_of, ReadsOn};
 
     /// An inbox that holds nothing yet. The error is out of memory.
     pub fn new(alloc: Global, reader: R) -> Result<Self, AllocError>
-        ensures empty { IfOk result (λ inbox. held inbox ≡ []) }
+        ensures empty { IfOk result (λ inbox. buffer inbox ≡ []) }
         ensures reader { IfOk result (λ inbox. reader_of inbox ≡ reader) }
         ensures fresh { IfOk result (λ inbox. reads_of inbox ≡ 0) }
     {
@@ -51,8 +51,8 @@ impl<R: Read + Drop> Inbox<R> {
     }
 
     /// The bytes that have come and are not yet consumed.
-    pub fn held(&self) -> &[u8]
-        ensures value { result.now ≡ held self.now }
+    pub fn buffer(&self) -> &[u8]
+        ensures value { result.now ≡ buffer self.now }
         ensures within { length result.now ≤ ROOM }
     {
         self.bytes.as_slice()
@@ -60,13 +60,13 @@ impl<R: Read + Drop> Inbox<R> {
 
     /// Reads once; `false` at the end of the input. The error is a failed read, or too many reads.
     pub fn read_more(&mut self) -> Result<bool, Fault>
-        requires { length (held self.old) < ROOM }
+        requires { length (buffer self.old) < ROOM }
         ensures reads { ReadsOn R.remaining self.old self.new }
         ensures counted { IfOk result (λ _. reads_of self.old < reads_of self.new) }
-        ensures more { result ≡ Ok true → length (held self.old) < length (held self.new) }
+        ensures more { result ≡ Ok true → length (buffer self.old) < length (buffer self.new) }
         ensures end { result ≡ Ok false → IsAtEnd (R.remaining (reader_of self.new)) }
-        ensures nothing { result ≡ Ok false → held self.new ≡ held self.old }
-        ensures err { OnErr result (held self.new ≡ held self.old) }
+        ensures nothing { result ≡ Ok false → buffer self.new ≡ buffer self.old }
+        ensures err { OnErr result (buffer self.new ≡ buffer self.old) }
         ensures fault { IfErr result (λ error. error ≡ fault cause.ReadFailed) }
     {
         let mut piece = [0; PIECE];
@@ -83,7 +83,7 @@ impl<R: Read + Drop> Inbox<R> {
         ensures bytes { ReadConsumes (R.remaining (reader_of self.old)) (R.remaining (reader_of self.new))
             result piece.new }
         ensures within { IfOk result (λ count. count ≤ length piece.new) }
-        ensures held { held self.new ≡ held self.old }
+        ensures buffer { buffer self.new ≡ buffer self.old }
         ensures counted { reads_of self.old ≤ reads_of self.new }
         ensures one_more { IfOk result (λ _. reads_of self.old < reads_of self.new) }
         ensures retried { IfErr result (λ error. error_kind error ≡ ErrorKind.Interrupted
@@ -102,13 +102,13 @@ impl<R: Read + Drop> Inbox<R> {
     /// The error is a failed read, or too many reads.
     pub fn read_head(&mut self) -> Result<Option<Head>, Fault>
         ensures reads { ReadsOn R.remaining self.old self.new }
-        ensures head { IfOk result (λ found. IfSome found (IsHead (held self.new))) }
+        ensures head { IfOk result (λ found. IfSome found (IsHead (buffer self.new))) }
         ensures none { result ≡ Ok None → (more : List ℕ) → R.remaining (reader_of self.new) ≡ Some more
-            → HasNoHead (held self.new ++ more) }
+            → HasNoHead (buffer self.new ++ more) }
         ensures fault { IfErr result (λ error. error ≡ fault cause.ReadFailed) }
     {
         for _ in 0..=MOST_READS {
-            match front_of(self.held()) {
+            match front_of(self.buffer()) {
                 Front::Head(head) => return Ok(Some(head)),
                 Front::Never => return Ok(None),
                 Front::Open => {
@@ -126,8 +126,8 @@ impl<R: Read + Drop> Inbox<R> {
     pub fn read_up_to(&mut self, count: usize) -> Result<bool, Fault>
         requires { count ≤ ROOM }
         ensures reads { ReadsOn R.remaining self.old self.new }
-        ensures enough { result ≡ Ok true → count ≤ length (held self.new) }
-        ensures short { result ≡ Ok false → length (held self.new) < count }
+        ensures enough { result ≡ Ok true → count ≤ length (buffer self.new) }
+        ensures short { result ≡ Ok false → length (buffer self.new) < count }
         ensures end { result ≡ Ok false → IsAtEnd (R.remaining (reader_of self.new)) }
         ensures fault { IfErr result (λ error. error ≡ fault cause.ReadFailed) }
     {
@@ -144,8 +144,8 @@ impl<R: Read + Drop> Inbox<R> {
 
     /// Drops the first `count` bytes, which come before a request. The count of reads continues.
     pub fn consume(&mut self, count: usize)
-        requires { count ≤ length (held self.old) }
-        ensures rest { held self.new ≡ drop count (held self.old) }
+        requires { count ≤ length (buffer self.old) }
+        ensures rest { buffer self.new ≡ drop count (buffer self.old) }
         ensures reader { reader_of self.new ≡ reader_of self.old }
         ensures counted { reads_of self.new ≡ reads_of self.old }
     {
@@ -156,8 +156,8 @@ impl<R: Read + Drop> Inbox<R> {
 
     /// Drops the first `count` bytes, which are a whole request. The count of reads begins anew.
     pub fn finish_request(&mut self, count: usize)
-        requires { count ≤ length (held self.old) }
-        ensures rest { held self.new ≡ drop count (held self.old) }
+        requires { count ≤ length (buffer self.old) }
+        ensures rest { buffer self.new ≡ drop count (buffer self.old) }
         ensures reader { reader_of self.new ≡ reader_of self.old }
         ensures fresh { reads_of self.new ≡ 0 }
     {

@@ -21,7 +21,7 @@ use Rattle.pt_insertion.specs.Asked.{pickup_stop, drop_stop}
 use Rattle.pt_insertion.specs.Insertion.{with_trip, IsWithout}
 use Rattle.pt_insertion.specs.Possible.{IsPossible}
 use Rattle.pt_insertion.specs.declared.bounds.Bounds.{Bounds}
-use Rattle.pt_insertion.specs.declared.window.Window.{Window}
+use Rattle.pt_insertion.specs.declared.window.ServiceWindow.{ServiceWindow}
 use Rattle.pt_insertion.specs.Bounds.{AreBounds, IsPickupWindow, IsDropWindow}
 use Rattle.pt_insertion.specs.Riding.{IsRiddenFor, IsServedUntil}
 use Rattle.pt_insertion.specs.TravelTimes.{KeepsTriangleLaw}
@@ -111,7 +111,7 @@ begins_ride minutes vehicle stops asked i later b last from among fits e =
     (sym place, omega arith)
 
 -- the pickup's service ends at the start of its window plus the service, or later
-pub begins_served : (minutes : ℕ → ℕ → Option ℕ) (vehicle : Vehicle) (stops : List Stop) (asked : Asked) (i : ℕ) (pickup : Window) →
+pub begins_served : (minutes : ℕ → ℕ → Option ℕ) (vehicle : Vehicle) (stops : List Stop) (asked : Asked) (i : ℕ) (pickup : ServiceWindow) →
     IsPickupWindow minutes vehicle stops asked i pickup → IsServedUntil minutes vehicle stops asked i i (pickup.lo + asked.service)
 begins_served minutes vehicle stops asked i pickup begins later b last from among fits e =
     let (at, least) = begins_ride minutes vehicle stops asked i later b last from among fits e in
@@ -265,7 +265,7 @@ too_late_on minutes vehicle stops asked bounds i j place ridden leaves here driv
     omega (arith, after, high, late)
 
 -- where the vehicle leaves after the drop's window, no drop comes later
-pub no_drops_after : (minutes : ℕ → ℕ → Option ℕ) (vehicle : Vehicle) (stops : List Stop) (asked : Asked) (window : Window) (i j place ridden leaves : ℕ) →
+pub no_drops_after : (minutes : ℕ → ℕ → Option ℕ) (vehicle : Vehicle) (stops : List Stop) (asked : Asked) (window : ServiceWindow) (i j place ridden leaves : ℕ) →
     KeepsTriangleLaw minutes → vehicle.closes ≤ last_minute → IsDropWindow minutes vehicle stops asked i window → i ≤ j →
     IsRiddenFor minutes vehicle stops asked i j place ridden → IsServedUntil minutes vehicle stops asked i j leaves →
     window.hi < leaves → (later : ℕ) → j ≤ later → ¬ IsPossible minutes vehicle stops asked i later
@@ -278,7 +278,7 @@ no_drops_after minutes vehicle stops asked window i j place ridden leaves law da
     omega (arith, high, come, late)
 
 -- the drop comes no sooner than the way to it takes, in its window, and in time for the next stop
-pub drop_comes : (minutes : ℕ → ℕ → Option ℕ) (vehicle : Vehicle) (stops : List Stop) (asked : Asked) (bounds : Bounds) (window : Window)
+pub drop_comes : (minutes : ℕ → ℕ → Option ℕ) (vehicle : Vehicle) (stops : List Stop) (asked : Asked) (bounds : Bounds) (window : ServiceWindow)
     (i j place ridden leaves : ℕ) (next : Visit) →
     KeepsTriangleLaw minutes → AreBounds minutes vehicle stops bounds → IsWithout asked.trip stops → IsDropWindow minutes vehicle stops asked i window →
     slice_get (visits vehicle stops) (j + 1) ≡ Some next →

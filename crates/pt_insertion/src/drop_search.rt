@@ -1,5 +1,5 @@
 use crate::bounds::Bounds;
-use crate::window::Window;
+use crate::window::ServiceWindow;
 use crate::{Asked, Duty};
 
 /// The search of one vehicle's route for a drop, once the place of the pickup is given.
@@ -10,7 +10,7 @@ pub(crate) struct DropSearch<'a> {
     /// Bounds of all service times that fit the route.
     pub bounds: &'a Bounds,
     /// When the drop can begin.
-    pub window: Window,
+    pub window: ServiceWindow,
     /// After how many of the route's stops the pickup comes.
     pub i: usize,
 }

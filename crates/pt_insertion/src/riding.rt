@@ -9,7 +9,7 @@ ghost use Rattle.pt_insertion.specs.Possible.{IsPossible};
 ghost use Rattle.pt_insertion.specs.Riding.{IsRiding};
 
 use crate::drop_search::DropSearch;
-use crate::window::Window;
+use crate::window::ServiceWindow;
 use crate::{Asked, Duty};
 use pt_base::{Load, PlaceId, Vehicle};
 use pt_feasible::{aboard_after, visit_at};
@@ -29,10 +29,10 @@ pub(crate) struct Riding {
 }
 
 /// The ride as it begins after the first `i` stops; `None` if the vehicle has no room for the party.
-pub(crate) fn boarded(
+pub(crate) fn board(
     duty: &Duty<'_>,
     asked: &Asked,
-    pickup: Window,
+    pickup: ServiceWindow,
     i: usize,
     others: Load,
 ) -> Option<Riding>

@@ -40,7 +40,7 @@ fn next_moment<R: Read + Drop>(inbox: &mut Inbox<R>) -> Result<Option<Moment>, F
         return Ok(None);
     }
     inbox.read_up_to(LONGEST_MOMENT_LINE)?;
-    let Some(line) = moment_at(inbox.held()) else {
+    let Some(line) = moment_at(inbox.buffer()) else {
         return Err(Fault::of(Cause::MomentLine));
     };
     inbox.consume(line.end);

@@ -78,7 +78,7 @@ pub struct Caller {
 
 impl Caller {
     /// A copy. Its digest has 32 bytes, like every digest.
-    pub fn copied(&self) -> Self
+    pub fn copy(&self) -> Self
         ensures value { result ≡ self.now }
         ensures digest { length result.digest ≡ 32 }
     {

@@ -13,7 +13,7 @@ use pt_base::{CallerId, Day};
 const APPEAL_WITHIN: u32 = 60;
 
 /// The disputed entry, if this one is an appeal against one of the entries.
-fn disputed<'a>(entries: &'a [Entered], entry: &Entry) -> Option<&'a Entered>
+fn disputed_entry<'a>(entries: &'a [Entered], entry: &Entry) -> Option<&'a Entered>
     ensures { option_copied result ≡ disputed entries.now entry.now }
 {
     match entry {
@@ -26,7 +26,7 @@ fn disputed<'a>(entries: &'a [Entered], entry: &Entry) -> Option<&'a Entered>
 fn disputes_refusal(entries: &[Entered], entry: &Entry) -> bool
     ensures { result ≡ disputes (λ e. is_refusal e.entry) entries.now entry.now }
 {
-    match disputed(entries, entry) {
+    match disputed_entry(entries, entry) {
         Some(refusal) => refusal.entry.is_refusal(),
         None => false,
     }
@@ -37,7 +37,7 @@ fn is_answered(entries: &[Entered], entry: &Entry, decision: &Entry, author: Cal
     ensures { result
         ≡ disputes (λ e. may_answer decision.now e.entry && not (e.author == author)) entries.now entry.now }
 {
-    match disputed(entries, entry) {
+    match disputed_entry(entries, entry) {
         Some(before) => decision.may_answer(&before.entry) && before.author != author,
         None => false,
     }

@@ -176,7 +176,7 @@ impl CaseFile {
         ensures fault { IfErr result (λ refused. refused.1 ≡ record { cause = cause.Memory; row = 0 }) }
     {
         let waiting = waiting_after(self.waiting, &entry, today);
-        let granted = entry.granted();
+        let granted = entry.grant();
         let entered = Entered {
             entry,
             day: today,
@@ -218,7 +218,7 @@ impl CaseFile {
             return Standing::AppealOverdue;
         }
         match &self.granted {
-            Some(grant) if day <= grant.until => Standing::Granted(grant.copied()),
+            Some(grant) if day <= grant.until => Standing::Granted(grant.copy()),
             _ => Standing::None,
         }
     }
@@ -237,7 +237,7 @@ impl Clone for CaseFile {
 
     fn clone(&self) -> Result<Self, AllocError> {
         let granted = match &self.granted {
-            Some(grant) => Some(grant.copied()),
+            Some(grant) => Some(grant.copy()),
             None => None,
         };
         Ok(CaseFile {

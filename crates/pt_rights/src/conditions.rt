@@ -66,7 +66,7 @@ impl Conditions {
     }
 
     /// A copy, which takes no memory.
-    pub fn copied(&self) -> Self
+    pub fn copy(&self) -> Self
         ensures { result ≡ self.now }
     {
         let mut members = ArrayVec::new();
@@ -83,7 +83,7 @@ impl Clone for Conditions {
     ghost is_infallible = { λ _. ⊤ };
 
     fn clone(&self) -> Result<Self, AllocError> {
-        Ok(self.copied())
+        Ok(self.copy())
     }
 }
 

@@ -17,12 +17,12 @@ pub struct Grant {
 
 impl Grant {
     /// A copy, which takes no memory.
-    pub fn copied(&self) -> Self
+    pub fn copy(&self) -> Self
         ensures { result ≡ self.now }
     {
         Grant {
             until: self.until,
-            conditions: self.conditions.copied(),
+            conditions: self.conditions.copy(),
         }
     }
 }
@@ -33,7 +33,7 @@ impl Clone for Grant {
     ghost is_infallible = { λ _. ⊤ };
 
     fn clone(&self) -> Result<Self, AllocError> {
-        Ok(self.copied())
+        Ok(self.copy())
     }
 }
 
@@ -75,11 +75,11 @@ pub enum Entry {
 
 impl Entry {
     /// A copy of what the entry grants, if it grants.
-    pub(crate) fn granted(&self) -> Option<Grant>
+    pub(crate) fn grant(&self) -> Option<Grant>
         ensures { result ≡ grant_of self.now }
     {
         match self {
-            Entry::Grant(grant) | Entry::AppealGranted(grant) => Some(grant.copied()),
+            Entry::Grant(grant) | Entry::AppealGranted(grant) => Some(grant.copy()),
             _ => None,
         }
     }
@@ -203,11 +203,11 @@ impl Clone for Entry {
     fn clone(&self) -> Result<Self, AllocError> {
         match self {
             Entry::Complete => Ok(Entry::Complete),
-            Entry::Grant(grant) => Ok(Entry::Grant(grant.copied())),
+            Entry::Grant(grant) => Ok(Entry::Grant(grant.copy())),
             Entry::Refuse(reasons) => Ok(Entry::Refuse(reasons.clone()?)),
             Entry::Appeal { against } => Ok(Entry::Appeal { against: *against }),
             Entry::Heard => Ok(Entry::Heard),
-            Entry::AppealGranted(grant) => Ok(Entry::AppealGranted(grant.copied())),
+            Entry::AppealGranted(grant) => Ok(Entry::AppealGranted(grant.copy())),
             Entry::AppealDenied(reasons) => Ok(Entry::AppealDenied(reasons.clone()?)),
             Entry::Overturn => Ok(Entry::Overturn),
             Entry::Notice(basis) => Ok(Entry::Notice(basis.clone()?)),

@@ -10,8 +10,8 @@ use Rattle.pt_insertion.specs.declared.duty.Duty.{Duty}
 use Rattle.pt_booking.specs.Booking as booking
 use Rattle.pt_booking.specs.Booking.{IsNewRoute, IsTripOf}
 use Rattle.pt_booking.specs.declared.booking.Booking.{Booking}
-use Rattle.pt_booking.specs.declared.booking.Decision.{Decision}
-use Rattle.pt_booking.specs.declared.booking.Decision.TheVariants as decision
+use Rattle.pt_booking.specs.declared.booking.BookingDecision.{BookingDecision}
+use Rattle.pt_booking.specs.declared.booking.BookingDecision.TheVariants as decision
 use Rattle.pt_booking.specs.Rules.{IsFirstFailing}
 use Rattle.pt_booking.specs.Planning.{OnDuty, on_duty, asked_for, booking_rules, IsBestPlace}
 use Rattle.pt_booking.specs.Request.{Request}
@@ -37,7 +37,7 @@ plan_with minutes vehicles trip chosen stops plan same some is =
     (λ duty new. (stops, new, is ∙ ap (λ (v : ℕ). record { vehicle = v; day = trip.wish.day; stops = map planned_stop stops }) same)) vehicles some
 
 -- what is booked is scheduled
-pub booked : {E : Type 0} (minutes : ℕ → ℕ → Option ℕ) (vehicles : List OnDuty) (request : Request) (result : Result Decision E) (decided : Decision) (there : Booking) (plan : Plan)
+pub booked : {E : Type 0} (minutes : ℕ → ℕ → Option ℕ) (vehicles : List OnDuty) (request : Request) (result : Result BookingDecision E) (decided : BookingDecision) (there : Booking) (plan : Plan)
     → result ≡ Ok decided → decided ≡ decision.Booked there
     → (booking.IsAllowed result ↔ IsFirstFailing (booking_rules minutes vehicles request) None)
     → booking.IfBooked result (λ b. IsBestPlace minutes vehicles (asked_for minutes request) b.chosen)
@@ -46,11 +46,11 @@ pub booked : {E : Type 0} (minutes : ℕ → ℕ → Option ℕ) (vehicles : Lis
     → plan ≡ record { vehicle = there.trip.vehicle; day = there.trip.wish.day; stops = map planned_stop (stops_of there.route) }
     → IsScheduled minutes vehicles request (Booked there.trip plan)
 booked {E} minutes vehicles request result decided there plan is which allowed best trip route plan_is =
-    let whole : result ≡ Ok (decision.Booked there) = is ∙ ap (λ (d : Decision). Ok d) which in
-    let allowed' = subst (λ (r : Result Decision E). booking.IsAllowed r ↔ IsFirstFailing (booking_rules minutes vehicles request) None) whole allowed in
-    let best' = subst (λ (r : Result Decision E). booking.IfBooked r (λ b. IsBestPlace minutes vehicles (asked_for minutes request) b.chosen)) whole best in
-    let trip' = subst (λ (r : Result Decision E). booking.IfBooked r (λ b. IsTripOf minutes request b.chosen b.trip)) whole trip in
-    let route' = subst (λ (r : Result Decision E). booking.IfBooked r (λ b. Any (λ duty. IsNewRoute minutes duty b.trip b.chosen (stops_of b.route)) vehicles)) whole route in (
+    let whole : result ≡ Ok (decision.Booked there) = is ∙ ap (λ (d : BookingDecision). Ok d) which in
+    let allowed' = subst (λ (r : Result BookingDecision E). booking.IsAllowed r ↔ IsFirstFailing (booking_rules minutes vehicles request) None) whole allowed in
+    let best' = subst (λ (r : Result BookingDecision E). booking.IfBooked r (λ b. IsBestPlace minutes vehicles (asked_for minutes request) b.chosen)) whole best in
+    let trip' = subst (λ (r : Result BookingDecision E). booking.IfBooked r (λ b. IsTripOf minutes request b.chosen b.trip)) whole trip in
+    let route' = subst (λ (r : Result BookingDecision E). booking.IfBooked r (λ b. Any (λ duty. IsNewRoute minutes duty b.trip b.chosen (stops_of b.route)) vehicles)) whole route in (
       allowed'.0 tt,
       (
         there.chosen,

@@ -12,7 +12,7 @@ use crate::PlannedRoute;
 use crate::planned::planned_stops;
 use crate::routes::{duties_of, routes_without};
 use pt_base::{Rule, Trip, TripId, Vehicle};
-use pt_booking::{Booking, Decision, TripRequest, book};
+use pt_booking::{Booking, BookingDecision, TripRequest, book};
 use pt_insertion::{Duty, are_rising, are_without};
 use pt_records::Rows;
 use pt_travel::Times;
@@ -76,11 +76,11 @@ fn book_in<T: Times>(
         return Ok(Scheduled::Denied(Rule::NoVehicle));
     }
     match book(alloc, request, duties, times)? {
-        Decision::Booked(booking) => Ok(Scheduled::Booked {
+        BookingDecision::Booked(booking) => Ok(Scheduled::Booked {
             plan: plan_of(alloc, &booking)?,
             trip: booking.trip,
         }),
-        Decision::Denied(rule) => Ok(Scheduled::Denied(rule)),
+        BookingDecision::Denied(rule) => Ok(Scheduled::Denied(rule)),
     }
 }
 

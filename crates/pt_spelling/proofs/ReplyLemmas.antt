@@ -7,7 +7,7 @@ use Rattle.std.proofs.lemmas.List.{take-append-drop, drop-drop, drop_all}
 use Rattle.pt_requests.specs.declared.request.Confirmation.{Confirmation}
 use Rattle.pt_spelling.specs.Fields.{number_bytes, numbers_bytes}
 use Rattle.pt_spelling.specs.Ranges.{IsWord}
-use Rattle.pt_spelling.specs.Replies.{numbers_told, IsTold, SpellsReply}
+use Rattle.pt_spelling.specs.Replies.{confirmation_numbers, IsTold, SpellsReply}
 use Rattle.pt_spelling.specs.declared.replies.KeptReply.{KeptReply}
 use Rattle.pt_spelling.specs.declared.replies.KeptReply.TheVariants.{Done, Entered, Booked}
 use Rattle.pt_spelling.proofs.FieldLemmas.{length-number, number-same, numbers-same}
@@ -39,7 +39,7 @@ pub at_most-prop : (most n : ℕ) → IsProp (n ≤ most)
 at_most-prop most n = hlevel props
 
 -- replies to bookings with the same numbers are the same
-pub told-same : (a b : Confirmation) → numbers_told a ≡ numbers_told b → a ≡ b
+pub told-same : (a b : Confirmation) → confirmation_numbers a ≡ confirmation_numbers b → a ≡ b
 told-same a b same = λ i. record {
   trip = get_or (same i) 0 0;
   vehicle = get_or (same i) 1 0;
@@ -51,9 +51,9 @@ told-same a b same = λ i. record {
   due_in_range = is_prop→PathP (λ j. get_or (same j) 5 0 ≤ 200_000) (λ j. at_most-prop _ _) a.due_in_range b.due_in_range i;
 }
 
-pub told-is : (numbers : List ℕ) (told : Confirmation) (trip vehicle from to : ℕ) → numbers_told told ≡ numbers
+pub told-is : (numbers : List ℕ) (told : Confirmation) (trip vehicle from to : ℕ) → confirmation_numbers told ≡ numbers
     → trip ≡ get_or numbers 0 0 → vehicle ≡ get_or numbers 1 0 → from ≡ get_or numbers 2 0 → to ≡ get_or numbers 3 0
-    → (trip ∷ vehicle ∷ from ∷ to ∷ get_or numbers 4 0 ∷ get_or numbers 5 0 ∷ []) ≡ numbers_told told
+    → (trip ∷ vehicle ∷ from ∷ to ∷ get_or numbers 4 0 ∷ get_or numbers 5 0 ∷ []) ≡ confirmation_numbers told
 told-is numbers told trip vehicle from to same is_trip is_vehicle is_from is_to =
     let a : told.trip ≡ get_or numbers 0 0 = ap (λ (t : List ℕ). get_or t 0 0) same in
     let b : told.vehicle ≡ get_or numbers 1 0 = ap (λ (t : List ℕ). get_or t 1 0) same in
@@ -63,7 +63,7 @@ told-is numbers told trip vehicle from to same is_trip is_vehicle is_from is_to 
     let f : told.due ≡ get_or numbers 5 0 = ap (λ (t : List ℕ). get_or t 5 0) same in
     cc
 
-pub told-words : (told : Confirmation) → IsTold told → AllByRecursion IsWord (numbers_told told)
+pub told-words : (told : Confirmation) → IsTold told → AllByRecursion IsWord (confirmation_numbers told)
 told-words told fits =
     let trip = fits.0.1 in
     let vehicle = fits.1.1 in
@@ -75,14 +75,14 @@ told-words told fits =
 
 -- the numbers that were read are the numbers of whatever has these bytes
 pub numbers-read : (bytes numbers : List ℕ) (told : Confirmation) → AllByRecursion IsWord numbers
-    → bytes ≡ numbers_bytes numbers → IsTold told → bytes ≡ numbers_bytes (numbers_told told)
-    → numbers_told told ≡ numbers
+    → bytes ≡ numbers_bytes numbers → IsTold told → bytes ≡ numbers_bytes (confirmation_numbers told)
+    → confirmation_numbers told ≡ numbers
 numbers-read bytes numbers told fits read is_told spelled =
     let size = length-numbers numbers in
-    let others_size = length-numbers (numbers_told told) in
+    let others_size = length-numbers (confirmation_numbers told) in
     let same = ap length (sym read ∙ spelled) in
-    let few : length (numbers_told told) ≡ length numbers = omega arith in
-    numbers-same (numbers_told told) numbers few (told-words told is_told) fits (sym spelled ∙ read)
+    let few : length (confirmation_numbers told) ≡ length numbers = omega arith in
+    numbers-same (confirmation_numbers told) numbers few (told-words told is_told) fits (sym spelled ∙ read)
 
 -- ---- replies
 
@@ -98,11 +98,11 @@ entered-only bytes fields n (Booked told) whole size number word spelled = absur
 
 -- any reply with the bytes of a booking is the one that the numbers give
 pub booked-only : (bytes fields numbers : List ℕ) (reply : KeptReply) (found : Option Confirmation) → bytes ≡ 2 ∷ fields → fields ≡ numbers_bytes numbers → AllByRecursion IsWord numbers
-    → ((told : Confirmation) → IsTold told → numbers_told told ≡ numbers → found ≡ Some told) → SpellsReply bytes reply → (told : Confirmation) × (found ≡ Some told) × (reply ≡ Booked told)
+    → ((told : Confirmation) → IsTold told → confirmation_numbers told ≡ numbers → found ≡ Some told) → SpellsReply bytes reply → (told : Confirmation) × (found ≡ Some told) × (reply ≡ Booked told)
 booked-only bytes fields numbers Done found whole read fits only spelled = absurd (omega (arith, ap (λ (t : List ℕ). get_or t 0 0) (sym whole ∙ spelled.1)))
 booked-only bytes fields numbers (Entered m) found whole read fits only spelled = absurd (omega (arith, ap (λ (t : List ℕ). get_or t 0 0) (sym whole ∙ spelled.1)))
 booked-only bytes fields numbers (Booked told) found whole read fits only spelled =
-    let rest : fields ≡ numbers_bytes (numbers_told told) = ap (drop 1) (sym whole ∙ spelled.1) in
+    let rest : fields ≡ numbers_bytes (confirmation_numbers told) = ap (drop 1) (sym whole ∙ spelled.1) in
     (told, only told spelled.0 (numbers-read fields numbers told fits read spelled.0 rest), refl)
 
 -- a reply has one of three beginnings, and as many bytes after it as its kind has
@@ -116,4 +116,4 @@ none-only bytes fields kind (Entered m) whole spelled done entered booked =
     entered (ap (λ (t : List ℕ). get_or t 0 0) e) (ap (λ (t : List ℕ). length (drop 1 t)) e ∙ length-number m)
 none-only bytes fields kind (Booked told) whole spelled done entered booked =
     let e = sym whole ∙ spelled.1 in
-    booked (ap (λ (t : List ℕ). get_or t 0 0) e) (ap (λ (t : List ℕ). length (drop 1 t)) e ∙ length-numbers (numbers_told told))
+    booked (ap (λ (t : List ℕ). get_or t 0 0) e) (ap (λ (t : List ℕ). length (drop 1 t)) e ∙ length-numbers (confirmation_numbers told))

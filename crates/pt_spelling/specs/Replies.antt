@@ -9,14 +9,14 @@ use Rattle.pt_spelling.specs.declared.replies.KeptReply.{KeptReply}
 use Rattle.pt_spelling.specs.declared.replies.KeptReply.TheVariants.{Done, Entered, Booked}
 
 -- the numbers of the reply to a booking
-abbrev pub numbers_told : Confirmation → List ℕ
-numbers_told told = told.trip ∷ told.vehicle ∷ told.window_from ∷ told.window_to ∷ told.fare ∷ told.due ∷ []
+abbrev pub confirmation_numbers : Confirmation → List ℕ
+confirmation_numbers told = told.trip ∷ told.vehicle ∷ told.window_from ∷ told.window_to ∷ told.fare ∷ told.due ∷ []
 
 -- a reply: the number of its kind, and its own numbers
 abbrev pub reply_spelling : KeptReply → List ℕ
 reply_spelling Done = 0 ∷ []
 reply_spelling (Entered position) = 1 ∷ number_bytes position
-reply_spelling (Booked told) = 2 ∷ numbers_bytes (numbers_told told)
+reply_spelling (Booked told) = 2 ∷ numbers_bytes (confirmation_numbers told)
 
 -- the reply that is stored for an answer; None for a denial and for the answer to a read
 abbrev pub reply_of : Answer → Option KeptReply

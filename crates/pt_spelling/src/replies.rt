@@ -3,7 +3,7 @@ ghost use Rattle.std.specs.List.{AllByRecursion};
 ghost use Rattle.pt_requests.specs.declared.request.Confirmation.{Confirmation};
 ghost use Rattle.pt_spelling.specs.Fields.{number_bytes, numbers_bytes};
 ghost use Rattle.pt_spelling.specs.Ranges.{IsWord};
-ghost use Rattle.pt_spelling.specs.Replies.{numbers_told, reply_spelling, reply_of, answer_of, IsTold, IsReply};
+ghost use Rattle.pt_spelling.specs.Replies.{confirmation_numbers, reply_spelling, reply_of, answer_of, IsTold, IsReply};
 ghost use Rattle.pt_spelling.specs.Replies.{SpellsReply};
 ghost use Rattle.pt_spelling.specs.declared.replies.TheConstants.{LONGEST_REPLY_SPELLING};
 
@@ -70,15 +70,15 @@ pub fn spell_reply(reply: &KeptReply) -> ArrayVec<u8, LONGEST_REPLY_SPELLING>
         }
         KeptReply::Booked(told) => {
             bytes.push(2);
-            push_numbers(&numbers_told(told), &mut bytes);
+            push_numbers(&confirmation_numbers(told), &mut bytes);
         }
     }
     bytes
 }
 
 /// The numbers in the reply to a booking.
-fn numbers_told(told: &Confirmation) -> [u32; 6]
-    ensures value { result ≡ numbers_told told.now }
+fn confirmation_numbers(told: &Confirmation) -> [u32; 6]
+    ensures value { result ≡ confirmation_numbers told.now }
     ensures ranges { IsTold told.now }
 {
     [
@@ -145,8 +145,8 @@ fn numbers_from(bytes: &[u8]) -> [u32; 6]
 
 /// The reply to a booking with these numbers; `None` if one is out of its range.
 fn confirmation_of(numbers: [u32; 6]) -> Option<Confirmation>
-    ensures told { IfSome result (λ told. IsTold told × (numbers_told told ≡ numbers)) }
-    ensures read { (told : Confirmation) → IsTold told → numbers_told told ≡ numbers → result ≡ Some told }
+    ensures told { IfSome result (λ told. IsTold told × (confirmation_numbers told ≡ numbers)) }
+    ensures read { (told : Confirmation) → IsTold told → confirmation_numbers told ≡ numbers → result ≡ Some told }
 {
     let [trip, vehicle, window_from, window_to, fare, due] = numbers;
     if fare > HIGHEST_FARE || due > HIGHEST_DUE {

@@ -49,7 +49,7 @@ pub(crate) fn push_caller(caller: &Caller, out: &mut Vec<u8>) -> Result<(), Allo
     push_number(caller.id.number(), out)?;
     out.push(role_number(&caller.role))?;
     push_number(subject_of(&caller.role), out)?;
-    out.extend_from_slice(caller.copied().digest.bytes())
+    out.extend_from_slice(caller.copy().digest.bytes())
 }
 
 /// Adds the fields of a policy.

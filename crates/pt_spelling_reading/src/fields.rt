@@ -167,18 +167,18 @@ fn weekdays_of(byte: u8) -> Weekdays
     ensures week { IsWeek result }
     ensures bits { days_byte result ≡ byte % 128 }
 {
-    let (days, bits) = marked(Weekdays::none(), Weekday::Monday, byte);
-    let (days, bits) = marked(days, Weekday::Tuesday, bits);
-    let (days, bits) = marked(days, Weekday::Wednesday, bits);
-    let (days, bits) = marked(days, Weekday::Thursday, bits);
-    let (days, bits) = marked(days, Weekday::Friday, bits);
-    let (days, bits) = marked(days, Weekday::Saturday, bits);
-    let (days, _) = marked(days, Weekday::Sunday, bits);
+    let (days, bits) = take_weekday(Weekdays::none(), Weekday::Monday, byte);
+    let (days, bits) = take_weekday(days, Weekday::Tuesday, bits);
+    let (days, bits) = take_weekday(days, Weekday::Wednesday, bits);
+    let (days, bits) = take_weekday(days, Weekday::Thursday, bits);
+    let (days, bits) = take_weekday(days, Weekday::Friday, bits);
+    let (days, bits) = take_weekday(days, Weekday::Saturday, bits);
+    let (days, _) = take_weekday(days, Weekday::Sunday, bits);
     days
 }
 
 /// The set, with this weekday in it if the lowest bit is set, and the bits above that bit.
-fn marked(days: Weekdays, weekday: Weekday, bits: u8) -> (Weekdays, u8)
+fn take_weekday(days: Weekdays, weekday: Weekday, bits: u8) -> (Weekdays, u8)
     ensures days { result.0 ≡ mark days (number_of weekday) (bits % 2 == 1) }
     ensures half { result.1 ≡ bits / 2 }
 {

@@ -23,7 +23,7 @@ use std::alloc::Global;
 
 /// A new connection to what another had committed. An open transaction of the other one is rolled back, and its memory
 /// is freed. A refusal returns the store. Code 32: the store failed. Code 0: out of memory.
-fn reopened<S: Alter + Drop>(
+fn reopen<S: Alter + Drop>(
     alloc: Global,
     conn: Connection<S>,
 ) -> Result<Connection<S>, (S, OpenFault)>
@@ -86,7 +86,7 @@ pub fn adopt<S: Alter + Drop>(
     }
     let mut reading = conn;
     let read = content_in(alloc, &mut reading);
-    let conn = match reopened(alloc, reading) {
+    let conn = match reopen(alloc, reading) {
         Ok(conn) => conn,
         Err(refusal) => return Err(refusal),
     };

@@ -68,7 +68,7 @@ pub fn are_rising<T: Keyed>(records: &[T]) -> bool
 }
 
 /// The records as `Rows`; `Unread::Row` if they are not in the order of their keys.
-pub(crate) fn ordered<T: Keyed>(records: Vec<T>) -> Result<Rows<T>, Unread>
+pub(crate) fn in_order<T: Keyed>(records: Vec<T>) -> Result<Rows<T>, Unread>
     ensures told { IfOk result (λ rows. rows ≡ records.items) }
     ensures readable { IsInOrder T.key records.items → result ≢ Err BadRow }
 {
@@ -112,7 +112,7 @@ fn records_of<T: OneRow>(alloc: Global, rows: &[Row]) -> Result<Option<Vec<T::Re
 }
 
 /// The records of the rows that a query of a table returns, in their order.
-pub(crate) fn asked<S: Alter, T: OneRow>(
+pub(crate) fn ask<S: Alter, T: OneRow>(
     alloc: Global,
     conn: &mut Connection<S>,
     text: &str,

@@ -16,7 +16,7 @@ ghost use Rattle.pt_tables_asking.specs.Marks.{FitsMark, HasMarks, IsMark, has_m
 ghost use Rattle.pt_tables_asking.specs.Marks.{marked_in};
 ghost use Rattle.pt_tables_asking.specs.declared.asking.Unread.TheVariants.{Row as BadRow};
 
-use crate::asking::{Unread, asked, ordered};
+use crate::asking::{Unread, ask, in_order};
 use pt_base::{Rider, Trip};
 use pt_records::{Key, Keyed, Rows};
 use pt_tables_reading::OneRow;
@@ -157,8 +157,8 @@ fn marks_between<S: Alter, M: Marking>(
         → result ≢ Err BadRow }
     ensures rests { Rests (state S.Store conn.old) (state S.Store conn.new) }
 {
-    let marks = asked::<S, Numbers<M>>(alloc, conn, text, params![from, to])?;
-    ordered(marks)
+    let marks = ask::<S, Numbers<M>>(alloc, conn, text, params![from, to])?;
+    in_order(marks)
 }
 
 /// The numbers of the first and the last record.
@@ -186,7 +186,7 @@ fn with_marks<M: Marking>(mut records: Vec<M::Record>, marks: &Rows<Mark>) -> Ve
 
 /// The records with their marks, from one query over all numbers from the first record to the last. The records are in
 /// the order of their keys.
-pub(crate) fn marked<S: Alter, M: Marking>(
+pub(crate) fn mark_all<S: Alter, M: Marking>(
     alloc: Global,
     conn: &mut Connection<S>,
     text: &str,
@@ -238,7 +238,7 @@ fn is_marked<S: Alter, M: Marking>(
 }
 
 /// The records with their marks, from one query for each record. Use it for records whose numbers are far apart.
-pub(crate) fn each_marked<S: Alter, M: Marking>(
+pub(crate) fn mark_each<S: Alter, M: Marking>(
     alloc: Global,
     conn: &mut Connection<S>,
     text: &str,

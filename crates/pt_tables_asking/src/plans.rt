@@ -14,7 +14,7 @@ ghost use Rattle.pt_tables_asking.specs.Plans.{HasFewStops, HasVersionAmong, pla
 ghost use Rattle.pt_tables_asking.specs.declared.asking.Unread.TheVariants.{Row as BadRow};
 ghost use Rattle.pt_tables_rows.specs.Tables.{IsKept, IsWellFormed};
 
-use crate::asking::{Unread, asked, ordered};
+use crate::asking::{Unread, ask, in_order};
 use crate::texts::STOPS_BY_VEHICLE_AND_DAY;
 use pt_base::{Day, Vehicle, VehicleId};
 use pt_desk_rules::has_version;
@@ -56,7 +56,7 @@ pub fn plan_by_key<S: Alter>(
     ensures rests { Rests (state S.Store conn.old) (state S.Store conn.new) }
 {
     let (vehicle, day) = key.numbers();
-    let stops = asked::<S, Stops>(alloc, conn, STOPS_BY_VEHICLE_AND_DAY, params![vehicle, day])?;
+    let stops = ask::<S, Stops>(alloc, conn, STOPS_BY_VEHICLE_AND_DAY, params![vehicle, day])?;
     Ok(route_of(alloc, &stops)?)
 }
 
@@ -108,5 +108,5 @@ pub fn plans_by_day<S: Alter>(
         let found = plan_by_key(alloc, conn, &Key::pair(id.number(), date))?;
         push_found(found, &mut plans)?;
     }
-    ordered(plans)
+    in_order(plans)
 }

@@ -16,8 +16,8 @@ ghost use Rattle.pt_tables_asking.specs.Asking.{HasAnswer, Rests};
 ghost use Rattle.pt_tables_asking.specs.Content.{Decodes, Tells};
 ghost use Rattle.pt_tables_asking.specs.declared.asking.Unread.TheVariants.{Row as BadRow};
 
-use crate::asking::{Unread, asked, first, ordered};
-use crate::marks::{each_marked, marked};
+use crate::asking::{Unread, ask, first, in_order};
+use crate::marks::{mark_all, mark_each};
 use crate::texts::{
     ENTRIES_BY_RIDER, KEPT_BY_CALLER, RIDER_BY_NUMBER, RIDER_MARKS, TRIP_BY_NUMBER, TRIP_MARKS,
     TRIPS_BY_DAY, TRIPS_BY_RIDER, TRIPS_FROM_DAY,
@@ -41,7 +41,7 @@ pub fn kept_by_caller<S: Alter>(
     ensures readable { Decodes (state S.Store conn.old) (state S.Store conn.new) result }
     ensures rests { Rests (state S.Store conn.old) (state S.Store conn.new) }
 {
-    let found = asked::<S, KeptWrites>(alloc, conn, KEPT_BY_CALLER, params![caller.number()])?;
+    let found = ask::<S, KeptWrites>(alloc, conn, KEPT_BY_CALLER, params![caller.number()])?;
     Ok(first(found))
 }
 
@@ -56,8 +56,8 @@ pub fn rider_by_number<S: Alter>(
     ensures readable { Decodes (state S.Store conn.old) (state S.Store conn.new) result }
     ensures rests { Rests (state S.Store conn.old) (state S.Store conn.new) }
 {
-    let riders = asked::<S, Riders>(alloc, conn, RIDER_BY_NUMBER, params![rider.number()])?;
-    let found = marked::<S, RiderChairs>(alloc, conn, RIDER_MARKS, riders)?;
+    let riders = ask::<S, Riders>(alloc, conn, RIDER_BY_NUMBER, params![rider.number()])?;
+    let found = mark_all::<S, RiderChairs>(alloc, conn, RIDER_MARKS, riders)?;
     Ok(first(found))
 }
 
@@ -72,8 +72,8 @@ pub fn entries_by_rider<S: Alter>(
     ensures readable { Decodes (state S.Store conn.old) (state S.Store conn.new) result }
     ensures rests { Rests (state S.Store conn.old) (state S.Store conn.new) }
 {
-    let found = asked::<S, Entries>(alloc, conn, ENTRIES_BY_RIDER, params![rider.number()])?;
-    ordered(found)
+    let found = ask::<S, Entries>(alloc, conn, ENTRIES_BY_RIDER, params![rider.number()])?;
+    in_order(found)
 }
 
 /// The trips that a query returns, in the order of their numbers, with their wheelchair marks. It reads all marks from
@@ -99,9 +99,9 @@ fn trips_asked<S: Alter>(
         → result ≢ Err BadRow }
     ensures rests { Rests (state S.Store conn.old) (state S.Store conn.new) }
 {
-    let trips = asked::<S, Trips>(alloc, conn, text, params)?;
-    let found = marked::<S, TripChairs>(alloc, conn, TRIP_MARKS, trips)?;
-    ordered(found)
+    let trips = ask::<S, Trips>(alloc, conn, text, params)?;
+    let found = mark_all::<S, TripChairs>(alloc, conn, TRIP_MARKS, trips)?;
+    in_order(found)
 }
 
 /// The trip with a number.
@@ -131,9 +131,9 @@ pub fn trips_by_rider<S: Alter>(
     ensures readable { Decodes (state S.Store conn.old) (state S.Store conn.new) result }
     ensures rests { Rests (state S.Store conn.old) (state S.Store conn.new) }
 {
-    let trips = asked::<S, Trips>(alloc, conn, TRIPS_BY_RIDER, params![rider.number()])?;
-    let found = each_marked::<S, TripChairs>(alloc, conn, TRIP_MARKS, trips)?;
-    ordered(found)
+    let trips = ask::<S, Trips>(alloc, conn, TRIPS_BY_RIDER, params![rider.number()])?;
+    let found = mark_each::<S, TripChairs>(alloc, conn, TRIP_MARKS, trips)?;
+    in_order(found)
 }
 
 /// The trips of a day, in order of their numbers.

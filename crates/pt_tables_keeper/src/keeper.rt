@@ -99,7 +99,7 @@ fn blame(failures: &mut u32, unread: Unread) -> StoreFault
 }
 
 /// The result of a read. A failed read counts as a failure, unless it is out of memory.
-fn counted<T>(failures: &mut u32, found: Result<T, Unread>) -> Result<T, StoreFault>
+fn count<T>(failures: &mut u32, found: Result<T, Unread>) -> Result<T, StoreFault>
     requires { failures.old ≡ 0 }
     ensures counts { Counts failures.new found result }
 {
@@ -174,7 +174,7 @@ impl<S: Alter> SqlKeeper<S> {
     }
 
     /// Returns a value that is known in memory, unless the store has failed.
-    fn told<T: Drop>(&self, value: T) -> Result<T, StoreFault>
+    fn serve_known<T: Drop>(&self, value: T) -> Result<T, StoreFault>
         ensures reads { Goes (store_of S.Store self.now) (store_of S.Store self.now) value None result }
         ensures refuses { Refuses (store_of S.Store self.now) (store_of S.Store self.now) result }
     {
@@ -183,7 +183,7 @@ impl<S: Alter> SqlKeeper<S> {
     }
 
     /// Returns a copy of records that are known in memory, unless the store has failed.
-    fn copied<T: Keyed + Clone + Drop>(
+    fn copy<T: Keyed + Clone + Drop>(
         &self,
         alloc: Global,
         records: &Table<T>,
@@ -204,7 +204,7 @@ impl<S: Alter> SqlKeeper<S> {
     {
         self.serve()?;
         let found = rider_by_number(self.alloc, &mut self.conn, id);
-        counted(&mut self.failures, found)
+        count(&mut self.failures, found)
     }
 
     /// How many riders there are after the change: one more if it puts a rider that is not stored yet.
@@ -254,16 +254,16 @@ impl<S: Alter> Keeper for SqlKeeper<S> {
 
     fn caller_with(&mut self, digest: &Digest) -> Result<Option<Caller>, StoreFault> {
         let callers = self.lists().callers_table();
-        self.told(find_caller(callers.as_slice(), digest))
+        self.serve_known(find_caller(callers.as_slice(), digest))
     }
 
     fn caller(&mut self, id: CallerId) -> Result<Option<Caller>, StoreFault> {
         let callers = self.lists().callers_table();
-        self.told(callers.find(&Key::of(id.number())).copied())
+        self.serve_known(callers.find(&Key::of(id.number())).copied())
     }
 
     fn caller_count(&mut self) -> Result<usize, StoreFault> {
-        self.told(self.lists().callers_table().as_slice().len())
+        self.serve_known(self.lists().callers_table().as_slice().len())
     }
 
     fn arrival(
@@ -274,38 +274,38 @@ impl<S: Alter> Keeper for SqlKeeper<S> {
     ) -> Result<Arrival, StoreFault> {
         self.serve()?;
         let found = kept_by_caller(self.alloc, &mut self.conn, caller);
-        let last = counted(&mut self.failures, found)?;
+        let last = count(&mut self.failures, found)?;
         Ok(Arrival::of(number, request, last.as_ref()))
     }
 
     fn policy(&mut self) -> Result<Policy, StoreFault> {
-        self.told(self.lists().current_policy())
+        self.serve_known(self.lists().current_policy())
     }
 
     fn place(&mut self, id: PlaceId) -> Result<Option<Place>, StoreFault> {
         let places = self.lists().places_table();
-        self.told(places.find(&Key::of(id.number())).copied())
+        self.serve_known(places.find(&Key::of(id.number())).copied())
     }
 
     fn place_count(&mut self) -> Result<usize, StoreFault> {
-        self.told(self.lists().places_table().as_slice().len())
+        self.serve_known(self.lists().places_table().as_slice().len())
     }
 
     fn places(&mut self, alloc: Global) -> Result<Rows<Place>, StoreFault> {
-        self.copied(alloc, self.lists().places_table())
+        self.copy(alloc, self.lists().places_table())
     }
 
     fn has_route(&mut self, id: RouteId) -> Result<bool, StoreFault> {
         let routes = self.lists().routes_table();
-        self.told(routes.find(&Key::of(id.number())).is_some())
+        self.serve_known(routes.find(&Key::of(id.number())).is_some())
     }
 
     fn route_count(&mut self) -> Result<usize, StoreFault> {
-        self.told(self.lists().routes_table().as_slice().len())
+        self.serve_known(self.lists().routes_table().as_slice().len())
     }
 
     fn routes(&mut self, alloc: Global) -> Result<Rows<FixedRoute>, StoreFault> {
-        self.copied(alloc, self.lists().routes_table())
+        self.copy(alloc, self.lists().routes_table())
     }
 
     fn rider(&mut self, id: RiderId) -> Result<Option<Rider>, StoreFault> {
@@ -320,22 +320,22 @@ impl<S: Alter> Keeper for SqlKeeper<S> {
     fn case_file(&mut self, alloc: Global, rider: RiderId) -> Result<CaseFile, StoreFault> {
         self.serve()?;
         let found = entries_by_rider(alloc, &mut self.conn, rider);
-        let entries = counted(&mut self.failures, found)?;
+        let entries = count(&mut self.failures, found)?;
         Ok(file_with(alloc, entries.as_slice())?)
     }
 
     fn has_vehicle(&mut self, id: VehicleId) -> Result<bool, StoreFault> {
         let vehicles = self.lists().vehicles_table();
-        self.told(has_version(vehicles.as_slice(), id))
+        self.serve_known(has_version(vehicles.as_slice(), id))
     }
 
     fn vehicles(&mut self, alloc: Global) -> Result<Rows<Vehicle>, StoreFault> {
-        self.copied(alloc, self.lists().vehicles_table())
+        self.copy(alloc, self.lists().vehicles_table())
     }
 
     fn table_count_before(&mut self, day: Day) -> Result<usize, StoreFault> {
         let travel = self.lists().travel_table();
-        self.told(table_count_before(travel.as_slice(), day))
+        self.serve_known(table_count_before(travel.as_slice(), day))
     }
 
     fn travel_on(&mut self, alloc: Global, day: Day) -> Result<Option<TravelTable>, StoreFault> {
@@ -349,37 +349,37 @@ impl<S: Alter> Keeper for SqlKeeper<S> {
     fn is_booked_from(&mut self, vehicle: Option<VehicleId>, day: Day) -> Result<bool, StoreFault> {
         self.serve()?;
         let found = trips_from_day(self.alloc, &mut self.conn, day);
-        let trips = counted(&mut self.failures, found)?;
+        let trips = count(&mut self.failures, found)?;
         Ok(is_booked_from(trips.as_slice(), &vehicle, day))
     }
 
     fn trip(&mut self, id: TripId) -> Result<Option<Trip>, StoreFault> {
         self.serve()?;
         let found = trip_by_number(self.alloc, &mut self.conn, id);
-        counted(&mut self.failures, found)
+        count(&mut self.failures, found)
     }
 
     fn trips_of(&mut self, alloc: Global, rider: RiderId) -> Result<Rows<Trip>, StoreFault> {
         self.serve()?;
         let found = trips_by_rider(alloc, &mut self.conn, rider);
-        counted(&mut self.failures, found)
+        count(&mut self.failures, found)
     }
 
     fn trips_on(&mut self, alloc: Global, day: Day) -> Result<Rows<Trip>, StoreFault> {
         self.serve()?;
         let found = trips_by_day(alloc, &mut self.conn, day);
-        counted(&mut self.failures, found)
+        count(&mut self.failures, found)
     }
 
     fn planned_on(&mut self, alloc: Global, day: Day) -> Result<Rows<PlannedRoute>, StoreFault> {
         self.serve()?;
         let vehicles = self.known.lists().vehicles_table();
         let found = plans_by_day(alloc, &mut self.conn, vehicles.as_slice(), day);
-        counted(&mut self.failures, found)
+        count(&mut self.failures, found)
     }
 
     fn last_trip(&mut self) -> Result<u32, StoreFault> {
-        self.told(self.lists().current_last_trip())
+        self.serve_known(self.lists().current_last_trip())
     }
 
     fn planned_route(
@@ -391,7 +391,7 @@ impl<S: Alter> Keeper for SqlKeeper<S> {
         self.serve()?;
         let key = Key::pair(vehicle.number(), day.number());
         let found = plan_by_key(alloc, &mut self.conn, &key);
-        counted(&mut self.failures, found)
+        count(&mut self.failures, found)
     }
 
     fn commit(&mut self, change: Change) -> Result<(), StoreFault> {

@@ -10,7 +10,7 @@ use pt_base::Vehicle;
 use pt_desk_rules::{Change, has_version};
 use pt_records::{Edits, Key, Span};
 use pt_scheduling::PlannedRoute;
-use pt_tables_writing::is_told;
+use pt_tables_writing::is_well_formed;
 use std::cmp::Ordering;
 
 /// The riders that one change puts, at most.
@@ -77,7 +77,7 @@ fn have_vehicles(plans: &[PlannedRoute], vehicles: &[Vehicle]) -> bool
 pub(crate) fn is_writable(change: &Change, vehicles: &[Vehicle]) -> bool
     ensures writable { IsTrue result ↔ IsWritable vehicles.now change.now }
 {
-    is_told(change)
+    is_well_formed(change)
         && change.kept.spans().is_empty()
         && change.riders.spans().is_empty()
         && change.entries.spans().is_empty()

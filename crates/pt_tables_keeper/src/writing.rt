@@ -54,7 +54,7 @@ fn write_once<S: Alter>(
 
 /// Why a write was refused. One that was out of memory leaves a store that is open: the store is asked to understand a
 /// text, and one that does not has failed, whatever refused the write.
-fn refused<S: Alter>(conn: &mut Connection<S>, unread: Unread) -> Unread
+fn refusal_of<S: Alter>(conn: &mut Connection<S>, unread: Unread) -> Unread
     requires settled { conn.old.in_transaction ≡ false }
     requires committed { ShowsCommit (state S.Store conn.old) }
     ensures rests { Rests (state S.Store conn.old) (state S.Store conn.new) }
@@ -99,6 +99,6 @@ pub(crate) fn write_over<S: Alter>(
 {
     match write_once(alloc, conn, change, known) {
         Ok(()) => Ok(()),
-        Err(unread) => Err(refused(conn, unread)),
+        Err(unread) => Err(refusal_of(conn, unread)),
     }
 }

@@ -37,7 +37,7 @@ pub(crate) trait Beside: TableOf {
         ensures { IsAlone Self.First.row_of Self.rows_of Self.Fits known.now result };
 
     /// The record with this row in the second table; none if the row is not its own.
-    fn marked(known: &Self::Record, row: &Row) -> Option<Self::Record>
+    fn mark(known: &Self::Record, row: &Row) -> Option<Self::Record>
         requires fits { Self.Fits known.now }
         ensures { ReadsBeside Self.First.row_of Self.rows_of Self.Fits known.now row.now result };
 }
@@ -52,7 +52,7 @@ impl Beside for RiderChairs {
         }
     }
 
-    fn marked(known: &Rider, row: &Row) -> Option<Rider> {
+    fn mark(known: &Rider, row: &Row) -> Option<Rider> {
         rider_beside(known, row)
     }
 }
@@ -74,7 +74,7 @@ impl Beside for VehicleChairs {
         }
     }
 
-    fn marked(known: &Vehicle, row: &Row) -> Option<Vehicle> {
+    fn mark(known: &Vehicle, row: &Row) -> Option<Vehicle> {
         vehicle_beside(known, row)
     }
 }
@@ -98,7 +98,7 @@ impl Beside for TripChairs {
         }
     }
 
-    fn marked(known: &Trip, row: &Row) -> Option<Trip> {
+    fn mark(known: &Trip, row: &Row) -> Option<Trip> {
         trip_beside(known, row)
     }
 }
@@ -115,7 +115,7 @@ fn next_of<T: Beside>(known: &T::Record, rows: &[Row]) -> (T::Record, usize)
         → T.First.row_of x ≡ T.First.row_of known.now → rows.now ≡ row ∷ more → T.rows_of x ≡ row ∷ [] → ⊥ }
 {
     if let Some(row) = rows.first() {
-        if let Some(marked) = T::marked(known, row) {
+        if let Some(marked) = T::mark(known, row) {
             return (marked, 1);
         }
     }
@@ -124,7 +124,7 @@ fn next_of<T: Beside>(known: &T::Record, rows: &[Row]) -> (T::Record, usize)
 
 /// Joins the records with the rows of the second table, as an edit that puts them. None if no records in order have
 /// both.
-fn merged<T: Beside>(
+fn merge<T: Beside>(
     alloc: Global,
     records: &[T::Record],
     rows: &[Row],
@@ -164,7 +164,7 @@ fn merged_table<T: Beside>(
         ⊎ ((refused ≡ unsound (number_of table))
         × TellsBeside T.Record.key T.First.row_of T.rows_of T.Fits records.now rows.now None)) }
 {
-    match merged::<T>(alloc, records, rows) {
+    match merge::<T>(alloc, records, rows) {
         Ok(Some(found)) => Ok(found),
         Ok(None) => Err(OpenFault::unsound(table)),
         Err(_) => Err(OpenFault::MEMORY),

@@ -42,7 +42,7 @@ pub(crate) trait Gathered: TableOf {
 }
 
 /// Whether the number in a column is 0.
-pub(crate) fn is_nought(row: &Row, at: usize) -> bool
+pub(crate) fn is_zero(row: &Row, at: usize) -> bool
     ensures { IsTrue result ↔ (column row.now at ≡ number_value 0) }
 {
     match row.get_ref(at) {

@@ -6,7 +6,7 @@ ghost use Rattle.pt_tables_reading.specs.Reading.{Reads};
 ghost use Rattle.pt_tables_rows.specs.Rows.{stop_row, stop_rows, stop_rows_from};
 ghost use Rattle.pt_tables_rows.specs.Tables.{IsStoredPlan};
 
-use crate::gathered::{Gathered, is_nought};
+use crate::gathered::{Gathered, is_zero};
 use pt_base::{Day, VehicleId};
 use pt_scheduling::{PlannedRoute, PlannedStop};
 use pt_tables_reading::stop_of;
@@ -78,7 +78,7 @@ impl Gathered for Plans {
     ghost Begins = { BeginsPlan };
 
     fn begins(row: &Row) -> bool {
-        is_nought(row, PLACE_COLUMN)
+        is_zero(row, PLACE_COLUMN)
     }
 
     fn of_rows(alloc: Global, rows: &[Row]) -> Result<Option<PlannedRoute>, AllocError> {

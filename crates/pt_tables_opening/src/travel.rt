@@ -7,7 +7,7 @@ ghost use Rattle.pt_tables_reading.specs.Fitting.{FitsDriveAt};
 ghost use Rattle.pt_tables_reading.specs.Reading.{Reads};
 ghost use Rattle.pt_tables_rows.specs.Rows.{travel_row, travel_rows};
 
-use crate::gathered::{Gathered, is_nought};
+use crate::gathered::{Gathered, is_zero};
 use pt_base::Day;
 use pt_desk_rules::TravelTable;
 use pt_tables_reading::drive_of;
@@ -84,7 +84,7 @@ impl Gathered for TravelTables {
     ghost Begins = { BeginsTravel };
 
     fn begins(row: &Row) -> bool {
-        is_nought(row, FROM_COLUMN)
+        is_zero(row, FROM_COLUMN)
     }
 
     fn of_rows(alloc: Global, rows: &[Row]) -> Result<Option<TravelTable>, AllocError> {

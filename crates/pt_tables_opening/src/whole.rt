@@ -37,7 +37,7 @@ fn at_fault(table: TableName) -> OpenFault
 }
 
 /// The desk after the change, if it is sound in this table. Code 31: it is not sound. Code 0: out of memory.
-fn judged(
+fn judge(
     alloc: Global,
     keeper: ListKeeper,
     change: Change,
@@ -70,7 +70,7 @@ fn with_table<S: Alter>(
     ensures { OpensTable table (state S.Store conn.old) (state S.Store conn.new) keeper.content result }
 {
     let change = change_in(alloc, conn, &keeper, table)?;
-    judged(alloc, keeper, change, table)
+    judge(alloc, keeper, change, table)
 }
 
 /// The desk of the agency in the first table, with no records.

@@ -52,7 +52,7 @@ fn reply_at(row: &Row, at: usize) -> Option<KeptReply>
 }
 
 /// The caller's last accepted write that a row has, with a copy of its request.
-fn copied_kept(alloc: Global, row: &Row) -> Result<Option<Kept>, AllocError>
+fn copy_kept(alloc: Global, row: &Row) -> Result<Option<Kept>, AllocError>
     ensures told { IfOk result (Reads kept_row FitsKept row.now) }
 {
     let Some(kept) = kept_of(row) else {
@@ -75,6 +75,6 @@ impl OneRow for KeptWrites {
     ghost one = { λ _. refl };
 
     fn of_row(alloc: Global, row: &Row) -> Result<Option<Kept>, AllocError> {
-        copied_kept(alloc, row)
+        copy_kept(alloc, row)
     }
 }

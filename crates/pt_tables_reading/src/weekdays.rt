@@ -30,18 +30,18 @@ fn weekdays_from(number: u32) -> Option<Weekdays>
     if number > WHOLE_WEEK {
         return None;
     }
-    let (days, number) = marked(Weekdays::none(), Weekday::Monday, number);
-    let (days, number) = marked(days, Weekday::Tuesday, number);
-    let (days, number) = marked(days, Weekday::Wednesday, number);
-    let (days, number) = marked(days, Weekday::Thursday, number);
-    let (days, number) = marked(days, Weekday::Friday, number);
-    let (days, number) = marked(days, Weekday::Saturday, number);
-    let (days, _) = marked(days, Weekday::Sunday, number);
+    let (days, number) = take_weekday(Weekdays::none(), Weekday::Monday, number);
+    let (days, number) = take_weekday(days, Weekday::Tuesday, number);
+    let (days, number) = take_weekday(days, Weekday::Wednesday, number);
+    let (days, number) = take_weekday(days, Weekday::Thursday, number);
+    let (days, number) = take_weekday(days, Weekday::Friday, number);
+    let (days, number) = take_weekday(days, Weekday::Saturday, number);
+    let (days, _) = take_weekday(days, Weekday::Sunday, number);
     Some(days)
 }
 
 /// Adds this weekday to the set if the number is odd. Returns the set and half the number.
-fn marked(days: Weekdays, weekday: Weekday, number: u32) -> (Weekdays, u32)
+fn take_weekday(days: Weekdays, weekday: Weekday, number: u32) -> (Weekdays, u32)
     ensures days { result.0 ≡ mark days (number_of weekday) (number % 2 == 1) }
     ensures half { result.1 ≡ number / 2 }
 {

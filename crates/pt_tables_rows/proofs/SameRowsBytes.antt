@@ -24,7 +24,7 @@ use Rattle.pt_desk_rules.specs.Condition.TheVariants.{Always, Months, Farther, N
 use Rattle.pt_desk_rules.specs.Grant.{Grant}
 use Rattle.pt_spelling.specs.Fields.{number_bytes, numbers_bytes}
 use Rattle.pt_spelling.specs.Ranges.{IsWord}
-use Rattle.pt_spelling.specs.Replies.{reply_spelling, numbers_told, IsTold, IsReply}
+use Rattle.pt_spelling.specs.Replies.{reply_spelling, confirmation_numbers, IsTold, IsReply}
 use Rattle.pt_spelling.specs.Requests.{point_bytes}
 use Rattle.pt_spelling.specs.declared.replies.KeptReply.{KeptReply}
 use Rattle.pt_spelling.specs.declared.replies.KeptReply.TheVariants.{Done, Entered, Booked}
@@ -59,7 +59,7 @@ line-told (p ∷ one) (q ∷ other) ones others same =
 
 -- ---- replies
 
-told-words : (told : Confirmation) → IsTold told → AllByRecursion IsWord (numbers_told told)
+told-words : (told : Confirmation) → IsTold told → AllByRecursion IsWord (confirmation_numbers told)
 told-words told fits =
     let trip = fits.0.1 in
     let vehicle = fits.1.1 in
@@ -70,10 +70,10 @@ told-words told fits =
     (trip, (vehicle, (omega arith, (omega arith, (omega arith, (omega arith, tt))))))
 
 confirmation-told : (one other : Confirmation) → IsTold one → IsTold other
-    → numbers_bytes (numbers_told one) ≡ numbers_bytes (numbers_told other) → one ≡ other
+    → numbers_bytes (confirmation_numbers one) ≡ numbers_bytes (confirmation_numbers other) → one ≡ other
 confirmation-told one other ones others same =
     told-same one other
-    (numbers-read (numbers_bytes (numbers_told other)) (numbers_told other) one (told-words other others) refl ones
+    (numbers-read (numbers_bytes (confirmation_numbers other)) (confirmation_numbers other) one (told-words other others) refl ones
     (sym same))
 
 pub reply-told : (one other : KeptReply) → IsReply one → IsReply other → reply_spelling one ≡ reply_spelling other

@@ -106,12 +106,12 @@ drives-back from_day [] = refl
 drives-back from_day (row ∷ rows) = ap (λ (l : List travel.Row). row ∷ l) (drives-back from_day rows)
 
 -- a row of zeros
-abbrev is_nought : travel.Row → Bool
-is_nought row = row.0 == 0 && row.1 == 0 && row.2 == 0
+abbrev is_all_zero : travel.Row → Bool
+is_all_zero row = row.0 == 0 && row.1 == 0 && row.2 == 0
 
-nought-only : (row : travel.Row) → is_nought row ≡ true → row ≡ (0, 0, 0)
-nought-only row nought =
-    let parts = and_parts _ _ nought in
+all_zero-only : (row : travel.Row) → is_all_zero row ≡ true → row ≡ (0, 0, 0)
+all_zero-only row is =
+    let parts = and_parts _ _ is in
     let first = and_parts _ _ parts.0 in
     let a : row.0 ≡ 0 = eqb-true row.0 0 first.0 in
     let b : row.1 ≡ 0 = eqb-true row.1 0 first.1 in
@@ -168,15 +168,15 @@ drives-keyed from_day (row ∷ rows) = (refl, drives-keyed from_day rows)
 pub table-told : (one other : DatedTable) → Rises one.rows → Rises other.rows
     → IsPermutation (travel_rows one) (travel_rows other) → one ≡ other
 table-told one other ones others alike =
-    let noughts : travel.Row = (0, 0, 0) in
+    let zeros : travel.Row = (0, 0, 0) in
     let days = all-permutation (λ row. number_in 0 row ≡ one.from_day) (travel_rows one) (travel_rows other) alike
-    (drives-keyed one.from_day (noughts ∷ one.rows)) in
+    (drives-keyed one.from_day (zeros ∷ one.rows)) in
     let day : one.from_day ≡ other.from_day = sym days.0 in
     let drives = IsPermutation-map drive_in (travel_rows one) (travel_rows other) alike in
     let from_one = subst (λ l. IsPermutation l (map drive_in (travel_rows other)))
-    (drives-back one.from_day (noughts ∷ one.rows)) drives in
-    let both = subst (IsPermutation (noughts ∷ one.rows))
-    (drives-back other.from_day (noughts ∷ other.rows)) from_one in
+    (drives-back one.from_day (zeros ∷ one.rows)) drives in
+    let both = subst (IsPermutation (zeros ∷ one.rows))
+    (drives-back other.from_day (zeros ∷ other.rows)) from_one in
     let rows = drives-told one.rows other.rows ones others
-    (same_rest is_nought noughts refl nought-only one.rows other.rows both) in
+    (same_rest is_all_zero zeros refl all_zero-only one.rows other.rows both) in
     λ i. record { from_day = day i; rows = rows i }

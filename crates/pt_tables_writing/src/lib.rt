@@ -3,7 +3,7 @@
 
 pub use first_rows::{insert_admin, insert_desk};
 pub use numbered::raise_version;
-pub use told::is_told;
+pub use well_formed::is_well_formed;
 pub use writes::write_change;
 
 mod chairs;
@@ -12,5 +12,5 @@ mod grouped;
 mod numbered;
 mod plans;
 mod stored;
-mod told;
+mod well_formed;
 mod writes;

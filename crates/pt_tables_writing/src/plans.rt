@@ -17,7 +17,7 @@ use pt_tables_rows::tables::Plans;
 use sqlite::{Alter, Error, Transaction};
 
 /// The stored plan and the one that replaces it, if the edit does nothing else.
-fn replaced<'a>(
+fn replacement<'a>(
     edits: &'a Edits<PlannedRoute>,
     records: &'a Table<PlannedRoute>,
 ) -> Option<(&'a PlannedRoute, &'a PlannedRoute)>
@@ -47,7 +47,7 @@ pub(crate) fn write_plans<S: Alter>(
         (EditsTable stops_table plan_key IsStoredPlan stop_rows edits.now)) result }
     ensures survives { Survives (state S.Store tx.old.conn.now) (state S.Store tx.new.conn.now) (λ _. ⊥) }
 {
-    match replaced(edits, records) {
+    match replacement(edits, records) {
         Some((before, plan)) => replace_plan(tx, before, plan),
         None => write_edits::<S, Plans>(tx, edits, records),
     }

@@ -51,7 +51,7 @@ impl Places {
     }
 
     /// Each place of a list of at most 100.
-    pub fn listed(list: &[PlaceId]) -> Self
+    pub fn from_list(list: &[PlaceId]) -> Self
         requires { length list.now ≤ 100 }
         ensures { (place : ℕ) → Contains (list_of result) place ↔ Contains list.now place }
     {

@@ -29,7 +29,7 @@ impl Raw {
         if places.len() > MOST_PLACES {
             return Err(Fault::of(Cause::TravelPlaces));
         }
-        let places = Places::listed(places);
+        let places = Places::from_list(places);
         let rows = read_rows(alloc, text, &places)?;
         Ok(Raw::naming(rows, places))
     }

@@ -26,7 +26,7 @@ returns-then-first-eq0-clause-all c = λ n more small ends is.
     (ap (drop 1) (sym c.in_ok-space.ensures.cases.0 ∙ is))
 
 pub returns-clause-number : goal.returns-clause-number
-returns-clause-number c = if_some c.continued.result _ _ c.continued.ensures.number
+returns-clause-number c = if_some c.with_digits.result _ _ c.with_digits.ensures.number
     (λ found holds. (
       holds.0,
       number_spelled c.args.text.now c.in_ok-space.digits.now c.in_ok-first.rest.now
@@ -36,7 +36,7 @@ returns-clause-number c = if_some c.continued.result _ _ c.continued.ensures.num
 
 pub returns-clause-all : goal.returns-clause-all
 returns-clause-all c = λ n more small ends is.
-    c.continued.ensures.all n more small ends
+    c.with_digits.ensures.all n more small ends
     (ap (λ (x : ℕ). decimal x ++ c.in_ok-first.rest.now) c.from.ensures
     ∙ first_number c.in_ok-first.first c.in_ok-space.digits.now c.in_ok-first.rest.now
     c.in_ok-first.ensures.digit.0 c.in_ok-first.ensures.digit.1

@@ -11,7 +11,7 @@ returns-in-Denied c = λ asking.
 pub returns-in_ok-trips-in-Booked : goal.returns-in_ok-trips-in-Booked
 returns-in_ok-trips-in-Booked c = λ asking.
     confirmed booked c.args.number c.args.number None c.args.today c.args.wish.now c.args.facts.now
-    c.in_ok-rule.field-0 c.in-Booked.trip c.in-Booked.plan _ c.confirmed.result refl c.in-Booked.is
-    (c.in_ok-rule.ensures.value asking) c.confirmed.ensures
+    c.in_ok-rule.field-0 c.in-Booked.trip c.in-Booked.plan _ c.confirm.result refl c.in-Booked.is
+    (c.in_ok-rule.ensures.value asking) c.confirm.ensures
     (booked_made c.none.result c.in_ok-trips-in-Booked.trips c.in_ok-planned-in-Booked.planned c.in-Booked.trip
     c.in-Booked.plan c.none.ensures.value c.in_ok-trips-in-Booked.ensures c.in_ok-planned-in-Booked.ensures)

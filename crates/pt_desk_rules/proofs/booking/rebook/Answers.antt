@@ -15,8 +15,8 @@ returns-in_ok-trips-in-Booked c = λ asking.
     let facts = c.args.facts.now in
     let old = c.args.old.now in
     confirmed (changed old facts.booking.plan) old.id old.id (Some old.id) c.args.today c.args.wish.now facts
-    c.in_ok-rule.field-0 c.in-Booked.trip c.in-Booked.plan _ c.confirmed.result refl c.in-Booked.is
-    (c.in_ok-rule.ensures.value asking) c.confirmed.ensures
+    c.in_ok-rule.field-0 c.in-Booked.trip c.in-Booked.plan _ c.confirm.result refl c.in-Booked.is
+    (c.in_ok-rule.ensures.value asking) c.confirm.ensures
     (changed_made c.none.result c.in_ok-trips-in-Booked.trips c.in_ok-planned-in-Booked.planned old
     facts.booking.plan c.in-Booked.trip c.in-Booked.plan c.none.ensures.value c.in_ok-trips-in-Booked.ensures
     c.in_ok-planned-in-Booked.ensures.value)

@@ -2,7 +2,7 @@ use Rattle.std.proofs.Common.{arith, ◌≡◌, ℕ, ◌+◌, ◌<◌, ◌≤◌
 use Rattle.std.proofs.lemmas.List.{length_push}
 use Rattle.pt_feasible.specs.ServiceTimes.{TimesFit}
 use Rattle.pt_feasible.proofs.LimitsLemmas.{IfNone-from}
-use Rattle.pt_feasible.proofs.LineLemmas.{never_later-push, each-push}
+use Rattle.pt_feasible.proofs.TimelineLemmas.{never_later-push, each-push}
 use Rattle.pt_feasible.proofs.earliest.earliest_times.Goals as goal
 
 pub returns-then-bound-from-clause-none : goal.returns-then-bound-from-clause-none

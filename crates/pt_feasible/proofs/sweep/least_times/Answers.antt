@@ -23,8 +23,8 @@ walked_items lent old new read limits same same' walked =
 
 pub loop-preserved : goal.loop-preserved
 loop-preserved g c =
-    let start = c.args.line.earliest.items in
-    let limits = c.args.line.limits.items in
+    let start = c.args.timeline.earliest.items in
+    let limits = c.args.timeline.limits.items in
     let old = c.loop.bounds.items in
     let new = c.sweep.new.bounds in
     let same = c.as_mut_slice.ensures.value in
@@ -50,7 +50,7 @@ loop-preserved g c =
 
 pub returns-in-Broken-clause-none : goal.returns-in-Broken-clause-none
 returns-in-Broken-clause-none g c b count from keeps =
-    let limits = c.args.line.limits.items in
+    let limits = c.args.timeline.limits.items in
     let old = c.loop.bounds.items in
     let new = c.sweep.new.bounds in
     let raises = raises_items c.as_mut_slice.result.now old new c.as_slice.result.now limits c.sweep.result Broken
@@ -59,6 +59,6 @@ returns-in-Broken-clause-none g c b count from keeps =
 
 pub returns-clause-none : goal.returns-clause-none
 returns-clause-none g c =
-    none-from-lowest c.args.line.limits.items c.args.line.earliest.items
+    none-from-lowest c.args.timeline.limits.items c.args.timeline.earliest.items
     (λ b count from keeps lowest.
     omega (arith, c.loop.invariant.final b count from keeps lowest, count_final-le c.loop.bounds.items b, c.loop.invariant.count))

@@ -10,10 +10,10 @@ pub returns-clause-told : goal.returns-clause-told
 returns-clause-told g c clean marks has =
     let told = c.in_ok-marks.ensures.told clean marks
     (λ here. at_params c.args.text.now _ (map mark_row marks) _ (number_value c.args.from ∷ number_value c.args.to ∷ []) (search rules) (has here)) in
-    ok_same c.ordered.result c.in_ok-marks.marks.items marks c.ordered.ensures.told (same_marks c.in_ok-marks.marks.items marks told.0)
+    ok_same c.in_order.result c.in_ok-marks.marks.items marks c.in_order.ensures.told (same_marks c.in_ok-marks.marks.items marks told.0)
 
 pub returns-clause-readable : goal.returns-clause-readable
 returns-clause-readable g c clean marks each order has =
     let told = c.in_ok-marks.ensures.told clean marks
     (λ here. at_params c.args.text.now _ (map mark_row marks) _ (number_value c.args.from ∷ number_value c.args.to ∷ []) (search rules) (has here)) in
-    c.ordered.ensures.readable (subst (IsInOrder mark_key) (sym (same_marks c.in_ok-marks.marks.items marks told.0)) order)
+    c.in_order.ensures.readable (subst (IsInOrder mark_key) (sym (same_marks c.in_ok-marks.marks.items marks told.0)) order)

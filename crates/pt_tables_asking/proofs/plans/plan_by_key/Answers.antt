@@ -7,11 +7,11 @@ use Rattle.pt_tables_asking.proofs.StopLemmas.{plan_told, stops_there, wanted, w
 use Rattle.pt_tables_asking.proofs.TextLemmas.{stops_text}
 use Rattle.pt_tables_asking.proofs.plans.plan_by_key.Goals as goal
 
-pub asked-requires-clause-plain : goal.asked-requires-clause-plain
-asked-requires-clause-plain g c = (stops_text c.numbers-vehicle.result.0 c.numbers-vehicle.result.1).plain
+pub ask-requires-clause-plain : goal.ask-requires-clause-plain
+ask-requires-clause-plain g c = (stops_text c.numbers-vehicle.result.0 c.numbers-vehicle.result.1).plain
 
-pub asked-requires-clause-unlisted : goal.asked-requires-clause-unlisted
-asked-requires-clause-unlisted g c = (stops_text c.numbers-vehicle.result.0 c.numbers-vehicle.result.1).unlisted
+pub ask-requires-clause-unlisted : goal.ask-requires-clause-unlisted
+ask-requires-clause-unlisted g c = (stops_text c.numbers-vehicle.result.0 c.numbers-vehicle.result.1).unlisted
 
 pub returns-in_err-stops-clause-readable : goal.returns-in_err-stops-clause-readable
 returns-in_err-stops-clause-readable g c clean content readable few held =

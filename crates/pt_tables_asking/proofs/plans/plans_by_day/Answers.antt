@@ -61,7 +61,7 @@ returns-clause-told g c clean content readable same carried held =
     let whole : plans ≡ plans_of day content.planned ids =
     sym (append-nil plans) ∙ sym (ap (λ l. plans ++ plans_of day content.planned l) (drop_all c.loop-id.id-index ids (omega (arith, c.loop-id-test.false))))
     ∙ c.loop-id.invariant.plans clean content readable held in
-    ok_same c.ordered.result plans (planned_on day content.planned) c.ordered.ensures.told
+    ok_same c.in_order.result plans (planned_on day content.planned) c.in_order.ensures.told
     (whole ∙ ap (plans_of day content.planned) (c.deref-id-items.ensures.value ∙ c.in_ok-ids.ensures.value ∙ ap vehicle_ids (sym same))
     ∙ plans_of_day content readable (subst (λ vs. Each (HasVersionAmong vs) content.planned) (sym same) carried) day low)
 
@@ -75,7 +75,7 @@ returns-clause-readable g c clean content readable same carried few held =
     let whole : plans ≡ plans_of day content.planned ids =
     sym (append-nil plans) ∙ sym (ap (λ l. plans ++ plans_of day content.planned l) (drop_all c.loop-id.id-index ids (omega (arith, c.loop-id-test.false))))
     ∙ c.loop-id.invariant.plans clean content readable held in
-    c.ordered.ensures.readable
+    c.in_order.ensures.readable
     (subst (λ (xs : List Plan). IsInOrder plan_key xs)
     (sym (whole ∙ ap (plans_of day content.planned) (c.deref-id-items.ensures.value ∙ c.in_ok-ids.ensures.value ∙ ap vehicle_ids (sym same))
     ∙ plans_of_day content readable (subst (λ vs. Each (HasVersionAmong vs) content.planned) (sym same) carried) day low))

@@ -12,8 +12,8 @@ use Rattle.pt_tables_asking.proofs.RecordLemmas.{same_records}
 use Rattle.pt_tables_asking.proofs.TextLemmas.{entries_text}
 use Rattle.pt_tables_asking.proofs.reads.entries_by_rider.Goals as goal
 
-pub asked-requires : goal.asked-requires
-asked-requires g c = let it = entries_text c.args.rider in record { settled = c.requires.settled; plain = it.plain; unlisted = it.unlisted }
+pub ask-requires : goal.ask-requires
+ask-requires g c = let it = entries_text c.args.rider in record { settled = c.requires.settled; plain = it.plain; unlisted = it.unlisted }
 
 pub returns-in_err-found-clause-readable : goal.returns-in_err-found-clause-readable
 returns-in_err-found-clause-readable g c clean content readable held =
@@ -25,7 +25,7 @@ pub returns-clause-told : goal.returns-clause-told
 returns-clause-told g c clean content readable held =
     let wanted = entries_of c.args.rider content.entries in
     let found = c.in_ok-found.ensures.told clean wanted (entries_there content readable (state g.S.Store c.args.conn.now) held c.args.rider _ (search rules)) in
-    ok_same c.ordered.result c.in_ok-found.found.items wanted c.ordered.ensures.told
+    ok_same c.in_order.result c.in_ok-found.found.items wanted c.in_order.ensures.told
     (same_records entry_row FitsFiled entries_apart c.in_ok-found.found.items wanted found.1
     (Each-filter FitsFiled (λ filed. is_within (entry_key filed) (span_of c.args.rider)) content.entries (readable.ranges.parts part.entries)) found.0)
 
@@ -35,5 +35,5 @@ returns-clause-readable g c clean content readable held =
     let found = c.in_ok-found.ensures.told clean wanted (entries_there content readable (state g.S.Store c.args.conn.now) held c.args.rider _ (search rules)) in
     let same = same_records entry_row FitsFiled entries_apart c.in_ok-found.found.items wanted found.1
     (Each-filter FitsFiled (λ filed. is_within (entry_key filed) (span_of c.args.rider)) content.entries (readable.ranges.parts part.entries)) found.0 in
-    c.ordered.ensures.readable
+    c.in_order.ensures.readable
     (subst (IsInOrder entry_key) (sym same) (IsInOrder-filter entry_key (λ filed. is_within (entry_key filed) (span_of c.args.rider)) content.entries readable.entries))

@@ -11,8 +11,8 @@ use Rattle.pt_tables_asking.proofs.RecordLemmas.{same_records}
 use Rattle.pt_tables_asking.proofs.TextLemmas.{kept_text}
 use Rattle.pt_tables_asking.proofs.reads.kept_by_caller.Goals as goal
 
-pub asked-requires : goal.asked-requires
-asked-requires g c = let it = kept_text c.args.caller in record { settled = c.requires.settled; plain = it.plain; unlisted = it.unlisted }
+pub ask-requires : goal.ask-requires
+ask-requires g c = let it = kept_text c.args.caller in record { settled = c.requires.settled; plain = it.plain; unlisted = it.unlisted }
 
 pub returns-in_err-found-clause-readable : goal.returns-in_err-found-clause-readable
 returns-in_err-found-clause-readable g c clean content readable held =

@@ -11,11 +11,11 @@ use Rattle.pt_tables_asking.proofs.ContentLemmas.{rider_marks_there, rider_numbe
 use Rattle.pt_tables_asking.proofs.TextLemmas.{rider_marks_text, rider_text}
 use Rattle.pt_tables_asking.proofs.reads.rider_by_number.Goals as goal
 
-pub asked-requires : goal.asked-requires
-asked-requires g c = let it = rider_text c.args.rider in record { settled = c.requires.settled; plain = it.plain; unlisted = it.unlisted }
+pub ask-requires : goal.ask-requires
+ask-requires g c = let it = rider_text c.args.rider in record { settled = c.requires.settled; plain = it.plain; unlisted = it.unlisted }
 
-pub marked-requires : goal.marked-requires
-marked-requires g c =
+pub mark_all-requires : goal.mark_all-requires
+mark_all-requires g c =
     let it = rider_marks_text 0 0 in
     record {
       settled = c.in_ok-riders.ensures.rests.settled;
@@ -34,7 +34,7 @@ returns-in_err-riders-clause-readable g c clean content readable held =
 pub returns-in_err-found-clause-readable : goal.returns-in_err-found-clause-readable
 returns-in_err-found-clause-readable g c clean content readable held =
     let old = state g.S.Store c.args.conn.now in
-    let mid = state g.S.Store c.asked.new.conn in
+    let mid = state g.S.Store c.ask.new.conn in
     let early : HasCleanDisk mid = omega (arith, clean, c.in_err-found.ensures.rests.survives.clean) in
     let never = c.in_err-found.ensures.readable clean content.riders readable.riders (rider_numbers content readable)
     (rider_marks_there content readable old held mid c.in_ok-riders.ensures.rests early) in
@@ -43,7 +43,7 @@ returns-in_err-found-clause-readable g c clean content readable held =
 pub returns-clause-told : goal.returns-clause-told
 returns-clause-told g c clean content readable held =
     let old = state g.S.Store c.args.conn.now in
-    let mid = state g.S.Store c.asked.new.conn in
+    let mid = state g.S.Store c.ask.new.conn in
     let passes : Rider → Bool = λ r. rider_key r == c.args.rider in
     let early : HasCleanDisk mid = omega (arith, clean, c.in_ok-found.ensures.rests.survives.clean) in
     let rows = c.in_ok-riders.ensures.told early (filter passes content.riders) (rider_there content readable old held c.args.rider _ (search rules)) in

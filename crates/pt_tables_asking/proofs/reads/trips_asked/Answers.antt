@@ -11,8 +11,8 @@ use Rattle.pt_tables_asking.proofs.ReadLemmas.{ok_same}
 use Rattle.pt_tables_asking.proofs.TextLemmas.{trip_marks_text}
 use Rattle.pt_tables_asking.proofs.reads.trips_asked.Goals as goal
 
-pub marked-requires : goal.marked-requires
-marked-requires g c =
+pub mark_all-requires : goal.mark_all-requires
+mark_all-requires g c =
     let it = trip_marks_text 0 0 in
     record {
       settled = c.in_ok-trips.ensures.rests.settled;
@@ -29,7 +29,7 @@ returns-in_err-trips-clause-readable g c clean content readable held passes has 
 pub returns-in_err-found-clause-readable : goal.returns-in_err-found-clause-readable
 returns-in_err-found-clause-readable g c clean content readable held passes has =
     let old = state g.S.Store c.args.conn.now in
-    let mid = state g.S.Store c.asked.new.conn in
+    let mid = state g.S.Store c.ask.new.conn in
     let early : HasCleanDisk mid = omega (arith, clean, c.in_err-found.ensures.rests.survives.clean) in
     let never = c.in_err-found.ensures.readable clean content.trips readable.trips (trip_numbers content readable)
     (trip_marks_there content readable old held mid c.in_ok-trips.ensures.rests early) in
@@ -38,22 +38,22 @@ returns-in_err-found-clause-readable g c clean content readable held passes has 
 pub returns-clause-told : goal.returns-clause-told
 returns-clause-told g c clean content readable held passes has =
     let old = state g.S.Store c.args.conn.now in
-    let mid = state g.S.Store c.asked.new.conn in
+    let mid = state g.S.Store c.ask.new.conn in
     let early : HasCleanDisk mid = omega (arith, clean, c.in_ok-found.ensures.rests.survives.clean) in
     let trips = c.in_ok-trips.trips.items in
     let rows = c.in_ok-trips.ensures.told early (filter passes content.trips) has in
     let found = c.in_ok-found.ensures.told clean content.trips readable.trips (trips_rise content readable passes trips rows.0)
     (trip_marks_there content readable old held mid c.in_ok-trips.ensures.rests early) in
-    ok_same c.ordered.result c.in_ok-found.found.items (filter passes content.trips) c.ordered.ensures.told (found ∙ trips_marked content readable passes trips rows.0)
+    ok_same c.in_order.result c.in_ok-found.found.items (filter passes content.trips) c.in_order.ensures.told (found ∙ trips_marked content readable passes trips rows.0)
 
 pub returns-clause-readable : goal.returns-clause-readable
 returns-clause-readable g c clean content readable held passes has =
     let old = state g.S.Store c.args.conn.now in
-    let mid = state g.S.Store c.asked.new.conn in
+    let mid = state g.S.Store c.ask.new.conn in
     let early : HasCleanDisk mid = omega (arith, clean, c.in_ok-found.ensures.rests.survives.clean) in
     let trips = c.in_ok-trips.trips.items in
     let rows = c.in_ok-trips.ensures.told early (filter passes content.trips) has in
     let found = c.in_ok-found.ensures.told clean content.trips readable.trips (trips_rise content readable passes trips rows.0)
     (trip_marks_there content readable old held mid c.in_ok-trips.ensures.rests early) in
-    c.ordered.ensures.readable
+    c.in_order.ensures.readable
     (subst (IsInOrder trip_key) (sym (found ∙ trips_marked content readable passes trips rows.0)) (IsInOrder-filter trip_key passes content.trips readable.trips))

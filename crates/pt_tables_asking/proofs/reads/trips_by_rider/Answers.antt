@@ -11,11 +11,11 @@ use Rattle.pt_tables_asking.proofs.ReadLemmas.{ok_same}
 use Rattle.pt_tables_asking.proofs.TextLemmas.{trip_marks_text, trips_by_rider_text}
 use Rattle.pt_tables_asking.proofs.reads.trips_by_rider.Goals as goal
 
-pub asked-requires : goal.asked-requires
-asked-requires g c = let it = trips_by_rider_text c.args.rider in record { settled = c.requires.settled; plain = it.plain; unlisted = it.unlisted }
+pub ask-requires : goal.ask-requires
+ask-requires g c = let it = trips_by_rider_text c.args.rider in record { settled = c.requires.settled; plain = it.plain; unlisted = it.unlisted }
 
-pub each_marked-requires : goal.each_marked-requires
-each_marked-requires g c =
+pub mark_each-requires : goal.mark_each-requires
+mark_each-requires g c =
     let it = trip_marks_text 0 0 in
     record {
       settled = c.in_ok-trips.ensures.rests.settled;
@@ -33,7 +33,7 @@ returns-in_err-trips-clause-readable g c clean content readable held =
 pub returns-in_err-found-clause-readable : goal.returns-in_err-found-clause-readable
 returns-in_err-found-clause-readable g c clean content readable held =
     let old = state g.S.Store c.args.conn.now in
-    let mid = state g.S.Store c.asked.new.conn in
+    let mid = state g.S.Store c.ask.new.conn in
     let early : HasCleanDisk mid = omega (arith, clean, c.in_err-found.ensures.rests.survives.clean) in
     let never = c.in_err-found.ensures.readable clean content.trips readable.trips (trip_numbers content readable)
     (trip_marks_there content readable old held mid c.in_ok-trips.ensures.rests early) in
@@ -42,24 +42,24 @@ returns-in_err-found-clause-readable g c clean content readable held =
 pub returns-clause-told : goal.returns-clause-told
 returns-clause-told g c clean content readable held =
     let old = state g.S.Store c.args.conn.now in
-    let mid = state g.S.Store c.asked.new.conn in
+    let mid = state g.S.Store c.ask.new.conn in
     let passes : Trip → Bool = λ t. t.rider == c.args.rider in
     let early : HasCleanDisk mid = omega (arith, clean, c.in_ok-found.ensures.rests.survives.clean) in
     let trips = c.in_ok-trips.trips.items in
     let rows = c.in_ok-trips.ensures.told early (filter passes content.trips) (rider_trips_there content readable old held c.args.rider _ (search rules)) in
     let found = c.in_ok-found.ensures.told clean content.trips readable.trips
     (trip_marks_there content readable old held mid c.in_ok-trips.ensures.rests early) in
-    ok_same c.ordered.result c.in_ok-found.found.items (filter passes content.trips) c.ordered.ensures.told (found ∙ trips_marked content readable passes trips rows.0)
+    ok_same c.in_order.result c.in_ok-found.found.items (filter passes content.trips) c.in_order.ensures.told (found ∙ trips_marked content readable passes trips rows.0)
 
 pub returns-clause-readable : goal.returns-clause-readable
 returns-clause-readable g c clean content readable held =
     let old = state g.S.Store c.args.conn.now in
-    let mid = state g.S.Store c.asked.new.conn in
+    let mid = state g.S.Store c.ask.new.conn in
     let passes : Trip → Bool = λ t. t.rider == c.args.rider in
     let early : HasCleanDisk mid = omega (arith, clean, c.in_ok-found.ensures.rests.survives.clean) in
     let trips = c.in_ok-trips.trips.items in
     let rows = c.in_ok-trips.ensures.told early (filter passes content.trips) (rider_trips_there content readable old held c.args.rider _ (search rules)) in
     let found = c.in_ok-found.ensures.told clean content.trips readable.trips
     (trip_marks_there content readable old held mid c.in_ok-trips.ensures.rests early) in
-    c.ordered.ensures.readable
+    c.in_order.ensures.readable
     (subst (IsInOrder trip_key) (sym (found ∙ trips_marked content readable passes trips rows.0)) (IsInOrder-filter trip_key passes content.trips readable.trips))

@@ -16,11 +16,11 @@ invariant_of-self c =
     AreMarks-pushed c.self.inside.entries.items c.self.inside.waiting c.self.inside.granted c.self.inside.heard last c.self.invariant room
     c.if-is_some.self-inside.entries.items c.if-is_some.self-inside.waiting c.if-is_some.self-inside.granted c.heard_since-self-inside.result in
     let overdue = rw c.deref.ensures.value at c.heard_since-self-inside.ensures in
-    let some_given = λ (given : Bool) (is : c.is_some.result ≡ given). ap is_some (sym c.granted-granted.ensures) ∙ sym c.is_some.ensures ∙ is in
+    let some_given = λ (given : Bool) (is : c.is_some.result ≡ given). ap is_some (sym c.grant-granted.ensures) ∙ sym c.is_some.ensures ∙ is in
     elim c.if-is_some.branch [
       | then-is_some w ↦
           pushed (rw w.self-inside-is c.in-Ok.ensures.items) (rw w.self-inside-is c.waiting_after-waiting.ensures)
-          (rw w.self-inside-is (c.granted-granted.ensures ∙ sym (newer-some (grant_of c.args.entry) c.self.inside.granted (some_given true w.if-is_some.true)))) overdue
+          (rw w.self-inside-is (c.grant-granted.ensures ∙ sym (newer-some (grant_of c.args.entry) c.self.inside.granted (some_given true w.if-is_some.true)))) overdue
       | else-is_some w ↦
           pushed (rw w.self-inside-is c.in-Ok.ensures.items) (rw w.self-inside-is c.waiting_after-waiting.ensures)
           (rw w.self-inside-is (sym (newer-none (grant_of c.args.entry) c.self.inside.granted (some_given false w.if-is_some.false)))) overdue

@@ -11,22 +11,22 @@ use Rattle.pt_tables_keeper.proofs.keeper.SqlKeeperKeeper.is_booked_from.Goals a
 pub invariant_of-self : goal.invariant_of-self
 invariant_of-self g c =
     let none : c.self.inside.failures ≡ 0 = ap (λ (k : KeptTables _). k.failures) c.self.view_is ∙ c.in_ok-serve.ensures.served in
-    step_by g.S.Store c.self.inside.conn c.trips_from_day-found.new.conn c.self.inside.failures c.counted.new.failures c.self.inside.known.content c.trips_from_day-found.result c.counted.result
-    none c.self.invariant c.trips_from_day-found.ensures.rests (λ db here left. g.met.S.Store.settled c.trips_from_day-found.new.conn.store db here left) c.counted.ensures.counts
+    step_by g.S.Store c.self.inside.conn c.trips_from_day-found.new.conn c.self.inside.failures c.count.new.failures c.self.inside.known.content c.trips_from_day-found.result c.count.result
+    none c.self.invariant c.trips_from_day-found.ensures.rests (λ db here left. g.met.S.Store.settled c.trips_from_day-found.new.conn.store db here left) c.count.ensures.counts
 
 pub invariant_of-self-2 : goal.invariant_of-self-2
 invariant_of-self-2 g c =
     let none : c.self.inside.failures ≡ 0 = ap (λ (k : KeptTables _). k.failures) c.self.view_is ∙ c.in_ok-serve.ensures.served in
-    step_by g.S.Store c.self.inside.conn c.trips_from_day-found.new.conn c.self.inside.failures c.counted.new.failures c.self.inside.known.content c.trips_from_day-found.result c.counted.result
-    none c.self.invariant c.trips_from_day-found.ensures.rests (λ db here left. g.met.S.Store.settled c.trips_from_day-found.new.conn.store db here left) c.counted.ensures.counts
+    step_by g.S.Store c.self.inside.conn c.trips_from_day-found.new.conn c.self.inside.failures c.count.new.failures c.self.inside.known.content c.trips_from_day-found.result c.count.result
+    none c.self.invariant c.trips_from_day-found.ensures.rests (λ db here left. g.met.S.Store.settled c.trips_from_day-found.new.conn.store db here left) c.count.ensures.counts
 
 pub returns-in_err-trips-clause-reads : goal.returns-in_err-trips-clause-reads
 returns-in_err-trips-clause-reads g c =
     let none : c.self.inside.failures ≡ 0 = ap (λ (k : KeptTables _). k.failures) c.self.view_is ∙ c.in_ok-serve.ensures.served in
     let e = c.in_err-trips.field-0.0 in
     let passed : c.from_residual-in_err-trips.result ≡ Err e = search rules in
-    reads_not g.S.Store c.self.inside.conn c.trips_from_day-found.new.conn c.self.inside.failures c.counted.new.failures c.self.inside.known.content c.trips_from_day-found.result c.counted.result
-    none c.self.invariant c.trips_from_day-found.ensures.rests (λ db here left. g.met.S.Store.settled c.trips_from_day-found.new.conn.store db here left) c.counted.ensures.counts
+    reads_not g.S.Store c.self.inside.conn c.trips_from_day-found.new.conn c.self.inside.failures c.count.new.failures c.self.inside.known.content c.trips_from_day-found.result c.count.result
+    none c.self.invariant c.trips_from_day-found.ensures.rests (λ db here left. g.met.S.Store.settled c.trips_from_day-found.new.conn.store db here left) c.count.ensures.counts
     c.args.self.now (λ (s : State). filter (λ trip. nat_le c.args.day trip.wish.day) s.trips) c.self.view_is
     c.trips_from_day-found.ensures.told e c.in_err-trips.was
     (is_booked_from c.args.vehicle c.args.day c.args.self.now.content.trips) c.from_residual-in_err-trips.result
@@ -37,10 +37,10 @@ returns-clause-reads g c =
     let none : c.self.inside.failures ≡ 0 = ap (λ (k : KeptTables _). k.failures) c.self.view_is ∙ c.in_ok-serve.ensures.served in
     let made = is_booked_from c.args.vehicle c.args.day in
     let read = reads_on g.S.Store c.self.inside.conn c.trips_from_day-found.new.conn c.self.inside.failures
-    c.counted.new.failures c.self.inside.known.content c.trips_from_day-found.result c.counted.result
-    none c.self.invariant c.trips_from_day-found.ensures.rests (λ db here left. g.met.S.Store.settled c.trips_from_day-found.new.conn.store db here left) c.counted.ensures.counts
+    c.count.new.failures c.self.inside.known.content c.trips_from_day-found.result c.count.result
+    none c.self.invariant c.trips_from_day-found.ensures.rests (λ db here left. g.met.S.Store.settled c.trips_from_day-found.new.conn.store db here left) c.count.ensures.counts
     c.args.self.now (λ (s : State). filter (λ trip. nat_le c.args.day trip.wish.day) s.trips) c.self.view_is c.trips_from_day-found.ensures.told c.in_ok-trips.trips c.in_ok-trips.was made in
-    let after = (kept_store (state g.S.Store c.trips_from_day-found.new.conn) c.self.inside.known.content c.counted.new.failures c.self.inside.unfit) in
+    let after = (kept_store (state g.S.Store c.trips_from_day-found.new.conn) c.self.inside.known.content c.count.new.failures c.self.inside.unfit) in
     subst (λ a. Goes (store_of g.S.Store c.args.self.now) after (made c.args.self.now.content.trips) None (Ok a))
     (sym (c.is_booked_from.ensures.value ∙ ap made c.as_slice.ensures.value))
     (subst (λ v. Goes (store_of g.S.Store c.args.self.now) after v None (Ok (made c.in_ok-trips.trips))) (booked_later c.args.vehicle c.args.day c.args.self.now.content.trips) read)

@@ -12,16 +12,16 @@ use Rattle.pt_tables_keeper.proofs.keeper.SqlKeeperKeeper.planned_route.Goals as
 pub invariant_of-self : goal.invariant_of-self
 invariant_of-self g c =
     let none : c.self.inside.failures ≡ 0 = ap (λ (k : KeptTables _). k.failures) c.self.view_is ∙ c.in_ok-serve.ensures.served in
-    step_by g.S.Store c.self.inside.conn c.plan_by_key-found.new.conn c.self.inside.failures c.counted.new.failures c.self.inside.known.content c.plan_by_key-found.result c.counted.result
-    none c.self.invariant c.plan_by_key-found.ensures.rests (λ db here left. g.met.S.Store.settled c.plan_by_key-found.new.conn.store db here left) c.counted.ensures.counts
+    step_by g.S.Store c.self.inside.conn c.plan_by_key-found.new.conn c.self.inside.failures c.count.new.failures c.self.inside.known.content c.plan_by_key-found.result c.count.result
+    none c.self.invariant c.plan_by_key-found.ensures.rests (λ db here left. g.met.S.Store.settled c.plan_by_key-found.new.conn.store db here left) c.count.ensures.counts
 
 pub returns : goal.returns
 returns g c =
     let none : c.self.inside.failures ≡ 0 = ap (λ (k : KeptTables _). k.failures) c.self.view_is ∙ c.in_ok-serve.ensures.served in
     let key : c.pair-key.result ≡ pair_key c.args.vehicle c.args.day = search rules in
     record {
-      reads = reads_by g.S.Store c.self.inside.conn c.plan_by_key-found.new.conn c.self.inside.failures c.counted.new.failures c.self.inside.known.content c.plan_by_key-found.result c.counted.result
-          none c.self.invariant c.plan_by_key-found.ensures.rests (λ db here left. g.met.S.Store.settled c.plan_by_key-found.new.conn.store db here left) c.counted.ensures.counts
+      reads = reads_by g.S.Store c.self.inside.conn c.plan_by_key-found.new.conn c.self.inside.failures c.count.new.failures c.self.inside.known.content c.plan_by_key-found.result c.count.result
+          none c.self.invariant c.plan_by_key-found.ensures.rests (λ db here left. g.met.S.Store.settled c.plan_by_key-found.new.conn.store db here left) c.count.ensures.counts
           c.args.self.now (plan_of c.args.vehicle c.args.day) c.self.view_is
           (subst (λ k. Tells (state g.S.Store c.self.inside.conn) (state g.S.Store c.plan_by_key-found.new.conn)
           (λ (s : State). record_at plan_key k s.planned) c.plan_by_key-found.result) key

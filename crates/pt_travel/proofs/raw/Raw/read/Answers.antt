@@ -21,18 +21,18 @@ returns-in_err-rows-clause-faulty c =
     let why : (fault ≡ record { cause = cause.Memory; row = 0 }) ⊎ IsFirstFault text places fault =
     elim c.in_err-rows.ensures.faulty [
       | inl memory ↦ inl memory
-      | inr first ↦ inr (first-fault-same (list_of c.listed-places.result) places c.listed-places.ensures text fault (few c.listed-places.result) (omega arith) first)
+      | inr first ↦ inr (first-fault-same (list_of c.from_list-places.result) places c.from_list-places.ensures text fault (few c.from_list-places.result) (omega arith) first)
     ]
     in
     rw (p.1, p.2) why
 
 pub naming-requires-clause-table : goal.naming-requires-clause-table
-naming-requires-clause-table c = table-from-reads c.args.text.now (list_of c.listed-places.result) c.in_ok-rows.rows.items c.in_ok-rows.ensures.reads
+naming-requires-clause-table c = table-from-reads c.args.text.now (list_of c.from_list-places.result) c.in_ok-rows.rows.items c.in_ok-rows.ensures.reads
 
 pub naming-requires-clause-named : goal.naming-requires-clause-named
-naming-requires-clause-named c = names-from-reads c.args.text.now (list_of c.listed-places.result) c.in_ok-rows.rows.items c.in_ok-rows.ensures.reads
+naming-requires-clause-named c = names-from-reads c.args.text.now (list_of c.from_list-places.result) c.in_ok-rows.rows.items c.in_ok-rows.ensures.reads
 
 pub returns-clause-reads : goal.returns-clause-reads
 returns-clause-reads c =
     rw c.naming.ensures
-    (reads-same (list_of c.listed-places.result) c.args.places.now c.listed-places.ensures c.args.text.now c.in_ok-rows.rows.items (omega arith) c.in_ok-rows.ensures.reads)
+    (reads-same (list_of c.from_list-places.result) c.args.places.now c.from_list-places.ensures c.args.text.now c.in_ok-rows.rows.items (omega arith) c.in_ok-rows.ensures.reads)
