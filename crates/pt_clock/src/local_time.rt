@@ -28,8 +28,8 @@ fn minute_of(clock: DateTime) -> Minute
 }
 
 /// The day and the minute that clocks of a zone show at an instant. The zone is a POSIX time zone rule, such as
-/// `EST5EDT,M3.2.0,M11.1.0`. The fault is `Cause::NoSuchZone` if the text is not such a rule, and else `Cause::DateOutOfRange`
-/// if the day is outside 2000 to 2099.
+/// `EST5EDT,M3.2.0,M11.1.0`. The cause is `NoSuchZone` if the text is not such a rule, and else `DateOutOfRange` if the
+/// day is outside 2000 to 2099.
 pub fn now_in(zone: &str, instant: Timestamp) -> Result<Moment, Fault>
     ensures local { IfOk result (λ now. IsLocalTime zone.now instant.nanosecond (pos now.day) now.minute) }
     // The clocks show nothing else.
@@ -55,8 +55,8 @@ pub fn now_in(zone: &str, instant: Timestamp) -> Result<Moment, Fault>
 
 /// The day and the minute on the clocks of a zone; `clock` is `None` if the clock could not be read.
 ///
-/// The zone is checked first: if its text is not a time zone rule, the fault is `Cause::NoSuchZone`. Else an unread clock,
-/// or a day outside 2000 to 2099, is the fault `Cause::DateOutOfRange`.
+/// The zone is checked first: if its text is not a time zone rule, the cause is `NoSuchZone`. Else that of an unread
+/// clock, or of a day outside 2000 to 2099, is `DateOutOfRange`.
 pub fn moment_of(zone: &str, clock: Option<Timestamp>) -> Result<Moment, Fault>
     ensures local { IfSome clock (λ instant. IfOk result (λ now.
         IsLocalTime zone.now instant.nanosecond (pos now.day) now.minute)) }

@@ -288,9 +288,11 @@ fn refusal_of(reason: ErrorKind) -> Fault
 /// command, or a word is not the number or the day that its place needs. Otherwise it is out of memory.
 pub fn line<'a>(alloc: Global, words: &'a [String]) -> Result<asked::Line<'a>, Fault>
     ensures line { IfOk result (IsLine (map string_bytes words.now)) }
-    ensures wrong { result ≡ Err (fault cause.WrongWords) → (asked : Line) → ¬ (IsLine (map string_bytes words.now) asked) }
+    ensures wrong { result ≡ Err (fault cause.WrongWords)
+        → (asked : Line) → ¬ (IsLine (map string_bytes words.now) asked) }
     // Words that do not begin with a hyphen are read unchanged.
-    ensures plain { (asked : Line) → SpellsLine (map string_bytes words.now) asked → result ≢ Err (fault cause.WrongWords) }
+    ensures plain { (asked : Line) → SpellsLine (map string_bytes words.now) asked
+        → result ≢ Err (fault cause.WrongWords) }
     ensures same { (asked : Line) → SpellsLine (map string_bytes words.now) asked → IfOk result (IsSameLine asked) }
     ensures fault { IfErr result (λ error. (error ≡ fault cause.Memory) ⊎ (error ≡ fault cause.WrongWords)) }
 {
