@@ -4,7 +4,7 @@ use Rattle.pt_base.specs.declared.place.Place.{Place}
 use Rattle.pt_base.specs.declared.policy.Policy.{Policy}
 use Rattle.pt_base.specs.declared.rider.Rider.{Rider}
 use Rattle.pt_base.specs.declared.trip.Wish.{Wish}
-use Rattle.pt_corridor.specs.Route.{Route}
+use Rattle.pt_corridor.specs.Route.{FixedRoute}
 use Rattle.pt_party.specs.declared.party.Party.{Party}
 use Rattle.pt_rights.specs.declared.entry.Entered.{Entered}
 use Rattle.pt_booking.specs.declared.request.TripRequest.{TripRequest}
@@ -17,7 +17,7 @@ pub record Request : Type 0 where
   pub file : List Entered
   pub uses : List ℕ
   pub policy : Policy
-  pub routes : List Route
+  pub routes : List FixedRoute
   pub from : Place
   pub to : Place
   pub today : ℕ

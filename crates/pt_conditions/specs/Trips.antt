@@ -4,7 +4,7 @@ use Rattle.pt_corridor.specs.DateText.{IsInMonth}
 use Rattle.pt_corridor.specs.Place.{Place}
 use Rattle.pt_corridor.specs.Point.{Point}
 use Rattle.pt_corridor.specs.Near.{IsNearLine}
-use Rattle.pt_corridor.specs.Route.{Route}
+use Rattle.pt_corridor.specs.Route.{FixedRoute}
 use Rattle.pt_corridor.specs.Corridor.{IsRunning, Joins}
 use Rattle.pt_rights.specs.Months.{numbers_of}
 use Rattle.pt_rights.specs.declared.conditions.Condition.{Condition}
@@ -16,17 +16,17 @@ IsInMonths months day = (month : ℕ) × Contains months month × IsInMonth (pos
 
 -- every route that runs then is farther than this many feet from the point, whether or not the place is in a core
 -- area
-abbrev pub IsFarther : List Route → ℕ → ℕ → ℕ → Point → Type 0
+abbrev pub IsFarther : List FixedRoute → ℕ → ℕ → ℕ → Point → Type 0
 IsFarther routes day minute feet point =
     All (λ route. IsRunning day minute route → ¬ IsNearLine feet point route.points) routes
 
 -- some route with accessible vehicles runs then and has both places in its corridor
-abbrev pub HasLift : List Route → ℕ → ℕ → Place → Place → Type 0
+abbrev pub HasLift : List FixedRoute → ℕ → ℕ → Place → Place → Type 0
 HasLift routes day minute from to =
     Any (λ route. IsTrue route.accessible × Joins from to day minute route) routes
 
 -- the condition holds for a trip at that day and minute between the two places
-abbrev pub HoldsFor : List Route → ℕ → ℕ → Place → Place → Condition → Type 0
+abbrev pub HoldsFor : List FixedRoute → ℕ → ℕ → Place → Place → Condition → Type 0
 HoldsFor routes day minute from to condition.Always = Unit {0}
 HoldsFor routes day minute from to (condition.Months months) = IsInMonths (numbers_of months) day
 HoldsFor routes day minute from to (condition.Farther feet) =
@@ -34,5 +34,5 @@ HoldsFor routes day minute from to (condition.Farther feet) =
 HoldsFor routes day minute from to condition.NoLift = ¬ HasLift routes day minute from to
 
 -- a trip qualifies if at least one of the listed conditions holds for it
-abbrev pub Qualifies : List Condition → List Route → ℕ → ℕ → Place → Place → Type 0
+abbrev pub Qualifies : List Condition → List FixedRoute → ℕ → ℕ → Place → Place → Type 0
 Qualifies conditions routes day minute from to = Any (HoldsFor routes day minute from to) conditions

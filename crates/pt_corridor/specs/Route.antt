@@ -8,7 +8,7 @@ use Rattle.pt_base.specs.declared.fault.Cause.TheVariants as cause
 
 -- A fixed route. `width` is how far its corridor reaches on each side, in feet. `days` says of each weekday, from
 -- Monday on, whether it runs. `first` and `last` are minutes of the day.
-pub record Route : Type 0 where
+pub record FixedRoute : Type 0 where
   pub id : ℕ
   pub width : ℕ
   pub points : List Point
@@ -18,28 +18,28 @@ pub record Route : Type 0 where
   pub last : ℕ
 
 -- the route of these arguments
-abbrev pub route_of : ℕ → ℕ → List Point → Bool → List Bool → ℕ → ℕ → Route
+abbrev pub route_of : ℕ → ℕ → List Point → Bool → List Bool → ℕ → ℕ → FixedRoute
 route_of id width points accessible days first last =
     record { id = id; width = width; points = points; accessible = accessible; days = days; first = first; last = last }
 
 -- a line has 2 to 200 points
-abbrev pub HasPoints : Route → Type 0
+abbrev pub HasPoints : FixedRoute → Type 0
 HasPoints route = IsInRange 2 200 (length route.points)
 
 -- a corridor reaches three fourths of a mile to a mile and a half on each side (49 CFR 37.131(a)(1)(i), (iii))
-abbrev pub HasWidth : Route → Type 0
+abbrev pub HasWidth : FixedRoute → Type 0
 HasWidth route = IsInRange 3_960 7_920 route.width
 
 -- the whole line lies on the plane
-abbrev pub IsRouteOnPlane : Route → Type 0
+abbrev pub IsRouteOnPlane : FixedRoute → Type 0
 IsRouteOnPlane route = All (λ p. IsOnPlane p.x p.y) route.points
 
 -- the route's first minute is not after its last
-abbrev pub HasHours : Route → Type 0
+abbrev pub HasHours : FixedRoute → Type 0
 HasHours route = route.first ≤ route.last
 
 -- the limits that every fixed route meets
-pub record IsFixedRoute (route : Route) : Type 0 where
+pub record IsFixedRoute (route : FixedRoute) : Type 0 where
   pub points : HasPoints route
   pub width : HasWidth route
   pub on_plane : IsRouteOnPlane route
@@ -51,7 +51,7 @@ IsFirst [] why = ⊥
 IsFirst (f ∷ later) why = ((why ≡ f.0) × f.1) ⊎ (¬ f.1 × IsFirst later why)
 
 -- the faults of a fixed route in the order in which they are tried
-abbrev pub faults : Route → List (Cause × Type 0)
+abbrev pub faults : FixedRoute → List (Cause × Type 0)
 faults route =
     (cause.RoutePoints, ¬ HasPoints route) ∷ (cause.RouteWidth, ¬ HasWidth route)
     ∷ (cause.RouteCoordinate, ¬ IsRouteOnPlane route) ∷ (cause.RouteHours, ¬ HasHours route) ∷ []

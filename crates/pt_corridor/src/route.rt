@@ -36,9 +36,9 @@ pub struct FixedRoute {
 }
 
 impl Model for FixedRoute {
-    ghost use Rattle.pt_corridor.specs.Route.{Route, IsFixedRoute, route_of};
+    ghost use Rattle.pt_corridor.specs.Route.{FixedRoute, IsFixedRoute, route_of};
 
-    ghost Value = { Route };
+    ghost Value = { FixedRoute };
 
     ghost view = { λ r. route_of r.id r.width r.points.items r.accessible r.days r.first r.last };
 

@@ -28,7 +28,7 @@ use Rattle.pt_desk_rules.specs.Sound.{CanDrive, DrivesIn, HasDay, HasFirstDay, H
 use Rattle.pt_desk_rules.specs.State.{tables_before, tables_from, travel_key, trip_key, vehicle_key, State}
 use Rattle.pt_desk_rules.specs.Tours.{IsOnDutyIn, PlansAreOnDuty}
 use Rattle.pt_desk_rules.specs.Travel as dated
-use Rattle.pt_desk_rules.specs.Travel.{holds_on, table_on, DatedTable}
+use Rattle.pt_desk_rules.specs.Travel.{holds_on, table_on, TravelTable}
 use Rattle.pt_desk_rules.specs.Trips.{plan_of_stops, plan_span}
 use Rattle.pt_desk_laws.proofs.DutyLemmas.{duty_of_force, filter_both, force_order, id_of}
 use Rattle.pt_desk_rules.proofs.FleetLemmas.{filter-kept, filter-put_other, fleet_with, kept_versions}
@@ -170,16 +170,16 @@ force_on_duty P day vehicles (k, a, within, at, holds) =
 -- The one version of a vehicle that is in force drives its stops, and has room.
 
 -- the version of this vehicle that is in force on this day can drive the stops by the travel table that holds then
-abbrev pub CanServe : List Vehicle → List DatedTable → ℕ → ℕ → List Stop → Type 0
+abbrev pub CanServe : List Vehicle → List TravelTable → ℕ → ℕ → List Stop → Type 0
 CanServe vehicles travel id day stops = HoldsInForce (CanDrive (rows_of (table_on day travel)) stops) vehicles id day
 
 -- the version that is on duty can
-abbrev pub ServesOnDuty : List Vehicle → List DatedTable → ℕ → ℕ → List Stop → Type 0
+abbrev pub ServesOnDuty : List Vehicle → List TravelTable → ℕ → ℕ → List Stop → Type 0
 ServesOnDuty vehicles travel id day stops =
     Any (λ (v : Vehicle). (v.id ≡ id) × CanDrive (rows_of (table_on day travel)) stops v) (on_duty day vehicles)
 
 -- the vehicle of a plan can drive the stops of its trips on its day
-abbrev pub FitsIn : List Vehicle → List DatedTable → List Trip → Plan → Type 0
+abbrev pub FitsIn : List Vehicle → List TravelTable → List Trip → Plan → Type 0
 FitsIn vehicles travel trips plan =
     CanServe vehicles travel plan.vehicle plan.day (stops_among trips plan.stops)
 
@@ -200,7 +200,7 @@ one_both P Q id (x ∷ xs) order (inr rest) (inl (own, too)) = absurd (none_abov
 one_both P Q id (x ∷ xs) order (inr some) (inr also) = inr (one_both P Q id xs order.1 some also)
 
 -- so a plan whose vehicle drives its stops, and has room, fits
-both_fit : (vehicles : List Vehicle) (travel : List DatedTable) (trips : List Trip) (plan : Plan)
+both_fit : (vehicles : List Vehicle) (travel : List TravelTable) (trips : List Trip) (plan : Plan)
     → Each HasFirstDay vehicles → IsInOrder vehicle_key vehicles → DrivesIn vehicles travel trips plan
     → LoadsFitIn vehicles trips plan → FitsIn vehicles travel trips plan
 both_fit vehicles travel trips plan days order (k, first, within, at, drives) (l, second, below, is, loads) =
@@ -226,7 +226,7 @@ planned_fit s sound =
     s.planned sound.planned_drive sound.planned_load
 
 -- the vehicle of a plan that fits drives its stops
-pub each_drive : (vehicles : List Vehicle) (travel : List DatedTable) (trips : List Trip) (plans : List Plan)
+pub each_drive : (vehicles : List Vehicle) (travel : List TravelTable) (trips : List Trip) (plans : List Plan)
     → Each (FitsIn vehicles travel trips) plans → Each (DrivesIn vehicles travel trips) plans
 each_drive vehicles travel trips plans each =
     Each-weaker (FitsIn vehicles travel trips) (DrivesIn vehicles travel trips)
@@ -240,7 +240,7 @@ each_drive vehicles travel trips plans each =
     plans each
 
 -- the vehicle of a plan that fits has room
-pub each_load : (vehicles : List Vehicle) (travel : List DatedTable) (trips : List Trip) (plans : List Plan)
+pub each_load : (vehicles : List Vehicle) (travel : List TravelTable) (trips : List Trip) (plans : List Plan)
     → Each (FitsIn vehicles travel trips) plans → Each (LoadsFitIn vehicles trips) plans
 each_load vehicles travel trips plans each =
     Each-weaker (FitsIn vehicles travel trips) (LoadsFitIn vehicles trips)
@@ -252,7 +252,7 @@ each_load vehicles travel trips plans each =
     plans each
 
 -- if the vehicle is on duty that day, the version on duty can drive the stops
-pub duty_serves : (vehicles : List Vehicle) (travel : List DatedTable) (id day : ℕ) (stops : List Stop)
+pub duty_serves : (vehicles : List Vehicle) (travel : List TravelTable) (id day : ℕ) (stops : List Stop)
     → Each HasFirstDay vehicles → IsInOrder vehicle_key vehicles → CanServe vehicles travel id day stops
     → Any (λ (v : Vehicle). v.id ≡ id) (on_duty day vehicles) → ServesOnDuty vehicles travel id day stops
 duty_serves vehicles travel id day stops days order (k, a, within, at, holds) duty =
@@ -270,7 +270,7 @@ duty_serves vehicles travel id day stops days order (k, a, within, at, holds) du
     (some_at (λ (v : Vehicle). (v.id ≡ id) × (has_weekday day v ≡ true)) force l b below is runs))))
 
 -- a version that is on duty and can drive the stops is in force
-duty_can_serve : (vehicles : List Vehicle) (travel : List DatedTable) (id day : ℕ) (stops : List Stop)
+duty_can_serve : (vehicles : List Vehicle) (travel : List TravelTable) (id day : ℕ) (stops : List Stop)
     → ServesOnDuty vehicles travel id day stops → CanServe vehicles travel id day stops
 duty_can_serve vehicles travel id day stops serves =
     let drives : Vehicle → Type 0 = λ v. (v.id ≡ id) × CanDrive (rows_of (table_on day travel)) stops v in
@@ -297,11 +297,11 @@ all_units (x ∷ xs) = (tt, all_units xs)
 from_later : (from day : ℕ) → not (is_within from (tables_from day)) ≡ false → day ≤ from
 from_later from day taken = grind (arith, nat_tests)
 
-abbrev tables_with : DatedTable → List DatedTable → List DatedTable
+abbrev tables_with : TravelTable → List TravelTable → List TravelTable
 tables_with new tables = put travel_key new (tables_before new.from_day tables)
 
-kept_tables : (test : DatedTable → Bool) (new : DatedTable) (tables : List DatedTable)
-    → ((table : DatedTable) → new.from_day ≤ table.from_day → test table ≡ false)
+kept_tables : (test : TravelTable → Bool) (new : TravelTable) (tables : List TravelTable)
+    → ((table : TravelTable) → new.from_day ≤ table.from_day → test table ≡ false)
     → filter test (tables_with new tables) ≡ filter test tables
 kept_tables test new tables out =
     filter-put_other travel_key test new (λ table. Unit {0}) (λ table u same. out table (omega arith))
@@ -309,7 +309,7 @@ kept_tables test new tables out =
     ∙ filter-kept test (λ table. not (is_within (travel_key table) (tables_from new.from_day))) (λ table. Unit {0})
     (λ table u taken. out table (from_later table.from_day new.from_day taken)) tables (all_units tables)
 
-pub table_stays : (new : DatedTable) (day : ℕ) (tables : List DatedTable) → day < new.from_day
+pub table_stays : (new : TravelTable) (day : ℕ) (tables : List TravelTable) → day < new.from_day
     → table_on day (tables_with new tables) ≡ table_on day tables
 table_stays new day tables lt =
     find_alike (holds_on day (tables_with new tables)) (holds_on day tables)
@@ -489,7 +489,7 @@ vehicle_duties new s sound day free duties =
     (sound_plans s sound) duties
 
 -- each plan still fits after a table is put, if no vehicle has bookings
-pub travel_fits : (new : DatedTable) (s : State) → IsSound s → is_booked_from None new.from_day s.trips ≡ false
+pub travel_fits : (new : TravelTable) (s : State) → IsSound s → is_booked_from None new.from_day s.trips ≡ false
     → Each (FitsIn s.vehicles (tables_with new s.travel) s.trips) s.planned
 travel_fits new s sound free =
     Each-weaker (IsSoundPlan s) (FitsIn s.vehicles (tables_with new s.travel) s.trips)
@@ -500,7 +500,7 @@ travel_fits new s sound free =
     s.planned (sound_plans s sound)
 
 -- A plan still fits after a trip is put that has no stop in it.
-other_fits : (vehicles : List Vehicle) (travel : List DatedTable) (trips : List Trip) (new : Trip) (plan : Plan)
+other_fits : (vehicles : List Vehicle) (travel : List TravelTable) (trips : List Trip) (new : Trip) (plan : Plan)
     → Each (λ stop. stop.trip ≡ new.id → ⊥) plan.stops → FitsIn vehicles travel trips plan
     → FitsIn vehicles travel (put trip_key new trips) plan
 other_fits vehicles travel trips new plan others fits =

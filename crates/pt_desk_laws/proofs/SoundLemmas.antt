@@ -38,7 +38,7 @@ use Rattle.pt_desk_rules.proofs.FleetLemmas.{version_stays, fleet_stays}
 use Rattle.pt_desk_laws.proofs.NumberLemmas.{callers_by, decided_makes, new_is_above, Makes}
 use Rattle.pt_desk_rules.specs.Fleet.{on_duty, vehicle_count, versions_before, versions_of_others}
 use Rattle.pt_desk_rules.specs.Planned.{is_booked_from, planned_on, trips_on}
-use Rattle.pt_desk_rules.specs.Travel.{DatedTable}
+use Rattle.pt_desk_rules.specs.Travel.{TravelTable}
 use Rattle.pt_desk_rules.specs.Rules.{rules_of, is_nobody_else, is_nobody_of_another_kind, are_there, has_room_for}
 use Rattle.pt_desk_rules.specs.Booking.{routes_on, IsBooking}
 use Rattle.pt_desk_rules.specs.Outcome.{Outcome}
@@ -327,7 +327,7 @@ put_vehicle_sound new s sound day depot free room ranges =
     s.callers sound.subjects_there in
     search rules
 
-put_travel_sound : (new : DatedTable) (s : State) → IsSound s → IsOfPlaces s.places new
+put_travel_sound : (new : TravelTable) (s : State) → IsSound s → IsOfPlaces s.places new
     → is_booked_from None new.from_day s.trips ≡ false
     → IsTrue (nat_lt (length (tables_before new.from_day s.travel)) most_tables)
     → KeepsRanges (record s { travel = put travel_key new (take_away travel_key (tables_from new.from_day) s.travel) })

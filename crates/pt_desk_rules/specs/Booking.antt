@@ -15,7 +15,7 @@ use Rattle.pt_travel.specs.Chain.{Row, IsTime}
 use Rattle.pt_desk_rules.specs.Fleet.{on_duty}
 use Rattle.pt_desk_rules.specs.Planned.{planned_on, trips_on}
 use Rattle.pt_desk_rules.specs.State.{State, place_key}
-use Rattle.pt_desk_rules.specs.Travel.{DatedTable}
+use Rattle.pt_desk_rules.specs.Travel.{TravelTable}
 use Rattle.pt_desk_rules.specs.Trips.{IsConfirmation}
 use Rattle.pt_desk_rules.specs.declared.booking.Asking.{Asking}
 use Rattle.pt_desk_rules.specs.declared.change.Change.{Change}
@@ -47,7 +47,7 @@ pub record IsAsking (wish : Wish) (facts : WriteFacts) (asking : Asking) : Type 
   pub to : record_at place_key wish.to facts.places ≡ Some asking.to
 
 -- before the first travel table there are no rows
-abbrev pub rows_of : Option DatedTable → List Row
+abbrev pub rows_of : Option TravelTable → List Row
 rows_of None = []
 rows_of (Some table) = table.rows
 

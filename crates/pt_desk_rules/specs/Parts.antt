@@ -5,13 +5,13 @@ use Rattle.pt_base.specs.declared.place.Place.{Place}
 use Rattle.pt_base.specs.declared.rider.Rider.{Rider}
 use Rattle.pt_base.specs.declared.trip.Trip.{Trip}
 use Rattle.pt_base.specs.declared.vehicle.Vehicle.{Vehicle}
-use Rattle.pt_corridor.specs.Route.{Route}
+use Rattle.pt_corridor.specs.Route.{FixedRoute}
 use Rattle.pt_records.specs.Records.{Edit}
 use Rattle.pt_requests.specs.declared.caller.Caller.{Caller}
 use Rattle.pt_scheduling.specs.Plan.{Plan, plan_key}
 use Rattle.pt_desk_rules.specs.State.{State, caller_key, kept_key, place_key, route_key, rider_key, entry_key}
 use Rattle.pt_desk_rules.specs.State.{vehicle_key, travel_key, trip_key}
-use Rattle.pt_desk_rules.specs.Travel.{DatedTable}
+use Rattle.pt_desk_rules.specs.Travel.{TravelTable}
 use Rattle.pt_desk_rules.specs.declared.change.Change.{Change}
 use Rattle.pt_desk_rules.specs.declared.change.FiledEntry.{FiledEntry}
 use Rattle.pt_desk_rules.specs.declared.kept.Kept.{Kept}
@@ -33,11 +33,11 @@ abbrev pub record_in : Part → Type 0
 record_in callers = Caller
 record_in kept = Kept
 record_in places = Place
-record_in routes = Route
+record_in routes = FixedRoute
 record_in riders = Rider
 record_in entries = FiledEntry
 record_in vehicles = Vehicle
-record_in travel = DatedTable
+record_in travel = TravelTable
 record_in trips = Trip
 record_in planned = Plan
 

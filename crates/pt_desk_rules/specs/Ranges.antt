@@ -16,7 +16,7 @@ use Rattle.pt_travel.specs.Table.{IsTable}
 use Rattle.pt_desk_rules.specs.Parts.{Part, edit_of, record_in, records_of}
 use Rattle.pt_desk_rules.specs.Parts as part
 use Rattle.pt_desk_rules.specs.State.{State}
-use Rattle.pt_desk_rules.specs.Travel.{DatedTable}
+use Rattle.pt_desk_rules.specs.Travel.{TravelTable}
 use Rattle.pt_desk_rules.specs.declared.change.Change.{Change}
 use Rattle.pt_desk_rules.specs.declared.change.FiledEntry.{FiledEntry}
 use Rattle.pt_desk_rules.specs.declared.kept.Kept.{Kept}
@@ -63,7 +63,7 @@ pub record FitsPlan (plan : Plan) : Type 0 where
 abbrev pub FitsDrive : Row → Type 0
 FitsDrive drive = IsId drive.0 × IsId drive.1 × (drive.2 < 2 ^ 16)
 
-pub record FitsTravel (dated : DatedTable) : Type 0 where
+pub record FitsTravel (dated : TravelTable) : Type 0 where
   pub from_day : IsDay dated.from_day
   pub drives : Each FitsDrive dated.rows
   pub table : IsTable dated.rows

@@ -25,7 +25,7 @@ use Rattle.pt_desk_rules.specs.Ranges.{KeepsRanges}
 use Rattle.pt_desk_rules.specs.Booking.{rows_of, AreTimes}
 use Rattle.pt_desk_rules.specs.Fleet.{in_force, vehicle_count, versions_of}
 use Rattle.pt_desk_rules.specs.Rules.{are_there}
-use Rattle.pt_desk_rules.specs.Travel.{table_on, DatedTable}
+use Rattle.pt_desk_rules.specs.Travel.{table_on, TravelTable}
 use Rattle.pt_requests.specs.declared.caller.Caller.{Caller}
 use Rattle.pt_desk_rules.specs.declared.kept.Kept.{Kept}
 use Rattle.pt_desk_rules.specs.declared.change.FiledEntry.{FiledEntry}
@@ -82,7 +82,7 @@ pub record IsFleet (vehicles : List Vehicle) : Type 0 where
   pub few_versions : (id : ℕ) → length (versions_of id vehicles) ≤ most_versions
 
 -- the places in the rows of a travel table exist
-abbrev pub IsOfPlaces : List Place → DatedTable → Type 0
+abbrev pub IsOfPlaces : List Place → TravelTable → Type 0
 IsOfPlaces places table = IsTrue (are_there table.rows places)
 
 -- a trip's number is at most the last number given
@@ -139,7 +139,7 @@ abbrev pub HoldsInForce : (Vehicle → Type 0) → List Vehicle → ℕ → ℕ 
 HoldsInForce P vehicles id day = Any (λ version. (version.id ≡ id) × P version) (in_force day vehicles)
 
 -- the vehicle of a plan can keep its times at the stops of its trips, by the travel table that holds on its day
-abbrev pub DrivesIn : List Vehicle → List DatedTable → List Trip → Plan → Type 0
+abbrev pub DrivesIn : List Vehicle → List TravelTable → List Trip → Plan → Type 0
 DrivesIn vehicles travel trips plan =
     HoldsInForce (HasTimes (rows_of (table_on plan.day travel)) (stops_among trips plan.stops))
     vehicles plan.vehicle plan.day

@@ -6,14 +6,14 @@ use Rattle.pt_base.specs.declared.policy.Policy.{Policy}
 use Rattle.pt_base.specs.declared.rider.Rider.{Rider}
 use Rattle.pt_base.specs.declared.trip.Trip.{Trip}
 use Rattle.pt_base.specs.declared.vehicle.Vehicle.{Vehicle}
-use Rattle.pt_corridor.specs.Route.{Route}
+use Rattle.pt_corridor.specs.Route.{FixedRoute}
 use Rattle.pt_records.specs.Keys.{pair_key}
 use Rattle.pt_records.specs.Records.{Edit, edited, record_at, take_away, within}
 use Rattle.pt_records.specs.declared.span.Span.{Span}
 pub use Rattle.pt_rights.specs.Limits.{most_entries}
 use Rattle.pt_rights.specs.declared.entry.Entered.{Entered}
 use Rattle.pt_scheduling.specs.Plan.{Plan, plan_key}
-use Rattle.pt_desk_rules.specs.Travel.{DatedTable}
+use Rattle.pt_desk_rules.specs.Travel.{TravelTable}
 use Rattle.pt_requests.specs.declared.caller.Caller.{Caller}
 use Rattle.pt_desk_rules.specs.declared.kept.Kept.{Kept}
 use Rattle.pt_desk_rules.specs.declared.change.Change.{Change}
@@ -26,13 +26,13 @@ pub record State : Type 0 where
   pub kept : List Kept
   pub policy : Policy
   pub places : List Place
-  pub routes : List Route
+  pub routes : List FixedRoute
   pub riders : List Rider
   -- the entries of all case files, ordered by rider and by position in the file
   pub entries : List FiledEntry
   -- the versions of all vehicles; each holds from its day on
   pub vehicles : List Vehicle
-  pub travel : List DatedTable
+  pub travel : List TravelTable
   pub trips : List Trip
   -- the routes of the vehicles from day to day, with the stops of the trips that are not cancelled
   pub planned : List Plan
@@ -103,7 +103,7 @@ kept_key kept = kept.caller
 abbrev pub place_key : Place → ℕ
 place_key place = place.id
 
-abbrev pub route_key : Route → ℕ
+abbrev pub route_key : FixedRoute → ℕ
 route_key route = route.id
 
 abbrev pub rider_key : Rider → ℕ
@@ -115,7 +115,7 @@ entry_key filed = pair_key filed.rider filed.position
 abbrev pub vehicle_key : Vehicle → ℕ
 vehicle_key version = pair_key version.id version.from_day
 
-abbrev pub travel_key : DatedTable → ℕ
+abbrev pub travel_key : TravelTable → ℕ
 travel_key table = table.from_day
 
 abbrev pub trip_key : Trip → ℕ
@@ -134,7 +134,7 @@ kept_of caller s = record_at kept_key caller s.kept
 abbrev pub place_of : ℕ → State → Option Place
 place_of id s = record_at place_key id s.places
 
-abbrev pub route_of : ℕ → State → Option Route
+abbrev pub route_of : ℕ → State → Option FixedRoute
 route_of id s = record_at route_key id s.routes
 
 abbrev pub rider_of : ℕ → State → Option Rider
@@ -172,7 +172,7 @@ abbrev pub tables_from : ℕ → Span
 tables_from day = record { from = day; to = 4_294_967_295 }
 
 -- the travel tables that stay when one of this day is put
-abbrev pub tables_before : ℕ → List DatedTable → List DatedTable
+abbrev pub tables_before : ℕ → List TravelTable → List TravelTable
 tables_before day tables = take_away travel_key (tables_from day) tables
 
 -- the state after the change

@@ -27,7 +27,7 @@ use pt_base::{Day, Moment, Place, PlaceId, Rider, RiderId, Rule, Trip, TripId, V
 use pt_booking::TripRequest;
 use pt_records::{Key, Rows, Table};
 use pt_requests::{Answer, Caller};
-use pt_scheduling::{DayPlans, PlannedRoute, Scheduled, days_of_use, schedule};
+use pt_scheduling::{DayPlans, Plan, Scheduled, days_of_use, schedule};
 use std::alloc::{AllocError, Global};
 
 /// Schedules a request over the plans of its day. The error is out of memory.
@@ -279,7 +279,7 @@ pub(crate) fn decide_change(
 }
 
 /// Cancels a trip.
-fn cancel(alloc: Global, trip: &Trip, plan: &Option<PlannedRoute>) -> Result<Decision, AllocError>
+fn cancel(alloc: Global, trip: &Trip, plan: &Option<Plan>) -> Result<Decision, AllocError>
     ensures { IfOk result (λ decided. decided ≡ Accepted Done (given_up trip.now plan.now)) }
 {
     let wish: Wish = trip.wish;

@@ -8,7 +8,7 @@ use pt_corridor::FixedRoute;
 use pt_records::{Edits, Key, Keyed, Span};
 use pt_requests::Caller;
 use pt_rights::Entered;
-use pt_scheduling::PlannedRoute;
+use pt_scheduling::Plan;
 use std::alloc::{AllocError, Global};
 
 /// An entry of a rider's case file.
@@ -34,7 +34,7 @@ pub struct Change {
     pub vehicles: Edits<Vehicle>,
     pub travel: Edits<TravelTable>,
     pub trips: Edits<Trip>,
-    pub planned: Edits<PlannedRoute>,
+    pub planned: Edits<Plan>,
     /// The number of a new trip.
     pub last_trip: Option<TripId>,
 }

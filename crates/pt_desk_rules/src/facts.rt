@@ -7,7 +7,7 @@ use pt_corridor::FixedRoute;
 use pt_records::Rows;
 use pt_requests::Caller;
 use pt_rights::CaseFile;
-use pt_scheduling::PlannedRoute;
+use pt_scheduling::Plan;
 use std::alloc::Global;
 
 /// The facts that a write's rules read. Facts that the write does not need are empty.
@@ -53,7 +53,7 @@ pub struct BookingFacts {
     /// The trip that the write names.
     pub trip: Option<Trip>,
     /// The plan of that trip's vehicle on its day.
-    pub plan: Option<PlannedRoute>,
+    pub plan: Option<Plan>,
     /// All fixed routes.
     pub routes: Rows<FixedRoute>,
     /// The number of the last trip; 0 before the first.
@@ -88,7 +88,7 @@ pub struct DayFacts {
     /// The trips of the day.
     pub trips: Rows<Trip>,
     /// The stops of the vehicles that have any.
-    pub plans: Rows<PlannedRoute>,
+    pub plans: Rows<Plan>,
 }
 
 impl DayFacts {

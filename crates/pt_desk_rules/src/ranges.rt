@@ -14,7 +14,7 @@ use pt_base::{Place, Rider, Trip, Vehicle, Wish};
 use pt_corridor::FixedRoute;
 use pt_requests::{Caller, Role};
 use pt_rights::{Condition, Entry, Grant};
-use pt_scheduling::{PlannedRoute, PlannedStop};
+use pt_scheduling::{Plan, PlannedStop};
 use pt_spelling::{days_byte, spell_reply};
 use pt_travel::Row;
 
@@ -250,7 +250,7 @@ impl Fitting for PlannedStop {
     }
 }
 
-impl Fitting for PlannedRoute {
+impl Fitting for Plan {
     ghost use Rattle.pt_desk_rules.specs.Ranges.{FitsPlan};
 
     ghost Fits = { FitsPlan };

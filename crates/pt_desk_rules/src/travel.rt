@@ -26,9 +26,9 @@ impl Model for TravelTable {
     ghost use Rattle.std.specs.Prelude.{ℕ};
     ghost use Rattle.pt_travel.specs.Chain.{IsTime};
     ghost use Rattle.pt_travel.specs.Times.{time_in};
-    ghost use Rattle.pt_desk_rules.specs.Travel.{DatedTable};
+    ghost use Rattle.pt_desk_rules.specs.Travel.{TravelTable};
 
-    ghost Value = { DatedTable };
+    ghost Value = { TravelTable };
 
     ghost view = { λ table. record {
       from_day = table.from_day;

@@ -10,7 +10,7 @@ use pt_booking::party_of;
 use pt_party::due;
 use pt_records::{Edits, Key, Rows, Span};
 use pt_requests::Confirmation;
-use pt_scheduling::PlannedRoute;
+use pt_scheduling::Plan;
 use std::alloc::{AllocError, Global};
 
 /// Whether both places of the wish exist.
@@ -91,8 +91,8 @@ fn plan_span(trip: &Trip) -> Span
 pub(crate) fn giving_up(
     alloc: Global,
     trip: &Trip,
-    plan: &Option<PlannedRoute>,
-) -> Result<Edits<PlannedRoute>, AllocError>
+    plan: &Option<Plan>,
+) -> Result<Edits<Plan>, AllocError>
     ensures value { IfOk result (λ edits. edits ≡ gives_up trip.now plan.now) }
 {
     let mut edits = Edits::none(alloc);
@@ -100,7 +100,7 @@ pub(crate) fn giving_up(
     if let Some(there) = plan {
         let stops = there.stops_without(alloc, trip.id)?;
         if !stops.is_empty() {
-            edits.put(PlannedRoute {
+            edits.put(Plan {
                 vehicle: trip.vehicle,
                 day: trip.wish.day,
                 stops,
@@ -114,9 +114,9 @@ pub(crate) fn giving_up(
 pub(crate) fn moving(
     alloc: Global,
     trip: &Trip,
-    plan: &Option<PlannedRoute>,
-    new: PlannedRoute,
-) -> Result<Edits<PlannedRoute>, AllocError>
+    plan: &Option<Plan>,
+    new: Plan,
+) -> Result<Edits<Plan>, AllocError>
     ensures value { IfOk result (λ edits. edits ≡ moves_to trip.now plan.now new) }
 {
     let mut edits = giving_up(alloc, trip, plan)?;
@@ -125,14 +125,14 @@ pub(crate) fn moving(
 }
 
 /// Whether the plan has stops.
-fn has_stops(plan: &PlannedRoute) -> bool
+fn has_stops(plan: &Plan) -> bool
     ensures { IsTrue result ↔ HasStops plan.now }
 {
     !plan.stops.is_empty()
 }
 
 /// Whether the plans have stops.
-pub fn have_stops(plans: &[PlannedRoute]) -> bool
+pub fn have_stops(plans: &[Plan]) -> bool
     ensures { IsTrue result ↔ Each HasStops plans.now }
 {
     plans.iter().all(has_stops)

@@ -3,7 +3,7 @@ use Rattle.std.specs.Prelude.{ℕ, ◌-◌, nat_le, ◌==◌, ◌&&◌, ◌||◌
 use Rattle.std.specs.Prelude.{Result, Ok, Err, option_map, option_and_then, if◌then◌else◌, ⊤}
 use Rattle.pt_base.specs.Ranges.{last_minute}
 use Rattle.pt_base.specs.declared.place.Point.{Point}
-use Rattle.pt_corridor.specs.Route.{Route, route_of}
+use Rattle.pt_corridor.specs.Route.{FixedRoute, route_of}
 use Rattle.serde_json.specs.Data.{Data, Items, no_items, item}
 use Rattle.serde_json.specs.Find.{get, as_array, as_number, as_u64}
 use Rattle.pt_http_request.specs.Fields.{truth_at, id_at, within, number_within, needed, ◌>>=◌}
@@ -73,7 +73,7 @@ abbrev pub ordered : ℕ → ℕ → Result ⊤ FieldName
 ordered first last = if nat_le first last then Ok tt else Err field.First
 
 -- the fixed route that a body spells: id, width, points, accessible, days, first, last
-abbrev pub route_in : Data → Result Route FieldName
+abbrev pub route_in : Data → Result FixedRoute FieldName
 route_in body = do
   id ← id_at field.Id body
   width ← number_within field.Width 3_960 7_920 body

@@ -2,7 +2,7 @@
 //! into the best of them.
 #![tactic(auto)]
 
-pub use planned::{PlannedRoute, PlannedStop};
+pub use planned::{Plan, PlannedStop};
 pub use routes::{DayRoute, duties_of, route_on, routes_without, stops_among};
 pub use scheduling::{DayPlans, Scheduled, are_without_trip, schedule};
 pub use uses::days_of_use;

@@ -17,13 +17,13 @@ pub struct PlannedStop {
 
 /// The route of a vehicle on a day: its stops, without the depot at either end.
 #[derive(Drop)]
-pub struct PlannedRoute {
+pub struct Plan {
     pub vehicle: VehicleId,
     pub day: Day,
     pub stops: Vec<PlannedStop>,
 }
 
-impl Model for PlannedRoute {
+impl Model for Plan {
     ghost use Rattle.pt_scheduling.specs.Plan.{Plan};
 
     ghost Value = { Plan };
@@ -35,14 +35,14 @@ impl Model for PlannedRoute {
     } };
 }
 
-impl PlannedRoute {
+impl Plan {
     ghost use Rattle.pt_scheduling.specs.Plan.{without};
 
     /// A copy.
     pub fn copy(&self, alloc: Global) -> Result<Self, AllocError>
         ensures value { IfOk result (λ copy. copy ≡ self.now) }
     {
-        Ok(PlannedRoute {
+        Ok(Plan {
             vehicle: self.vehicle,
             day: self.day,
             stops: Vec::from_slice(alloc, &self.stops)?,
@@ -86,7 +86,7 @@ pub(crate) fn planned_stops(alloc: Global, route: &Route) -> Result<Vec<PlannedS
     Ok(stops)
 }
 
-impl Keyed for PlannedRoute {
+impl Keyed for Plan {
     ghost use Rattle.pt_scheduling.specs.Plan.{plan_key};
 
     ghost key = { plan_key };

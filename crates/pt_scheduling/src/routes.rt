@@ -6,7 +6,7 @@ ghost use Rattle.pt_scheduling.specs.Plan.{after_stop, stops_among, planned_stop
 ghost use Rattle.pt_scheduling.specs.Routes.{IsRoute, day_route, routes_without, stops_on, stops_without};
 
 use crate::planned::stops_without;
-use crate::{DayPlans, PlannedRoute, PlannedStop};
+use crate::{DayPlans, Plan, PlannedStop};
 use pt_base::{Day, Trip, TripId, Vehicle, VehicleId};
 use pt_booking::asked_of;
 use pt_feasible::{Route, Stop, StopKind};
@@ -51,7 +51,7 @@ pub fn stops_among(
 }
 
 /// The stops of a vehicle on a day, as they are stored.
-fn planned_stops(plans: &Rows<PlannedRoute>, vehicle: VehicleId, day: Day) -> &[PlannedStop]
+fn planned_stops(plans: &Rows<Plan>, vehicle: VehicleId, day: Day) -> &[PlannedStop]
     ensures { result.now ≡ planned_stops vehicle day plans.now }
 {
     match plans.find(&Key::pair(vehicle.number(), day.number())) {
@@ -65,7 +65,7 @@ pub fn route_on(
     alloc: Global,
     day: Day,
     trips: &Rows<Trip>,
-    plans: &Rows<PlannedRoute>,
+    plans: &Rows<Plan>,
     vehicle: VehicleId,
 ) -> Result<Option<Route>, AllocError>
     ensures route { IfOk result (λ found. IfSome found (λ route.

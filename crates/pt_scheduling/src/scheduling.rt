@@ -8,7 +8,7 @@ ghost use Rattle.pt_booking.specs.Request.{request_of};
 ghost use Rattle.pt_scheduling.specs.Routes.{routes_without};
 ghost use Rattle.pt_scheduling.specs.Scheduling.{IsScheduled};
 
-use crate::PlannedRoute;
+use crate::Plan;
 use crate::planned::planned_stops;
 use crate::routes::{duties_of, routes_without};
 use pt_base::{Rule, Trip, TripId, Vehicle};
@@ -26,27 +26,27 @@ pub struct DayPlans<'a> {
     /// The trips of the day.
     pub trips: &'a Rows<Trip>,
     /// The routes of the vehicles that have stops.
-    pub plans: &'a Rows<PlannedRoute>,
+    pub plans: &'a Rows<Plan>,
 }
 
 /// The result of a request for a trip.
 #[derive(Drop)]
 pub enum Scheduled {
     /// The trip, and its vehicle's new route.
-    Booked { trip: Trip, plan: PlannedRoute },
+    Booked { trip: Trip, plan: Plan },
     /// The first rule that fails.
     Denied(Rule),
 }
 
 /// The route of a booked trip's vehicle, as it is stored.
-fn plan_of(alloc: Global, booking: &Booking) -> Result<PlannedRoute, AllocError>
+fn plan_of(alloc: Global, booking: &Booking) -> Result<Plan, AllocError>
     ensures { IfOk result (λ plan. plan ≡ record {
       vehicle = booking.now.trip.vehicle;
       day = booking.now.trip.wish.day;
       stops = map planned_stop (stops_of booking.now.route);
     }) }
 {
-    Ok(PlannedRoute {
+    Ok(Plan {
         vehicle: booking.trip.vehicle,
         day: booking.trip.wish.day,
         stops: planned_stops(alloc, &booking.route)?,

@@ -28,7 +28,7 @@ use Rattle.pt_desk_rules.specs.Booking.{rows_of}
 use Rattle.pt_desk_rules.specs.Fleet.{has_version, in_force, is_in_force, is_newer, vehicle_count, versions_of}
 use Rattle.pt_desk_rules.specs.Sound.{DrivesIn, HasDepot, HasFiledRider, HasPlaces, HasStandingTrips, HasTimes, IsNumberedTo, IsOfRider, IsPlanned, StandsIn}
 use Rattle.pt_desk_rules.specs.State.{rider_key, trip_key, vehicle_key}
-use Rattle.pt_desk_rules.specs.Travel.{DatedTable, table_on}
+use Rattle.pt_desk_rules.specs.Travel.{TravelTable, table_on}
 use Rattle.pt_desk_rules.specs.declared.change.FiledEntry.{FiledEntry}
 use Rattle.pt_soundness.specs.Tables.{AreSoundEntries, AreSoundPlans, AreSoundRiders, AreSoundTables, AreSoundTrips, AreSoundVehicles, HasDriven, HasRider, has_driven, has_rider}
 use Rattle.pt_soundness.proofs.PairedLemmas.{BothOrNone, Paired, any_paired, at_paired, each_paired, filter_paired, found_paired, length_paired, order_paired, other_there, some_paired, there_paired}
@@ -278,7 +278,7 @@ module _ (xs ys : List Trip) (h : Paired AlikeTrip xs ys) where
         )) xs ys h sound.places_there;
   }
 
-  pub alike_tables : (places : List Place) (vehicles others : List Vehicle) (plans : List Plan) (travel : List DatedTable) → Paired AlikeVehicle vehicles others
+  pub alike_tables : (places : List Place) (vehicles others : List Vehicle) (plans : List Plan) (travel : List TravelTable) → Paired AlikeVehicle vehicles others
       → AreSoundTables places vehicles xs plans travel → AreSoundTables places others ys plans travel
   alike_tables places vehicles others plans travel same sound = record {
     table = sound.table;

@@ -5,7 +5,7 @@ use Rattle.pt_base.specs.declared.place.Place.{Place}
 use Rattle.pt_base.specs.declared.rider.Rider.{Rider}
 use Rattle.pt_base.specs.declared.trip.Trip.{Trip}
 use Rattle.pt_base.specs.declared.vehicle.Vehicle.{Vehicle}
-use Rattle.pt_corridor.specs.Route.{Route}
+use Rattle.pt_corridor.specs.Route.{FixedRoute}
 use Rattle.pt_records.specs.Records.{Each, IsInOrder, IsTable, record_at}
 use Rattle.pt_requests.specs.declared.caller.Caller.{Caller}
 use Rattle.pt_requests.specs.declared.caller.Role.{Role}
@@ -18,7 +18,7 @@ use Rattle.pt_desk_rules.specs.Sound.{HasDepot, IsFleet, IsOfPlaces, IsNumberedT
 use Rattle.pt_desk_rules.specs.Sound.{HasStandingTrips, HasStops, DrivesIn, LoadsFitIn, IsPlanned}
 use Rattle.pt_desk_rules.specs.State.{caller_key, kept_key, place_key, route_key, rider_key, entry_key, vehicle_key}
 use Rattle.pt_desk_rules.specs.State.{travel_key, trip_key, entries_of, State}
-use Rattle.pt_desk_rules.specs.Travel.{DatedTable}
+use Rattle.pt_desk_rules.specs.Travel.{TravelTable}
 use Rattle.pt_desk_rules.specs.declared.kept.Kept.{Kept}
 use Rattle.pt_desk_rules.specs.declared.change.FiledEntry.{FiledEntry}
 use Rattle.pt_desk_rules.specs.Parts.{Part, records_of}
@@ -56,7 +56,7 @@ pub record AreSoundKept (callers : List Caller) (kept : List Kept) : Type 0 wher
 abbrev pub AreSoundPlaces : List Place → Type 0
 AreSoundPlaces places = IsTable place_key most_places places
 
-abbrev pub AreSoundRoutes : List Route → Type 0
+abbrev pub AreSoundRoutes : List FixedRoute → Type 0
 AreSoundRoutes routes = IsTable route_key most_routes routes
 
 pub record AreSoundVehicles (callers : List Caller) (places : List Place) (vehicles : List Vehicle) : Type 0 where
@@ -94,7 +94,7 @@ pub record AreSoundPlans (trips : List Trip) (plans : List Plan) : Type 0 where
 
 -- the travel tables are sound, and by their times the vehicles can drive their plans
 pub record AreSoundTables (places : List Place) (vehicles : List Vehicle) (trips : List Trip) (plans : List Plan)
-    (travel : List DatedTable) : Type 0 where
+    (travel : List TravelTable) : Type 0 where
   pub table : IsTable travel_key most_tables travel
   pub of_places : Each (IsOfPlaces places) travel
   pub drive : Each (DrivesIn vehicles travel trips) plans

@@ -16,7 +16,7 @@ use pt_desk_rules::limits::MOST_TABLES;
 use pt_desk_rules::{TravelTable, in_force, table_on};
 use pt_feasible::{Route, settle};
 use pt_records::Table;
-use pt_scheduling::{PlannedRoute, PlannedStop, stops_among};
+use pt_scheduling::{Plan, PlannedStop, stops_among};
 use pt_travel::Raw;
 use std::alloc::{AllocError, Global};
 
@@ -107,7 +107,7 @@ fn drives(
     vehicles: &Table<Vehicle>,
     travel: &[TravelTable],
     trips: &Table<Trip>,
-    plan: &PlannedRoute,
+    plan: &Plan,
 ) -> Result<bool, AllocError>
     requires days { Each HasFirstDay vehicles.now.items }
     requires route { IsRoutePlan plan.now }
@@ -123,7 +123,7 @@ fn all_drive(
     vehicles: &Table<Vehicle>,
     travel: &[TravelTable],
     trips: &Table<Trip>,
-    plans: &[PlannedRoute],
+    plans: &[Plan],
 ) -> Result<bool, AllocError>
     requires days { Each HasFirstDay vehicles.now.items }
     requires routes { Each IsRoutePlan plans.now }
@@ -144,7 +144,7 @@ pub(crate) fn are_sound_tables(
     places: &Table<Place>,
     vehicles: &Table<Vehicle>,
     trips: &Table<Trip>,
-    plans: &Table<PlannedRoute>,
+    plans: &Table<Plan>,
     travel: &Table<TravelTable>,
 ) -> Result<bool, AllocError>
     requires days { Each HasFirstDay vehicles.now.items }

@@ -13,7 +13,7 @@ use pt_base::{Day, Trip, Vehicle};
 use pt_desk_rules::in_force;
 use pt_feasible::{Route, loads_fit};
 use pt_records::Table;
-use pt_scheduling::{PlannedRoute, PlannedStop};
+use pt_scheduling::{Plan, PlannedStop};
 use std::alloc::{AllocError, Global};
 
 /// Whether one of these has room for all who are aboard on the route.
@@ -50,7 +50,7 @@ fn has_room_for(
     alloc: Global,
     vehicles: &Table<Vehicle>,
     trips: &Table<Trip>,
-    plan: &PlannedRoute,
+    plan: &Plan,
 ) -> Result<bool, AllocError>
     requires days { Each HasFirstDay vehicles.now.items }
     requires route { IsRoutePlan plan.now }
@@ -65,7 +65,7 @@ fn have_room(
     alloc: Global,
     vehicles: &Table<Vehicle>,
     trips: &Table<Trip>,
-    plans: &[PlannedRoute],
+    plans: &[Plan],
 ) -> Result<bool, AllocError>
     requires days { Each HasFirstDay vehicles.now.items }
     requires routes { Each IsRoutePlan plans.now }
@@ -85,7 +85,7 @@ pub(crate) fn are_sound_loads(
     alloc: Global,
     vehicles: &Table<Vehicle>,
     trips: &Table<Trip>,
-    plans: &Table<PlannedRoute>,
+    plans: &Table<Plan>,
 ) -> Result<bool, AllocError>
     requires days { Each HasFirstDay vehicles.now.items }
     requires routes { Each IsRoutePlan plans.now.items }

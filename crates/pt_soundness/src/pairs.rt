@@ -4,7 +4,7 @@ ghost use Rattle.pt_scheduling.specs.Plan.{stops_of_trip, IsPair, IsRoutePlan};
 
 use pt_base::TripId;
 use pt_feasible::{MAX_STOPS, StopKind};
-use pt_scheduling::{PlannedRoute, PlannedStop};
+use pt_scheduling::{Plan, PlannedStop};
 
 /// The stops of a trip that have come so far.
 #[derive(Clone, Copy)]
@@ -84,14 +84,14 @@ fn are_paired(stops: &[PlannedStop]) -> bool
 }
 
 /// Whether the stops of the plan are a route.
-fn is_route_plan(plan: &PlannedRoute) -> bool
+fn is_route_plan(plan: &Plan) -> bool
     ensures { IsTrue result ↔ IsRoutePlan plan.now }
 {
     plan.stops.len() <= MAX_STOPS && are_paired(&plan.stops)
 }
 
 /// Whether the stops of the plans are routes.
-pub(crate) fn are_route_plans(plans: &[PlannedRoute]) -> bool
+pub(crate) fn are_route_plans(plans: &[Plan]) -> bool
     ensures { IsTrue result ↔ Each IsRoutePlan plans.now }
 {
     for plan in plans {

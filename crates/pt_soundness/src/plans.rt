@@ -11,11 +11,11 @@ use crate::pairs::are_route_plans;
 use pt_base::{Trip, TripId};
 use pt_desk_rules::have_stops;
 use pt_records::{Key, Keyed, Table};
-use pt_scheduling::{PlannedRoute, PlannedStop};
+use pt_scheduling::{Plan, PlannedStop};
 use std::cmp::Ordering;
 
 /// Whether a trip is not cancelled, and is in the vehicle and on the day of a plan.
-fn is_standing_in(plan: &PlannedRoute, trip: &Trip) -> bool
+fn is_standing_in(plan: &Plan, trip: &Trip) -> bool
     ensures { IsTrue result ↔ (IsTrue (stands trip.now.status)
         × (pair_key trip.now.vehicle trip.now.wish.day ≡ plan_key plan.now)) }
 {
@@ -24,7 +24,7 @@ fn is_standing_in(plan: &PlannedRoute, trip: &Trip) -> bool
 }
 
 /// Whether the trip of a stop is not cancelled, and is in the vehicle and on the day of the plan.
-fn stands_in(trips: &Table<Trip>, plan: &PlannedRoute, stop: &PlannedStop) -> bool
+fn stands_in(trips: &Table<Trip>, plan: &Plan, stop: &PlannedStop) -> bool
     ensures { IsTrue result ↔ StandsIn trips.now.items (plan_key plan.now) stop.now.trip }
 {
     match trips.find(&Key::of(stop.trip.number())) {
@@ -34,7 +34,7 @@ fn stands_in(trips: &Table<Trip>, plan: &PlannedRoute, stop: &PlannedStop) -> bo
 }
 
 /// Whether the trips of these stops are not cancelled, and are in the vehicle and on the day of the plan.
-fn stand_in(trips: &Table<Trip>, plan: &PlannedRoute, stops: &[PlannedStop]) -> bool
+fn stand_in(trips: &Table<Trip>, plan: &Plan, stops: &[PlannedStop]) -> bool
     ensures { IsTrue result ↔ Each (λ stop. StandsIn trips.now.items (plan_key plan.now) stop.trip) stops.now }
 {
     for stop in stops {
@@ -46,7 +46,7 @@ fn stand_in(trips: &Table<Trip>, plan: &PlannedRoute, stops: &[PlannedStop]) -> 
 }
 
 /// Whether the stops of a plan are those of trips in its vehicle on its day that are not cancelled.
-fn has_standing_trips(trips: &Table<Trip>, plan: &PlannedRoute) -> bool
+fn has_standing_trips(trips: &Table<Trip>, plan: &Plan) -> bool
     ensures { IsTrue result ↔ HasStandingTrips trips.now.items plan.now }
 {
     stand_in(trips, plan, &plan.stops)
@@ -60,7 +60,7 @@ fn has_trip(stops: &[PlannedStop], trip: TripId) -> bool
 }
 
 /// Whether the trip, if it is not cancelled, is in the plan of its vehicle on its day.
-fn is_planned(plans: &Table<PlannedRoute>, trip: &Trip) -> bool
+fn is_planned(plans: &Table<Plan>, trip: &Trip) -> bool
     ensures { IsTrue result ↔ IsPlanned plans.now.items trip.now }
 {
     if !trip.status.stands() {
@@ -73,21 +73,21 @@ fn is_planned(plans: &Table<PlannedRoute>, trip: &Trip) -> bool
 }
 
 /// Whether the stops of each plan are those of trips in its vehicle on its day that are not cancelled.
-fn have_standing_trips(trips: &Table<Trip>, plans: &[PlannedRoute]) -> bool
+fn have_standing_trips(trips: &Table<Trip>, plans: &[Plan]) -> bool
     ensures { IsTrue result ↔ Each (HasStandingTrips trips.now.items) plans.now }
 {
     plans.iter().all(|plan| has_standing_trips(trips, plan))
 }
 
 /// Whether the trips that are not cancelled are planned.
-fn are_planned(plans: &Table<PlannedRoute>, trips: &[Trip]) -> bool
+fn are_planned(plans: &Table<Plan>, trips: &[Trip]) -> bool
     ensures { IsTrue result ↔ Each (IsPlanned plans.now.items) trips.now }
 {
     trips.iter().all(|trip| is_planned(plans, trip))
 }
 
 /// Whether the plans are those of a sound state with these trips, as far as no travel table matters.
-pub(crate) fn are_sound_plans(trips: &Table<Trip>, plans: &Table<PlannedRoute>) -> bool
+pub(crate) fn are_sound_plans(trips: &Table<Trip>, plans: &Table<Plan>) -> bool
     ensures { IsTrue result ↔ AreSoundPlans trips.now.items plans.now.items }
 {
     let routes = plans.as_slice();

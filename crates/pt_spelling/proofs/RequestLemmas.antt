@@ -9,7 +9,7 @@ use Rattle.pt_base.specs.declared.rider.Residence.TheVariants.{Resident, Visitor
 use Rattle.pt_base.specs.declared.rider.Rider.{Rider}
 use Rattle.pt_base.specs.declared.trip.Wish.{Wish}
 use Rattle.pt_base.specs.declared.vehicle.Vehicle.{Vehicle}
-use Rattle.pt_corridor.specs.Route.{Route}
+use Rattle.pt_corridor.specs.Route.{FixedRoute}
 use Rattle.pt_requests.specs.declared.caller.Caller.{Caller}
 use Rattle.pt_requests.specs.declared.request.Write.{Write}
 use Rattle.pt_requests.specs.declared.request.Write.TheVariants as write
@@ -141,7 +141,7 @@ pub spelling-injective : (one other : Write) → IsRequest one → IsRequest oth
 spelling-injective (write.PutCaller a) (write.PutCaller b) ones others e = ap (λ (c : Caller). write.PutCaller c) (caller-same a b ones others (ap (drop 1) e))
 spelling-injective (write.PutPolicy a) (write.PutPolicy b) ones others e = ap (λ (p : Policy). write.PutPolicy p) (policy-same a b (ap (drop 1) e))
 spelling-injective (write.PutPlace a) (write.PutPlace b) ones others e = ap (λ (p : Place). write.PutPlace p) (place-same a b ones others (ap (drop 1) e))
-spelling-injective (write.PutRoute a) (write.PutRoute b) ones others e = ap (λ (r : Route). write.PutRoute r) (route-same a b ones others (ap (drop 1) e))
+spelling-injective (write.PutRoute a) (write.PutRoute b) ones others e = ap (λ (r : FixedRoute). write.PutRoute r) (route-same a b ones others (ap (drop 1) e))
 spelling-injective (write.PutVehicle a) (write.PutVehicle b) ones others e = ap (λ (v : Vehicle). write.PutVehicle v) (vehicle-same a b ones others (ap (drop 1) e))
 spelling-injective (write.PutRider a) (write.PutRider b) ones others e = ap (λ (r : Rider). write.PutRider r) (rider-same a b ones others (ap (drop 1) e))
 spelling-injective (write.Enter rider a) (write.Enter id b) ones others e = entered-same rider id a b ones others (ap (drop 1) e)

@@ -10,7 +10,7 @@ use Rattle.pt_base.specs.declared.place.Place.{Place}
 use Rattle.pt_base.specs.declared.place.Point.{Point}
 use Rattle.pt_base.specs.declared.policy.Policy.{Policy}
 use Rattle.pt_base.specs.declared.vehicle.Vehicle.{Vehicle}
-use Rattle.pt_corridor.specs.Route.{Route}
+use Rattle.pt_corridor.specs.Route.{FixedRoute}
 use Rattle.pt_requests.specs.declared.caller.Caller.{Caller}
 use Rattle.pt_requests.specs.declared.caller.Role.{Role}
 use Rattle.pt_requests.specs.declared.caller.Role.TheVariants.{Rider, Clerk, Examiner, Officer, Dispatcher, Driver, Admin}
@@ -153,12 +153,12 @@ place-same one other ones others e =
 
 -- ---- routes
 
-pub route-same : (one other : Route) → IsRoute one → IsRoute other → route_bytes one ≡ route_bytes other → one ≡ other
+pub route-same : (one other : FixedRoute) → IsRoute one → IsRoute other → route_bytes one ≡ route_bytes other → one ≡ other
 route-same one other ones others e =
-    let front : Route → List ℕ = λ r. numbers_bytes (r.id ∷ r.width ∷ []) in
-    let line : Route → List ℕ = λ r. list_bytes point_bytes r.points in
-    let hours : Route → List ℕ = λ r. numbers_bytes (r.first ∷ r.last ∷ []) in
-    let parts : (r : Route) → route_bytes r ≡ front r ++
+    let front : FixedRoute → List ℕ = λ r. numbers_bytes (r.id ∷ r.width ∷ []) in
+    let line : FixedRoute → List ℕ = λ r. list_bytes point_bytes r.points in
+    let hours : FixedRoute → List ℕ = λ r. numbers_bytes (r.first ∷ r.last ∷ []) in
+    let parts : (r : FixedRoute) → route_bytes r ≡ front r ++
     (line r ++ (truth_bytes r.accessible ++ (days_byte r.days ∷ hours r))) = λ r. five_parts (front r)
     (line r) (truth_bytes r.accessible) (days_byte r.days ∷ []) (hours r) in
     let grouped : front one ++ (line one ++ (truth_bytes one.accessible ++ (days_byte one.days ∷ hours one))) ≡ front

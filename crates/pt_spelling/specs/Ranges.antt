@@ -4,7 +4,7 @@ use Rattle.pt_base.specs.Day.{IsDay}
 use Rattle.pt_base.specs.Ranges.{last_minute}
 use Rattle.pt_base.specs.declared.trip.Wish.{Wish}
 use Rattle.pt_base.specs.declared.vehicle.Vehicle.{Vehicle}
-use Rattle.pt_corridor.specs.Route.{Route, IsFixedRoute}
+use Rattle.pt_corridor.specs.Route.{FixedRoute, IsFixedRoute}
 use Rattle.pt_requests.specs.declared.caller.Caller.{Caller}
 use Rattle.pt_requests.specs.declared.caller.Role.{Role}
 use Rattle.pt_requests.specs.declared.caller.Role.TheVariants as role
@@ -39,7 +39,7 @@ pub record IsCaller (caller : Caller) : Type 0 where
   pub role : IsRole caller.role
   pub digest : length caller.digest ≡ 32
 
-pub record IsRoute (route : Route) : Type 0 where
+pub record IsRoute (route : FixedRoute) : Type 0 where
   pub id : IsId route.id
   pub fixed : IsFixedRoute route
   pub days : IsWeek route.days

@@ -9,7 +9,7 @@ use Rattle.pt_base.specs.declared.rider.Rider.{Rider}
 use Rattle.pt_base.specs.declared.trip.Wish.{Wish}
 use Rattle.pt_base.specs.declared.vehicle.Vehicle.{Vehicle}
 use Rattle.pt_conditions.specs.Texts.{condition_text}
-use Rattle.pt_corridor.specs.Route.{Route}
+use Rattle.pt_corridor.specs.Route.{FixedRoute}
 use Rattle.pt_requests.specs.declared.caller.Caller.{Caller}
 use Rattle.pt_requests.specs.declared.caller.Role.{Role}
 use Rattle.pt_requests.specs.declared.caller.Role.TheVariants as role
@@ -60,7 +60,7 @@ point_bytes point = signed_bytes point.x ++ signed_bytes point.y
 abbrev pub place_bytes : Place → List ℕ
 place_bytes place = number_bytes place.id ++ point_bytes place.at ++ truth_bytes place.core
 
-abbrev pub route_bytes : Route → List ℕ
+abbrev pub route_bytes : FixedRoute → List ℕ
 route_bytes route =
     numbers_bytes (route.id ∷ route.width ∷ []) ++ list_bytes point_bytes route.points ++ truth_bytes route.accessible
     ++ days_byte route.days ∷ [] ++ numbers_bytes (route.first ∷ route.last ∷ [])

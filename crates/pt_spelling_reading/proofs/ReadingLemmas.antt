@@ -15,7 +15,7 @@ use Rattle.pt_base.specs.declared.trip.Wish.{Wish}
 use Rattle.pt_base.specs.declared.vehicle.Vehicle.{Vehicle}
 use Rattle.pt_conditions.proofs.TextLemmas.{condition_text-injective}
 use Rattle.pt_conditions.specs.Texts.{condition_text, SpellsCondition}
-use Rattle.pt_corridor.specs.Route.{Route, IsFixedRoute}
+use Rattle.pt_corridor.specs.Route.{FixedRoute, IsFixedRoute}
 use Rattle.pt_requests.specs.declared.caller.Caller.{Caller}
 use Rattle.pt_rights.specs.Conditions.{IsCondition}
 use Rattle.pt_rights.specs.declared.conditions.Condition.{Condition}
@@ -75,15 +75,15 @@ pub wish-parts : (wish : Wish) → wish_bytes wish ≡ number_bytes wish.day
     ++ (optional_bytes wish.by ++ (truth_bytes wish.attendant ++ number_bytes wish.companions)))))
 wish-parts wish = simp append_assoc
 
-pub route-parts : (route : Route) → route_bytes route ≡ number_bytes route.id ++ (number_bytes route.width
+pub route-parts : (route : FixedRoute) → route_bytes route ≡ number_bytes route.id ++ (number_bytes route.width
     ++ (list_bytes point_bytes route.points ++ (truth_bytes route.accessible
     ++ (days_byte route.days ∷ numbers_bytes (route.first ∷ route.last ∷ [])))))
 route-parts route = simp append_assoc
 
 -- a fixed route is found if it meets the limits of fixed routes
-pub route-found : (found : Result Route Fault) (made route : Route) → made ≡ route → IsFixedRoute route
+pub route-found : (found : Result FixedRoute Fault) (made route : FixedRoute) → made ≡ route → IsFixedRoute route
     → (IsOk found ↔ IsFixedRoute made) → IfOk found (λ r. r ≡ made) → result_ok found ≡ Some route
-route-found (Ok r) made route same fixed accepted value = ap (λ (x : Route). Some x) (value ∙ same)
+route-found (Ok r) made route same fixed accepted value = ap (λ (x : FixedRoute). Some x) (value ∙ same)
 route-found (Err f) made route same fixed accepted value =
     let ok = accepted.1 (subst IsFixedRoute (sym same) fixed) in absurd (cc)
 

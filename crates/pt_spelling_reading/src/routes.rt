@@ -1,7 +1,7 @@
 ghost use Rattle.std.specs.Prelude.{◌≡◌, ◌++◌, ◌∷◌, [], Some, IfOk, All, length};
 ghost use Rattle.std.specs.Option.{option_map};
 ghost use Rattle.pt_base.specs.Place.{IsOnPlane};
-ghost use Rattle.pt_corridor.specs.Route.{Route};
+ghost use Rattle.pt_corridor.specs.Route.{FixedRoute};
 ghost use Rattle.pt_spelling.specs.Fields.{numbers_bytes, truth_bytes, days_byte, list_bytes};
 ghost use Rattle.pt_spelling.specs.Ranges.{IsWord, IsRoute};
 ghost use Rattle.pt_spelling.specs.Requests.{point_bytes, route_bytes};
@@ -47,7 +47,7 @@ pub(crate) fn route_from(alloc: Global, bytes: &[u8]) -> Result<Option<FixedRout
 
 /// The fixed route along these points; the bytes are its fields after the points.
 fn route_along(id: RouteId, width: u32, points: Vec<Point>, bytes: &[u8]) -> Option<FixedRoute>
-    ensures { (route : Route) → IsRoute route → id ≡ route.id → width ≡ route.width → points.items ≡ route.points
+    ensures { (route : FixedRoute) → IsRoute route → id ≡ route.id → width ≡ route.width → points.items ≡ route.points
         → bytes.now ≡ truth_bytes route.accessible
         ++ (days_byte route.days ∷ numbers_bytes (route.first ∷ route.last ∷ []))
         → result ≡ Some route }

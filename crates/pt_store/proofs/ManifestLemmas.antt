@@ -17,7 +17,7 @@ use Rattle.pt_desk_rules.specs.Stop.{Stop}
 use Rattle.pt_desk_rules.specs.Tour.{Tour}
 use Rattle.pt_desk_rules.specs.TourStop.{TourStop}
 use Rattle.pt_desk_rules.specs.Tours.{IsManifestOf, IsSheetOf, IsShownAt, IsTourAt, IsTourOrNone}
-use Rattle.pt_desk_rules.specs.Travel.{DatedTable}
+use Rattle.pt_desk_rules.specs.Travel.{TravelTable}
 use Rattle.pt_desk_rules.specs.VehicleSheet.{VehicleSheet}
 use Rattle.pt_desk_rules.specs.declared.facts.DayFacts.{DayFacts}
 use Rattle.pt_desk_rules.proofs.TourLemmas.{each_at}
@@ -129,10 +129,10 @@ tour_or_none_by rows version xs ys stops (Some tour) same (has, (minutes, times,
 abbrev SamePlan : ℕ → List Plan → List Plan → List Trip → List Trip → ℕ → Type 0
 SamePlan day plans others xs ys id = (planned_stops id day plans ≡ planned_stops id day others) × Each (λ (stop : PlannedStop). SameAt xs ys stop.trip) (planned_stops id day plans)
 
-abbrev day_by : Option DatedTable → List Plan → List Trip → DayFacts
+abbrev day_by : Option TravelTable → List Plan → List Trip → DayFacts
 day_by travel plans trips = record { travel = travel; trips = trips; plans = plans }
 
-sheet_by : (day : ℕ) (travel : Option DatedTable) (plans others : List Plan) (xs ys : List Trip) (version : Vehicle) (sheet : VehicleSheet) → SamePlan day plans others xs ys version.id
+sheet_by : (day : ℕ) (travel : Option TravelTable) (plans others : List Plan) (xs ys : List Trip) (version : Vehicle) (sheet : VehicleSheet) → SamePlan day plans others xs ys version.id
     → IsSheetOf day (day_by travel plans xs) version sheet → IsSheetOf day (day_by travel others ys) version sheet
 sheet_by day travel plans others xs ys version sheet (planned, same) is =
     let stops = planned_stops version.id day plans in
@@ -142,7 +142,7 @@ sheet_by day travel plans others xs ys version sheet (planned, same) is =
           (tour_or_none_by (rows_of travel) version xs ys (stops_among xs stops) sheet.tour (each_among (SameAt xs ys) xs stops same) is.tour);
     }
 
-manifest_by : (id day : ℕ) (travel : Option DatedTable) (plans others : List Plan) (xs ys : List Trip) (vehicles : List Vehicle) (duty : Option Vehicle) (sheet : VehicleSheet)
+manifest_by : (id day : ℕ) (travel : Option TravelTable) (plans others : List Plan) (xs ys : List Trip) (vehicles : List Vehicle) (duty : Option Vehicle) (sheet : VehicleSheet)
     → duty_of id day vehicles ≡ duty → SamePlan day plans others xs ys id → IsManifestOf id day (day_by travel plans xs) duty sheet → IsManifestOf id day (day_by travel others ys) duty sheet
 manifest_by id day travel plans others xs ys vehicles None sheet of same is = is
 manifest_by id day travel plans others xs ys vehicles (Some version) sheet of same is =

@@ -10,7 +10,7 @@ use pt_desk_rules::{FiledEntry, TravelTable};
 use pt_records::Rows;
 use pt_requests::{Caller, Digest};
 use pt_rights::{CaseFile, Entered};
-use pt_scheduling::PlannedRoute;
+use pt_scheduling::Plan;
 use std::alloc::{AllocError, Global};
 
 /// The first caller whose key has this digest.
@@ -94,11 +94,7 @@ pub(crate) fn trips_on(alloc: Global, trips: &[Trip], day: Day) -> Result<Rows<T
 }
 
 /// The routes of a day.
-pub(crate) fn planned_on(
-    alloc: Global,
-    plans: &[PlannedRoute],
-    day: Day,
-) -> Result<Rows<PlannedRoute>, AllocError>
+pub(crate) fn planned_on(alloc: Global, plans: &[Plan], day: Day) -> Result<Rows<Plan>, AllocError>
     requires order { IsInOrder plan_key plans.now }
     ensures value { IfOk result (λ found. found ≡ planned_on day plans.now) }
 {

@@ -18,7 +18,7 @@ use pt_desk_rules::{BookingFacts, DayFacts, ReadFacts, Tallies, WriteFacts};
 use pt_records::Rows;
 use pt_requests::{Caller, Read, Role, Write};
 use pt_rights::{CaseFile, Entry};
-use pt_scheduling::PlannedRoute;
+use pt_scheduling::Plan;
 use std::alloc::Global;
 
 /// Whether the rider or the vehicle that a role names exists.
@@ -224,7 +224,7 @@ fn gather_plan<K: Keeper>(
     alloc: Global,
     keeper: &mut K,
     old: &Option<Trip>,
-) -> Result<Option<PlannedRoute>, StoreFault>
+) -> Result<Option<Plan>, StoreFault>
     ensures reads { Reads (K.store keeper.old) (K.store keeper.new) (plan_for old.now) result }
 {
     match old {

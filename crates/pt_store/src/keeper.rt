@@ -16,7 +16,7 @@ use pt_desk_rules::{Arrival, Change, TravelTable};
 use pt_records::Rows;
 use pt_requests::{Answer, Caller, Digest};
 use pt_rights::CaseFile;
-use pt_scheduling::PlannedRoute;
+use pt_scheduling::Plan;
 use pt_spelling::Spelling;
 use std::alloc::{AllocError, Global};
 
@@ -167,7 +167,7 @@ pub trait Keeper {
         ensures refuses { Refuses (store self.old) (store self.new) result };
 
     /// The routes of a day that have stops, in order of their vehicles.
-    fn planned_on(&mut self, alloc: Global, day: Day) -> Result<Rows<PlannedRoute>, StoreFault>
+    fn planned_on(&mut self, alloc: Global, day: Day) -> Result<Rows<Plan>, StoreFault>
         ensures reads { Reads (store self.old) (store self.new) (λ s. planned_on day s.planned) result }
         ensures refuses { Refuses (store self.old) (store self.new) result };
 
@@ -182,7 +182,7 @@ pub trait Keeper {
         alloc: Global,
         vehicle: VehicleId,
         day: Day,
-    ) -> Result<Option<PlannedRoute>, StoreFault>
+    ) -> Result<Option<Plan>, StoreFault>
         ensures reads { Reads (store self.old) (store self.new) (plan_of vehicle day) result }
         ensures refuses { Refuses (store self.old) (store self.new) result };
 

@@ -14,7 +14,7 @@ use pt_desk_rules::{Arrival, Change, FiledEntry, Kept, TravelTable, has_version,
 use pt_records::{Edits, Key, Rows, Span, Table};
 use pt_requests::{Caller, Digest, Role};
 use pt_rights::CaseFile;
-use pt_scheduling::PlannedRoute;
+use pt_scheduling::Plan;
 use pt_spelling::Spelling;
 use std::alloc::{AllocError, Global};
 use std::marker::Model;
@@ -47,7 +47,7 @@ pub struct ListKeeper {
     vehicles: Table<Vehicle>,
     travel: Table<TravelTable>,
     trips: Table<Trip>,
-    planned: Table<PlannedRoute>,
+    planned: Table<Plan>,
     /// The number that was last given to a trip, if any was.
     last_trip: Option<TripId>,
 }
@@ -287,7 +287,7 @@ impl ListKeeper {
     }
 
     /// The routes that have stops.
-    pub fn planned_table(&self) -> &Table<PlannedRoute>
+    pub fn planned_table(&self) -> &Table<Plan>
         ensures value { result.now.items ≡ self.now.content.planned }
     {
         &self.planned
@@ -415,7 +415,7 @@ impl Keeper for ListKeeper {
         Ok(trips_on(alloc, self.trips.as_slice(), day)?)
     }
 
-    fn planned_on(&mut self, alloc: Global, day: Day) -> Result<Rows<PlannedRoute>, StoreFault> {
+    fn planned_on(&mut self, alloc: Global, day: Day) -> Result<Rows<Plan>, StoreFault> {
         Ok(planned_on(alloc, self.planned.as_slice(), day)?)
     }
 
@@ -428,7 +428,7 @@ impl Keeper for ListKeeper {
         alloc: Global,
         vehicle: VehicleId,
         day: Day,
-    ) -> Result<Option<PlannedRoute>, StoreFault> {
+    ) -> Result<Option<Plan>, StoreFault> {
         match self
             .planned
             .find(&Key::pair(vehicle.number(), day.number()))

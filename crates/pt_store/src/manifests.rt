@@ -11,7 +11,7 @@ use crate::{Keeper, StoreFault};
 use pt_base::{Day, Trip, TripId, VehicleId};
 use pt_desk_rules::{DayFacts, ReadFacts};
 use pt_records::{Edits, Key, Rows, Table};
-use pt_scheduling::{PlannedRoute, PlannedStop};
+use pt_scheduling::{Plan, PlannedStop};
 use std::alloc::{AllocError, Global};
 
 /// Whether a trip of this number is among these.
@@ -91,7 +91,7 @@ fn are_met(day: Day, trips: &Rows<Trip>, stops: &[PlannedStop]) -> bool
 }
 
 /// The plan and no other.
-fn alone(alloc: Global, plan: PlannedRoute) -> Result<Rows<PlannedRoute>, AllocError>
+fn alone(alloc: Global, plan: Plan) -> Result<Rows<Plan>, AllocError>
     ensures { IfOk result (λ plans. plans ≡ plan ∷ []) }
 {
     let mut plans = Vec::new(alloc);
@@ -104,7 +104,7 @@ fn gather_tour<K: Keeper>(
     alloc: Global,
     keeper: &mut K,
     day: Day,
-    plans: Rows<PlannedRoute>,
+    plans: Rows<Plan>,
     trips: Rows<Trip>,
 ) -> Result<ReadFacts, StoreFault>
     ensures reads { Reads (K.store keeper.old) (K.store keeper.new) (tour_by day plans trips) result }
@@ -128,7 +128,7 @@ fn gather_planned<K: Keeper>(
     alloc: Global,
     keeper: &mut K,
     day: Day,
-    plan: PlannedRoute,
+    plan: Plan,
 ) -> Result<Option<ReadFacts>, StoreFault>
     ensures reads { ReadsSome (K.store keeper.old) (K.store keeper.new)
         (λ s found. IfSome found (IsEnoughBy day plan s)) result }

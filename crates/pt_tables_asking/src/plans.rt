@@ -19,13 +19,13 @@ use crate::texts::STOPS_BY_VEHICLE_AND_DAY;
 use pt_base::{Day, Vehicle, VehicleId};
 use pt_desk_rules::has_version;
 use pt_records::{Key, Rows};
-use pt_scheduling::PlannedRoute;
+use pt_scheduling::Plan;
 use pt_tables_reading::{StopAt, Stops};
 use sqlite::{Alter, Connection, params};
 use std::alloc::{AllocError, Global};
 
 /// The route of these stops; none if there is no stop.
-fn route_of(alloc: Global, stops: &[StopAt]) -> Result<Option<PlannedRoute>, AllocError>
+fn route_of(alloc: Global, stops: &[StopAt]) -> Result<Option<Plan>, AllocError>
     ensures value { IfOk result (λ route. route ≡ plan_by_stops stops.now) }
 {
     let Some(first) = stops.first() else {
@@ -35,7 +35,7 @@ fn route_of(alloc: Global, stops: &[StopAt]) -> Result<Option<PlannedRoute>, All
     for at in stops {
         planned.push(at.stop)?;
     }
-    Ok(Some(PlannedRoute {
+    Ok(Some(Plan {
         vehicle: first.vehicle,
         day: first.day,
         stops: planned,
@@ -47,7 +47,7 @@ pub fn plan_by_key<S: Alter>(
     alloc: Global,
     conn: &mut Connection<S>,
     key: &Key,
-) -> Result<Option<PlannedRoute>, Unread>
+) -> Result<Option<Plan>, Unread>
     requires settled { conn.old.in_transaction ≡ false }
     ensures told { Tells (state S.Store conn.old) (state S.Store conn.new)
         (λ s. record_at plan_key key.now s.planned) result }
@@ -75,7 +75,7 @@ fn vehicle_ids(alloc: Global, vehicles: &[Vehicle]) -> Result<Vec<VehicleId>, Al
 }
 
 /// Adds the route to the others, if there is one.
-fn push_found(found: Option<PlannedRoute>, plans: &mut Vec<PlannedRoute>) -> Result<(), AllocError>
+fn push_found(found: Option<Plan>, plans: &mut Vec<Plan>) -> Result<(), AllocError>
     ensures value { OnOk result (plans.new.items ≡ plans.old.items ++ option_to_list found) }
 {
     if let Some(plan) = found {
@@ -90,7 +90,7 @@ pub fn plans_by_day<S: Alter>(
     conn: &mut Connection<S>,
     vehicles: &[Vehicle],
     day: Day,
-) -> Result<Rows<PlannedRoute>, Unread>
+) -> Result<Rows<Plan>, Unread>
     requires settled { conn.old.in_transaction ≡ false }
     requires committed { ShowsCommit (state S.Store conn.old) }
     ensures told { HasCleanDisk (state S.Store conn.new) → (content : State) → IsWellFormed content

@@ -25,7 +25,7 @@ use pt_desk_rules::{Arrival, Change, TravelTable, has_version, table_on};
 use pt_records::{Key, Keyed, Rows, Table};
 use pt_requests::{Caller, Digest};
 use pt_rights::CaseFile;
-use pt_scheduling::PlannedRoute;
+use pt_scheduling::Plan;
 use pt_spelling::Spelling;
 use pt_store::{
     Keeper, ListKeeper, StoreFault, file_with, find_caller, is_booked_from, table_count_before,
@@ -371,7 +371,7 @@ impl<S: Alter> Keeper for SqlKeeper<S> {
         count(&mut self.failures, found)
     }
 
-    fn planned_on(&mut self, alloc: Global, day: Day) -> Result<Rows<PlannedRoute>, StoreFault> {
+    fn planned_on(&mut self, alloc: Global, day: Day) -> Result<Rows<Plan>, StoreFault> {
         self.serve()?;
         let vehicles = self.known.lists().vehicles_table();
         let found = plans_by_day(alloc, &mut self.conn, vehicles.as_slice(), day);
@@ -387,7 +387,7 @@ impl<S: Alter> Keeper for SqlKeeper<S> {
         alloc: Global,
         vehicle: VehicleId,
         day: Day,
-    ) -> Result<Option<PlannedRoute>, StoreFault> {
+    ) -> Result<Option<Plan>, StoreFault> {
         self.serve()?;
         let key = Key::pair(vehicle.number(), day.number());
         let found = plan_by_key(alloc, &mut self.conn, &key);

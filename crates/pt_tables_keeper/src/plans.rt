@@ -11,17 +11,13 @@ ghost use Rattle.pt_tables_keeper.specs.Plans.{keys_of, plans_with, plans_at};
 ghost use Rattle.pt_tables_rows.specs.Tables.{IsKept, IsWellFormed};
 
 use pt_records::{Edits, Key, Keyed, Span, Table};
-use pt_scheduling::PlannedRoute;
+use pt_scheduling::Plan;
 use pt_tables_asking::{Unread, plan_by_key};
 use sqlite::{Alter, Connection};
 use std::alloc::{AllocError, Global};
 
 /// Puts the plan among the others, if there is one.
-fn put_found(
-    alloc: Global,
-    found: Option<PlannedRoute>,
-    plans: &mut Table<PlannedRoute>,
-) -> Result<(), AllocError>
+fn put_found(alloc: Global, found: Option<Plan>, plans: &mut Table<Plan>) -> Result<(), AllocError>
     ensures value { OnOk result (plans.new.items ≡ plans_with found plans.old.items) }
 {
     let Some(plan) = found else {
@@ -39,7 +35,7 @@ fn read_plan<S: Alter>(
     alloc: Global,
     conn: &mut Connection<S>,
     key: &Key,
-    plans: &mut Table<PlannedRoute>,
+    plans: &mut Table<Plan>,
 ) -> Result<(), Unread>
     requires settled { conn.old.in_transaction ≡ false }
     ensures told { HasCleanDisk (state S.Store conn.new) → (content : State) → IsWellFormed content
@@ -57,7 +53,7 @@ fn read_taken<S: Alter>(
     alloc: Global,
     conn: &mut Connection<S>,
     spans: &[Span],
-    plans: &mut Table<PlannedRoute>,
+    plans: &mut Table<Plan>,
 ) -> Result<(), Unread>
     requires settled { conn.old.in_transaction ≡ false }
     requires committed { ShowsCommit (state S.Store conn.old) }
@@ -76,8 +72,8 @@ fn read_taken<S: Alter>(
 fn read_replaced<S: Alter>(
     alloc: Global,
     conn: &mut Connection<S>,
-    news: &[PlannedRoute],
-    plans: &mut Table<PlannedRoute>,
+    news: &[Plan],
+    plans: &mut Table<Plan>,
 ) -> Result<(), Unread>
     requires settled { conn.old.in_transaction ≡ false }
     requires committed { ShowsCommit (state S.Store conn.old) }
@@ -96,8 +92,8 @@ fn read_replaced<S: Alter>(
 pub(crate) fn plans_before<S: Alter>(
     alloc: Global,
     conn: &mut Connection<S>,
-    edits: &Edits<PlannedRoute>,
-) -> Result<Table<PlannedRoute>, Unread>
+    edits: &Edits<Plan>,
+) -> Result<Table<Plan>, Unread>
     requires settled { conn.old.in_transaction ≡ false }
     requires committed { ShowsCommit (state S.Store conn.old) }
     ensures told { HasCleanDisk (state S.Store conn.new) → (content : State) → IsWellFormed content

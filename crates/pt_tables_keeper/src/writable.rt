@@ -9,7 +9,7 @@ ghost use Rattle.pt_tables_keeper.specs.Writable.{IsWritable};
 use pt_base::Vehicle;
 use pt_desk_rules::{Change, has_version};
 use pt_records::{Edits, Key, Span};
-use pt_scheduling::PlannedRoute;
+use pt_scheduling::Plan;
 use pt_tables_writing::is_well_formed;
 use std::cmp::Ordering;
 
@@ -67,7 +67,7 @@ fn is_fleet_edit(edits: &Edits<Vehicle>) -> bool
 }
 
 /// Whether the vehicle of each plan is among these.
-fn have_vehicles(plans: &[PlannedRoute], vehicles: &[Vehicle]) -> bool
+fn have_vehicles(plans: &[Plan], vehicles: &[Vehicle]) -> bool
     ensures value { IsTrue result ↔ Each (HasVersionAmong vehicles.now) plans.now }
 {
     plans.iter().all(|plan| has_version(vehicles, plan.vehicle))

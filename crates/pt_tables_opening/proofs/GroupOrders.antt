@@ -11,7 +11,7 @@ use Rattle.std.proofs.lemmas.Map.Steps.{length-le_from_distinct_below}
 use Rattle.std.proofs.lemmas.List.Sorted.{IsPermutation-refl}
 use Rattle.sqlite.specs.Order.{Row}
 use Rattle.pt_desk_rules.specs.State.{travel_key}
-use Rattle.pt_desk_rules.specs.Travel.{DatedTable}
+use Rattle.pt_desk_rules.specs.Travel.{TravelTable}
 use Rattle.pt_records.specs.Keys.{pair_key}
 use Rattle.pt_records.specs.Records.{Each, IsInOrder}
 use Rattle.pt_scheduling.specs.Plan.{Plan, plan_key}
@@ -129,7 +129,7 @@ drives_below : (day : ℕ) (drives : List travel.Row) → Each FitsDrive drives 
 drives_below day [] each = tt
 drives_below day (drive ∷ drives) each = (let low = each.0.0.1 in let also = each.0.1.1 in omega arith, drives_below day drives each.1)
 
-travel_spans : (dated : DatedTable) → FitsTravel dated → IsSpan (travel_key dated) 18_446_744_073_709_551_616 (travel_rows dated)
+travel_spans : (dated : TravelTable) → FitsTravel dated → IsSpan (travel_key dated) 18_446_744_073_709_551_616 (travel_rows dated)
 travel_spans dated fits =
     let day = dated.from_day in
     record {
@@ -139,7 +139,7 @@ travel_spans dated fits =
       below = (omega arith, drives_below day dated.rows fits.drives);
     }
 
-travel_by_rows : (x y : DatedTable) → FitsTravel x → FitsTravel y → travel_rows x ≡ travel_rows y → x ≡ y
+travel_by_rows : (x y : TravelTable) → FitsTravel x → FitsTravel y → travel_rows x ≡ travel_rows y → x ≡ y
 travel_by_rows x y one other same = table-told x y one.table.in_order other.table.in_order (alike (travel_rows x) (travel_rows y) same)
 
 pub travel_keeps : (rows : List Row) → AreInOrder 3 rows → KeepsOrder travel_key travel_rows (FitsRows travel_rows FitsTravel) rows
@@ -202,7 +202,7 @@ each_of : {A : Type 0} (P : A → Type 0) (xs : List A) → All P xs → Each P 
 each_of P [] all = tt
 each_of P (x ∷ xs) all = (all 0 x (omega arith), each_of P xs (λ k d low. all (suc k) d (omega arith)))
 
-pub drives_few : (dated : DatedTable) → FitsTravel dated → FitsRows travel_rows FitsTravel dated
+pub drives_few : (dated : TravelTable) → FitsTravel dated → FitsRows travel_rows FitsTravel dated
 drives_few dated fits =
     let drives = dated.rows in
     let named = fits.table.few_places in
@@ -213,7 +213,7 @@ drives_few dated fits =
     (fits, let rows = rows-of-drives dated.from_day drives in omega (arith, most, long, rows))
 
 -- so what holds of any travel table holds of one with few rows
-pub few_told : {E : Type 0} (rows : List Row) (r : Result (Option DatedTable) E) → IfOk r (Reads travel_rows FitsTravel rows) → IfOk r (Reads travel_rows (FitsRows travel_rows FitsTravel) rows)
+pub few_told : {E : Type 0} (rows : List Row) (r : Result (Option TravelTable) E) → IfOk r (Reads travel_rows FitsTravel rows) → IfOk r (Reads travel_rows (FitsRows travel_rows FitsTravel) rows)
 few_told rows (Ok (Some dated)) told = (told.0, drives_few dated told.1)
 few_told rows (Ok None) none = λ dated fits. none dated fits.0
 few_told rows (Err e) told = tt

@@ -4,7 +4,7 @@ use Rattle.std.specs.Prelude.{slice_get, MatchOption}
 use Rattle.std.proofs.lemmas.List.{map-append, take_more}
 use Rattle.sqlite.specs.Order.{Row}
 use Rattle.pt_base.specs.Day.{IsDay}
-use Rattle.pt_desk_rules.specs.Travel.{DatedTable}
+use Rattle.pt_desk_rules.specs.Travel.{TravelTable}
 use Rattle.pt_feasible.specs.declared.stop.StopKind.TheVariants.{Pickup}
 use Rattle.pt_records.specs.Records.{Each}
 use Rattle.pt_scheduling.specs.Plan.{Plan}
@@ -154,7 +154,7 @@ drives-next from_day rows k row low at drives news drive told is before =
     ∙ ap₂ (λ l r. l ++ r ∷ []) before (told ∙ at) ∙ sym (take_more rows k row low)
 
 -- the drives of a table are those that are read from its rows
-pub same-drives : (dated : DatedTable) (rows : List Row) (from_day : ℕ) (drives : List travel.Row) → travel_rows dated ≡ rows
+pub same-drives : (dated : TravelTable) (rows : List Row) (from_day : ℕ) (drives : List travel.Row) → travel_rows dated ≡ rows
     → map (travel_row from_day) drives ≡ drop 1 rows → drives ≡ dated.rows
 same-drives dated rows from_day drives same told =
     sym (drives-back from_day drives) ∙ ap (map drive_in) (told ∙ ap (drop 1) (sym same)) ∙ drives-back dated.from_day dated.rows
@@ -164,5 +164,5 @@ later-drives from_day [] each = tt
 later-drives from_day (drive ∷ drives) each =
     (λ begins. let none : drive.0 ≡ 0 = cc in let some = each.0.0.0 in omega arith, later-drives from_day drives each.1)
 
-pub travel-once : (dated : DatedTable) → FitsTravel dated → BeginsOnce BeginsTravel (travel_rows dated)
+pub travel-once : (dated : TravelTable) → FitsTravel dated → BeginsOnce BeginsTravel (travel_rows dated)
 travel-once dated fits = (refl, later-drives dated.from_day dated.rows fits.drives)

@@ -26,7 +26,7 @@ use Rattle.pt_base.specs.declared.place.Place.{Place}
 use Rattle.pt_base.specs.declared.rider.Rider.{Rider}
 use Rattle.pt_base.specs.declared.trip.Trip.{Trip}
 use Rattle.pt_base.specs.declared.vehicle.Vehicle.{Vehicle}
-use Rattle.pt_desk_rules.specs.Travel.{DatedTable}
+use Rattle.pt_desk_rules.specs.Travel.{TravelTable}
 use Rattle.pt_desk_rules.specs.declared.change.FiledEntry.{FiledEntry}
 use Rattle.pt_requests.specs.declared.caller.Caller.{Caller}
 use Rattle.pt_soundness.proofs.AlikeLemmas.{AlikeRider, AlikeTrip, AlikeVehicle, alike_entries, alike_plans, alike_riders, alike_tables, alike_trips, alike_vehicles}
@@ -311,7 +311,7 @@ lines_there table.Travel one other trees at =
     alike_tables one.trips other.trips (alike_in_trips one other trees (at table.Trips (lit≤ tt))) other.places one.vehicles other.vehicles other.planned other.travel
     (alike_in_vehicles one other trees (at table.Vehicles (lit≤ tt)))
     (subst (λ (places : List Place). AreSoundTables places one.vehicles one.trips other.planned other.travel) (same_places one other trees (at table.Places (lit≤ tt)))
-    (subst₂ (λ (plans : List Plan) (travel : List DatedTable). AreSoundTables one.places one.vehicles one.trips plans travel)
+    (subst₂ (λ (plans : List Plan) (travel : List TravelTable). AreSoundTables one.places one.vehicles one.trips plans travel)
     (same_planned one other trees (at table.Stops (lit≤ tt))) (same_travel one other trees travel) travel.it.sound.1))
 lines_there table.RiderChairs one other trees at = tt
 lines_there table.VehicleChairs one other trees at = tt

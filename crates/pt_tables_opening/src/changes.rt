@@ -21,7 +21,7 @@ use pt_corridor::FixedRoute;
 use pt_desk_rules::{Change, FiledEntry, Kept, TableName, TravelTable};
 use pt_records::Edits;
 use pt_requests::Caller;
-use pt_scheduling::PlannedRoute;
+use pt_scheduling::Plan;
 use pt_store::ListKeeper;
 use pt_tables_rows::tables::{
     Callers, Entries, FixedRoutes, KeptWrites, Places, Plans, RiderChairs, Riders, TravelTables,
@@ -180,10 +180,10 @@ impl InChange for Trip {
     }
 }
 
-impl InChange for PlannedRoute {
+impl InChange for Plan {
     ghost puts = { λ edit. record no_change { planned = edit } };
 
-    fn change(alloc: Global, planned: Edits<PlannedRoute>) -> Change
+    fn change(alloc: Global, planned: Edits<Plan>) -> Change
         ensures value { result ≡ record no_change { planned = planned } }
     {
         Change {

@@ -8,7 +8,7 @@ ghost use Rattle.pt_tables_rows.specs.Tables.{IsStoredPlan};
 
 use crate::gathered::{Gathered, is_zero};
 use pt_base::{Day, VehicleId};
-use pt_scheduling::{PlannedRoute, PlannedStop};
+use pt_scheduling::{Plan, PlannedStop};
 use pt_tables_reading::stop_of;
 use pt_tables_rows::tables::Plans;
 use sqlite::Row;
@@ -53,7 +53,7 @@ fn stops_of(
 }
 
 /// The planned route that has these rows.
-fn plan_of(alloc: Global, rows: &[Row]) -> Result<Option<PlannedRoute>, AllocError>
+fn plan_of(alloc: Global, rows: &[Row]) -> Result<Option<Plan>, AllocError>
     ensures told { IfOk result (Reads stop_rows (FitsRows stop_rows IsStoredPlan) rows.now) }
 {
     let Some(row) = rows.first() else {
@@ -63,7 +63,7 @@ fn plan_of(alloc: Global, rows: &[Row]) -> Result<Option<PlannedRoute>, AllocErr
         return Ok(None);
     };
     match stops_of(alloc, first.vehicle, first.day, rows)? {
-        Some(stops) => Ok(Some(PlannedRoute {
+        Some(stops) => Ok(Some(Plan {
             vehicle: first.vehicle,
             day: first.day,
             stops,
@@ -81,7 +81,7 @@ impl Gathered for Plans {
         is_zero(row, PLACE_COLUMN)
     }
 
-    fn of_rows(alloc: Global, rows: &[Row]) -> Result<Option<PlannedRoute>, AllocError> {
+    fn of_rows(alloc: Global, rows: &[Row]) -> Result<Option<Plan>, AllocError> {
         plan_of(alloc, rows)
     }
 }

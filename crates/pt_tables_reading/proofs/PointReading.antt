@@ -12,7 +12,7 @@ use Rattle.sqlite.specs.declared.types.Value.TheVariants.{Int, Blob}
 use Rattle.sqlite.specs.Order.{Row, bytes, column}
 use Rattle.pt_base.specs.Place.{IsCoordinate, IsOnPlane}
 use Rattle.pt_base.specs.declared.place.Point.{Point}
-use Rattle.pt_corridor.specs.Route.{Route, route_of, IsFixedRoute}
+use Rattle.pt_corridor.specs.Route.{FixedRoute, route_of, IsFixedRoute}
 use Rattle.pt_spelling.specs.Fields.{number_bytes, signed_bytes}
 use Rattle.pt_spelling.specs.Ranges.{IsWord}
 use Rattle.pt_spelling.specs.Requests.{point_bytes}
@@ -89,7 +89,7 @@ plane-fits (p ∷ points) on =
     ((coordinate-fits p.x on.0.0, coordinate-fits p.y on.0.1), plane-fits points on.1)
 
 -- a route on the plane has the points that have its bytes
-pub route-line : (route : Route) (points : List Point) → IsFixedRoute route → All FitsPoint points
+pub route-line : (route : FixedRoute) (points : List Point) → IsFixedRoute route → All FitsPoint points
     → flat_map point_bytes route.points ≡ flat_map point_bytes points → route.points ≡ points
 route-line route points fixed fit same =
     line-told route.points points
@@ -97,7 +97,7 @@ route-line route points fixed fit same =
     (recursion_from_All FitsPoint points fit) same
 
 -- and so the parts that were read make a route
-pub route-made : (route : Route) (row : Row) (id width : ℕ) (points : List Point) (accessible : Bool) (days : List Bool)
+pub route-made : (route : FixedRoute) (row : Row) (id width : ℕ) (points : List Point) (accessible : Bool) (days : List Bool)
     (first last : ℕ) → IsFixedRoute route → All FitsPoint points → route_row route ≡ row
     → number_value width ≡ column row 1 → column row 2 ≡ Blob (flat_map point_bytes points)
     → number_value first ≡ column row 5 → number_value last ≡ column row 6
@@ -108,6 +108,6 @@ route-made route row id width points accessible days first last fixed fit same a
     let wide : route.width ≡ width = ap number_of_value (ap (λ (r : Row). column r 1) same ∙ sym at1) in
     let start : route.first ≡ first = ap number_of_value (ap (λ (r : Row). column r 5) same ∙ sym at5) in
     let end : route.last ≡ last = ap number_of_value (ap (λ (r : Row). column r 6) same ∙ sym at6) in
-    subst (λ (r : Route). IsFixedRoute r)
+    subst (λ (r : FixedRoute). IsFixedRoute r)
     (λ i. route_of id (wide i) (line i) accessible days (start i) (end i))
     (record { points = fixed.points; width = fixed.width; on_plane = fixed.on_plane; hours = fixed.hours })

@@ -22,9 +22,9 @@ use Rattle.pt_base.specs.declared.trip.Trip.{Trip}
 use Rattle.pt_base.specs.declared.trip_status.TripStatus.{TripStatus}
 use Rattle.pt_base.specs.declared.trip_status.TripStatus.TheVariants.{Booked, Cancelled, Ridden, MissedRider, MissedOperator}
 use Rattle.pt_base.specs.declared.vehicle.Vehicle.{Vehicle}
-use Rattle.pt_corridor.specs.Route.{Route, IsRouteOnPlane}
+use Rattle.pt_corridor.specs.Route.{FixedRoute, IsRouteOnPlane}
 use Rattle.pt_desk_rules.specs.Parts as part
-use Rattle.pt_desk_rules.specs.Travel.{DatedTable}
+use Rattle.pt_desk_rules.specs.Travel.{TravelTable}
 use Rattle.pt_desk_rules.specs.declared.change.FiledEntry.{FiledEntry}
 use Rattle.pt_desk_rules.specs.declared.kept.Kept.{Kept}
 use Rattle.pt_requests.specs.declared.caller.Caller.{Caller}
@@ -241,7 +241,7 @@ trip-told one other same also =
 
 -- ---- fixed routes
 
-pub route-told : (one other : Route) → IsRouteOnPlane one × IsWeek one.days → IsRouteOnPlane other × IsWeek other.days
+pub route-told : (one other : FixedRoute) → IsRouteOnPlane one × IsWeek one.days → IsRouteOnPlane other × IsWeek other.days
     → route_row one ≡ route_row other → one ≡ other
 route-told one other ones others same =
     let OnPlane : Point → Type 0 = λ p. IsOnPlane p.x p.y in
@@ -401,7 +401,7 @@ module _ (shown : List Row) where
   same_places one other order other_order rows other_rows =
       told_by_any_row place_key (number_in 0) place_row (λ x. refl) place-told one other order other_order (shared _ _ _ rows other_rows)
 
-  pub same_routes : (one other : List Route) → IsInOrder route_key one → IsInOrder route_key other → Each IsRoute one → Each IsRoute other
+  pub same_routes : (one other : List FixedRoute) → IsInOrder route_key one → IsInOrder route_key other → Each IsRoute one → Each IsRoute other
       → IsPermutation shown (map route_row one) → IsPermutation shown (map route_row other) → one ≡ other
   same_routes one other order other_order fit others_fit rows other_rows =
       told_by_row route_key (number_in 0) route_row IsRoute (λ x. refl) (λ x y fits also. route-told x y (fits.fixed.on_plane, fits.days) (also.fixed.on_plane, also.days))
@@ -413,7 +413,7 @@ module _ (shown : List Row) where
       told_by_row entry_key pair_in entry_row FitsFiled (λ x. refl) (λ x y fits also. entry-told x y fits.entry also.entry) one other order other_order fit others_fit
       (shared _ _ _ rows other_rows)
 
-  pub same_travel : (one other : List DatedTable) → IsInOrder travel_key one → IsInOrder travel_key other → Each FitsTravel one → Each FitsTravel other
+  pub same_travel : (one other : List TravelTable) → IsInOrder travel_key one → IsInOrder travel_key other → Each FitsTravel one → Each FitsTravel other
       → IsPermutation shown (flat_map travel_rows one) → IsPermutation shown (flat_map travel_rows other) → one ≡ other
   same_travel one other order other_order fit others_fit rows other_rows =
       told_by_rows travel_key (number_in 0) travel_rows FitsTravel (λ x. drives-keyed x.from_day ((0, 0, 0) ∷ x.rows)) (λ x fits. omega arith)

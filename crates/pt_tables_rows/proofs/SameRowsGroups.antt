@@ -17,7 +17,7 @@ use Rattle.pt_scheduling.specs.declared.planned.PlannedStop.{PlannedStop}
 use Rattle.pt_desk_rules.specs.Chain as travel
 use Rattle.pt_desk_rules.specs.Table.{ComesBefore, Rises}
 use Rattle.pt_tables_rows.specs.Rows.{stop_number, stop_rows_from, stop_rows, travel_row, travel_rows}
-use Rattle.pt_desk_rules.specs.Travel.{DatedTable}
+use Rattle.pt_desk_rules.specs.Travel.{TravelTable}
 use Rattle.pt_tables_rows.proofs.SameRowsLists.{in_one_order, same_rest, steps-in_order}
 use Rattle.pt_tables_rows.proofs.ColumnLemmas.{number_in}
 
@@ -165,7 +165,7 @@ pub drives-keyed : (from_day : ℕ) (rows : List travel.Row)
 drives-keyed from_day [] = tt
 drives-keyed from_day (row ∷ rows) = (refl, drives-keyed from_day rows)
 
-pub table-told : (one other : DatedTable) → Rises one.rows → Rises other.rows
+pub table-told : (one other : TravelTable) → Rises one.rows → Rises other.rows
     → IsPermutation (travel_rows one) (travel_rows other) → one ≡ other
 table-told one other ones others alike =
     let zeros : travel.Row = (0, 0, 0) in

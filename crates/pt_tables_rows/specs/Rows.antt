@@ -15,8 +15,8 @@ use Rattle.pt_base.specs.declared.trip_status.TripStatus.TheVariants.{Booked, Ca
 use Rattle.pt_base.specs.declared.trip_status.TripStatus.TheVariants.{MissedOperator}
 use Rattle.pt_base.specs.declared.vehicle.Vehicle.{Vehicle}
 use Rattle.pt_conditions.specs.Texts.{condition_text}
-use Rattle.pt_corridor.specs.Route.{Route}
-use Rattle.pt_desk_rules.specs.Travel.{DatedTable}
+use Rattle.pt_corridor.specs.Route.{FixedRoute}
+use Rattle.pt_desk_rules.specs.Travel.{TravelTable}
 use Rattle.pt_desk_rules.specs.declared.change.FiledEntry.{FiledEntry}
 use Rattle.pt_desk_rules.specs.declared.kept.Kept.{Kept}
 use Rattle.pt_desk_rules.specs.StopKind.{StopKind}
@@ -70,7 +70,7 @@ abbrev pub place_row : Place → Row
 place_row place = number_value place.id ∷ Int place.at.x ∷ Int place.at.y ∷ truth_value place.core ∷ []
 
 -- a fixed route; each of its points takes eight bytes
-abbrev pub route_row : Route → Row
+abbrev pub route_row : FixedRoute → Row
 route_row route =
     number_value route.id ∷ number_value route.width ∷ Blob (flat_map point_bytes route.points)
     ∷ truth_value route.accessible ∷ number_value (days_byte route.days) ∷ number_value route.first
@@ -192,5 +192,5 @@ travel_row from_day row =
     number_value from_day ∷ number_value row.0 ∷ number_value row.1 ∷ number_value row.2 ∷ []
 
 -- the rows of a travel table, after a row of zeros: an empty table has that row only
-abbrev pub travel_rows : DatedTable → List Row
+abbrev pub travel_rows : TravelTable → List Row
 travel_rows table = map (travel_row table.from_day) ((0, 0, 0) ∷ table.rows)

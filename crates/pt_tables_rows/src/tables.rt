@@ -9,7 +9,7 @@ use pt_corridor::FixedRoute;
 use pt_desk_rules::{FiledEntry, Kept, TravelTable};
 use pt_records::Keyed;
 use pt_requests::Caller;
-use pt_scheduling::PlannedRoute;
+use pt_scheduling::Plan;
 
 /// A table of records. Each record has rows of its own.
 pub trait TableOf {
@@ -205,7 +205,7 @@ impl TableOf for Plans {
     ghost use Rattle.pt_tables_rows.specs.Schema.{stops_table};
     ghost use Rattle.pt_tables_rows.specs.Tables.{IsStoredPlan};
 
-    type Record = PlannedRoute;
+    type Record = Plan;
 
     ghost home = { stops_table };
 

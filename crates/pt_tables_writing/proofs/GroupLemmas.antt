@@ -41,8 +41,8 @@ use Rattle.pt_desk_rules.specs.Ranges.{FitsFiled, FitsKept, FitsPlace, FitsTrave
 use Rattle.pt_spelling.specs.Ranges.{IsCaller, IsRoute, IsVehicle}
 use Rattle.pt_tables_rows.proofs.SameRows.{stored-plans}
 use Rattle.pt_base.specs.declared.place.Place.{Place}
-use Rattle.pt_corridor.specs.Route.{Route}
-use Rattle.pt_desk_rules.specs.Travel.{DatedTable}
+use Rattle.pt_corridor.specs.Route.{FixedRoute}
+use Rattle.pt_desk_rules.specs.Travel.{TravelTable}
 use Rattle.pt_desk_rules.specs.declared.change.FiledEntry.{FiledEntry}
 use Rattle.pt_desk_rules.specs.declared.kept.Kept.{Kept}
 use Rattle.pt_requests.specs.declared.caller.Caller.{Caller}
@@ -275,13 +275,13 @@ Known-entries change = Known entries_table entry_key FitsFiled (λ x. entry_row 
 abbrev pub Known-places : Change → List Place → Database → Database → Type 0
 Known-places change = Known places_table place_key FitsPlace (λ x. place_row x ∷ []) change.places
 
-abbrev pub Known-routes : Change → List Route → Database → Database → Type 0
+abbrev pub Known-routes : Change → List FixedRoute → Database → Database → Type 0
 Known-routes change = Known fixed_table route_key IsRoute (λ x. route_row x ∷ []) change.routes
 
 abbrev pub Known-vehicles : Change → List Vehicle → Database → Database → Type 0
 Known-vehicles change = Known vehicles_table vehicle_key IsVehicle (λ x. vehicle_row x ∷ []) change.vehicles
 
-abbrev pub Known-travel : Change → List DatedTable → Database → Database → Type 0
+abbrev pub Known-travel : Change → List TravelTable → Database → Database → Type 0
 Known-travel change = Known travel_table travel_key FitsTravel travel_rows change.travel
 
 abbrev pub Known-trips : Change → List Trip → Database → Database → Type 0

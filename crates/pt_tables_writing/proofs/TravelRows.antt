@@ -15,7 +15,7 @@ use Rattle.sqlite_sql.specs.declared.ops.BinaryOp.TheVariants.{Compare}
 use Rattle.sqlite_sql.specs.declared.ops.CompareOp.TheVariants.{Eq}
 use Rattle.sqlite_tied.specs.Compute.{everything}
 use Rattle.pt_desk_rules.specs.State.{travel_key}
-use Rattle.pt_desk_rules.specs.Travel.{DatedTable}
+use Rattle.pt_desk_rules.specs.Travel.{TravelTable}
 use Rattle.pt_travel.specs.Chain as travel
 use Rattle.pt_tables_writing.specs.Grouped.{Adds}
 use Rattle.pt_tables_rows.specs.Rows.{number_value, travel_row, travel_rows}
@@ -96,7 +96,7 @@ travel_delete from_day = record {
   says = λ r. refl;
 }
 
-pub travel-taken : (gone : DatedTable) (old new : State) (count : ℕ) → old.now.schema ≡ desk_schema
+pub travel-taken : (gone : TravelTable) (old new : State) (count : ℕ) → old.now.schema ≡ desk_schema
     → Executes DELETE_TRAVEL.now (number_value gone.from_day ∷ []) old new (Ok count) → Takes travel_table travel_key FitsTravel travel_rows gone old.now new.now
 travel-taken gone old new count has h =
     let params = number_value gone.from_day ∷ [] in

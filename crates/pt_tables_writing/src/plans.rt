@@ -12,15 +12,12 @@ ghost use Rattle.pt_tables_writing.specs.Stored.{EditsTable};
 use crate::grouped::replace_plan;
 use crate::stored::write_edits;
 use pt_records::{Edits, Keyed, Table};
-use pt_scheduling::PlannedRoute;
+use pt_scheduling::Plan;
 use pt_tables_rows::tables::Plans;
 use sqlite::{Alter, Error, Transaction};
 
 /// The stored plan and the one that replaces it, if the edit does nothing else.
-fn replacement<'a>(
-    edits: &'a Edits<PlannedRoute>,
-    records: &'a Table<PlannedRoute>,
-) -> Option<(&'a PlannedRoute, &'a PlannedRoute)>
+fn replacement<'a>(edits: &'a Edits<Plan>, records: &'a Table<Plan>) -> Option<(&'a Plan, &'a Plan)>
     ensures alone { IfSome result (λ r. edits.now ≡ record { away = []; puts = r.1.now ∷ [] }) }
     ensures there { IfSome result (λ r. record_at plan_key (plan_key r.1.now) records.now.items ≡ Some r.0.now) }
 {
@@ -38,8 +35,8 @@ fn replacement<'a>(
 /// the same.
 pub(crate) fn write_plans<S: Alter>(
     tx: &mut Transaction<'_, S>,
-    edits: &Edits<PlannedRoute>,
-    records: &Table<PlannedRoute>,
+    edits: &Edits<Plan>,
+    records: &Table<Plan>,
 ) -> Result<(), Error>
     ensures same_reference { tx.new.conn.ghost_name ≡ tx.old.conn.ghost_name }
     ensures written { Makes (state S.Store tx.old.conn.now) (state S.Store tx.new.conn.now)

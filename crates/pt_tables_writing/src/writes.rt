@@ -19,7 +19,7 @@ use crate::stored::{put_each, take_spans, write_edits};
 use pt_base::Policy;
 use pt_desk_rules::Change;
 use pt_records::Table;
-use pt_scheduling::PlannedRoute;
+use pt_scheduling::Plan;
 use pt_store::ListKeeper;
 use pt_tables_rows::tables::{
     Callers, Entries, FixedRoutes, KeptWrites, Places, RiderChairs, Riders, TravelTables,
@@ -173,7 +173,7 @@ fn write_trips<S: Alter>(
     tx: &mut Transaction<'_, S>,
     change: &Change,
     known: &ListKeeper,
-    plans: &Table<PlannedRoute>,
+    plans: &Table<Plan>,
 ) -> Result<(), Error>
     ensures same_reference { tx.new.conn.ghost_name ≡ tx.old.conn.ghost_name }
     ensures written { Makes (state S.Store tx.old.conn.now) (state S.Store tx.new.conn.now)
@@ -194,7 +194,7 @@ fn write_tables<S: Alter>(
     tx: &mut Transaction<'_, S>,
     change: &Change,
     known: &ListKeeper,
-    plans: &Table<PlannedRoute>,
+    plans: &Table<Plan>,
 ) -> Result<(), Error>
     ensures same_reference { tx.new.conn.ghost_name ≡ tx.old.conn.ghost_name }
     ensures written { Makes (state S.Store tx.old.conn.now) (state S.Store tx.new.conn.now)
@@ -216,7 +216,7 @@ pub fn write_change<S: Alter>(
     conn: &mut Connection<S>,
     change: &Change,
     known: &ListKeeper,
-    plans: &Table<PlannedRoute>,
+    plans: &Table<Plan>,
 ) -> Result<(), Error>
     requires settled { conn.old.in_transaction ≡ false }
     requires puts { PutsWellFormed change.now }

@@ -11,7 +11,7 @@ ghost use Rattle.pt_tables_writing.specs.Writes.{Replaces};
 use crate::stored::Stored;
 use pt_base::{Day, VehicleId};
 use pt_feasible::StopKind;
-use pt_scheduling::{PlannedRoute, PlannedStop};
+use pt_scheduling::{Plan, PlannedStop};
 use pt_tables_rows::tables::Plans;
 use sqlite::{Alter, Error, Transaction, params};
 
@@ -27,12 +27,12 @@ const INSERT_TWO_STOPS: &str = "INSERT INTO stops (vehicle, day, place, trip, ki
     VALUES (?1, ?2, ?3, ?4, ?5), (?1, ?2, ?6, ?7, ?8)";
 
 impl Stored for Plans {
-    fn put<S: Alter>(tx: &mut Transaction<'_, S>, plan: &PlannedRoute) -> Result<(), Error> {
+    fn put<S: Alter>(tx: &mut Transaction<'_, S>, plan: &Plan) -> Result<(), Error> {
         Self::take(tx, plan)?;
         insert_stops(tx, plan, 0)
     }
 
-    fn take<S: Alter>(tx: &mut Transaction<'_, S>, plan: &PlannedRoute) -> Result<(), Error> {
+    fn take<S: Alter>(tx: &mut Transaction<'_, S>, plan: &Plan) -> Result<(), Error> {
         tx.execute(
             DELETE_STOPS,
             params![plan.vehicle.number(), plan.day.number()],
@@ -44,8 +44,8 @@ impl Stored for Plans {
 /// Replaces the stops of a vehicle on a day. The rows of the first stops stay, as far as both plans have the same.
 pub(crate) fn replace_plan<S: Alter>(
     tx: &mut Transaction<'_, S>,
-    before: &PlannedRoute,
-    plan: &PlannedRoute,
+    before: &Plan,
+    plan: &Plan,
 ) -> Result<(), Error>
     ensures same_reference { tx.new.conn.ghost_name ≡ tx.old.conn.ghost_name }
     ensures written { Makes (state S.Store tx.old.conn.now) (state S.Store tx.new.conn.now)
@@ -74,7 +74,7 @@ fn shared_stops(one: &[PlannedStop], other: &[PlannedStop]) -> usize
 /// Deletes the stops of a vehicle on a day from this place on.
 fn take_later_stops<S: Alter>(
     tx: &mut Transaction<'_, S>,
-    plan: &PlannedRoute,
+    plan: &Plan,
     first: usize,
 ) -> Result<(), Error>
     requires { first < 2 ^ 63 }
@@ -93,7 +93,7 @@ fn take_later_stops<S: Alter>(
 /// Adds the rows of the stops from this place on, counted from 0. A statement adds two.
 fn insert_stops<S: Alter>(
     tx: &mut Transaction<'_, S>,
-    plan: &PlannedRoute,
+    plan: &Plan,
     first: usize,
 ) -> Result<(), Error>
     ensures same_reference { tx.new.conn.ghost_name ≡ tx.old.conn.ghost_name }
@@ -113,7 +113,7 @@ fn insert_stops<S: Alter>(
 /// Adds the rows of the stop at this place and of the next, if there is one.
 fn insert_stops_at<S: Alter>(
     tx: &mut Transaction<'_, S>,
-    plan: &PlannedRoute,
+    plan: &Plan,
     place: usize,
 ) -> Result<(), Error>
     requires there { place < length plan.now.stops }
