@@ -4,7 +4,7 @@ ghost use Rattle.pt_records.specs.Records.{IsInOrder, edited, record_at, within}
 
 use crate::edits::{put_records, take_spans};
 use crate::searching::{find_record, find_within};
-use crate::{Edits, Key, Keyed, Span};
+use crate::{Edits, Key, Keyed, Rows, Span};
 use std::alloc::{AllocError, Global};
 use std::marker::Model;
 
@@ -44,6 +44,13 @@ impl<T: Keyed> Table<T> {
         ensures order { IsInOrder T.key result.now }
     {
         self.rows.as_slice()
+    }
+
+    /// The records, as rows that were read.
+    pub fn into_rows(self) -> Rows<T>
+        ensures value { result ≡ self.items }
+    {
+        Rows::of(self.rows)
     }
 
     /// The record with this key.
