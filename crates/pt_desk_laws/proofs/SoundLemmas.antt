@@ -15,7 +15,7 @@ use Rattle.pt_desk_rules.specs.Policy.{Policy}
 use Rattle.pt_desk_rules.specs.Rider.{Rider}
 use Rattle.pt_desk_rules.specs.Vehicle.{Vehicle}
 use Rattle.pt_desk_rules.specs.Rule.{Rule}
-use Rattle.pt_desk_rules.specs.Route.{Route}
+use Rattle.pt_desk_rules.specs.Route.{FixedRoute}
 use Rattle.pt_records.specs.Keys.{pair_key}
 use Rattle.pt_records.specs.Records.{edited, put, put_all, take_away, is_within, record_at, Each, IsInOrder}
 use Rattle.pt_records.proofs.OrderLemmas.{Each-put, Each-weaker, Each-both, IsInOrder-put}
@@ -163,7 +163,7 @@ put_place_sound new s sound room ranges =
     (λ trip there. (stays_there place_key trip.wish.from new s.places there.0, stays_there place_key trip.wish.to new s.places there.1)) s.trips sound.trip_places_there in
     search rules
 
-put_route_sound : (new : Route) (s : State) → IsSound s → IsTrue (is_some (record_at route_key new.id s.routes) || nat_lt (length s.routes) most_routes)
+put_route_sound : (new : FixedRoute) (s : State) → IsSound s → IsTrue (is_some (record_at route_key new.id s.routes) || nat_lt (length s.routes) most_routes)
     → KeepsRanges (record s { routes = put route_key new s.routes }) → IsSound (record s { routes = put route_key new s.routes })
 put_route_sound new s sound room ranges =
     let table = IsTable-put route_key new s.routes most_routes sound.routes room in
