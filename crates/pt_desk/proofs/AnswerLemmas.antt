@@ -12,10 +12,10 @@ use Rattle.pt_store.proofs.StoreLemmas.{found_still, reads_then, read_tells, lea
 abbrev Outcome : Type 0 → Type 1
 Outcome X = State → X → Option State → Type 0
 
--- a read before calls that then answer
-pub read_then : {X Y : Type 0} (a b c : Store) (x v : X) (Is Is' : Outcome Y) (r : Result Y StoreFault) → Goes a b v None (Ok x) → Answers b c Is r
-    → (x ≡ v → (w : Y) (left : Option State) → Is a.content w left → Is' a.content w left) → Answers a c Is' r
-read_then a b c x v Is Is' r first (told, left, goes, by) gives = (
+-- a read before calls that then answer, by what is known of what was read
+pub known_then : {X Y : Type 0} (a b c : Store) (x v : X) (Is Is' : Outcome Y) (r : Result Y StoreFault) → Goes a b v None (Ok x) → Answers b c Is r
+    → (b.doubt ≡ 0 → (w : Y) (left : Option State) → Is a.content w left → Is' a.content w left) → Answers a c Is' r
+known_then a b c x v Is Is' r first (told, left, goes, by) gives = (
   told,
   left,
   reads_then a b c x v told told left left r first goes (λ _ _ _. (refl, refl)),
@@ -24,10 +24,15 @@ read_then a b c x v Is Is' r first (told, left, goes, by) gives = (
       let was : b.doubt ≡ 0 = omega arith in
       let read = read_tells a.content b.content v x (first.holds was).tells in
       elim (by clean) [
-        | inl is ↦ inl (gives read.0 told left (subst (λ s. Is s told left) read.1 is))
+        | inl is ↦ inl (gives was told left (subst (λ s. Is s told left) read.1 is))
         | inr fault ↦ inr fault
       ]),
 )
+
+-- a read before calls that then answer
+pub read_then : {X Y : Type 0} (a b c : Store) (x v : X) (Is Is' : Outcome Y) (r : Result Y StoreFault) → Goes a b v None (Ok x) → Answers b c Is r
+    → (x ≡ v → (w : Y) (left : Option State) → Is a.content w left → Is' a.content w left) → Answers a c Is' r
+read_then a b c x v Is Is' r first next gives = known_then a b c x v Is Is' r first next (λ was. gives (first.holds was).tells.0)
 
 -- an answer by what was read
 pub known_told : {X Y : Type 0} (a b : Store) (x v : X) (w : Y) (Is : Outcome Y) → Goes a b v None (Ok x) → (b.doubt ≡ 0 → Is a.content w None) → Answers a b Is (Ok w)

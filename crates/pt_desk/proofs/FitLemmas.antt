@@ -19,14 +19,19 @@ use Rattle.pt_desk.specs.Fitting.{ChangesByRules, IsNewBy}
 pub fits_read : {X : Type 0} (a b : Store) (v : X) (r : Result X StoreFault) (Is : State → Type 0) → Goes a b v None r → Fits a b Is
 fits_read a b v r Is read clean is = (read.holds clean).fits refl
 
--- a read before calls that give it none
-pub fits_then : {X : Type 0} (a b c : Store) (x v : X) (Is Then : State → Type 0) → Goes a b v None (Ok x) → b.doubt ≤ c.doubt → Fits b c Then
-    → (x ≡ v → Is a.content → Then a.content) → Fits a c Is
-fits_then a b c x v Is Then first up next gives clean is =
+-- a read before calls that give it none, by what is known of what was read
+pub fits_known : {X : Type 0} (a b c : Store) (x v : X) (Is Then : State → Type 0) → Goes a b v None (Ok x) → b.doubt ≤ c.doubt → Fits b c Then
+    → (b.doubt ≡ 0 → Is a.content → Then a.content) → Fits a c Is
+fits_known a b c x v Is Then first up next gives clean is =
     let was : b.doubt ≡ 0 = omega (arith, up, clean) in
     let read = first.holds was in
     let stood = read_tells a.content b.content v x read.tells in
-    next clean (subst Then (sym stood.1) (gives stood.0 is)) ∙ read.fits refl
+    next clean (subst Then (sym stood.1) (gives was is)) ∙ read.fits refl
+
+-- a read before calls that give it none
+pub fits_then : {X : Type 0} (a b c : Store) (x v : X) (Is Then : State → Type 0) → Goes a b v None (Ok x) → b.doubt ≤ c.doubt → Fits b c Then
+    → (x ≡ v → Is a.content → Then a.content) → Fits a c Is
+fits_then a b c x v Is Then first up next gives = fits_known a b c x v Is Then first up next (λ was. gives (first.holds was).tells.0)
 
 -- nor do calls whose outcomes commit nothing
 pub fits_quiet : {X : Type 0} (a b : Store) (IsOutcome : State → X → Option State → Type 0) (r : Result X StoreFault) (Is : State → Type 0) → Answers a b IsOutcome r

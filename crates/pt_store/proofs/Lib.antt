@@ -4,3 +4,5 @@ mod FileLemmas
 mod NewLemmas
 mod ManifestLemmas
 mod SomeLemmas
+mod HoursLemmas
+mod WishedLemmas

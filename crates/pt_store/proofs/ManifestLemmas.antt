@@ -42,7 +42,7 @@ kept_step key k x y ys kept test false true is tested holds rest found = ap (λ 
 kept_step key k x y ys kept test false false is tested holds rest found = rest found
 
 -- a record that is found and passes a test is found among those that pass
-some_kept : {A : Type 0} (key : A → ℕ) (k : ℕ) (x : A) (test : A → Bool) (xs : List A) → test x ≡ true → record_at key k xs ≡ Some x → record_at key k (filter test xs) ≡ Some x
+pub some_kept : {A : Type 0} (key : A → ℕ) (k : ℕ) (x : A) (test : A → Bool) (xs : List A) → test x ≡ true → record_at key k xs ≡ Some x → record_at key k (filter test xs) ≡ Some x
 some_kept key k x test [] holds found = absurd (cc)
 some_kept key k x test (y ∷ ys) holds found =
     kept_step key k x y ys (filter test ys) test (key y == k) (test y) refl refl holds (some_kept key k x test ys holds) found
@@ -54,7 +54,7 @@ none_step key k y rest kept false true is later none = ap (λ b. cond b (Some y)
 none_step key k y rest kept false false is later none = later none
 
 -- what is not found is not found among those that pass a test
-none_kept : {A : Type 0} (key : A → ℕ) (k : ℕ) (test : A → Bool) (xs : List A) → record_at key k xs ≡ None → record_at key k (filter test xs) ≡ None
+pub none_kept : {A : Type 0} (key : A → ℕ) (k : ℕ) (test : A → Bool) (xs : List A) → record_at key k xs ≡ None → record_at key k (filter test xs) ≡ None
 none_kept key k test [] none = refl
 none_kept key k test (y ∷ ys) none = none_step key k y (record_at key k ys) (filter test ys) (key y == k) (test y) refl (none_kept key k test ys) none
 

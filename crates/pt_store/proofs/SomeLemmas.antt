@@ -64,11 +64,10 @@ some_fault {X} {Y} {Z} a b c x v w u Is e (Err error) is first fault = record {
   is = λ _. tt;
 }
 
--- out of memory after something was read, as `?` returns it
-pub some_memory : {X Z : Type 0} (a b : Store) (x v : X) (u : Z) (Is : State → Z → Type 0) (r : Result Z StoreFault) → IsErrAnd r (λ error. error ≡ Memory)
-    → Goes {X = X} a b v None (Ok x) → ReadsSome {X = Z} a b Is r
-some_memory a b x v u Is (Ok z) is first = absurd is
-some_memory {X} {Z} a b x v u Is (Err error) is first =
+memory_as : {X Z : Type 0} (a b : Store) (x v : X) (u : Z) (r : Result Z StoreFault) → IsErrAnd r (λ error. error ≡ Memory) → Goes {X = X} a b v None (Ok x)
+    → Goes {X = Z} a b u None r
+memory_as a b x v u (Ok z) is first = absurd is
+memory_as {X = X} {Z = Z} a b x v u (Err error) is first =
     let fine : (◌≡◌ {A = Result Z StoreFault} (Err Memory) (Err failed) → ⊥) = λ same. absurd (cc) in
     let fine' : (◌≡◌ {A = Result X StoreFault} (Ok x) (Err failed) → ⊥) = λ same. absurd (cc) in
     let short : Goes {X = Z} a b u None (Err Memory)
@@ -83,7 +82,17 @@ some_memory {X} {Z} a b x v u Is (Err error) is first =
           let it = first.holds clean in
           record { tells = it.tells.1; crash = it.crash; durable = tt; memory = λ _. found_still a b it.tells.1 it.crash; fits = it.fits };
     } in
-    record { goes = (u, subst (λ (f : StoreFault). Goes {X = Z} a b u None (Err f)) (sym is) short); is = λ _. tt }
+    subst (λ (f : StoreFault). Goes {X = Z} a b u None (Err f)) (sym is) short
+
+-- out of memory after something was read, as `?` returns it
+pub memory_goes : {X Z : Type 0} {a b : Store} {x v : X} {u : Z} {r : Result Z StoreFault} → IsErrAnd r (λ error. error ≡ Memory) → Goes {X = X} a b v None (Ok x)
+    → Goes {X = Z} a b u None r
+memory_goes {X} {Z} {a} {b} {x} {v} {u} {r} is first = memory_as {X = X} {Z = Z} a b x v u r is first
+
+pub some_memory : {X Z : Type 0} (a b : Store) (x v : X) (u : Z) (Is : State → Z → Type 0) (r : Result Z StoreFault) → IsErrAnd r (λ error. error ≡ Memory)
+    → Goes {X = X} a b v None (Ok x) → ReadsSome {X = Z} a b Is r
+some_memory a b x v u Is (Ok z) is first = absurd is
+some_memory {X} {Z} a b x v u Is (Err error) is first = record { goes = (u, memory_as {X = X} {Z = Z} a b x v u (Err error) is first); is = λ _. tt }
 
 -- a trip by its number
 pub some_trip : (a b : Store) (id : ℕ) (r : Result (Option Trip) StoreFault) → Reads a b (trip_of id) r → ReadsSome a b (λ s other. IfSome other (IsTripIn s)) r

@@ -1,7 +1,7 @@
 ghost use Rattle.std.specs.Prelude.{◌≡◌, [], Some, None};
 ghost use Rattle.pt_desk_rules.specs.Facts.{no_facts, facts_of, read_facts_of, has_subject};
-ghost use Rattle.pt_desk_rules.specs.Facts.{agency_facts, booking_facts, plan_for, day_of, wish_facts};
-ghost use Rattle.pt_desk_rules.specs.Facts.{change_facts, cancel_facts, tallies_for, tour_facts, trip_facts};
+ghost use Rattle.pt_desk_rules.specs.Facts.{agency_facts, plan_for, day_of, wish_facts};
+ghost use Rattle.pt_desk_rules.specs.Facts.{cancel_facts, tallies_for, tour_facts, trip_facts};
 ghost use Rattle.pt_desk_rules.specs.Facts.{trips_counted_for};
 ghost use Rattle.pt_requests.specs.declared.request.Read.TheVariants.{Export, Letter, Manifest, Standing, Trips};
 ghost use Rattle.pt_desk_rules.specs.State.{rider_of, file_of, trip_of};
@@ -9,8 +9,11 @@ ghost use Rattle.pt_requests.specs.declared.request.Write.TheVariants.{Enter, Pu
 ghost use Rattle.pt_requests.specs.declared.request.Write.TheVariants.{PutRider, PutVehicle, Travel};
 ghost use Rattle.pt_store.specs.Enough.{IsEnough};
 ghost use Rattle.pt_store.specs.Store.{Store, Reads, ReadsSome};
+ghost use Rattle.pt_store.specs.Wished.{booked_facts, booking_by, day_with, decided_facts, rebooked_facts, wish_by};
+ghost use Rattle.pt_store.specs.Wished.{IsEnoughFor};
 
 use crate::manifests::gather_manifest;
+use crate::wished::{gather_plans, vehicles_for};
 use crate::{Keeper, StoreFault};
 use pt_base::{Day, Place, Residence, Rider, RiderId, Trip, TripId, Vehicle, VehicleId, Wish};
 use pt_corridor::FixedRoute;
@@ -233,18 +236,17 @@ fn gather_plan<K: Keeper>(
     }
 }
 
-/// The facts for this rider's wish for a day. `old` is the trip that it changes, if any.
+/// The facts for this rider's wish, with these about its day. `old` is the trip that it changes, if any.
 fn gather_booking<K: Keeper>(
     alloc: Global,
     keeper: &mut K,
     found: &Option<Rider>,
-    day: Day,
+    day: DayFacts,
     old: &Option<Trip>,
 ) -> Result<BookingFacts, StoreFault>
-    ensures reads { Reads (K.store keeper.old) (K.store keeper.new) (booking_facts found.now day old.now) result }
+    ensures reads { Reads (K.store keeper.old) (K.store keeper.new) (booking_by day found.now old.now) result }
 {
     let last_trip = keeper.last_trip()?;
-    let day = gather_day(alloc, keeper, day)?;
     let trips = gather_counted(alloc, keeper, found)?;
     let plan = gather_plan(alloc, keeper, old)?;
     let routes = keeper.routes(alloc)?;
@@ -258,7 +260,29 @@ fn gather_booking<K: Keeper>(
     })
 }
 
-/// The facts for a rider's wish. `old` is the trip that it changes, if any. The error is the store's or out of memory.
+/// The facts for a rider's wish, with these about the agency and the day.
+fn gather_asked<K: Keeper>(
+    alloc: Global,
+    keeper: &mut K,
+    agency: WriteFacts,
+    day: DayFacts,
+    rider: RiderId,
+    old: &Option<Trip>,
+) -> Result<WriteFacts, StoreFault>
+    ensures reads { Reads (K.store keeper.old) (K.store keeper.new) (wish_by agency day rider old.now) result }
+{
+    let (rider, file) = rider_with_file(alloc, keeper, rider)?;
+    let booking = gather_booking(alloc, keeper, &rider, day, old)?;
+    Ok(WriteFacts {
+        rider,
+        file,
+        booking,
+        ..agency
+    })
+}
+
+/// All facts of the state about a rider's wish. `old` is the trip that it changes, if any. The error is the store's or
+/// out of memory.
 pub fn gather_wish<K: Keeper>(
     alloc: Global,
     keeper: &mut K,
@@ -268,17 +292,47 @@ pub fn gather_wish<K: Keeper>(
 ) -> Result<WriteFacts, StoreFault>
     ensures reads { Reads (K.store keeper.old) (K.store keeper.new) (wish_facts rider wish.now old.now) result }
 {
-    let (rider, file) = rider_with_file(alloc, keeper, rider)?;
-    let booking = gather_booking(alloc, keeper, &rider, wish.day, old)?;
-    Ok(WriteFacts {
-        rider,
-        file,
-        booking,
-        ..gather_agency(alloc, keeper)?
+    let agency = gather_agency(alloc, keeper)?;
+    let day = gather_day(alloc, keeper, wish.day)?;
+    gather_asked(alloc, keeper, agency, day, rider, old)
+}
+
+/// The facts about a day, with the plans of these vehicles alone.
+fn gather_day_with<K: Keeper>(
+    alloc: Global,
+    keeper: &mut K,
+    vehicles: &[Vehicle],
+    day: Day,
+) -> Result<DayFacts, StoreFault>
+    ensures reads { Reads (K.store keeper.old) (K.store keeper.new) (day_with day vehicles.now) result }
+{
+    let travel = keeper.travel_on(alloc, day)?;
+    let trips = keeper.trips_on(alloc, day)?;
+    let plans = gather_plans(alloc, keeper, vehicles, day)?;
+    Ok(DayFacts {
+        travel,
+        trips,
+        plans,
     })
 }
 
-/// The facts for the change of a trip.
+/// The facts by which a rider's wish is decided. `old` is the trip that it changes, if any.
+fn gather_booked<K: Keeper>(
+    alloc: Global,
+    keeper: &mut K,
+    rider: RiderId,
+    wish: &Wish,
+    old: &Option<Trip>,
+) -> Result<WriteFacts, StoreFault>
+    ensures reads { Reads (K.store keeper.old) (K.store keeper.new) (booked_facts rider wish.now old.now) result }
+{
+    let agency = gather_agency(alloc, keeper)?;
+    let vehicles = vehicles_for(alloc, agency.vehicles.as_slice(), wish)?;
+    let day = gather_day_with(alloc, keeper, &vehicles, wish.day)?;
+    gather_asked(alloc, keeper, agency, day, rider, old)
+}
+
+/// The facts by which the change of a trip is decided.
 fn gather_change<K: Keeper>(
     alloc: Global,
     keeper: &mut K,
@@ -286,11 +340,11 @@ fn gather_change<K: Keeper>(
     wish: &Wish,
 ) -> Result<WriteFacts, StoreFault>
     ensures reads { Reads (K.store keeper.old) (K.store keeper.new)
-        (λ s. change_facts (trip_of trip s) wish.now s) result }
+        (λ s. rebooked_facts (trip_of trip s) wish.now s) result }
 {
     let old = keeper.trip(trip)?;
     match &old {
-        Some(there) => gather_wish(alloc, keeper, there.rider, wish, &old),
+        Some(there) => gather_booked(alloc, keeper, there.rider, wish, &old),
         None => gather_agency(alloc, keeper),
     }
 }
@@ -350,13 +404,13 @@ fn gather_trip<K: Keeper>(
     })
 }
 
-/// All facts that the rules of the write read. The error is the store's or out of memory.
-pub fn gather<K: Keeper>(
+/// The facts by which the write is decided.
+fn gather_decided<K: Keeper>(
     alloc: Global,
     keeper: &mut K,
     write: &Write,
 ) -> Result<WriteFacts, StoreFault>
-    ensures reads { Reads (K.store keeper.old) (K.store keeper.new) (facts_of write.now) result }
+    ensures reads { Reads (K.store keeper.old) (K.store keeper.new) (decided_facts write.now) result }
 {
     match write {
         Write::PutCaller(new) => gather_caller(alloc, keeper, new),
@@ -367,11 +421,22 @@ pub fn gather<K: Keeper>(
         Write::Enter { rider, entry } => gather_entry(alloc, keeper, *rider, entry),
         Write::PutVehicle(new) => gather_vehicle(alloc, keeper, new),
         Write::Travel { day, rows: _ } => gather_travel(alloc, keeper, *day),
-        Write::Book { rider, wish } => gather_wish(alloc, keeper, *rider, wish, &None),
+        Write::Book { rider, wish } => gather_booked(alloc, keeper, *rider, wish, &None),
         Write::Change { trip, wish } => gather_change(alloc, keeper, *trip, wish),
         Write::Cancel(trip) => gather_cancel(alloc, keeper, *trip),
         Write::Outcome { trip, outcome: _ } => gather_trip(alloc, keeper, *trip),
     }
+}
+
+/// The facts that the rules of the write need. The error is the store's or out of memory.
+pub fn gather<K: Keeper>(
+    alloc: Global,
+    keeper: &mut K,
+    write: &Write,
+) -> Result<WriteFacts, StoreFault>
+    ensures reads { ReadsSome (K.store keeper.old) (K.store keeper.new) (IsEnoughFor write.now) result }
+{
+    gather_decided(alloc, keeper, write)
 }
 
 fn gather_standing<K: Keeper>(

@@ -11,3 +11,4 @@ mod gathering;
 mod keeper;
 mod list_keeper;
 mod manifests;
+mod wished;

@@ -10,7 +10,7 @@ ghost use Rattle.pt_store.specs.Store.{Store, Reads, ReadsSome};
 use crate::{Keeper, StoreFault};
 use pt_base::{Day, Trip, TripId, VehicleId};
 use pt_desk_rules::{DayFacts, ReadFacts};
-use pt_records::{Edits, Key, Rows, Table};
+use pt_records::{Edits, Key, Keyed, Rows, Table};
 use pt_scheduling::{Plan, PlannedStop};
 use std::alloc::{AllocError, Global};
 
@@ -58,14 +58,14 @@ fn gather_trips<K: Keeper>(
     Ok(found)
 }
 
-/// The trips in the order of their numbers.
-fn in_order(alloc: Global, found: Edits<Trip>) -> Result<Rows<Trip>, AllocError>
-    ensures { IfOk result (λ trips. trips ≡ edited trip_key found []) }
+/// The records in the order of their keys.
+pub(crate) fn in_order<T: Keyed>(alloc: Global, found: Edits<T>) -> Result<Rows<T>, AllocError>
+    ensures { IfOk result (λ rows. rows ≡ edited T.key found []) }
 {
-    let mut trips = Table::none(alloc);
-    trips.reserve(&found)?;
-    trips.edit(found);
-    Ok(Rows::of(Vec::from_slice(alloc, trips.as_slice())?))
+    let mut records = Table::none(alloc);
+    records.reserve(&found)?;
+    records.edit(found);
+    Ok(records.into_rows())
 }
 
 /// Whether the stop's trip is among these, and is on the day.

@@ -1,5 +1,6 @@
 use Rattle.std.proofs.Common.{◌≡◌, refl, subst, Option}
 use Rattle.pt_desk_rules.specs.Deciding.{IsDecision}
+use Rattle.pt_desk_rules.specs.Facts.{facts_of}
 use Rattle.pt_desk_rules.specs.State.{State}
 use Rattle.pt_desk_rules.specs.Step.{sent_with, told_of, left_of, IsDecidedOutcome}
 use Rattle.pt_requests.specs.declared.request.Answer.{Answer}
@@ -8,8 +9,8 @@ use Rattle.pt_desk_rules.specs.declared.kept.Sent.{Sent}
 use Rattle.pt_store.specs.Store.{Answers}
 use Rattle.pt_store.specs.declared.keeper.StoreFault.TheVariants.{Memory}
 use Rattle.pt_desk.specs.Fitting.{ChangesByRules, IsNewBy}
-use Rattle.pt_desk.proofs.AnswerLemmas.{read_then, read_fault, read_memory, goes_by, handed}
-use Rattle.pt_desk.proofs.FitLemmas.{decided_by_rules, fits_read, fits_then}
+use Rattle.pt_desk.proofs.AnswerLemmas.{known_then, read_fault, read_memory, goes_by, handed}
+use Rattle.pt_desk.proofs.FitLemmas.{decided_by_rules, fits_known, fits_read}
 use Rattle.pt_desk.proofs.answering.answer_new.Goals as goal
 
 pub returns-in_err-facts : goal.returns-in_err-facts
@@ -19,8 +20,8 @@ returns-in_err-facts g c =
     let Is = IsDecidedOutcome c.args.write.now c.args.me.now c.args.now c.args.sent.number in
     record {
       goes = handed (λ r. Answers a b Is r) c.in_err-facts.field-0.0 c.from_residual.result c.from_residual.ensures.1
-          (read_fault a b _ Done c.in_err-facts.field-0.0 Is c.in_err-facts.ensures.reads);
-      fits = fits_read a b _ _ (IsNewBy c.args.me.now c.args.sent.number c.args.write.now) c.in_err-facts.ensures.reads;
+          (read_fault a b _ Done c.in_err-facts.field-0.0 Is c.in_err-facts.ensures.reads.goes.1);
+      fits = fits_read a b _ _ (IsNewBy c.args.me.now c.args.sent.number c.args.write.now) c.in_err-facts.ensures.reads.goes.1;
     }
 
 pub returns-in_err-decision : goal.returns-in_err-decision
@@ -30,8 +31,8 @@ returns-in_err-decision g c =
     let Is = IsDecidedOutcome c.args.write.now c.args.me.now c.args.now c.args.sent.number in
     record {
       goes = handed (λ r. Answers a b Is r) Memory c.from_residual-in_err-decision.result c.from_residual-in_err-decision.ensures.1
-          (read_memory a b c.in_ok-facts.facts _ Done Is c.in_ok-facts.ensures.reads);
-      fits = fits_read a b _ _ (IsNewBy c.args.me.now c.args.sent.number c.args.write.now) c.in_ok-facts.ensures.reads;
+          (read_memory a b c.in_ok-facts.facts _ Done Is c.in_ok-facts.ensures.reads.goes.1);
+      fits = fits_read a b _ _ (IsNewBy c.args.me.now c.args.sent.number c.args.write.now) c.in_ok-facts.ensures.reads.goes.1;
     }
 
 pub returns : goal.returns
@@ -41,22 +42,23 @@ returns g c =
     let d = g.K.Keeper.store c.carry_out.new.keeper in
     let decision = c.in_ok-decision.decision in
     let Is = IsDecidedOutcome c.args.write.now c.args.me.now c.args.now c.args.sent.number in
+    let sent = sent_with c.args.sent.number c.args.write.now in
+    let decided : b.doubt ≡ 0 → IsDecision c.args.write.now c.args.me.now c.args.now sent (facts_of c.args.write.now a.content) decision
+    = λ clean. c.in_ok-facts.ensures.reads.is clean c.args.me.now c.args.now sent decision
+    (subst (λ (s : Sent). IsDecision c.args.write.now c.args.me.now c.args.now s c.in_ok-facts.facts decision) c.requires.spelled c.in_ok-decision.ensures.decided) in
     let IsCarried = λ (s : State) (told : Answer) (left : Option State). (told ≡ told_of decision) × (left ≡ left_of decision s) in
     record {
-      goes = read_then a b d c.in_ok-facts.facts _ IsCarried Is c.carry_out.result c.in_ok-facts.ensures.reads
+      goes = known_then a b d c.in_ok-facts.facts _ IsCarried Is c.carry_out.result c.in_ok-facts.ensures.reads.goes.1
           (goes_by b d (told_of decision) (left_of decision b.content) IsCarried c.carry_out.result c.carry_out.ensures.goes (refl, refl))
-          (λ is told left carried. (
+          (λ clean told left carried. (
             decision,
-            subst (λ facts. IsDecision c.args.write.now c.args.me.now c.args.now (sent_with c.args.sent.number c.args.write.now) facts decision) is
-                (subst (λ (sent : Sent). IsDecision c.args.write.now c.args.me.now c.args.now sent c.in_ok-facts.facts decision) c.requires.spelled c.in_ok-decision.ensures.decided),
+            decided clean,
             (c.in_ok-decision.ensures.ranges, c.requires.ranges),
             carried.0,
             carried.1,
           ));
-      fits = fits_then a b d c.in_ok-facts.facts _ (IsNewBy c.args.me.now c.args.sent.number c.args.write.now) (ChangesByRules decision) c.in_ok-facts.ensures.reads
+      fits = fits_known a b d c.in_ok-facts.facts _ (IsNewBy c.args.me.now c.args.sent.number c.args.write.now) (ChangesByRules decision) c.in_ok-facts.ensures.reads.goes.1
           c.carry_out.ensures.goes.clean c.carry_out.ensures.fits
-          (λ is new. decided_by_rules c.args.write.now c.args.me.now c.args.now c.args.sent.number a.content decision
-          (subst (λ facts. IsDecision c.args.write.now c.args.me.now c.args.now (sent_with c.args.sent.number c.args.write.now) facts decision) is
-          (subst (λ (sent : Sent). IsDecision c.args.write.now c.args.me.now c.args.now sent c.in_ok-facts.facts decision) c.requires.spelled c.in_ok-decision.ensures.decided))
+          (λ clean new. decided_by_rules c.args.write.now c.args.me.now c.args.now c.args.sent.number a.content decision (decided clean)
           c.in_ok-decision.ensures.ranges c.requires.ranges new);
     }
