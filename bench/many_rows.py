@@ -117,6 +117,8 @@ class Years:
 
     There are at least so many trips in all: days are whole. The vans drive as much on each day ahead as on a working day."""
 
+    places = PLACES
+
     def __init__(self, trips, riders, today, ahead):
         self.riders, self.today, self.end = riders, number_of(today), number_of(today) + ahead
         self.first, count = self.today, VEHICLES * TURNS[0] * ahead
@@ -136,7 +138,7 @@ class Years:
 
     def tables(self):
         yield "callers", self.callers()
-        yield "places", ((it + 1, *self.point_of(it), 0) for it in range(PLACES))
+        yield "places", ((it + 1, *self.point_of(it), 0) for it in range(self.places))
         yield "fixed", [(1, WIDTH, self.line(), 1, EACH_DAY, 0, 1439)]
         yield "vehicles", ((it, self.first, EACH_DAY, 1, SEATS, OPENS, CLOSES, SHIFT) for it in range(1, VEHICLES + 1))
         yield "vehicle_chairs", ((it, self.first, CHAIRS) for it in range(1, VEHICLES + 1))
@@ -166,7 +168,7 @@ class Years:
     def travel(self):
         """One table, from the first day on."""
         yield self.first, 0, 0, 0
-        points = [self.point_of(it) for it in range(PLACES)]
+        points = [self.point_of(it) for it in range(self.places)]
         for one, (east, north) in enumerate(points, 1):
             for other, (east_of, north_of) in enumerate(points, 1):
                 if one != other:
@@ -222,9 +224,9 @@ class Years:
             vehicle += 1
             wish = FIRST_WISH + A_PAIR * pair + BETWEEN * second
             mixed = number * MIX & BITS
-            origin, away = mixed % PLACES, 1 + mixed // PLACES % (PLACES - 1)
+            origin, away = mixed % self.places, 1 + mixed // self.places % (self.places - 1)
             latest = wish + LATEST if mixed % 4 == 0 else -1
-            yield (number, self.rider_of(number), day, wish, origin + 1, (origin + away) % PLACES + 1, latest, 0, mixed // 7 % 2,
+            yield (number, self.rider_of(number), day, wish, origin + 1, (origin + away) % self.places + 1, latest, 0, mixed // 7 % 2,
                    POLICY["fare"], POLICY["service"], RIDE, vehicle, wish, wish + WINDOW, self.status_of(number, vehicle, day, pair))
 
     def stops(self):
