@@ -1,1 +1,2 @@
 pub mod Letters
+pub use Rattle.sha2.specs.Sha256
