@@ -3,6 +3,7 @@ mod RunLemmas
 mod FindLemmas
 pub mod CrashLemmas
 mod AnswerLemmas
+mod RulingLemmas
 mod QuietLemmas
 mod FitLemmas
 mod PlaceLemmas

@@ -12,12 +12,13 @@ ghost use Rattle.pt_desk.specs.Crash.{Lasts};
 ghost use Rattle.pt_desk.specs.Fitting.{ChangesByRules, IsNewBy, IsSentBy};
 ghost use Rattle.pt_desk.specs.Run.{IsDenial, IsRead};
 
+use crate::ruling::rule_on;
 use pt_base::{Moment, RiderId, Rule, Wish};
 use pt_desk_reads::{explain, tell};
 use pt_desk_rules::{Arrival, Decision, Sent, decide};
 use pt_requests::{Answer, Caller, Digest, Read, Request, Write};
 use pt_spelling::spell;
-use pt_store::{Keeper, Reply, StoreFault, gather, gather_read, gather_wish};
+use pt_store::{Keeper, Reply, StoreFault, gather_read, gather_wish};
 use std::alloc::Global;
 
 /// Answers a read.
@@ -80,8 +81,8 @@ fn answer_new<K: Keeper>(
         (IsDecidedOutcome write.now me.now now sent.number) result }
     ensures fits { Fits (K.store keeper.old) (K.store keeper.new) (IsNewBy me.now sent.number write.now) }
 {
-    let facts = gather(alloc, keeper, write)?;
-    let decision = decide(alloc, &facts, me, now, sent, write)?;
+    let ruling = rule_on(alloc, keeper, me, now, write)?;
+    let decision = decide(alloc, ruling, me, sent)?;
     carry_out(keeper, decision)
 }
 

@@ -14,4 +14,5 @@ mod answering;
 mod laws;
 mod places;
 mod refusals;
+mod ruling;
 mod running;

@@ -27,7 +27,7 @@ use Rattle.pt_desk_rules.specs.Arrival.{arrival_of}
 use Rattle.pt_desk_rules.specs.Booking.{IsBooking}
 use Rattle.pt_desk_rules.specs.Deciding.{booked, changed, kept_by, with_kept, IsCancelDecided, IsChangeDecided}
 use Rattle.pt_desk_rules.specs.Deciding.{IsEndDecided, IsDecidedBy, IsDecisionAfter}
-use Rattle.pt_desk_rules.specs.Facts.{facts_of}
+use Rattle.pt_desk_rules.specs.Facts.{facts_of, FactsOf}
 use Rattle.pt_desk_laws.specs.Numbers.{accepted_writes, committed, kept_from, kept_where, last_number, number_of}
 use Rattle.pt_desk_laws.specs.Numbers.{AreCalls, AreMadeBy, Call, IsKept, IsWrite}
 use Rattle.pt_desk_laws.specs.Numbers.{AcceptedNumbersRise, AcceptedWritesAreKept, LastAcceptedIsKept}
@@ -41,7 +41,8 @@ use Rattle.pt_desk_laws.proofs.OutcomeLemmas.{decision_is, is_of_write, IsOfWrit
 use Rattle.pt_desk_rules.specs.declared.change.Change.{Change}
 use Rattle.pt_desk_rules.specs.declared.deciding.Decision.{Decision}
 use Rattle.pt_desk_rules.specs.declared.deciding.Decision.TheVariants as decision
-use Rattle.pt_desk_rules.specs.declared.facts.WriteFacts.{WriteFacts}
+use Rattle.pt_desk_rules.specs.declared.facts.CancelFacts.{CancelFacts}
+use Rattle.pt_desk_rules.specs.declared.facts.WishFacts.{WishFacts}
 use Rattle.pt_desk_rules.specs.declared.kept.Arrival.{Arrival}
 use Rattle.pt_desk_rules.specs.declared.kept.Arrival.TheVariants.{New, Repeated, Stale}
 use Rattle.pt_desk_rules.specs.declared.kept.Kept.{Kept}
@@ -66,7 +67,7 @@ Makes callers (decision.Accepted told change) = (change.kept ≡ no_edit) × (ch
 
 booking_makes : (change : Trip → Plan → Change)
     → ((told : Answer) (trip : Trip) (plan : Plan) → Makes no_edit (decision.Accepted told (change trip plan)))
-    → (number : ℕ) (left_out : Option ℕ) (today : ℕ) (wish : Wish) (facts : WriteFacts) (decided : Decision)
+    → (number : ℕ) (left_out : Option ℕ) (today : ℕ) (wish : Wish) (facts : WishFacts) (decided : Decision)
     → IsBooking change number left_out today wish facts decided → Makes no_edit decided
 booking_makes change makes number left_out today wish facts decided (scheduled.Denied rule, by, is) =
     subst (Makes no_edit) (sym is) tt
@@ -74,14 +75,14 @@ booking_makes change makes number left_out today wish facts decided
     (scheduled.Booked trip plan, by, (told, confirms, is)) =
     subst (Makes no_edit) (sym is) (makes (Booked told) trip plan)
 
-change_makes : (found : Option Trip) (wish : Wish) (today : ℕ) (facts : WriteFacts) (decided : Decision)
+change_makes : (found : Option Trip) (wish : Wish) (today : ℕ) (facts : WishFacts) (decided : Decision)
     → IsChangeDecided found wish today facts decided → Makes no_edit decided
 change_makes None wish today facts decided changes = absurd changes
 change_makes (Some old) wish today facts decided changes =
     booking_makes (changed old facts.booking.plan) (λ told trip plan. (refl, refl)) old.id (Some old.id) today wish
     facts decided changes
 
-cancel_makes : (found : Option Trip) (facts : WriteFacts) (decided : Decision)
+cancel_makes : (found : Option Trip) (facts : CancelFacts) (decided : Decision)
     → IsCancelDecided found facts decided → Makes no_edit decided
 cancel_makes None facts decided cancels = absurd cancels
 cancel_makes (Some trip) facts decided is = subst (Makes no_edit) (sym is) (refl, refl)
@@ -91,15 +92,14 @@ end_makes : (found : Option Trip) (outcome : Outcome) (decided : Decision) → I
 end_makes None outcome decided ends = absurd ends
 end_makes (Some trip) outcome decided is = subst (Makes no_edit) (sym is) (refl, refl)
 
-pub decided_makes : (asked : Write) (author today : ℕ) (facts : WriteFacts) (decided : Decision)
+pub decided_makes : (asked : Write) (author today : ℕ) (facts : FactsOf asked) (decided : Decision)
     → IsDecidedBy asked author today facts decided → Makes (callers_by asked) decided
 decided_makes (write.Book rider wish) author today facts decided is =
     booking_makes booked (λ told trip plan. (refl, refl)) (facts.booking.last_trip + 1) None today wish facts decided is
 decided_makes (write.Change trip wish) author today facts decided is =
     change_makes facts.booking.trip wish today facts decided is
-decided_makes (write.Cancel trip) author today facts decided is = cancel_makes facts.booking.trip facts decided is
-decided_makes (write.Outcome trip outcome) author today facts decided is =
-    end_makes facts.booking.trip outcome decided is
+decided_makes (write.Cancel trip) author today facts decided is = cancel_makes facts.trip facts decided is
+decided_makes (write.Outcome trip outcome) author today found decided is = end_makes found outcome decided is
 decided_makes asked author today facts decided is = subst (Makes (callers_by asked)) (sym is) (refl, refl)
 
 -- an accepted write puts these callers and its own caller's kept request
@@ -113,8 +113,8 @@ made_keeps : (callers : Edit Caller) (me : ℕ) (sent : Sent) (made : Decision) 
 made_keeps callers me sent (decision.Denied first) makes = tt
 made_keeps callers me sent (decision.Accepted told change) makes = (refl, makes.1)
 
-decision_keeps : (first : Option Rule) (asked : Write) (me : Caller) (now : Moment) (sent : Sent) (facts : WriteFacts)
-    (decided : Decision) → IsDecisionAfter first asked me now sent facts decided
+decision_keeps : (first : Option Rule) (asked : Write) (me : Caller) (now : Moment) (sent : Sent)
+    (facts : FactsOf asked) (decided : Decision) → IsDecisionAfter first asked me now sent facts decided
     → Keeps (callers_by asked) me.id sent decided
 decision_keeps (Some first) asked me now sent facts decided is = subst (Keeps (callers_by asked) me.id sent) (sym is) tt
 decision_keeps None asked me now sent facts decided (made, is, keeps) =

@@ -46,7 +46,8 @@ use Rattle.pt_desk_rules.proofs.TourLemmas.{minutes_one}
 use Rattle.pt_desk_rules.specs.declared.change.Change.{Change}
 use Rattle.pt_desk_rules.specs.declared.deciding.Decision.{Decision}
 use Rattle.pt_desk_rules.specs.declared.deciding.Decision.TheVariants as decision
-use Rattle.pt_desk_rules.specs.declared.facts.WriteFacts.{WriteFacts}
+use Rattle.pt_desk_rules.specs.declared.facts.CancelFacts.{CancelFacts}
+use Rattle.pt_desk_rules.specs.declared.facts.WishFacts.{WishFacts}
 use Rattle.pt_desk_rules.specs.declared.kept.Arrival.{Arrival}
 use Rattle.pt_desk_rules.specs.declared.kept.Arrival.TheVariants.{New, Repeated, Stale}
 use Rattle.pt_desk_rules.specs.declared.kept.Sent.{Sent}
@@ -67,7 +68,7 @@ use Rattle.pt_desk_rules.specs.Explaining.{next_trip, IsExplainedAfter, IsToldPo
 use Rattle.pt_desk_laws.proofs.ReadLemmas.{bool_one, least_one, like, read_one, uses_one}
 
 -- the facts determine the request of a wish
-request_one : (facts : WriteFacts) (number : ℕ) (left_out : Option ℕ) (today : ℕ) (wish : Wish) (a b : Request)
+request_one : (facts : WishFacts) (number : ℕ) (left_out : Option ℕ) (today : ℕ) (wish : Wish) (a b : Request)
     → IsRequestBy facts number left_out today wish a → IsRequestBy facts number left_out today wish b → a ≡ b
 request_one facts number left_out today wish a b one two =
     let trip = one.trip ∙ sym two.trip in
@@ -270,7 +271,7 @@ came_one minutes vehicles asked (scheduled.Booked trip plan) (scheduled.Denied r
 came_one minutes vehicles asked (scheduled.Booked trip plan) (scheduled.Booked also other) routes same one two =
     booked_one minutes vehicles asked trip also plan other routes one.1 two.1
 
-wish_one : (number : ℕ) (left_out : Option ℕ) (today : ℕ) (wish : Wish) (facts : WriteFacts) (a b : Scheduled)
+wish_one : (number : ℕ) (left_out : Option ℕ) (today : ℕ) (wish : Wish) (facts : WishFacts) (a b : Scheduled)
     → AreRoutes number (routes_for number wish facts) → IsAnswered number left_out today wish facts a
     → IsAnswered number left_out today wish facts b → a ≡ b
 wish_one number left_out today wish facts a b routes (asked, by, (minutes, times, is))
@@ -306,7 +307,7 @@ told_one change (scheduled.Booked trip plan) d e (told, confirms, is) (says, con
     ∙ sym it
 
 booking_one : (change : Trip → Plan → Change) (number : ℕ) (left_out : Option ℕ) (today : ℕ) (wish : Wish)
-    (facts : WriteFacts) (d e : Decision) → AreRoutes number (routes_for number wish facts)
+    (facts : WishFacts) (d e : Decision) → AreRoutes number (routes_for number wish facts)
     → IsBooking change number left_out today wish facts d → IsBooking change number left_out today wish facts e → d ≡ e
 booking_one change number left_out today wish facts d e routes (found, answered, told) (other, again, tell) =
     let same = wish_one number left_out today wish facts found other routes answered again in
@@ -321,7 +322,7 @@ change_one (Some old) wish today s d e routes one two =
     booking_one (changed old facts.booking.plan) old.id (Some old.id) today wish facts d e (routes old.id wish.day) one
     two
 
-cancel_one : (found : Option Trip) (facts : WriteFacts) (d e : Decision) → IsCancelDecided found facts d
+cancel_one : (found : Option Trip) (facts : CancelFacts) (d e : Decision) → IsCancelDecided found facts d
     → IsCancelDecided found facts e → d ≡ e
 cancel_one None facts d e one two = absurd one
 cancel_one (Some trip) facts d e one two = one ∙ sym two
@@ -344,10 +345,9 @@ decided_one (write.Change trip wish) author today s d e routes one two =
     (subst (λ f. IsChangeDecided f wish today facts e) same two)
 decided_one (write.Cancel trip) author today s d e routes one two =
     let facts = facts_of (write.Cancel trip) s in
-    cancel_one facts.booking.trip facts d e one two
+    cancel_one facts.trip facts d e one two
 decided_one (write.Outcome trip outcome) author today s d e routes one two =
-    let facts = facts_of (write.Outcome trip outcome) s in
-    end_one facts.booking.trip outcome d e one two
+    end_one (trip_of trip s) outcome d e one two
 decided_one asked author today s d e routes one two = one ∙ sym two
 
 -- a new write has one decision

@@ -10,7 +10,7 @@ use Rattle.pt_scheduling.specs.declared.scheduling.Scheduled.TheVariants as sche
 use Rattle.pt_desk_rules.specs.Booking.{IsBooking}
 use Rattle.pt_desk_rules.specs.Outcome.{Outcome}
 use Rattle.pt_desk_rules.specs.Deciding.{booked, changed, with_kept, IsCancelDecided, IsChangeDecided, IsEndDecided, IsDecidedBy, IsDecisionAfter}
-use Rattle.pt_desk_rules.specs.Facts.{facts_of}
+use Rattle.pt_desk_rules.specs.Facts.{facts_of, FactsOf}
 use Rattle.pt_desk_rules.specs.Rules.{rules_of}
 use Rattle.pt_desk_rules.specs.State.{State}
 use Rattle.pt_desk_rules.specs.Step.{arrival_in, sent_with, told_of, left_of, IsOutcomeBy, IsOutcomeAs}
@@ -21,7 +21,8 @@ use Rattle.pt_desk_rules.specs.declared.kept.Sent.{Sent}
 use Rattle.pt_desk_rules.specs.declared.change.Change.{Change}
 use Rattle.pt_desk_rules.specs.declared.deciding.Decision.{Decision}
 use Rattle.pt_desk_rules.specs.declared.deciding.Decision.TheVariants as decision
-use Rattle.pt_desk_rules.specs.declared.facts.WriteFacts.{WriteFacts}
+use Rattle.pt_desk_rules.specs.declared.facts.CancelFacts.{CancelFacts}
+use Rattle.pt_desk_rules.specs.declared.facts.WishFacts.{WishFacts}
 use Rattle.pt_desk_rules.specs.Answer.{Answer}
 use Rattle.pt_desk_rules.specs.Answer.TheVariants.{Done, Entered, Booked}
 use Rattle.pt_desk_rules.specs.Read.{Read}
@@ -42,16 +43,16 @@ abbrev pub IsOfWrite : Decision → Type 0
 IsOfWrite (decision.Denied first) = Unit {0}
 IsOfWrite (decision.Accepted told change) = is_of_write told ≡ true
 
-booking_is : (change : Trip → Plan → Change) (number : ℕ) (left_out : Option ℕ) (today : ℕ) (wish : Wish) (facts : WriteFacts) (decided : Decision)
+booking_is : (change : Trip → Plan → Change) (number : ℕ) (left_out : Option ℕ) (today : ℕ) (wish : Wish) (facts : WishFacts) (decided : Decision)
     → IsBooking change number left_out today wish facts decided → IsOfWrite decided
 booking_is change number left_out today wish facts decided (scheduled.Denied rule, by, is) = subst IsOfWrite (sym is) tt
 booking_is change number left_out today wish facts decided (scheduled.Booked trip plan, by, (told, confirms, is)) = subst IsOfWrite (sym is) refl
 
-change_is : (found : Option Trip) (wish : Wish) (today : ℕ) (facts : WriteFacts) (decided : Decision) → IsChangeDecided found wish today facts decided → IsOfWrite decided
+change_is : (found : Option Trip) (wish : Wish) (today : ℕ) (facts : WishFacts) (decided : Decision) → IsChangeDecided found wish today facts decided → IsOfWrite decided
 change_is None wish today facts decided changes = absurd changes
 change_is (Some old) wish today facts decided changes = booking_is (changed old facts.booking.plan) old.id (Some old.id) today wish facts decided changes
 
-cancel_is : (found : Option Trip) (facts : WriteFacts) (decided : Decision) → IsCancelDecided found facts decided → IsOfWrite decided
+cancel_is : (found : Option Trip) (facts : CancelFacts) (decided : Decision) → IsCancelDecided found facts decided → IsOfWrite decided
 cancel_is None facts decided cancels = absurd cancels
 cancel_is (Some trip) facts decided is = subst IsOfWrite (sym is) refl
 
@@ -59,11 +60,11 @@ end_is : (found : Option Trip) (outcome : Outcome) (decided : Decision) → IsEn
 end_is None outcome decided ends = absurd ends
 end_is (Some trip) outcome decided is = subst IsOfWrite (sym is) refl
 
-decided_is : (asked : Write) (author today : ℕ) (facts : WriteFacts) (decided : Decision) → IsDecidedBy asked author today facts decided → IsOfWrite decided
+decided_is : (asked : Write) (author today : ℕ) (facts : FactsOf asked) (decided : Decision) → IsDecidedBy asked author today facts decided → IsOfWrite decided
 decided_is (write.Book rider wish) author today facts decided is = booking_is booked (facts.booking.last_trip + 1) None today wish facts decided is
 decided_is (write.Change trip wish) author today facts decided is = change_is facts.booking.trip wish today facts decided is
-decided_is (write.Cancel trip) author today facts decided is = cancel_is facts.booking.trip facts decided is
-decided_is (write.Outcome trip outcome) author today facts decided is = end_is facts.booking.trip outcome decided is
+decided_is (write.Cancel trip) author today facts decided is = cancel_is facts.trip facts decided is
+decided_is (write.Outcome trip outcome) author today found decided is = end_is found outcome decided is
 decided_is _ author today facts decided is = subst IsOfWrite (sym is) refl
 
 -- the kept request does not change the answer
@@ -71,7 +72,7 @@ kept_is : (me : ℕ) (sent : Sent) (made : Decision) → IsOfWrite made → IsOf
 kept_is me sent (decision.Denied first) is = tt
 kept_is me sent (decision.Accepted told change) is = is
 
-pub decision_is : (first : Option Rule) (asked : Write) (me : Caller) (now : Moment) (sent : Sent) (facts : WriteFacts) (decided : Decision)
+pub decision_is : (first : Option Rule) (asked : Write) (me : Caller) (now : Moment) (sent : Sent) (facts : FactsOf asked) (decided : Decision)
     → IsDecisionAfter first asked me now sent facts decided → IsOfWrite decided
 decision_is (Some first) asked me now sent facts decided is = subst IsOfWrite (sym is) tt
 decision_is None asked me now sent facts decided (made, is, keeps) =

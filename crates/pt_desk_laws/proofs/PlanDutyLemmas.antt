@@ -42,7 +42,7 @@ use Rattle.pt_desk_rules.proofs.RangeLemmas.{Each-more, each-put, trip_days}
 use Rattle.pt_desk_laws.specs.Laws.{PlansMadeAreOnDuty, PlansStayOnDuty}
 use Rattle.pt_desk_laws.specs.Numbers.{AreCalls, Call}
 use Rattle.pt_desk_laws.proofs.FitLemmas.{booked_on_duty, left_on_duty, vehicle_duties}
-use Rattle.pt_desk_laws.proofs.SoundLemmas.{all_hold, cancel_trip, change_trip, not_true, on_day, request_sound, AllHold}
+use Rattle.pt_desk_laws.proofs.SoundLemmas.{all_hold, change_trip, not_true, on_day, request_sound, AllHold}
 
 -- the plans of the state after a decision are of vehicles on duty
 abbrev DutyAfter : Decision → State → Type 0
@@ -129,8 +129,7 @@ decided_duty (write.Change trip wish) me now s made sound duties hold is asked =
     (subst (λ f. IsChangeDecided f wish now.day (facts_of (write.Change trip wish) s) made)
     (change_trip (trip_of trip s) wish s) is)
 decided_duty (write.Cancel trip) me now s made sound duties hold is asked =
-    cancel_duty (trip_of trip s) trip s made sound duties refl
-    (subst (λ f. IsCancelDecided f (facts_of (write.Cancel trip) s) made) (cancel_trip (trip_of trip s) s) is)
+    cancel_duty (trip_of trip s) trip s made sound duties refl is
 decided_duty (write.Outcome trip outcome) me now s made sound duties hold is asked =
     outcome_duty outcome (trip_of trip s) s made duties is
 

@@ -22,7 +22,8 @@ use Rattle.pt_desk_rules.specs.Step.{sent_with, IsOutcomeAs, IsOutcomeBy}
 use Rattle.pt_desk_rules.specs.declared.change.Change.{Change}
 use Rattle.pt_desk_rules.specs.declared.deciding.Decision.{Decision}
 use Rattle.pt_desk_rules.specs.declared.deciding.Decision.TheVariants as decision
-use Rattle.pt_desk_rules.specs.declared.facts.WriteFacts.{WriteFacts}
+use Rattle.pt_desk_rules.specs.declared.facts.CancelFacts.{CancelFacts}
+use Rattle.pt_desk_rules.specs.declared.facts.WishFacts.{WishFacts}
 use Rattle.pt_desk_rules.specs.declared.kept.Arrival.TheVariants.{New}
 use Rattle.pt_desk_rules.specs.declared.kept.Sent.{Sent}
 use Rattle.pt_desk_laws.proofs.DutyLemmas.{has_routes}
@@ -38,7 +39,7 @@ use Rattle.pt_desk_rules.specs.Step.{told_of}
 use Rattle.pt_desk_laws.proofs.OutcomeLemmas.{is_of_write, IsOfWrite}
 use Rattle.pt_desk_laws.proofs.OneLemmas.{denied_first}
 
-cancel_is_accepted : (found : Option Trip) (facts : WriteFacts) (rule : Rule) (d : Decision)
+cancel_is_accepted : (found : Option Trip) (facts : CancelFacts) (rule : Rule) (d : Decision)
     → d ≡ decision.Denied rule → IsCancelDecided found facts d → ⊥
 cancel_is_accepted None facts rule d denied is = is
 cancel_is_accepted (Some trip) facts rule d denied is = absurd (cc)
@@ -54,7 +55,7 @@ told_denied rule (decision.Denied first) of is = cc
 told_denied rule (decision.Accepted told change) of is = absurd (let same = ap is_of_write is ∙ of in cc)
 
 first_of_booking : (change : Trip → Plan → Change) (number : ℕ) (left_out : Option ℕ) (today : ℕ) (wish : Wish)
-    (facts : WriteFacts) (rule : Rule) (decided : Decision) → AreRoutes number (routes_for number wish facts)
+    (facts : WishFacts) (rule : Rule) (decided : Decision) → AreRoutes number (routes_for number wish facts)
     → decided ≡ decision.Denied rule → IsBooking change number left_out today wish facts decided
     → IsFirstOfBooking facts number left_out today wish rule
 first_of_booking change number left_out today wish facts rule decided routes denied
@@ -96,10 +97,9 @@ first_of_trip (write.Change trip wish) author today s rule decided routes denied
     (subst (λ f. IsChangeDecided f wish today facts decided) (change_trip found wish s) is)
 first_of_trip (write.Cancel trip) author today s rule decided routes denied is =
     let facts = facts_of (write.Cancel trip) s in
-    cancel_is_accepted facts.booking.trip facts rule decided denied is
+    cancel_is_accepted facts.trip facts rule decided denied is
 first_of_trip (write.Outcome trip outcome) author today s rule decided routes denied is =
-    let facts = facts_of (write.Outcome trip outcome) s in
-    end_is_accepted facts.booking.trip outcome rule decided denied is
+    end_is_accepted (trip_of trip s) outcome rule decided denied is
 first_of_trip _ author today s rule decided routes denied is = absurd (cc)
 
 -- the kept request does not turn a decision into a denial

@@ -614,14 +614,10 @@ outcome_sound outcome None id s decided sound puts found booked ends = absurd en
 outcome_sound outcome (Some trip) id s decided sound puts found booked is =
     accepted_sound s decided _ _ sound is puts (λ ranges. end_sound outcome id trip s sound found booked ranges)
 
--- the facts of a change and of a cancellation have the trip, if it exists
+-- the facts of a change have the trip, if it exists
 pub change_trip : (found : Option Trip) (wish : Wish) (s : State) → (change_facts found wish s).booking.trip ≡ found
 change_trip None wish s = refl
 change_trip (Some trip) wish s = refl
-
-pub cancel_trip : (found : Option Trip) (s : State) → (cancel_facts found s).booking.trip ≡ found
-cancel_trip None s = refl
-cancel_trip (Some trip) s = refl
 
 -- an accepted write leaves a sound state
 decided_sound : (asked : Write) (me : Caller) (now : Moment) (s : State) (made : Decision) → IsSound s → IsIn caller_key s.callers me.id → AllHold (rules_of asked me now (facts_of asked s))
@@ -652,8 +648,7 @@ decided_sound (write.Change trip wish) me now s made sound there hold is asked p
     change_trip_sound now.day (trip_of trip s) trip wish s made sound asked.1.day puts refl
     (subst (λ f. IsChangeDecided f wish now.day (facts_of (write.Change trip wish) s) made) (change_trip (trip_of trip s) wish s) is)
 decided_sound (write.Cancel trip) me now s made sound there hold is asked puts =
-    cancel_sound (trip_of trip s) trip s made sound puts refl
-    (subst (λ f. IsCancelDecided f (facts_of (write.Cancel trip) s) made) (cancel_trip (trip_of trip s) s) is)
+    cancel_sound (trip_of trip s) trip s made sound puts refl is
 decided_sound (write.Outcome trip outcome) me now s made sound there hold is asked puts =
     outcome_sound outcome (trip_of trip s) trip s made sound puts refl hold.1.1.0 is
 

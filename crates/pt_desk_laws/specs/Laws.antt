@@ -8,13 +8,13 @@ use Rattle.pt_booking.specs.Request.{Request as TripRequest}
 use Rattle.pt_booking.specs.Rules.{IsFirstFailing}
 use Rattle.pt_desk_rules.specs.FailingRules.{first_failing}
 use Rattle.pt_desk_rules.specs.Booking.{routes_for, rows_of, AreTimes, IsRequestBy}
-use Rattle.pt_desk_rules.specs.Facts.{facts_of}
+use Rattle.pt_desk_rules.specs.Facts.{facts_of, FactsOf}
 use Rattle.pt_desk_rules.specs.Rules.{rules_of}
 use Rattle.pt_desk_rules.specs.Sound.{IsSound}
 use Rattle.pt_desk_rules.specs.State.{State}
 use Rattle.pt_desk_rules.specs.Step.{arrival_in, sender, state_after, IsOutcome}
 use Rattle.pt_desk_rules.specs.Tours.{PlansAreOnDuty}
-use Rattle.pt_desk_rules.specs.declared.facts.WriteFacts.{WriteFacts}
+use Rattle.pt_desk_rules.specs.declared.facts.WishFacts.{WishFacts}
 use Rattle.pt_desk_rules.specs.declared.kept.Arrival.TheVariants.{New}
 use Rattle.pt_desk_rules.specs.Caller.{Caller}
 use Rattle.pt_desk_rules.specs.Answer.{Answer}
@@ -43,7 +43,7 @@ PlansMadeAreOnDuty = (s after : State) (calls : List Call) → IsSound s → s.p
     PlansAreOnDuty after
 
 -- this is the first rule of a booking to fail, for a wish under this number and by the driving times of its day
-pub record IsFirstOfBooking (facts : WriteFacts) (number : ℕ) (left_out : Option ℕ) (today : ℕ) (wish : Wish)
+pub record IsFirstOfBooking (facts : WishFacts) (number : ℕ) (left_out : Option ℕ) (today : ℕ) (wish : Wish)
     (rule : Rule) : Type 0 where
   pub request : TripRequest
   pub of_wish : IsRequestBy facts number left_out today wish request
@@ -52,7 +52,7 @@ pub record IsFirstOfBooking (facts : WriteFacts) (number : ℕ) (left_out : Opti
   pub first : IsFirstFailing (booking_rules minutes (routes_for number wish facts) request) (Some rule)
 
 -- the same for the trip that a write asks for, if it asks for one
-abbrev pub IsFirstOfTrip : Write → ℕ → WriteFacts → Rule → Type 0
+abbrev pub IsFirstOfTrip : (asked : Write) → ℕ → FactsOf asked → Rule → Type 0
 IsFirstOfTrip (write.Book rider wish) today facts rule =
     IsFirstOfBooking facts (facts.booking.last_trip + 1) None today wish rule
 IsFirstOfTrip (write.Change trip wish) today facts rule = IsFirstOfBooking facts trip (Some trip) today wish rule

@@ -42,7 +42,7 @@ use Rattle.pt_desk_rules.specs.Rules.{explain_rules}
 use Rattle.pt_desk_rules.specs.Trips.{has_ends}
 use Rattle.pt_desk_reads.specs.declared.explaining.Inquiry.{Inquiry}
 use Rattle.pt_desk_reads.specs.declared.explaining.Inquiry.TheVariants as inquiry
-use Rattle.pt_desk_rules.specs.declared.facts.WriteFacts.{WriteFacts}
+use Rattle.pt_desk_rules.specs.declared.facts.WishFacts.{WishFacts}
 use Rattle.pt_requests.specs.declared.caller.Caller.{Caller}
 use Rattle.pt_requests.specs.declared.request.Answer.{Answer}
 use Rattle.pt_requests.specs.declared.request.Answer.TheVariants as answer
@@ -79,7 +79,7 @@ limits_first true true false first is = λ same. absurd (let both = is in let on
 limits_first true true true first is = absurd (cc)
 
 -- a wish that a rule denies before the trip's own
-pub limited : (wish : Wish) (me : Caller) (now : Moment) (facts : WriteFacts) (first : Rule)
+pub limited : (wish : Wish) (me : Caller) (now : Moment) (facts : WishFacts) (first : Rule)
     → first_failing (explain_rules wish me facts) ≡ Some first → IsInquiry wish me now facts (inquiry.Denied first)
 limited wish me now facts first is = (
   subst (λ o. IsExplainedAfter o wish now.day facts (answer.Denied first)) (sym is) refl,
@@ -87,13 +87,13 @@ limited wish me now facts first is = (
       (nat_lt facts.booking.last_trip last_trip_number) first is,
 )
 
-pub explained : (wish : Wish) (me : Caller) (now : Moment) (facts : WriteFacts) (told : Answer) (found : Option Rule)
+pub explained : (wish : Wish) (me : Caller) (now : Moment) (facts : WishFacts) (told : Answer) (found : Option Rule)
     → first_failing (explain_rules wish me facts) ≡ found → IsExplainedAfter found wish now.day facts told
     → IsExplained wish me now facts told
 explained wish me now facts told found is after =
     subst (λ o. IsExplainedAfter o wish now.day facts told) (sym is) after
 
-pub inquired : (wish : Wish) (me : Caller) (now : Moment) (facts : WriteFacts) (found : Inquiry)
+pub inquired : (wish : Wish) (me : Caller) (now : Moment) (facts : WishFacts) (found : Inquiry)
     → first_failing (explain_rules wish me facts) ≡ None → IsInquiryAfter wish now.day facts found
     → IsInquiry wish me now facts found
 inquired wish me now facts (inquiry.Facts found) none is = (none, is)
@@ -101,26 +101,26 @@ inquired wish me now facts (inquiry.Denied first) none is =
     (explained wish me now facts (answer.Denied first) None none is.0, is.1)
 
 -- the result of a wish gives its answer
-pub told_of : (number : ℕ) (wish : Wish) (today : ℕ) (facts : WriteFacts) (found : Scheduled) (told : Answer)
+pub told_of : (number : ℕ) (wish : Wish) (today : ℕ) (facts : WishFacts) (found : Scheduled) (told : Answer)
     → number ≡ next_trip facts → IsAnswered number None today wish facts found → IsToldPossible found told
     → IsExplainedAfter None wish today facts told
 told_of number wish today facts found told same answered tells =
     (found, subst (λ (n : ℕ). IsAnswered n None today wish facts found) same answered, tells)
 
 -- the facts make the request of the next number
-pub of_next : (number : ℕ) (wish : Wish) (today : ℕ) (facts : WriteFacts) (request : Request)
+pub of_next : (number : ℕ) (wish : Wish) (today : ℕ) (facts : WishFacts) (request : Request)
     → number ≡ next_trip facts → IsRequestBy facts number None today wish request
     → IsRequestBy facts (next_trip facts) None today wish request
 of_next number wish today facts request same by =
     subst (λ (n : ℕ). IsRequestBy facts n None today wish request) same by
 
 -- the rule that comes last: some vehicle can take the trip
-abbrev vehicles_rule : Wish → WriteFacts → Request → (ℕ → ℕ → Option ℕ) → List (Rule × Type 0)
+abbrev vehicles_rule : Wish → WishFacts → Request → (ℕ → ℕ → Option ℕ) → List (Rule × Type 0)
 vehicles_rule wish facts request minutes =
     (rule.NoVehicle, SomeVehicleCan minutes (routes_for (next_trip facts) wish facts) (asked_for minutes request)) ∷ []
 
 -- a rider's rule denies the wish
-pub rider_denied : (wish : Wish) (today : ℕ) (facts : WriteFacts) (request : Request) (rows : List Row)
+pub rider_denied : (wish : Wish) (today : ℕ) (facts : WishFacts) (request : Request) (rows : List Row)
     (minutes : ℕ → ℕ → Option ℕ) (first : Rule) → IsRequestBy facts (next_trip facts) None today wish request
     → rows ≡ rows_of facts.booking.day.travel → AreTimes rows minutes
     → IsFirstFailing (riders_rules request) (Some first)
@@ -143,7 +143,7 @@ rider_denied wish today facts request rows minutes first by same times fails = (
 )
 
 -- if the vehicles have no routes, the answer is `no vehicle`
-pub no_routes_denied : (number : ℕ) (wish : Wish) (today : ℕ) (facts : WriteFacts) (request : Request) (rows : List Row)
+pub no_routes_denied : (number : ℕ) (wish : Wish) (today : ℕ) (facts : WishFacts) (request : Request) (rows : List Row)
     (minutes : ℕ → ℕ → Option ℕ) → number ≡ next_trip facts
     → IsRequestBy facts (next_trip facts) None today wish request → rows ≡ rows_of facts.booking.day.travel
     → AreTimes rows minutes → ¬ AreRoutes number (routes_for number wish facts)
@@ -171,7 +171,7 @@ no_routes_denied number wish today facts request rows minutes same by is times n
     )
 
 -- the facts of a refusal
-pub facts_of_refusal : (number : ℕ) (wish : Wish) (today : ℕ) (facts : WriteFacts) (request : Request) (found : Refusal)
+pub facts_of_refusal : (number : ℕ) (wish : Wish) (today : ℕ) (facts : WishFacts) (request : Request) (found : Refusal)
     (minutes : ℕ → ℕ → Option ℕ) → number ≡ next_trip facts
     → IsRequestBy facts (next_trip facts) None today wish request → IsFirstFailing (riders_rules request) None
     → found.vehicles ≡ routes_for number wish facts → found.rows ≡ rows_of facts.booking.day.travel
@@ -187,7 +187,7 @@ facts_of_refusal number wish today facts request found minutes same by rules veh
 }
 
 -- vehicles without routes, and with a stop of the trip
-pub no_routes : (trip : ℕ) (wish : Wish) (facts : WriteFacts) (vehicles : List Vehicle)
+pub no_routes : (trip : ℕ) (wish : Wish) (facts : WishFacts) (vehicles : List Vehicle)
     (found : Option (Vec DayRoute Global)) → vehicles ≡ fleet.on_duty wish.day facts.vehicles → found ≡ None
     → IfNone found (¬ All (λ duty. IsRoute duty.stops) (routes_without trip wish.day facts.booking.day.trips
     facts.booking.day.plans vehicles)) → ¬ AreRoutes trip (routes_for trip wish facts)
@@ -196,7 +196,7 @@ no_routes trip wish facts vehicles None same is none = λ are.
     facts.booking.day.trips facts.booking.day.plans v)) (sym same) are.routes)
 no_routes trip wish facts vehicles (Some routes) same is none = absurd (cc)
 
-pub same_routes : (trip : ℕ) (wish : Wish) (facts : WriteFacts) (vehicles : List Vehicle)
+pub same_routes : (trip : ℕ) (wish : Wish) (facts : WishFacts) (vehicles : List Vehicle)
     (found : Option (Vec DayRoute Global)) (routes : Vec DayRoute Global)
     → vehicles ≡ fleet.on_duty wish.day facts.vehicles → found ≡ Some routes
     → IfSome found (λ those. map day_route those.items ≡ routes_without trip wish.day facts.booking.day.trips
@@ -244,24 +244,24 @@ duties_without trip vehicles there (Ok duties) are same lends =
 duties_without trip vehicles there (Err e) are same lends = tt
 
 -- what was found of the routes
-pub routes_found : (facts : WriteFacts) (trip : ℕ) (wish : Wish) (found : Option (Vec DayRoute Global))
+pub routes_found : (facts : WishFacts) (trip : ℕ) (wish : Wish) (found : Option (Vec DayRoute Global))
     (routes : Vec DayRoute Global) → found ≡ Some routes → AreRoutesOf facts trip wish found
     → (map day_route routes.items ≡ routes_for trip wish facts) × AreWithout trip (map day_route routes.items)
 routes_found facts trip wish found routes is are = subst (λ o. AreRoutesOf facts trip wish o) is are
 
-pub none_found : (facts : WriteFacts) (trip : ℕ) (wish : Wish) (found : Option (Vec DayRoute Global)) → found ≡ None
+pub none_found : (facts : WishFacts) (trip : ℕ) (wish : Wish) (found : Option (Vec DayRoute Global)) → found ≡ None
     → AreRoutesOf facts trip wish found → ¬ AreRoutes trip (routes_for trip wish facts)
 none_found facts trip wish found is are = subst (λ o. AreRoutesOf facts trip wish o) is are
 
 -- the result of the whole question
-pub inquired_by : {E : Type 0} (wish : Wish) (me : Caller) (now : Moment) (facts : WriteFacts) (r : Result Inquiry E)
+pub inquired_by : {E : Type 0} (wish : Wish) (me : Caller) (now : Moment) (facts : WishFacts) (r : Result Inquiry E)
     → first_failing (explain_rules wish me facts) ≡ None → IfOk r (λ found. IsInquiryAfter wish now.day facts found)
     → IfOk r (λ found. IsInquiry wish me now facts found)
 inquired_by wish me now facts (Ok found) none is = inquired wish me now facts found none is
 inquired_by wish me now facts (Err e) none is = tt
 
 -- a test that fails under these conditions
-pub never_lent : (trip : ℕ) (wish : Wish) (facts : WriteFacts) (routes : List OnDuty) (duties : List Duty)
+pub never_lent : (trip : ℕ) (wish : Wish) (facts : WishFacts) (routes : List OnDuty) (duties : List Duty)
     → on_duty duties ≡ routes → routes ≡ routes_for trip wish facts
     → ¬ (AllPairs (λ first second. first.vehicle.now.id < second.vehicle.now.id) duties
     × All (λ duty. IsWithout trip (stops_of duty.route.now)) duties) → ¬ AreRoutes trip (routes_for trip wish facts)

@@ -12,7 +12,7 @@ ghost use Rattle.pt_desk_rules.specs.Rules.{explain_rules};
 use pt_base::{Day, Moment, Rule, TripId, Wish};
 use pt_booking::{asked_for, riders_denial};
 use pt_desk_rules::{
-    Asking, TravelTable, WriteFacts, answer_wish, is_dispatcher, new_trip, on_duty, uses_of,
+    Asking, TravelTable, WishFacts, answer_wish, is_dispatcher, new_trip, on_duty, uses_of,
 };
 use pt_insertion::{Asked, Duty};
 use pt_requests::{Answer, Caller};
@@ -87,7 +87,7 @@ pub enum Inquiry {
 
 /// What a dispatcher asks of a new trip, and its number; otherwise the first rule that denies the question before the
 /// rules of the trip itself.
-fn trip_to_explain(facts: &WriteFacts, me: &Caller, wish: &Wish) -> Result<(Asking, TripId), Rule>
+fn trip_to_explain(facts: &WishFacts, me: &Caller, wish: &Wish) -> Result<(Asking, TripId), Rule>
     ensures denied { IfErr result (λ rule. first_failing (explain_rules wish.now me.now facts.now) ≡ Some rule) }
     ensures allowed { IfOk result (λ found. first_failing (explain_rules wish.now me.now facts.now) ≡ None) }
     ensures asking { IfOk result (λ found. IsAsking wish.now facts.now found.0) }
@@ -113,7 +113,7 @@ fn told_of(found: &Scheduled) -> Answer
 /// memory.
 pub fn explain(
     alloc: Global,
-    facts: &WriteFacts,
+    facts: &WishFacts,
     me: &Caller,
     now: Moment,
     wish: &Wish,
@@ -130,7 +130,7 @@ pub fn explain(
 }
 
 /// The driving times that the facts give.
-fn table_of(alloc: Global, facts: &WriteFacts, day: Day) -> Result<TravelTable, AllocError>
+fn table_of(alloc: Global, facts: &WishFacts, day: Day) -> Result<TravelTable, AllocError>
     ensures { IfOk result (λ table. table.rows ≡ rows_of facts.now.booking.day.travel) }
 {
     match &facts.booking.day.travel {
@@ -143,7 +143,7 @@ fn table_of(alloc: Global, facts: &WriteFacts, day: Day) -> Result<TravelTable, 
 /// route.
 fn routes_of(
     alloc: Global,
-    facts: &WriteFacts,
+    facts: &WishFacts,
     trip: TripId,
     wish: &Wish,
 ) -> Result<Option<Vec<DayRoute>>, AllocError>
@@ -167,7 +167,7 @@ fn routes_of(
 /// The facts of a refusal of a wish under this number, or the first rule of the rider that denies it.
 fn inquire(
     alloc: Global,
-    facts: &WriteFacts,
+    facts: &WishFacts,
     asking: &Asking,
     trip: TripId,
     today: Day,
@@ -198,7 +198,7 @@ fn inquire(
 /// vehicle is looked at. The error is out of memory.
 pub fn refusal_facts(
     alloc: Global,
-    facts: &WriteFacts,
+    facts: &WishFacts,
     me: &Caller,
     now: Moment,
     wish: &Wish,

@@ -21,7 +21,7 @@ use Rattle.pt_desk_rules.specs.Trips.{moves_to, IsConfirmation}
 use Rattle.pt_desk_rules.specs.declared.change.Change.{Change}
 use Rattle.pt_desk_rules.specs.declared.deciding.Decision.{Decision}
 use Rattle.pt_desk_rules.specs.declared.deciding.Decision.TheVariants.{Denied, Accepted}
-use Rattle.pt_desk_rules.specs.declared.facts.WriteFacts.{WriteFacts}
+use Rattle.pt_desk_rules.specs.declared.facts.WishFacts.{WishFacts}
 use Rattle.pt_requests.specs.declared.request.Answer.TheVariants as answer
 use Rattle.pt_requests.specs.declared.request.Confirmation.{Confirmation}
 
@@ -36,14 +36,14 @@ scheduled_by minutes rows vehicles request r times holds =
     if_ok (λ s. IsScheduled minutes vehicles request s) (λ s. IsScheduledBy rows vehicles request s) (λ s planned. (minutes, times, planned)) r holds
 
 -- of the request that the facts make
-pub answered : {E : Type 0} (number : ℕ) (left_out : Option ℕ) (today : ℕ) (wish : Wish) (facts : WriteFacts) (request : Request) (r : Result Scheduled E)
+pub answered : {E : Type 0} (number : ℕ) (left_out : Option ℕ) (today : ℕ) (wish : Wish) (facts : WishFacts) (request : Request) (r : Result Scheduled E)
     → IsRequestBy facts number left_out today wish request
     → IfOk r (λ s. IsScheduledBy (rows_of facts.booking.day.travel) (routes_for number wish facts) request s) → IfOk r (λ s. IsAnswered number left_out today wish facts s)
 answered number left_out today wish facts request r asked holds =
     if_ok (λ s. IsScheduledBy (rows_of facts.booking.day.travel) (routes_for number wish facts) request s) (λ s. IsAnswered number left_out today wish facts s) (λ s by. (request, asked, by)) r holds
 
 -- and of vehicles on duty
-pub answered_of : {E : Type 0} (number : ℕ) (left_out : Option ℕ) (today : ℕ) (wish : Wish) (facts : WriteFacts)
+pub answered_of : {E : Type 0} (number : ℕ) (left_out : Option ℕ) (today : ℕ) (wish : Wish) (facts : WishFacts)
     (request : Request) (vehicles : List Vehicle) (r : Result Scheduled E)
     → vehicles ≡ on_duty wish.day facts.vehicles → IsRequestBy facts number left_out today wish request
     → IfOk r (λ s. IsScheduledBy (rows_of facts.booking.day.travel) (routes_without request.trip request.wish.day
@@ -61,14 +61,14 @@ answered_of number left_out today wish facts request vehicles r same by holds =
     request s)) by.trip holds)))
 
 -- a wish that is denied is decided by the denial
-pub denied : (change : Trip → Plan → Change) (number given : ℕ) (left_out : Option ℕ) (today : ℕ) (wish : Wish) (facts : WriteFacts) (found : Scheduled) (rule : Rule)
+pub denied : (change : Trip → Plan → Change) (number given : ℕ) (left_out : Option ℕ) (today : ℕ) (wish : Wish) (facts : WishFacts) (found : Scheduled) (rule : Rule)
     → given ≡ number → found ≡ scheduled.Denied rule → IsAnswered given left_out today wish facts found → IsBooking change number left_out today wish facts (Denied rule)
 denied change number given left_out today wish facts found rule same is by =
     (scheduled.Denied rule, subst (λ (n : ℕ). IsAnswered n left_out today wish facts (scheduled.Denied rule)) same (subst (λ s. IsAnswered given left_out today wish facts s) is by), refl)
 
 -- a wish that is booked is decided by the confirmation
 pub confirmed : (change : Trip → Plan → Change) (number given : ℕ) (left_out : Option ℕ) (today : ℕ) (wish : Wish)
-    (facts : WriteFacts) (found : Scheduled) (trip : Trip) (plan : Plan) (made : Change) (decided : Decision)
+    (facts : WishFacts) (found : Scheduled) (trip : Trip) (plan : Plan) (made : Change) (decided : Decision)
     → given ≡ number → found ≡ scheduled.Booked trip plan → IsAnswered given left_out today wish facts found
     → (told : Confirmation) × IsConfirmation trip told × (decided ≡ Accepted (answer.Booked told) made)
     → made ≡ change trip plan → IsBooking change number left_out today wish facts decided
@@ -79,7 +79,7 @@ confirmed change number given left_out today wish facts found trip plan made dec
 )
 
 -- the change of a trip that exists
-pub of_trip : (found : Option Trip) (old : Trip) (today : ℕ) (wish : Wish) (facts : WriteFacts) (decided : Decision) → found ≡ Some old
+pub of_trip : (found : Option Trip) (old : Trip) (today : ℕ) (wish : Wish) (facts : WishFacts) (decided : Decision) → found ≡ Some old
     → IsBooking (changed old facts.booking.plan) old.id (Some old.id) today wish facts decided → IsChangeDecided found wish today facts decided
 of_trip found old today wish facts decided is booking = subst (λ f. IsChangeDecided f wish today facts decided) (sym is) booking
 

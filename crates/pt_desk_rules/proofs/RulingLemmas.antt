@@ -13,23 +13,24 @@ use Rattle.pt_desk_rules.specs.Booking.{IsBooking}
 use Rattle.pt_desk_rules.specs.Deciding.{booked, changed, with_kept, IsDecidedBy, IsDecisionAfter}
 use Rattle.pt_desk_rules.specs.Deciding.{IsRuling, IsRulingAfter}
 use Rattle.pt_desk_rules.specs.Explaining.{next_trip}
+use Rattle.pt_desk_rules.specs.Facts.{FactsOf}
 use Rattle.pt_desk_rules.specs.Permission.{may_alter, may_book}
 use Rattle.pt_desk_rules.specs.Rules.{wish_rules}
 use Rattle.pt_desk_rules.specs.Trips.{has_ends, is_changeable}
 use Rattle.pt_desk_rules.specs.declared.deciding.Decision.{Decision}
 use Rattle.pt_desk_rules.specs.declared.deciding.Decision.TheVariants.{Denied}
-use Rattle.pt_desk_rules.specs.declared.facts.WriteFacts.{WriteFacts}
+use Rattle.pt_desk_rules.specs.declared.facts.WishFacts.{WishFacts}
 use Rattle.pt_desk_rules.specs.declared.kept.Sent.{Sent}
 use Rattle.pt_desk_rules.proofs.BookingLemmas.{of_trip}
 
 -- the first rule that fails
-pub denied_by : (first : Option Rule) (asked : Write) (author today : ℕ) (facts : WriteFacts) (rule : Rule)
+pub denied_by : (first : Option Rule) (asked : Write) (author today : ℕ) (facts : FactsOf asked) (rule : Rule)
     → first ≡ Some rule → IsRulingAfter first asked author today facts (Denied rule)
 denied_by first asked author today facts rule is =
     subst (λ f. IsRulingAfter f asked author today facts (Denied rule)) (sym is) refl
 
 -- no rule fails
-pub decided_by : (first : Option Rule) (asked : Write) (author today : ℕ) (facts : WriteFacts) (decided : Decision)
+pub decided_by : (first : Option Rule) (asked : Write) (author today : ℕ) (facts : FactsOf asked) (decided : Decision)
     → first ≡ None → IsDecidedBy asked author today facts decided
     → IsRulingAfter first asked author today facts decided
 decided_by first asked author today facts decided none is =
@@ -37,7 +38,7 @@ decided_by first asked author today facts decided none is =
 
 -- the kept request of an accepted write
 pub with_its_kept : (first : Option Rule) (asked : Write) (me : Caller) (now : Moment) (sent : Sent)
-    (facts : WriteFacts) (made decided : Decision) → IsRulingAfter first asked me.id now.day facts made
+    (facts : FactsOf asked) (made decided : Decision) → IsRulingAfter first asked me.id now.day facts made
     → decided ≡ with_kept me.id sent made → IsDecisionAfter first asked me now sent facts decided
 with_its_kept (Some first) asked me now sent facts made decided ruled is =
     is ∙ ap (with_kept me.id sent) ruled
@@ -54,7 +55,7 @@ three_hold : (p q r : Rule) (a b c : Bool) → a ≡ true → b ≡ true → c �
 three_hold p q r a b c is_a is_b is_c = rw (is_a, is_b, is_c) refl
 
 -- a booking by a caller who may book, with a number left
-pub booked_by : (rider number : ℕ) (wish : Wish) (me : Caller) (now : Moment) (facts : WriteFacts) (made : Decision)
+pub booked_by : (rider number : ℕ) (wish : Wish) (me : Caller) (now : Moment) (facts : WishFacts) (made : Decision)
     → may_book rider facts.rider me.role ≡ true → first_failing (wish_rules wish facts) ≡ None
     → number ≡ next_trip facts → IsBooking booked number None now.day wish facts made
     → IsRuling (write.Book rider wish) me now facts made
@@ -64,7 +65,7 @@ booked_by rider number wish me now facts made may none same is =
     (subst (λ (n : ℕ). IsBooking booked n None now.day wish facts made) same is)
 
 -- a change of a trip that exists and may be changed
-pub changed_by : (trip : ℕ) (old : Trip) (wish : Wish) (me : Caller) (now : Moment) (facts : WriteFacts)
+pub changed_by : (trip : ℕ) (old : Trip) (wish : Wish) (me : Caller) (now : Moment) (facts : WishFacts)
     (made : Decision) → may_alter facts.booking.trip facts.rider me.role ≡ true → facts.booking.trip ≡ Some old
     → (is_some facts.rider && has_ends wish facts.places) ≡ true → is_changeable now.day (Some old) ≡ true
     → IsBooking (changed old facts.booking.plan) old.id (Some old.id) now.day wish facts made

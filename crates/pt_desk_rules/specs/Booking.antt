@@ -21,13 +21,13 @@ use Rattle.pt_desk_rules.specs.declared.booking.Asking.{Asking}
 use Rattle.pt_desk_rules.specs.declared.change.Change.{Change}
 use Rattle.pt_desk_rules.specs.declared.deciding.Decision.{Decision}
 use Rattle.pt_desk_rules.specs.declared.deciding.Decision.TheVariants.{Denied, Accepted}
-use Rattle.pt_desk_rules.specs.declared.facts.WriteFacts.{WriteFacts}
+use Rattle.pt_desk_rules.specs.declared.facts.WishFacts.{WishFacts}
 use Rattle.pt_requests.specs.declared.request.Answer.TheVariants as answer
 use Rattle.pt_requests.specs.declared.request.Confirmation.{Confirmation}
 
 -- The request that the facts make of a wish, for a trip of this number. If it changes an old trip, that trip is left
 -- out of a visitor's days of use.
-pub record IsRequestBy (facts : WriteFacts) (number : ℕ) (left_out : Option ℕ) (today : ℕ) (wish : Wish)
+pub record IsRequestBy (facts : WishFacts) (number : ℕ) (left_out : Option ℕ) (today : ℕ) (wish : Wish)
     (request : Request) : Type 0 where
   pub trip : request.trip ≡ number
   pub rider : facts.rider ≡ Some request.rider
@@ -41,7 +41,7 @@ pub record IsRequestBy (facts : WriteFacts) (number : ℕ) (left_out : Option �
   pub wished : request.wish ≡ wish
 
 -- the rider and both places of a wish
-pub record IsAsking (wish : Wish) (facts : WriteFacts) (asking : Asking) : Type 0 where
+pub record IsAsking (wish : Wish) (facts : WishFacts) (asking : Asking) : Type 0 where
   pub rider : facts.rider ≡ Some asking.rider
   pub from : record_at place_key wish.from facts.places ≡ Some asking.from
   pub to : record_at place_key wish.to facts.places ≡ Some asking.to
@@ -56,7 +56,7 @@ abbrev pub AreTimes : List Row → (ℕ → ℕ → Option ℕ) → Type 0
 AreTimes rows minutes = (from to : ℕ) → IsTime rows from to (minutes from to)
 
 -- the vehicles on duty on the wish's day, with their stops except those of this trip
-abbrev pub routes_for : ℕ → Wish → WriteFacts → List OnDuty
+abbrev pub routes_for : ℕ → Wish → WishFacts → List OnDuty
 routes_for number wish facts =
     routes_without number wish.day facts.booking.day.trips facts.booking.day.plans (on_duty wish.day facts.vehicles)
 
@@ -81,12 +81,12 @@ IsScheduledBy rows vehicles request scheduled =
     (minutes : ℕ → ℕ → Option ℕ) × AreTimes rows minutes × IsScheduled minutes vehicles request scheduled
 
 -- the result of a wish for a trip of this number
-abbrev pub IsAnswered : ℕ → Option ℕ → ℕ → Wish → WriteFacts → Scheduled → Type 0
+abbrev pub IsAnswered : ℕ → Option ℕ → ℕ → Wish → WishFacts → Scheduled → Type 0
 IsAnswered number left_out today wish facts scheduled =
     (request : Request) × IsRequestBy facts number left_out today wish request
     × IsScheduledBy (rows_of facts.booking.day.travel) (routes_for number wish facts) request scheduled
 
 -- the decision on such a wish
-abbrev pub IsBooking : (Trip → Plan → Change) → ℕ → Option ℕ → ℕ → Wish → WriteFacts → Decision → Type 0
+abbrev pub IsBooking : (Trip → Plan → Change) → ℕ → Option ℕ → ℕ → Wish → WishFacts → Decision → Type 0
 IsBooking change number left_out today wish facts decided =
     (scheduled : Scheduled) × IsAnswered number left_out today wish facts scheduled × IsToldOf change scheduled decided

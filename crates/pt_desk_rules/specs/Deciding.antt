@@ -19,6 +19,7 @@ use Rattle.pt_scheduling.specs.Plan.{Plan}
 use Rattle.pt_scheduling.specs.Uses.{AreUses}
 use Rattle.pt_visitors.specs.Periods.{MayUse}
 use Rattle.pt_desk_rules.specs.Booking.{IsBooking}
+use Rattle.pt_desk_rules.specs.Facts.{FactsOf}
 use Rattle.pt_desk_rules.specs.Ranges.{PutsInRange}
 use Rattle.pt_desk_rules.specs.Fleet.{duty_of}
 use Rattle.pt_rights.specs.declared.tally.Outcome.{Outcome}
@@ -37,8 +38,9 @@ use Rattle.pt_spelling.specs.declared.replies.KeptReply.TheVariants as reply
 use Rattle.pt_desk_rules.specs.declared.change.Change.{Change}
 use Rattle.pt_desk_rules.specs.declared.deciding.Decision.{Decision}
 use Rattle.pt_desk_rules.specs.declared.deciding.Decision.TheVariants.{Denied, Accepted}
+use Rattle.pt_desk_rules.specs.declared.facts.CancelFacts.{CancelFacts}
 use Rattle.pt_desk_rules.specs.declared.facts.ReadFacts.{ReadFacts}
-use Rattle.pt_desk_rules.specs.declared.facts.WriteFacts.{WriteFacts}
+use Rattle.pt_desk_rules.specs.declared.facts.WishFacts.{WishFacts}
 use Rattle.pt_requests.specs.declared.request.Answer.{Answer}
 use Rattle.pt_requests.specs.declared.request.Answer.TheVariants as answer
 use Rattle.pt_requests.specs.declared.request.Read.{Read}
@@ -90,14 +92,14 @@ abbrev pub given_up : Trip → Option Plan → Change
 given_up trip left = record no_change { trips = puts_one (cancelled trip); planned = gives_up trip left }
 
 -- the change of a trip that exists: it is asked for anew under its number, as if it were not booked
-abbrev pub IsChangeDecided : Option Trip → Wish → ℕ → WriteFacts → Decision → Type 0
+abbrev pub IsChangeDecided : Option Trip → Wish → ℕ → WishFacts → Decision → Type 0
 IsChangeDecided None wish today facts decided = ⊥
 IsChangeDecided (Some trip) wish today facts decided =
     IsBooking (changed trip facts.booking.plan) trip.id (Some trip.id) today wish facts decided
 
-abbrev pub IsCancelDecided : Option Trip → WriteFacts → Decision → Type 0
+abbrev pub IsCancelDecided : Option Trip → CancelFacts → Decision → Type 0
 IsCancelDecided None facts decided = ⊥
-IsCancelDecided (Some trip) facts decided = decided ≡ Accepted answer.Done (given_up trip facts.booking.plan)
+IsCancelDecided (Some trip) facts decided = decided ≡ Accepted answer.Done (given_up trip facts.plan)
 
 -- the outcome of a trip that exists
 abbrev pub IsEndDecided : Option Trip → Outcome → Decision → Type 0
@@ -107,7 +109,7 @@ IsEndDecided (Some trip) outcome decided =
 
 -- The decision on a write by this author on the day today, if none of the write's own rules fails: its answer, and its
 -- change except the kept request. The rules of a trip that is asked for come after the write's own.
-abbrev pub IsDecidedBy : Write → ℕ → ℕ → WriteFacts → Decision → Type 0
+abbrev pub IsDecidedBy : (asked : Write) → ℕ → ℕ → FactsOf asked → Decision → Type 0
 IsDecidedBy (write.PutCaller new) author today facts decided =
     decided ≡ Accepted answer.Done (record no_change { callers = puts_one new })
 IsDecidedBy (write.PutPolicy new) author today facts decided =
@@ -136,27 +138,27 @@ IsDecidedBy (write.Book rider wish) author today facts decided =
     IsBooking booked (facts.booking.last_trip + 1) None today wish facts decided
 IsDecidedBy (write.Change trip wish) author today facts decided =
     IsChangeDecided facts.booking.trip wish today facts decided
-IsDecidedBy (write.Cancel trip) author today facts decided = IsCancelDecided facts.booking.trip facts decided
-IsDecidedBy (write.Outcome trip outcome) author today facts decided = IsEndDecided facts.booking.trip outcome decided
+IsDecidedBy (write.Cancel trip) author today facts decided = IsCancelDecided facts.trip facts decided
+IsDecidedBy (write.Outcome trip outcome) author today found decided = IsEndDecided found outcome decided
 
 -- the decision except its kept request, if this is the first of the write's own rules to fail, or none fails
-abbrev pub IsRulingAfter : Option Rule → Write → ℕ → ℕ → WriteFacts → Decision → Type 0
+abbrev pub IsRulingAfter : Option Rule → (asked : Write) → ℕ → ℕ → FactsOf asked → Decision → Type 0
 IsRulingAfter (Some first) asked author today facts decided = decided ≡ Denied first
 IsRulingAfter None asked author today facts decided = IsDecidedBy asked author today facts decided
 
 -- the decision on a write by this caller at this moment, except its kept request
-abbrev pub IsRuling : Write → Caller → Moment → WriteFacts → Decision → Type 0
+abbrev pub IsRuling : (asked : Write) → Caller → Moment → FactsOf asked → Decision → Type 0
 IsRuling asked me now facts decided =
     IsRulingAfter (first_failing (rules_of asked me now facts)) asked me.id now.day facts decided
 
 -- the decision, if this is the first of the write's own rules to fail, or none fails
-abbrev pub IsDecisionAfter : Option Rule → Write → Caller → Moment → Sent → WriteFacts → Decision → Type 0
+abbrev pub IsDecisionAfter : Option Rule → (asked : Write) → Caller → Moment → Sent → FactsOf asked → Decision → Type 0
 IsDecisionAfter (Some first) asked me now sent facts decided = decided ≡ Denied first
 IsDecisionAfter None asked me now sent facts decided =
     (made : Decision) × IsDecidedBy asked me.id now.day facts made × (decided ≡ with_kept me.id sent made)
 
 -- the decision on a write by this caller with a new number, at this moment
-abbrev pub IsDecision : Write → Caller → Moment → Sent → WriteFacts → Decision → Type 0
+abbrev pub IsDecision : (asked : Write) → Caller → Moment → Sent → FactsOf asked → Decision → Type 0
 IsDecision asked me now sent facts decided =
     IsDecisionAfter (first_failing (rules_of asked me now facts)) asked me now sent facts decided
 

@@ -1,5 +1,5 @@
 -- The facts that the rules read.
-use Rattle.std.specs.Prelude.{ℕ, Bool, true, false, List, [], length, Option, Some, None, is_some}
+use Rattle.std.specs.Prelude.{ℕ, Bool, true, List, [], length, Option, Some, None, is_some}
 use Rattle.pt_base.specs.declared.policy.Policy.{Policy}
 use Rattle.pt_base.specs.declared.rider.Residence.{Residence}
 use Rattle.pt_base.specs.declared.rider.Residence.TheVariants.{Resident, Visitor}
@@ -21,9 +21,17 @@ use Rattle.pt_requests.specs.declared.caller.Role.{Role}
 use Rattle.pt_requests.specs.declared.caller.Role.TheVariants as role
 use Rattle.pt_scheduling.specs.Plan.{Plan}
 use Rattle.pt_desk_rules.specs.declared.facts.BookingFacts.{BookingFacts}
+use Rattle.pt_desk_rules.specs.declared.facts.CallerFacts.{CallerFacts}
+use Rattle.pt_desk_rules.specs.declared.facts.CancelFacts.{CancelFacts}
 use Rattle.pt_desk_rules.specs.declared.facts.DayFacts.{DayFacts}
+use Rattle.pt_desk_rules.specs.declared.facts.EntryFacts.{EntryFacts}
+use Rattle.pt_desk_rules.specs.declared.facts.PlaceFacts.{PlaceFacts}
 use Rattle.pt_desk_rules.specs.declared.facts.ReadFacts.{ReadFacts}
-use Rattle.pt_desk_rules.specs.declared.facts.WriteFacts.{WriteFacts}
+use Rattle.pt_desk_rules.specs.declared.facts.RiderFacts.{RiderFacts}
+use Rattle.pt_desk_rules.specs.declared.facts.RouteFacts.{RouteFacts}
+use Rattle.pt_desk_rules.specs.declared.facts.TravelFacts.{TravelFacts}
+use Rattle.pt_desk_rules.specs.declared.facts.VehicleFacts.{VehicleFacts}
+use Rattle.pt_desk_rules.specs.declared.facts.WishFacts.{WishFacts}
 use Rattle.pt_requests.specs.declared.request.Read.{Read}
 use Rattle.pt_requests.specs.declared.request.Read.TheVariants as read
 use Rattle.pt_requests.specs.declared.request.Write.{Write}
@@ -45,25 +53,13 @@ day_of day s = record {
 }
 
 -- the policy alone
-abbrev pub no_facts : Policy → WriteFacts
+abbrev pub no_facts : Policy → WishFacts
 no_facts policy = record {
   policy = policy;
   rider = None;
-  rider_count = 0;
   file = [];
-  tallies = [];
-  caller = None;
-  holder = None;
-  caller_count = 0;
-  has_place = false;
-  place_count = 0;
-  has_route = false;
-  route_count = 0;
-  has_subject = false;
   places = [];
   vehicles = [];
-  tables_before = 0;
-  is_booked = false;
   booking = no_booking;
 }
 
@@ -74,7 +70,7 @@ has_subject (role.Driver vehicle) riders vehicles = has_version vehicle vehicles
 has_subject _ riders vehicles = true
 
 -- the facts that every booking reads
-abbrev pub agency_facts : State → WriteFacts
+abbrev pub agency_facts : State → WishFacts
 agency_facts s = record (no_facts s.policy) { places = s.places; vehicles = s.vehicles }
 
 -- the plan that has the stops of a trip, if there is one
@@ -103,7 +99,7 @@ booking_facts rider day old s = record {
   day = day_of day s;
 }
 
-abbrev pub wish_facts : ℕ → Wish → Option Trip → State → WriteFacts
+abbrev pub wish_facts : ℕ → Wish → Option Trip → State → WishFacts
 wish_facts rider wish old s = record (agency_facts s) {
   rider = rider_of rider s;
   file = file_of rider s;
@@ -111,53 +107,66 @@ wish_facts rider wish old s = record (agency_facts s) {
 }
 
 -- the facts for the change of a trip, if it exists
-abbrev pub change_facts : Option Trip → Wish → State → WriteFacts
+abbrev pub change_facts : Option Trip → Wish → State → WishFacts
 change_facts None wish s = agency_facts s
 change_facts (Some trip) wish s = wish_facts trip.rider wish (Some trip) s
 
+-- the rider of a trip, if there is one
+abbrev pub rider_for : Option Trip → State → Option Rider
+rider_for None s = None
+rider_for (Some trip) s = rider_of trip.rider s
+
 -- the facts for the cancellation of a trip, if it exists
-abbrev pub cancel_facts : Option Trip → State → WriteFacts
-cancel_facts None s = no_facts s.policy
-cancel_facts (Some trip) s = record (no_facts s.policy) {
-  rider = rider_of trip.rider s;
-  booking = record no_booking { trip = Some trip; plan = plan_for (Some trip) s };
-}
+abbrev pub cancel_facts : Option Trip → State → CancelFacts
+cancel_facts found s = record { trip = found; rider = rider_for found s; plan = plan_for found s }
 
 -- only a notice reads the outcomes of the rider's trips (37.125(h))
 abbrev pub tallies_for : Entry → ℕ → State → List Tally
 tallies_for (entry.Notice basis) rider s = tallies_of (trips_of rider s.trips)
 tallies_for _ rider s = []
 
--- the facts for an outcome: its trip
-abbrev pub trip_facts : ℕ → State → WriteFacts
-trip_facts trip s = record (no_facts s.policy) { booking = record no_booking { trip = trip_of trip s } }
+-- What the rules of a write read. Each write has facts of its own.
+abbrev pub FactsOf : Write → Type 0
+FactsOf (write.PutCaller new) = CallerFacts
+FactsOf (write.PutPolicy new) = Unit {0}
+FactsOf (write.PutPlace new) = PlaceFacts
+FactsOf (write.PutRoute new) = RouteFacts
+FactsOf (write.PutRider new) = RiderFacts
+FactsOf (write.Enter rider entry) = EntryFacts
+FactsOf (write.PutVehicle new) = VehicleFacts
+FactsOf (write.Travel day rows) = TravelFacts
+FactsOf (write.Book rider wish) = WishFacts
+FactsOf (write.Change trip wish) = WishFacts
+FactsOf (write.Cancel trip) = CancelFacts
+-- the trip, if it exists
+FactsOf (write.Outcome trip outcome) = Option Trip
 
 -- the facts that a write's rules read in a state
-abbrev pub facts_of : Write → State → WriteFacts
-facts_of (write.PutCaller new) s = record (no_facts s.policy) {
+abbrev pub facts_of : (asked : Write) → State → FactsOf asked
+facts_of (write.PutCaller new) s = record {
   has_subject = has_subject new.role s.riders s.vehicles;
   caller = caller_of new.id s;
   holder = caller_with new.digest s;
   caller_count = length s.callers;
 }
-facts_of (write.PutPolicy new) s = no_facts s.policy
+facts_of (write.PutPolicy new) s = tt
 facts_of (write.PutPlace new) s =
-    record (no_facts s.policy) { has_place = is_some (place_of new.id s); place_count = length s.places }
+    record { has_place = is_some (place_of new.id s); place_count = length s.places }
 facts_of (write.PutRoute new) s =
-    record (no_facts s.policy) { has_route = is_some (route_of new.id s); route_count = length s.routes }
-facts_of (write.PutRider new) s =
-    record (no_facts s.policy) { rider = rider_of new.id s; rider_count = length s.riders }
-facts_of (write.Enter rider entry) s = record (no_facts s.policy) {
+    record { has_route = is_some (route_of new.id s); route_count = length s.routes }
+facts_of (write.PutRider new) s = record { rider = rider_of new.id s; rider_count = length s.riders }
+facts_of (write.Enter rider entry) s = record {
+  policy = s.policy;
   rider = rider_of rider s;
   file = file_of rider s;
   tallies = tallies_for entry rider s;
 }
-facts_of (write.PutVehicle new) s = record (no_facts s.policy) {
-  has_place = is_some (place_of new.depot s);
+facts_of (write.PutVehicle new) s = record {
+  has_depot = is_some (place_of new.depot s);
   vehicles = s.vehicles;
   is_booked = is_booked_from (Some new.id) new.from_day s.trips;
 }
-facts_of (write.Travel day rows) s = record (no_facts s.policy) {
+facts_of (write.Travel day rows) s = record {
   places = s.places;
   tables_before = length (tables_before day s.travel);
   is_booked = is_booked_from None day s.trips;
@@ -165,7 +174,7 @@ facts_of (write.Travel day rows) s = record (no_facts s.policy) {
 facts_of (write.Book rider wish) s = wish_facts rider wish None s
 facts_of (write.Change trip wish) s = change_facts (trip_of trip s) wish s
 facts_of (write.Cancel trip) s = cancel_facts (trip_of trip s) s
-facts_of (write.Outcome trip outcome) s = trip_facts trip s
+facts_of (write.Outcome trip outcome) s = trip_of trip s
 
 abbrev pub no_read_facts : ReadFacts
 no_read_facts = record { rider = None; file = []; trips = []; vehicles = []; day = no_day }

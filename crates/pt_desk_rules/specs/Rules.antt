@@ -15,6 +15,7 @@ use Rattle.pt_records.specs.Records.{record_at}
 use Rattle.pt_rights.specs.Admission.{admission_rules, is_resident}
 use Rattle.pt_rights.specs.declared.entry.Entry.{Entry}
 use Rattle.pt_travel.specs.Chain.{Row}
+use Rattle.pt_desk_rules.specs.Facts.{FactsOf}
 use Rattle.pt_desk_rules.specs.Fleet.{has_version, vehicle_count, versions_before, versions_of_others}
 use Rattle.pt_desk_rules.specs.State.{most_callers, most_places, most_routes, most_riders, most_entries}
 use Rattle.pt_desk_rules.specs.State.{most_vehicles, most_versions, most_tables, last_trip_number, place_key}
@@ -24,8 +25,9 @@ use Rattle.pt_desk_rules.specs.Permission.{is_admin, is_clerk, is_dispatcher, ma
 use Rattle.pt_desk_rules.specs.Permission.{may_run, may_see_standing}
 use Rattle.pt_desk_rules.specs.Trips.{has_ends, is_cancellable, is_changeable}
 use Rattle.pt_requests.specs.declared.caller.Caller.{Caller}
+use Rattle.pt_desk_rules.specs.declared.facts.EntryFacts.{EntryFacts}
 use Rattle.pt_desk_rules.specs.declared.facts.ReadFacts.{ReadFacts}
-use Rattle.pt_desk_rules.specs.declared.facts.WriteFacts.{WriteFacts}
+use Rattle.pt_desk_rules.specs.declared.facts.WishFacts.{WishFacts}
 use Rattle.pt_requests.specs.declared.request.Read.{Read}
 use Rattle.pt_requests.specs.declared.request.Read.TheVariants as read
 use Rattle.pt_requests.specs.declared.request.Write.{Write}
@@ -58,25 +60,25 @@ is_nobody_of_another_kind kind None = true
 is_nobody_of_another_kind kind (Some there) = is_of_kind kind there
 
 -- the rules of an entry by this author on the day today, for the rider with this record
-abbrev pub entry_rules : Option Rider → Entry → ℕ → ℕ → WriteFacts → List (Rule × Bool)
+abbrev pub entry_rules : Option Rider → Entry → ℕ → ℕ → EntryFacts → List (Rule × Bool)
 entry_rules None entry today author facts = []
 entry_rules (Some there) entry today author facts =
     admission_rules facts.file there entry today author facts.tallies facts.policy
 
 -- What a rider's wish needs before the rules of the trip itself: the rider and both places exist, and a trip number is
 -- left.
-abbrev pub wish_rules : Wish → WriteFacts → List (Rule × Bool)
+abbrev pub wish_rules : Wish → WishFacts → List (Rule × Bool)
 wish_rules wish facts =
     (rule.Unknown, is_some facts.rider && has_ends wish facts.places)
     ∷ (rule.Full, nat_lt facts.booking.last_trip last_trip_number)
     ∷ []
 
 -- the rules of an explanation: only a dispatcher may ask, and the rest are those of a booking
-abbrev pub explain_rules : Wish → Caller → WriteFacts → List (Rule × Bool)
+abbrev pub explain_rules : Wish → Caller → WishFacts → List (Rule × Bool)
 explain_rules wish me facts = (rule.Caller, is_dispatcher me.role) ∷ wish_rules wish facts
 
 -- the rules of a write by this caller at this moment, each with whether it holds
-abbrev pub rules_of : Write → Caller → Moment → WriteFacts → List (Rule × Bool)
+abbrev pub rules_of : (asked : Write) → Caller → Moment → FactsOf asked → List (Rule × Bool)
 rules_of (write.PutCaller new) me now facts =
     (rule.Caller, is_admin me.role)
     ∷ (rule.Unknown, facts.has_subject)
@@ -105,7 +107,7 @@ rules_of (write.Enter rider entry) me now facts =
     ∷ entry_rules facts.rider entry now.day me.id facts
 rules_of (write.PutVehicle new) me now facts =
     (rule.Caller, is_dispatcher me.role)
-    ∷ (rule.Unknown, facts.has_place)
+    ∷ (rule.Unknown, facts.has_depot)
     ∷ (rule.Booked, not facts.is_booked)
     ∷ (rule.Full, has_room_for new facts.vehicles)
     ∷ []
@@ -124,15 +126,15 @@ rules_of (write.Change trip wish) me now facts =
     ∷ (rule.Over, is_changeable now.day facts.booking.trip)
     ∷ []
 rules_of (write.Cancel trip) me now facts =
-    (rule.Caller, may_alter facts.booking.trip facts.rider me.role)
-    ∷ (rule.Unknown, is_some facts.booking.trip)
-    ∷ (rule.Over, is_cancellable now facts.booking.trip)
+    (rule.Caller, may_alter facts.trip facts.rider me.role)
+    ∷ (rule.Unknown, is_some facts.trip)
+    ∷ (rule.Over, is_cancellable now facts.trip)
     ∷ []
-rules_of (write.Outcome trip outcome) me now facts =
-    (rule.Caller, may_end facts.booking.trip me.role)
-    ∷ (rule.Unknown, is_some facts.booking.trip)
-    ∷ (rule.Over, awaits_outcome facts.booking.trip)
-    ∷ (rule.Early, has_come now.day facts.booking.trip)
+rules_of (write.Outcome trip outcome) me now found =
+    (rule.Caller, may_end found me.role)
+    ∷ (rule.Unknown, is_some found)
+    ∷ (rule.Over, awaits_outcome found)
+    ∷ (rule.Early, has_come now.day found)
     ∷ []
 
 -- the rules of a read by this caller

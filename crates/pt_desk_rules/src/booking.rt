@@ -22,7 +22,7 @@ use crate::permission::{may_alter, may_book};
 use crate::trips::{
     cancelled_trip, confirmation_of, giving_up, is_cancellable, is_changeable, moving,
 };
-use crate::{Change, DayFacts, Decision, TravelTable, WriteFacts, on_duty};
+use crate::{CancelFacts, Change, DayFacts, Decision, TravelTable, WishFacts, on_duty};
 use pt_base::{Day, Moment, Place, PlaceId, Rider, RiderId, Rule, Trip, TripId, Vehicle, Wish};
 use pt_booking::TripRequest;
 use pt_records::{Key, Rows, Table};
@@ -71,7 +71,7 @@ pub struct Asking {
 
 impl Asking {
     /// `None` if the rider or a place does not exist.
-    pub fn of(facts: &WriteFacts, wish: &Wish) -> Option<Self>
+    pub fn of(facts: &WishFacts, wish: &Wish) -> Option<Self>
         ensures exists { is_some result ≡ (is_some facts.now.rider && has_ends wish.now facts.now.places) }
         ensures value { IfSome result (IsAsking wish.now facts.now) }
     {
@@ -84,7 +84,7 @@ impl Asking {
     /// The request that the facts make of the wish, for a trip of this number. `uses` are a visitor's days of use.
     pub fn request<'a>(
         &'a self,
-        facts: &'a WriteFacts,
+        facts: &'a WishFacts,
         uses: &'a Table<Day>,
         trip: TripId,
         today: Day,
@@ -114,7 +114,7 @@ impl Asking {
 /// A visitor's days of use, in order, each day once. The trip `left_out` makes none. The error is out of memory.
 pub fn uses_of(
     alloc: Global,
-    facts: &WriteFacts,
+    facts: &WishFacts,
     left_out: &Option<TripId>,
 ) -> Result<Table<Day>, AllocError>
     ensures value { IfOk result (λ uses. AreUses left_out.now facts.now.booking.trips uses.items) }
@@ -123,7 +123,7 @@ pub fn uses_of(
 }
 
 /// The number that a new trip would get; `None` after the last.
-fn next_trip(facts: &WriteFacts) -> Option<TripId>
+fn next_trip(facts: &WishFacts) -> Option<TripId>
     ensures room { is_some result ≡ nat_lt facts.now.booking.last_trip last_trip_number }
     ensures value { IfSome result (λ number. number ≡ next_trip facts.now) }
 {
@@ -134,7 +134,7 @@ fn next_trip(facts: &WriteFacts) -> Option<TripId>
 }
 
 /// What is asked of a new trip, and its number; otherwise the first rule that denies the wish before the trip's own.
-pub fn new_trip(facts: &WriteFacts, wish: &Wish) -> Result<(Asking, TripId), Rule>
+pub fn new_trip(facts: &WishFacts, wish: &Wish) -> Result<(Asking, TripId), Rule>
     ensures denied { IfErr result (λ rule. first_failing (wish_rules wish.now facts.now) ≡ Some rule) }
     ensures allowed { IfOk result (λ found. first_failing (wish_rules wish.now facts.now) ≡ None) }
     ensures asking { IfOk result (λ found. IsAsking wish.now facts.now found.0) }
@@ -152,7 +152,7 @@ pub fn new_trip(facts: &WriteFacts, wish: &Wish) -> Result<(Asking, TripId), Rul
 /// Schedules a wish for a trip of this number. The trip `left_out` makes no day of use. The error is out of memory.
 pub fn answer_wish(
     alloc: Global,
-    facts: &WriteFacts,
+    facts: &WishFacts,
     asking: &Asking,
     trip: TripId,
     left_out: &Option<TripId>,
@@ -181,7 +181,7 @@ fn confirm(trip: &Trip, change: Change) -> Decision
 /// Books a new trip under this number, or denies it by the first of its rules that fails.
 fn book(
     alloc: Global,
-    facts: &WriteFacts,
+    facts: &WishFacts,
     asking: &Asking,
     number: TripId,
     today: Day,
@@ -206,10 +206,10 @@ fn book(
     }
 }
 
-/// Decides a booking: its trip gets the next number.
-pub(crate) fn decide_booking(
+/// Rules on a booking: its trip gets the next number. The error is out of memory.
+pub fn decide_booking(
     alloc: Global,
-    facts: &WriteFacts,
+    facts: &WishFacts,
     me: &Caller,
     now: Moment,
     rider: RiderId,
@@ -229,7 +229,7 @@ pub(crate) fn decide_booking(
 /// Books a trip again under its number, as if it were not booked, or denies it by the first of its rules that fails.
 fn rebook(
     alloc: Global,
-    facts: &WriteFacts,
+    facts: &WishFacts,
     old: &Trip,
     asking: &Asking,
     today: Day,
@@ -253,10 +253,10 @@ fn rebook(
     }
 }
 
-/// Decides the change of a trip.
-pub(crate) fn decide_change(
+/// Rules on the change of a trip. The error is out of memory.
+pub fn decide_change(
     alloc: Global,
-    facts: &WriteFacts,
+    facts: &WishFacts,
     me: &Caller,
     now: Moment,
     wish: &Wish,
@@ -295,23 +295,23 @@ fn cancel(alloc: Global, trip: &Trip, plan: &Option<Plan>) -> Result<Decision, A
     })
 }
 
-/// Decides the cancellation of a trip.
-pub(crate) fn decide_cancel(
+/// Rules on the cancellation of a trip. The error is out of memory.
+pub fn decide_cancel(
     alloc: Global,
-    facts: &WriteFacts,
+    facts: &CancelFacts,
     me: &Caller,
     now: Moment,
 ) -> Result<Decision, AllocError>
     ensures ruling { (trip : ℕ) → IfOk result (IsRuling (write.Cancel trip) me.now now facts.now) }
 {
-    if !may_alter(me.role, &facts.booking.trip, &facts.rider) {
+    if !may_alter(me.role, &facts.trip, &facts.rider) {
         return Ok(Decision::Denied(Rule::Caller));
     }
-    let Some(trip) = &facts.booking.trip else {
+    let Some(trip) = &facts.trip else {
         return Ok(Decision::Denied(Rule::Unknown));
     };
     if !is_cancellable(now, trip) {
         return Ok(Decision::Denied(Rule::Over));
     }
-    cancel(alloc, trip, &facts.booking.plan)
+    cancel(alloc, trip, &facts.plan)
 }

@@ -3,34 +3,36 @@ ghost use Rattle.pt_base.specs.Day.{IsDay};
 ghost use Rattle.pt_base.specs.declared.moment.Moment.{Moment};
 ghost use Rattle.pt_desk_rules.specs.Deciding.{kept_of, with_kept};
 ghost use Rattle.pt_desk_rules.specs.Deciding.{IsDecision, IsRuling, PutsInRangeIf};
+ghost use Rattle.pt_desk_rules.specs.Facts.{FactsOf};
 ghost use Rattle.pt_desk_rules.specs.declared.deciding.Decision.TheVariants.{Accepted};
-ghost use Rattle.pt_desk_rules.specs.declared.facts.WriteFacts.{WriteFacts};
 ghost use Rattle.pt_requests.specs.declared.request.Answer.TheVariants.{Done};
+ghost use Rattle.pt_requests.specs.declared.request.Write.{Write};
 ghost use Rattle.pt_requests.specs.declared.request.Write.TheVariants.{Enter, PutCaller, PutPlace, PutPolicy};
 ghost use Rattle.pt_requests.specs.declared.request.Write.TheVariants.{PutRider, PutRoute, PutVehicle, Travel};
 ghost use Rattle.pt_desk_rules.specs.State.{versions_from, tables_from};
 
-use crate::booking::{decide_booking, decide_cancel, decide_change};
 use crate::change::{one, replacing};
 use crate::denying::{
     are_there, entry_denial, has_room_for, is_nobody_else, is_nobody_of_another_kind,
 };
 use crate::limits::{MOST_CALLERS, MOST_PLACES, MOST_RIDERS, MOST_ROUTES, MOST_TABLES};
-use crate::outcomes::decide_outcome;
 use crate::permission::{is_admin, is_clerk, is_dispatcher};
 use crate::ranges::puts_in_range;
-use crate::{Change, FiledEntry, Kept, Sent, TravelTable, WriteFacts};
+use crate::{
+    CallerFacts, Change, EntryFacts, FiledEntry, Kept, PlaceFacts, RiderFacts, RouteFacts, Sent,
+    TravelFacts, TravelTable, VehicleFacts,
+};
 use pt_base::{CallerId, Day, Moment, Place, Policy, Rider, RiderId, Rule, Vehicle};
 use pt_booking::first_failing;
 use pt_corridor::FixedRoute;
 use pt_records::{Edits, Key, Span};
-use pt_requests::{Answer, Caller, Write};
+use pt_requests::{Answer, Caller};
 use pt_rights::{Entered, Entry};
 use pt_spelling::KeptReply;
 use pt_travel::Raw;
 use std::alloc::{AllocError, Global};
 
-/// The rules' decision on a write.
+/// The rules' decision on a write. A ruling is a decision without the kept request of the write.
 #[derive(Drop)]
 pub enum Decision {
     /// The first rule that it breaks.
@@ -71,10 +73,10 @@ fn done(change: Change) -> Decision
     }
 }
 
-/// Decides the record of a caller, which is new or takes the place of an older one.
-fn put_caller(
+/// Rules on the record of a caller, which is new or takes the place of an older one. The error is out of memory.
+pub fn put_caller(
     alloc: Global,
-    facts: &WriteFacts,
+    facts: &CallerFacts,
     me: &Caller,
     new: &Caller,
 ) -> Result<Decision, AllocError>
@@ -100,9 +102,9 @@ fn put_caller(
     }))
 }
 
-/// Decides the policy.
-fn put_policy(alloc: Global, me: &Caller, new: &Policy) -> Decision
-    ensures ruling { (now : Moment) (facts : WriteFacts) → IsRuling (PutPolicy new.now) me.now now facts result }
+/// Rules on the policy.
+pub fn put_policy(alloc: Global, me: &Caller, new: &Policy) -> Decision
+    ensures ruling { (now : Moment) → IsRuling (PutPolicy new.now) me.now now tt result }
 {
     if !is_admin(me.role) {
         return Decision::Denied(Rule::Caller);
@@ -113,10 +115,10 @@ fn put_policy(alloc: Global, me: &Caller, new: &Policy) -> Decision
     })
 }
 
-/// Decides a new place.
-fn put_place(
+/// Rules on a new place. The error is out of memory.
+pub fn put_place(
     alloc: Global,
-    facts: &WriteFacts,
+    facts: &PlaceFacts,
     me: &Caller,
     new: &Place,
 ) -> Result<Decision, AllocError>
@@ -137,10 +139,10 @@ fn put_place(
     }))
 }
 
-/// Decides a fixed route, which is new or takes the place of an older one.
-fn put_route(
+/// Rules on a fixed route, which is new or takes the place of an older one. The error is out of memory.
+pub fn put_route(
     alloc: Global,
-    facts: &WriteFacts,
+    facts: &RouteFacts,
     me: &Caller,
     new: &FixedRoute,
 ) -> Result<Decision, AllocError>
@@ -163,10 +165,10 @@ fn put_route(
     }))
 }
 
-/// Decides the record of a rider, which is new or takes the place of an older one.
-fn put_rider(
+/// Rules on the record of a rider, which is new or takes the place of an older one. The error is out of memory.
+pub fn put_rider(
     alloc: Global,
-    facts: &WriteFacts,
+    facts: &RiderFacts,
     me: &Caller,
     new: &Rider,
 ) -> Result<Decision, AllocError>
@@ -193,10 +195,10 @@ fn put_rider(
     }))
 }
 
-/// Decides the next entry of a rider's case file.
-fn enter(
+/// Rules on the next entry of a rider's case file. The error is out of memory.
+pub fn enter(
     alloc: Global,
-    facts: &WriteFacts,
+    facts: &EntryFacts,
     me: &Caller,
     now: Moment,
     rider: RiderId,
@@ -227,10 +229,10 @@ fn enter(
     })
 }
 
-/// Decides a version of a vehicle. It takes the place of the versions from its day on.
-fn put_vehicle(
+/// Rules on a version of a vehicle. It takes the place of the versions from its day on. The error is out of memory.
+pub fn put_vehicle(
     alloc: Global,
-    facts: &WriteFacts,
+    facts: &VehicleFacts,
     me: &Caller,
     new: &Vehicle,
 ) -> Result<Decision, AllocError>
@@ -238,7 +240,7 @@ fn put_vehicle(
 {
     let denied = first_failing(&[
         (Rule::Caller, is_dispatcher(me.role)),
-        (Rule::Unknown, facts.has_place),
+        (Rule::Unknown, facts.has_depot),
         (Rule::Booked, !facts.is_booked),
         (Rule::Full, has_room_for(new, facts.vehicles.as_slice())),
     ]);
@@ -252,10 +254,10 @@ fn put_vehicle(
     }))
 }
 
-/// Decides a travel table. It takes the place of the tables from its day on.
-fn put_travel(
+/// Rules on a travel table. It takes the place of the tables from its day on. The error is out of memory.
+pub fn put_travel(
     alloc: Global,
-    facts: &WriteFacts,
+    facts: &TravelFacts,
     me: &Caller,
     day: Day,
     rows: &Raw,
@@ -277,32 +279,6 @@ fn put_travel(
         travel,
         ..Change::none(alloc)
     }))
-}
-
-/// The decision on a write except its kept request.
-fn ruling(
-    alloc: Global,
-    facts: &WriteFacts,
-    me: &Caller,
-    now: Moment,
-    write: &Write,
-) -> Result<Decision, AllocError>
-    ensures ruling { IfOk result (IsRuling write.now me.now now facts.now) }
-{
-    match write {
-        Write::PutCaller(new) => put_caller(alloc, facts, me, new),
-        Write::PutPolicy(new) => Ok(put_policy(alloc, me, new)),
-        Write::PutPlace(new) => put_place(alloc, facts, me, new),
-        Write::PutRoute(new) => put_route(alloc, facts, me, new),
-        Write::PutRider(new) => put_rider(alloc, facts, me, new),
-        Write::Enter { rider, entry } => enter(alloc, facts, me, now, *rider, entry),
-        Write::PutVehicle(new) => put_vehicle(alloc, facts, me, new),
-        Write::Travel { day, rows } => put_travel(alloc, facts, me, *day, rows),
-        Write::Book { rider, wish } => decide_booking(alloc, facts, me, now, *rider, wish),
-        Write::Change { trip: _, wish } => decide_change(alloc, facts, me, now, wish),
-        Write::Cancel(_) => decide_cancel(alloc, facts, me, now),
-        Write::Outcome { trip: _, outcome } => decide_outcome(alloc, facts, me, now, *outcome),
-    }
 }
 
 /// The edit that stores the kept request of a write with this answer.
@@ -348,20 +324,18 @@ fn puts_in_range_if(decided: &Decision)
     }
 }
 
-/// Decides a write with a new number by the rules, for this caller at the moment `now`. The error is out of memory.
+/// Makes a decision of the ruling on a write with a new number. The error is out of memory.
 pub fn decide(
     alloc: Global,
-    facts: &WriteFacts,
+    ruling: Decision,
     me: &Caller,
-    now: Moment,
     sent: Sent,
-    write: &Write,
 ) -> Result<Decision, AllocError>
-    ensures decided { IfOk result (λ decided. IsDecision write.now me.now now sent facts.now decided) }
+    ensures decided { (asked : Write) (now : Moment) (facts : FactsOf asked) → IsRuling asked me.now now facts ruling
+        → IfOk result (IsDecision asked me.now now sent facts) }
     ensures ranges { IfOk result PutsInRangeIf }
 {
-    let made = ruling(alloc, facts, me, now, write)?;
-    let decided = with_kept(alloc, made, me.id, sent)?;
+    let decided = with_kept(alloc, ruling, me.id, sent)?;
     puts_in_range_if(&decided);
     Ok(decided)
 }

@@ -6,7 +6,7 @@ ghost use Rattle.pt_desk_rules.specs.State.{place_key};
 ghost use Rattle.pt_records.specs.Records.{record_at};
 ghost use Rattle.pt_requests.specs.declared.request.Write.TheVariants.{Enter};
 
-use crate::WriteFacts;
+use crate::EntryFacts;
 use crate::fleet::{other_vehicle_count, version_count_before};
 use crate::limits::{MOST_VEHICLES, MOST_VERSIONS};
 use crate::permission::may_enter;
@@ -65,7 +65,7 @@ pub(crate) fn is_nobody_of_another_kind(kind: Residence, found: Option<Rider>) -
 
 /// The first rule that denies an entry at the moment `now`.
 pub(crate) fn entry_denial(
-    facts: &WriteFacts,
+    facts: &EntryFacts,
     me: &Caller,
     now: Moment,
     rider: RiderId,

@@ -10,41 +10,103 @@ use pt_rights::CaseFile;
 use pt_scheduling::Plan;
 use std::alloc::Global;
 
-/// The facts that a write's rules read. Facts that the write does not need are empty.
+/// The facts for the record of a caller.
 #[derive(Drop)]
-pub struct WriteFacts {
+pub struct CallerFacts {
+    /// Whether the rider or the vehicle that the caller's role names exists.
+    pub has_subject: bool,
+    /// The caller with the same number.
+    pub caller: Option<Caller>,
+    /// The caller whose key has the same digest.
+    pub holder: Option<Caller>,
+    pub caller_count: usize,
+}
+
+/// The facts for a new place.
+#[derive(Drop)]
+pub struct PlaceFacts {
+    /// Whether a place has the same number.
+    pub has_place: bool,
+    pub place_count: usize,
+}
+
+/// The facts for a fixed route.
+#[derive(Drop)]
+pub struct RouteFacts {
+    /// Whether a fixed route has the same number.
+    pub has_route: bool,
+    pub route_count: usize,
+}
+
+/// The facts for the record of a rider.
+#[derive(Drop)]
+pub struct RiderFacts {
+    /// The rider with the same number.
+    pub rider: Option<Rider>,
+    pub rider_count: usize,
+}
+
+/// The facts for an entry of a case file.
+#[derive(Drop)]
+pub struct EntryFacts {
     /// The agency's policy.
     pub policy: Policy,
     /// The rider whom the write names.
     pub rider: Option<Rider>,
-    pub rider_count: usize,
     /// That rider's case file.
     pub file: CaseFile,
-    /// How that rider's trips ended.
+    /// How that rider's trips ended, if the entry is a notice.
     pub tallies: Tallies,
-    /// The caller whose number the write gives.
-    pub caller: Option<Caller>,
-    /// The caller whose key has the digest that the write gives.
-    pub holder: Option<Caller>,
-    pub caller_count: usize,
-    /// Whether the place whose number the write gives exists.
-    pub has_place: bool,
-    pub place_count: usize,
-    /// Whether the fixed route whose number the write gives exists.
-    pub has_route: bool,
-    pub route_count: usize,
-    /// Whether the rider or the vehicle that a new caller's role names exists.
-    pub has_subject: bool,
+}
+
+/// The facts for a version of a vehicle.
+#[derive(Drop)]
+pub struct VehicleFacts {
+    /// Whether the vehicle's depot exists.
+    pub has_depot: bool,
+    /// All vehicles with their versions.
+    pub vehicles: Rows<Vehicle>,
+    /// Whether a trip that is not cancelled depends on a version that the new one replaces.
+    pub is_booked: bool,
+}
+
+/// The facts for a travel table.
+#[derive(Drop)]
+pub struct TravelFacts {
+    /// All places.
+    pub places: Rows<Place>,
+    /// The number of travel tables that stay.
+    pub tables_before: usize,
+    /// Whether a trip that is not cancelled depends on a table that the new one replaces.
+    pub is_booked: bool,
+}
+
+/// The facts for a rider's wish: a booking, the change of a trip, or a question about a booking.
+#[derive(Drop)]
+pub struct WishFacts {
+    /// The agency's policy.
+    pub policy: Policy,
+    /// The rider who wishes.
+    pub rider: Option<Rider>,
+    /// That rider's case file.
+    pub file: CaseFile,
     /// All places.
     pub places: Rows<Place>,
     /// All vehicles with their versions.
     pub vehicles: Rows<Vehicle>,
-    /// The number of travel tables that stay when the write puts a new one.
-    pub tables_before: usize,
-    /// Whether a trip that is not cancelled depends on what the write replaces.
-    pub is_booked: bool,
     /// The facts about trips.
     pub booking: BookingFacts,
+}
+
+/// The facts for the cancellation of a trip.
+#[derive(Drop)]
+pub struct CancelFacts {
+    /// The trip that the write names.
+    pub trip: Option<Trip>,
+    /// That trip's rider.
+    pub rider: Option<Rider>,
+    /// The plan of that trip's vehicle on its day.
+    pub plan: Option<Plan>,
 }
 
 /// The facts that the rules of a trip read.
@@ -104,29 +166,17 @@ impl DayFacts {
     }
 }
 
-impl WriteFacts {
+impl WishFacts {
     /// The policy and no other facts.
     pub fn none(alloc: Global, policy: Policy) -> Self
         ensures value { result ≡ no_facts policy }
     {
-        WriteFacts {
+        WishFacts {
             policy,
             rider: None,
-            rider_count: 0,
             file: CaseFile::new(alloc),
-            tallies: Tallies::none(alloc),
-            caller: None,
-            holder: None,
-            caller_count: 0,
-            has_place: false,
-            place_count: 0,
-            has_route: false,
-            route_count: 0,
-            has_subject: false,
             places: Rows::none(alloc),
             vehicles: Rows::none(alloc),
-            tables_before: 0,
-            is_booked: false,
             booking: BookingFacts::none(alloc),
         }
     }

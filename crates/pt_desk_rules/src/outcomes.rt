@@ -8,7 +8,7 @@ ghost use Rattle.pt_requests.specs.declared.request.Write.TheVariants as write;
 
 use crate::change::one;
 use crate::permission::may_end;
-use crate::{Change, Decision, WriteFacts};
+use crate::{Change, Decision};
 use pt_base::{Day, Moment, Rule, Trip, TripStatus, Wish};
 use pt_requests::{Answer, Caller};
 use pt_rights::Outcome;
@@ -75,20 +75,20 @@ fn end(alloc: Global, trip: &Trip, outcome: Outcome) -> Result<Decision, AllocEr
     })
 }
 
-/// Decides the outcome of a trip.
-pub(crate) fn decide_outcome(
+/// Rules on the outcome of the trip that was found, if any. The error is out of memory.
+pub fn decide_outcome(
     alloc: Global,
-    facts: &WriteFacts,
+    found: &Option<Trip>,
     me: &Caller,
     now: Moment,
     outcome: Outcome,
 ) -> Result<Decision, AllocError>
-    ensures ruling { (trip : ℕ) → IfOk result (IsRuling (write.Outcome trip outcome) me.now now facts.now) }
+    ensures ruling { (trip : ℕ) → IfOk result (IsRuling (write.Outcome trip outcome) me.now now found.now) }
 {
-    if !may_end(me.role, &facts.booking.trip) {
+    if !may_end(me.role, found) {
         return Ok(Decision::Denied(Rule::Caller));
     }
-    let Some(trip) = &facts.booking.trip else {
+    let Some(trip) = found else {
         return Ok(Decision::Denied(Rule::Unknown));
     };
     if !awaits_outcome(trip) {

@@ -13,7 +13,7 @@ use Rattle.pt_desk_rules.specs.Explaining.{IsExplainedAfter, IsToldPossible, nex
 use Rattle.pt_desk_rules.specs.Facts.{wish_facts}
 use Rattle.pt_desk_rules.specs.Rules.{explain_rules}
 use Rattle.pt_desk_rules.specs.Step.{IsOutcomeBy}
-use Rattle.pt_desk_rules.specs.declared.facts.WriteFacts.{WriteFacts}
+use Rattle.pt_desk_rules.specs.declared.facts.WishFacts.{WishFacts}
 use Rattle.pt_laws.specs.Explanations.{ExplanationsAreRight, IsFirstOfWish}
 use Rattle.pt_requests.specs.declared.caller.Caller.{Caller}
 use Rattle.pt_requests.specs.declared.request.Answer.TheVariants as answer
@@ -30,7 +30,7 @@ denied_first : (minutes : ℕ → ℕ → Option ℕ) (vehicles : List OnDuty) (
 denied_first minutes vehicles asked rule are (inl first) = first
 denied_first minutes vehicles asked rule are (inr (none, is)) = absurd (none are)
 
-first_of_booking : (wish : Wish) (today : ℕ) (facts : WriteFacts) (rule : Rule) (found : Scheduled)
+first_of_booking : (wish : Wish) (today : ℕ) (facts : WishFacts) (rule : Rule) (found : Scheduled)
     → AreRoutes (next_trip facts) (routes_for (next_trip facts) wish facts)
     → IsAnswered (next_trip facts) None today wish facts found → IsToldPossible found (answer.Denied rule)
     → IsFirstOfBooking facts (next_trip facts) None today wish rule
@@ -47,7 +47,7 @@ first_of_booking wish today facts rule (scheduled.Denied first) routes (asked, b
       first = subst (λ r. IsFirstFailing (booking_rules driving vehicles asked) (Some r)) same fails;
     }
 
-first_of_wish : (first : Option Rule) (wish : Wish) (me : Caller) (now : Moment) (facts : WriteFacts) (rule : Rule)
+first_of_wish : (first : Option Rule) (wish : Wish) (me : Caller) (now : Moment) (facts : WishFacts) (rule : Rule)
     → AreRoutes (next_trip facts) (routes_for (next_trip facts) wish facts)
     → first_failing (explain_rules wish me facts) ≡ first
     → IsExplainedAfter first wish now.day facts (answer.Denied rule) → IsFirstOfWish wish me now facts rule

@@ -10,14 +10,14 @@ use Rattle.pt_desk_rules.specs.Rules.{explain_rules}
 use Rattle.pt_desk_rules.specs.Sound.{IsSound}
 use Rattle.pt_desk_rules.specs.State.{State}
 use Rattle.pt_desk_rules.specs.Step.{IsOutcome, sender}
-use Rattle.pt_desk_rules.specs.declared.facts.WriteFacts.{WriteFacts}
+use Rattle.pt_desk_rules.specs.declared.facts.WishFacts.{WishFacts}
 use Rattle.pt_requests.specs.declared.caller.Caller.{Caller}
 use Rattle.pt_requests.specs.declared.request.Answer.TheVariants as answer
 use Rattle.pt_requests.specs.declared.request.Request.TheVariants as request
 use Rattle.pt_rights.specs.Rules.{first_failing}
 
 -- this is the first of all rules of a wish to fail: first those before its trip's, then its trip's
-abbrev pub IsFirstOfWish : Wish → Caller → Moment → WriteFacts → Rule → Type 0
+abbrev pub IsFirstOfWish : Wish → Caller → Moment → WishFacts → Rule → Type 0
 IsFirstOfWish wish me now facts rule =
     (first_failing (explain_rules wish me facts) ≡ Some rule)
     ⊎ ((first_failing (explain_rules wish me facts) ≡ None)

@@ -3,6 +3,6 @@ pub mod ReadLemmas
 mod FileLemmas
 mod NewLemmas
 mod ManifestLemmas
-mod SomeLemmas
+pub mod SomeLemmas
 mod HoursLemmas
 mod WishedLemmas

@@ -11,15 +11,13 @@ use Rattle.pt_base.specs.declared.trip.Trip.{Trip}
 use Rattle.pt_base.specs.declared.trip.Wish.{Wish}
 use Rattle.pt_base.specs.declared.vehicle.Vehicle.{Vehicle}
 use Rattle.pt_desk_rules.specs.Booking.{IsBooking, IsRequestBy}
-use Rattle.pt_desk_rules.specs.Deciding.{IsDecidedBy, IsDecision, IsDecisionAfter}
-use Rattle.pt_desk_rules.specs.Facts.{change_facts, wish_facts}
+use Rattle.pt_desk_rules.specs.Deciding.{IsDecidedBy, IsRuling, IsRulingAfter}
+use Rattle.pt_desk_rules.specs.Facts.{change_facts, wish_facts, FactsOf}
 use Rattle.pt_desk_rules.specs.Fleet.{on_duty}
 use Rattle.pt_desk_rules.specs.Planned.{planned_on, trips_on}
 use Rattle.pt_desk_rules.specs.State.{State, plan_of, trip_of}
 use Rattle.pt_desk_rules.specs.declared.change.Change.{Change}
 use Rattle.pt_desk_rules.specs.declared.deciding.Decision.{Decision}
-use Rattle.pt_desk_rules.specs.declared.facts.WriteFacts.{WriteFacts}
-use Rattle.pt_desk_rules.specs.declared.kept.Sent.{Sent}
 use Rattle.pt_records.specs.Keys.{pair_key}
 use Rattle.pt_records.specs.Records.{put, put_all, record_at, Each, Edit}
 use Rattle.pt_records.proofs.OrderLemmas.{record_at-put_other, record_at-put_same}
@@ -32,7 +30,7 @@ use Rattle.pt_scheduling.specs.Plan.{Plan, plan_key, stops_among, stops_of_plan,
 use Rattle.pt_scheduling.specs.Routes.{stops_without}
 use Rattle.pt_scheduling.proofs.PlanLemmas.{found_key}
 use Rattle.pt_store.specs.Store.{Store, Goes, Reads, ReadsSome}
-use Rattle.pt_store.specs.Wished.{booked_facts, decided_facts, plan_on, plans_found, plans_of, rebooked_facts, vehicles_for}
+use Rattle.pt_store.specs.Wished.{booked_facts, plan_on, plans_found, plans_of, rebooked_facts, vehicles_for}
 use Rattle.pt_store.specs.Wished.{works_in_window, IsEnoughFor}
 use Rattle.pt_store.specs.declared.keeper.StoreFault.{StoreFault}
 use Rattle.pt_store.proofs.HoursLemmas.{scheduled_to, IsAlike}
@@ -163,47 +161,37 @@ booking_to change number left_out today rider wish old s made (scheduled, (reque
     } in
     (scheduled, (request, same, (minutes, times, scheduled_to minutes request some whole (on_duty day s.vehicles) alike scheduled is)), told)
 
-after_to : (first : Option Rule) (asked : Write) (me : Caller) (now : Moment) (sent : Sent) (facts whole : WriteFacts) (decided : Decision)
-    → ((made : Decision) → IsDecidedBy asked me.id now.day facts made → IsDecidedBy asked me.id now.day whole made)
-    → IsDecisionAfter first asked me now sent facts decided → IsDecisionAfter first asked me now sent whole decided
-after_to (Some rule) asked me now sent facts whole decided gives is = is
-after_to None asked me now sent facts whole decided gives (made, by, kept) = (made, gives made by, kept)
+after_to : (first : Option Rule) (asked : Write) (me : Caller) (now : Moment) (facts whole : FactsOf asked) (made : Decision)
+    → (IsDecidedBy asked me.id now.day facts made → IsDecidedBy asked me.id now.day whole made)
+    → IsRulingAfter first asked me.id now.day facts made → IsRulingAfter first asked me.id now.day whole made
+after_to (Some rule) asked me now facts whole made gives is = is
+after_to None asked me now facts whole made gives is = gives is
 
 -- the facts about its own vehicles are enough for a booking
-enough_booked : (rider : ℕ) (wish : Wish) (s : State) → IsEnoughFor (write.Book rider wish) s (booked_facts rider wish None s)
-enough_booked rider wish s = λ me now sent decided is.
-    after_to _ (write.Book rider wish) me now sent (booked_facts rider wish None s) (wish_facts rider wish None s) decided
-    (λ made by. booking_to _ _ None now.day rider wish None s made by) is
+pub enough_booked : (rider : ℕ) (wish : Wish) (s : State) → IsEnoughFor (write.Book rider wish) s (booked_facts rider wish None s)
+enough_booked rider wish s = λ me now made is.
+    after_to _ (write.Book rider wish) me now (booked_facts rider wish None s) (wish_facts rider wish None s) made
+    (λ by. booking_to _ _ None now.day rider wish None s made by) is
+
+enough_changed : (old : Option Trip) (trip : ℕ) (wish : Wish) (s : State) (me : Caller) (now : Moment) (made : Decision)
+    → IsRuling (write.Change trip wish) me now (rebooked_facts old wish s) made → IsRuling (write.Change trip wish) me now (change_facts old wish s) made
+enough_changed None trip wish s me now made is = is
+enough_changed (Some there) trip wish s me now made is =
+    after_to _ (write.Change trip wish) me now (rebooked_facts (Some there) wish s) (change_facts (Some there) wish s) made
+    (λ by. booking_to _ _ (Some there.id) now.day there.rider wish (Some there) s made by) is
 
 -- and for the change of a trip
-enough_changed : (old : Option Trip) (trip : ℕ) (wish : Wish) (s : State) (me : Caller) (now : Moment) (sent : Sent) (decided : Decision)
-    → IsDecision (write.Change trip wish) me now sent (rebooked_facts old wish s) decided → IsDecision (write.Change trip wish) me now sent (change_facts old wish s) decided
-enough_changed None trip wish s me now sent decided is = is
-enough_changed (Some there) trip wish s me now sent decided is =
-    after_to _ (write.Change trip wish) me now sent (rebooked_facts (Some there) wish s) (change_facts (Some there) wish s) decided
-    (λ made by. booking_to _ _ (Some there.id) now.day there.rider wish (Some there) s made by) is
+pub enough_rebooked : (trip : ℕ) (wish : Wish) (s : State) → IsEnoughFor (write.Change trip wish) s (rebooked_facts (trip_of trip s) wish s)
+enough_rebooked trip wish s = λ me now made is. enough_changed (trip_of trip s) trip wish s me now made is
 
-enough_decided : (asked : Write) (s : State) → IsEnoughFor asked s (decided_facts asked s)
-enough_decided (write.Book rider wish) s = enough_booked rider wish s
-enough_decided (write.Change trip wish) s = λ me now sent decided is. enough_changed (trip_of trip s) trip wish s me now sent decided is
-enough_decided (write.PutCaller new) s = λ me now sent decided is. is
-enough_decided (write.PutPolicy new) s = λ me now sent decided is. is
-enough_decided (write.PutPlace new) s = λ me now sent decided is. is
-enough_decided (write.PutRoute new) s = λ me now sent decided is. is
-enough_decided (write.PutRider new) s = λ me now sent decided is. is
-enough_decided (write.Enter rider entry) s = λ me now sent decided is. is
-enough_decided (write.PutVehicle new) s = λ me now sent decided is. is
-enough_decided (write.Travel day rows) s = λ me now sent decided is. is
-enough_decided (write.Cancel trip) s = λ me now sent decided is. is
-enough_decided (write.Outcome trip outcome) s = λ me now sent decided is. is
-
--- the facts by which a write is decided are enough for it
-pub enough_write : (a b : Store) (asked : Write) (r : Result WriteFacts StoreFault) → Reads a b (decided_facts asked) r → ReadsSome a b (IsEnoughFor asked) r
-enough_write a b asked (Ok facts) goes = record {
-  goes = (decided_facts asked a.content, goes);
-  is = λ clean. subst (IsEnoughFor asked a.content) (sym (goes.holds clean).tells.0) (enough_decided asked a.content);
+-- a read of facts that are enough
+pub enough_read : (a b : Store) (asked : Write) (facts_in : State → FactsOf asked) (r : Result (FactsOf asked) StoreFault) → ((s : State) → IsEnoughFor asked s (facts_in s))
+    → Reads a b facts_in r → ReadsSome a b (IsEnoughFor asked) r
+enough_read a b asked facts_in (Ok facts) enough goes = record {
+  goes = (facts_in a.content, goes);
+  is = λ clean. subst (IsEnoughFor asked a.content) (sym (goes.holds clean).tells.0) (enough a.content);
 }
-enough_write a b asked (Err fault) goes = record { goes = (decided_facts asked a.content, goes); is = λ _. tt }
+enough_read a b asked facts_in (Err fault) enough goes = record { goes = (facts_in a.content, goes); is = λ _. tt }
 
 -- a read that depends on one before it
 pub reads_onto : {X Y : Type 0} (a b c : Store) (f : State → X) (g : X → State → Y) (x : X) (r : Result Y StoreFault) → Reads a b f (Ok x) → Reads b c (g x) r

@@ -8,21 +8,19 @@ use Rattle.pt_base.specs.declared.trip.Trip.{Trip}
 use Rattle.pt_base.specs.declared.trip.Wish.{Wish}
 use Rattle.pt_base.specs.declared.vehicle.Vehicle.{Vehicle}
 use Rattle.pt_booking.specs.Window.{wished_window}
-use Rattle.pt_desk_rules.specs.Deciding.{IsDecision}
-use Rattle.pt_desk_rules.specs.Facts.{agency_facts, booking_facts, day_of, facts_of}
+use Rattle.pt_desk_rules.specs.Deciding.{IsRuling}
+use Rattle.pt_desk_rules.specs.Facts.{agency_facts, booking_facts, day_of, facts_of, FactsOf}
 use Rattle.pt_desk_rules.specs.Fleet.{on_duty}
 use Rattle.pt_desk_rules.specs.Planned.{planned_on}
-use Rattle.pt_desk_rules.specs.State.{State, file_of, rider_of, trip_of}
+use Rattle.pt_desk_rules.specs.State.{State, file_of, rider_of}
 use Rattle.pt_desk_rules.specs.declared.deciding.Decision.{Decision}
 use Rattle.pt_desk_rules.specs.declared.facts.BookingFacts.{BookingFacts}
 use Rattle.pt_desk_rules.specs.declared.facts.DayFacts.{DayFacts}
-use Rattle.pt_desk_rules.specs.declared.facts.WriteFacts.{WriteFacts}
-use Rattle.pt_desk_rules.specs.declared.kept.Sent.{Sent}
+use Rattle.pt_desk_rules.specs.declared.facts.WishFacts.{WishFacts}
 use Rattle.pt_records.specs.Keys.{pair_key}
 use Rattle.pt_records.specs.Records.{edited, record_at, Edit}
 use Rattle.pt_requests.specs.declared.caller.Caller.{Caller}
 use Rattle.pt_requests.specs.declared.request.Write.{Write}
-use Rattle.pt_requests.specs.declared.request.Write.TheVariants as write
 use Rattle.pt_scheduling.specs.Plan.{Plan, plan_key}
 
 -- the vehicle's hours and the wished window of the pickup have a minute in common
@@ -56,7 +54,7 @@ abbrev pub booking_by : DayFacts → Option Rider → Option Trip → State → 
 booking_by day rider old s = record (booking_facts rider 0 old s) { day = day }
 
 -- the facts for a rider's wish, with these about the agency and the day
-abbrev pub wish_by : WriteFacts → DayFacts → ℕ → Option Trip → State → WriteFacts
+abbrev pub wish_by : WishFacts → DayFacts → ℕ → Option Trip → State → WishFacts
 wish_by agency day rider old s = record agency {
   rider = rider_of rider s;
   file = file_of rider s;
@@ -64,22 +62,16 @@ wish_by agency day rider old s = record agency {
 }
 
 -- the facts by which a rider's wish is decided; `old` is the trip that it changes, if any
-abbrev pub booked_facts : ℕ → Wish → Option Trip → State → WriteFacts
+abbrev pub booked_facts : ℕ → Wish → Option Trip → State → WishFacts
 booked_facts rider wish old s =
     wish_by (agency_facts s) (day_with wish.day (vehicles_for wish s.vehicles) s) rider old s
 
 -- the facts by which the change of a trip is decided, if the trip exists
-abbrev pub rebooked_facts : Option Trip → Wish → State → WriteFacts
+abbrev pub rebooked_facts : Option Trip → Wish → State → WishFacts
 rebooked_facts None wish s = agency_facts s
 rebooked_facts (Some trip) wish s = booked_facts trip.rider wish (Some trip) s
 
--- the facts by which a write is decided
-abbrev pub decided_facts : Write → State → WriteFacts
-decided_facts (write.Book rider wish) s = booked_facts rider wish None s
-decided_facts (write.Change trip wish) s = rebooked_facts (trip_of trip s) wish s
-decided_facts other s = facts_of other s
-
--- facts that are enough for a write: every decision by them is a decision by all facts of the state
-abbrev pub IsEnoughFor : Write → State → WriteFacts → Type 0
-IsEnoughFor write s facts = (me : Caller) (now : Moment) (sent : Sent) (decided : Decision) →
-    IsDecision write me now sent facts decided → IsDecision write me now sent (facts_of write s) decided
+-- facts that are enough for a write: every ruling by them is a ruling by all facts of the state
+abbrev pub IsEnoughFor : (asked : Write) → State → FactsOf asked → Type 0
+IsEnoughFor asked s facts = (me : Caller) (now : Moment) (made : Decision) →
+    IsRuling asked me now facts made → IsRuling asked me now (facts_of asked s) made

@@ -1,25 +1,26 @@
-ghost use Rattle.std.specs.Prelude.{◌≡◌, [], Some, None};
-ghost use Rattle.pt_desk_rules.specs.Facts.{no_facts, facts_of, read_facts_of, has_subject};
+ghost use Rattle.std.specs.Prelude.{[]};
+ghost use Rattle.pt_desk_rules.specs.Facts.{facts_of, read_facts_of, has_subject};
 ghost use Rattle.pt_desk_rules.specs.Facts.{agency_facts, plan_for, day_of, wish_facts};
-ghost use Rattle.pt_desk_rules.specs.Facts.{cancel_facts, tallies_for, tour_facts, trip_facts};
-ghost use Rattle.pt_desk_rules.specs.Facts.{trips_counted_for};
+ghost use Rattle.pt_desk_rules.specs.Facts.{rider_for, tallies_for, tour_facts, trips_counted_for};
 ghost use Rattle.pt_requests.specs.declared.request.Read.TheVariants.{Export, Letter, Manifest, Standing, Trips};
 ghost use Rattle.pt_desk_rules.specs.State.{rider_of, file_of, trip_of};
-ghost use Rattle.pt_requests.specs.declared.request.Write.TheVariants.{Enter, PutCaller, PutPlace, PutRoute};
-ghost use Rattle.pt_requests.specs.declared.request.Write.TheVariants.{PutRider, PutVehicle, Travel};
+ghost use Rattle.pt_requests.specs.declared.request.Write.TheVariants.{Book, Cancel, Change, Enter, PutCaller, PutPlace};
+ghost use Rattle.pt_requests.specs.declared.request.Write.TheVariants.{PutRider, PutRoute, PutVehicle, Travel};
 ghost use Rattle.pt_store.specs.Enough.{IsEnough};
 ghost use Rattle.pt_store.specs.Store.{Store, Reads, ReadsSome};
-ghost use Rattle.pt_store.specs.Wished.{booked_facts, booking_by, day_with, decided_facts, rebooked_facts, wish_by};
-ghost use Rattle.pt_store.specs.Wished.{IsEnoughFor};
+ghost use Rattle.pt_store.specs.Wished.{booked_facts, booking_by, day_with, rebooked_facts, wish_by, IsEnoughFor};
 
 use crate::manifests::gather_manifest;
 use crate::wished::{gather_plans, vehicles_for};
 use crate::{Keeper, StoreFault};
 use pt_base::{Day, Place, Residence, Rider, RiderId, Trip, TripId, Vehicle, VehicleId, Wish};
 use pt_corridor::FixedRoute;
-use pt_desk_rules::{BookingFacts, DayFacts, ReadFacts, Tallies, WriteFacts};
+use pt_desk_rules::{
+    BookingFacts, CallerFacts, CancelFacts, DayFacts, EntryFacts, PlaceFacts, ReadFacts,
+    RiderFacts, RouteFacts, Tallies, TravelFacts, VehicleFacts, WishFacts,
+};
 use pt_records::Rows;
-use pt_requests::{Caller, Read, Role, Write};
+use pt_requests::{Caller, Read, Role};
 use pt_rights::{CaseFile, Entry};
 use pt_scheduling::Plan;
 use std::alloc::Global;
@@ -36,68 +37,45 @@ fn has_subject<K: Keeper>(keeper: &mut K, role: Role) -> Result<bool, StoreFault
     }
 }
 
-/// The policy and no other facts.
-fn gather_policy<K: Keeper>(alloc: Global, keeper: &mut K) -> Result<WriteFacts, StoreFault>
-    ensures reads { Reads (K.store keeper.old) (K.store keeper.new) (λ s. no_facts s.policy) result }
-{
-    Ok(WriteFacts::none(alloc, keeper.policy()?))
-}
-
-fn gather_caller<K: Keeper>(
-    alloc: Global,
-    keeper: &mut K,
-    new: &Caller,
-) -> Result<WriteFacts, StoreFault>
+/// The facts for the record of a caller. The error is the store's or out of memory.
+pub fn gather_caller<K: Keeper>(keeper: &mut K, new: &Caller) -> Result<CallerFacts, StoreFault>
     ensures reads { Reads (K.store keeper.old) (K.store keeper.new) (facts_of (PutCaller new.now)) result }
 {
-    Ok(WriteFacts {
+    Ok(CallerFacts {
         has_subject: has_subject(keeper, new.role)?,
         caller: keeper.caller(new.id)?,
         holder: keeper.caller_with(&new.digest)?,
         caller_count: keeper.caller_count()?,
-        ..gather_policy(alloc, keeper)?
     })
 }
 
-fn gather_place<K: Keeper>(
-    alloc: Global,
-    keeper: &mut K,
-    new: &Place,
-) -> Result<WriteFacts, StoreFault>
+/// The facts for a new place. The error is the store's or out of memory.
+pub fn gather_place<K: Keeper>(keeper: &mut K, new: &Place) -> Result<PlaceFacts, StoreFault>
     ensures reads { Reads (K.store keeper.old) (K.store keeper.new) (facts_of (PutPlace new.now)) result }
 {
-    Ok(WriteFacts {
+    Ok(PlaceFacts {
         has_place: keeper.place(new.id)?.is_some(),
         place_count: keeper.place_count()?,
-        ..gather_policy(alloc, keeper)?
     })
 }
 
-fn gather_route<K: Keeper>(
-    alloc: Global,
-    keeper: &mut K,
-    new: &FixedRoute,
-) -> Result<WriteFacts, StoreFault>
+/// The facts for a fixed route. The error is the store's or out of memory.
+pub fn gather_route<K: Keeper>(keeper: &mut K, new: &FixedRoute) -> Result<RouteFacts, StoreFault>
     ensures reads { Reads (K.store keeper.old) (K.store keeper.new) (facts_of (PutRoute new.now)) result }
 {
-    Ok(WriteFacts {
+    Ok(RouteFacts {
         has_route: keeper.has_route(new.id())?,
         route_count: keeper.route_count()?,
-        ..gather_policy(alloc, keeper)?
     })
 }
 
-fn gather_rider<K: Keeper>(
-    alloc: Global,
-    keeper: &mut K,
-    new: &Rider,
-) -> Result<WriteFacts, StoreFault>
+/// The facts for the record of a rider. The error is the store's or out of memory.
+pub fn gather_rider<K: Keeper>(keeper: &mut K, new: &Rider) -> Result<RiderFacts, StoreFault>
     ensures reads { Reads (K.store keeper.old) (K.store keeper.new) (facts_of (PutRider new.now)) result }
 {
-    Ok(WriteFacts {
+    Ok(RiderFacts {
         rider: keeper.rider(new.id)?,
         rider_count: keeper.rider_count()?,
-        ..gather_policy(alloc, keeper)?
     })
 }
 
@@ -149,62 +127,63 @@ fn gather_tallies<K: Keeper>(
     }
 }
 
-fn gather_entry<K: Keeper>(
+/// The facts for an entry of a case file. The error is the store's or out of memory.
+pub fn gather_entry<K: Keeper>(
     alloc: Global,
     keeper: &mut K,
     rider: RiderId,
     entry: &Entry,
-) -> Result<WriteFacts, StoreFault>
+) -> Result<EntryFacts, StoreFault>
     ensures reads { Reads (K.store keeper.old) (K.store keeper.new) (facts_of (Enter rider entry.now)) result }
 {
     let tallies = gather_tallies(alloc, keeper, rider, entry)?;
     let (rider, file) = rider_with_file(alloc, keeper, rider)?;
-    Ok(WriteFacts {
+    Ok(EntryFacts {
+        policy: keeper.policy()?,
         rider,
         file,
         tallies,
-        ..gather_policy(alloc, keeper)?
     })
 }
 
-fn gather_vehicle<K: Keeper>(
+/// The facts for a version of a vehicle. The error is the store's or out of memory.
+pub fn gather_vehicle<K: Keeper>(
     alloc: Global,
     keeper: &mut K,
     new: &Vehicle,
-) -> Result<WriteFacts, StoreFault>
+) -> Result<VehicleFacts, StoreFault>
     ensures reads { Reads (K.store keeper.old) (K.store keeper.new) (facts_of (PutVehicle new.now)) result }
 {
-    Ok(WriteFacts {
-        has_place: keeper.place(new.depot)?.is_some(),
+    Ok(VehicleFacts {
+        has_depot: keeper.place(new.depot)?.is_some(),
         vehicles: keeper.vehicles(alloc)?,
         is_booked: keeper.is_booked_from(Some(new.id), new.from_day)?,
-        ..gather_policy(alloc, keeper)?
     })
 }
 
-fn gather_travel<K: Keeper>(
+/// The facts for a travel table of this day. The error is the store's or out of memory.
+pub fn gather_travel<K: Keeper>(
     alloc: Global,
     keeper: &mut K,
     day: Day,
-) -> Result<WriteFacts, StoreFault>
+) -> Result<TravelFacts, StoreFault>
     ensures reads { Reads (K.store keeper.old) (K.store keeper.new) (facts_of (Travel day [])) result }
 {
-    Ok(WriteFacts {
+    Ok(TravelFacts {
         places: keeper.places(alloc)?,
         tables_before: keeper.table_count_before(day)?,
         is_booked: keeper.is_booked_from(None, day)?,
-        ..gather_policy(alloc, keeper)?
     })
 }
 
 /// The facts that every booking reads.
-fn gather_agency<K: Keeper>(alloc: Global, keeper: &mut K) -> Result<WriteFacts, StoreFault>
+fn gather_agency<K: Keeper>(alloc: Global, keeper: &mut K) -> Result<WishFacts, StoreFault>
     ensures reads { Reads (K.store keeper.old) (K.store keeper.new) agency_facts result }
 {
-    Ok(WriteFacts {
+    Ok(WishFacts {
         places: keeper.places(alloc)?,
         vehicles: keeper.vehicles(alloc)?,
-        ..gather_policy(alloc, keeper)?
+        ..WishFacts::none(alloc, keeper.policy()?)
     })
 }
 
@@ -264,16 +243,16 @@ fn gather_booking<K: Keeper>(
 fn gather_asked<K: Keeper>(
     alloc: Global,
     keeper: &mut K,
-    agency: WriteFacts,
+    agency: WishFacts,
     day: DayFacts,
     rider: RiderId,
     old: &Option<Trip>,
-) -> Result<WriteFacts, StoreFault>
+) -> Result<WishFacts, StoreFault>
     ensures reads { Reads (K.store keeper.old) (K.store keeper.new) (wish_by agency day rider old.now) result }
 {
     let (rider, file) = rider_with_file(alloc, keeper, rider)?;
     let booking = gather_booking(alloc, keeper, &rider, day, old)?;
-    Ok(WriteFacts {
+    Ok(WishFacts {
         rider,
         file,
         booking,
@@ -289,7 +268,7 @@ pub fn gather_wish<K: Keeper>(
     rider: RiderId,
     wish: &Wish,
     old: &Option<Trip>,
-) -> Result<WriteFacts, StoreFault>
+) -> Result<WishFacts, StoreFault>
     ensures reads { Reads (K.store keeper.old) (K.store keeper.new) (wish_facts rider wish.now old.now) result }
 {
     let agency = gather_agency(alloc, keeper)?;
@@ -323,7 +302,7 @@ fn gather_booked<K: Keeper>(
     rider: RiderId,
     wish: &Wish,
     old: &Option<Trip>,
-) -> Result<WriteFacts, StoreFault>
+) -> Result<WishFacts, StoreFault>
     ensures reads { Reads (K.store keeper.old) (K.store keeper.new) (booked_facts rider wish.now old.now) result }
 {
     let agency = gather_agency(alloc, keeper)?;
@@ -332,13 +311,25 @@ fn gather_booked<K: Keeper>(
     gather_asked(alloc, keeper, agency, day, rider, old)
 }
 
+/// The facts that the rules of a booking need. The error is the store's or out of memory.
+pub fn gather_new_trip<K: Keeper>(
+    alloc: Global,
+    keeper: &mut K,
+    rider: RiderId,
+    wish: &Wish,
+) -> Result<WishFacts, StoreFault>
+    ensures reads { ReadsSome (K.store keeper.old) (K.store keeper.new) (IsEnoughFor (Book rider wish.now)) result }
+{
+    gather_booked(alloc, keeper, rider, wish, &None)
+}
+
 /// The facts by which the change of a trip is decided.
-fn gather_change<K: Keeper>(
+fn gather_rebooked<K: Keeper>(
     alloc: Global,
     keeper: &mut K,
     trip: TripId,
     wish: &Wish,
-) -> Result<WriteFacts, StoreFault>
+) -> Result<WishFacts, StoreFault>
     ensures reads { Reads (K.store keeper.old) (K.store keeper.new)
         (λ s. rebooked_facts (trip_of trip s) wish.now s) result }
 {
@@ -349,94 +340,47 @@ fn gather_change<K: Keeper>(
     }
 }
 
-/// The facts for the cancellation of a trip.
-fn gather_cancel<K: Keeper>(
+/// The facts that the rules of a change need. The error is the store's or out of memory.
+pub fn gather_change<K: Keeper>(
     alloc: Global,
     keeper: &mut K,
     trip: TripId,
-) -> Result<WriteFacts, StoreFault>
-    ensures reads { Reads (K.store keeper.old) (K.store keeper.new) (λ s. cancel_facts (trip_of trip s) s) result }
+    wish: &Wish,
+) -> Result<WishFacts, StoreFault>
+    ensures reads { ReadsSome (K.store keeper.old) (K.store keeper.new) (IsEnoughFor (Change trip wish.now)) result }
 {
-    let old = keeper.trip(trip)?;
-    match &old {
-        Some(there) => gather_there(alloc, keeper, there, &old),
-        None => gather_policy(alloc, keeper),
+    gather_rebooked(alloc, keeper, trip, wish)
+}
+
+/// The trip's rider, if there is a trip.
+fn gather_owner<K: Keeper>(
+    keeper: &mut K,
+    found: &Option<Trip>,
+) -> Result<Option<Rider>, StoreFault>
+    ensures reads { Reads (K.store keeper.old) (K.store keeper.new) (rider_for found.now) result }
+{
+    match found {
+        Some(trip) => keeper.rider(trip.rider),
+        None => Ok(None),
     }
 }
 
-/// The facts for the cancellation of this trip.
-fn gather_there<K: Keeper>(
+/// The facts for the cancellation of a trip. The error is the store's or out of memory.
+pub fn gather_cancel<K: Keeper>(
     alloc: Global,
     keeper: &mut K,
-    there: &Trip,
-    old: &Option<Trip>,
-) -> Result<WriteFacts, StoreFault>
-    requires { old.now ≡ Some there.now }
-    ensures reads { Reads (K.store keeper.old) (K.store keeper.new) (cancel_facts (Some there.now)) result }
+    trip: TripId,
+) -> Result<CancelFacts, StoreFault>
+    ensures reads { Reads (K.store keeper.old) (K.store keeper.new) (facts_of (Cancel trip)) result }
 {
-    let rider = keeper.rider(there.rider)?;
-    let plan = gather_plan(alloc, keeper, old)?;
-    Ok(WriteFacts {
+    let found = keeper.trip(trip)?;
+    let rider = gather_owner(keeper, &found)?;
+    let plan = gather_plan(alloc, keeper, &found)?;
+    Ok(CancelFacts {
+        trip: found,
         rider,
-        booking: BookingFacts {
-            trip: *old,
-            plan,
-            ..BookingFacts::none(alloc)
-        },
-        ..gather_policy(alloc, keeper)?
+        plan,
     })
-}
-
-/// The facts for the outcome of a trip.
-fn gather_trip<K: Keeper>(
-    alloc: Global,
-    keeper: &mut K,
-    trip: TripId,
-) -> Result<WriteFacts, StoreFault>
-    ensures reads { Reads (K.store keeper.old) (K.store keeper.new) (trip_facts trip) result }
-{
-    Ok(WriteFacts {
-        booking: BookingFacts {
-            trip: keeper.trip(trip)?,
-            ..BookingFacts::none(alloc)
-        },
-        ..gather_policy(alloc, keeper)?
-    })
-}
-
-/// The facts by which the write is decided.
-fn gather_decided<K: Keeper>(
-    alloc: Global,
-    keeper: &mut K,
-    write: &Write,
-) -> Result<WriteFacts, StoreFault>
-    ensures reads { Reads (K.store keeper.old) (K.store keeper.new) (decided_facts write.now) result }
-{
-    match write {
-        Write::PutCaller(new) => gather_caller(alloc, keeper, new),
-        Write::PutPolicy(_) => gather_policy(alloc, keeper),
-        Write::PutPlace(new) => gather_place(alloc, keeper, new),
-        Write::PutRoute(new) => gather_route(alloc, keeper, new),
-        Write::PutRider(new) => gather_rider(alloc, keeper, new),
-        Write::Enter { rider, entry } => gather_entry(alloc, keeper, *rider, entry),
-        Write::PutVehicle(new) => gather_vehicle(alloc, keeper, new),
-        Write::Travel { day, rows: _ } => gather_travel(alloc, keeper, *day),
-        Write::Book { rider, wish } => gather_booked(alloc, keeper, *rider, wish, &None),
-        Write::Change { trip, wish } => gather_change(alloc, keeper, *trip, wish),
-        Write::Cancel(trip) => gather_cancel(alloc, keeper, *trip),
-        Write::Outcome { trip, outcome: _ } => gather_trip(alloc, keeper, *trip),
-    }
-}
-
-/// The facts that the rules of the write need. The error is the store's or out of memory.
-pub fn gather<K: Keeper>(
-    alloc: Global,
-    keeper: &mut K,
-    write: &Write,
-) -> Result<WriteFacts, StoreFault>
-    ensures reads { ReadsSome (K.store keeper.old) (K.store keeper.new) (IsEnoughFor write.now) result }
-{
-    gather_decided(alloc, keeper, write)
 }
 
 fn gather_standing<K: Keeper>(

@@ -2,7 +2,10 @@
 #![tactic(auto)]
 
 pub use answers::{file_with, find_caller, is_booked_from, table_count_before};
-pub use gathering::{gather, gather_read, gather_wish};
+pub use gathering::{
+    gather_caller, gather_cancel, gather_change, gather_entry, gather_new_trip, gather_place,
+    gather_read, gather_rider, gather_route, gather_travel, gather_vehicle, gather_wish,
+};
 pub use keeper::{Keeper, Reply, StoreFault};
 pub use list_keeper::ListKeeper;
 

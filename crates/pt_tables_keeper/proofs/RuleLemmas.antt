@@ -17,11 +17,11 @@ use Rattle.pt_desk_rules.specs.Trips.{plan_of_stops, plan_span}
 use Rattle.pt_desk_rules.specs.declared.change.Change.{Change}
 use Rattle.pt_desk_rules.specs.declared.deciding.Decision.{Decision}
 use Rattle.pt_desk_rules.specs.declared.deciding.Decision.TheVariants.{Denied, Accepted}
-use Rattle.pt_desk_rules.specs.declared.facts.WriteFacts.{WriteFacts}
+use Rattle.pt_desk_rules.specs.declared.facts.WishFacts.{WishFacts}
 use Rattle.pt_desk_rules.specs.declared.kept.Kept.{Kept}
 use Rattle.pt_desk_rules.specs.declared.kept.Sent.{Sent}
 use Rattle.pt_desk_rules.proofs.RangeLemmas.{Each-more, planned_days, trip_days}
-use Rattle.pt_desk_laws.proofs.SoundLemmas.{cancel_trip, change_trip, request_sound}
+use Rattle.pt_desk_laws.proofs.SoundLemmas.{change_trip, request_sound}
 use Rattle.pt_records.specs.Keys.{pair_key}
 use Rattle.pt_records.specs.Records.{Each, Edit, put, put_all, take_away}
 use Rattle.pt_records.proofs.OrderLemmas.{record_at-put_same}
@@ -127,7 +127,7 @@ left_there old s sound day (Some plan) is =
     let carried : HasVersionAmong s.vehicles plan = Each-found (HasVersionAmong s.vehicles) plan_key key plan s.planned (sound_carried s sound) is in
     left_carried old s (subst (λ v. IsTrue (has_version v s.vehicles)) same carried) (without old.id plan.stops)
 
-book_shaped : (s : State) (kept : Edit Kept) (number today : ℕ) (wish : Wish) (facts : WriteFacts) (made : Decision)
+book_shaped : (s : State) (kept : Edit Kept) (number today : ℕ) (wish : Wish) (facts : WishFacts) (made : Decision)
     → IsBooking booked number None today wish facts made → LeavesSound s kept made → IsShaped s made
 book_shaped s kept number today wish facts made (scheduled.Denied rule, by, is) leaves = subst (IsShaped s) (sym is) tt
 book_shaped s kept number today wish facts made (scheduled.Booked trip plan, by, (told, confirms, is)) leaves =
@@ -203,8 +203,7 @@ decided_shaped (write.Change trip wish) author today s kept made sound is leaves
     change_shaped (trip_of trip s) trip today wish s kept made refl sound
     (subst (λ f. IsChangeDecided f wish today (facts_of (write.Change trip wish) s) made) (change_trip (trip_of trip s) wish s) is) leaves
 decided_shaped (write.Cancel trip) author today s kept made sound is leaves =
-    cancel_shaped (trip_of trip s) trip s made refl sound
-    (subst (λ f. IsCancelDecided f (facts_of (write.Cancel trip) s) made) (cancel_trip (trip_of trip s) s) is)
+    cancel_shaped (trip_of trip s) trip s made refl sound is
 decided_shaped (write.Outcome trip outcome) author today s kept made sound is leaves = end_shaped (trip_of trip s) outcome s made is
 decided_shaped asked author today s kept made sound is leaves =
     no_plans s _ _ made is refl refl refl refl refl (omega arith) (inl refl)

@@ -4,10 +4,7 @@ use Rattle.pt_desk_rules.proofs.RulingLemmas.{with_its_kept}
 use Rattle.pt_desk_rules.proofs.deciding.decide.Goals as goal
 
 pub returns-clause-decided : goal.returns-clause-decided
-returns-clause-decided c =
-    let asked = c.args.write.now in
+returns-clause-decided c = λ asked now facts ruled.
     let me = c.args.me.now in
-    let now = c.args.now in
-    let facts = c.args.facts.now in
-    with_its_kept (first_failing (rules_of asked me now facts)) asked me now c.args.sent facts c.in_ok-made.made
-    c.in_ok-decided.decided c.in_ok-made.ensures.ruling c.in_ok-decided.ensures
+    with_its_kept (first_failing (rules_of asked me now facts)) asked me now c.args.sent facts c.args.ruling
+    c.in_ok-decided.decided ruled c.in_ok-decided.ensures

@@ -6,18 +6,20 @@ use Rattle.pt_store.proofs.gathering.gather_agency.Goals as goal
 pub returns : goal.returns
 returns g c = record {
   reads =
-      (reads_map _ _ _ _ (λ found. record found.1.1 { places = found.0; vehicles = found.1.0 })
-      (reads_pair _ _ _ (λ (s : State). s.places) (λ (s : State). (s.vehicles, no_facts s.policy)) _ _ c.in_ok-places.ensures.reads
-      (reads_pair _ _ _ (λ (s : State). s.vehicles) (λ (s : State). no_facts s.policy) _ _ c.in_ok-vehicles.ensures.reads
-      c.in_ok-gather_policy.ensures.reads)));
+      rw c.none.ensures.value
+      (reads_map _ _ _ _ (λ found. record (no_facts found.1.1) { places = found.0; vehicles = found.1.0 })
+      (reads_pair _ _ _ (λ (s : State). s.places) (λ (s : State). (s.vehicles, s.policy)) _ _
+      c.in_ok-places.ensures.reads
+      (reads_pair _ _ _ (λ (s : State). s.vehicles) (λ (s : State). s.policy) _ _ c.in_ok-vehicles.ensures.reads
+      c.in_ok-policy.ensures.reads)));
 }
 
-pub returns-in_err-gather_policy : goal.returns-in_err-gather_policy
-returns-in_err-gather_policy g c = record {
+pub returns-in_err-policy : goal.returns-in_err-policy
+returns-in_err-policy g c = record {
   reads =
       after c.in_ok-places.ensures.reads
       (after c.in_ok-vehicles.ensures.reads
-      (fault_handed c.from_residual-in_err-gather_policy.ensures.1 c.in_err-gather_policy.ensures.reads));
+      (fault_handed c.from_residual-in_err-policy.ensures.1 c.in_err-policy.ensures.reads));
 }
 
 pub returns-in_err-vehicles : goal.returns-in_err-vehicles

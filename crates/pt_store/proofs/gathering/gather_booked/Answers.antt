@@ -2,7 +2,7 @@ use Rattle.std.proofs.Common.{◌≡◌}
 use Rattle.pt_desk_rules.specs.Facts.{agency_facts}
 use Rattle.pt_desk_rules.specs.State.{State}
 use Rattle.pt_desk_rules.specs.declared.facts.DayFacts.{DayFacts}
-use Rattle.pt_desk_rules.specs.declared.facts.WriteFacts.{WriteFacts}
+use Rattle.pt_desk_rules.specs.declared.facts.WishFacts.{WishFacts}
 use Rattle.pt_store.specs.Wished.{day_with, vehicles_for, wish_by}
 use Rattle.pt_store.proofs.ReadLemmas.{after, fault_handed}
 use Rattle.pt_store.proofs.SomeLemmas.{memory_goes}
@@ -19,7 +19,7 @@ returns g c =
     record {
       reads =
           reads_onto _ _ _ agency_facts
-          (λ (agency : WriteFacts) (s : State). wish_by agency (day_with wish.day (vehicles_for wish agency.vehicles) s) c.args.rider c.args.old.now s) _ _
+          (λ (agency : WishFacts) (s : State). wish_by agency (day_with wish.day (vehicles_for wish agency.vehicles) s) c.args.rider c.args.old.now s) _ _
           c.in_ok-agency.ensures.reads
           (reads_onto _ _ _ (λ (s : State). day_with wish.day (vehicles_for wish c.in_ok-agency.agency.vehicles) s)
           (λ (day : DayFacts) (s : State). wish_by c.in_ok-agency.agency day c.args.rider c.args.old.now s) _ _

@@ -1,5 +1,4 @@
 use Rattle.std.specs.Prelude.{length}
-use Rattle.pt_desk_rules.specs.Facts.{no_facts}
 use Rattle.pt_desk_rules.specs.State.{State, rider_of}
 use Rattle.pt_store.proofs.ReadLemmas.{after, reads_pair, reads_map, fault_handed}
 use Rattle.pt_store.proofs.gathering.gather_rider.Goals as goal
@@ -7,18 +6,9 @@ use Rattle.pt_store.proofs.gathering.gather_rider.Goals as goal
 pub returns : goal.returns
 returns g c = record {
   reads =
-      (reads_map _ _ _ _ (λ found. record found.1.1 { rider = found.0; rider_count = found.1.0 })
-      (reads_pair _ _ _ (λ (s : State). rider_of c.args.new.now.id s) (λ (s : State). (length s.riders, no_facts s.policy)) _ _ c.in_ok-rider.ensures.reads
-      (reads_pair _ _ _ (λ (s : State). length s.riders) (λ (s : State). no_facts s.policy) _ _ c.in_ok-rider_count.ensures.reads
-      c.in_ok-gather_policy.ensures.reads)));
-}
-
-pub returns-in_err-gather_policy : goal.returns-in_err-gather_policy
-returns-in_err-gather_policy g c = record {
-  reads =
-      after c.in_ok-rider.ensures.reads
-      (after c.in_ok-rider_count.ensures.reads
-      (fault_handed c.from_residual-in_err-gather_policy.ensures.1 c.in_err-gather_policy.ensures.reads));
+      (reads_map _ _ _ _ (λ found. record { rider = found.0; rider_count = found.1 })
+      (reads_pair _ _ _ (λ (s : State). rider_of c.args.new.now.id s) (λ (s : State). length s.riders) _ _
+      c.in_ok-rider.ensures.reads c.in_ok-rider_count.ensures.reads));
 }
 
 pub returns-in_err-rider_count : goal.returns-in_err-rider_count

@@ -1,6 +1,5 @@
 use Rattle.std.proofs.Common.{sym}
 use Rattle.std.specs.Prelude.{is_some, length}
-use Rattle.pt_desk_rules.specs.Facts.{no_facts}
 use Rattle.pt_desk_rules.specs.State.{State, route_of}
 use Rattle.pt_store.proofs.ReadLemmas.{after, reads_pair, reads_map, fault_handed}
 use Rattle.pt_store.proofs.gathering.gather_route.Goals as goal
@@ -8,18 +7,9 @@ use Rattle.pt_store.proofs.gathering.gather_route.Goals as goal
 pub returns : goal.returns
 returns g c = record {
   reads =
-      rw (sym c.id.ensures.value) (reads_map _ _ _ _ (λ found. record found.1.1 { has_route = found.0; route_count = found.1.0 })
-      (reads_pair _ _ _ (λ (s : State). is_some (route_of c.id.result s)) (λ (s : State). (length s.routes, no_facts s.policy)) _ _ c.in_ok-has_route.ensures.reads
-      (reads_pair _ _ _ (λ (s : State). length s.routes) (λ (s : State). no_facts s.policy) _ _ c.in_ok-route_count.ensures.reads
-      c.in_ok-gather_policy.ensures.reads)));
-}
-
-pub returns-in_err-gather_policy : goal.returns-in_err-gather_policy
-returns-in_err-gather_policy g c = record {
-  reads =
-      after c.in_ok-has_route.ensures.reads
-      (after c.in_ok-route_count.ensures.reads
-      (fault_handed c.from_residual-in_err-gather_policy.ensures.1 c.in_err-gather_policy.ensures.reads));
+      rw (sym c.id.ensures.value) (reads_map _ _ _ _ (λ found. record { has_route = found.0; route_count = found.1 })
+      (reads_pair _ _ _ (λ (s : State). is_some (route_of c.id.result s)) (λ (s : State). length s.routes) _ _
+      c.in_ok-has_route.ensures.reads c.in_ok-route_count.ensures.reads));
 }
 
 pub returns-in_err-route_count : goal.returns-in_err-route_count
