@@ -1,5 +1,5 @@
 -- The tables of an earlier version as a transaction changes them into the current ones, and what a crash leaves.
-use Rattle.std.proofs.Common.{◌≡◌, ◌≤◌, ◌<◌, inl, inr, ℕ, List, [], ◌∷◌, ◌++◌, not, map, flat_map, IsPermutation, IsTrue, true, false, refl, sym, ap, subst, ◌∙◌, arith}
+use Rattle.std.proofs.Common.{◌≡◌, ◌≢◌, ◌≤◌, ◌<◌, inl, inr, ℕ, List, [], ◌∷◌, ◌++◌, not, map, flat_map, IsPermutation, IsTrue, Some, true, false, refl, sym, ap, subst, ◌∙◌, arith}
 use Rattle.std.specs.List.{AllByRecursion}
 use Rattle.std.proofs.lemmas.Bool.{cases_lt}
 use Rattle.sqlite.specs.Store.{Ghosts}
@@ -21,12 +21,13 @@ use Rattle.pt_records.specs.Records.{Each}
 use Rattle.pt_tables.specs.Migration.{IsMigrated, IsMigratedDesk, IsMigratedFrom, IsRaised}
 use Rattle.pt_tables_opening.specs.Opening.{IsEarlierVersion}
 use Rattle.pt_tables_rows.specs.Rows.{desk_row, versioned_row, number_value, row_if, rider_chair_rows, vehicle_chair_rows, trip_chair_rows}
-use Rattle.pt_tables_rows.specs.Schema.{IsEarlier, table_version, tables_of, tables_between, schema_of}
+use Rattle.pt_tables_rows.specs.Schema.{IsEarlier, table_version, tables, tables_of, tables_between, schema_of}
 use Rattle.pt_tables_rows.specs.Schema.{desk_schema, desk_table, callers_table, kept_table}
 use Rattle.pt_tables_rows.specs.Schema.{places_table, fixed_table, vehicles_table, riders_table, entries_table}
 use Rattle.pt_tables_rows.specs.Schema.{trips_table, stops_table, travel_table, rider_chairs_table}
 use Rattle.pt_tables_rows.specs.Schema.{vehicle_chairs_table, trip_chairs_table}
 use Rattle.pt_tables_rows.proofs.CreateLemmas.{none_there, tables_split}
+use Rattle.pt_tables_rows.proofs.NamedTables.{of_table, with_tree}
 use Rattle.pt_tables_rows.proofs.SameRowsLists.{all_front}
 use Rattle.pt_tables_rows.specs.Tables.{AddsVersions, AreRows, HasRows, HasRowsOf, columns_of}
 use Rattle.pt_tables_writing.specs.Writes.{Rewrites, RaisesVersion}
@@ -64,11 +65,21 @@ module _ (version : ℕ) (early : IsEarlier version) (old mid new : Database) (a
       all_front (Same old.trees mid.trees) (tables_of since) (tables_between since version)
       (subst (AllByRecursion (Same old.trees mid.trees)) (tables_split since version up_to) adds.kept)
 
-  kept : AllByRecursion (Same old.trees mid.trees) (tables_of 1)
-  kept = kept_since 1 early.0
+  -- a table of version 1 keeps the rows of its records
+  first : (t : Table) (rows : List Row) → with_tree t.tree (tables_of 1) ≡ Some t → AreRows t old.trees rows
+      → AreRows t mid.trees rows
+  first t rows is =
+      still t old.trees mid.trees rows (of_table (Same old.trees mid.trees) (tables_of 1) t is (kept_since 1 early.0))
+
+  -- and so does each table but the agency's as the version is raised
+  stays : (t : Table) (rows : List Row) → with_tree t.tree tables ≡ Some t → t.tree ≢ desk_table.tree
+      → AreRows t mid.trees rows → AreRows t new.trees rows
+  stays t rows is apart =
+      still t mid.trees new.trees rows
+      (of_table (λ t. t.tree ≢ desk_table.tree → Same mid.trees new.trees t) tables t is raised.others apart)
 
   agency_there : AreRows desk_table mid.trees (versioned_row version content.policy content.last_trip ∷ [])
-  agency_there = still desk_table old.trees mid.trees _ kept.0 was.records.desk
+  agency_there = first desk_table _ refl was.records.desk
 
   -- the tables of wheelchairs, before the version is raised
   record Chairs : Type 0 where
@@ -91,11 +102,14 @@ module _ (version : ℕ) (early : IsEarlier version) (old mid new : Database) (a
 
   chairs_kept : 2 ≤ version → Chairs
   chairs_kept since =
-      let kept_two = kept_since 2 since in
+      let there : (t : Table) (rows : List Row) → with_tree t.tree (tables_of 2) ≡ Some t → AreRows t old.trees rows
+      → AreRows t mid.trees rows =
+      λ t rows is.
+      still t old.trees mid.trees rows (of_table (Same old.trees mid.trees) (tables_of 2) t is (kept_since 2 since)) in
       record {
-        riders = still rider_chairs_table old.trees mid.trees _ kept_two.1.1.1.1.1.1.1.1.1.1.1.0 (was.rider_chairs since);
-        vehicles = still vehicle_chairs_table old.trees mid.trees _ kept_two.1.1.1.1.1.1.1.1.1.1.1.1.0 (was.vehicle_chairs since);
-        trips = still trip_chairs_table old.trees mid.trees _ kept_two.1.1.1.1.1.1.1.1.1.1.1.1.1.0 (was.trip_chairs since);
+        riders = there rider_chairs_table _ refl (was.rider_chairs since);
+        vehicles = there vehicle_chairs_table _ refl (was.vehicle_chairs since);
+        trips = there trip_chairs_table _ refl (was.trip_chairs since);
       }
 
   chairs : Chairs
@@ -106,24 +120,23 @@ module _ (version : ℕ) (early : IsEarlier version) (old mid new : Database) (a
 
   pub rows_raised : HasRows content new.trees
   rows_raised =
-      let others = raised.others in
       record {
         records = record {
           desk = (raised.rows (row_holds version content.policy content.last_trip mid.trees agency_there)).rows;
-          callers = still callers_table old.trees new.trees _ (others.1.0 (λ e. cc) ∙ kept.1.0) was.records.callers;
-          kept = still kept_table old.trees new.trees _ (others.1.1.0 (λ e. cc) ∙ kept.1.1.0) was.records.kept;
-          places = still places_table old.trees new.trees _ (others.1.1.1.0 (λ e. cc) ∙ kept.1.1.1.0) was.records.places;
-          fixed = still fixed_table old.trees new.trees _ (others.1.1.1.1.0 (λ e. cc) ∙ kept.1.1.1.1.0) was.records.fixed;
-          vehicles = still vehicles_table old.trees new.trees _ (others.1.1.1.1.1.0 (λ e. cc) ∙ kept.1.1.1.1.1.0) was.records.vehicles;
-          riders = still riders_table old.trees new.trees _ (others.1.1.1.1.1.1.0 (λ e. cc) ∙ kept.1.1.1.1.1.1.0) was.records.riders;
-          entries = still entries_table old.trees new.trees _ (others.1.1.1.1.1.1.1.0 (λ e. cc) ∙ kept.1.1.1.1.1.1.1.0) was.records.entries;
-          trips = still trips_table old.trees new.trees _ (others.1.1.1.1.1.1.1.1.0 (λ e. cc) ∙ kept.1.1.1.1.1.1.1.1.0) was.records.trips;
-          stops = still stops_table old.trees new.trees _ (others.1.1.1.1.1.1.1.1.1.0 (λ e. cc) ∙ kept.1.1.1.1.1.1.1.1.1.0) was.records.stops;
-          travel = still travel_table old.trees new.trees _ (others.1.1.1.1.1.1.1.1.1.1.0 (λ e. cc) ∙ kept.1.1.1.1.1.1.1.1.1.1.0) was.records.travel;
+          callers = stays callers_table _ refl (λ e. cc) (first callers_table _ refl was.records.callers);
+          kept = stays kept_table _ refl (λ e. cc) (first kept_table _ refl was.records.kept);
+          places = stays places_table _ refl (λ e. cc) (first places_table _ refl was.records.places);
+          fixed = stays fixed_table _ refl (λ e. cc) (first fixed_table _ refl was.records.fixed);
+          vehicles = stays vehicles_table _ refl (λ e. cc) (first vehicles_table _ refl was.records.vehicles);
+          riders = stays riders_table _ refl (λ e. cc) (first riders_table _ refl was.records.riders);
+          entries = stays entries_table _ refl (λ e. cc) (first entries_table _ refl was.records.entries);
+          trips = stays trips_table _ refl (λ e. cc) (first trips_table _ refl was.records.trips);
+          stops = stays stops_table _ refl (λ e. cc) (first stops_table _ refl was.records.stops);
+          travel = stays travel_table _ refl (λ e. cc) (first travel_table _ refl was.records.travel);
         };
-        rider_chairs = still rider_chairs_table mid.trees new.trees _ (others.1.1.1.1.1.1.1.1.1.1.1.0 (λ e. cc)) chairs.riders;
-        vehicle_chairs = still vehicle_chairs_table mid.trees new.trees _ (others.1.1.1.1.1.1.1.1.1.1.1.1.0 (λ e. cc)) chairs.vehicles;
-        trip_chairs = still trip_chairs_table mid.trees new.trees _ (others.1.1.1.1.1.1.1.1.1.1.1.1.1.0 (λ e. cc)) chairs.trips;
+        rider_chairs = stays rider_chairs_table _ refl (λ e. cc) chairs.riders;
+        vehicle_chairs = stays vehicle_chairs_table _ refl (λ e. cc) chairs.vehicles;
+        trip_chairs = stays trip_chairs_table _ refl (λ e. cc) chairs.trips;
       }
 
 version_is : schema_of table_version ≡ desk_schema

@@ -34,6 +34,7 @@ use Rattle.pt_tables_rows.specs.Schema.{vehicles_table, riders_table}
 use Rattle.pt_tables_rows.specs.Schema.{entries_table, trips_table, stops_table, travel_table, rider_chairs_table, vehicle_chairs_table, trip_chairs_table, trip_indexes, trips_rider, trips_day}
 use Rattle.pt_tables_rows.specs.declared.schema.TheConstants.{STATEMENTS}
 use Rattle.pt_tables_rows.specs.Tables.{AddsIfOk, AddsVersions, AreRows, Fills, HasRows, HaveRowids, IsBlank, LeadsIfOk, Stands, columns_of}
+use Rattle.pt_tables_rows.proofs.NamedTables.{of_table, with_tree}
 use Rattle.pt_tables_rows.proofs.PartLemmas.{went, same_value}
 use Rattle.pt_tables_rows.proofs.SameRowsLists.{all_back, all_front}
 
@@ -459,25 +460,26 @@ module _ (policy : Policy) (caller : Caller) (blank desked done : Database) (fir
   rows_of_new : (shown : Policy) → desk_row shown 0 ≡ desk_row policy 0 → HasRows (new_state (caller ∷ []) shown) done.trees
   rows_of_new shown same =
       let trees = done.trees in
-      let none = unfilled in
+      let none : (t : Table) → with_tree t.tree later_tables ≡ Some t → AreRows t trees [] =
+      λ t is. none_there t trees [] (of_table (Empty trees) later_tables t is unfilled) refl in
       record {
         records = record {
           desk = subst (λ rows. IsPermutation (map (columns_of desk_table) rows) (desk_row shown 0 ∷ [])) (sym same_desk)
               (subst (λ row. AreRows desk_table desked.trees (row ∷ [])) (sym same) (desk.rows first.rows.0));
           callers = callers.rows no_callers;
-          kept = none_there kept_table trees [] none.0 refl;
-          places = none_there places_table trees [] none.1.0 refl;
-          fixed = none_there fixed_table trees [] none.1.1.0 refl;
-          vehicles = none_there vehicles_table trees [] none.1.1.1.0 refl;
-          riders = none_there riders_table trees [] none.1.1.1.1.0 refl;
-          entries = none_there entries_table trees [] none.1.1.1.1.1.0 refl;
-          trips = none_there trips_table trees [] none.1.1.1.1.1.1.0 refl;
-          stops = none_there stops_table trees [] none.1.1.1.1.1.1.1.0 refl;
-          travel = none_there travel_table trees [] none.1.1.1.1.1.1.1.1.0 refl;
+          kept = none kept_table refl;
+          places = none places_table refl;
+          fixed = none fixed_table refl;
+          vehicles = none vehicles_table refl;
+          riders = none riders_table refl;
+          entries = none entries_table refl;
+          trips = none trips_table refl;
+          stops = none stops_table refl;
+          travel = none travel_table refl;
         };
-        rider_chairs = none_there rider_chairs_table trees [] none.1.1.1.1.1.1.1.1.1.0 refl;
-        vehicle_chairs = none_there vehicle_chairs_table trees [] none.1.1.1.1.1.1.1.1.1.1.0 refl;
-        trip_chairs = none_there trip_chairs_table trees [] none.1.1.1.1.1.1.1.1.1.1.1.0 refl;
+        rider_chairs = none rider_chairs_table refl;
+        vehicle_chairs = none vehicle_chairs_table refl;
+        trip_chairs = none trip_chairs_table refl;
       }
 
   -- a content with this caller alone, and a policy with the same row as the one that was written

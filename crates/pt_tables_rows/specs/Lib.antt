@@ -1,4 +1,5 @@
 pub mod Opens
 pub mod Rows
 pub mod Schema
+pub mod Step
 pub mod Tables

@@ -1,7 +1,6 @@
-ghost use Rattle.std.specs.Prelude.{◌≡◌, IsTrue, map};
-ghost use Rattle.sqlite.specs.Held.{state};
-ghost use Rattle.sqlite.specs.State.{HasCleanDisk, Survives};
+ghost use Rattle.std.specs.Prelude.{◌≡◌, map};
 ghost use Rattle.pt_tables_rows.specs.Schema.{no_schema, statement_count};
+ghost use Rattle.pt_tables_rows.specs.Step.{Steps};
 ghost use Rattle.pt_tables_rows.specs.Tables.{AddsIfOk, IsBlank, LeadsIfOk};
 
 use sqlite::{Alter, Error, Transaction};
@@ -80,11 +79,7 @@ fn run<S: Alter>(
     to: u32,
 ) -> Result<(), Error>
     requires all { map (λ statement. statement.now) statements.now ≡ map (λ statement. statement.now) STATEMENTS }
-    ensures same_reference { tx.new.conn.ghost_name ≡ tx.old.conn.ghost_name }
-    ensures added { HasCleanDisk (state S.Store tx.new.conn.now)
-        → IsTrue (state S.Store tx.old.conn.now).in_transaction
-        → AddsIfOk from to (state S.Store tx.old.conn.now) (state S.Store tx.new.conn.now) result }
-    ensures survives { Survives (state S.Store tx.old.conn.now) (state S.Store tx.new.conn.now) (λ _. ⊥) }
+    ensures step { Steps S.Store tx.old tx.new (λ old new. AddsIfOk from to old new result) }
 {
     for place in statement_count(from)..statement_count(to) {
         tx.execute(statements[place], &[])?;
@@ -95,22 +90,15 @@ fn run<S: Alter>(
 /// Adds the tables and indexes of the versions after `from`, up to `to`, to a database of version `from`. A database of
 /// version 0 is empty.
 pub fn add_versions<S: Alter>(tx: &mut Transaction<'_, S>, from: u32, to: u32) -> Result<(), Error>
-    ensures same_reference { tx.new.conn.ghost_name ≡ tx.old.conn.ghost_name }
-    ensures added { HasCleanDisk (state S.Store tx.new.conn.now)
-        → IsTrue (state S.Store tx.old.conn.now).in_transaction
-        → AddsIfOk from to (state S.Store tx.old.conn.now) (state S.Store tx.new.conn.now) result }
-    ensures survives { Survives (state S.Store tx.old.conn.now) (state S.Store tx.new.conn.now) (λ _. ⊥) }
+    ensures step { Steps S.Store tx.old tx.new (λ old new. AddsIfOk from to old new result) }
 {
     run(tx, &STATEMENTS, from, to)
 }
 
 /// Creates the tables and indexes of the current version in an empty database.
 pub fn create_tables<S: Alter>(tx: &mut Transaction<'_, S>) -> Result<(), Error>
-    ensures same_reference { tx.new.conn.ghost_name ≡ tx.old.conn.ghost_name }
-    ensures made { HasCleanDisk (state S.Store tx.new.conn.now) → IsTrue (state S.Store tx.old.conn.now).in_transaction
-        → LeadsIfOk (state S.Store tx.old.conn.now) (state S.Store tx.new.conn.now)
-        (λ db. db.schema ≡ no_schema) IsBlank result }
-    ensures survives { Survives (state S.Store tx.old.conn.now) (state S.Store tx.new.conn.now) (λ _. ⊥) }
+    ensures step { Steps S.Store tx.old tx.new
+        (λ old new. LeadsIfOk old new (λ db. db.schema ≡ no_schema) IsBlank result) }
 {
     add_versions(tx, 0, TABLE_VERSION)
 }

@@ -1,12 +1,11 @@
 -- What the statements mean that put rows of second tables, at most one for each record.
-use Rattle.std.proofs.Common.{◌≡◌, ℕ, ◌<◌, ◌^◌, ◌==◌, pos, Bool, true, false, not, List, [], ◌∷◌, ◌++◌, flat_map, IsTrue, Result, Ok, Err, refl, sym, ap, subst}
+use Rattle.std.proofs.Common.{◌≡◌, ℕ, ◌<◌, ◌^◌, ◌==◌, pos, Bool, true, false, not, List, [], ◌∷◌, ◌++◌, flat_map, IsTrue, Ok, refl, sym, ap, subst}
 use Rattle.std.specs.Prelude.{IsPermutation}
 use Rattle.std.specs.List.{AllByRecursion}
 use Rattle.sqlite.specs.Cast.{cast_row}
 use Rattle.sqlite.specs.Collation.TheVariants.{Binary}
 use Rattle.sqlite.specs.Edit.{with_rowid}
 use Rattle.sqlite.specs.Effect.{Database}
-use Rattle.sqlite.specs.declared.error.Error.{Error}
 use Rattle.sqlite.specs.Listing.{understood}
 use Rattle.sqlite.specs.Order.{Row}
 use Rattle.sqlite.specs.Rowids.TheVariants.{Chosen}
@@ -25,7 +24,6 @@ use Rattle.pt_desk_rules.specs.State.{rider_key, trip_key, vehicle_key}
 use Rattle.pt_records.specs.Records.{put}
 use Rattle.pt_tables_rows.specs.Rows.{number_value, row_if, rider_chair_rows, trip_chair_rows, vehicle_chair_rows}
 use Rattle.pt_tables_rows.specs.Schema.{desk_schema, rider_chairs_table, trip_chairs_table, vehicle_chairs_table}
-use Rattle.pt_tables_rows.specs.Tables.{ChangesIfOk}
 use Rattle.pt_spelling.specs.Ranges.{IsVehicle}
 use Rattle.pt_tables_writing.specs.Grouped.{Adds}
 use Rattle.pt_tables_writing.specs.Writes.{Puts, Takes}
@@ -49,11 +47,6 @@ pub puts_none : {A : Type 0} (table : Table) (key : A → ℕ) (Fits : A → Typ
 puts_none table key Fits rows_of new none old_db new_db took xs order fits =
     rewrites-permuted table (flat_map rows_of xs) (flat_map rows_of (others key new xs)) (flat_map rows_of (put key new xs)) old_db new_db
     (subst (λ rs. IsPermutation (rs ++ flat_map rows_of (others key new xs)) (flat_map rows_of (put key new xs))) none (rows-put key rows_of new xs order)) (took xs order fits)
-
-pub changes_none : {A X : Type 0} (table : Table) (key : A → ℕ) (Fits : A → Type 0) (rows_of : A → List Row) (new : A) → rows_of new ≡ [] → (old_state new_state : State) (r : Result X Error)
-    → ChangesIfOk old_state new_state (Takes table key Fits rows_of new) r → ChangesIfOk old_state new_state (Puts table key Fits rows_of new) r
-changes_none table key Fits rows_of new none a b (Ok x) h = (h.0, h.1, λ has. puts_none table key Fits rows_of new none a.now b.now (h.2 has))
-changes_none table key Fits rows_of new none a b (Err e) h = h
 
 -- ---- riders
 

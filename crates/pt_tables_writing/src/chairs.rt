@@ -1,13 +1,11 @@
 //! The rows of riders and trips in wheelchairs, and of the wheelchair places of vehicles.
 
-ghost use Rattle.std.specs.Prelude.{◌≡◌, ◌==◌, not, IsTrue};
-ghost use Rattle.sqlite.specs.Held.{state};
-ghost use Rattle.sqlite.specs.State.{Survives};
+ghost use Rattle.std.specs.Prelude.{◌==◌, not, IsTrue};
 ghost use Rattle.pt_desk_rules.specs.State.{rider_key, trip_key};
 ghost use Rattle.pt_tables_rows.specs.Rows.{rider_chair_rows, trip_chair_rows, vehicle_chair_rows};
 ghost use Rattle.pt_tables_rows.specs.Schema.{rider_chairs_table, trip_chairs_table, vehicle_chairs_table};
-ghost use Rattle.pt_tables_rows.specs.Tables.{Makes};
 ghost use Rattle.pt_tables_writing.specs.Grouped.{Adds};
+ghost use Rattle.pt_tables_writing.specs.Step.{Writes};
 ghost use Rattle.pt_tables_writing.specs.Writes.{Puts};
 ghost use Rattle.pt_desk_rules.specs.Ranges.{FitsRider, FitsTrip};
 
@@ -49,10 +47,8 @@ impl Stored for RiderChairs {
 /// Puts the row of a rider in a wheelchair.
 fn add_rider_chair<S: Alter>(tx: &mut Transaction<'_, S>, rider: &Rider) -> Result<(), Error>
     requires marked { IsTrue rider.now.wheelchair }
-    ensures same_reference { tx.new.conn.ghost_name ≡ tx.old.conn.ghost_name }
-    ensures written { Makes (state S.Store tx.old.conn.now) (state S.Store tx.new.conn.now)
+    ensures step { Writes S.Store tx.old tx.new
         (Puts rider_chairs_table rider_key FitsRider rider_chair_rows rider.now) result }
-    ensures survives { Survives (state S.Store tx.old.conn.now) (state S.Store tx.new.conn.now) (λ _. ⊥) }
 {
     tx.execute(PUT_RIDER_CHAIR, params![rider.id.number()])?;
     Ok(())
@@ -76,10 +72,8 @@ impl Stored for TripChairs {
 /// Puts the row of the trip of a rider in a wheelchair.
 fn add_trip_chair<S: Alter>(tx: &mut Transaction<'_, S>, trip: &Trip) -> Result<(), Error>
     requires marked { IsTrue trip.now.wheelchair }
-    ensures same_reference { tx.new.conn.ghost_name ≡ tx.old.conn.ghost_name }
-    ensures written { Makes (state S.Store tx.old.conn.now) (state S.Store tx.new.conn.now)
+    ensures step { Writes S.Store tx.old tx.new
         (Puts trip_chairs_table trip_key FitsTrip trip_chair_rows trip.now) result }
-    ensures survives { Survives (state S.Store tx.old.conn.now) (state S.Store tx.new.conn.now) (λ _. ⊥) }
 {
     tx.execute(PUT_TRIP_CHAIR, params![trip.id.number()])?;
     Ok(())
@@ -105,10 +99,7 @@ fn insert_vehicle_chairs<S: Alter>(
     tx: &mut Transaction<'_, S>,
     version: &Vehicle,
 ) -> Result<(), Error>
-    ensures same_reference { tx.new.conn.ghost_name ≡ tx.old.conn.ghost_name }
-    ensures written { Makes (state S.Store tx.old.conn.now) (state S.Store tx.new.conn.now)
-        (Adds vehicle_chairs_table (vehicle_chair_rows version.now)) result }
-    ensures survives { Survives (state S.Store tx.old.conn.now) (state S.Store tx.new.conn.now) (λ _. ⊥) }
+    ensures step { Writes S.Store tx.old tx.new (Adds vehicle_chairs_table (vehicle_chair_rows version.now)) result }
 {
     if version.chairs == 0 {
         return Ok(());
@@ -119,10 +110,7 @@ fn insert_vehicle_chairs<S: Alter>(
 /// Adds the row of the wheelchair places of a vehicle, which has at least one.
 fn add_vehicle_chairs<S: Alter>(tx: &mut Transaction<'_, S>, version: &Vehicle) -> Result<(), Error>
     requires some { IsTrue (not (version.now.chairs == 0)) }
-    ensures same_reference { tx.new.conn.ghost_name ≡ tx.old.conn.ghost_name }
-    ensures written { Makes (state S.Store tx.old.conn.now) (state S.Store tx.new.conn.now)
-        (Adds vehicle_chairs_table (vehicle_chair_rows version.now)) result }
-    ensures survives { Survives (state S.Store tx.old.conn.now) (state S.Store tx.new.conn.now) (λ _. ⊥) }
+    ensures step { Writes S.Store tx.old tx.new (Adds vehicle_chairs_table (vehicle_chair_rows version.now)) result }
 {
     tx.execute(
         INSERT_VEHICLE_CHAIRS,

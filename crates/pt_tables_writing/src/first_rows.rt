@@ -1,11 +1,12 @@
 ghost use Rattle.std.specs.Prelude.{◌≡◌, IsTrue, OnOk};
 ghost use Rattle.sqlite.specs.Effect.{IsDatabase};
 ghost use Rattle.sqlite.specs.Held.{state};
-ghost use Rattle.sqlite.specs.State.{HasCleanDisk, Survives};
+ghost use Rattle.sqlite.specs.State.{HasCleanDisk};
 ghost use Rattle.pt_tables_writing.specs.Least.{first_admin};
+ghost use Rattle.pt_tables_writing.specs.Step.{Writes};
 ghost use Rattle.pt_tables_rows.specs.Rows.{desk_row, caller_row};
 ghost use Rattle.pt_tables_rows.specs.Schema.{desk_schema, desk_table, callers_table};
-ghost use Rattle.pt_tables_rows.specs.Tables.{Fills, Makes};
+ghost use Rattle.pt_tables_rows.specs.Tables.{Fills};
 
 use pt_base::Policy;
 use pt_requests::Digest;
@@ -34,10 +35,7 @@ pub fn insert_desk<S: Alter>(
     policy: &Policy,
     last_trip: u32,
 ) -> Result<(), Error>
-    ensures same_reference { tx.new.conn.ghost_name ≡ tx.old.conn.ghost_name }
-    ensures filled { Makes (state S.Store tx.old.conn.now) (state S.Store tx.new.conn.now)
-        (Fills desk_table (desk_row policy.now last_trip)) result }
-    ensures survives { Survives (state S.Store tx.old.conn.now) (state S.Store tx.new.conn.now) (λ _. ⊥) }
+    ensures step { Writes S.Store tx.old tx.new (Fills desk_table (desk_row policy.now last_trip)) result }
 {
     tx.execute(
         INSERT_DESK,
@@ -60,14 +58,11 @@ pub fn insert_desk<S: Alter>(
 
 /// Inserts the admin whose key has this digest into the empty table of callers.
 pub fn insert_admin<S: Alter>(tx: &mut Transaction<'_, S>, digest: &Digest) -> Result<(), Error>
-    ensures same_reference { tx.new.conn.ghost_name ≡ tx.old.conn.ghost_name }
-    ensures filled { Makes (state S.Store tx.old.conn.now) (state S.Store tx.new.conn.now)
-        (Fills callers_table (caller_row (first_admin digest.now))) result }
+    ensures step { Writes S.Store tx.old tx.new (Fills callers_table (caller_row (first_admin digest.now))) result }
     ensures sound { HasCleanDisk (state S.Store tx.new.conn.now)
         → IsTrue (state S.Store tx.old.conn.now).in_transaction
         → OnOk result ((state S.Store tx.old.conn.now).now.schema ≡ desk_schema
         → IsDatabase (state S.Store tx.new.conn.now).now) }
-    ensures survives { Survives (state S.Store tx.old.conn.now) (state S.Store tx.new.conn.now) (λ _. ⊥) }
 {
     tx.execute(
         INSERT_CALLER,

@@ -1,12 +1,11 @@
 ghost use Rattle.std.specs.Prelude.{◌≡◌, ◌∷◌, [], IfSome, Some};
-ghost use Rattle.sqlite.specs.Held.{state};
-ghost use Rattle.sqlite.specs.State.{Survives};
 ghost use Rattle.pt_records.specs.Records.{record_at};
 ghost use Rattle.pt_scheduling.specs.Plan.{plan_key};
 ghost use Rattle.pt_tables_rows.specs.Rows.{stop_rows};
 ghost use Rattle.pt_tables_rows.specs.Schema.{stops_table};
-ghost use Rattle.pt_tables_rows.specs.Tables.{Makes, IsStoredPlan};
+ghost use Rattle.pt_tables_rows.specs.Tables.{IsStoredPlan};
 ghost use Rattle.pt_tables_writing.specs.Groups.{KnowsEdited, OfEach};
+ghost use Rattle.pt_tables_writing.specs.Step.{Writes};
 ghost use Rattle.pt_tables_writing.specs.Stored.{EditsTable};
 
 use crate::grouped::replace_plan;
@@ -38,11 +37,9 @@ pub(crate) fn write_plans<S: Alter>(
     edits: &Edits<Plan>,
     records: &Table<Plan>,
 ) -> Result<(), Error>
-    ensures same_reference { tx.new.conn.ghost_name ≡ tx.old.conn.ghost_name }
-    ensures written { Makes (state S.Store tx.old.conn.now) (state S.Store tx.new.conn.now)
+    ensures step { Writes S.Store tx.old tx.new
         (OfEach (KnowsEdited plan_key edits.now records.now.items)
         (EditsTable stops_table plan_key IsStoredPlan stop_rows edits.now)) result }
-    ensures survives { Survives (state S.Store tx.old.conn.now) (state S.Store tx.new.conn.now) (λ _. ⊥) }
 {
     match replacement(edits, records) {
         Some((before, plan)) => replace_plan(tx, before, plan),

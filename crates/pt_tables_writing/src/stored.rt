@@ -1,11 +1,9 @@
-ghost use Rattle.std.specs.Prelude.{◌≡◌, List};
-ghost use Rattle.sqlite.specs.Held.{state};
+ghost use Rattle.std.specs.Prelude.{List};
 ghost use Rattle.sqlite.specs.Order.{Row};
-ghost use Rattle.sqlite.specs.State.{Survives};
 ghost use Rattle.sqlite.specs.Table.{Table as StoredTable};
 ghost use Rattle.pt_tables_writing.specs.Groups.{KnowsTaken, OfEach};
+ghost use Rattle.pt_tables_writing.specs.Step.{Writes};
 ghost use Rattle.pt_tables_writing.specs.Stored.{EditsTable, PutsAll, TakesAll, TakesSpans};
-ghost use Rattle.pt_tables_rows.specs.Tables.{Makes};
 ghost use Rattle.pt_tables_writing.specs.Writes.{Puts, Takes};
 
 use pt_records::{Edits, Keyed, Span, Table};
@@ -16,17 +14,13 @@ use sqlite::{Alter, Error, Transaction};
 pub(crate) trait Stored: TableOf {
     /// Puts the record's rows, instead of those of the record with the same key.
     fn put<S: Alter>(tx: &mut Transaction<'_, S>, one: &Self::Record) -> Result<(), Error>
-        ensures same_reference { tx.new.conn.ghost_name ≡ tx.old.conn.ghost_name }
-        ensures written { Makes (state S.Store tx.old.conn.now) (state S.Store tx.new.conn.now)
-            (Puts Self.home Self.Record.key Self.Fits Self.rows_of one.now) result }
-        ensures survives { Survives (state S.Store tx.old.conn.now) (state S.Store tx.new.conn.now) (λ _. ⊥) };
+        ensures step { Writes S.Store tx.old tx.new
+            (Puts Self.home Self.Record.key Self.Fits Self.rows_of one.now) result };
 
     /// Deletes the rows of the record with the same key.
     fn take<S: Alter>(tx: &mut Transaction<'_, S>, one: &Self::Record) -> Result<(), Error>
-        ensures same_reference { tx.new.conn.ghost_name ≡ tx.old.conn.ghost_name }
-        ensures written { Makes (state S.Store tx.old.conn.now) (state S.Store tx.new.conn.now)
-            (Takes Self.home Self.Record.key Self.Fits Self.rows_of one.now) result }
-        ensures survives { Survives (state S.Store tx.old.conn.now) (state S.Store tx.new.conn.now) (λ _. ⊥) };
+        ensures step { Writes S.Store tx.old tx.new
+            (Takes Self.home Self.Record.key Self.Fits Self.rows_of one.now) result };
 }
 
 /// Puts each of the records.
@@ -34,10 +28,7 @@ pub(crate) fn put_each<S: Alter, T: Stored>(
     tx: &mut Transaction<'_, S>,
     news: &[T::Record],
 ) -> Result<(), Error>
-    ensures same_reference { tx.new.conn.ghost_name ≡ tx.old.conn.ghost_name }
-    ensures written { Makes (state S.Store tx.old.conn.now) (state S.Store tx.new.conn.now)
-        (PutsAll T.home T.Record.key T.Fits T.rows_of news.now) result }
-    ensures survives { Survives (state S.Store tx.old.conn.now) (state S.Store tx.new.conn.now) (λ _. ⊥) }
+    ensures step { Writes S.Store tx.old tx.new (PutsAll T.home T.Record.key T.Fits T.rows_of news.now) result }
 {
     for new in news {
         T::put(tx, new)?;
@@ -50,10 +41,7 @@ fn take_each<S: Alter, T: Stored>(
     tx: &mut Transaction<'_, S>,
     gone: &[T::Record],
 ) -> Result<(), Error>
-    ensures same_reference { tx.new.conn.ghost_name ≡ tx.old.conn.ghost_name }
-    ensures written { Makes (state S.Store tx.old.conn.now) (state S.Store tx.new.conn.now)
-        (TakesAll T.home T.Record.key T.Fits T.rows_of gone.now) result }
-    ensures survives { Survives (state S.Store tx.old.conn.now) (state S.Store tx.new.conn.now) (λ _. ⊥) }
+    ensures step { Writes S.Store tx.old tx.new (TakesAll T.home T.Record.key T.Fits T.rows_of gone.now) result }
 {
     for old in gone {
         T::take(tx, old)?;
@@ -67,11 +55,9 @@ pub(crate) fn take_spans<S: Alter, T: Stored>(
     spans: &[Span],
     records: &Table<T::Record>,
 ) -> Result<(), Error>
-    ensures same_reference { tx.new.conn.ghost_name ≡ tx.old.conn.ghost_name }
-    ensures written { Makes (state S.Store tx.old.conn.now) (state S.Store tx.new.conn.now)
+    ensures step { Writes S.Store tx.old tx.new
         (OfEach (KnowsTaken T.Record.key spans.now records.now.items)
         (TakesSpans T.home T.Record.key T.Fits T.rows_of spans.now)) result }
-    ensures survives { Survives (state S.Store tx.old.conn.now) (state S.Store tx.new.conn.now) (λ _. ⊥) }
 {
     for span in spans {
         take_each::<S, T>(tx, records.within(span))?;
@@ -85,11 +71,9 @@ pub(crate) fn write_edits<S: Alter, T: Stored>(
     edits: &Edits<T::Record>,
     records: &Table<T::Record>,
 ) -> Result<(), Error>
-    ensures same_reference { tx.new.conn.ghost_name ≡ tx.old.conn.ghost_name }
-    ensures written { Makes (state S.Store tx.old.conn.now) (state S.Store tx.new.conn.now)
+    ensures step { Writes S.Store tx.old tx.new
         (OfEach (KnowsTaken T.Record.key edits.now.away records.now.items)
         (EditsTable T.home T.Record.key T.Fits T.rows_of edits.now)) result }
-    ensures survives { Survives (state S.Store tx.old.conn.now) (state S.Store tx.new.conn.now) (λ _. ⊥) }
 {
     take_spans::<S, T>(tx, edits.spans(), records)?;
     put_each::<S, T>(tx, edits.puts())

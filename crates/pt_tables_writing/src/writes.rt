@@ -10,7 +10,8 @@ ghost use Rattle.pt_tables_writing.specs.Committing.{IsMade, LeadsTo};
 ghost use Rattle.pt_tables_writing.specs.Least.{IsUndone};
 ghost use Rattle.pt_tables_rows.specs.Rows.{desk_row};
 ghost use Rattle.pt_tables_rows.specs.Schema.{desk_table};
-ghost use Rattle.pt_tables_rows.specs.Tables.{Makes, IsWellFormed, PutsWellFormed};
+ghost use Rattle.pt_tables_rows.specs.Tables.{IsWellFormed, PutsWellFormed};
+ghost use Rattle.pt_tables_writing.specs.Step.{Writes};
 ghost use Rattle.pt_tables_writing.specs.Writes.{Rewrites};
 
 use crate::numbered::write_desk;
@@ -33,10 +34,8 @@ fn write_riders<S: Alter>(
     change: &Change,
     known: &ListKeeper,
 ) -> Result<(), Error>
-    ensures same_reference { tx.new.conn.ghost_name ≡ tx.old.conn.ghost_name }
-    ensures written { Makes (state S.Store tx.old.conn.now) (state S.Store tx.new.conn.now)
+    ensures step { Writes S.Store tx.old tx.new
         (OfEach (AgreesFor change.now known.now.content) (WritesRiders change.now)) result }
-    ensures survives { Survives (state S.Store tx.old.conn.now) (state S.Store tx.new.conn.now) (λ _. ⊥) }
 {
     let riders = known.riders_table();
     write_edits::<S, Riders>(tx, &change.riders, riders)?;
@@ -51,11 +50,9 @@ fn write_people<S: Alter>(
     change: &Change,
     known: &ListKeeper,
 ) -> Result<(), Error>
-    ensures same_reference { tx.new.conn.ghost_name ≡ tx.old.conn.ghost_name }
-    ensures written { Makes (state S.Store tx.old.conn.now) (state S.Store tx.new.conn.now)
+    ensures step { Writes S.Store tx.old tx.new
         (OfEach (AgreesFor change.now known.now.content) (λ content.
         Leads change.now content content (with_people change.now content))) result }
-    ensures survives { Survives (state S.Store tx.old.conn.now) (state S.Store tx.new.conn.now) (λ _. ⊥) }
 {
     write_edits::<S, Callers>(tx, &change.callers, known.callers_table())?;
     write_edits::<S, KeptWrites>(tx, &change.kept, known.kept_table())?;
@@ -69,10 +66,8 @@ fn write_vehicles<S: Alter>(
     change: &Change,
     known: &ListKeeper,
 ) -> Result<(), Error>
-    ensures same_reference { tx.new.conn.ghost_name ≡ tx.old.conn.ghost_name }
-    ensures written { Makes (state S.Store tx.old.conn.now) (state S.Store tx.new.conn.now)
+    ensures step { Writes S.Store tx.old tx.new
         (OfEach (AgreesFor change.now known.now.content) (WritesVehicles change.now)) result }
-    ensures survives { Survives (state S.Store tx.old.conn.now) (state S.Store tx.new.conn.now) (λ _. ⊥) }
 {
     write_edits::<S, Vehicles>(tx, &change.vehicles, known.vehicles_table())?;
     put_each::<S, VehicleChairs>(tx, change.vehicles.puts())
@@ -84,10 +79,8 @@ fn write_fleet<S: Alter>(
     change: &Change,
     known: &ListKeeper,
 ) -> Result<(), Error>
-    ensures same_reference { tx.new.conn.ghost_name ≡ tx.old.conn.ghost_name }
-    ensures written { Makes (state S.Store tx.old.conn.now) (state S.Store tx.new.conn.now)
+    ensures step { Writes S.Store tx.old tx.new
         (OfEach (AgreesFor change.now known.now.content) (WritesFleet change.now)) result }
-    ensures survives { Survives (state S.Store tx.old.conn.now) (state S.Store tx.new.conn.now) (λ _. ⊥) }
 {
     take_spans::<S, VehicleChairs>(tx, change.vehicles.spans(), known.vehicles_table())?;
     write_vehicles(tx, change, known)
@@ -99,12 +92,10 @@ fn write_area<S: Alter>(
     change: &Change,
     known: &ListKeeper,
 ) -> Result<(), Error>
-    ensures same_reference { tx.new.conn.ghost_name ≡ tx.old.conn.ghost_name }
-    ensures written { Makes (state S.Store tx.old.conn.now) (state S.Store tx.new.conn.now)
+    ensures step { Writes S.Store tx.old tx.new
         (OfEach (AgreesFor change.now known.now.content) (λ content.
         let before = with_people change.now content in
         Leads change.now content before (with_area change.now before))) result }
-    ensures survives { Survives (state S.Store tx.old.conn.now) (state S.Store tx.new.conn.now) (λ _. ⊥) }
 {
     write_edits::<S, Places>(tx, &change.places, known.places_table())?;
     write_edits::<S, FixedRoutes>(tx, &change.routes, known.routes_table())?;
@@ -138,15 +129,13 @@ fn write_settings<S: Alter>(
     change: &Change,
     known: &ListKeeper,
 ) -> Result<(), Error>
-    ensures same_reference { tx.new.conn.ghost_name ≡ tx.old.conn.ghost_name }
-    ensures written { Makes (state S.Store tx.old.conn.now) (state S.Store tx.new.conn.now)
+    ensures step { Writes S.Store tx.old tx.new
         (λ old new. OfEach (AgreesFor change.now known.now.content) (λ content old new. (p : _) (n : _) →
         Rewrites desk_table (desk_row p n ∷ [])
         (desk_row (unwrap_or change.now.policy content.policy) (unwrap_or change.now.last_trip content.last_trip) ∷ [])
         old new) old new × IsDatabase new) result }
     ensures open { HasCleanDisk (state S.Store tx.new.conn.now) → IsTrue (state S.Store tx.old.conn.now).in_transaction
         → OnOk result (IsTrue (state S.Store tx.old.conn.now).is_open) }
-    ensures survives { Survives (state S.Store tx.old.conn.now) (state S.Store tx.new.conn.now) (λ _. ⊥) }
 {
     let policy = policy_after(change, known);
     write_desk(tx, &policy, last_trip_after(change, known))
@@ -158,10 +147,8 @@ fn write_booked<S: Alter>(
     change: &Change,
     known: &ListKeeper,
 ) -> Result<(), Error>
-    ensures same_reference { tx.new.conn.ghost_name ≡ tx.old.conn.ghost_name }
-    ensures written { Makes (state S.Store tx.old.conn.now) (state S.Store tx.new.conn.now)
+    ensures step { Writes S.Store tx.old tx.new
         (OfEach (AgreesFor change.now known.now.content) (WritesTrips change.now)) result }
-    ensures survives { Survives (state S.Store tx.old.conn.now) (state S.Store tx.new.conn.now) (λ _. ⊥) }
 {
     let trips = known.trips_table();
     write_edits::<S, Trips>(tx, &change.trips, trips)?;
@@ -175,14 +162,12 @@ fn write_trips<S: Alter>(
     known: &ListKeeper,
     plans: &Table<Plan>,
 ) -> Result<(), Error>
-    ensures same_reference { tx.new.conn.ghost_name ≡ tx.old.conn.ghost_name }
-    ensures written { Makes (state S.Store tx.old.conn.now) (state S.Store tx.new.conn.now)
+    ensures step { Writes S.Store tx.old tx.new
         (OfEach (AgreesWith change.now known.now.content plans.now.items) (λ content.
         let before = with_area change.now (with_people change.now content) in
         Ends change.now content before (with_trips change.now before))) result }
     ensures open { HasCleanDisk (state S.Store tx.new.conn.now) → IsTrue (state S.Store tx.old.conn.now).in_transaction
         → OnOk result (IsTrue (state S.Store tx.old.conn.now).is_open) }
-    ensures survives { Survives (state S.Store tx.old.conn.now) (state S.Store tx.new.conn.now) (λ _. ⊥) }
 {
     write_booked(tx, change, known)?;
     write_plans(tx, &change.planned, plans)?;
@@ -196,13 +181,11 @@ fn write_tables<S: Alter>(
     known: &ListKeeper,
     plans: &Table<Plan>,
 ) -> Result<(), Error>
-    ensures same_reference { tx.new.conn.ghost_name ≡ tx.old.conn.ghost_name }
-    ensures written { Makes (state S.Store tx.old.conn.now) (state S.Store tx.new.conn.now)
+    ensures step { Writes S.Store tx.old tx.new
         (OfEach (AgreesWith change.now known.now.content plans.now.items) (λ content.
         Ends change.now content content (applied change.now content))) result }
     ensures open { HasCleanDisk (state S.Store tx.new.conn.now) → IsTrue (state S.Store tx.old.conn.now).in_transaction
         → OnOk result (IsTrue (state S.Store tx.old.conn.now).is_open) }
-    ensures survives { Survives (state S.Store tx.old.conn.now) (state S.Store tx.new.conn.now) (λ _. ⊥) }
 {
     write_people(tx, change, known)?;
     write_area(tx, change, known)?;

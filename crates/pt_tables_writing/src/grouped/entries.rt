@@ -1,10 +1,8 @@
-ghost use Rattle.std.specs.Prelude.{◌≡◌, ◌∷◌, []};
-ghost use Rattle.sqlite.specs.Held.{state};
-ghost use Rattle.sqlite.specs.State.{Survives};
+ghost use Rattle.std.specs.Prelude.{◌∷◌, []};
 ghost use Rattle.pt_tables_writing.specs.Grouped.{Adds};
+ghost use Rattle.pt_tables_writing.specs.Step.{Writes};
 ghost use Rattle.pt_tables_rows.specs.Rows.{entry_row};
 ghost use Rattle.pt_tables_rows.specs.Schema.{entries_table};
-ghost use Rattle.pt_tables_rows.specs.Tables.{Makes};
 
 use crate::grouped::entry_texts::{
     AsText, Optional, entry_conditions, entry_words, first_number, second_number,
@@ -34,10 +32,7 @@ impl Stored for Entries {
 
 /// Adds the row of an entry.
 fn insert_entry<S: Alter>(tx: &mut Transaction<'_, S>, filed: &FiledEntry) -> Result<(), Error>
-    ensures same_reference { tx.new.conn.ghost_name ≡ tx.old.conn.ghost_name }
-    ensures written { Makes (state S.Store tx.old.conn.now) (state S.Store tx.new.conn.now)
-        (Adds entries_table (entry_row filed.now ∷ [])) result }
-    ensures survives { Survives (state S.Store tx.old.conn.now) (state S.Store tx.new.conn.now) (λ _. ⊥) }
+    ensures step { Writes S.Store tx.old tx.new (Adds entries_table (entry_row filed.now ∷ [])) result }
 {
     let entry = &filed.entered.entry;
     tx.execute(

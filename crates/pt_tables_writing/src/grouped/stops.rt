@@ -1,11 +1,10 @@
 ghost use Rattle.std.specs.Prelude.{◌≡◌, ◌<◌, ◌^◌, ◌∷◌, [], drop, length, take};
-ghost use Rattle.sqlite.specs.Held.{state};
-ghost use Rattle.sqlite.specs.State.{Survives};
 ghost use Rattle.pt_scheduling.specs.Plan.{plan_key};
 ghost use Rattle.pt_tables_rows.specs.Rows.{stop_number, stop_row, stop_rows, stop_rows_from};
 ghost use Rattle.pt_tables_rows.specs.Schema.{stops_table};
-ghost use Rattle.pt_tables_rows.specs.Tables.{Makes, IsStoredPlan};
+ghost use Rattle.pt_tables_rows.specs.Tables.{IsStoredPlan};
 ghost use Rattle.pt_tables_writing.specs.Grouped.{Adds, KeepsStops};
+ghost use Rattle.pt_tables_writing.specs.Step.{Writes};
 ghost use Rattle.pt_tables_writing.specs.Writes.{Replaces};
 
 use crate::stored::Stored;
@@ -47,10 +46,8 @@ pub(crate) fn replace_plan<S: Alter>(
     before: &Plan,
     plan: &Plan,
 ) -> Result<(), Error>
-    ensures same_reference { tx.new.conn.ghost_name ≡ tx.old.conn.ghost_name }
-    ensures written { Makes (state S.Store tx.old.conn.now) (state S.Store tx.new.conn.now)
+    ensures step { Writes S.Store tx.old tx.new
         (Replaces stops_table plan_key IsStoredPlan stop_rows before.now plan.now) result }
-    ensures survives { Survives (state S.Store tx.old.conn.now) (state S.Store tx.new.conn.now) (λ _. ⊥) }
 {
     let shared = shared_stops(&before.stops, &plan.stops);
     take_later_stops(tx, plan, shared)?;
@@ -78,10 +75,7 @@ fn take_later_stops<S: Alter>(
     first: usize,
 ) -> Result<(), Error>
     requires { first < 2 ^ 63 }
-    ensures same_reference { tx.new.conn.ghost_name ≡ tx.old.conn.ghost_name }
-    ensures written { Makes (state S.Store tx.old.conn.now) (state S.Store tx.new.conn.now)
-        (KeepsStops plan.now first) result }
-    ensures survives { Survives (state S.Store tx.old.conn.now) (state S.Store tx.new.conn.now) (λ _. ⊥) }
+    ensures step { Writes S.Store tx.old tx.new (KeepsStops plan.now first) result }
 {
     tx.execute(
         DELETE_LATER_STOPS,
@@ -96,10 +90,8 @@ fn insert_stops<S: Alter>(
     plan: &Plan,
     first: usize,
 ) -> Result<(), Error>
-    ensures same_reference { tx.new.conn.ghost_name ≡ tx.old.conn.ghost_name }
-    ensures written { Makes (state S.Store tx.old.conn.now) (state S.Store tx.new.conn.now)
+    ensures step { Writes S.Store tx.old tx.new
         (Adds stops_table (stop_rows_from first plan.now.vehicle plan.now.day (drop first plan.now.stops))) result }
-    ensures survives { Survives (state S.Store tx.old.conn.now) (state S.Store tx.new.conn.now) (λ _. ⊥) }
 {
     let stops = plan.stops.as_slice();
     let mut place = first;
@@ -117,11 +109,9 @@ fn insert_stops_at<S: Alter>(
     place: usize,
 ) -> Result<(), Error>
     requires there { place < length plan.now.stops }
-    ensures same_reference { tx.new.conn.ghost_name ≡ tx.old.conn.ghost_name }
-    ensures written { Makes (state S.Store tx.old.conn.now) (state S.Store tx.new.conn.now)
+    ensures step { Writes S.Store tx.old tx.new
         (Adds stops_table (stop_rows_from place plan.now.vehicle plan.now.day (take 2 (drop place plan.now.stops))))
         result }
-    ensures survives { Survives (state S.Store tx.old.conn.now) (state S.Store tx.new.conn.now) (λ _. ⊥) }
 {
     let stops = plan.stops.as_slice();
     let stop = stops[place];
@@ -150,10 +140,8 @@ fn insert_two_stops<S: Alter>(
     next: i64,
     later: PlannedStop,
 ) -> Result<(), Error>
-    ensures same_reference { tx.new.conn.ghost_name ≡ tx.old.conn.ghost_name }
-    ensures written { Makes (state S.Store tx.old.conn.now) (state S.Store tx.new.conn.now)
+    ensures step { Writes S.Store tx.old tx.new
         (Adds stops_table (stop_row vehicle day place stop ∷ stop_row vehicle day next later ∷ [])) result }
-    ensures survives { Survives (state S.Store tx.old.conn.now) (state S.Store tx.new.conn.now) (λ _. ⊥) }
 {
     tx.execute(
         INSERT_TWO_STOPS,
@@ -179,10 +167,7 @@ fn insert_stop<S: Alter>(
     place: i64,
     stop: PlannedStop,
 ) -> Result<(), Error>
-    ensures same_reference { tx.new.conn.ghost_name ≡ tx.old.conn.ghost_name }
-    ensures written { Makes (state S.Store tx.old.conn.now) (state S.Store tx.new.conn.now)
-        (Adds stops_table (stop_row vehicle day place stop ∷ [])) result }
-    ensures survives { Survives (state S.Store tx.old.conn.now) (state S.Store tx.new.conn.now) (λ _. ⊥) }
+    ensures step { Writes S.Store tx.old tx.new (Adds stops_table (stop_row vehicle day place stop ∷ [])) result }
 {
     tx.execute(
         INSERT_STOP,

@@ -1,10 +1,8 @@
-ghost use Rattle.std.specs.Prelude.{◌≡◌, map, ◌∷◌, []};
-ghost use Rattle.sqlite.specs.Held.{state};
-ghost use Rattle.sqlite.specs.State.{Survives};
+ghost use Rattle.std.specs.Prelude.{map, ◌∷◌, []};
 ghost use Rattle.pt_tables_rows.specs.Rows.{travel_row, travel_rows};
 ghost use Rattle.pt_tables_rows.specs.Schema.{travel_table};
-ghost use Rattle.pt_tables_rows.specs.Tables.{Makes};
 ghost use Rattle.pt_tables_writing.specs.Grouped.{Adds};
+ghost use Rattle.pt_tables_writing.specs.Step.{Writes};
 
 use crate::stored::Stored;
 use pt_base::Day;
@@ -34,10 +32,7 @@ impl Stored for TravelTables {
 
 /// Adds the rows of a travel table, after a row of zeros: an empty table has that row only.
 fn insert_travel<S: Alter>(tx: &mut Transaction<'_, S>, table: &TravelTable) -> Result<(), Error>
-    ensures same_reference { tx.new.conn.ghost_name ≡ tx.old.conn.ghost_name }
-    ensures written { Makes (state S.Store tx.old.conn.now) (state S.Store tx.new.conn.now)
-        (Adds travel_table (travel_rows table.now)) result }
-    ensures survives { Survives (state S.Store tx.old.conn.now) (state S.Store tx.new.conn.now) (λ _. ⊥) }
+    ensures step { Writes S.Store tx.old tx.new (Adds travel_table (travel_rows table.now)) result }
 {
     insert_drive(tx, table.from_day(), 0, 0, 0)?;
     insert_drives(tx, table.from_day(), table.rows())
@@ -49,10 +44,7 @@ fn insert_drives<S: Alter>(
     from_day: Day,
     rows: &[Row],
 ) -> Result<(), Error>
-    ensures same_reference { tx.new.conn.ghost_name ≡ tx.old.conn.ghost_name }
-    ensures written { Makes (state S.Store tx.old.conn.now) (state S.Store tx.new.conn.now)
-        (Adds travel_table (map (travel_row from_day) rows.now)) result }
-    ensures survives { Survives (state S.Store tx.old.conn.now) (state S.Store tx.new.conn.now) (λ _. ⊥) }
+    ensures step { Writes S.Store tx.old tx.new (Adds travel_table (map (travel_row from_day) rows.now)) result }
 {
     let mut left = rows;
     while let [first, second, third, fourth, later @ ..] = left {
@@ -71,10 +63,8 @@ fn insert_four_drives<S: Alter>(
     third: Row,
     fourth: Row,
 ) -> Result<(), Error>
-    ensures same_reference { tx.new.conn.ghost_name ≡ tx.old.conn.ghost_name }
-    ensures written { Makes (state S.Store tx.old.conn.now) (state S.Store tx.new.conn.now)
+    ensures step { Writes S.Store tx.old tx.new
         (Adds travel_table (map (travel_row from_day) (first ∷ second ∷ third ∷ fourth ∷ []))) result }
-    ensures survives { Survives (state S.Store tx.old.conn.now) (state S.Store tx.new.conn.now) (λ _. ⊥) }
 {
     tx.execute(
         INSERT_FOUR_DRIVES,
@@ -103,10 +93,7 @@ fn insert_each_drive<S: Alter>(
     from_day: Day,
     rows: &[Row],
 ) -> Result<(), Error>
-    ensures same_reference { tx.new.conn.ghost_name ≡ tx.old.conn.ghost_name }
-    ensures written { Makes (state S.Store tx.old.conn.now) (state S.Store tx.new.conn.now)
-        (Adds travel_table (map (travel_row from_day) rows.now)) result }
-    ensures survives { Survives (state S.Store tx.old.conn.now) (state S.Store tx.new.conn.now) (λ _. ⊥) }
+    ensures step { Writes S.Store tx.old tx.new (Adds travel_table (map (travel_row from_day) rows.now)) result }
 {
     for row in rows {
         insert_drive(
@@ -128,10 +115,8 @@ fn insert_drive<S: Alter>(
     to: u32,
     minutes: u32,
 ) -> Result<(), Error>
-    ensures same_reference { tx.new.conn.ghost_name ≡ tx.old.conn.ghost_name }
-    ensures written { Makes (state S.Store tx.old.conn.now) (state S.Store tx.new.conn.now)
+    ensures step { Writes S.Store tx.old tx.new
         (Adds travel_table (travel_row from_day (from, to, minutes) ∷ [])) result }
-    ensures survives { Survives (state S.Store tx.old.conn.now) (state S.Store tx.new.conn.now) (λ _. ⊥) }
 {
     tx.execute(INSERT_TRAVEL, params![from_day.number(), from, to, minutes])?;
     Ok(())

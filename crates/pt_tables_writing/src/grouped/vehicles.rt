@@ -1,10 +1,8 @@
-ghost use Rattle.std.specs.Prelude.{◌≡◌, [], ◌∷◌};
-ghost use Rattle.sqlite.specs.Held.{state};
-ghost use Rattle.sqlite.specs.State.{Survives};
+ghost use Rattle.std.specs.Prelude.{[], ◌∷◌};
 ghost use Rattle.pt_tables_rows.specs.Rows.{vehicle_row};
 ghost use Rattle.pt_tables_rows.specs.Schema.{vehicles_table};
-ghost use Rattle.pt_tables_rows.specs.Tables.{Makes};
 ghost use Rattle.pt_tables_writing.specs.Grouped.{Adds};
+ghost use Rattle.pt_tables_writing.specs.Step.{Writes};
 
 use crate::stored::Stored;
 use pt_base::Vehicle;
@@ -34,10 +32,7 @@ impl Stored for Vehicles {
 
 /// Adds the row of a version of a vehicle.
 fn insert_vehicle<S: Alter>(tx: &mut Transaction<'_, S>, version: &Vehicle) -> Result<(), Error>
-    ensures same_reference { tx.new.conn.ghost_name ≡ tx.old.conn.ghost_name }
-    ensures written { Makes (state S.Store tx.old.conn.now) (state S.Store tx.new.conn.now)
-        (Adds vehicles_table (vehicle_row version.now ∷ [])) result }
-    ensures survives { Survives (state S.Store tx.old.conn.now) (state S.Store tx.new.conn.now) (λ _. ⊥) }
+    ensures step { Writes S.Store tx.old tx.new (Adds vehicles_table (vehicle_row version.now ∷ [])) result }
 {
     tx.execute(
         INSERT_VEHICLE,

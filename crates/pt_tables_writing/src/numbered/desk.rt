@@ -1,10 +1,10 @@
 ghost use Rattle.std.specs.Prelude.{◌≡◌, ℕ, [], ◌∷◌, IsTrue, OnOk};
 ghost use Rattle.sqlite.specs.Effect.{IsDatabase};
 ghost use Rattle.sqlite.specs.Held.{state};
-ghost use Rattle.sqlite.specs.State.{HasCleanDisk, Survives};
+ghost use Rattle.sqlite.specs.State.{HasCleanDisk};
 ghost use Rattle.pt_tables_rows.specs.Rows.{desk_row};
 ghost use Rattle.pt_tables_rows.specs.Schema.{desk_schema, desk_table};
-ghost use Rattle.pt_tables_rows.specs.Tables.{Makes};
+ghost use Rattle.pt_tables_writing.specs.Step.{Writes};
 ghost use Rattle.pt_tables_writing.specs.Writes.{Rewrites, RaisesVersion};
 
 use pt_base::Policy;
@@ -26,14 +26,12 @@ pub(crate) fn write_desk<S: Alter>(
     policy: &Policy,
     last_trip: u32,
 ) -> Result<(), Error>
-    ensures same_reference { tx.new.conn.ghost_name ≡ tx.old.conn.ghost_name }
-    ensures written { Makes (state S.Store tx.old.conn.now) (state S.Store tx.new.conn.now)
+    ensures step { Writes S.Store tx.old tx.new
         (λ old new. ((p : _) (n : ℕ) → Rewrites desk_table (desk_row p n ∷ [])
         (desk_row policy.now last_trip ∷ []) old new) × IsDatabase new) result }
     ensures open { HasCleanDisk (state S.Store tx.new.conn.now)
         → IsTrue (state S.Store tx.old.conn.now).in_transaction
         → OnOk result (IsTrue (state S.Store tx.old.conn.now).is_open) }
-    ensures survives { Survives (state S.Store tx.old.conn.now) (state S.Store tx.new.conn.now) (λ _. ⊥) }
 {
     tx.execute(
         WRITE_DESK,
@@ -56,9 +54,7 @@ pub(crate) fn write_desk<S: Alter>(
 
 /// Sets the version in the agency's row to the current one.
 pub fn raise_version<S: Alter>(tx: &mut Transaction<'_, S>) -> Result<(), Error>
-    ensures same_reference { tx.new.conn.ghost_name ≡ tx.old.conn.ghost_name }
-    ensures raised { Makes (state S.Store tx.old.conn.now) (state S.Store tx.new.conn.now)
-        RaisesVersion result }
+    ensures step { Writes S.Store tx.old tx.new RaisesVersion result }
     ensures sound { HasCleanDisk (state S.Store tx.new.conn.now)
         → IsTrue (state S.Store tx.old.conn.now).in_transaction
         → OnOk result ((state S.Store tx.old.conn.now).now.schema ≡ desk_schema
@@ -66,7 +62,6 @@ pub fn raise_version<S: Alter>(tx: &mut Transaction<'_, S>) -> Result<(), Error>
     ensures open { HasCleanDisk (state S.Store tx.new.conn.now)
         → IsTrue (state S.Store tx.old.conn.now).in_transaction
         → OnOk result (IsTrue (state S.Store tx.old.conn.now).is_open) }
-    ensures survives { Survives (state S.Store tx.old.conn.now) (state S.Store tx.new.conn.now) (λ _. ⊥) }
 {
     tx.execute(RAISE_VERSION, params![DESK, TABLE_VERSION])?;
     Ok(())

@@ -13,8 +13,8 @@ returns-clause-survives g c =
     let whole = survive g.S.Store c.args.conn.now c.transaction-tx.result.conn.now c.create_tables.new.tx.conn.now
     c.insert_desk.new.tx.conn.now c.insert_admin.new.tx.conn.now c.args.policy.now c.args.digest.now
     c.transaction-tx.ensures.begun c.requires.blank
-    c.create_tables.ensures.survives c.insert_desk.ensures.survives c.insert_admin.ensures.survives
-    c.in_ok-create_tables.ensures.made c.in_ok-insert_desk.ensures.filled c.in_ok-insert_admin.ensures.filled
+    c.create_tables.ensures.step.survives c.insert_desk.ensures.step.survives c.insert_admin.ensures.step.survives
+    c.in_ok-create_tables.ensures.step.led c.in_ok-insert_desk.ensures.step.written c.in_ok-insert_admin.ensures.step.written
     c.in_ok-insert_admin.ensures.sound
     (state g.S.Store c.commit.new.self.0) c.commit.ensures.survives in
     let same : c.commit.new.self.0 ≡ c.conn-2-1.given.0 = search rules in
@@ -29,8 +29,8 @@ returns-clause-made g c =
     (λ all. kept g.S.Store c.args.conn.now c.transaction-tx.result.conn.now c.create_tables.new.tx.conn.now
     c.insert_desk.new.tx.conn.now c.insert_admin.new.tx.conn.now c.args.policy.now c.args.digest.now
     c.transaction-tx.ensures.begun c.requires.blank
-    c.create_tables.ensures.survives c.insert_desk.ensures.survives c.insert_admin.ensures.survives
-    c.in_ok-create_tables.ensures.made c.in_ok-insert_desk.ensures.filled c.in_ok-insert_admin.ensures.filled
+    c.create_tables.ensures.step.survives c.insert_desk.ensures.step.survives c.insert_admin.ensures.step.survives
+    c.in_ok-create_tables.ensures.step.led c.in_ok-insert_desk.ensures.step.written c.in_ok-insert_admin.ensures.step.written
     c.in_ok-insert_admin.ensures.sound
     (state g.S.Store c.commit.new.self.0) (omega (arith, c.commit.ensures.survives.clean)) all.1)
     (c.commit.ensures.ok clean))
@@ -43,8 +43,8 @@ returns-clause-tables g c =
     (λ all. tables_kept g.S.Store c.args.conn.now c.transaction-tx.result.conn.now c.create_tables.new.tx.conn.now
     c.insert_desk.new.tx.conn.now c.insert_admin.new.tx.conn.now c.args.policy.now c.args.digest.now
     c.transaction-tx.ensures.begun c.requires.blank
-    c.create_tables.ensures.survives c.insert_desk.ensures.survives c.insert_admin.ensures.survives
-    c.in_ok-create_tables.ensures.made c.in_ok-insert_desk.ensures.filled c.in_ok-insert_admin.ensures.filled
+    c.create_tables.ensures.step.survives c.insert_desk.ensures.step.survives c.insert_admin.ensures.step.survives
+    c.in_ok-create_tables.ensures.step.led c.in_ok-insert_desk.ensures.step.written c.in_ok-insert_admin.ensures.step.written
     c.in_ok-insert_admin.ensures.sound
     (state g.S.Store c.commit.new.self.0) (omega (arith, clean, c.commit.ensures.survives.clean)) all.1)
     (c.commit.ensures.ok clean))

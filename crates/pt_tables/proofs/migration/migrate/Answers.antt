@@ -1,4 +1,4 @@
-use Rattle.std.proofs.Common.{◌≡◌, is_some, true, ap, arith}
+use Rattle.std.proofs.Common.{is_some, ap, arith}
 use Rattle.sqlite.specs.Held.{state}
 use Rattle.sqlite.specs.State.{HasCleanDisk}
 use Rattle.pt_tables.proofs.MigrationLemmas.{is_migrated, survive_read}

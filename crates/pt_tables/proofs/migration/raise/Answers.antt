@@ -11,7 +11,7 @@ pub returns-clause-survives : goal.returns-clause-survives
 returns-clause-survives g c =
     let whole = survive g.S.Store c.args.version c.requires.earlier c.args.conn.now c.transaction-tx.result.conn.now c.add_versions.new.tx.conn.now
     c.raise_version.new.tx.conn.now c.transaction-tx.ensures.begun
-    c.add_versions.ensures.survives c.raise_version.ensures.survives c.in_ok-add_versions.ensures.added c.in_ok-raise_version.ensures.raised c.in_ok-raise_version.ensures.sound
+    c.add_versions.ensures.step.survives c.raise_version.ensures.step.survives c.in_ok-add_versions.ensures.step.led c.in_ok-raise_version.ensures.step.written c.in_ok-raise_version.ensures.sound
     (state g.S.Store c.commit.new.self.0) c.commit.ensures.survives in
     let same : c.commit.new.self.0 ≡ c.conn-2-1.given.0 = search rules in
     subst (λ h. Survives (state g.S.Store c.args.conn.now) (state g.S.Store h)
@@ -25,6 +25,6 @@ returns-clause-raised g c =
     (λ clean. on_ok c.commit.result _ _
     (λ all. is_raised g.S.Store c.args.version c.requires.earlier c.args.conn.now c.transaction-tx.result.conn.now c.add_versions.new.tx.conn.now
     c.raise_version.new.tx.conn.now c.transaction-tx.ensures.begun
-    c.add_versions.ensures.survives c.raise_version.ensures.survives c.in_ok-add_versions.ensures.added c.in_ok-raise_version.ensures.raised c.in_ok-raise_version.ensures.sound
+    c.add_versions.ensures.step.survives c.raise_version.ensures.step.survives c.in_ok-add_versions.ensures.step.led c.in_ok-raise_version.ensures.step.written c.in_ok-raise_version.ensures.sound
     (state g.S.Store c.commit.new.self.0) (omega (arith, c.commit.ensures.survives.clean)) all.1)
     (c.commit.ensures.ok clean))

@@ -13,7 +13,7 @@ returns g c =
       made = subst (λ h. HasCleanDisk (state g.S.Store h) → OnOk c.commit.result (h.schema ≡ schema_of c.args.version)) same
           (λ clean. on_ok c.commit.result _ _
           (λ all. made_schema g.S.Store c.args.version c.args.conn.now c.transaction-tx.result.conn.now c.add_versions.new.tx.conn.now
-          c.transaction-tx.ensures.begun c.requires.blank c.requires.known c.in_ok-add_versions.ensures.added
+          c.transaction-tx.ensures.begun c.requires.blank c.requires.known c.in_ok-add_versions.ensures.step.led
           (omega (arith, c.commit.ensures.survives.clean)) (state g.S.Store c.commit.new.self.0) all.1)
           (c.commit.ensures.ok clean));
     }

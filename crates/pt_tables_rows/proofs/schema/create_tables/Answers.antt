@@ -2,7 +2,15 @@ use Rattle.sqlite.specs.Held.{state}
 use Rattle.pt_tables_rows.proofs.CreateLemmas.{leads_to_blank}
 use Rattle.pt_tables_rows.proofs.schema.create_tables.Goals as goal
 
-pub returns-clause-made : goal.returns-clause-made
-returns-clause-made g c clean inside =
-    leads_to_blank (state g.S.Store c.args.tx.now.conn.now) (state g.S.Store c.add_versions.new.tx.conn.now) c.add_versions.result
-    (c.add_versions.ensures.added clean inside)
+pub returns : goal.returns
+returns g c =
+    let old = state g.S.Store c.args.tx.now.conn.now in
+    let new = state g.S.Store c.add_versions.new.tx.conn.now in
+    let added = c.add_versions.ensures.step in
+    record {
+      step = record {
+        same_reference = added.same_reference;
+        led = λ clean inside. leads_to_blank old new c.add_versions.result (added.led clean inside);
+        survives = added.survives;
+      };
+    }

@@ -48,20 +48,27 @@ loop-place-preserved g c =
           ∙ ap (λ ts. slice_index_or ts n []) c.requires.all) ran.0);
     }
 
-pub returns-clause-added : goal.returns-clause-added
-returns-clause-added g c clean inside =
+pub returns : goal.returns
+returns g c =
     let old = state g.S.Store c.args.tx.now.conn.now in
     let now = state g.S.Store c.loop-place.tx.conn.now in
-    let kept = c.loop-place.invariant.keeps clean inside in (
-      kept.0,
-      kept.1,
-      λ order top has. adding_ends c.args.from c.args.to order top old.now now.now
-          (subst (λ n. IsAdded (statement_count c.args.from) n old.now now.now) (omega (
-            arith,
-            c.loop-place-test.false,
-            c.loop-place.auto.place-end,
-            c.statement_count-place.ensures.value,
-            c.statement_count-place-end.ensures.value,
-            counts_rise c.args.from c.args.to order,
-          )) (c.loop-place.invariant.made clean inside order top has)),
-    )
+    record {
+      step = record {
+        same_reference = c.loop-place.invariant.same;
+        survives = c.loop-place.invariant.survives;
+        led = λ clean inside.
+            let kept = c.loop-place.invariant.keeps clean inside in (
+              kept.0,
+              kept.1,
+              λ order top has. adding_ends c.args.from c.args.to order top old.now now.now
+                  (subst (λ n. IsAdded (statement_count c.args.from) n old.now now.now) (omega (
+                    arith,
+                    c.loop-place-test.false,
+                    c.loop-place.auto.place-end,
+                    c.statement_count-place.ensures.value,
+                    c.statement_count-place-end.ensures.value,
+                    counts_rise c.args.from c.args.to order,
+                  )) (c.loop-place.invariant.made clean inside order top has)),
+            );
+      };
+    }

@@ -8,11 +8,13 @@ use Rattle.pt_tables_writing.proofs.FirstRowLemmas.{fills_admin, sound_admin}
 use Rattle.pt_tables_writing.proofs.ChangeLemmas.{did_run}
 use Rattle.pt_tables_writing.proofs.first_rows.insert_admin.Goals as goal
 
-pub returns-clause-filled : goal.returns-clause-filled
-returns-clause-filled g c =
+pub returns-clause-step : goal.returns-clause-step
+returns-clause-step g c =
     let old = state g.S.Store c.args.tx.now.conn.now in
     let new = state g.S.Store c.execute.new.self.conn.now in
-    did_run old new c.in_ok-execute.ensures.runs (λ run has. fills_admin c.args.digest.now old new c.in_ok-execute.field-0 has (search rules))
+    let ran = c.in_ok-execute.ensures in
+    did_run ran.same_reference ran.runs ran.survives
+    (λ run has. fills_admin c.args.digest.now old new c.in_ok-execute.field-0 has (search rules))
 
 pub returns-clause-sound : goal.returns-clause-sound
 returns-clause-sound g c clean inside has =

@@ -1,16 +1,10 @@
-use Rattle.std.proofs.Common.{◌≡◌, Ok, take}
-use Rattle.sqlite.specs.Held.{state}
-use Rattle.sqlite.specs.State.{Survives}
-use Rattle.pt_tables_rows.specs.Tables.{Makes}
+use Rattle.std.proofs.Common.{Ok, take}
+use Rattle.pt_tables_writing.specs.Step.{Writes}
 use Rattle.pt_tables_writing.specs.Stored.{TakesAll}
 use Rattle.pt_tables_writing.proofs.stored.take_each.Given as goal
 
 abbrev pub invariant-loop-old : goal.invariant-loop-old
 invariant-loop-old g l =
-    let old = state g.S.Store l.initial.tx.conn.now in
-    let now = state g.S.Store l.tx.conn.now in
-    record {
-      same : l.tx.conn.ghost_name ≡ l.initial.tx.conn.ghost_name;
-      survives : Survives old now (λ _. ⊥);
-      written : Makes {X = Unit {0}} old now (TakesAll g.T.TableOf.home g.T.Record.Keyed.key g.T.TableOf.Fits g.T.TableOf.rows_of (take l.old-index l.gone)) (Ok tt);
-    }
+    Writes {X = Unit {0}} g.S.Store l.initial.tx l.tx
+    (TakesAll g.T.TableOf.home g.T.Record.Keyed.key g.T.TableOf.Fits g.T.TableOf.rows_of (take l.old-index l.gone))
+    (Ok tt)

@@ -1,22 +1,17 @@
-use Rattle.std.proofs.Common.{Ok, subst}
 use Rattle.sqlite.specs.Held.{state}
 use Rattle.pt_desk_rules.specs.Parts as part
-use Rattle.pt_tables_rows.specs.Tables.{Makes}
-use Rattle.pt_tables_writing.specs.Groups.{AgreesFor, OfEach, WritesTrips}
+use Rattle.pt_tables_writing.proofs.ChangeLemmas.{did_at, did_then}
 use Rattle.pt_tables_writing.proofs.GroupLemmas.{Known-trips, Marked-trips}
-use Rattle.pt_tables_writing.proofs.TurnLemmas.{did_then}
 use Rattle.pt_tables_writing.proofs.writes.write_booked.Goals as goal
 
-pub returns-clause-written : goal.returns-clause-written
-returns-clause-written g c =
+pub returns : goal.returns
+returns g c =
     let change = c.args.change.now in
-    let known = c.args.known.now.content in
-    let s1 = state g.S.Store c.args.tx.now.conn.now in
-    let s2 = state g.S.Store c.write_edits.new.tx.conn.now in
-    let s3 = state g.S.Store c.write_edits-2.new.tx.conn.now in
-    let one = subst (λ xs. Makes {X = Unit {0}} s1 s2 (Known-trips change xs) (Ok c.in_ok-write_edits.field-0)) c.trips_table-trips.ensures.value c.in_ok-write_edits.ensures.written in
-    let two = subst (λ xs. Makes {X = Unit {0}} s2 s3 (Marked-trips change xs) c.write_edits-2.result) c.trips_table-trips.ensures.value c.write_edits-2.ensures.written in
-    did_then {X = Unit {0}} {Y = Unit {0}} s1 s2 s3 (Known-trips change known.trips) (Marked-trips change known.trips) (OfEach (AgreesFor change known) (WritesTrips change))
-    c.in_ok-write_edits.field-0 c.write_edits-2.result
-    (λ has first next there agrees. (s2.now, first there.trips (agrees.parts part.trips), λ kept. next kept there.trips (agrees.parts part.trips)))
-    c.write_edits-2.ensures.survives one two
+    let mid = state g.S.Store c.write_edits.new.tx.conn.now in
+    let rows = did_at (Known-trips change) c.trips_table-trips.ensures.value c.in_ok-write_edits.ensures.step in
+    let marks = did_at (Marked-trips change) c.trips_table-trips.ensures.value c.write_edits-2.ensures.step in
+    record {
+      step = did_then rows marks (λ has first next there agrees.
+          let known = agrees.parts part.trips in
+          (mid.now, first there.trips known, λ kept. next kept there.trips known));
+    }

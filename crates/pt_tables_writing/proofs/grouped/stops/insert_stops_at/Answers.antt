@@ -1,17 +1,14 @@
 use Rattle.std.proofs.Common.{◌≡◌, ◌<◌, ◌+◌, ◌∙◌, pos, to_z, w64, [], ◌∷◌, length, get_or, drop, take, subst, sym, ap, arith}
 use Rattle.std.proofs.Math.Facts.{to_z_pos}
-use Rattle.sqlite.specs.Held.{state}
 use Rattle.pt_tables_writing.specs.Grouped.{Adds}
 use Rattle.pt_tables_rows.specs.Rows.{stop_row, stop_rows_from}
 use Rattle.pt_tables_rows.specs.Schema.{stops_table}
-use Rattle.pt_tables_rows.specs.Tables.{ChangesIfOk}
+use Rattle.pt_tables_writing.proofs.ChangeLemmas.{did_at}
 use Rattle.pt_tables_writing.proofs.StopRows.{last-row, next-rows}
 use Rattle.pt_tables_writing.proofs.grouped.stops.insert_stops_at.Goals as goal
 
-pub returns-then-next-stops-clause-written : goal.returns-then-next-stops-clause-written
-returns-then-next-stops-clause-written g c clean inside =
-    let old = state g.S.Store c.args.tx.now.conn.now in
-    let new = state g.S.Store c.insert_stop.new.tx.conn.now in
+pub returns-then-next-stops : goal.returns-then-next-stops
+returns-then-next-stops g c =
     let at = c.args.place in
     let plan = c.args.plan.now in
     let stop = c.index-stops-place.result in
@@ -23,12 +20,10 @@ returns-then-next-stops-clause-written g c clean inside =
     let is : stop ≡ get_or plan.stops at stop = subst (λ l. stop ≡ get_or l at stop) listed c.index-stops-place.is in
     let rows : stop_row c.plan.inside.vehicle c.plan.inside.day (to_z w64 at) stop ∷ [] ≡ stop_rows_from at plan.vehicle plan.day (take 2 (drop at plan.stops)) =
     (λ i. stop_row (vehicle i) (day i) (place i) stop ∷ []) ∙ sym (last-row at plan.vehicle plan.day plan.stops stop last is) in
-    subst (λ rs. ChangesIfOk {X = Unit {0}} old new (Adds stops_table rs) c.insert_stop.result) rows (c.insert_stop.ensures.written clean inside)
+    record { step = did_at (Adds stops_table) rows c.insert_stop.ensures.step }
 
-pub returns-clause-written : goal.returns-clause-written
-returns-clause-written g c clean inside =
-    let old = state g.S.Store c.args.tx.now.conn.now in
-    let new = state g.S.Store c.insert_two_stops.new.tx.conn.now in
+pub returns : goal.returns
+returns g c =
     let at = c.args.place in
     let plan = c.args.plan.now in
     let stop = c.index-stops-place.result in
@@ -45,4 +40,4 @@ returns-clause-written g c clean inside =
     ≡ stop_rows_from at plan.vehicle plan.day (take 2 (drop at plan.stops)) =
     (λ i. stop_row (vehicle i) (day i) (place i) stop ∷ stop_row (vehicle i) (day i) (next i) later ∷ [])
     ∙ sym (next-rows at plan.vehicle plan.day plan.stops stop later low is next_is) in
-    subst (λ rs. ChangesIfOk {X = Unit {0}} old new (Adds stops_table rs) c.insert_two_stops.result) rows (c.insert_two_stops.ensures.written clean inside)
+    record { step = did_at (Adds stops_table) rows c.insert_two_stops.ensures.step }

@@ -1,17 +1,11 @@
-use Rattle.std.proofs.Common.{◌≡◌, ◌∙◌, ap, sym, [], drop, take}
+use Rattle.std.proofs.Common.{◌≡◌, ◌∙◌, ap, sym, [], take}
 use Rattle.sqlite.specs.Held.{state}
-use Rattle.pt_scheduling.specs.Plan.{plan_key}
-use Rattle.pt_tables_rows.specs.Rows.{stop_rows, stop_rows_from}
-use Rattle.pt_tables_rows.specs.Schema.{stops_table}
-use Rattle.pt_tables_rows.specs.Tables.{IsStoredPlan}
-use Rattle.pt_tables_writing.specs.Grouped.{Adds, KeepsStops}
-use Rattle.pt_tables_writing.specs.Writes.{Replaces}
+use Rattle.pt_tables_writing.proofs.ChangeLemmas.{did_then}
 use Rattle.pt_tables_writing.proofs.StopRows.{plan-replaced}
-use Rattle.pt_tables_writing.proofs.TurnLemmas.{did_then}
 use Rattle.pt_tables_writing.proofs.grouped.stops.replace_plan.Goals as goal
 
-pub returns-clause-written : goal.returns-clause-written
-returns-clause-written g c =
+pub returns : goal.returns
+returns g c =
     let old = state g.S.Store c.args.tx.now.conn.now in
     let mid = state g.S.Store c.take_later_stops.new.tx.conn.now in
     let new = state g.S.Store c.insert_stops.new.tx.conn.now in
@@ -20,8 +14,10 @@ returns-clause-written g c =
     let shared = c.shared_stops-shared.result in
     let one : c.deref.result.now ≡ before.stops = c.deref.ensures.value ∙ ap (λ p. p.stops) c.before-2.view_is in
     let other : c.deref-2.result.now ≡ plan.stops = c.deref-2.ensures.value ∙ ap (λ p. p.stops) c.plan.view_is in
-    let same : take shared before.stops ≡ take shared plan.stops = ap (λ l. take shared l) (sym one) ∙ c.shared_stops-shared.ensures.same ∙ ap (λ l. take shared l) other in
-    did_then {X = Unit {0}} {Y = Unit {0}} old mid new (KeepsStops plan shared) (Adds stops_table (stop_rows_from shared plan.vehicle plan.day (drop shared plan.stops)))
-    (Replaces stops_table plan_key IsStoredPlan stop_rows before plan) c.in_ok-take_later_stops.field-0 c.insert_stops.result
-    (λ has kept add. plan-replaced before plan shared same old.now mid.now new.now kept (add (kept [] [] tt tt).schema))
-    c.insert_stops.ensures.survives c.in_ok-take_later_stops.ensures.written c.insert_stops.ensures.written
+    let same : take shared before.stops ≡ take shared plan.stops =
+    ap (λ l. take shared l) (sym one) ∙ c.shared_stops-shared.ensures.same ∙ ap (λ l. take shared l) other in
+    record {
+      step = did_then c.in_ok-take_later_stops.ensures.step c.insert_stops.ensures.step
+          (λ has kept add. plan-replaced before plan shared same old.now mid.now new.now kept
+          (add (kept [] [] tt tt).schema));
+    }

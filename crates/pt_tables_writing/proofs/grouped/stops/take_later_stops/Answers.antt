@@ -5,8 +5,8 @@ use Rattle.pt_tables_writing.proofs.ChangeLemmas.{did_run}
 use Rattle.pt_tables_writing.proofs.StopRows.{stops-kept}
 use Rattle.pt_tables_writing.proofs.grouped.stops.take_later_stops.Goals as goal
 
-pub returns-clause-written : goal.returns-clause-written
-returns-clause-written g c =
+pub returns : goal.returns
+returns g c =
     let old = state g.S.Store c.args.tx.now.conn.now in
     let new = state g.S.Store c.execute.new.self.conn.now in
     let plan = c.args.plan.now in
@@ -14,4 +14,9 @@ returns-clause-written g c =
     let day : c.number-2.result ≡ plan.day = c.number-2.ensures.value ∙ ap (λ p. p.day) c.plan.view_is in
     let low : plan.day < 2 ^ 32 = omega (arith, day, c.number-2.ensures.in_range.1) in
     let first : to_z w64 c.args.first ≡ pos c.args.first = to_z_pos w64 (omega (arith, c.requires)) in
-    did_run old new c.in_ok-execute.ensures.runs (λ run has. stops-kept plan low c.args.first old new c.in_ok-execute.field-0 has (search (rules, vehicle, day, first)))
+    let ran = c.in_ok-execute.ensures in
+    record {
+      step = did_run ran.same_reference ran.runs ran.survives
+          (λ run has. stops-kept plan low c.args.first old new c.in_ok-execute.field-0 has
+          (search (rules, vehicle, day, first)));
+    }

@@ -3,37 +3,41 @@ use Rattle.pt_tables_writing.proofs.ChangeLemmas.{did_run}
 use Rattle.pt_tables_writing.proofs.TravelRows.{four-added}
 use Rattle.pt_tables_writing.proofs.grouped.travel.insert_four_drives.Goals as goal
 
-pub returns-clause-written : goal.returns-clause-written
-returns-clause-written g c =
+pub returns : goal.returns
+returns g c =
     let old = state g.S.Store c.args.tx.now.conn.now in
     let new = state g.S.Store c.execute.new.self.conn.now in
-    did_run old new c.in_ok-execute.ensures.runs (λ run has. four-added c.args.from_day c.args.first c.args.second
-    c.args.third c.args.fourth old new c.in_ok-execute.field-0 has
-    (rw (
-      c.params-to_sql.ensures,
-      c.params-to_sql-2.ensures,
-      c.params-to_sql-3.ensures,
-      c.params-to_sql-4.ensures,
-      c.params-to_sql-5.ensures,
-      c.params-to_sql-6.ensures,
-      c.params-to_sql-7.ensures,
-      c.params-to_sql-8.ensures,
-      c.params-to_sql-9.ensures,
-      c.params-to_sql-10.ensures,
-      c.params-to_sql-11.ensures,
-      c.params-to_sql-12.ensures,
-      c.params-to_sql-13.ensures,
-      c.number.ensures.value,
-      c.number-2.ensures.value,
-      c.number-3.ensures.value,
-      c.number-4.ensures.value,
-      c.number-5.ensures.value,
-      c.number-6.ensures.value,
-      c.number-7.ensures.value,
-      c.number-8.ensures.value,
-      c.number-9.ensures.value,
-      c.from.ensures,
-      c.from-2.ensures,
-      c.from-3.ensures,
-      c.from-4.ensures,
-    ) at run))
+    let ran = c.in_ok-execute.ensures in
+    record {
+      step = did_run ran.same_reference ran.runs ran.survives
+          (λ run has. four-added c.args.from_day c.args.first c.args.second
+          c.args.third c.args.fourth old new c.in_ok-execute.field-0 has
+          (rw (
+            c.params-to_sql.ensures,
+            c.params-to_sql-2.ensures,
+            c.params-to_sql-3.ensures,
+            c.params-to_sql-4.ensures,
+            c.params-to_sql-5.ensures,
+            c.params-to_sql-6.ensures,
+            c.params-to_sql-7.ensures,
+            c.params-to_sql-8.ensures,
+            c.params-to_sql-9.ensures,
+            c.params-to_sql-10.ensures,
+            c.params-to_sql-11.ensures,
+            c.params-to_sql-12.ensures,
+            c.params-to_sql-13.ensures,
+            c.number.ensures.value,
+            c.number-2.ensures.value,
+            c.number-3.ensures.value,
+            c.number-4.ensures.value,
+            c.number-5.ensures.value,
+            c.number-6.ensures.value,
+            c.number-7.ensures.value,
+            c.number-8.ensures.value,
+            c.number-9.ensures.value,
+            c.from.ensures,
+            c.from-2.ensures,
+            c.from-3.ensures,
+            c.from-4.ensures,
+          ) at run));
+    }

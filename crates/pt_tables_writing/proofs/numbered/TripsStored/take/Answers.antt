@@ -4,8 +4,12 @@ use Rattle.pt_tables_writing.proofs.NumberedTables.{trip_stored}
 use Rattle.pt_tables_writing.proofs.ChangeLemmas.{did_run}
 use Rattle.pt_tables_writing.proofs.numbered.TripsStored.take.Goals as goal
 
-pub returns-clause-written : goal.returns-clause-written
-returns-clause-written g c =
+pub returns : goal.returns
+returns g c =
     let old = state g.S.Store c.args.tx.now.conn.now in
     let new = state g.S.Store c.execute.new.self.conn.now in
-    did_run old new c.in_ok-execute.ensures.runs (λ run has. trip_stored.takes c.args.trip.now old new c.in_ok-execute.field-0 has (search rules))
+    let ran = c.in_ok-execute.ensures in
+    record {
+      step = did_run ran.same_reference ran.runs ran.survives
+          (λ run has. trip_stored.takes c.args.trip.now old new c.in_ok-execute.field-0 has (search rules));
+    }

@@ -3,12 +3,13 @@ use Rattle.pt_tables_writing.proofs.RaiseWrites.{raised_sound, raises, schema_st
 use Rattle.pt_tables_writing.proofs.ChangeLemmas.{did_run}
 use Rattle.pt_tables_writing.proofs.numbered.desk.raise_version.Goals as goal
 
-pub returns-clause-raised : goal.returns-clause-raised
-returns-clause-raised g c =
+pub returns-clause-step : goal.returns-clause-step
+returns-clause-step g c =
     let old = state g.S.Store c.args.tx.now.conn.now in
     let new = state g.S.Store c.execute.new.self.conn.now in
-    did_run old new c.in_ok-execute.ensures.runs (λ ran has.
-    let run = rw (c.params-to_sql.ensures, c.params-to_sql-2.ensures) at ran in
+    let ran = c.in_ok-execute.ensures in
+    did_run ran.same_reference ran.runs ran.survives (λ it has.
+    let run = rw (c.params-to_sql.ensures, c.params-to_sql-2.ensures) at it in
     record {
       schema = schema_stays old new c.in_ok-execute.field-0 has run;
       rows = λ v p n. raises v p n old new c.in_ok-execute.field-0 has run;

@@ -3,11 +3,12 @@ use Rattle.pt_tables_writing.proofs.DeskWrites.{desk_sound, writes_desk}
 use Rattle.pt_tables_writing.proofs.ChangeLemmas.{did_run}
 use Rattle.pt_tables_writing.proofs.numbered.desk.write_desk.Goals as goal
 
-pub returns-clause-written : goal.returns-clause-written
-returns-clause-written g c =
+pub returns-clause-step : goal.returns-clause-step
+returns-clause-step g c =
     let old = state g.S.Store c.args.tx.now.conn.now in
     let new = state g.S.Store c.execute.new.self.conn.now in
-    did_run old new c.in_ok-execute.ensures.runs (λ ran has.
+    let ran = c.in_ok-execute.ensures in
+    did_run ran.same_reference ran.runs ran.survives (λ it has.
     let run = rw (
       c.params-to_sql.ensures,
       c.params-to_sql-2.ensures,
@@ -25,7 +26,7 @@ returns-clause-written g c =
       c.from-3.ensures,
       c.from-4.ensures,
       c.from-5.ensures,
-    ) at ran in (
+    ) at it in (
       writes_desk c.args.policy.now c.args.last_trip old new c.in_ok-execute.field-0 has run,
       desk_sound c.args.policy.now c.args.last_trip old new c.in_ok-execute.field-0 has run,
     ))
