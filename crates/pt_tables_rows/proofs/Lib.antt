@@ -1,5 +1,6 @@
 pub mod ColumnLemmas
 pub mod CreateLemmas
+pub mod NameLemmas
 pub mod NumberQueries
 pub mod PartLemmas
 pub mod SameRows
